@@ -1,0 +1,13 @@
+pub mod Refusals
+pub mod Texts
+pub mod Fronts
+pub mod Links
+pub mod One
+pub mod Stable
+pub mod Concrete
+pub mod Packets
+pub mod HeadedPackets
+pub mod OneFront
+pub mod ReadBack
+pub mod Formats
+pub mod Headed

@@ -1,0 +1,316 @@
+-- Of all bytes exactly one thing is said.
+use Rattle.std.proofs.Common.{◌≡◌, ℕ, ◌-◌, ◌≤◌, Bool, true, false, cond, List, length, take, drop, Option, Some, None, refl, sym, ap, subst, ◌∙◌, arith, inl, inr}
+use Rattle.std.specs.Prelude.{◌⊎◌, nat_lt, ℤ}
+use Rattle.std.proofs.lemmas.List.{length-take, take-append-drop}
+use Rattle.std.proofs.lemmas.Bool.{cases_lt, ltb-false}
+use Rattle.std.specs.Int.{w32, cast_signed}
+use Rattle.byteorder.specs.Endian.{big_number}
+use Rattle.pcap_classic.specs.declared.rules.Rule.TheVariants.{CaptureMagic, FractionTooLarge, IncludedTooLong, OriginalTooLong, IncludedPastOriginal}
+use Rattle.pcap_classic.specs.Faults.{Fault, Invalid}
+use Rattle.pcap_classic.specs.declared.common.TsResolution.{TsResolution}
+use Rattle.pcap_classic.specs.declared.link.DataLink.{DataLink}
+use Rattle.pcap_classic.specs.declared.pcap.header.PcapHeader.{PcapHeader}
+use Rattle.pcap_classic.specs.declared.pcap.packet.PacketHeader.{PacketHeader}
+use Rattle.pcap_classic.specs.Answer.{Verdict, whole, lacks, faulty, Number, number_in}
+use Rattle.pcap_classic.specs.Link.{Link}
+use Rattle.pcap_classic.specs.Magic.{is_magic, order_of}
+use Rattle.pcap_classic.specs.PacketText.{PacketSays, PacketHeaderSays, Head, HeadText, IsGood, head_fault, spelled_header, nanoseconds, PacketHeaderText, LacksHead, HasHeadFault, Captured, PacketText, LacksPacket}
+use Rattle.pcap_classic.specs.HeaderText.{HeaderSays, FieldsText, HeaderText, HasHeaderFault}
+use Rattle.pcap_classic.specs.Laws.{ExactlyOne}
+use Rattle.pcap_classic.proofs.Links.{plain_same, link_of}
+use Rattle.pcap_classic.proofs.Texts.{split_same, number_same, number_length, head_same, head_length, packet_header_same, good_has_none, lacks_no_packet, fault_no_packet, header_length}
+
+-- ---- a head is good or has a fault
+
+option_cases : {A : Type 0} (o : Option A) → (o ≡ None) ⊎ ((x : A) × (o ≡ Some x))
+option_cases None = inl refl
+option_cases (Some x) = inr (x, refl)
+
+not_chosen : (b : Bool) (x : Fault) (o : Option Fault) → cond b (Some x) o ≡ None → (b ≡ false) × (o ≡ None)
+not_chosen true x o e = absurd cc
+not_chosen false x o e = (refl, e)
+
+fault_5 : Head → Option Fault
+fault_5 head = cond (nat_lt head.original head.included) (Some (Invalid IncludedPastOriginal)) None
+
+fault_4 : ℕ → Head → Option Fault
+fault_4 limit head = cond (nat_lt limit head.original) (Some (Invalid OriginalTooLong)) (fault_5 head)
+
+fault_3 : ℕ → Head → Option Fault
+fault_3 limit head = cond (nat_lt limit head.included) (Some (Invalid IncludedTooLong)) (fault_4 limit head)
+
+none_is_good : (limit : ℕ) (r : TsResolution) (head : Head) → head_fault limit r head ≡ None → IsGood limit r head
+unfolding fault_3 fault_4 fault_5
+none_is_good limit r head e =
+    let a = not_chosen (nat_lt 4294967295 (nanoseconds r head.fraction)) (Invalid FractionTooLarge) (fault_3 limit head) e in
+    let b = not_chosen (nat_lt limit head.included) (Invalid IncludedTooLong) (fault_4 limit head) a.1 in
+    let d = not_chosen (nat_lt limit head.original) (Invalid OriginalTooLong) (fault_5 head) b.1 in
+    let f = not_chosen (nat_lt head.original head.included) (Invalid IncludedPastOriginal) None d.1 in
+    record { fraction = ltb-false _ _ a.0; included = ltb-false _ _ f.0; original = ltb-false _ _ d.0 }
+
+-- ---- what is there
+
+number_there : (order : ℕ → List ℕ → ℕ) (w : ℕ) (s : List ℕ) → w ≤ length s → (n : ℕ) × (rest : List ℕ) × Number order w n s rest
+number_there order w s long = (
+  order w (take w s),
+  drop w s,
+  record {
+    bytes = take w s;
+    text = sym (take-append-drop w s);
+    length_is = omega (arith, length-take w s);
+    value = refl;
+  },
+)
+
+head_there : (order : ℕ → List ℕ → ℕ) (s : List ℕ) → 16 ≤ length s → (head : Head) × (rest : List ℕ) × HeadText order head s rest
+head_there order s long =
+    let a = number_there order 4 s (omega arith) in
+    let la = number_length order 4 a.0 s a.1 a.2 in
+    let b = number_there order 4 a.1 (omega (arith, la)) in
+    let lb = number_length order 4 b.0 a.1 b.1 b.2 in
+    let d = number_there order 4 b.1 (omega (arith, la, lb)) in
+    let ld = number_length order 4 d.0 b.1 d.1 d.2 in
+    let f = number_there order 4 d.1 (omega (arith, la, lb, ld)) in (
+      record { seconds = a.0; fraction = b.0; included = d.0; original = f.0 },
+      f.1,
+      record {
+        after_seconds = a.1;
+        after_fraction = b.1;
+        after_included = d.1;
+        seconds = a.2;
+        fraction = b.2;
+        included = d.2;
+        original = f.2;
+      },
+    )
+
+-- ---- nothing else is
+
+lacks_head_no_head : (order : ℕ → List ℕ → ℕ) (s : List ℕ) (n : ℕ) (head : Head) (rest : List ℕ) → LacksHead s n → HeadText order head s rest → ⊥
+lacks_head_no_head order s n head rest p text = omega (arith, p.missing, p.some, head_length order head s rest text)
+
+good_no_fault : (limit : ℕ) (order : ℕ → List ℕ → ℕ) (r : TsResolution) (s : List ℕ) (header : PacketHeader) (rest : List ℕ) (fault : Fault) → PacketHeaderText limit order r header s rest → HasHeadFault limit order r s fault → ⊥
+good_no_fault limit order r s header rest fault text wrong =
+    let e = head_same order wrong.head text.head s wrong.after rest wrong.text text.text in
+    let none : head_fault limit r wrong.head ≡ None = ap (head_fault limit r) e.0 ∙ good_has_none limit r text.head text.good in
+    let some : head_fault limit r wrong.head ≡ Some fault = wrong.first in
+    cc
+
+fault_same : (limit : ℕ) (order : ℕ → List ℕ → ℕ) (r : TsResolution) (s : List ℕ) (f g : Fault) → HasHeadFault limit order r s f → HasHeadFault limit order r s g → f ≡ g
+fault_same limit order r s f g p q =
+    let e = head_same order p.head q.head s p.after q.after p.text q.text in
+    let a : head_fault limit r p.head ≡ Some f = p.first in
+    let b : head_fault limit r p.head ≡ Some g = ap (head_fault limit r) e.0 ∙ q.first in
+    cc
+
+make_captured : PacketHeader → List ℕ → Captured
+make_captured h bytes = record { header = h; bytes = bytes }
+
+pub captured_is : (p q : Captured) → p.header ≡ q.header → p.bytes ≡ q.bytes → p ≡ q
+unfolding make_captured
+captured_is p q a b = let t : make_captured p.header p.bytes ≡ make_captured q.header q.bytes = rw (a, b) refl in t
+
+pub packet_same : (limit : ℕ) (order : ℕ → List ℕ → ℕ) (r : TsResolution) (p q : Captured) (s a b : List ℕ) → PacketText limit order r p s a → PacketText limit order r q s b → (p ≡ q) × (a ≡ b)
+packet_same limit order r p q s a b x y =
+    let e = packet_header_same order limit r p.header q.header s x.after y.after x.header y.header in
+    let len : length p.bytes ≡ length q.bytes = x.whole ∙ ap (λ (h : PacketHeader). h.incl_len) e.0 ∙ sym y.whole in
+    let d = split_same p.bytes a q.bytes b len (sym x.data_is ∙ e.1 ∙ y.data_is) in
+    (captured_is p q e.0 d.0, d.1)
+
+lacks_same : (limit : ℕ) (order : ℕ → List ℕ → ℕ) (r : TsResolution) (s : List ℕ) (n m : ℕ) → LacksPacket limit order r s n → LacksPacket limit order r s m → n ≡ m
+lacks_same limit order r s n m (inl p) (inl q) = omega (arith, p.missing, q.missing)
+lacks_same limit order r s n m (inl p) (inr q) = absurd (lacks_head_no_head order s n q.text.head q.after p q.text.text)
+lacks_same limit order r s n m (inr p) (inl q) = absurd (lacks_head_no_head order s m p.text.head p.after q p.text.text)
+lacks_same limit order r s n m (inr p) (inr q) =
+    let e = packet_header_same order limit r p.header q.header s p.after q.after p.text q.text in
+    omega (arith, p.missing, q.missing, ap length e.1, ap (λ (h : PacketHeader). h.incl_len) e.0)
+
+lacks_no_fault : (limit : ℕ) (order : ℕ → List ℕ → ℕ) (r : TsResolution) (s : List ℕ) (n : ℕ) (f : Fault) → LacksPacket limit order r s n → HasHeadFault limit order r s f → ⊥
+lacks_no_fault limit order r s n f (inl p) q = lacks_head_no_head order s n q.head q.after p q.text
+lacks_no_fault limit order r s n f (inr p) q = good_no_fault limit order r s p.header p.after f p.text q
+
+packet_only : (limit : ℕ) (order : ℕ → List ℕ → ℕ) (r : TsResolution) (s : List ℕ) (v w : Verdict Captured) → PacketSays limit order r s v → PacketSays limit order r s w → v ≡ w
+packet_only limit order r s (whole p a) (whole q b) x y = let e = packet_same limit order r p q s a b x y in rw (e.0, e.1) refl
+packet_only limit order r s (whole p a) (lacks m) x y = absurd (lacks_no_packet order limit r m s y p a x)
+packet_only limit order r s (whole p a) (faulty g) x y = absurd (fault_no_packet order limit r s g y p a x)
+packet_only limit order r s (lacks n) (whole q b) x y = absurd (lacks_no_packet order limit r n s x q b y)
+packet_only limit order r s (lacks n) (lacks m) x y = let e = lacks_same limit order r s n m x y in rw e refl
+packet_only limit order r s (lacks n) (faulty g) x y = absurd (lacks_no_fault limit order r s n g x y)
+packet_only limit order r s (faulty f) (whole q b) x y = absurd (fault_no_packet order limit r s f x q b y)
+packet_only limit order r s (faulty f) (lacks m) x y = absurd (lacks_no_fault limit order r s m f y x)
+packet_only limit order r s (faulty f) (faulty g) x y = let e = fault_same limit order r s f g x y in rw e refl
+
+packet_there : (limit : ℕ) (order : ℕ → List ℕ → ℕ) (r : TsResolution) (s : List ℕ) → (v : Verdict Captured) × PacketSays limit order r s v
+packet_there limit order r s =
+    elim (cases_lt (length s) 16) [
+      | inl short ↦ (lacks (16 - length s), inl (record { some = omega arith; missing = omega arith }))
+      | inr long ↦
+          let h = head_there order s long in
+          elim (option_cases (head_fault limit r h.0)) [
+            | inr f ↦ (faulty f.0, record { head = h.0; after = h.1; text = h.2; first = f.1 })
+            | inl none ↦
+                let header : PacketHeader = spelled_header r h.0 in
+                let text : PacketHeaderText limit order r header s h.1 = record { head = h.0; text = h.2; good = none_is_good limit r h.0 none; value = refl } in
+                elim (cases_lt (length h.1) h.0.included) [
+                  | inl short ↦ (lacks (h.0.included - length h.1), inr (record { header = header; after = h.1; text = text; some = omega arith; missing = omega arith }))
+                  | inr enough ↦ (
+                    whole (record { header = header; bytes = take h.0.included h.1 }) (drop h.0.included h.1),
+                    record {
+                      after = h.1;
+                      header = text;
+                      data_is = sym (take-append-drop h.0.included h.1);
+                      whole = omega (arith, length-take h.0.included h.1);
+                    },
+                  )
+                ]
+          ]
+    ]
+
+pub packet_one : (limit : ℕ) (order : ℕ → List ℕ → ℕ) (r : TsResolution) (s : List ℕ) → ExactlyOne (PacketSays limit order r s)
+packet_one limit order r s =
+    let v = packet_there limit order r s in
+    record { value = v.0; holds = v.1; only = λ w h. packet_only limit order r s w v.0 h v.1 }
+
+-- ---- a packet's header
+
+packet_header_only : (limit : ℕ) (order : ℕ → List ℕ → ℕ) (r : TsResolution) (s : List ℕ) (v w : Verdict PacketHeader) → PacketHeaderSays limit order r s v → PacketHeaderSays limit order r s w → v ≡ w
+packet_header_only limit order r s (whole p a) (whole q b) x y = let e = packet_header_same order limit r p q s a b x y in rw (e.0, e.1) refl
+packet_header_only limit order r s (whole p a) (lacks m) x y = absurd (lacks_head_no_head order s m x.head a y x.text)
+packet_header_only limit order r s (whole p a) (faulty g) x y = absurd (good_no_fault limit order r s p a g x y)
+packet_header_only limit order r s (lacks n) (whole q b) x y = absurd (lacks_head_no_head order s n y.head b x y.text)
+packet_header_only limit order r s (lacks n) (lacks m) x y = let e : n ≡ m = omega (arith, x.missing, y.missing) in rw e refl
+packet_header_only limit order r s (lacks n) (faulty g) x y = absurd (lacks_head_no_head order s n y.head y.after x y.text)
+packet_header_only limit order r s (faulty f) (whole q b) x y = absurd (good_no_fault limit order r s q b f y x)
+packet_header_only limit order r s (faulty f) (lacks m) x y = absurd (lacks_head_no_head order s m x.head x.after y x.text)
+packet_header_only limit order r s (faulty f) (faulty g) x y = let e = fault_same limit order r s f g x y in rw e refl
+
+packet_header_there : (limit : ℕ) (order : ℕ → List ℕ → ℕ) (r : TsResolution) (s : List ℕ) → (v : Verdict PacketHeader) × PacketHeaderSays limit order r s v
+packet_header_there limit order r s =
+    elim (cases_lt (length s) 16) [
+      | inl short ↦ (lacks (16 - length s), record { some = omega arith; missing = omega arith })
+      | inr long ↦
+          let h = head_there order s long in
+          elim (option_cases (head_fault limit r h.0)) [
+            | inr f ↦ (faulty f.0, record { head = h.0; after = h.1; text = h.2; first = f.1 })
+            | inl none ↦ (whole (spelled_header r h.0) h.1, record { head = h.0; text = h.2; good = none_is_good limit r h.0 none; value = refl })
+          ]
+    ]
+
+pub packet_header_one : (limit : ℕ) (order : ℕ → List ℕ → ℕ) (r : TsResolution) (s : List ℕ) → ExactlyOne (PacketHeaderSays limit order r s)
+packet_header_one limit order r s =
+    let v = packet_header_there limit order r s in
+    record { value = v.0; holds = v.1; only = λ w h. packet_header_only limit order r s w v.0 h v.1 }
+
+-- ---- a capture's header
+
+make_header : ℕ → ℕ → ℕ → ℤ → ℕ → ℕ → DataLink → PcapHeader
+make_header a b d e f g h = record { magic_number = a; version_major = b; version_minor = d; ts_correction = e; ts_accuracy = f; snaplen = g; datalink = h }
+
+pub header_same : (p q : PcapHeader) (s a b : List ℕ) → HeaderText p s a → HeaderText q s b → (p ≡ q) × (a ≡ b)
+unfolding make_header
+header_same p q s a b x y =
+    let m = number_same big_number 4 p.magic_number q.magic_number s x.after_magic y.after_magic x.magic y.magic in
+    let order = number_in (order_of q.magic_number) in
+    let xf : FieldsText order p y.after_magic a = rw (← m.0, ← m.1) x.fields in
+    let yf = y.fields in
+    let e1 = number_same order 2 p.version_major q.version_major y.after_magic xf.after_major yf.after_major xf.major yf.major in
+    let t2 : Number order 2 p.version_minor yf.after_major xf.after_minor = rw (← e1.1) xf.minor in
+    let e2 = number_same order 2 p.version_minor q.version_minor yf.after_major xf.after_minor yf.after_minor t2 yf.minor in
+    let t3 : Number order 4 xf.correction_bits yf.after_minor xf.after_correction = rw (← e2.1) xf.correction in
+    let e3 = number_same order 4 xf.correction_bits yf.correction_bits yf.after_minor xf.after_correction yf.after_correction t3 yf.correction in
+    let t4 : Number order 4 p.ts_accuracy yf.after_correction xf.after_accuracy = rw (← e3.1) xf.accuracy in
+    let e4 = number_same order 4 p.ts_accuracy q.ts_accuracy yf.after_correction xf.after_accuracy yf.after_accuracy t4 yf.accuracy in
+    let t5 : Number order 4 p.snaplen yf.after_accuracy xf.after_snaplen = rw (← e4.1) xf.snaplen in
+    let e5 = number_same order 4 p.snaplen q.snaplen yf.after_accuracy xf.after_snaplen yf.after_snaplen t5 yf.snaplen in
+    let t6 : Number order 4 xf.link_number_is yf.after_snaplen a = rw (← e5.1) xf.link in
+    let e6 = number_same order 4 xf.link_number_is yf.link_number_is yf.after_snaplen a b t6 yf.link in
+    let correction : p.ts_correction ≡ q.ts_correction = xf.correction_is ∙ ap (cast_signed w32) e3.0 ∙ sym yf.correction_is in
+    let link : p.datalink ≡ q.datalink = plain_same p.datalink q.datalink xf.link_is.plain yf.link_is.plain (xf.link_is.number ∙ e6.0 ∙ sym yf.link_is.number) in
+    let made : make_header p.magic_number p.version_major p.version_minor p.ts_correction p.ts_accuracy p.snaplen p.datalink ≡ make_header q.magic_number q.version_major q.version_minor q.ts_correction q.ts_accuracy q.snaplen q.datalink = rw (m.0, e1.0, e2.0, correction, e4.0, e5.0, link) refl in
+    (made, e6.1)
+
+true_or_false : (b : Bool) → (b ≡ true) ⊎ (b ≡ false)
+true_or_false true = inl refl
+true_or_false false = inr refl
+
+valid_no_fault : (h : PcapHeader) (s rest : List ℕ) (fault : Fault) → HeaderText h s rest → HasHeaderFault s fault → ⊥
+valid_no_fault h s rest fault text wrong =
+    let m = number_same big_number 4 h.magic_number wrong.magic s text.after_magic wrong.after text.magic wrong.text in
+    let valid : is_magic h.magic_number ≡ true = text.valid in
+    let invalid : is_magic h.magic_number ≡ false = ap is_magic m.0 ∙ wrong.invalid in
+    cc
+
+header_only : (s : List ℕ) (v w : Verdict PcapHeader) → HeaderSays s v → HeaderSays s w → v ≡ w
+header_only s (whole p a) (whole q b) x y = let e = header_same p q s a b x y in rw (e.0, e.1) refl
+header_only s (whole p a) (lacks m) x y = absurd (omega (arith, y.missing, y.some, header_length p s a x))
+header_only s (whole p a) (faulty g) x y = absurd (valid_no_fault p s a g x y)
+header_only s (lacks n) (whole q b) x y = absurd (omega (arith, x.missing, x.some, header_length q s b y))
+header_only s (lacks n) (lacks m) x y = let e : n ≡ m = omega (arith, x.missing, y.missing) in rw e refl
+header_only s (lacks n) (faulty g) x y = absurd (omega (arith, x.missing, x.some, y.long))
+header_only s (faulty f) (whole q b) x y = absurd (valid_no_fault q s b f y x)
+header_only s (faulty f) (lacks m) x y = absurd (omega (arith, y.missing, y.some, x.long))
+header_only s (faulty f) (faulty g) x y = let e : f ≡ g = x.fault_is ∙ sym y.fault_is in rw e refl
+
+made_magic : (a b d : ℕ) (e : ℤ) (f g : ℕ) (h : DataLink) → (make_header a b d e f g h).magic_number ≡ a
+unfolding make_header
+made_magic a b d e f g h = refl
+
+fields_made : (order : ℕ → List ℕ → ℕ) (m a b d e f g : ℕ) (k : DataLink) (s sa sb sd se sf sg : List ℕ)
+    → Number order 2 a s sa → Number order 2 b sa sb → Number order 4 d sb sd → Number order 4 e sd se → Number order 4 f se sf → Number order 4 g sf sg → Link g k
+    → FieldsText order (make_header m a b (cast_signed w32 d) e f k) s sg
+unfolding make_header
+fields_made order m a b d e f g k s sa sb sd se sf sg pa pb pd pe pf pg pk = record {
+  correction_bits = d;
+  link_number_is = g;
+  after_major = sa;
+  after_minor = sb;
+  after_correction = sd;
+  after_accuracy = se;
+  after_snaplen = sf;
+  major = pa;
+  minor = pb;
+  correction = pd;
+  correction_is = refl;
+  accuracy = pe;
+  snaplen = pf;
+  link = pg;
+  link_is = pk;
+}
+
+fields_there : (order : ℕ → List ℕ → ℕ) (magic : ℕ) (s : List ℕ) → 20 ≤ length s → (h : PcapHeader) × (rest : List ℕ) × (h.magic_number ≡ magic) × FieldsText order h s rest
+fields_there order magic s long =
+    let a = number_there order 2 s (omega arith) in
+    let la = number_length order 2 a.0 s a.1 a.2 in
+    let b = number_there order 2 a.1 (omega (arith, la)) in
+    let lb = number_length order 2 b.0 a.1 b.1 b.2 in
+    let d = number_there order 4 b.1 (omega (arith, la, lb)) in
+    let ld = number_length order 4 d.0 b.1 d.1 d.2 in
+    let e = number_there order 4 d.1 (omega (arith, la, lb, ld)) in
+    let le = number_length order 4 e.0 d.1 e.1 e.2 in
+    let f = number_there order 4 e.1 (omega (arith, la, lb, ld, le)) in
+    let lf = number_length order 4 f.0 e.1 f.1 f.2 in
+    let g = number_there order 4 f.1 (omega (arith, la, lb, ld, le, lf)) in
+    let k = link_of g.0 in
+    (make_header magic a.0 b.0 (cast_signed w32 d.0) e.0 f.0 k.0, g.1, made_magic magic a.0 b.0 (cast_signed w32 d.0) e.0 f.0 k.0, fields_made order magic a.0 b.0 d.0 e.0 f.0 g.0 k.0 s a.1 b.1 d.1 e.1 f.1 g.1 a.2 b.2 d.2 e.2 f.2 g.2 k.1)
+
+header_there : (s : List ℕ) → (v : Verdict PcapHeader) × HeaderSays s v
+header_there s =
+    elim (cases_lt (length s) 24) [
+      | inl short ↦ (lacks (24 - length s), record { some = omega arith; missing = omega arith })
+      | inr long ↦
+          let m = number_there big_number 4 s (omega arith) in
+          let lm = number_length big_number 4 m.0 s m.1 m.2 in
+          elim (true_or_false (is_magic m.0)) [
+            | inr invalid ↦ (faulty (Invalid CaptureMagic), record { magic = m.0; after = m.1; long = long; text = m.2; invalid = invalid; fault_is = refl })
+            | inl valid ↦
+                let f = fields_there (number_in (order_of m.0)) m.0 m.1 (omega (arith, lm)) in
+                let magic : Number big_number 4 f.0.magic_number s m.1 = rw f.2 m.2 in
+                let fields : FieldsText (number_in (order_of f.0.magic_number)) f.0 m.1 f.1 = subst (λ (k : ℕ). FieldsText (number_in (order_of k)) f.0 m.1 f.1) (sym f.2) f.3 in
+                (whole f.0 f.1, record { after_magic = m.1; valid = ap is_magic f.2 ∙ valid; magic = magic; fields = fields })
+          ]
+    ]
+
+pub header_one : (s : List ℕ) → ExactlyOne (HeaderSays s)
+header_one s =
+    let v = header_there s in
+    record { value = v.0; holds = v.1; only = λ w h. header_only s w v.0 h v.1 }

@@ -1,0 +1,181 @@
+-- Packets are a lawful format.
+use Rattle.std.proofs.Common.{◌≡◌, ℕ, Bool, true, false, ◌-◌, ◌+◌, ◌<◌, ◌≤◌, List, [], ◌∷◌, ◌++◌, length, refl, sym, ap, subst, ◌∙◌, arith, append-nil, length-append, inl, inr}
+use Rattle.pcap_classic.specs.declared.rules.Rule.TheVariants.{CaptureMagic}
+use Rattle.pcap_classic.specs.Faults.{Invalid}
+use Rattle.pcap_classic.specs.declared.common.TsResolution.{TsResolution}
+use Rattle.pcap_classic.specs.declared.pcap.header.PcapHeader.{PcapHeader}
+use Rattle.pcap_classic.specs.declared.pcap.packet.PacketHeader.{PacketHeader}
+use Rattle.pcap_classic.specs.declared.errors.PcapError.{PcapError}
+use Rattle.pcap_classic.specs.Magic.{is_magic, order_of, resolution_of}
+use Rattle.pcap_classic.specs.Answer.{number_in, Number, Verdict, whole, lacks, faulty, Refuses}
+use Rattle.pcap_classic.specs.PacketText.{HeadText, PacketHeaderText, LacksPacket, PacketText, PacketSays, Captured}
+use Rattle.pcap_classic.specs.Laws.{ExactlyOne}
+use Rattle.pcap_classic.specs.Format.{Format, IsLawful, Extends, Front}
+use Rattle.pcap_classic.specs.Packets.{packet_format, format_under, RefusingSays, refusing_format, chosen, reader_format}
+use Rattle.pcap_classic.specs.Front.{CaptureFront}
+use Rattle.pcap_classic.proofs.Texts.{head_length, packet_header_same}
+use Rattle.pcap_classic.proofs.One.{packet_one, header_same}
+use Rattle.pcap_classic.proofs.Stable.{packet_stable, packet_header_more}
+use Rattle.pcap_classic.proofs.Concrete.{joined}
+use Rattle.pcap_classic.proofs.Formats.{front_extends}
+
+number_put : (order : ℕ → List ℕ → ℕ) (w n : ℕ) (s a b : List ℕ) (p : Number order w n s a) → Number order w n (p.bytes ++ b) b
+number_put order w n s a b p = record { bytes = p.bytes; text = refl; length_is = p.length_is; value = p.value }
+
+-- a packet's text without what follows it
+packet_own : (limit : ℕ) (order : ℕ → List ℕ → ℕ) (r : TsResolution) (packet : Captured) (s rest : List ℕ) → PacketText limit order r packet s rest
+    → (t : List ℕ) × (s ≡ t ++ rest) × PacketText limit order r packet t []
+packet_own limit order r packet s rest p =
+    let h = p.header.head in
+    let t = p.header.text in
+    let b1 = t.seconds.bytes in
+    let b2 = t.fraction.bytes in
+    let b3 = t.included.bytes in
+    let b4 = t.original.bytes in
+    let text : HeadText order h (b1 ++ (b2 ++ (b3 ++ (b4 ++ packet.bytes)))) packet.bytes = record {
+      after_seconds = b2 ++ (b3 ++ (b4 ++ packet.bytes));
+      after_fraction = b3 ++ (b4 ++ packet.bytes);
+      after_included = b4 ++ packet.bytes;
+      seconds = number_put order 4 h.seconds s t.after_seconds (b2 ++ (b3 ++ (b4 ++ packet.bytes))) t.seconds;
+      fraction = number_put order 4 h.fraction t.after_seconds t.after_fraction (b3 ++ (b4 ++ packet.bytes)) t.fraction;
+      included = number_put order 4 h.included t.after_fraction t.after_included (b4 ++ packet.bytes) t.included;
+      original = number_put order 4 h.original t.after_included p.after packet.bytes t.original;
+    } in (
+      b1 ++ (b2 ++ (b3 ++ (b4 ++ packet.bytes))),
+      joined s b1 t.after_seconds b2 t.after_fraction b3 t.after_included b4 p.after packet.bytes rest t.seconds.text t.fraction.text t.included.text t.original.text p.data_is,
+      record {
+        after = packet.bytes;
+        header = record { head = h; text = text; good = p.header.good; value = p.header.value };
+        data_is = sym (append-nil packet.bytes);
+        whole = p.whole;
+      },
+    )
+
+packet_asks : (limit : ℕ) (order : ℕ → List ℕ → ℕ) (r : TsResolution) (s : List ℕ) (n : ℕ) → LacksPacket limit order r s n → 0 < n
+packet_asks limit order r s n (inl p) = p.some
+packet_asks limit order r s n (inr p) = p.some
+
+packet_last : (limit : ℕ) (order : ℕ → List ℕ → ℕ) (r : TsResolution) (s more : List ℕ) (n m : ℕ) → 16 ≤ length s → LacksPacket limit order r s n → length more ≡ n → LacksPacket limit order r (s ++ more) m → ⊥
+packet_last limit order r s more n m long (inl p) count q = omega (arith, long, p.missing, p.some)
+packet_last limit order r s more n m long (inr p) count (inl q) = omega (arith, long, q.missing, q.some, length-append s more)
+packet_last limit order r s more n m long (inr p) count (inr q) =
+    let e = packet_header_same order limit r p.header q.header (s ++ more) (p.after ++ more) q.after (packet_header_more more limit order r p.header s p.after p.text) q.text in
+    omega (arith, p.missing, q.missing, q.some, count, ap length e.1, length-append p.after more, ap (λ (h : PacketHeader). h.incl_len) e.0)
+
+pub packets_lawful : (limit : ℕ) (order : ℕ → List ℕ → ℕ) (r : TsResolution) → IsLawful (packet_format limit order r)
+unfolding packet_format
+packets_lawful limit order r = record {
+  one = λ q s. packet_one limit order r s;
+  stable = λ q. packet_stable limit order r;
+  own = λ q s rest packet text. packet_own limit order r packet s rest text;
+  some = omega arith;
+  asks = λ q s n lack. packet_asks limit order r s n lack;
+  short = λ q s n sum some. inl (record { some = some; missing = sum });
+  last = λ q s more n m long lack count again. packet_last limit order r s more n m long lack count again;
+}
+
+-- what the calls on slices say is what the format says
+pub packets_say : (limit : ℕ) (order : ℕ → List ℕ → ℕ) (r : TsResolution) (q : Unit {0}) (s : List ℕ) (v : Verdict Captured) → PacketSays limit order r s v → (packet_format limit order r).says q s v
+unfolding packet_format
+packets_say limit order r q s v x = x
+
+pub packets_refuse : (limit : ℕ) (order : ℕ → List ℕ → ℕ) (r : TsResolution) (q : Unit {0}) (s : List ℕ) (e : PcapError)
+    → Refuses ⊥ (λ n. PacketSays limit order r s (lacks n)) (λ fault. PacketSays limit order r s (faulty fault)) e
+    → Refuses ⊥ (λ n. (packet_format limit order r).says q s (lacks n)) (λ fault. (packet_format limit order r).says q s (faulty fault)) e
+unfolding packet_format
+packets_refuse limit order r q s e x = x
+
+packets_extend : (limit larger : ℕ) (order : ℕ → List ℕ → ℕ) (r : TsResolution) → limit ≤ larger → Extends (packet_format limit order r) (packet_format larger order r)
+unfolding packet_format
+packets_extend limit larger order r le = record {
+  texts = λ q s rest packet p. record {
+    after = p.after;
+    header = record {
+      head = p.header.head;
+      text = p.header.text;
+      good = record { fraction = p.header.good.fraction; included = p.header.good.included; original = omega (arith, le, p.header.good.original) };
+      value = p.header.value;
+    };
+    data_is = p.data_is;
+    whole = p.whole;
+  };
+  goes = λ q packet. refl;
+}
+
+-- the same front, behind a header that is the same
+pub under_same : (limit : ℕ) (h k : PcapHeader) (ps : List Captured) (s t rest : List ℕ) → h ≡ k → s ≡ t → Front (format_under limit h) tt ps s rest → Front (format_under limit k) tt ps t rest
+under_same limit h k ps s t rest header bytes x =
+    let one : Front (format_under limit k) tt ps s rest = subst (λ (z : PcapHeader). Front (format_under limit z) tt ps s rest) header x in
+    subst (λ (z : List ℕ). Front (format_under limit k) tt ps z rest) bytes one
+
+pub larger_keeps : (limit larger : ℕ) (h k : PcapHeader) (ps qs : List Captured) (s a b : List ℕ) → limit ≤ larger → CaptureFront limit h ps s a → CaptureFront larger k qs s b
+    → (h ≡ k) × (more : List Captured) × (qs ≡ ps ++ more)
+larger_keeps limit larger h k ps qs s a b le x y =
+    let e = header_same h k s x.after y.after x.header_text y.header_text in
+    let order = number_in (order_of k.magic_number) in
+    let r = resolution_of k.magic_number in
+    let front = under_same limit h k ps x.after y.after a e.0 e.1 x.front in
+    let on = front_extends (packet_format limit order r) (packet_format larger order r) (packets_lawful larger order r) (packets_extend limit larger order r le) tt ps qs y.after a b front y.front in
+    (e.0, on.0, on.1)
+
+-- ---- under a header of no valid magic number
+
+refusing_only : (s : List ℕ) (v w : Verdict Captured) → RefusingSays s v → RefusingSays s w → v ≡ w
+refusing_only s (lacks n) (lacks m) x y = let e : n ≡ m = x.1 ∙ sym y.1 in rw e refl
+refusing_only s (lacks n) (faulty g) x y = absurd (omega (arith, ap length x.0, y.0))
+refusing_only s (lacks n) (whole p a) x y = absurd y
+refusing_only s (faulty f) (lacks m) x y = absurd (omega (arith, ap length y.0, x.0))
+refusing_only s (faulty f) (faulty g) x y = let e : f ≡ g = x.1 ∙ sym y.1 in rw e refl
+refusing_only s (faulty f) (whole p a) x y = absurd y
+refusing_only s (whole p a) w x y = absurd x
+
+refusing_there : (s : List ℕ) → (v : Verdict Captured) × RefusingSays s v
+refusing_there [] = (lacks 1, (refl, refl))
+refusing_there (b ∷ s) = (faulty (Invalid CaptureMagic), (omega arith, refl))
+
+refusing_one : (s : List ℕ) → ExactlyOne (RefusingSays s)
+refusing_one s =
+    let v = refusing_there s in
+    record { value = v.0; holds = v.1; only = λ w h. refusing_only s w v.0 h v.1 }
+
+no_bytes : (l : List ℕ) → length l ≡ 0 → l ≡ []
+no_bytes [] e = refl
+no_bytes (b ∷ l) e = absurd (omega (arith, e))
+
+refusing_lawful : IsLawful refusing_format
+unfolding refusing_format
+refusing_lawful = record {
+  one = λ q s. refusing_one s;
+  stable = λ q. record {
+    text = λ s more rest packet h. absurd h;
+    fault = λ s more fault h. (omega (arith, h.0, length-append s more), h.1);
+    request = λ s more n fewer h. (no_bytes (s ++ more) (omega (arith, length-append s more, ap length h.0, h.1)), omega (arith, h.1));
+  };
+  own = λ q s rest packet text. absurd text;
+  some = omega arith;
+  asks = λ q s n lack. omega (arith, lack.1);
+  short = λ q s n sum some. (no_bytes s (omega (arith, sum, some)), omega (arith, sum, some));
+  last = λ q s more n m long lack count again. omega (arith, long, ap length lack.0);
+}
+
+chosen_lawful : (b : Bool) (f g : Format (Unit {0}) Captured) → IsLawful f → IsLawful g → IsLawful (chosen b f g)
+chosen_lawful true f g x y = x
+chosen_lawful false f g x y = y
+
+pub reader_lawful : (limit : ℕ) (header : PcapHeader) → IsLawful (reader_format limit header)
+unfolding reader_format
+reader_lawful limit header =
+    chosen_lawful (is_magic header.magic_number) (format_under limit header) refusing_format
+    (packets_lawful limit (number_in (order_of header.magic_number)) (resolution_of header.magic_number)) refusing_lawful
+
+chosen_says : (b : Bool) (f g : Format (Unit {0}) Captured) (s : List ℕ) (v : Verdict Captured) → b ≡ true → f.says tt s v → (chosen b f g).says tt s v
+chosen_says true f g s v e x = x
+chosen_says false f g s v e x = absurd cc
+
+-- under a valid magic number a reader reads packets
+pub reader_says : (limit : ℕ) (header : PcapHeader) (s : List ℕ) (v : Verdict Captured) → is_magic header.magic_number ≡ true
+    → PacketSays limit (number_in (order_of header.magic_number)) (resolution_of header.magic_number) s v → (reader_format limit header).says tt s v
+unfolding reader_format
+reader_says limit header s v valid x =
+    chosen_says (is_magic header.magic_number) (format_under limit header) refusing_format s v valid
+    (packets_say limit (number_in (order_of header.magic_number)) (resolution_of header.magic_number) tt s v x)

@@ -1,0 +1,117 @@
+-- What a text says is said once: no two values have texts that begin the same bytes.
+use Rattle.std.proofs.Common.{◌≡◌, ℕ, ◌+◌, List, [], ◌∷◌, ◌++◌, length, false, Some, None, refl, sym, ap, subst, ◌∙◌, arith, inl, inr}
+use Rattle.std.specs.Prelude.{nat_lt}
+use Rattle.std.proofs.lemmas.List.{length-append}
+use Rattle.std.proofs.lemmas.Bool.{le-ltb}
+use Rattle.pcap_classic.specs.Faults.{Fault}
+use Rattle.pcap_classic.specs.declared.common.TsResolution.{TsResolution}
+use Rattle.pcap_classic.specs.declared.pcap.packet.PacketHeader.{PacketHeader}
+use Rattle.byteorder.specs.Endian.{big_number}
+use Rattle.pcap_classic.specs.declared.pcap.header.PcapHeader.{PcapHeader}
+use Rattle.pcap_classic.specs.Answer.{Number, number_in}
+use Rattle.pcap_classic.specs.Magic.{order_of}
+use Rattle.pcap_classic.specs.HeaderText.{FieldsText, HeaderText}
+use Rattle.pcap_classic.specs.PacketText.{Head, HeadText, IsGood, head_fault, spelled_header, nanoseconds, PacketHeaderText, HasHeadFault, Captured, PacketText, LacksPacket}
+
+-- two ways to split a list at one place are one
+pub split_same : {A : Type 0} (a x b y : List A) → length a ≡ length b → a ++ x ≡ b ++ y → (a ≡ b) × (x ≡ y)
+split_same [] x [] y len e = (refl, e)
+split_same [] x (c ∷ b) y len e = absurd (omega (arith, len))
+split_same (c ∷ a) x [] y len e = absurd (omega (arith, len))
+split_same (c ∷ a) x (d ∷ b) y len e =
+    let tails : a ++ x ≡ b ++ y = cc in
+    let first : c ≡ d = cc in
+    let shorter : length a ≡ length b = omega (arith, len) in
+    let r = split_same a x b y shorter tails in
+    (cc, r.1)
+
+-- a head by its four numbers
+make_head : ℕ → ℕ → ℕ → ℕ → Head
+make_head a b d e = record { seconds = a; fraction = b; included = d; original = e }
+
+pub head_is : (h k : Head) → h.seconds ≡ k.seconds → h.fraction ≡ k.fraction → h.included ≡ k.included → h.original ≡ k.original → h ≡ k
+unfolding make_head
+head_is h k a b d e = let t : make_head h.seconds h.fraction h.included h.original ≡ make_head k.seconds k.fraction k.included k.original = rw (a, b, d, e) refl in t
+
+-- a good head has no fault
+pub good_has_none : (limit : ℕ) (r : TsResolution) (head : Head) → IsGood limit r head → head_fault limit r head ≡ None
+good_has_none limit r head good =
+    let a : nat_lt 4294967295 (nanoseconds r head.fraction) ≡ false = le-ltb _ _ good.fraction in
+    let b : nat_lt limit head.included ≡ false = le-ltb _ _ (omega (arith, good.included, good.original)) in
+    let d : nat_lt limit head.original ≡ false = le-ltb _ _ good.original in
+    let e : nat_lt head.original head.included ≡ false = le-ltb _ _ good.included in
+    rw (a, b, d, e) refl
+
+module _ (order : ℕ → List ℕ → ℕ) where
+  pub number_same : (w n m : ℕ) (s a b : List ℕ) → Number order w n s a → Number order w m s b → (n ≡ m) × (a ≡ b)
+  number_same w n m s a b p q =
+      let lens : length p.bytes ≡ length q.bytes = p.length_is ∙ sym q.length_is in
+      let r = split_same p.bytes a q.bytes b lens (sym p.text ∙ q.text) in
+      (sym p.value ∙ ap (order w) r.0 ∙ q.value, r.1)
+
+  -- a number's bytes are as many as its width
+  pub number_length : (w n : ℕ) (s a : List ℕ) → Number order w n s a → length s ≡ w + length a
+  number_length w n s a p = ap length p.text ∙ length-append p.bytes a ∙ ap (λ k. k + length a) p.length_is
+
+  pub head_same : (h k : Head) (s a b : List ℕ) → HeadText order h s a → HeadText order k s b → (h ≡ k) × (a ≡ b)
+  head_same h k s a b p q =
+      let e1 = number_same 4 h.seconds k.seconds s p.after_seconds q.after_seconds p.seconds q.seconds in
+      let p2 = subst (λ (t : List ℕ). Number order 4 h.fraction t p.after_fraction) e1.1 p.fraction in
+      let e2 = number_same 4 h.fraction k.fraction q.after_seconds p.after_fraction q.after_fraction p2 q.fraction in
+      let p3 = subst (λ (t : List ℕ). Number order 4 h.included t p.after_included) e2.1 p.included in
+      let e3 = number_same 4 h.included k.included q.after_fraction p.after_included q.after_included p3 q.included in
+      let p4 = subst (λ (t : List ℕ). Number order 4 h.original t a) e3.1 p.original in
+      let e4 = number_same 4 h.original k.original q.after_included a b p4 q.original in
+      (head_is h k e1.0 e2.0 e3.0 e4.0, e4.1)
+
+  pub head_length : (h : Head) (s a : List ℕ) → HeadText order h s a → length s ≡ 16 + length a
+  head_length h s a p =
+      omega (
+        arith,
+        number_length 4 h.seconds s p.after_seconds p.seconds,
+        number_length 4 h.fraction p.after_seconds p.after_fraction p.fraction,
+        number_length 4 h.included p.after_fraction p.after_included p.included,
+        number_length 4 h.original p.after_included a p.original,
+      )
+
+  pub packet_header_same : (limit : ℕ) (r : TsResolution) (h k : PacketHeader) (s a b : List ℕ) → PacketHeaderText limit order r h s a → PacketHeaderText limit order r k s b → (h ≡ k) × (a ≡ b)
+  packet_header_same limit r h k s a b p q =
+      let e = head_same p.head q.head s a b p.text q.text in
+      (p.value ∙ ap (spelled_header r) e.0 ∙ sym q.value, e.1)
+
+  pub packet_length : (limit : ℕ) (r : TsResolution) (p : Captured) (s rest : List ℕ) → PacketText limit order r p s rest → length s ≡ 16 + p.header.incl_len + length rest
+  packet_length limit r p s rest text =
+      omega (arith, head_length text.header.head s text.after text.header.text, ap length text.data_is, length-append p.bytes rest, text.whole)
+
+  -- no packet begins what lacks bytes, what has a fault, or nothing
+  pub lacks_no_packet : (limit : ℕ) (r : TsResolution) (n : ℕ) (s : List ℕ) → LacksPacket limit order r s n → (p : Captured) (rest : List ℕ) → PacketText limit order r p s rest → ⊥
+  lacks_no_packet limit r n s (inl lacks) p rest text = omega (arith, lacks.missing, lacks.some, packet_length limit r p s rest text)
+  lacks_no_packet limit r n s (inr lacks) p rest text =
+      let e = packet_header_same limit r lacks.header p.header s lacks.after text.after lacks.text text.header in
+      omega (arith, lacks.missing, lacks.some, ap length e.1, ap (λ (h : PacketHeader). h.incl_len) e.0, ap length text.data_is, length-append p.bytes rest, text.whole)
+
+  pub fault_no_packet : (limit : ℕ) (r : TsResolution) (s : List ℕ) (fault : Fault) → HasHeadFault limit order r s fault → (p : Captured) (rest : List ℕ) → PacketText limit order r p s rest → ⊥
+  fault_no_packet limit r s fault wrong p rest text =
+      let e = head_same wrong.head text.header.head s wrong.after text.after wrong.text text.header.text in
+      let none : head_fault limit r wrong.head ≡ None = ap (head_fault limit r) e.0 ∙ good_has_none limit r text.header.head text.header.good in
+      let some : head_fault limit r wrong.head ≡ Some fault = wrong.first in
+      cc
+
+  pub nothing_no_packet : (limit : ℕ) (r : TsResolution) (p : Captured) (rest : List ℕ) → PacketText limit order r p [] rest → ⊥
+  nothing_no_packet limit r p rest text = let e : length {A = ℕ} [] ≡ 16 + p.header.incl_len + length rest = packet_length limit r p [] rest text in omega (arith, e)
+
+pub fields_length : (order : ℕ → List ℕ → ℕ) (header : PcapHeader) (s rest : List ℕ) → FieldsText order header s rest → length s ≡ 20 + length rest
+fields_length order header s rest p =
+    omega (
+      arith,
+      number_length order 2 header.version_major s p.after_major p.major,
+      number_length order 2 header.version_minor p.after_major p.after_minor p.minor,
+      number_length order 4 p.correction_bits p.after_minor p.after_correction p.correction,
+      number_length order 4 header.ts_accuracy p.after_correction p.after_accuracy p.accuracy,
+      number_length order 4 header.snaplen p.after_accuracy p.after_snaplen p.snaplen,
+      number_length order 4 p.link_number_is p.after_snaplen rest p.link,
+    )
+
+pub header_length : (header : PcapHeader) (s rest : List ℕ) → HeaderText header s rest → length s ≡ 24 + length rest
+header_length header s rest p =
+    omega (arith, number_length big_number 4 header.magic_number s p.after_magic p.magic, fields_length (number_in (order_of header.magic_number)) header p.after_magic rest p.fields)

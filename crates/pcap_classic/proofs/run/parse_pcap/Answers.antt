@@ -1,0 +1,70 @@
+use Rattle.std.proofs.Common.{◌≡◌, ◌<◌, ◌∷◌, [], ◌++◌, length, arith}
+use Rattle.std.proofs.lemmas.Grind.{common_steps}
+use Rattle.std.specs.Prelude.{map}
+use Rattle.std.proofs.lemmas.List.Elements.{All-push}
+use Rattle.std.proofs.lemmas.List.{map_push}
+use Rattle.pcap_classic.specs.Bytes.{IsBorrowed}
+use Rattle.pcap_classic.specs.Answer.{number_in, whole}
+use Rattle.pcap_classic.specs.Magic.{order_of, resolution_of}
+use Rattle.pcap_classic.specs.PacketText.{packet_limit, captured}
+use Rattle.pcap_classic.specs.Format.{state_after}
+use Rattle.pcap_classic.specs.Packets.{packet_format}
+use Rattle.pcap_classic.proofs.Texts.{packet_length, header_length}
+use Rattle.pcap_classic.proofs.Formats.{texts_push, nothing_no_text}
+use Rattle.pcap_classic.proofs.Packets.{packets_lawful, packets_say, packets_refuse}
+use Rattle.pcap_classic.proofs.Fronts.{stops}
+use Rattle.pcap_classic.proofs.run.parse_pcap.Goals as goal
+
+pub loop-left-preserved : goal.loop-left-preserved
+loop-left-preserved c =
+    let magic = c.header-header.result.now.magic_number in
+    let order = number_in (order_of magic) in
+    let r = resolution_of magic in
+    let f = packet_format packet_limit order r in
+    let packets = map captured c.loop-left.packets.items in
+    let packet = captured c.in-Ok.packet in
+    let e : map captured c.push.new.self.items ≡ packets ++ packet ∷ [] = rw c.in_ok-push-in-Ok.ensures.items (map_push captured c.loop-left.packets.items c.in-Ok.packet) in
+    let text = rw (← c.header-header.ensures) at c.in-Ok.ensures.tells in
+    let says = packets_say packet_limit order r (state_after f tt packets) c.loop-left.left.now (whole packet c.in-Ok.after.now) text in
+    record {
+      texts = rw e (texts_push f tt packets packet c.in_ok-after_header.after_header.now c.loop-left.left.now c.in-Ok.after.now c.loop-left.invariant.texts says);
+      borrowed = rw c.in_ok-push-in-Ok.ensures.items (All-push (λ packet. IsBorrowed packet.data_) c.loop-left.packets.items c.in-Ok.packet c.loop-left.invariant.borrowed c.in-Ok.ensures.borrowed);
+      shorter = omega (arith, packet_length order packet_limit r packet c.loop-left.left.now c.in-Ok.after.now text);
+    }
+
+pub returns-in-Err-clause-front : goal.returns-in-Err-clause-front
+returns-in-Err-clause-front c =
+    let magic = c.header-header.result.now.magic_number in
+    let order = number_in (order_of magic) in
+    let r = resolution_of magic in
+    let refused = rw (← c.header-header.ensures) at c.in-Err.ensures.tells in
+    let text = rw (← c.header-header.ensures) at c.in_ok-after_header.ensures in
+    let some : 0 < length c.loop-left.left.now = grind (arith, common_steps) in
+    let s = stops (packet_format packet_limit order r) (packets_lawful packet_limit order r) tt c.loop-left.left.now c.in-Err.error some (packets_refuse packet_limit order r tt c.loop-left.left.now c.in-Err.error refused) in
+    record {
+      left = c.loop-left.left.now;
+      front = record { after = c.in_ok-after_header.after_header.now; header_text = text; front = record { texts = c.loop-left.invariant.texts; longest = s.longest } };
+      used = omega (arith, c.loop-left.invariant.shorter, header_length c.header-header.result.now c.args.bytes.now c.in_ok-after_header.after_header.now text);
+      rest = rw c.rest_at.ensures s.rest;
+    }
+
+pub returns-clause-front : goal.returns-clause-front
+returns-clause-front c =
+    let magic = c.header-header.result.now.magic_number in
+    let order = number_in (order_of magic) in
+    let r = resolution_of magic in
+    let text = rw (← c.header-header.ensures) at c.in_ok-after_header.ensures in
+    let none : c.loop-left.left.now ≡ [] = grind (arith, common_steps) in
+    record {
+      left = c.loop-left.left.now;
+      front = record {
+        after = c.in_ok-after_header.after_header.now;
+        header_text = text;
+        front = record {
+          texts = c.loop-left.invariant.texts;
+          longest = λ packet after text. nothing_no_text (packet_format packet_limit order r) (packets_lawful packet_limit order r) tt packet after (rw none at text);
+        };
+      };
+      used = rw none (omega arith);
+      rest = none;
+    }

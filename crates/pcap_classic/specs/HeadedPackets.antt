@@ -1,0 +1,24 @@
+-- Packets as a format with a head: what is said of the sixteen bytes of a header, and then of the data.
+use Rattle.std.specs.Prelude.{◌≡◌, ℕ, List, []}
+use Rattle.pcap_classic.specs.declared.common.TsResolution.{TsResolution}
+use Rattle.pcap_classic.specs.declared.pcap.packet.PacketHeader.{PacketHeader}
+use Rattle.pcap_classic.specs.Answer.{Order}
+use Rattle.pcap_classic.specs.PacketText.{Captured, PacketHeaderText, HasHeadFault}
+use Rattle.pcap_classic.specs.Headed.{Reading, good, bad, Headed}
+
+abbrev pub HeadReads : ℕ → Order → TsResolution → List ℕ → Reading PacketHeader → Type 0
+HeadReads limit order r b (good header) = PacketHeaderText limit order r header b []
+HeadReads limit order r b (bad fault) = HasHeadFault limit order r b fault
+
+abbrev pub DataReads : PacketHeader → List ℕ → Reading Captured → Type 0
+DataReads header b (good packet) = (packet.header ≡ header) × (packet.bytes ≡ b)
+DataReads header b (bad fault) = ⊥
+
+abbrev pub headed_packets : ℕ → Order → TsResolution → Headed (Unit {0}) PacketHeader Captured
+headed_packets limit order r = record {
+  head = 16;
+  reads = λ q. HeadReads limit order r;
+  size = λ header. header.incl_len;
+  means = λ q. DataReads;
+  goes = λ q packet. q;
+}

@@ -1,0 +1,17 @@
+pub mod Bytes
+pub mod Faults
+pub mod Answer
+pub mod PacketText
+pub mod Magic
+pub mod Link
+pub mod HeaderText
+pub mod Packets
+pub mod HeadedPackets
+pub mod Parser
+pub mod Front
+pub mod Run
+pub mod Laws
+pub mod Format
+pub mod Headed
+pub mod Written
+pub mod Early

@@ -1,0 +1,36 @@
+-- The format of packets.
+use Rattle.std.specs.Prelude.{◌≡◌, ◌<◌, ℕ, List, [], length, Bool, true, false}
+use Rattle.pcap_classic.specs.declared.common.TsResolution.{TsResolution}
+use Rattle.pcap_classic.specs.declared.pcap.header.PcapHeader.{PcapHeader}
+use Rattle.pcap_classic.specs.declared.rules.Rule.TheVariants.{CaptureMagic}
+use Rattle.pcap_classic.specs.Answer.{Order, number_in, Verdict, whole, lacks, faulty}
+use Rattle.pcap_classic.specs.Faults.{Invalid}
+use Rattle.pcap_classic.specs.Magic.{is_magic, order_of, resolution_of}
+use Rattle.pcap_classic.specs.PacketText.{Captured, PacketSays}
+use Rattle.pcap_classic.specs.Format.{Format}
+
+-- packets of at most limit bytes, in this order and resolution: no state
+unfoldable pub packet_format : ℕ → Order → TsResolution → Format (Unit {0}) Captured
+packet_format limit order r = record { says = λ q. PacketSays limit order r; goes = λ q packet. q; head = 16 }
+
+-- packets behind this header
+abbrev pub format_under : ℕ → PcapHeader → Format (Unit {0}) Captured
+format_under limit header = packet_format limit (number_in (order_of header.magic_number)) (resolution_of header.magic_number)
+
+-- what is said under a header of no valid magic number: nothing where there is nothing, else that fault
+abbrev pub RefusingSays : List ℕ → Verdict Captured → Type 0
+RefusingSays s (whole packet rest) = ⊥
+RefusingSays s (lacks n) = (s ≡ []) × (n ≡ 1)
+RefusingSays s (faulty fault) = (0 < length s) × (fault ≡ Invalid CaptureMagic)
+
+unfoldable pub refusing_format : Format (Unit {0}) Captured
+refusing_format = record { says = λ q. RefusingSays; goes = λ q packet. q; head = 1 }
+
+-- the first format where it is true, else the second
+abbrev pub chosen : {S V : Type 0} → Bool → Format S V → Format S V → Format S V
+chosen true f g = f
+chosen false f g = g
+
+-- what a reader reads under its header as it stands
+unfoldable pub reader_format : ℕ → PcapHeader → Format (Unit {0}) Captured
+reader_format limit header = chosen (is_magic header.magic_number) (format_under limit header) refusing_format

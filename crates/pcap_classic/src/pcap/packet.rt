@@ -1,0 +1,159 @@
+//! Packets.
+
+ghost use Rattle.std.specs.Prelude.{◌≡◌, ◌≤◌, ◌*◌, ◌+◌, length, IfOk, MatchResult, IsTrue};
+ghost use Rattle.std.specs.Duration.{as_nanos};
+ghost use Rattle.pcap_classic.specs.Answer.{Tells, number_in};
+ghost use Rattle.pcap_classic.specs.Faults.{Invalid};
+ghost use Rattle.pcap_classic.specs.Magic.{is_magic, order_of, resolution_of};
+ghost use Rattle.pcap_classic.specs.Bytes.{IsBorrowed};
+ghost use Rattle.pcap_classic.specs.PacketText.{packet_limit, Head, IsGood, IsHeadFault, spelled_header, captured, PacketHeaderSays, PacketSays};
+
+use crate::pcap::PcapHeader;
+use crate::pcap::fields::split_u32;
+use crate::rules::Rule;
+use crate::{CowBytes, Endianness, PcapError, ResultParsing, TsResolution};
+use byteorder::{BigEndian, ByteOrder, LittleEndian};
+use std::time::Duration;
+
+/// The most bytes that a packet's stored or original length may say.
+const MOST_BYTES: u32 = 0x40000;
+
+/// The header of a packet, 16 bytes in a capture.
+#[derive(Clone, Copy, Debug, Default, PartialEq, Eq)]
+pub struct PacketHeader {
+    /// Time in seconds.
+    pub ts_sec: u32,
+    /// The nanoseconds of that time. They may pass one second.
+    pub ts_nsec: u32,
+    /// How many bytes of the packet are stored.
+    pub incl_len: u32,
+    /// How many bytes the packet had on the wire.
+    pub orig_len: u32,
+}
+
+// The header that four numbers spell, or the first rule that they break.
+fn header_of(
+    ts_resolution: TsResolution,
+    ts_sec: u32,
+    fraction: u32,
+    incl_len: u32,
+    orig_len: u32,
+) -> Result<PacketHeader, Rule>
+    ensures { let head : Head = record { seconds = ts_sec; fraction = fraction; included = incl_len; original = orig_len } in
+        MatchResult result
+            (λ header. IsGood packet_limit ts_resolution head × (header ≡ spelled_header ts_resolution head))
+            (λ rule. IsHeadFault packet_limit ts_resolution head (Invalid rule)) }
+{
+    let ts_nsec = match ts_resolution {
+        TsResolution::NanoSecond => fraction,
+        TsResolution::MicroSecond => {
+            if fraction > u32::MAX / 1000 {
+                return Err(Rule::FractionTooLarge);
+            }
+            1000 * fraction
+        }
+    };
+    if incl_len > MOST_BYTES {
+        return Err(Rule::IncludedTooLong);
+    }
+    if orig_len > MOST_BYTES {
+        return Err(Rule::OriginalTooLong);
+    }
+    if incl_len > orig_len {
+        return Err(Rule::IncludedPastOriginal);
+    }
+    Ok(PacketHeader::new(ts_sec, ts_nsec, incl_len, orig_len))
+}
+
+impl PacketHeader {
+    /// The header of these fields: seconds, nanoseconds, stored and original length in bytes.
+    pub fn new(ts_sec: u32, ts_nsec: u32, incl_len: u32, orig_len: u32) -> PacketHeader
+        ensures { result ≡ record { ts_sec = ts_sec; ts_nsec = ts_nsec; incl_len = incl_len; orig_len = orig_len } }
+    {
+        PacketHeader {
+            ts_sec,
+            ts_nsec,
+            incl_len,
+            orig_len,
+        }
+    }
+
+    /// The header at the front of a slice, and what follows it.
+    ///
+    /// `IncompleteBuffer` under 16 bytes, and `InvalidField` for the first rule that the header breaks.
+    pub fn from_slice<B: ByteOrder>(
+        slice: &[u8],
+        ts_resolution: TsResolution,
+    ) -> ResultParsing<(&[u8], PacketHeader)>
+        ensures tells { Tells (PacketHeaderSays packet_limit B.number_of ts_resolution slice.now) (λ header. header) result }
+    {
+        if slice.len() < 16 {
+            return Err(PcapError::IncompleteBuffer(16 - slice.len()));
+        }
+        let (ts_sec, rest) = split_u32::<B>(slice);
+        let (fraction, rest) = split_u32::<B>(rest);
+        let (incl_len, rest) = split_u32::<B>(rest);
+        let (orig_len, rest) = split_u32::<B>(rest);
+        let header = header_of(ts_resolution, ts_sec, fraction, incl_len, orig_len)?;
+        Ok((rest, header))
+    }
+
+    /// The time of the packet: its seconds and nanoseconds, carried.
+    pub fn timestamp(&self) -> Duration
+        ensures { as_nanos result ≡ self.now.ts_sec * 1_000_000_000 + self.now.ts_nsec }
+    {
+        Duration::new(self.ts_sec.into(), self.ts_nsec)
+    }
+}
+
+/// A packet: its header and its bytes, borrowed or owned.
+#[derive(Clone, Debug, Drop)]
+pub struct Packet<'a> {
+    /// The packet's header.
+    pub header: PacketHeader,
+    /// The bytes that are stored of the packet.
+    pub data_: CowBytes<'a>,
+}
+
+impl<'a> Packet<'a> {
+    /// The packet at the front of a slice, and what follows it. Its bytes are borrowed from the slice.
+    ///
+    /// `IncompleteBuffer` where bytes of the header, or then of the data, are missing, and `InvalidField` for the
+    /// first rule that the header breaks.
+    pub fn from_slice<B: ByteOrder>(
+        slice: &'a [u8],
+        ts_resolution: TsResolution,
+    ) -> ResultParsing<(&'a [u8], Packet<'a>)>
+        ensures tells { Tells (PacketSays packet_limit B.number_of ts_resolution slice.now) captured result }
+        ensures borrowed { IfOk result (λ x. IsBorrowed x.1.data_) }
+    {
+        let (rest, header) = PacketHeader::from_slice::<B>(slice, ts_resolution)?;
+        let len = header.incl_len as usize;
+        if rest.len() < len {
+            return Err(PcapError::IncompleteBuffer(len - rest.len()));
+        }
+        let (bytes, rest) = rest.split_at(len);
+        let packet = Packet {
+            header,
+            data_: CowBytes::Borrowed(bytes),
+        };
+        Ok((rest, packet))
+    }
+}
+
+// The packet at the front of a slice under this header, and what follows it.
+pub(crate) fn packet_under<'a>(
+    header: &PcapHeader,
+    slice: &'a [u8],
+) -> ResultParsing<(&'a [u8], Packet<'a>)>
+    requires { IsTrue (is_magic header.now.magic_number) }
+    ensures tells { let magic = header.now.magic_number in
+        Tells (PacketSays packet_limit (number_in (order_of magic)) (resolution_of magic) slice.now) captured result }
+    ensures borrowed { IfOk result (λ x. IsBorrowed x.1.data_) }
+{
+    let ts_resolution = header.ts_resolution();
+    match header.endianness() {
+        Endianness::Big => Packet::from_slice::<BigEndian>(slice, ts_resolution),
+        Endianness::Little => Packet::from_slice::<LittleEndian>(slice, ts_resolution),
+    }
+}

@@ -1,0 +1,52 @@
+//! A parser of a capture that comes in slices.
+
+ghost use Rattle.std.specs.Prelude.{◌≡◌, IfOk, IsTrue};
+ghost use Rattle.pcap_classic.specs.Answer.{Tells, number_in};
+ghost use Rattle.pcap_classic.specs.Magic.{is_magic, order_of, resolution_of};
+
+use crate::ResultParsing;
+use crate::pcap::packet::packet_under;
+use crate::pcap::{Packet, PcapHeader};
+
+/// Parser of a Pcap capture: it holds the header, and gives a packet for each slice that begins with one.
+#[derive(Debug, Drop)]
+pub struct PcapParser {
+    header: PcapHeader,
+    pub ghost valid: { IsTrue (is_magic header.magic_number) },
+}
+
+impl PcapParser {
+    ghost use Rattle.pcap_classic.specs.Bytes.{IsBorrowed};
+    ghost use Rattle.pcap_classic.specs.PacketText.{packet_limit, captured, PacketSays};
+    ghost use Rattle.pcap_classic.specs.HeaderText.{HeaderSays};
+    ghost use Rattle.pcap_classic.specs.Parser.{header_of};
+
+    /// The parser that the header at the front of a slice gives, and what follows it.
+    ///
+    /// `IncompleteBuffer` under 24 bytes, and `InvalidField` where the magic number is none of the four.
+    pub fn new(slice: &[u8]) -> ResultParsing<(&[u8], PcapParser)>
+        ensures tells { Tells (HeaderSays slice.now) header_of result }
+    {
+        let (rest, header) = PcapHeader::from_slice(slice)?;
+        Ok((rest, PcapParser { header }))
+    }
+
+    /// The header of the capture.
+    pub fn header(&self) -> &PcapHeader
+        ensures { result.now ≡ header_of self.now }
+    {
+        &self.header
+    }
+
+    /// The packet at the front of a slice, and what follows it. Its bytes are borrowed from the slice.
+    ///
+    /// `IncompleteBuffer` where bytes are missing, 16 for the empty slice, and `InvalidField` for the first rule
+    /// that the packet's header breaks. The parser stays as it is.
+    pub fn next_packet<'a>(&self, slice: &'a [u8]) -> ResultParsing<(&'a [u8], Packet<'a>)>
+        ensures tells { let magic = (header_of self.now).magic_number in
+            Tells (PacketSays packet_limit (number_in (order_of magic)) (resolution_of magic) slice.now) captured result }
+        ensures borrowed { IfOk result (λ x. IsBorrowed x.1.data_) }
+    {
+        packet_under(&self.header, slice)
+    }
+}
