@@ -206,8 +206,15 @@ packet_header_one limit order r s =
 make_header : ℕ → ℕ → ℕ → ℤ → ℕ → ℕ → DataLink → PcapHeader
 make_header a b d e f g h = record { magic_number = a; version_major = b; version_minor = d; ts_correction = e; ts_accuracy = f; snaplen = g; datalink = h }
 
-pub header_same : (p q : PcapHeader) (s a b : List ℕ) → HeaderText p s a → HeaderText q s b → (p ≡ q) × (a ≡ b)
+pub header_is : (p q : PcapHeader) → p.magic_number ≡ q.magic_number → p.version_major ≡ q.version_major → p.version_minor ≡ q.version_minor → p.ts_correction ≡ q.ts_correction
+    → p.ts_accuracy ≡ q.ts_accuracy → p.snaplen ≡ q.snaplen → p.datalink ≡ q.datalink → p ≡ q
 unfolding make_header
+header_is p q a b d e f g h =
+    let made : make_header p.magic_number p.version_major p.version_minor p.ts_correction p.ts_accuracy p.snaplen p.datalink
+      ≡ make_header q.magic_number q.version_major q.version_minor q.ts_correction q.ts_accuracy q.snaplen q.datalink = rw (a, b, d, e, f, g, h) refl in
+    made
+
+pub header_same : (p q : PcapHeader) (s a b : List ℕ) → HeaderText p s a → HeaderText q s b → (p ≡ q) × (a ≡ b)
 header_same p q s a b x y =
     let m = number_same big_number 4 p.magic_number q.magic_number s x.after_magic y.after_magic x.magic y.magic in
     let order = number_in (order_of q.magic_number) in
@@ -226,8 +233,7 @@ header_same p q s a b x y =
     let e6 = number_same order 4 xf.link_number_is yf.link_number_is yf.after_snaplen a b t6 yf.link in
     let correction : p.ts_correction ≡ q.ts_correction = xf.correction_is ∙ ap (cast_signed w32) e3.0 ∙ sym yf.correction_is in
     let link : p.datalink ≡ q.datalink = plain_same p.datalink q.datalink xf.link_is.plain yf.link_is.plain (xf.link_is.number ∙ e6.0 ∙ sym yf.link_is.number) in
-    let made : make_header p.magic_number p.version_major p.version_minor p.ts_correction p.ts_accuracy p.snaplen p.datalink ≡ make_header q.magic_number q.version_major q.version_minor q.ts_correction q.ts_accuracy q.snaplen q.datalink = rw (m.0, e1.0, e2.0, correction, e4.0, e5.0, link) refl in
-    (made, e6.1)
+    (header_is p q m.0 e1.0 e2.0 correction e4.0 e5.0 link, e6.1)
 
 true_or_false : (b : Bool) → (b ≡ true) ⊎ (b ≡ false)
 true_or_false true = inl refl
