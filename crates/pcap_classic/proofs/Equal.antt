@@ -1,6 +1,6 @@
 -- What `==` answers at headers.
-use Rattle.std.proofs.Common.{◌≡◌, Bool, true, false, ℕ, ℤ, refl, sym, subst}
-use Rattle.std.specs.Prelude.{◌&&◌, ◌==◌, nat_eq}
+use Rattle.std.proofs.Common.{◌≡◌, Bool, true, false, ℕ, ℤ, refl}
+use Rattle.std.specs.Prelude.{◌&&◌, nat_eq}
 use Rattle.std.specs.Ordering.{int_eq, on}
 use Rattle.std.specs.Cmp.Derive.{both_true}
 use Rattle.std.proofs.lemmas.Bool.{eqb-true, eq-eqb}
