@@ -3,7 +3,7 @@ use Rattle.std.proofs.Common.{◌<◌, length, ℕ, List}
 use Rattle.pcap_classic.specs.Faults.{Invalid, Io, NoText}
 use Rattle.pcap_classic.specs.declared.errors.PcapError.{PcapError}
 use Rattle.pcap_classic.specs.declared.errors.PcapError.TheVariants as errors
-use Rattle.pcap_classic.specs.Answer.{Verdict, whole, lacks, faulty, Refuses}
+use Rattle.pcap_classic.specs.Answer.{whole, lacks, faulty, Refuses}
 use Rattle.pcap_classic.specs.Format.{Format, IsLawful}
 use Rattle.pcap_classic.specs.Run.{IsRest, rest_after}
 use Rattle.pcap_classic.proofs.Formats.{lacks_no_text, fault_no_text}

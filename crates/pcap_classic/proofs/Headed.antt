@@ -1,11 +1,11 @@
 -- Formats with a head of a fixed length are lawful.
-use Rattle.std.proofs.Common.{◌≡◌, ℕ, ◌+◌, ◌-◌, ◌<◌, ◌≤◌, List, [], ◌∷◌, ◌++◌, length, take, drop, refl, sym, ap, subst, ◌∙◌, arith, append_assoc, append-nil, length-append, ◌⊎◌, inl, inr}
+use Rattle.std.proofs.Common.{◌≡◌, ℕ, ◌+◌, ◌-◌, ◌<◌, ◌≤◌, List, [], ◌++◌, length, take, drop, refl, sym, ap, subst, ◌∙◌, arith, append_assoc, append-nil, length-append, inl, inr}
 use Rattle.std.proofs.lemmas.List.{length-take, take-append-drop}
 use Rattle.std.proofs.lemmas.Bool.{cases_lt}
 use Rattle.pcap_classic.specs.Faults.{Fault}
 use Rattle.pcap_classic.specs.Answer.{Verdict, whole, lacks, faulty}
-use Rattle.pcap_classic.specs.Laws.{ExactlyOne, IsStable}
-use Rattle.pcap_classic.specs.Format.{Format, IsLawful}
+use Rattle.pcap_classic.specs.Laws.{ExactlyOne}
+use Rattle.pcap_classic.specs.Format.{IsLawful}
 use Rattle.pcap_classic.specs.Headed.{Piece, Reading, good, bad, Headed, HasHead, HasBody, ShortSays, BadSays, BehindSays, HeadedSays, headed, IsHeaded}
 use Rattle.pcap_classic.proofs.Texts.{split_same}
 
@@ -173,8 +173,12 @@ module _ {S X V : Type 0} (g : Headed S X V) (laws : IsHeaded g) (q : S) where
       let b = p.3 in (
         h.bytes ++ b.bytes,
         h.text ∙ ap (λ (t : List ℕ). h.bytes ++ t) b.text ∙ sym (append_assoc h.bytes b.bytes rest),
-        inr (inr (p.0, b.bytes, record { bytes = h.bytes; text = refl; length_is = h.length_is; holds = h.holds },
-          record { bytes = b.bytes; text = sym (append-nil b.bytes); length_is = b.length_is; holds = b.holds })),
+        inr (inr (
+          p.0,
+          b.bytes,
+          record { bytes = h.bytes; text = refl; length_is = h.length_is; holds = h.holds },
+          record { bytes = b.bytes; text = sym (append-nil b.bytes); length_is = b.length_is; holds = b.holds },
+        )),
       )
 
   asks_some : (s : List ℕ) (n : ℕ) → HeadedSays g q s (lacks n) → 0 < n

@@ -1,5 +1,5 @@
 -- Packets are a lawful format.
-use Rattle.std.proofs.Common.{◌≡◌, ℕ, Bool, true, false, ◌-◌, ◌+◌, ◌<◌, ◌≤◌, List, [], ◌∷◌, ◌++◌, length, refl, sym, ap, subst, ◌∙◌, arith, append-nil, length-append, inl, inr}
+use Rattle.std.proofs.Common.{◌≡◌, ℕ, Bool, true, false, ◌<◌, ◌≤◌, List, [], ◌∷◌, ◌++◌, length, refl, sym, ap, subst, ◌∙◌, arith, append-nil, length-append, inl, inr}
 use Rattle.pcap_classic.specs.declared.rules.Rule.TheVariants.{CaptureMagic}
 use Rattle.pcap_classic.specs.Faults.{Invalid}
 use Rattle.pcap_classic.specs.declared.common.TsResolution.{TsResolution}
@@ -8,12 +8,12 @@ use Rattle.pcap_classic.specs.declared.pcap.packet.PacketHeader.{PacketHeader}
 use Rattle.pcap_classic.specs.declared.errors.PcapError.{PcapError}
 use Rattle.pcap_classic.specs.Magic.{is_magic, order_of, resolution_of}
 use Rattle.pcap_classic.specs.Answer.{number_in, Number, Verdict, whole, lacks, faulty, Refuses}
-use Rattle.pcap_classic.specs.PacketText.{HeadText, PacketHeaderText, LacksPacket, PacketText, PacketSays, Captured}
+use Rattle.pcap_classic.specs.PacketText.{HeadText, LacksPacket, PacketText, PacketSays, Captured}
 use Rattle.pcap_classic.specs.Laws.{ExactlyOne}
 use Rattle.pcap_classic.specs.Format.{Format, IsLawful, Extends, Front}
 use Rattle.pcap_classic.specs.Packets.{packet_format, format_under, RefusingSays, refusing_format, chosen, reader_format}
 use Rattle.pcap_classic.specs.Front.{CaptureFront}
-use Rattle.pcap_classic.proofs.Texts.{head_length, packet_header_same}
+use Rattle.pcap_classic.proofs.Texts.{packet_header_same}
 use Rattle.pcap_classic.proofs.One.{packet_one, header_same}
 use Rattle.pcap_classic.proofs.Stable.{packet_stable, packet_header_more}
 use Rattle.pcap_classic.proofs.Concrete.{joined}

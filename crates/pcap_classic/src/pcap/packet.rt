@@ -41,8 +41,8 @@ fn header_of(
 ) -> Result<PacketHeader, Rule>
     ensures { let head : Head = record { seconds = ts_sec; fraction = fraction; included = incl_len; original = orig_len } in
         MatchResult result
-            (λ header. IsGood packet_limit ts_resolution head × (header ≡ spelled_header ts_resolution head))
-            (λ rule. IsHeadFault packet_limit ts_resolution head (Invalid rule)) }
+        (λ header. IsGood packet_limit ts_resolution head × (header ≡ spelled_header ts_resolution head))
+        (λ rule. IsHeadFault packet_limit ts_resolution head (Invalid rule)) }
 {
     let ts_nsec = match ts_resolution {
         TsResolution::NanoSecond => fraction,

@@ -38,7 +38,7 @@ returns-in-Err-clause-front c =
     let order = number_in (order_of magic) in
     let r = resolution_of magic in
     let refused = rw (← c.header-header.ensures) at c.in-Err.ensures.tells in
-    let text = rw (← c.header-header.ensures) at c.in_ok-after_header.ensures in
+    let text = rw (← c.header-header.ensures) at c.in_ok-after_header.ensures.tells in
     let some : 0 < length c.loop-left.left.now = grind (arith, common_steps) in
     let s = stops (packet_format packet_limit order r) (packets_lawful packet_limit order r) tt c.loop-left.left.now c.in-Err.error some (packets_refuse packet_limit order r tt c.loop-left.left.now c.in-Err.error refused) in
     record {
@@ -53,7 +53,7 @@ returns-clause-front c =
     let magic = c.header-header.result.now.magic_number in
     let order = number_in (order_of magic) in
     let r = resolution_of magic in
-    let text = rw (← c.header-header.ensures) at c.in_ok-after_header.ensures in
+    let text = rw (← c.header-header.ensures) at c.in_ok-after_header.ensures.tells in
     let none : c.loop-left.left.now ≡ [] = grind (arith, common_steps) in
     record {
       left = c.loop-left.left.now;
