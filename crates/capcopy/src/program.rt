@@ -28,7 +28,9 @@ fn words(alloc: Global, env: &impl Env) -> Result<Vec<String>, Exit> {
     let mut text = [0; LONGEST_WORD];
     for i in 1..usize::MAX {
         match env.arg(i, &mut text) {
-            Ok(n) => words.push(word(alloc, &text[..n])?).map_err(AllocError::from)?,
+            Ok(n) => words
+                .push(word(alloc, &text[..n])?)
+                .map_err(AllocError::from)?,
             Err(FillError::NotPresent) => break,
             Err(FillError::TooLong) => return Err(Exit::Usage),
         }
