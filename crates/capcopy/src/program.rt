@@ -1,7 +1,7 @@
 //! The program over its words and its standard streams.
 
 use capcopy_run::Exit;
-use std::alloc::{AllocError, Global};
+use std::alloc::Global;
 use std::env::{Env, FillError};
 use std::io::{BufWriter, Write};
 use std::str;
@@ -28,9 +28,7 @@ fn words(alloc: Global, env: &impl Env) -> Result<Vec<String>, Exit> {
     let mut text = [0; LONGEST_WORD];
     for i in 1..usize::MAX {
         match env.arg(i, &mut text) {
-            Ok(n) => words
-                .push(word(alloc, &text[..n])?)
-                .map_err(AllocError::from)?,
+            Ok(n) => words.push(word(alloc, &text[..n])?)?,
             Err(FillError::NotPresent) => break,
             Err(FillError::TooLong) => return Err(Exit::Usage),
         }
@@ -40,7 +38,10 @@ fn words(alloc: Global, env: &impl Env) -> Result<Vec<String>, Exit> {
 
 fn run_buffered(rt: &HostRuntime) -> Result<Exit, Exit> {
     let words = words(rt.alloc(), rt)?;
-    let names: Vec<&str> = words.iter().map(|word| word.as_str()).collect(rt.alloc())?;
+    let mut names = Vec::new(rt.alloc());
+    for word in &words {
+        names.push(word.as_str())?;
+    }
     let Ok(mut output) = BufWriter::with_capacity(rt.alloc(), BUFFER, rt.stdout()) else {
         return Err(Exit::Memory);
     };

@@ -6,7 +6,7 @@ ghost use Rattle.pcap_classic.specs.declared.errors.PcapError.TheVariants as err
 ghost use Rattle.capcopy_run.specs.Exits.{status_of, line_of, EndsAt};
 
 use pcap_classic::PcapError;
-use std::alloc::AllocError;
+use std::alloc::{AllocError, AllocFailed};
 use std::fmt;
 use std::io;
 use std::io::ErrorKind;
@@ -90,6 +90,14 @@ impl From<AllocError> for Exit {
     ghost from_gives = { λ _ exit. exit ≡ exits.Memory };
 
     fn from(_error: AllocError) -> Exit {
+        Exit::Memory
+    }
+}
+
+impl<T: Drop> From<AllocFailed<T>> for Exit {
+    ghost from_gives = { λ _ exit. exit ≡ exits.Memory };
+
+    fn from(_error: AllocFailed<T>) -> Exit {
         Exit::Memory
     }
 }
