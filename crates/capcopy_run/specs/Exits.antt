@@ -1,0 +1,44 @@
+-- How runs of the program end.
+use Rattle.std.specs.Prelude.{◌≡◌, ℕ, List, [], Option, None, Some, codes}
+use Rattle.std.specs.IoError.{error_kind}
+use Rattle.std.specs.declared.io.ErrorKind.TheVariants.{UnexpectedEof}
+use Rattle.pcap_classic.specs.declared.errors.PcapError.{PcapError}
+use Rattle.pcap_classic.specs.declared.errors.PcapError.TheVariants.{IncompleteBuffer, IoError, OutOfMemory}
+use Rattle.capcopy_run.specs.declared.exit.Exit.{Exit}
+use Rattle.capcopy_run.specs.declared.exit.Exit.TheVariants.{Done, Refused, Most, Usage, Io, Memory}
+
+-- the status of the process
+abbrev pub status_of : Exit → ℕ
+status_of Done = 0
+status_of (Refused e) = 1
+status_of Most = 1
+status_of Usage = 2
+status_of (Io e) = 3
+status_of Memory = 4
+
+-- the line on standard error; that of a refusal ends with the error's own text, which no clause states
+abbrev pub line_of : Exit → Option (List ℕ)
+line_of Done = Some []
+line_of (Refused e) = None
+line_of Most = Some (codes "capcopy: limit reached")
+line_of Usage = Some (codes "usage: capcopy list | copy [big|little micro|nano] | blocks")
+line_of (Io e) = Some (codes "capcopy: input or output failed or ended early")
+line_of Memory = Some (codes "capcopy: out of memory")
+
+-- the run ended early: an input error says so
+abbrev pub IsEarlyEnd : Exit → Type 0
+IsEarlyEnd (Io (IoError e)) = error_kind e ≡ UnexpectedEof
+IsEarlyEnd exit = ⊥
+
+-- the exit at which this error ends a run
+abbrev pub EndsAt : PcapError → Exit → Type 0
+EndsAt (IncompleteBuffer n) exit = IsEarlyEnd exit
+EndsAt (IoError e) exit = exit ≡ Io (IoError e)
+EndsAt (OutOfMemory e) exit = exit ≡ Memory
+EndsAt error exit = exit ≡ Refused error
+
+-- the input could not be read, or there was no memory for its bytes
+abbrev pub IsEndOfReading : Exit → Type 0
+IsEndOfReading (Io (IoError e)) = Unit {0}
+IsEndOfReading Memory = Unit {0}
+IsEndOfReading exit = ⊥

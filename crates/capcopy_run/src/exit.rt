@@ -1,0 +1,103 @@
+//! How a run of the program ends.
+
+ghost use Rattle.std.specs.Prelude.{◌≡◌};
+ghost use Rattle.capcopy_run.specs.declared.exit.Exit.TheVariants as exits;
+ghost use Rattle.pcap_classic.specs.declared.errors.PcapError.TheVariants as errors;
+ghost use Rattle.capcopy_run.specs.Exits.{status_of, line_of, EndsAt};
+
+use pcap_classic::PcapError;
+use std::alloc::{AllocError, AllocFailed};
+use std::fmt;
+use std::io;
+use std::io::ErrorKind;
+
+/// How a run of the program ends.
+#[derive(Debug, Drop)]
+pub enum Exit {
+    /// All was done.
+    Done,
+    /// The input breaks a rule of its format.
+    Refused(PcapError),
+    /// As many lines or packets were written as one run may write.
+    Most,
+    /// The words name nothing that the program does.
+    Usage,
+    /// A read or a write failed, or the input ended early.
+    Io(PcapError),
+    /// A growth was refused.
+    Memory,
+}
+
+impl Exit {
+    /// The status with which the process ends.
+    pub fn status(&self) -> u8
+        ensures { result ≡ status_of self.now }
+    {
+        match self {
+            Exit::Done => 0,
+            Exit::Refused(_) | Exit::Most => 1,
+            Exit::Usage => 2,
+            Exit::Io(_) => 3,
+            Exit::Memory => 4,
+        }
+    }
+}
+
+/// The line on standard error, without its newline. `Done` has none.
+impl fmt::Display for Exit {
+    ghost output = { line_of };
+
+    fn fmt<W: fmt::Write>(&self, f: &mut fmt::Formatter<W>) -> fmt::Result {
+        match self {
+            Exit::Done => Ok(()),
+            Exit::Refused(error) => write!(f, "capcopy: {error}"),
+            Exit::Most => f.write_str("capcopy: limit reached"),
+            Exit::Usage => {
+                f.write_str("usage: capcopy list | copy [big|little micro|nano] | blocks")
+            }
+            Exit::Io(_) => f.write_str("capcopy: input or output failed or ended early"),
+            Exit::Memory => f.write_str("capcopy: out of memory"),
+        }
+    }
+}
+
+/// A text that ends early is `Io` with an error of kind `UnexpectedEof`.
+impl From<PcapError> for Exit {
+    ghost from_gives = { EndsAt };
+
+    fn from(error: PcapError) -> Exit {
+        match error {
+            PcapError::IncompleteBuffer(_) => Exit::Io(PcapError::IoError(io::Error::new(
+                ErrorKind::UnexpectedEof,
+                "the capture ended early",
+            ))),
+            PcapError::IoError(error) => Exit::Io(PcapError::IoError(error)),
+            PcapError::OutOfMemory(_) => Exit::Memory,
+            error => Exit::Refused(error),
+        }
+    }
+}
+
+impl From<io::Error> for Exit {
+    ghost from_gives = { λ error exit. exit ≡ exits.Io (errors.IoError error) };
+
+    fn from(error: io::Error) -> Exit {
+        Exit::Io(PcapError::IoError(error))
+    }
+}
+
+impl From<AllocError> for Exit {
+    ghost from_gives = { λ _ exit. exit ≡ exits.Memory };
+
+    fn from(_error: AllocError) -> Exit {
+        Exit::Memory
+    }
+}
+
+impl<T: Drop> From<AllocFailed<T>> for Exit {
+    ghost from_gives = { λ _ exit. exit ≡ exits.Memory };
+
+    fn from(_error: AllocFailed<T>) -> Exit {
+        Exit::Memory
+    }
+}

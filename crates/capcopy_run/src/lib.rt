@@ -1,0 +1,9 @@
+//! What the program `capcopy` does, over any input and output.
+#![tactic(auto)]
+
+mod commands;
+mod exit;
+mod list;
+
+pub use commands::run;
+pub use exit::Exit;

@@ -1,0 +1,51 @@
+// Loaded into a program by LD_PRELOAD: makes allocations, reads and writes fail, or moves few bytes at once.
+//   HOSTILE_CALL=memory|read|write  HOSTILE_AT=n  the nth such call fails
+//   HOSTILE_ON=1                    and so does each later one
+//   HOSTILE_CUT=n                   each read of standard input and write to standard output moves n bytes at most
+//   HOSTILE_MARK=file               is made once a call was refused
+// Reads are those of standard input, writes those to standard output.
+#include <errno.h>
+#include <fcntl.h>
+#include <stdlib.h>
+#include <string.h>
+#include <sys/syscall.h>
+#include <unistd.h>
+
+void *__libc_malloc(size_t);
+void *__libc_realloc(void *, size_t);
+
+static long calls, at, cut, on;
+static const char *kind = "";
+
+__attribute__((constructor)) static void start(void) {
+    if (getenv("HOSTILE_CALL")) kind = getenv("HOSTILE_CALL");
+    if (getenv("HOSTILE_AT")) at = atol(getenv("HOSTILE_AT"));
+    if (getenv("HOSTILE_CUT")) cut = atol(getenv("HOSTILE_CUT"));
+    on = getenv("HOSTILE_ON") != NULL;
+}
+
+static int is_refused(const char *call, int error) {
+    if (!at || strcmp(call, kind)) return 0;
+    calls++;
+    if (on ? calls < at : calls != at) return 0;
+    long mark = syscall(SYS_openat, AT_FDCWD, getenv("HOSTILE_MARK"), O_CREAT | O_WRONLY, 0600);
+    if (mark >= 0) syscall(SYS_close, mark);
+    errno = error;
+    return 1;
+}
+
+static size_t shortened(size_t n) { return cut && n > (size_t)cut ? (size_t)cut : n; }
+
+void *malloc(size_t n) { return is_refused("memory", ENOMEM) ? NULL : __libc_malloc(n); }
+
+void *realloc(void *p, size_t n) { return is_refused("memory", ENOMEM) ? NULL : __libc_realloc(p, n); }
+
+ssize_t read(int fd, void *to, size_t n) {
+    if (fd != 0) return syscall(SYS_read, fd, to, n);
+    return is_refused("read", EIO) ? -1 : syscall(SYS_read, fd, to, shortened(n));
+}
+
+ssize_t write(int fd, const void *from, size_t n) {
+    if (fd != 1) return syscall(SYS_write, fd, from, n);
+    return is_refused("write", EIO) ? -1 : syscall(SYS_write, fd, from, shortened(n));
+}
