@@ -32,3 +32,13 @@ pub fn big(alloc: Global) -> Result<Vec<u8>, AllocError> {
 pub fn little(alloc: Global) -> Result<Vec<u8>, AllocError> {
     capture(alloc, &LITTLE_HEAD, 117)
 }
+
+/// The first bytes, up to `end`.
+pub fn front(bytes: &[u8], end: usize) -> &[u8] {
+    &bytes[..end.min(bytes.len())]
+}
+
+/// The bytes from `start` on.
+pub fn back(bytes: &[u8], start: usize) -> &[u8] {
+    &bytes[start.min(bytes.len())..]
+}

@@ -1,6 +1,6 @@
 //! The program over inputs and outputs in memory.
 
-use crate::captures::{big, little};
+use crate::captures::{big, front, little};
 use capcopy_run::{Exit, run};
 use pcap_classic::PcapError;
 use std::io::ErrorKind;
@@ -41,7 +41,7 @@ fn lists(rt: HostRuntime) -> Result<(), Fail> {
 fn lists_of_torn_captures(rt: HostRuntime) -> Result<(), Fail> {
     let bytes = big(rt.alloc())?;
     for end in [0, 10, 40, 137] {
-        let mut input = &bytes[..end];
+        let mut input = front(bytes.as_slice(), end);
         let mut output = Vec::new(rt.alloc());
         let exit = run(
             rt.alloc(),
