@@ -4,9 +4,9 @@ ghost use Rattle.std.specs.Prelude.{◌≡◌, IfOk, IfSome, IfErr};
 ghost use Rattle.capcopy_run.specs.Exits.{IsEndOfReading};
 
 use crate::Exit;
+use pcap_classic::PcapError;
 use pcap_classic::pcap::{Packet, PacketHeader};
 use pcap_classic::run::{PcapRun, Rest, parse_pcap};
-use pcap_classic::PcapError;
 use std::alloc::Global;
 use std::io::{Read, Write};
 
