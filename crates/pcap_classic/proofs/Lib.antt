@@ -12,3 +12,4 @@ pub mod OneFront
 pub mod ReadBack
 pub mod Formats
 pub mod Headed
+pub mod Writing

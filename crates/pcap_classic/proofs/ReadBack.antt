@@ -36,7 +36,7 @@ written_again e r packet rest whole =
     let b2 = bytes_in e 4 (fraction_of r packet.header.ts_nsec) in
     let b3 = bytes_in e 4 packet.header.incl_len in
     let b4 = bytes_in e 4 packet.header.orig_len in
-    let regrouped : (b1 ++ (b2 ++ (b3 ++ (b4 ++ packet.bytes)))) ++ rest ≡ b1 ++ (b2 ++ (b3 ++ (b4 ++ (packet.bytes ++ rest)))) = simp append_assoc in
+    let regrouped : ((b1 ++ (b2 ++ (b3 ++ b4))) ++ packet.bytes) ++ rest ≡ b1 ++ (b2 ++ (b3 ++ (b4 ++ (packet.bytes ++ rest)))) = simp append_assoc in
     let head : Head = record { seconds = packet.header.ts_sec; fraction = fraction_of r packet.header.ts_nsec; included = packet.header.incl_len; original = packet.header.orig_len } in
     let text : HeadText (number_in e) head (b1 ++ (b2 ++ (b3 ++ (b4 ++ (packet.bytes ++ rest))))) (packet.bytes ++ rest) = record {
       after_seconds = b2 ++ (b3 ++ (b4 ++ (packet.bytes ++ rest)));

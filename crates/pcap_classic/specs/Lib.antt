@@ -15,3 +15,8 @@ pub mod Format
 pub mod Headed
 pub mod Written
 pub mod Early
+pub mod Told
+pub mod LentStreams
+pub mod Writing
+pub mod Errors
+pub mod Defaults

@@ -8,6 +8,7 @@ use Rattle.pcap_classic.specs.declared.common.Endianness.TheVariants.{Big, Littl
 use Rattle.pcap_classic.specs.declared.common.TsResolution.{TsResolution}
 use Rattle.pcap_classic.specs.declared.common.TsResolution.TheVariants.{MicroSecond, NanoSecond}
 use Rattle.pcap_classic.specs.declared.pcap.header.PcapHeader.{PcapHeader}
+use Rattle.pcap_classic.specs.declared.pcap.packet.PacketHeader.{PacketHeader}
 use Rattle.pcap_classic.specs.Link.{link_number}
 use Rattle.pcap_classic.specs.Magic.{order_of, resolution_of}
 use Rattle.pcap_classic.specs.PacketText.{Captured, packet_limit, nanoseconds}
@@ -22,11 +23,14 @@ abbrev pub fraction_of : TsResolution → ℕ → ℕ
 fraction_of MicroSecond nanoseconds = nanoseconds / 1000
 fraction_of NanoSecond nanoseconds = nanoseconds
 
+-- a packet's header as it is written by an order
+abbrev pub packet_header_bytes : (ℕ → ℕ → List ℕ) → TsResolution → PacketHeader → List ℕ
+packet_header_bytes bytes r header =
+    bytes 4 header.ts_sec ++ (bytes 4 (fraction_of r header.ts_nsec) ++ (bytes 4 header.incl_len ++ bytes 4 header.orig_len))
+
 -- a packet as it is written by an order
 abbrev pub written : (ℕ → ℕ → List ℕ) → TsResolution → Captured → List ℕ
-written bytes r packet =
-    bytes 4 packet.header.ts_sec ++ (bytes 4 (fraction_of r packet.header.ts_nsec) ++ (bytes 4 packet.header.incl_len
-    ++ (bytes 4 packet.header.orig_len ++ packet.bytes)))
+written bytes r packet = packet_header_bytes bytes r packet.header ++ packet.bytes
 
 -- a header as it is written by an order, the magic number high byte first
 abbrev pub header_bytes : (ℕ → ℕ → List ℕ) → PcapHeader → List ℕ
@@ -38,10 +42,13 @@ header_bytes bytes header =
 abbrev pub written_header : PcapHeader → List ℕ
 written_header header = header_bytes (bytes_in (order_of header.magic_number)) header
 
+-- a packet as it is written under a header
+abbrev pub written_under : PcapHeader → Captured → List ℕ
+written_under header packet = written (bytes_in (order_of header.magic_number)) (resolution_of header.magic_number) packet
+
 -- a whole capture
 abbrev pub capture : PcapHeader → List Captured → List ℕ
-capture header packets =
-    written_header header ++ flat_map (written (bytes_in (order_of header.magic_number)) (resolution_of header.magic_number)) packets
+capture header packets = written_header header ++ flat_map (written_under header) packets
 
 -- what is left of a packet that is written and read again: under microseconds its nanoseconds are cut to a multiple of 1000
 abbrev pub cut : TsResolution → Captured → Captured

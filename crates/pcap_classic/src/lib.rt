@@ -1,4 +1,4 @@
-//! Classic pcap captures: their header and packets, read from slices.
+//! Classic pcap captures: their header and packets, read from slices and written.
 #![tactic(auto)]
 
 mod common;
@@ -8,6 +8,7 @@ mod link;
 pub mod pcap;
 pub mod rules;
 pub mod run;
+pub mod stream;
 
 pub use common::{CowBytes, Endianness, TsResolution};
 pub use errors::{PcapError, ResultParsing};

@@ -1,15 +1,22 @@
 //! The header of a capture.
 
-ghost use Rattle.std.specs.Prelude.{◌≡◌, ◌≤◌, ◌+◌, ◌↔◌, length, IsTrue};
+ghost use Rattle.std.specs.Prelude.{◌≡◌, ◌≤◌, ◌+◌, ◌↔◌, Some, length, IsTrue, IfOk, IfErr};
 ghost use Rattle.std.specs.Int.{w32, cast_signed};
 ghost use Rattle.pcap_classic.specs.Answer.{Tells, Number};
-ghost use Rattle.pcap_classic.specs.Magic.{is_magic, order_of, resolution_of};
+ghost use Rattle.pcap_classic.specs.Magic.{kind_of, is_magic, order_of, resolution_of};
 ghost use Rattle.pcap_classic.specs.HeaderText.{FieldsText, HeaderSays};
+ghost use Rattle.pcap_classic.specs.Defaults.{default_header};
+ghost use Rattle.pcap_classic.specs.Errors.{IsMemory};
+ghost use Rattle.pcap_classic.specs.Writing.{WritesAll};
+ghost use Rattle.pcap_classic.specs.Written.{header_bytes};
 
 use crate::pcap::fields::{split_u16, split_u32};
 use crate::rules::Rule;
+use crate::stream::put;
 use crate::{DataLink, Endianness, PcapError, ResultParsing, TsResolution};
 use byteorder::{BigEndian, ByteOrder, LittleEndian};
+use std::alloc::Global;
+use std::io::Write;
 
 /// The header at the front of a capture, 24 bytes.
 #[derive(Clone, Copy, Debug, PartialEq, Eq)]
@@ -106,5 +113,103 @@ impl PcapHeader {
             0xa1b2c3d4 | 0xd4c3b2a1 => TsResolution::MicroSecond,
             _ => TsResolution::NanoSecond,
         }
+    }
+
+    /// Changes the order of the capture's numbers, and keeps the resolution of its times. The magic number has to be valid.
+    #[tactic(auto, unfolding(crate::specs::Magic::is_magic, crate::specs::Magic::order_of, crate::specs::Magic::resolution_of))]
+    pub fn set_endianness(&mut self, endianness: Endianness)
+        requires { IsTrue (is_magic self.old.magic_number) }
+        ensures others { self.new ≡ record self.old { magic_number = self.new.magic_number } }
+        ensures valid { IsTrue (is_magic self.new.magic_number) }
+        ensures order { order_of self.new.magic_number ≡ endianness }
+        ensures resolution { resolution_of self.new.magic_number ≡ resolution_of self.old.magic_number }
+    {
+        self.magic_number = magic_of(endianness, self.ts_resolution());
+    }
+
+    /// Changes the resolution of the capture's times, and keeps the order of its numbers. The magic number has to be valid.
+    #[tactic(auto, unfolding(crate::specs::Magic::is_magic, crate::specs::Magic::order_of, crate::specs::Magic::resolution_of))]
+    pub fn set_ts_resolution(&mut self, ts_resolution: TsResolution)
+        requires { IsTrue (is_magic self.old.magic_number) }
+        ensures others { self.new ≡ record self.old { magic_number = self.new.magic_number } }
+        ensures valid { IsTrue (is_magic self.new.magic_number) }
+        ensures order { order_of self.new.magic_number ≡ order_of self.old.magic_number }
+        ensures resolution { resolution_of self.new.magic_number ≡ ts_resolution }
+    {
+        self.magic_number = magic_of(self.endianness(), ts_resolution);
+    }
+
+    /// Writes the 24 bytes of the header: the magic number high byte first, and all other numbers in the order of `B`.
+    /// The magic number isn't tested.
+    ///
+    /// `IoError` where a write failed: a beginning of the bytes has gone out then.
+    pub fn write_to<W: Write, B: ByteOrder>(&self, writer: &mut W) -> ResultParsing<()>
+        ensures { WritesAll (W.contents writer.old) (W.contents writer.new) (header_bytes B.bytes_of self.now) result }
+    {
+        put(writer, &mut false, &self.bytes::<B>())
+    }
+
+    /// The 24 bytes that `write_to` writes. `OutOfMemory` where they can't be kept.
+    #[deprecated(since = "1.0.0", note = "Please use `write_to` instead")]
+    pub fn to_array<B: ByteOrder>(&self, alloc: Global) -> ResultParsing<Vec<u8>>
+        ensures bytes { IfOk result (λ bytes. bytes.items ≡ header_bytes B.bytes_of self.now) }
+        ensures memory { IfErr result IsMemory }
+    {
+        Ok(Vec::from_slice(alloc, &self.bytes::<B>())?)
+    }
+
+    /// The default header with this link type.
+    #[deprecated(since = "1.0.0", note = "Please use `PcapHeader::default` instead")]
+    pub fn with_datalink(datalink: DataLink) -> PcapHeader
+        ensures { result ≡ record default_header { datalink = datalink } }
+    {
+        PcapHeader {
+            datalink,
+            ..PcapHeader::default()
+        }
+    }
+
+    // The 24 bytes of the header, the magic number high byte first.
+    pub(crate) fn bytes<B: ByteOrder>(&self) -> [u8; 24]
+        ensures { result ≡ header_bytes B.bytes_of self.now }
+    {
+        let mut bytes = [0; 24];
+        BigEndian::write_u32(&mut bytes, self.magic_number);
+        B::write_u16(&mut bytes[4..], self.version_major);
+        B::write_u16(&mut bytes[6..], self.version_minor);
+        B::write_i32(&mut bytes[8..], self.ts_correction);
+        B::write_u32(&mut bytes[12..], self.ts_accuracy);
+        B::write_u32(&mut bytes[16..], self.snaplen);
+        B::write_u32(&mut bytes[20..], self.datalink.into());
+        bytes
+    }
+}
+
+impl Default for PcapHeader {
+    ghost is_default = { λ header. header ≡ default_header };
+
+    fn default() -> PcapHeader {
+        PcapHeader {
+            magic_number: 0xa1b2c3d4,
+            version_major: 2,
+            version_minor: 4,
+            ts_correction: 0,
+            ts_accuracy: 0,
+            snaplen: 65535,
+            datalink: DataLink::ETHERNET,
+        }
+    }
+}
+
+// The magic number of this order and resolution.
+#[tactic(auto, unfolding(crate::specs::Magic::kind_of))]
+fn magic_of(endianness: Endianness, ts_resolution: TsResolution) -> u32
+    ensures { kind_of result ≡ Some (endianness, ts_resolution) }
+{
+    match (endianness, ts_resolution) {
+        (Endianness::Big, TsResolution::MicroSecond) => 0xa1b2c3d4,
+        (Endianness::Big, TsResolution::NanoSecond) => 0xa1b23c4d,
+        (Endianness::Little, TsResolution::MicroSecond) => 0xd4c3b2a1,
+        (Endianness::Little, TsResolution::NanoSecond) => 0x4d3cb2a1,
     }
 }

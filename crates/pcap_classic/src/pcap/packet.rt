@@ -1,18 +1,24 @@
 //! Packets.
 
-ghost use Rattle.std.specs.Prelude.{◌≡◌, ◌≤◌, ◌*◌, ◌+◌, length, IfOk, MatchResult, IsTrue};
+ghost use Rattle.std.specs.Prelude.{◌≡◌, ◌≤◌, ◌<◌, ◌*◌, ◌+◌, ◌^◌, length, IsOk, IfOk, IfErr, MatchResult, IsTrue};
 ghost use Rattle.std.specs.Duration.{as_nanos};
 ghost use Rattle.pcap_classic.specs.Answer.{Tells, number_in};
 ghost use Rattle.pcap_classic.specs.Faults.{Invalid};
 ghost use Rattle.pcap_classic.specs.Magic.{is_magic, order_of, resolution_of};
-ghost use Rattle.pcap_classic.specs.Bytes.{IsBorrowed};
+ghost use Rattle.pcap_classic.specs.Bytes.{IsBorrowed, IsOwned};
+ghost use Rattle.pcap_classic.specs.Errors.{IsMemory};
+ghost use Rattle.pcap_classic.specs.Writing.{WritesAll};
+ghost use Rattle.pcap_classic.specs.Written.{packet_header_bytes};
 ghost use Rattle.pcap_classic.specs.PacketText.{packet_limit, Head, IsGood, IsHeadFault, spelled_header, captured, PacketHeaderSays, PacketSays};
 
 use crate::pcap::PcapHeader;
 use crate::pcap::fields::split_u32;
 use crate::rules::Rule;
+use crate::stream::put;
 use crate::{CowBytes, Endianness, PcapError, ResultParsing, TsResolution};
 use byteorder::{BigEndian, ByteOrder, LittleEndian};
+use std::alloc::Global;
+use std::io::Write;
 use std::time::Duration;
 
 /// The most bytes that a packet's stored or original length may say.
@@ -104,6 +110,36 @@ impl PacketHeader {
     {
         Duration::new(self.ts_sec.into(), self.ts_nsec)
     }
+
+    /// Writes the 16 bytes of the header in the order of `B`. Under microseconds the rest of the nanoseconds is lost. No
+    /// field is tested.
+    ///
+    /// `IoError` where a write failed: a beginning of the bytes has gone out then.
+    pub fn write_to<W: Write, B: ByteOrder>(
+        &self,
+        writer: &mut W,
+        ts_resolution: TsResolution,
+    ) -> ResultParsing<()>
+        ensures { WritesAll (W.contents writer.old) (W.contents writer.new) (packet_header_bytes B.bytes_of ts_resolution self.now) result }
+    {
+        put(writer, &mut false, &self.bytes::<B>(ts_resolution))
+    }
+
+    // The 16 bytes of the header.
+    pub(crate) fn bytes<B: ByteOrder>(&self, ts_resolution: TsResolution) -> [u8; 16]
+        ensures { result ≡ packet_header_bytes B.bytes_of ts_resolution self.now }
+    {
+        let fraction = match ts_resolution {
+            TsResolution::MicroSecond => self.ts_nsec / 1000,
+            TsResolution::NanoSecond => self.ts_nsec,
+        };
+        let mut bytes = [0; 16];
+        B::write_u32(&mut bytes, self.ts_sec);
+        B::write_u32(&mut bytes[4..], fraction);
+        B::write_u32(&mut bytes[8..], self.incl_len);
+        B::write_u32(&mut bytes[12..], self.orig_len);
+        bytes
+    }
 }
 
 /// A packet: its header and its bytes, borrowed or owned.
@@ -138,6 +174,68 @@ impl<'a> Packet<'a> {
             data_: CowBytes::Borrowed(bytes),
         };
         Ok((rest, packet))
+    }
+
+    /// The packet of borrowed bytes: seconds, nanoseconds, the bytes, and the original length in bytes. The stored length
+    /// is the number of bytes, which has to be below 2^32.
+    pub fn new(ts_sec: u32, ts_nsec: u32, bytes: &'a [u8], orig_len: u32) -> Packet<'a>
+        requires { length bytes.now < 2 ^ 32 }
+        ensures packet { let header : PacketHeader =
+                record { ts_sec = ts_sec; ts_nsec = ts_nsec; incl_len = length bytes.now; orig_len = orig_len } in
+            captured result ≡ record { header = header; bytes = bytes.now } }
+        ensures borrowed { IsBorrowed result.data_ }
+    {
+        Packet {
+            header: PacketHeader::new(ts_sec, ts_nsec, bytes.len() as u32, orig_len),
+            data_: CowBytes::Borrowed(bytes),
+        }
+    }
+
+    /// The packet of owned bytes: seconds, nanoseconds, the bytes, and the original length in bytes. The stored length
+    /// is the number of bytes, which has to be below 2^32.
+    pub fn new_owned(
+        ts_sec: u32,
+        ts_nsec: u32,
+        bytes: Vec<u8>,
+        orig_len: u32,
+    ) -> Packet<'static>
+        requires { length bytes.items < 2 ^ 32 }
+        ensures packet { let header : PacketHeader =
+                record { ts_sec = ts_sec; ts_nsec = ts_nsec; incl_len = length bytes.items; orig_len = orig_len } in
+            captured result ≡ record { header = header; bytes = bytes.items } }
+        ensures owned { IsOwned result.data_ }
+    {
+        Packet {
+            header: PacketHeader::new(ts_sec, ts_nsec, bytes.len() as u32, orig_len),
+            data_: CowBytes::Owned(bytes),
+        }
+    }
+
+    /// The same packet with a copy of its bytes. `OutOfMemory` where they can't be copied.
+    pub fn to_owned(&self, alloc: Global) -> ResultParsing<Packet<'static>>
+        ensures packet { IfOk result (λ own. captured own ≡ captured self.now) }
+        ensures owned { IfOk result (λ own. IsOwned own.data_) }
+        ensures memory { IfErr result IsMemory }
+    {
+        let bytes = Vec::from_slice(alloc, self.data_.as_slice())?;
+        Ok(Packet {
+            header: self.header,
+            data_: CowBytes::Owned(bytes),
+        })
+    }
+
+    /// The same packet with its bytes owned. `OutOfMemory` where borrowed bytes can't be copied; owned ones are never
+    /// copied.
+    pub fn into_owned(self, alloc: Global) -> ResultParsing<Packet<'static>>
+        ensures packet { IfOk result (λ own. captured own ≡ captured self.entry) }
+        ensures owned { IfOk result (λ own. IsOwned own.data_) }
+        ensures memory { IfErr result IsMemory }
+        ensures kept { IsOwned self.entry.data_ → IsOk result }
+    {
+        Ok(Packet {
+            header: self.header,
+            data_: self.data_.into_owned(alloc)?,
+        })
     }
 }
 

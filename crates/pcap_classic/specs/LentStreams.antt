@@ -1,0 +1,9 @@
+-- Values with another stream in them.
+use Rattle.pcap_classic.specs.declared.stream.Told.{Told}
+use Rattle.pcap_classic.specs.declared.pcap.writer.PcapWriter.{PcapWriter}
+
+abbrev pub told_with : {T : Type 0} → Told T → T → Told T
+told_with t x = record t { inner = x }
+
+abbrev pub writer_with : {W : Type 0} → PcapWriter W → W → PcapWriter W
+writer_with w x = record w { told = told_with w.told x }

@@ -1,0 +1,64 @@
+-- What calls that write say.
+use Rattle.std.specs.Prelude.{◌≡◌, ℕ, List, ◌++◌, Bool, true, false, IsTrue, Option, Result, Ok, Err}
+use Rattle.std.specs.Io.KnownBytes.{Appends}
+use Rattle.pcap_classic.specs.declared.errors.PcapError.{PcapError}
+use Rattle.pcap_classic.specs.declared.errors.PcapError.TheVariants.{IoError, InvalidField, WriterFailed}
+use Rattle.pcap_classic.specs.declared.pcap.header.PcapHeader.{PcapHeader}
+use Rattle.pcap_classic.specs.declared.pcap.writer.PcapWriter.{PcapWriter}
+use Rattle.pcap_classic.specs.declared.rules.Rule.TheVariants.{CaptureMagic}
+use Rattle.pcap_classic.specs.Faults.{text_of}
+use Rattle.pcap_classic.specs.Magic.{is_magic}
+use Rattle.pcap_classic.specs.PacketText.{Captured}
+use Rattle.pcap_classic.specs.Written.{written_header, written_under}
+
+-- A beginning of the bytes went out, and these are left.
+pub record Writes (bytes left : List ℕ) (before after : Option (List ℕ)) : Type 0 where
+  pub gone : List ℕ
+  pub split : bytes ≡ gone ++ left
+  pub out : Appends before after gone
+
+-- a beginning of the bytes went out
+abbrev pub AppendsPart : Option (List ℕ) → Option (List ℕ) → List ℕ → Type 0
+AppendsPart before after bytes = (left : List ℕ) × Writes bytes left before after
+
+-- One call that writes bytes: all of them, or a beginning of them and an IoError.
+abbrev pub WritesAll : Option (List ℕ) → Option (List ℕ) → List ℕ → Result (Unit {0}) PcapError → Type 0
+WritesAll before after bytes (Ok u) = Appends before after bytes
+WritesAll before after bytes (Err (IoError e)) = AppendsPart before after bytes
+WritesAll before after bytes (Err _) = ⊥
+
+-- the stream behind a writer, and whether a write of it failed
+abbrev pub writer_of : {W : Type 0} → PcapWriter W → W
+writer_of w = w.told.inner
+
+abbrev pub has_failed : {W : Type 0} → PcapWriter W → Bool
+has_failed w = w.told.has_failed
+
+-- a header whose capture can be written
+abbrev pub IsWritable : PcapHeader → Type 0
+IsWritable header = IsTrue (is_magic header.magic_number)
+
+-- The error says that the magic number of the header is none of the four, and it is none.
+abbrev pub RefusesMagic : PcapHeader → List ℕ → Type 0
+RefusesMagic header text = (is_magic header.magic_number ≡ false) × (text ≡ text_of CaptureMagic)
+
+-- One call that makes a writer: the header's text went out, or its magic number is refused, or a write failed.
+abbrev pub OpensWriter : {W : Type 0} → (W → Option (List ℕ)) → PcapHeader → W → Result (PcapWriter W) PcapError → Type 0
+OpensWriter contents header writer (Ok made) =
+    IsWritable header × (made.header ≡ header) × (has_failed made ≡ false) × Appends (contents writer) (contents (writer_of made)) (written_header header)
+OpensWriter contents header writer (Err (InvalidField text)) = RefusesMagic header text.now
+OpensWriter contents header writer (Err (IoError e)) = IsWritable header
+OpensWriter contents header writer (Err _) = ⊥
+
+-- One call that writes a packet. An earlier write failed, and nothing is touched; else the magic number is refused, and
+-- nothing is touched; else the packet went out whole, or a write failed behind a beginning of it.
+abbrev pub WritesPacket : {W : Type 0} → (W → Option (List ℕ)) → PcapWriter W → PcapWriter W → Captured → Result (Unit {0}) PcapError → Type 0
+WritesPacket contents old new packet (Err WriterFailed) = (has_failed old ≡ true) × (new ≡ old)
+WritesPacket contents old new packet (Err (InvalidField text)) = (has_failed old ≡ false) × RefusesMagic old.header text.now × (new ≡ old)
+WritesPacket contents old new packet (Ok u) =
+    (has_failed old ≡ false) × IsWritable old.header × (has_failed new ≡ false)
+    × Appends (contents (writer_of old)) (contents (writer_of new)) (written_under old.header packet)
+WritesPacket contents old new packet (Err (IoError e)) =
+    (has_failed old ≡ false) × IsWritable old.header × (has_failed new ≡ true)
+    × AppendsPart (contents (writer_of old)) (contents (writer_of new)) (written_under old.header packet)
+WritesPacket contents old new packet (Err _) = ⊥

@@ -1,0 +1,172 @@
+//! A writer of captures.
+
+ghost use Rattle.std.specs.Prelude.{◌≡◌, ◌<◌, ◌^◌, length, true, IsTrue, MatchResult};
+ghost use Rattle.std.specs.Borrow.{sem, Lends};
+ghost use Rattle.pcap_classic.specs.contracts.pcap.writer.PcapWriter.{the_row as writer-row};
+ghost use Rattle.pcap_classic.specs.Defaults.{little_header};
+ghost use Rattle.pcap_classic.specs.LentStreams.{writer_with};
+ghost use Rattle.pcap_classic.specs.Magic.{is_magic, order_of, resolution_of};
+ghost use Rattle.pcap_classic.specs.PacketText.{captured};
+ghost use Rattle.pcap_classic.specs.Writing.{writer_of, has_failed, WritesAll, OpensWriter, WritesPacket};
+ghost use Rattle.pcap_classic.specs.Written.{written_header, written_under, packet_header_bytes, bytes_in};
+
+use crate::pcap::{Packet, PacketHeader, PcapHeader};
+use crate::rules::Rule;
+use crate::stream::{Told, put};
+use crate::{Endianness, PcapError, ResultParsing};
+use byteorder::{BigEndian, LittleEndian};
+use std::io::Write;
+
+/// Writes a capture into a writer: its header, and then packets one by one.
+#[derive(Debug, Drop)]
+pub struct PcapWriter<W> {
+    /// The header of the capture. Each packet is written in the order and resolution that its magic number tells then.
+    pub header: PcapHeader,
+    told: Told<W>,
+}
+
+impl<W> PcapWriter<W> {
+    /// Gives the wrapped writer back.
+    pub fn into_writer(self) -> W
+        ensures { result ≡ writer_of self }
+    {
+        self.told.into_inner()
+    }
+
+    /// The wrapped writer.
+    pub fn get_ref(&self) -> &W
+        ensures { result.now ≡ writer_of self.now }
+    {
+        self.told.get_ref()
+    }
+
+    /// The wrapped writer. It is inadvisable to write to it directly.
+    pub fn get_mut(&mut self) -> &mut W
+        ensures value { result.now ≡ writer_of self.old }
+        ensures* writes_back { sem 𝓛 (Lends (writer-row W.row) W.row self.entry result (writer_with self.old)) }
+    {
+        self.told.get_mut()
+    }
+
+    /// Whether a write failed. From then on every packet is refused.
+    pub fn failed(&self) -> bool
+        ensures { result ≡ has_failed self.now }
+    {
+        self.told.failed()
+    }
+}
+
+impl<W: Write + Drop> PcapWriter<W> {
+    /// Makes a writer, and writes the default header with little-endian numbers.
+    ///
+    /// `IoError` where a write failed: a beginning of the header's 24 bytes has gone out then.
+    pub fn new(writer: W) -> ResultParsing<PcapWriter<W>>
+        ensures { OpensWriter W.contents little_header writer result }
+    {
+        let mut header = PcapHeader::default();
+        header.set_endianness(Endianness::Little);
+        PcapWriter::with_header(header, writer)
+    }
+
+    /// Makes a writer, and writes this header in the order that its magic number tells.
+    ///
+    /// `InvalidField` where the magic number is none of the four: nothing is written then. `IoError` where a write
+    /// failed: a beginning of the header's 24 bytes has gone out then.
+    pub fn with_header(header: PcapHeader, writer: W) -> ResultParsing<PcapWriter<W>>
+        ensures { OpensWriter W.contents header writer result }
+    {
+        if !header.has_valid_magic() {
+            return Err(PcapError::from(Rule::CaptureMagic));
+        }
+        let mut told = Told::new(writer);
+        put_header(&mut told.inner, &mut told.has_failed, &header)?;
+        Ok(PcapWriter { header, told })
+    }
+}
+
+impl<W: Write> PcapWriter<W> {
+    /// Writes a packet of these bytes: seconds, nanoseconds, the bytes, and the original length in bytes. There have to be
+    /// less than 2^32 bytes. It fails as `write_packet` does.
+    pub fn write(
+        &mut self,
+        ts_sec: u32,
+        ts_nsec: u32,
+        bytes: &[u8],
+        orig_len: u32,
+    ) -> ResultParsing<()>
+        requires { length bytes.now < 2 ^ 32 }
+        ensures header { self.new.header ≡ self.old.header }
+        ensures packet { let header : PacketHeader =
+                record { ts_sec = ts_sec; ts_nsec = ts_nsec; incl_len = length bytes.now; orig_len = orig_len } in
+            WritesPacket W.contents self.old self.new (record { header = header; bytes = bytes.now }) result }
+    {
+        self.write_packet(&Packet::new(ts_sec, ts_nsec, bytes, orig_len))
+    }
+
+    /// Writes a packet: 16 bytes of its header, and then its bytes. The stored length goes out as it stands in the packet's
+    /// header, whatever the number of bytes is.
+    ///
+    /// `WriterFailed` where an earlier write failed, else `InvalidField` where the magic number of `header` is none of
+    /// the four: nothing is written then. `IoError` where a write failed: a beginning of the packet has gone out then.
+    pub fn write_packet(&mut self, packet: &Packet<'_>) -> ResultParsing<()>
+        ensures header { self.new.header ≡ self.old.header }
+        ensures packet { WritesPacket W.contents self.old self.new (captured packet.now) result }
+    {
+        if self.told.failed() {
+            return Err(PcapError::WriterFailed);
+        }
+        if !self.header.has_valid_magic() {
+            return Err(PcapError::from(Rule::CaptureMagic));
+        }
+        put_packet(
+            &mut self.told.inner,
+            &mut self.told.has_failed,
+            &self.header,
+            packet,
+        )
+    }
+}
+
+// Writes a capture's header in its own order.
+pub(crate) fn put_header<W: Write>(
+    writer: &mut W,
+    has_failed: &mut bool,
+    header: &PcapHeader,
+) -> ResultParsing<()>
+    requires { IsTrue (is_magic header.now.magic_number) }
+    ensures out { WritesAll (W.contents writer.old) (W.contents writer.new) (written_header header.now) result }
+    ensures told { MatchResult result (λ _. has_failed.new ≡ has_failed.old) (λ _. has_failed.new ≡ true) }
+{
+    match header.endianness() {
+        Endianness::Big => put(writer, has_failed, &header.bytes::<BigEndian>()),
+        Endianness::Little => put(writer, has_failed, &header.bytes::<LittleEndian>()),
+    }
+}
+
+// Writes a packet under a capture's header.
+pub(crate) fn put_packet<W: Write>(
+    writer: &mut W,
+    has_failed: &mut bool,
+    header: &PcapHeader,
+    packet: &Packet<'_>,
+) -> ResultParsing<()>
+    requires { IsTrue (is_magic header.now.magic_number) }
+    ensures out { WritesAll (W.contents writer.old) (W.contents writer.new) (written_under header.now (captured packet.now)) result }
+    ensures told { MatchResult result (λ _. has_failed.new ≡ has_failed.old) (λ _. has_failed.new ≡ true) }
+{
+    put(writer, has_failed, &bytes_under(header, &packet.header))?;
+    put(writer, has_failed, packet.data_.as_slice())
+}
+
+// The 16 bytes of a packet's header under a capture's header.
+fn bytes_under(header: &PcapHeader, packet: &PacketHeader) -> [u8; 16]
+    requires { IsTrue (is_magic header.now.magic_number) }
+    ensures { let magic = header.now.magic_number in
+        result ≡ packet_header_bytes (bytes_in (order_of magic)) (resolution_of magic) packet.now }
+{
+    let ts_resolution = header.ts_resolution();
+    match header.endianness() {
+        Endianness::Big => packet.bytes::<BigEndian>(ts_resolution),
+        Endianness::Little => packet.bytes::<LittleEndian>(ts_resolution),
+    }
+}
