@@ -13,3 +13,4 @@ pub mod ReadBack
 pub mod Formats
 pub mod Headed
 pub mod Writing
+pub mod Filling

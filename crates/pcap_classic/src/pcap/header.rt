@@ -3,7 +3,7 @@
 ghost use Rattle.std.specs.Prelude.{◌≡◌, ◌≤◌, ◌+◌, ◌↔◌, Some, length, IsTrue, IfOk, IfErr};
 ghost use Rattle.std.specs.Int.{w32, cast_signed};
 ghost use Rattle.pcap_classic.specs.Answer.{Tells, Number};
-ghost use Rattle.pcap_classic.specs.Magic.{kind_of, is_magic, order_of, resolution_of};
+ghost use Rattle.pcap_classic.specs.Magic.{kind_of, is_magic, order_of, resolution_of, magic_for};
 ghost use Rattle.pcap_classic.specs.HeaderText.{FieldsText, HeaderSays};
 ghost use Rattle.pcap_classic.specs.Defaults.{default_header};
 ghost use Rattle.pcap_classic.specs.Errors.{IsMemory};
@@ -119,7 +119,7 @@ impl PcapHeader {
     #[tactic(auto, unfolding(crate::specs::Magic::is_magic, crate::specs::Magic::order_of, crate::specs::Magic::resolution_of))]
     pub fn set_endianness(&mut self, endianness: Endianness)
         requires { IsTrue (is_magic self.old.magic_number) }
-        ensures others { self.new ≡ record self.old { magic_number = self.new.magic_number } }
+        ensures header { self.new ≡ record self.old { magic_number = magic_for endianness (resolution_of self.old.magic_number) } }
         ensures valid { IsTrue (is_magic self.new.magic_number) }
         ensures order { order_of self.new.magic_number ≡ endianness }
         ensures resolution { resolution_of self.new.magic_number ≡ resolution_of self.old.magic_number }
@@ -131,7 +131,7 @@ impl PcapHeader {
     #[tactic(auto, unfolding(crate::specs::Magic::is_magic, crate::specs::Magic::order_of, crate::specs::Magic::resolution_of))]
     pub fn set_ts_resolution(&mut self, ts_resolution: TsResolution)
         requires { IsTrue (is_magic self.old.magic_number) }
-        ensures others { self.new ≡ record self.old { magic_number = self.new.magic_number } }
+        ensures header { self.new ≡ record self.old { magic_number = magic_for (order_of self.old.magic_number) ts_resolution } }
         ensures valid { IsTrue (is_magic self.new.magic_number) }
         ensures order { order_of self.new.magic_number ≡ order_of self.old.magic_number }
         ensures resolution { resolution_of self.new.magic_number ≡ ts_resolution }
@@ -177,7 +177,7 @@ impl PcapHeader {
         BigEndian::write_u32(&mut bytes, self.magic_number);
         B::write_u16(&mut bytes[4..], self.version_major);
         B::write_u16(&mut bytes[6..], self.version_minor);
-        B::write_i32(&mut bytes[8..], self.ts_correction);
+        B::write_u32(&mut bytes[8..], self.ts_correction.cast_unsigned());
         B::write_u32(&mut bytes[12..], self.ts_accuracy);
         B::write_u32(&mut bytes[16..], self.snaplen);
         B::write_u32(&mut bytes[20..], self.datalink.into());
@@ -204,7 +204,8 @@ impl Default for PcapHeader {
 // The magic number of this order and resolution.
 #[tactic(auto, unfolding(crate::specs::Magic::kind_of))]
 fn magic_of(endianness: Endianness, ts_resolution: TsResolution) -> u32
-    ensures { kind_of result ≡ Some (endianness, ts_resolution) }
+    ensures magic { result ≡ magic_for endianness ts_resolution }
+    ensures kind { kind_of result ≡ Some (endianness, ts_resolution) }
 {
     match (endianness, ts_resolution) {
         (Endianness::Big, TsResolution::MicroSecond) => 0xa1b2c3d4,

@@ -8,7 +8,7 @@ ghost use Rattle.pcap_classic.specs.Magic.{is_magic, order_of, resolution_of};
 ghost use Rattle.pcap_classic.specs.Bytes.{IsBorrowed, IsOwned};
 ghost use Rattle.pcap_classic.specs.Errors.{IsMemory};
 ghost use Rattle.pcap_classic.specs.Writing.{WritesAll};
-ghost use Rattle.pcap_classic.specs.Written.{packet_header_bytes};
+ghost use Rattle.pcap_classic.specs.Written.{fraction_of, packet_header_bytes};
 ghost use Rattle.pcap_classic.specs.PacketText.{packet_limit, Head, IsGood, IsHeadFault, spelled_header, captured, PacketHeaderSays, PacketSays};
 
 use crate::pcap::PcapHeader;
@@ -125,17 +125,23 @@ impl PacketHeader {
         put(writer, &mut false, &self.bytes::<B>(ts_resolution))
     }
 
+    // The nanoseconds as they are written.
+    fn fraction(&self, ts_resolution: TsResolution) -> u32
+        ensures { result ≡ fraction_of ts_resolution self.now.ts_nsec }
+    {
+        match ts_resolution {
+            TsResolution::MicroSecond => self.ts_nsec / 1000,
+            TsResolution::NanoSecond => self.ts_nsec,
+        }
+    }
+
     // The 16 bytes of the header.
     pub(crate) fn bytes<B: ByteOrder>(&self, ts_resolution: TsResolution) -> [u8; 16]
         ensures { result ≡ packet_header_bytes B.bytes_of ts_resolution self.now }
     {
-        let fraction = match ts_resolution {
-            TsResolution::MicroSecond => self.ts_nsec / 1000,
-            TsResolution::NanoSecond => self.ts_nsec,
-        };
         let mut bytes = [0; 16];
         B::write_u32(&mut bytes, self.ts_sec);
-        B::write_u32(&mut bytes[4..], fraction);
+        B::write_u32(&mut bytes[4..], self.fraction(ts_resolution));
         B::write_u32(&mut bytes[8..], self.incl_len);
         B::write_u32(&mut bytes[12..], self.orig_len);
         bytes

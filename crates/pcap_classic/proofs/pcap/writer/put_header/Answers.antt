@@ -1,0 +1,17 @@
+use Rattle.std.proofs.Common.{◌≡◌, sym, ◌∙◌, ap, subst, ℕ, List}
+use Rattle.pcap_classic.specs.Magic.{order_of}
+use Rattle.pcap_classic.specs.declared.common.Endianness.{Endianness}
+use Rattle.pcap_classic.specs.declared.common.Endianness.TheVariants.{Big, Little}
+use Rattle.pcap_classic.specs.Writing.{WritesAll}
+use Rattle.pcap_classic.specs.Written.{header_bytes, bytes_in}
+use Rattle.pcap_classic.proofs.pcap.writer.put_header.Goals as goal
+
+pub returns-in-Big-clause-out : goal.returns-in-Big-clause-out
+returns-in-Big-clause-out g c =
+    let e : order_of c.args.header.now.magic_number ≡ Big = sym c.endianness.ensures ∙ c.in-Big.is in
+    rw (e, ← c.bytes.ensures) c.put.ensures.out
+
+pub returns-in-Little-clause-out : goal.returns-in-Little-clause-out
+returns-in-Little-clause-out g c =
+    let e : order_of c.args.header.now.magic_number ≡ Little = sym c.endianness.ensures ∙ c.in-Little.is in
+    rw (e, ← c.bytes-in-Little.ensures) c.put-in-Little.ensures.out
