@@ -14,3 +14,4 @@ pub mod Formats
 pub mod Headed
 pub mod Writing
 pub mod Filling
+pub mod ReadCapture

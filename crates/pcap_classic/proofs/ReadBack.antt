@@ -11,11 +11,11 @@ use Rattle.pcap_classic.specs.Answer.{Number, number_in}
 use Rattle.pcap_classic.specs.PacketText.{packet_limit, Head, HeadText, IsGood, Captured, PacketText, nanoseconds}
 use Rattle.pcap_classic.specs.Written.{bytes_in, written, fraction_of, cut, IsWhole}
 
-bytes_length : (e : Endianness) (w n : ℕ) → length (bytes_in e w n) ≡ w
+pub bytes_length : (e : Endianness) (w n : ℕ) → length (bytes_in e w n) ≡ w
 bytes_length Big w n = length-bytes_high_first w n
 bytes_length Little w n = length-bytes_low_first 0 w n
 
-read_back : (e : Endianness) (w n : ℕ) → n < 256 ^ w → number_in e w (bytes_in e w n) ≡ n
+pub read_back : (e : Endianness) (w n : ℕ) → n < 256 ^ w → number_in e w (bytes_in e w n) ≡ n
 read_back Big w n lt = ap (big_number w) (sym (append-nil (big_bytes w n))) ∙ big_number-reads_back w n [] lt
 read_back Little w n lt = ap (little_number w) (sym (append-nil (little_bytes w n))) ∙ little_number-reads_back w n [] lt
 

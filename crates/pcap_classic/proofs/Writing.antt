@@ -1,5 +1,5 @@
 -- Bytes that go out in several writes.
-use Rattle.std.proofs.Common.{◌≡◌, ℕ, List, ◌++◌, take, drop, ap, sym, ◌∙◌, append_assoc, Ok, Err}
+use Rattle.std.proofs.Common.{◌≡◌, ℕ, List, ◌++◌, take, drop, ap, sym, ◌∙◌, append_assoc, length-append, arith, Ok, Err}
 use Rattle.std.specs.Prelude.{Option, Result}
 use Rattle.std.proofs.lemmas.List.{take-append-drop}
 use Rattle.std.specs.Io.KnownBytes.{Appends}
@@ -19,20 +19,22 @@ writes_more bytes left a b c n so_far out = record {
 pub part_of_first : (first second : List ℕ) (a b : Option (List ℕ)) → AppendsPart a b first → AppendsPart a b (first ++ second)
 part_of_first first second a b part = (
   part.0 ++ second,
+  omega (arith, part.1, length-append part.0 second),
   record {
-    gone = part.1.gone;
-    split = ap (λ (l : List ℕ). l ++ second) part.1.split ∙ append_assoc part.1.gone part.0 second;
-    out = part.1.out;
+    gone = part.2.gone;
+    split = ap (λ (l : List ℕ). l ++ second) part.2.split ∙ append_assoc part.2.gone part.0 second;
+    out = part.2.out;
   },
 )
 
 pub part_of_second : (first second : List ℕ) (a b c : Option (List ℕ)) → Appends a b first → AppendsPart b c second → AppendsPart a c (first ++ second)
 part_of_second first second a b c whole part = (
   part.0,
+  part.1,
   record {
-    gone = first ++ part.1.gone;
-    split = ap (λ (l : List ℕ). first ++ l) part.1.split ∙ sym (append_assoc first part.1.gone part.0);
-    out = Appends-trans a b c first part.1.gone whole part.1.out;
+    gone = first ++ part.2.gone;
+    split = ap (λ (l : List ℕ). first ++ l) part.2.split ∙ sym (append_assoc first part.2.gone part.0);
+    out = Appends-trans a b c first part.2.gone whole part.2.out;
   },
 )
 

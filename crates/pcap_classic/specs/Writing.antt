@@ -1,5 +1,5 @@
 -- What calls that write say.
-use Rattle.std.specs.Prelude.{◌≡◌, ℕ, List, ◌++◌, Bool, true, false, IsTrue, Option, Result, Ok, Err}
+use Rattle.std.specs.Prelude.{◌≡◌, ◌<◌, ℕ, List, ◌++◌, length, Bool, true, false, IsTrue, Option, Result, Ok, Err}
 use Rattle.std.specs.Io.KnownBytes.{Appends}
 use Rattle.pcap_classic.specs.declared.errors.PcapError.{PcapError}
 use Rattle.pcap_classic.specs.declared.errors.PcapError.TheVariants.{IoError, InvalidField, WriterFailed}
@@ -17,9 +17,9 @@ pub record Writes (bytes left : List ℕ) (before after : Option (List ℕ)) : T
   pub split : bytes ≡ gone ++ left
   pub out : Appends before after gone
 
--- a beginning of the bytes went out
+-- a beginning of the bytes went out, and not all of them
 abbrev pub AppendsPart : Option (List ℕ) → Option (List ℕ) → List ℕ → Type 0
-AppendsPart before after bytes = (left : List ℕ) × Writes bytes left before after
+AppendsPart before after bytes = (left : List ℕ) × (0 < length left) × Writes bytes left before after
 
 -- One call that writes bytes: all of them, or a beginning of them and an IoError.
 abbrev pub WritesAll : Option (List ℕ) → Option (List ℕ) → List ℕ → Result (Unit {0}) PcapError → Type 0

@@ -1,5 +1,5 @@
 -- The bytes of a capture, as they are written.
-use Rattle.std.specs.Prelude.{◌<◌, ◌/◌, ◌++◌, ℕ, List, ◌≡◌, ◌≤◌, ◌^◌, length}
+use Rattle.std.specs.Prelude.{◌<◌, ◌/◌, ◌++◌, ℕ, List, ◌≡◌, ◌≤◌, ◌^◌, length, IsTrue, FitsSigned}
 use Rattle.std.specs.Int.{w32, cast_unsigned}
 use Rattle.std.specs.List.{flat_map}
 use Rattle.byteorder.specs.Endian.{big_bytes, little_bytes}
@@ -9,8 +9,8 @@ use Rattle.pcap_classic.specs.declared.common.TsResolution.{TsResolution}
 use Rattle.pcap_classic.specs.declared.common.TsResolution.TheVariants.{MicroSecond, NanoSecond}
 use Rattle.pcap_classic.specs.declared.pcap.header.PcapHeader.{PcapHeader}
 use Rattle.pcap_classic.specs.declared.pcap.packet.PacketHeader.{PacketHeader}
-use Rattle.pcap_classic.specs.Link.{link_number}
-use Rattle.pcap_classic.specs.Magic.{order_of, resolution_of}
+use Rattle.pcap_classic.specs.Link.{link_number, IsPlain}
+use Rattle.pcap_classic.specs.Magic.{is_magic, order_of, resolution_of}
 use Rattle.pcap_classic.specs.PacketText.{Captured, packet_limit, nanoseconds}
 
 -- the bytes of a number in an order
@@ -69,3 +69,16 @@ pub record IsWhole (packet : Captured) : Type 0 where
   pub included : length packet.bytes ≡ packet.header.incl_len
   pub original : packet.header.incl_len ≤ packet.header.orig_len
   pub limit : packet.header.orig_len ≤ packet_limit
+
+-- a header that can be written so that it is read again: its magic number is one of the four, its link type is plain, and
+-- each number has room in its field
+pub record IsWholeHeader (header : PcapHeader) : Type 0 where
+  pub valid : IsTrue (is_magic header.magic_number)
+  pub plain : IsPlain header.datalink
+  pub magic : header.magic_number < 2 ^ 32
+  pub major : header.version_major < 2 ^ 16
+  pub minor : header.version_minor < 2 ^ 16
+  pub correction : FitsSigned w32 header.ts_correction
+  pub accuracy : header.ts_accuracy < 2 ^ 32
+  pub snaplen : header.snaplen < 2 ^ 32
+  pub link : link_number header.datalink < 2 ^ 32

@@ -1,6 +1,6 @@
 //! Laws of the grammar. Each function does nothing: its contract is the law.
 
-ghost use Rattle.std.specs.Prelude.{◌≡◌, ◌≤◌, ◌++◌, ◌↔◌, ℕ, List, [], ◌∷◌, length, IsTrue};
+ghost use Rattle.std.specs.Prelude.{◌≡◌, ◌≤◌, ◌++◌, ◌↔◌, ℕ, List, [], ◌∷◌, length, map, All, IsTrue};
 ghost use Rattle.std.specs.List.{flat_map};
 ghost use Rattle.pcap_classic.specs.declared.common.Endianness.{Endianness};
 ghost use Rattle.pcap_classic.specs.declared.common.TsResolution.{TsResolution};
@@ -13,9 +13,10 @@ ghost use Rattle.pcap_classic.specs.Front.{CaptureFront};
 ghost use Rattle.pcap_classic.specs.HeaderText.{HeaderSays, HeaderText};
 ghost use Rattle.pcap_classic.specs.Laws.{ExactlyOne, IsStable};
 ghost use Rattle.pcap_classic.specs.Link.{Link, IsPlain, link_number};
+ghost use Rattle.pcap_classic.specs.Magic.{resolution_of};
 ghost use Rattle.pcap_classic.specs.Packets.{packet_format};
 ghost use Rattle.pcap_classic.specs.PacketText.{packet_limit, PacketSays, PacketHeaderSays, Captured, PacketText};
-ghost use Rattle.pcap_classic.specs.Written.{IsWhole, bytes_in, capture, cut, written};
+ghost use Rattle.pcap_classic.specs.Written.{IsWhole, IsWholeHeader, bytes_in, capture, cut, written};
 
 use crate::DataLink;
 use crate::pcap::{PacketHeader, PcapHeader};
@@ -124,3 +125,10 @@ pub fn packet_headers_are_equal(left: &PacketHeader, right: &PacketHeader) -> bo
 {
     left == right
 }
+
+/// A capture that is written has that header and those packets in front, their nanoseconds cut as the resolution demands,
+/// and nothing behind them.
+pub fn written_capture_is_read()
+    ensures { (header : PcapHeader) (packets : List Captured) → IsWholeHeader header → All IsWhole packets →
+        CaptureFront packet_limit header (map (cut (resolution_of header.magic_number)) packets) (capture header packets) [] }
+{}
