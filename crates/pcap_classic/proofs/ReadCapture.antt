@@ -1,16 +1,16 @@
 -- A capture that is written is read again.
-use Rattle.std.proofs.Common.{◌≡◌, ℕ, ℤ, ◌<◌, ◌^◌, List, [], ◌∷◌, ◌++◌, length, refl, sym, ap, subst, ◌∙◌, append_assoc, arith}
+use Rattle.std.proofs.Common.{◌≡◌, ℕ, ℤ, ◌<◌, ◌^◌, List, [], ◌∷◌, ◌++◌, refl, sym, subst, append_assoc, arith}
 use Rattle.std.specs.Prelude.{All, map, FitsSigned}
 use Rattle.std.specs.List.{flat_map}
-use Rattle.std.specs.Int.{w32, cast_unsigned, cast_signed}
+use Rattle.std.specs.Int.{w32, cast_unsigned}
 use Rattle.std.proofs.lemmas.Int.{to_z-of_z, ints}
 use Rattle.std.proofs.lemmas.List.Elements.{All-tail}
-use Rattle.byteorder.specs.Endian.{big_bytes, big_number}
+use Rattle.byteorder.specs.Endian.{big_bytes}
 use Rattle.pcap_classic.specs.declared.common.Endianness.{Endianness}
-use Rattle.pcap_classic.specs.declared.common.Endianness.TheVariants.{Big, Little}
+use Rattle.pcap_classic.specs.declared.common.Endianness.TheVariants.{Big}
 use Rattle.pcap_classic.specs.declared.common.TsResolution.{TsResolution}
 use Rattle.pcap_classic.specs.declared.pcap.header.PcapHeader.{PcapHeader}
-use Rattle.pcap_classic.specs.Answer.{Number, number_in, whole}
+use Rattle.pcap_classic.specs.Answer.{Number, number_in}
 use Rattle.pcap_classic.specs.Magic.{order_of, resolution_of}
 use Rattle.pcap_classic.specs.HeaderText.{FieldsText, HeaderText}
 use Rattle.pcap_classic.specs.Link.{link_number}
@@ -19,7 +19,8 @@ use Rattle.pcap_classic.specs.Format.{Texts}
 use Rattle.pcap_classic.specs.Packets.{packet_format, format_under}
 use Rattle.pcap_classic.specs.Front.{CaptureFront}
 use Rattle.pcap_classic.specs.Written.{bytes_in, written, written_header, capture, cut, IsWhole, IsWholeHeader}
-use Rattle.pcap_classic.proofs.Texts.{nothing_no_packet}
+use Rattle.pcap_classic.proofs.Formats.{nothing_no_text}
+use Rattle.pcap_classic.proofs.HeadedPackets.{packets_lawful}
 use Rattle.pcap_classic.proofs.ReadBack.{bytes_length, read_back, written_again}
 
 again : (e : Endianness) (w n : ℕ) (rest : List ℕ) → n < 256 ^ w → Number (number_in e) w n (bytes_in e w n ++ rest) rest
@@ -69,10 +70,6 @@ packets_again e r (packet ∷ packets) each =
     let more = flat_map (written (bytes_in e) r) packets in
     (more, written_again e r packet more (each 0 packet (omega arith)), packets_again e r packets (All-tail IsWhole packet packets each))
 
-nothing_after : (h : PcapHeader) (packet : Captured) (after : List ℕ) → (format_under packet_limit h).says tt [] (whole packet after) → ⊥
-unfolding packet_format
-nothing_after h packet after text = nothing_no_packet (number_in (order_of h.magic_number)) packet_limit (resolution_of h.magic_number) packet after text
-
 pub capture_again : (h : PcapHeader) (packets : List Captured) → IsWholeHeader h → All IsWhole packets
     → CaptureFront packet_limit h (map (cut (resolution_of h.magic_number)) packets) (capture h packets) []
 capture_again h packets fits each =
@@ -82,5 +79,5 @@ capture_again h packets fits each =
     record {
       after = after;
       header_text = header_again h after fits;
-      front = record { texts = packets_again e r packets each; longest = λ packet rest text. nothing_after h packet rest text };
+      front = record { texts = packets_again e r packets each; longest = λ packet rest. nothing_no_text (format_under packet_limit h) (packets_lawful packet_limit (number_in e) r) tt packet rest };
     }

@@ -187,7 +187,7 @@ impl<'a> Packet<'a> {
     pub fn new(ts_sec: u32, ts_nsec: u32, bytes: &'a [u8], orig_len: u32) -> Packet<'a>
         requires { length bytes.now < 2 ^ 32 }
         ensures packet { let header : PacketHeader =
-                record { ts_sec = ts_sec; ts_nsec = ts_nsec; incl_len = length bytes.now; orig_len = orig_len } in
+            record { ts_sec = ts_sec; ts_nsec = ts_nsec; incl_len = length bytes.now; orig_len = orig_len } in
             captured result ≡ record { header = header; bytes = bytes.now } }
         ensures borrowed { IsBorrowed result.data_ }
     {
@@ -199,15 +199,10 @@ impl<'a> Packet<'a> {
 
     /// The packet of owned bytes: seconds, nanoseconds, the bytes, and the original length in bytes. The stored length
     /// is the number of bytes, which has to be below 2^32.
-    pub fn new_owned(
-        ts_sec: u32,
-        ts_nsec: u32,
-        bytes: Vec<u8>,
-        orig_len: u32,
-    ) -> Packet<'static>
+    pub fn new_owned(ts_sec: u32, ts_nsec: u32, bytes: Vec<u8>, orig_len: u32) -> Packet<'static>
         requires { length bytes.items < 2 ^ 32 }
         ensures packet { let header : PacketHeader =
-                record { ts_sec = ts_sec; ts_nsec = ts_nsec; incl_len = length bytes.items; orig_len = orig_len } in
+            record { ts_sec = ts_sec; ts_nsec = ts_nsec; incl_len = length bytes.items; orig_len = orig_len } in
             captured result ≡ record { header = header; bytes = bytes.items } }
         ensures owned { IsOwned result.data_ }
     {

@@ -97,7 +97,7 @@ impl<W: Write> PcapWriter<W> {
         requires { length bytes.now < 2 ^ 32 }
         ensures header { self.new.header ≡ self.old.header }
         ensures packet { let header : PacketHeader =
-                record { ts_sec = ts_sec; ts_nsec = ts_nsec; incl_len = length bytes.now; orig_len = orig_len } in
+            record { ts_sec = ts_sec; ts_nsec = ts_nsec; incl_len = length bytes.now; orig_len = orig_len } in
             WritesPacket W.contents self.old self.new (record { header = header; bytes = bytes.now }) result }
     {
         self.write_packet(&Packet::new(ts_sec, ts_nsec, bytes, orig_len))

@@ -1,9 +1,6 @@
-use Rattle.std.proofs.Common.{◌≡◌, sym, ◌∙◌, ap, subst, ℕ, List}
+use Rattle.std.proofs.Common.{◌≡◌, sym, ◌∙◌}
 use Rattle.pcap_classic.specs.Magic.{order_of}
-use Rattle.pcap_classic.specs.declared.common.Endianness.{Endianness}
 use Rattle.pcap_classic.specs.declared.common.Endianness.TheVariants.{Big, Little}
-use Rattle.pcap_classic.specs.Writing.{WritesAll}
-use Rattle.pcap_classic.specs.Written.{header_bytes, bytes_in}
 use Rattle.pcap_classic.proofs.pcap.writer.put_header.Goals as goal
 
 pub returns-in-Big-clause-out : goal.returns-in-Big-clause-out

@@ -1,9 +1,6 @@
-use Rattle.std.proofs.Common.{◌≡◌, ◌∙◌, refl, subst}
-use Rattle.pcap_classic.specs.declared.pcap.header.PcapHeader.{PcapHeader}
-use Rattle.pcap_classic.specs.declared.common.Endianness.TheVariants.{Little}
-use Rattle.pcap_classic.specs.Magic.{kind_of, is_magic, resolution_of, magic_for}
-use Rattle.pcap_classic.specs.Defaults.{default_header, little_header}
-use Rattle.pcap_classic.specs.Writing.{OpensWriter}
+use Rattle.std.proofs.Common.{◌≡◌, ◌∙◌, refl}
+use Rattle.pcap_classic.specs.Magic.{kind_of, is_magic, resolution_of}
+use Rattle.pcap_classic.specs.Defaults.{little_header}
 use Rattle.pcap_classic.proofs.pcap.writer.PcapWriter.new.Goals as goal
 
 pub set_endianness-requires : goal.set_endianness-requires
