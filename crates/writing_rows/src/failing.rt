@@ -43,13 +43,11 @@ fn interrupted_calls(rt: HostRuntime) -> Result<(), Fail> {
     let whole = capture(rt.alloc())?;
     let contents = contents(rt.alloc())?;
     let packet = packet(contents.as_slice());
-    // how many bytes went out before each call, ten at most in one
-    let before = [
-        0, 10, 20, 24, 34, 40, 50, 60, 70, 80, 90, 100, 110, 120, 130,
+    // each call of the writer, and how many bytes went out before it, ten at most in one
+    let rows = [
+        (1, 0), (2, 10), (3, 20), (4, 24), (5, 34), (6, 40), (7, 50), (8, 60), (9, 70), (10, 80), (11, 90), (12, 100), (13, 110), (14, 120), (15, 130),
     ];
-    let mut call = 0;
-    for gone in before {
-        call += 1;
+    for (call, gone) in rows {
         let mut output = Narrow::new(rt.alloc(), 1000, true);
         output.step = 10;
         output.interrupted = call;

@@ -186,8 +186,9 @@ impl PcapHeader {
 }
 
 impl Default for PcapHeader {
-    ghost is_default = { λ header. header ≡ default_header };
+    ghost is_default = { λ header. (header ≡ default_header) × IsTrue (is_magic header.magic_number) };
 
+    #[tactic(auto, unfolding(crate::specs::Magic::kind_of, crate::specs::Magic::is_magic))]
     fn default() -> PcapHeader {
         PcapHeader {
             magic_number: 0xa1b2c3d4,
