@@ -45,7 +45,21 @@ fn interrupted_calls(rt: HostRuntime) -> Result<(), Fail> {
     let packet = packet(contents.as_slice());
     // each call of the writer, and how many bytes went out before it, ten at most in one
     let rows = [
-        (1, 0), (2, 10), (3, 20), (4, 24), (5, 34), (6, 40), (7, 50), (8, 60), (9, 70), (10, 80), (11, 90), (12, 100), (13, 110), (14, 120), (15, 130),
+        (1, 0),
+        (2, 10),
+        (3, 20),
+        (4, 24),
+        (5, 34),
+        (6, 40),
+        (7, 50),
+        (8, 60),
+        (9, 70),
+        (10, 80),
+        (11, 90),
+        (12, 100),
+        (13, 110),
+        (14, 120),
+        (15, 130),
     ];
     for (call, gone) in rows {
         let mut output = Narrow::new(rt.alloc(), 1000, true);
