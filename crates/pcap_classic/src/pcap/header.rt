@@ -146,7 +146,7 @@ impl PcapHeader {
     pub fn write_to<W: Write, B: ByteOrder>(&self, writer: &mut W) -> ResultParsing<()>
         ensures { WritesAll (W.contents writer.old) (W.contents writer.new) (header_bytes B.bytes_of self.now) result }
     {
-        put(writer, &mut false, &self.bytes::<B>())
+        put(writer, &mut false, &self.to_bytes::<B>())
     }
 
     /// The 24 bytes that `write_to` writes. `OutOfMemory` where they can't be kept.
@@ -155,7 +155,7 @@ impl PcapHeader {
         ensures bytes { IfOk result (λ bytes. bytes.items ≡ header_bytes B.bytes_of self.now) }
         ensures memory { IfErr result IsMemory }
     {
-        Ok(Vec::from_slice(alloc, &self.bytes::<B>())?)
+        Ok(Vec::from_slice(alloc, &self.to_bytes::<B>())?)
     }
 
     /// The default header with this link type.
@@ -170,7 +170,7 @@ impl PcapHeader {
     }
 
     // The 24 bytes of the header, the magic number high byte first.
-    pub(crate) fn bytes<B: ByteOrder>(&self) -> [u8; 24]
+    pub(crate) fn to_bytes<B: ByteOrder>(&self) -> [u8; 24]
         ensures { result ≡ header_bytes B.bytes_of self.now }
     {
         let mut bytes = [0; 24];

@@ -122,7 +122,7 @@ impl PacketHeader {
     ) -> ResultParsing<()>
         ensures { WritesAll (W.contents writer.old) (W.contents writer.new) (packet_header_bytes B.bytes_of ts_resolution self.now) result }
     {
-        put(writer, &mut false, &self.bytes::<B>(ts_resolution))
+        put(writer, &mut false, &self.to_bytes::<B>(ts_resolution))
     }
 
     // The nanoseconds as they are written.
@@ -136,7 +136,7 @@ impl PacketHeader {
     }
 
     // The 16 bytes of the header.
-    pub(crate) fn bytes<B: ByteOrder>(&self, ts_resolution: TsResolution) -> [u8; 16]
+    pub(crate) fn to_bytes<B: ByteOrder>(&self, ts_resolution: TsResolution) -> [u8; 16]
         ensures { result ≡ packet_header_bytes B.bytes_of ts_resolution self.now }
     {
         let mut bytes = [0; 16];

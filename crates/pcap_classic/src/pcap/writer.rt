@@ -138,8 +138,8 @@ pub(crate) fn put_header<W: Write>(
     ensures told { MatchResult result (λ _. has_failed.new ≡ has_failed.old) (λ _. has_failed.new ≡ true) }
 {
     match header.endianness() {
-        Endianness::Big => put(writer, has_failed, &header.bytes::<BigEndian>()),
-        Endianness::Little => put(writer, has_failed, &header.bytes::<LittleEndian>()),
+        Endianness::Big => put(writer, has_failed, &header.to_bytes::<BigEndian>()),
+        Endianness::Little => put(writer, has_failed, &header.to_bytes::<LittleEndian>()),
     }
 }
 
@@ -166,7 +166,7 @@ fn bytes_under(header: &PcapHeader, packet: &PacketHeader) -> [u8; 16]
 {
     let ts_resolution = header.ts_resolution();
     match header.endianness() {
-        Endianness::Big => packet.bytes::<BigEndian>(ts_resolution),
-        Endianness::Little => packet.bytes::<LittleEndian>(ts_resolution),
+        Endianness::Big => packet.to_bytes::<BigEndian>(ts_resolution),
+        Endianness::Little => packet.to_bytes::<LittleEndian>(ts_resolution),
     }
 }

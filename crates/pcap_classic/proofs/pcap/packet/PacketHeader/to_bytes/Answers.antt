@@ -1,6 +1,6 @@
 use Rattle.std.proofs.Common.{◌≡◌, ℕ, ◌++◌, length, refl, ap, ◌∙◌}
 use Rattle.pcap_classic.proofs.Filling.{filled_first, filled_next, filled_whole, four}
-use Rattle.pcap_classic.proofs.pcap.packet.PacketHeader.bytes.Goals as goal
+use Rattle.pcap_classic.proofs.pcap.packet.PacketHeader.to_bytes.Goals as goal
 
 pub returns : goal.returns
 returns g c =
