@@ -191,10 +191,9 @@ impl<'a> Packet<'a> {
             captured result ≡ record { header = header; bytes = bytes.now } }
         ensures borrowed { IsBorrowed result.data_ }
     {
-        Packet {
-            header: PacketHeader::new(ts_sec, ts_nsec, bytes.len() as u32, orig_len),
-            data_: CowBytes::Borrowed(bytes),
-        }
+        let header = PacketHeader::new(ts_sec, ts_nsec, bytes.len() as u32, orig_len);
+        let data_ = CowBytes::Borrowed(bytes);
+        Packet { header, data_ }
     }
 
     /// The packet of owned bytes: seconds, nanoseconds, the bytes, and the original length in bytes. The stored length
@@ -206,10 +205,9 @@ impl<'a> Packet<'a> {
             captured result ≡ record { header = header; bytes = bytes.items } }
         ensures owned { IsOwned result.data_ }
     {
-        Packet {
-            header: PacketHeader::new(ts_sec, ts_nsec, bytes.len() as u32, orig_len),
-            data_: CowBytes::Owned(bytes),
-        }
+        let header = PacketHeader::new(ts_sec, ts_nsec, bytes.len() as u32, orig_len);
+        let data_ = CowBytes::Owned(bytes);
+        Packet { header, data_ }
     }
 
     /// The same packet with a copy of its bytes. `OutOfMemory` where they can't be copied.
