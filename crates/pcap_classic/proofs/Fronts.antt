@@ -22,3 +22,14 @@ stops f laws q left (errors.Utf8Error e) some h = record { rest = h; longest = f
 stops f laws q left (errors.FromUtf8Error e) some h = absurd h
 stops f laws q left (errors.OutOfMemory e) some h = absurd h
 stops f laws q left errors.WriterFailed some h = absurd h
+
+-- bytes that an item's text begins are not refused
+pub whole_not_refused : {S V : Type 0} (f : Format S V) → IsLawful f → (q : S) (s : List ℕ) (v : V) (rest : List ℕ) → f.says q s (whole v rest)
+    → (e : PcapError) → Refuses ⊥ (λ n. f.says q s (lacks n)) (λ fault. f.says q s (faulty fault)) e → ⊥
+whole_not_refused f laws q s v rest text (errors.IncompleteBuffer n) h = lacks_no_text f laws q n s h v rest text
+whole_not_refused f laws q s v rest text (errors.InvalidField t) h = fault_no_text f laws q (Invalid h.0) s h.2 v rest text
+whole_not_refused f laws q s v rest text (errors.IoError e) h = fault_no_text f laws q Io s h v rest text
+whole_not_refused f laws q s v rest text (errors.Utf8Error e) h = fault_no_text f laws q NoText s h v rest text
+whole_not_refused f laws q s v rest text (errors.FromUtf8Error e) h = h
+whole_not_refused f laws q s v rest text (errors.OutOfMemory e) h = h
+whole_not_refused f laws q s v rest text errors.WriterFailed h = h

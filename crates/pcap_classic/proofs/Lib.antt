@@ -15,3 +15,5 @@ pub mod Headed
 pub mod Writing
 pub mod Filling
 pub mod ReadCapture
+pub mod StreamBytes
+pub mod Pulling

@@ -1,5 +1,5 @@
 -- Packets are a lawful format.
-use Rattle.std.proofs.Common.{◌≡◌, ℕ, Bool, true, false, ◌≤◌, List, [], ◌∷◌, ◌++◌, length, refl, sym, ap, subst, ◌∙◌, arith, length-append}
+use Rattle.std.proofs.Common.{◌≡◌, ◌<◌, ℕ, Bool, true, false, ◌≤◌, List, [], ◌∷◌, ◌++◌, length, refl, sym, ap, subst, ◌∙◌, arith, length-append}
 use Rattle.pcap_classic.specs.declared.rules.Rule.TheVariants.{CaptureMagic}
 use Rattle.pcap_classic.specs.Faults.{Invalid}
 use Rattle.pcap_classic.specs.declared.common.TsResolution.{TsResolution}
@@ -121,3 +121,23 @@ unfolding reader_format
 reader_says limit header s v valid x =
     chosen_says (is_magic header.magic_number) (format_under limit header) refusing_format s v valid
     (packets_say limit (number_in (order_of header.magic_number)) (resolution_of header.magic_number) tt s v x)
+
+chosen_refuses : (b : Bool) (f g : Format (Unit {0}) Captured) (s : List ℕ) (v : Verdict Captured) → b ≡ false → g.says tt s v → (chosen b f g).says tt s v
+chosen_refuses false f g s v e x = x
+chosen_refuses true f g s v e x = absurd cc
+
+-- under any other it refuses the magic number where a byte is there
+pub reader_refuses : (limit : ℕ) (header : PcapHeader) (s : List ℕ) → is_magic header.magic_number ≡ false → 0 < length s → (reader_format limit header).says tt s (faulty (Invalid CaptureMagic))
+unfolding reader_format refusing_format
+reader_refuses limit header s invalid some =
+    chosen_refuses (is_magic header.magic_number) (format_under limit header) refusing_format s (faulty (Invalid CaptureMagic)) invalid (some, refl)
+
+chosen_whole : (b : Bool) (f : Format (Unit {0}) Captured) (s rest : List ℕ) (packet : Captured) → (chosen b f refusing_format).says tt s (whole packet rest) → (b ≡ true) × f.says tt s (whole packet rest)
+unfolding refusing_format
+chosen_whole true f s rest packet x = (refl, x)
+chosen_whole false f s rest packet x = absurd x
+
+-- what it gives was read under a valid magic number
+pub reader_whole : (limit : ℕ) (header : PcapHeader) (s rest : List ℕ) (packet : Captured) → (reader_format limit header).says tt s (whole packet rest) → is_magic header.magic_number ≡ true
+unfolding reader_format
+reader_whole limit header s rest packet x = (chosen_whole (is_magic header.magic_number) (format_under limit header) s rest packet x).0

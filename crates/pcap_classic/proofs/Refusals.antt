@@ -6,7 +6,7 @@ use Rattle.pcap_classic.specs.declared.errors.PcapError.{PcapError}
 use Rattle.pcap_classic.specs.declared.errors.PcapError.TheVariants as errors
 use Rattle.pcap_classic.specs.declared.rules.Rule.{Rule}
 use Rattle.pcap_classic.specs.Answer.{Verdict, lacks, faulty, Refuses, TellsWhere}
-use Rattle.pcap_classic.specs.Faults.{Fault, Invalid, Names}
+use Rattle.pcap_classic.specs.Faults.{Fault, Invalid, Io, NoText, Names, Shows}
 
 pub named_refuses : (M : Type 0) (L : ℕ → Type 0) (F : Fault → Type 0) (rule : Rule) (e : PcapError) → F (Invalid rule) → Names rule e → Refuses M L F e
 named_refuses M L F rule (errors.InvalidField text) stands named = (rule, named, stands)
@@ -22,3 +22,22 @@ pub named_tells : {X V : Type 0} (M : Type 0) (IsSaid : Verdict V → Type 0) (v
     → IsSaid (faulty (Invalid rule)) → IsErrAnd result (Names rule) → TellsWhere M IsSaid view result
 named_tells M IsSaid view rule (Err e) stands named = named_refuses M (λ n. IsSaid (lacks n)) (λ fault. IsSaid (faulty fault)) rule e stands named
 named_tells M IsSaid view rule (Ok x) stands named = absurd named
+
+-- the error shows what follows from the fault that it shows
+pub shows_more : {P Q : Fault → Type 0} → ((fault : Fault) → P fault → Q fault) → (e : PcapError) → Shows P e → Shows Q e
+shows_more step (errors.InvalidField text) shown = (shown.0, shown.1, step (Invalid shown.0) shown.2)
+shows_more step (errors.IoError e) shown = step Io shown
+shows_more step (errors.Utf8Error e) shown = step NoText shown
+shows_more step (errors.IncompleteBuffer n) shown = absurd shown
+shows_more step (errors.FromUtf8Error e) shown = absurd shown
+shows_more step (errors.OutOfMemory e) shown = absurd shown
+shows_more step errors.WriterFailed shown = absurd shown
+
+pub named_shows : (Stands : Fault → Type 0) (rule : Rule) (e : PcapError) → Stands (Invalid rule) → Names rule e → Shows Stands e
+named_shows Stands rule (errors.InvalidField text) stands named = (rule, named, stands)
+named_shows Stands rule (errors.IncompleteBuffer n) stands named = absurd named
+named_shows Stands rule (errors.IoError e) stands named = absurd named
+named_shows Stands rule (errors.Utf8Error e) stands named = absurd named
+named_shows Stands rule (errors.FromUtf8Error e) stands named = absurd named
+named_shows Stands rule (errors.OutOfMemory e) stands named = absurd named
+named_shows Stands rule errors.WriterFailed stands named = absurd named

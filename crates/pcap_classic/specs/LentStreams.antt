@@ -1,5 +1,6 @@
 -- Values with another stream in them.
-use Rattle.pcap_classic.specs.declared.stream.Told.{Told}
+use Rattle.pcap_classic.specs.declared.stream.told.Told.{Told}
+use Rattle.pcap_classic.specs.declared.stream.fill.Fill.{Fill}
 use Rattle.pcap_classic.specs.declared.pcap.writer.PcapWriter.{PcapWriter}
 
 abbrev pub told_with : {T : Type 0} → Told T → T → Told T
@@ -7,3 +8,6 @@ told_with t x = record t { inner = x }
 
 abbrev pub writer_with : {W : Type 0} → PcapWriter W → W → PcapWriter W
 writer_with w x = record w { told = told_with w.told x }
+
+abbrev pub fill_with : {T : Type 0} → Fill T → T → Fill T
+fill_with f x = record f { told = told_with f.told x }

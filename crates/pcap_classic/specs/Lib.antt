@@ -16,6 +16,13 @@ pub mod Headed
 pub mod Written
 pub mod Early
 pub mod Told
+pub mod Held
+pub mod Fill
+pub mod Streams
+pub mod Reading
+pub mod Asked
+pub mod Takes
+pub mod Reader
 pub mod LentStreams
 pub mod Writing
 pub mod Errors

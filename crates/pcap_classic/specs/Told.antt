@@ -1,6 +1,6 @@
 -- A stream that remembers whether a call of it failed.
 use Rattle.std.specs.Prelude.{Bool}
-use Rattle.pcap_classic.specs.declared.stream.Told.{Told}
+use Rattle.pcap_classic.specs.declared.stream.told.Told.{Told}
 
 -- the stream behind it
 abbrev pub stream_of : {T : Type 0} → Told T → T

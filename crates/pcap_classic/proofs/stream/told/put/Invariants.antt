@@ -1,6 +1,6 @@
 use Rattle.std.proofs.Common.{◌≡◌, length}
 use Rattle.pcap_classic.specs.Writing.{Writes}
-use Rattle.pcap_classic.proofs.stream.put.Given as goal
+use Rattle.pcap_classic.proofs.stream.told.put.Given as goal
 
 abbrev pub invariant-loop-rest : goal.invariant-loop-rest
 invariant-loop-rest g l = record {

@@ -1,0 +1,26 @@
+-- What asking the slice call of held bytes tells.
+use Rattle.std.specs.Prelude.{◌≡◌, ℕ, List, [], Bool, true, false, Option, Result, Ok, Err}
+use Rattle.std.specs.Io.KnownBytes.{Consumes, Keeps, IsAtEnd}
+use Rattle.pcap_classic.specs.declared.errors.PcapError.{PcapError}
+use Rattle.pcap_classic.specs.declared.pcap.reader.Asked.{Asked}
+use Rattle.pcap_classic.specs.declared.pcap.reader.Asked.TheVariants.{Whole, Needs, Refused}
+use Rattle.pcap_classic.specs.Answer.{Verdict, whole, lacks, faulty}
+use Rattle.pcap_classic.specs.Faults.{Shows}
+use Rattle.pcap_classic.specs.Reading.{HasCause}
+
+-- an item begins the bytes, or so many lack, or they are refused
+abbrev pub AskTells : {V : Type 0} → (Verdict V → Type 0) → Asked → Type 0
+AskTells {V = V} IsSaid Whole = (v : V) × (rest : List ℕ) × IsSaid (whole v rest)
+AskTells IsSaid (Needs n) = IsSaid (lacks n)
+AskTells IsSaid (Refused e) = Shows (λ fault. IsSaid (faulty fault)) e
+
+-- the bytes are an item's text, and no more
+abbrev pub HoldsItem : {V : Type 0} → (Verdict V → Type 0) → Type 0
+HoldsItem {V = V} IsSaid = (v : V) × IsSaid (whole v [])
+
+-- the held bytes are an item's text, which was taken and no more; or nothing is held at the end of the stream; or a refusal
+abbrev pub FillsItem : {V : Type 0} → (List ℕ → Verdict V → Type 0) → Option (List ℕ) → Option (List ℕ) → List ℕ → Bool → Result Bool PcapError → Type 0
+FillsItem IsSaid before after held failed (Ok true) = (failed ≡ false) × HoldsItem (IsSaid held) × Consumes before after held
+FillsItem IsSaid before after held failed (Ok false) = (failed ≡ false) × (held ≡ []) × IsAtEnd before × Keeps before after
+FillsItem IsSaid before after held failed (Err e) = HasCause IsSaid before failed e
+

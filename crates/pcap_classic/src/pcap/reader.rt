@@ -1,0 +1,120 @@
+//! Packets of a stream.
+
+ghost use Rattle.std.specs.Prelude.{◌≡◌, ◌<◌, ⊤, false, [], length, IsTrue, OnOk, IfOk, IfErr};
+ghost use Rattle.std.specs.Borrow.{sem, Lends};
+ghost use Rattle.pcap_classic.specs.Answer.{whole};
+ghost use Rattle.pcap_classic.specs.Asked.{AskTells, FillsItem, HoldsItem};
+ghost use Rattle.pcap_classic.specs.Held.{held_bytes};
+ghost use Rattle.pcap_classic.specs.HeaderText.{HeaderSays};
+ghost use Rattle.pcap_classic.specs.Magic.{is_magic};
+ghost use Rattle.pcap_classic.specs.Packets.{reader_format};
+ghost use Rattle.pcap_classic.specs.PacketText.{packet_limit, captured};
+ghost use Rattle.pcap_classic.specs.Reading.{NextGives, Pulls};
+
+use crate::pcap::packet::packet_under;
+use crate::pcap::{Packet, PcapHeader};
+use crate::rules::Rule;
+use crate::stream::{Fill, Held, Told, more_of};
+use crate::{PcapError, ResultParsing};
+use std::alloc::Global;
+use std::io::Read;
+
+/// Reads the packets of a capture off a stream, one for each call of `next`.
+///
+/// `next` is None where the stream ends between packets; the next call asks the stream again. After its first refusal it
+/// is None for good. Between packets exactly the bytes of the header and of the packets were taken.
+#[derive(Debug, Drop)]
+pub struct PcapReader<T> {
+    /// The header of the capture. Each packet is read under the header as it stands.
+    pub header: PcapHeader,
+    alloc: Global,
+    fill: Fill<T>,
+    is_done: bool,
+    ghost between: { is_done ≡ false → held_bytes fill.held ≡ [] },
+    ghost unfailed: { is_done ≡ false → fill.told.has_failed ≡ false },
+}
+
+/// What the slice call says of the held bytes.
+#[derive(Drop)]
+pub enum Asked {
+    /// A packet begins them.
+    Whole,
+    /// So many bytes are missing.
+    Needs(usize),
+    /// They are refused.
+    Refused(PcapError),
+}
+
+// What the slice call says of these bytes under the header as it stands.
+#[tactic(auto, unfolding(crate::specs::Packets::packet_format, crate::specs::Packets::refusing_format, crate::specs::Packets::reader_format))]
+fn ask(header: &PcapHeader, held: &[u8]) -> Asked
+    ensures { AskTells ((reader_format packet_limit header.now).says tt held.now) result }
+{
+    if !header.has_valid_magic() {
+        if held.is_empty() {
+            return Asked::Needs(1);
+        }
+        return Asked::Refused(PcapError::from(Rule::CaptureMagic));
+    }
+    match packet_under(header, held) {
+        Ok(_) => Asked::Whole,
+        Err(PcapError::IncompleteBuffer(n)) => Asked::Needs(n),
+        Err(e) => Asked::Refused(e),
+    }
+}
+
+// Fills what is held with the next packet. Nothing is held before it, nor where it answers false.
+pub(crate) fn fill_packet<T: Read>(
+    header: &PcapHeader,
+    stream: &mut T,
+    has_failed: &mut bool,
+    held: &mut Held,
+) -> ResultParsing<bool>
+    requires between { held_bytes held.old ≡ [] }
+    requires unfailed { has_failed.old ≡ false }
+    ensures { FillsItem ((reader_format packet_limit header.now).says tt) (T.remaining stream.old) (T.remaining stream.new) (held_bytes held.new) has_failed.new result }
+{
+    'asking: loop {
+        match ask(header, held.as_slice()) {
+            Asked::Whole => return Ok(true),
+            Asked::Needs(n) => {
+                if !more_of(stream, has_failed, held, n)? {
+                    return Ok(false);
+                }
+            }
+            Asked::Refused(e) => return Err(e),
+        }
+    }
+}
+
+// The packet that the bytes are, lent from them.
+pub(crate) fn whole_packet<'a>(header: &PcapHeader, bytes: &'a [u8]) -> Packet<'a>
+    requires { HoldsItem ((reader_format packet_limit header.now).says tt bytes.now) }
+    ensures { (reader_format packet_limit header.now).says tt bytes.now (whole (captured result) []) }
+{
+    match packet_under(header, bytes) {
+        Ok((_, packet)) => packet,
+        Err(_) => unreachable!(),
+    }
+}
+
+// Takes the next packet. Nothing is held before it, nor after an `Ok`.
+pub(crate) fn pull<T: Read>(
+    alloc: Global,
+    header: &PcapHeader,
+    stream: &mut T,
+    has_failed: &mut bool,
+    held: &mut Held,
+) -> ResultParsing<Option<Packet<'static>>>
+    requires between { held_bytes held.old ≡ [] }
+    requires unfailed { has_failed.old ≡ false }
+    ensures pulls { Pulls ((reader_format packet_limit header.now).says tt) captured (T.remaining stream.old) (T.remaining stream.new) has_failed.new result }
+    ensures between { OnOk result (held_bytes held.new ≡ []) }
+{
+    if !fill_packet(header, stream, has_failed, held)? {
+        return Ok(None);
+    }
+    let packet = whole_packet(header, held.as_slice()).to_owned(alloc)?;
+    held.clear();
+    Ok(Some(packet))
+}
