@@ -137,7 +137,8 @@ unfolding refusing_format
 chosen_whole true f s rest packet x = (refl, x)
 chosen_whole false f s rest packet x = absurd x
 
--- what it gives was read under a valid magic number
-pub reader_whole : (limit : ℕ) (header : PcapHeader) (s rest : List ℕ) (packet : Captured) → (reader_format limit header).says tt s (whole packet rest) → is_magic header.magic_number ≡ true
+-- what it gives was read under a valid magic number, and is a packet's text
+pub reader_whole : (limit : ℕ) (header : PcapHeader) (s rest : List ℕ) (packet : Captured) → (reader_format limit header).says tt s (whole packet rest)
+    → (is_magic header.magic_number ≡ true) × (format_under limit header).says tt s (whole packet rest)
 unfolding reader_format
-reader_whole limit header s rest packet x = (chosen_whole (is_magic header.magic_number) (format_under limit header) s rest packet x).0
+reader_whole limit header s rest packet x = chosen_whole (is_magic header.magic_number) (format_under limit header) s rest packet x

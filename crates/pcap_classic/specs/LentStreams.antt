@@ -1,6 +1,7 @@
 -- Values with another stream in them.
 use Rattle.pcap_classic.specs.declared.stream.told.Told.{Told}
 use Rattle.pcap_classic.specs.declared.stream.fill.Fill.{Fill}
+use Rattle.pcap_classic.specs.declared.pcap.reader.PcapReader.{PcapReader}
 use Rattle.pcap_classic.specs.declared.pcap.writer.PcapWriter.{PcapWriter}
 
 abbrev pub told_with : {T : Type 0} → Told T → T → Told T
@@ -11,3 +12,6 @@ writer_with w x = record w { told = told_with w.told x }
 
 abbrev pub fill_with : {T : Type 0} → Fill T → T → Fill T
 fill_with f x = record f { told = told_with f.told x }
+
+abbrev pub reader_with : {T : Type 0} → PcapReader T → T → PcapReader T
+reader_with r x = record r { fill = fill_with r.fill x }

@@ -118,3 +118,83 @@ pub(crate) fn pull<T: Read>(
     held.clear();
     Ok(Some(packet))
 }
+
+impl<T> PcapReader<T> {
+    ghost use Rattle.pcap_classic.specs.contracts.pcap.reader.PcapReader.{the_row as reader-row};
+    ghost use Rattle.pcap_classic.specs.LentStreams.{reader_with};
+    ghost use Rattle.pcap_classic.specs.Reader.{stream_of, has_failed, is_done};
+
+    // A reader of the packets that stand behind this header.
+    pub(crate) fn behind(alloc: Global, header: PcapHeader, stream: T) -> PcapReader<T>
+        ensures header { result.header ≡ header }
+        ensures stream { stream_of result ≡ stream }
+        ensures unfailed { has_failed result ≡ false }
+        ensures ready { is_done result ≡ false }
+    {
+        PcapReader {
+            header,
+            alloc,
+            fill: Fill::new(alloc, Told::new(stream)),
+            is_done: false,
+        }
+    }
+
+    /// Gives the wrapped stream back.
+    pub fn into_reader(self) -> T
+        ensures { result ≡ stream_of self }
+    {
+        self.fill.into_inner()
+    }
+
+    /// The wrapped stream.
+    pub fn get_ref(&self) -> &T
+        ensures { result.now ≡ stream_of self.now }
+    {
+        self.fill.get_ref()
+    }
+
+    /// The wrapped stream. What is read of it directly is no packet of this reader's.
+    pub fn get_mut(&mut self) -> &mut T
+        ensures value { result.now ≡ stream_of self.old }
+        ensures* writes_back { sem 𝓛 (Lends (reader-row T.row) T.row self.entry result (reader_with self.old)) }
+    {
+        self.fill.get_mut()
+    }
+
+    /// Whether a read of the wrapped stream failed.
+    pub fn failed(&self) -> bool
+        ensures { result ≡ has_failed self.now }
+    {
+        self.fill.failed()
+    }
+}
+
+impl<T: Read + Drop> Iterator for PcapReader<T> {
+    ghost use Rattle.pcap_classic.specs.Reader.{stream_of, has_failed, is_done};
+
+    type Item = ResultParsing<Packet<'static>>;
+
+    ghost next_gives = { λ s r t. (t.header ≡ s.header)
+        × NextGives ((reader_format packet_limit s.header).says tt) captured (T.remaining (stream_of s)) (T.remaining (stream_of t)) (is_done s) (is_done t) (has_failed s) (has_failed t) r };
+
+    fn next(&mut self) -> Option<ResultParsing<Packet<'static>>> {
+        if self.is_done {
+            return None;
+        }
+        let taken = pull(
+            self.alloc,
+            &self.header,
+            &mut self.fill.told.inner,
+            &mut self.fill.told.has_failed,
+            &mut self.fill.held,
+        );
+        match taken {
+            Ok(None) => None,
+            Ok(Some(packet)) => Some(Ok(packet)),
+            Err(e) => {
+                self.is_done = true;
+                Some(Err(e))
+            }
+        }
+    }
+}
