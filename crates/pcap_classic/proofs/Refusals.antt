@@ -41,3 +41,13 @@ named_shows Stands rule (errors.Utf8Error e) stands named = absurd named
 named_shows Stands rule (errors.FromUtf8Error e) stands named = absurd named
 named_shows Stands rule (errors.OutOfMemory e) stands named = absurd named
 named_shows Stands rule errors.WriterFailed stands named = absurd named
+
+-- where no bytes can lack, a refusal shows a fault
+pub refuses_shows : (L : ℕ → Type 0) (F : Fault → Type 0) (e : PcapError) → ((n : ℕ) → L n → ⊥) → Refuses ⊥ L F e → Shows F e
+refuses_shows L F (errors.InvalidField text) none refuses = refuses
+refuses_shows L F (errors.IoError e) none refuses = refuses
+refuses_shows L F (errors.Utf8Error e) none refuses = refuses
+refuses_shows L F (errors.IncompleteBuffer n) none refuses = absurd (none n refuses)
+refuses_shows L F (errors.FromUtf8Error e) none refuses = refuses
+refuses_shows L F (errors.OutOfMemory e) none refuses = refuses
+refuses_shows L F errors.WriterFailed none refuses = refuses

@@ -11,11 +11,14 @@ use Rattle.pcap_classic.specs.Faults.{Fault, Shows}
 abbrev pub Takes : {V : Type 0} → (List ℕ → Verdict V → Type 0) → Option (List ℕ) → Option (List ℕ) → V → Type 0
 Takes IsSaid before after v = (t : List ℕ) × IsSaid t (whole v []) × Consumes before after t
 
--- bytes are left, and more are missing
-pub record IsTorn {V : Type 0} (IsSaid : List ℕ → Verdict V → Type 0) (rest : List ℕ) : Type 0 where
+-- bytes are missing
+pub record IsShort {V : Type 0} (IsSaid : List ℕ → Verdict V → Type 0) (rest : List ℕ) : Type 0 where
   pub n : ℕ
   pub lack : IsSaid rest (lacks n)
-  pub some : 0 < length rest
+
+-- some bytes are left, and more are missing
+abbrev pub IsTorn : {V : Type 0} → (List ℕ → Verdict V → Type 0) → List ℕ → Type 0
+IsTorn IsSaid rest = (0 < length rest) × IsShort IsSaid rest
 
 -- the grammar has this fault, and a rest that is known shows it: it stands there, or is certain before the text is whole
 pub record IsFaultOf {V : Type 0} (IsSaid : List ℕ → Verdict V → Type 0) (known : Option (List ℕ)) (fault : Fault) : Type 0 where
@@ -47,6 +50,13 @@ NextGives IsSaid view before after true done old new (Some r) = ⊥
 NextGives IsSaid view before after false done old new None = (done ≡ false) × (new ≡ false) × IsAtEnd before × Keeps before after
 NextGives IsSaid view before after false done old new (Some (Ok x)) = (done ≡ false) × (new ≡ false) × Takes IsSaid before after (view x)
 NextGives IsSaid view before after false done old new (Some (Err e)) = (done ≡ true) × HasCause IsSaid before new e
+
+-- one call that reads a value off a stream that had not failed, and tells whether it failed then: the value's text was taken
+-- and no more, or a read failed, or the stream ended before the text did, or the bytes are refused
+abbrev pub ReadsTold : {X V : Type 0} → (List ℕ → Verdict V → Type 0) → (X → V) → Option (List ℕ) → Option (List ℕ) → Bool → Result X PcapError → Type 0
+ReadsTold IsSaid view before after failed (Ok x) = (failed ≡ false) × Takes IsSaid before after (view x)
+ReadsTold IsSaid view before after failed (Err e) =
+    (IsIo e × (failed ≡ true)) ⊎ (IsIo e × (failed ≡ false) × IfSome before (IsShort IsSaid)) ⊎ (Shows (IsFaultOf IsSaid before) e × (failed ≡ false))
 
 -- one call that reads a value off a borrowed stream, and grows something only under this condition: its text was taken
 -- and no more, or a read failed or the stream ended early, or memory ran out, or the bytes are refused

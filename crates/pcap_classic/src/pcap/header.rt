@@ -1,22 +1,23 @@
 //! The header of a capture.
 
-ghost use Rattle.std.specs.Prelude.{◌≡◌, ◌≤◌, ◌+◌, ◌↔◌, Some, length, IsTrue, IfOk, IfErr};
+ghost use Rattle.std.specs.Prelude.{◌≡◌, ◌≤◌, ◌+◌, ◌↔◌, Some, false, length, IsTrue, IfOk, IfErr};
 ghost use Rattle.std.specs.Int.{w32, cast_signed};
 ghost use Rattle.pcap_classic.specs.Answer.{Tells, Number};
 ghost use Rattle.pcap_classic.specs.Magic.{kind_of, is_magic, order_of, resolution_of, magic_for};
 ghost use Rattle.pcap_classic.specs.HeaderText.{FieldsText, HeaderSays};
 ghost use Rattle.pcap_classic.specs.Defaults.{default_header};
 ghost use Rattle.pcap_classic.specs.Errors.{IsMemory};
+ghost use Rattle.pcap_classic.specs.Reading.{Reads, ReadsTold};
 ghost use Rattle.pcap_classic.specs.Writing.{WritesAll};
 ghost use Rattle.pcap_classic.specs.Written.{header_bytes};
 
 use crate::pcap::fields::{split_u16, split_u32};
 use crate::rules::Rule;
-use crate::stream::put;
+use crate::stream::{fill_array, put};
 use crate::{DataLink, Endianness, PcapError, ResultParsing, TsResolution};
 use byteorder::{BigEndian, ByteOrder, LittleEndian};
 use std::alloc::Global;
-use std::io::Write;
+use std::io::{Read, Write};
 
 /// The header at the front of a capture, 24 bytes.
 #[derive(Clone, Copy, Debug, PartialEq, Eq)]
@@ -62,6 +63,15 @@ fn split_fields<B: ByteOrder>(magic_number: u32, bytes: &[u8]) -> (&[u8], PcapHe
 }
 
 impl PcapHeader {
+    /// Reads a header off a stream. Exactly its 24 bytes are taken.
+    ///
+    /// `InvalidField` where the magic number is none of the four. `IoError` where a read failed, or the stream ended early.
+    pub fn from_reader<R: Read>(reader: &mut R) -> ResultParsing<PcapHeader>
+        ensures { Reads HeaderSays (λ header. header) (R.remaining reader.old) (R.remaining reader.new) result }
+    {
+        read_header(reader, &mut false)
+    }
+
     /// The header at the front of a slice, and what follows it.
     ///
     /// `IncompleteBuffer` under 24 bytes, and `InvalidField` where the magic number is none of the four.
@@ -214,4 +224,18 @@ fn magic_of(endianness: Endianness, ts_resolution: TsResolution) -> u32
         (Endianness::Little, TsResolution::MicroSecond) => 0xd4c3b2a1,
         (Endianness::Little, TsResolution::NanoSecond) => 0x4d3cb2a1,
     }
+}
+
+// Reads a header off a stream that has not failed, and says whether it failed then.
+pub(crate) fn read_header<R: Read>(
+    reader: &mut R,
+    has_failed: &mut bool,
+) -> ResultParsing<PcapHeader>
+    requires { has_failed.old ≡ false }
+    ensures { ReadsTold HeaderSays (λ header. header) (R.remaining reader.old) (R.remaining reader.new) has_failed.new result }
+{
+    let mut bytes = [0; 24];
+    fill_array(reader, has_failed, &mut bytes)?;
+    let (_, header) = PcapHeader::from_slice(&bytes)?;
+    Ok(header)
 }

@@ -39,7 +39,7 @@ returns-in_err-more_of-in-Needs g c =
     let held = held_bytes c.asking.held in
     let ask : f.says tt held (lacks c.in-Needs.n) = rw (← c.as_slice.ensures) c.in-Needs.ensures in
     let p = err_from_is_err_and c.from_residual.result c.from_residual.ensures.1 in
-    rw (p.1, p.2) (unmet_cause f laws tt _ held c.in-Needs.n ask _ _ _ _ c.asking.invariant.unfailed c.asking.invariant.came c.in_err-more_of-in-Needs.ensures.cause)
+    rw (p.1, p.2) (unmet_cause (f.says tt) (laws.stable tt) _ held c.in-Needs.n ask _ _ _ _ c.asking.invariant.unfailed c.asking.invariant.came c.in_err-more_of-in-Needs.ensures.cause)
 
 pub asking-smaller : goal.asking-smaller
 asking-smaller g c =
@@ -67,4 +67,4 @@ pub returns-in-Refused : goal.returns-in-Refused
 returns-in-Refused g c =
     let f = reader_format packet_limit c.args.header.now in
     let laws = reader_lawful packet_limit c.args.header.now in
-    asked_cause f laws tt _ (held_bytes c.asking.held) (rw (← c.as_slice.ensures) c.in-Refused.ensures) _ _ _ c.asking.invariant.unfailed c.asking.invariant.came
+    asked_cause (f.says tt) (laws.stable tt) _ (held_bytes c.asking.held) (rw (← c.as_slice.ensures) c.in-Refused.ensures) _ _ _ c.asking.invariant.unfailed c.asking.invariant.came
