@@ -17,3 +17,4 @@ pub mod Filling
 pub mod ReadCapture
 pub mod StreamBytes
 pub mod Pulling
+pub mod PacketStream

@@ -1,7 +1,12 @@
 -- What a reader shows.
-use Rattle.std.specs.Prelude.{Bool}
+use Rattle.std.specs.Prelude.{◌≡◌, ◌⊎◌, ℕ, List, Bool, false, Option, Result, Ok, Err}
+use Rattle.pcap_classic.specs.declared.errors.PcapError.{PcapError}
 use Rattle.pcap_classic.specs.declared.pcap.reader.PcapReader.{PcapReader}
+use Rattle.pcap_classic.specs.Errors.{IsIo}
+use Rattle.pcap_classic.specs.Faults.{Shows}
 use Rattle.pcap_classic.specs.Fill as fill
+use Rattle.pcap_classic.specs.HeaderText.{HeaderSays}
+use Rattle.pcap_classic.specs.Reading.{IsFaultOf, Takes}
 
 -- the stream behind a reader
 abbrev pub stream_of : {T : Type 0} → PcapReader T → T
@@ -14,3 +19,10 @@ has_failed reader = fill.has_failed reader.fill
 -- the reader has refused something
 abbrev pub is_done : {T : Type 0} → PcapReader T → Bool
 is_done reader = reader.is_done
+
+-- one call that makes a reader: the header's text was taken and no more, and nothing failed; or a read failed or the stream
+-- ended early, or the header is refused
+abbrev pub OpensReader : {T : Type 0} → (T → Option (List ℕ)) → T → Result (PcapReader T) PcapError → Type 0
+OpensReader remaining stream (Ok reader) =
+    (is_done reader ≡ false) × (has_failed reader ≡ false) × Takes HeaderSays (remaining stream) (remaining (stream_of reader)) reader.header
+OpensReader remaining stream (Err e) = IsIo e ⊎ Shows (IsFaultOf HeaderSays (remaining stream)) e

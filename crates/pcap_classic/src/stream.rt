@@ -7,6 +7,6 @@ mod told;
 pub use fill::Fill;
 pub use told::Told;
 
-pub(crate) use fill::{fill_array, more_of};
+pub(crate) use fill::{fill_array, more_of, take_bytes};
 pub(crate) use held::Held;
 pub(crate) use told::put;

@@ -1,12 +1,13 @@
 //! Packets.
 
-ghost use Rattle.std.specs.Prelude.{◌≡◌, ◌≤◌, ◌<◌, ◌*◌, ◌+◌, ◌^◌, length, IsOk, IfOk, IfErr, MatchResult, IsTrue};
+ghost use Rattle.std.specs.Prelude.{⊤, ◌≡◌, ◌≤◌, ◌<◌, ◌*◌, ◌+◌, ◌^◌, length, IsOk, IfOk, IfErr, MatchResult, IsTrue};
 ghost use Rattle.std.specs.Duration.{as_nanos};
 ghost use Rattle.pcap_classic.specs.Answer.{Tells, number_in};
 ghost use Rattle.pcap_classic.specs.Faults.{Invalid};
 ghost use Rattle.pcap_classic.specs.Magic.{is_magic, order_of, resolution_of};
 ghost use Rattle.pcap_classic.specs.Bytes.{IsBorrowed, IsOwned};
 ghost use Rattle.pcap_classic.specs.Errors.{IsMemory};
+ghost use Rattle.pcap_classic.specs.Reading.{Reads, ReadsWhere};
 ghost use Rattle.pcap_classic.specs.Writing.{WritesAll};
 ghost use Rattle.pcap_classic.specs.Written.{fraction_of, packet_header_bytes};
 ghost use Rattle.pcap_classic.specs.PacketText.{packet_limit, Head, IsGood, IsHeadFault, spelled_header, captured, PacketHeaderSays, PacketSays};
@@ -14,11 +15,11 @@ ghost use Rattle.pcap_classic.specs.PacketText.{packet_limit, Head, IsGood, IsHe
 use crate::pcap::PcapHeader;
 use crate::pcap::fields::split_u32;
 use crate::rules::Rule;
-use crate::stream::put;
+use crate::stream::{fill_array, put, take_bytes};
 use crate::{CowBytes, Endianness, PcapError, ResultParsing, TsResolution};
 use byteorder::{BigEndian, ByteOrder, LittleEndian};
 use std::alloc::Global;
-use std::io::Write;
+use std::io::{Read, Write};
 use std::time::Duration;
 
 /// The most bytes that a packet's stored or original length may say.
@@ -82,6 +83,21 @@ impl PacketHeader {
             incl_len,
             orig_len,
         }
+    }
+
+    /// Reads a header off a stream. Exactly its 16 bytes are taken.
+    ///
+    /// `InvalidField` for the first rule that the header breaks. `IoError` where a read failed, or the stream ended early.
+    pub fn from_reader<R: Read, B: ByteOrder>(
+        reader: &mut R,
+        ts_resolution: TsResolution,
+    ) -> ResultParsing<PacketHeader>
+        ensures { Reads (PacketHeaderSays packet_limit B.number_of ts_resolution) (λ header. header) (R.remaining reader.old) (R.remaining reader.new) result }
+    {
+        let mut bytes = [0; 16];
+        fill_array(reader, &mut false, &mut bytes)?;
+        let (_, header) = PacketHeader::from_slice::<B>(&bytes, ts_resolution)?;
+        Ok(header)
     }
 
     /// The header at the front of a slice, and what follows it.
@@ -158,6 +174,26 @@ pub struct Packet<'a> {
 }
 
 impl<'a> Packet<'a> {
+    /// Reads a packet off a stream. Exactly its bytes are taken.
+    ///
+    /// `InvalidField` for the first rule that the packet's header breaks. `IoError` where a read failed, or the stream ended
+    /// early. `OutOfMemory` where its bytes can't be kept: room grows with the bytes that come.
+    pub fn from_reader<R: Read, B: ByteOrder>(
+        alloc: Global,
+        reader: &mut R,
+        ts_resolution: TsResolution,
+    ) -> ResultParsing<Packet<'static>>
+        ensures packet { ReadsWhere ⊤ (PacketSays packet_limit B.number_of ts_resolution) captured (R.remaining reader.old) (R.remaining reader.new) result }
+        ensures owned { IfOk result (λ packet. IsOwned packet.data_) }
+    {
+        let header = PacketHeader::from_reader::<R, B>(reader, ts_resolution)?;
+        let bytes = take_bytes(alloc, reader, header.incl_len as usize)?;
+        Ok(Packet {
+            header,
+            data_: CowBytes::Owned(bytes),
+        })
+    }
+
     /// The packet at the front of a slice, and what follows it. Its bytes are borrowed from the slice.
     ///
     /// `IncompleteBuffer` where bytes of the header, or then of the data, are missing, and `InvalidField` for the

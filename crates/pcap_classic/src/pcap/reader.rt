@@ -119,10 +119,8 @@ pub(crate) fn pull<T: Read>(
     Ok(Some(packet))
 }
 
-impl<T> PcapReader<T> {
-    ghost use Rattle.pcap_classic.specs.contracts.pcap.reader.PcapReader.{the_row as reader-row};
-    ghost use Rattle.pcap_classic.specs.LentStreams.{reader_with};
-    ghost use Rattle.pcap_classic.specs.Reader.{stream_of, has_failed, is_done};
+impl<T: Read + Drop> PcapReader<T> {
+    ghost use Rattle.pcap_classic.specs.Reader.{stream_of, has_failed, is_done, OpensReader};
 
     // A reader of the packets that stand behind this header.
     pub(crate) fn behind(alloc: Global, header: PcapHeader, stream: T) -> PcapReader<T>
@@ -138,6 +136,23 @@ impl<T> PcapReader<T> {
             is_done: false,
         }
     }
+
+    /// Reads the header of a capture off a stream, and makes a reader of the packets behind it. A refused call drops the
+    /// stream.
+    ///
+    /// `InvalidField` where the magic number is none of the four. `IoError` where a read failed, or the stream ended early.
+    pub fn new(alloc: Global, mut reader: T) -> ResultParsing<PcapReader<T>>
+        ensures { OpensReader T.remaining reader result }
+    {
+        let header = PcapHeader::from_reader(&mut reader)?;
+        Ok(PcapReader::behind(alloc, header, reader))
+    }
+}
+
+impl<T> PcapReader<T> {
+    ghost use Rattle.pcap_classic.specs.contracts.pcap.reader.PcapReader.{the_row as reader-row};
+    ghost use Rattle.pcap_classic.specs.LentStreams.{reader_with};
+    ghost use Rattle.pcap_classic.specs.Reader.{stream_of, has_failed, is_done};
 
     /// Gives the wrapped stream back.
     pub fn into_reader(self) -> T

@@ -1,10 +1,10 @@
 //! A buffer that is filled from a stream as bytes are asked for.
 
-ghost use Rattle.std.specs.Prelude.{◌≡◌, ◌<◌, ◌≤◌, ◌+◌, take, drop, min, length, [], IfOk, IfErr, OnOk, OnErr};
+ghost use Rattle.std.specs.Prelude.{◌≡◌, ◌<◌, ◌≤◌, ◌+◌, ◌⊎◌, take, drop, min, length, [], IfOk, IfErr, OnOk, OnErr};
 ghost use Rattle.std.specs.Borrow.{sem, Lends};
 ghost use Rattle.std.specs.Io.KnownBytes.{Keeps, Consumes, IsAtEnd};
 ghost use Rattle.pcap_classic.specs.contracts.stream.fill.Fill.{the_row as fill-row};
-ghost use Rattle.pcap_classic.specs.Errors.{IsIo};
+ghost use Rattle.pcap_classic.specs.Errors.{IsMemory, IsIo};
 ghost use Rattle.pcap_classic.specs.Fill.{told_of, held_of, source_of, has_failed};
 ghost use Rattle.pcap_classic.specs.Held.{held_bytes};
 ghost use Rattle.pcap_classic.specs.LentStreams.{fill_with};
@@ -175,6 +175,23 @@ pub(crate) fn more_of<T: Read>(
         missing -= taken;
     }
     Ok(true)
+}
+
+// Takes so many bytes off a stream.
+pub(crate) fn take_bytes<T: Read>(
+    alloc: Global,
+    stream: &mut T,
+    n: usize,
+) -> ResultParsing<Vec<u8>>
+    ensures bytes { IfOk result (λ bytes. Consumes (T.remaining stream.old) (T.remaining stream.new) bytes.items) }
+    ensures count { IfOk result (λ bytes. length bytes.items ≡ n) }
+    ensures refused { IfErr result (λ e. IsMemory e ⊎ IsIo e) }
+{
+    let mut held = Held::new(alloc);
+    if n > 0 && !more_of(stream, &mut false, &mut held, n)? {
+        return Err(ended_early());
+    }
+    Ok(held.into_vec())
 }
 
 // Fills an array from a stream, which takes no memory.

@@ -34,6 +34,15 @@ impl Held {
         &self.room.as_slice()[..self.len]
     }
 
+    /// The bytes that are held, as they are.
+    pub fn into_vec(self) -> Vec<u8>
+        ensures { result.items ≡ held_bytes self }
+    {
+        let Held { mut room, len } = self;
+        room.truncate(len);
+        room
+    }
+
     /// Lets all bytes go, and keeps their room.
     pub fn clear(&mut self)
         ensures { held_bytes self.new ≡ [] }
