@@ -18,3 +18,5 @@ pub mod ReadCapture
 pub mod StreamBytes
 pub mod Pulling
 pub mod PacketStream
+pub mod Taking
+pub mod Captures

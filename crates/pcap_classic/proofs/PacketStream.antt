@@ -7,7 +7,7 @@ use Rattle.pcap_classic.specs.declared.pcap.packet.PacketHeader.{PacketHeader}
 use Rattle.pcap_classic.specs.Answer.{Order, faulty}
 use Rattle.pcap_classic.specs.Early.{EarlyFault}
 use Rattle.pcap_classic.specs.Faults.{Fault}
-use Rattle.pcap_classic.specs.PacketText.{Captured, captured, PacketHeaderText, PacketHeaderSays, PacketText, PacketSays}
+use Rattle.pcap_classic.specs.PacketText.{captured, PacketHeaderText, PacketHeaderSays, PacketText, PacketSays}
 use Rattle.pcap_classic.specs.Reading.{IsFaultOf, Reads, ReadsWhere}
 use Rattle.pcap_classic.proofs.Refusals.{shows_more}
 use Rattle.pcap_classic.proofs.Stable.{packet_header_more}
@@ -40,6 +40,6 @@ module _ (limit : ℕ) (order : Order) (r : TsResolution) where
         | inr (inl memory) ↦ absurd memory.0
         | inr (inr bad) ↦
             let step : (fault : Fault) → IsFaultOf (PacketHeaderSays limit order r) before fault → IsFaultOf (PacketSays limit order r) before fault =
-              λ fault is. record { bytes = is.bytes; stands = is.stands; shown = shown_more before fault is.shown } in
+            λ fault is. record { bytes = is.bytes; stands = is.stands; shown = shown_more before fault is.shown } in
             inr (inr (shows_more step e bad))
       ]

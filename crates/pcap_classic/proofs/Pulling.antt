@@ -1,9 +1,9 @@
 -- Why a call that takes a text off a stream is refused, of any grammar whose verdicts are stable.
-use Rattle.std.proofs.Common.{◌≡◌, ℕ, List, [], ◌++◌, ◌-◌, ◌<◌, length, sym, ◌∙◌, subst, arith, length-append, true, false, Bool, Some, None, Err, ◌+◌, ◌⊎◌, inl, inr}
+use Rattle.std.proofs.Common.{◌≡◌, ℕ, List, ◌++◌, ◌-◌, ◌<◌, length, sym, ◌∙◌, subst, arith, length-append, true, false, Bool, Some, None, Err, ◌+◌, ◌⊎◌, inl, inr}
 use Rattle.std.specs.Prelude.{Option, IfSome}
 use Rattle.std.specs.Io.KnownBytes.{Consumes}
 use Rattle.pcap_classic.specs.declared.errors.PcapError.{PcapError}
-use Rattle.pcap_classic.specs.Answer.{Verdict, whole, lacks, faulty}
+use Rattle.pcap_classic.specs.Answer.{Verdict, lacks, faulty}
 use Rattle.pcap_classic.specs.Early.{EarlyFault}
 use Rattle.pcap_classic.specs.Faults.{Fault, Shows}
 use Rattle.pcap_classic.specs.Laws.{IsStable}

@@ -23,4 +23,3 @@ abbrev pub FillsItem : {V : Type 0} → (List ℕ → Verdict V → Type 0) → 
 FillsItem IsSaid before after held failed (Ok true) = (failed ≡ false) × HoldsItem (IsSaid held) × Consumes before after held
 FillsItem IsSaid before after held failed (Ok false) = (failed ≡ false) × (held ≡ []) × IsAtEnd before × Keeps before after
 FillsItem IsSaid before after held failed (Err e) = HasCause IsSaid before failed e
-

@@ -23,6 +23,7 @@ pub mod Reading
 pub mod Asked
 pub mod Takes
 pub mod Reader
+pub mod Captures
 pub mod LentStreams
 pub mod Writing
 pub mod Errors

@@ -1,14 +1,23 @@
 //! Whole runs over a capture.
 
-ghost use Rattle.std.specs.Prelude.{◌≡◌, ⊤, All, IfOk, IfErr};
+ghost use Rattle.std.specs.Prelude.{◌≡◌, ◌⊎◌, ⊤, false, All, IfOk, IfErr, IfSome, map};
 ghost use Rattle.pcap_classic.specs.Answer.{Refuses};
 ghost use Rattle.pcap_classic.specs.Bytes.{IsBorrowed};
-ghost use Rattle.pcap_classic.specs.HeaderText.{LacksHeader, HasHeaderFault};
+ghost use Rattle.pcap_classic.specs.Captures.{TakesCapture, ReadsCapture};
+ghost use Rattle.pcap_classic.specs.Errors.{IsIo};
+ghost use Rattle.pcap_classic.specs.Faults.{Shows};
+ghost use Rattle.pcap_classic.specs.HeaderText.{LacksHeader, HasHeaderFault, HeaderSays};
+ghost use Rattle.pcap_classic.specs.Packets.{reader_format};
+ghost use Rattle.pcap_classic.specs.PacketText.{packet_limit, captured};
+ghost use Rattle.pcap_classic.specs.Reader.{stream_of, has_failed, is_done};
+ghost use Rattle.pcap_classic.specs.Reading.{IsFaultOf};
+ghost use Rattle.pcap_classic.specs.Takes.{TakesItems};
 ghost use Rattle.pcap_classic.specs.Run.{IsRun, rest_after};
 
-use crate::pcap::{Packet, PcapHeader, PcapParser};
+use crate::pcap::{Packet, PcapHeader, PcapParser, PcapReader};
 use crate::{PcapError, ResultParsing};
 use std::alloc::Global;
+use std::io::Read;
 
 /// What stands behind the last whole packet.
 #[derive(Debug, Drop)]
@@ -78,4 +87,62 @@ pub fn parse_pcap<'a>(alloc: Global, bytes: &'a [u8]) -> ResultParsing<PcapRun<'
         used: bytes.len(),
         rest: Rest::Clean,
     })
+}
+
+/// A capture's header and the packets that came off a stream, why they end, and whether a read failed.
+#[derive(Debug, Drop)]
+pub struct PcapRead {
+    /// The capture's header.
+    pub header: PcapHeader,
+    /// The packets, in order.
+    pub packets: Vec<Packet<'static>>,
+    /// The refusal that ended them. None where the stream ended behind a packet, or there were enough.
+    pub fault: Option<PcapError>,
+    /// Whether a read of the stream failed.
+    pub failed: bool,
+}
+
+/// Reads the header of a capture and at most so many packets off a stream, up to a refusal or the stream's end.
+///
+/// Where the header is refused, that refusal: `InvalidField` or `IoError`. What comes behind it ends the packets, and is
+/// told in `fault`. With `most` packets the stream isn't asked again.
+pub fn read_pcap<R: Read + Drop>(alloc: Global, reader: R, most: u64) -> ResultParsing<PcapRead>
+    ensures taken { IfOk result (λ read. TakesCapture (R.remaining reader) most read) }
+    ensures front { IfOk result (λ read. IfSome (R.remaining reader) (λ bytes. ReadsCapture bytes most read)) }
+    ensures refused { IfErr result (λ e. IsIo e ⊎ Shows (IsFaultOf HeaderSays (R.remaining reader)) e) }
+{
+    let mut reader = PcapReader::new(alloc, reader)?;
+    let (packets, fault) = take_packets(alloc, &mut reader, most);
+    Ok(PcapRead {
+        header: reader.header,
+        packets,
+        fault,
+        failed: reader.failed(),
+    })
+}
+
+// Takes packets while there are fewer than `most`. Room for each is made before the stream is asked for it.
+fn take_packets<T: Read + Drop>(
+    alloc: Global,
+    reader: &mut PcapReader<T>,
+    most: u64,
+) -> (Vec<Packet<'static>>, Option<PcapError>)
+    requires ready { is_done reader.old ≡ false }
+    requires unfailed { has_failed reader.old ≡ false }
+    ensures header { reader.new.header ≡ reader.old.header }
+    ensures taken { TakesItems (reader_format packet_limit reader.old.header) tt (T.remaining (stream_of reader.old)) (T.remaining (stream_of reader.new))
+        (has_failed reader.new) most (map captured result.0.items) result.1 }
+{
+    let mut packets = Vec::new(alloc);
+    for turn in 0..most {
+        if let Err(e) = packets.reserve(1) {
+            return (packets, Some(PcapError::from(e)));
+        }
+        match reader.next() {
+            None => return (packets, None),
+            Some(Ok(packet)) => packets.push_reserved(packet),
+            Some(Err(e)) => return (packets, Some(e)),
+        }
+    }
+    (packets, None)
 }

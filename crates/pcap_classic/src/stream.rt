@@ -5,8 +5,7 @@ mod held;
 mod told;
 
 pub use fill::Fill;
-pub use told::Told;
-
 pub(crate) use fill::{fill_array, more_of, take_bytes};
 pub(crate) use held::Held;
+pub use told::Told;
 pub(crate) use told::put;

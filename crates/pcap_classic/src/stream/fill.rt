@@ -178,11 +178,7 @@ pub(crate) fn more_of<T: Read>(
 }
 
 // Takes so many bytes off a stream.
-pub(crate) fn take_bytes<T: Read>(
-    alloc: Global,
-    stream: &mut T,
-    n: usize,
-) -> ResultParsing<Vec<u8>>
+pub(crate) fn take_bytes<T: Read>(alloc: Global, stream: &mut T, n: usize) -> ResultParsing<Vec<u8>>
     ensures bytes { IfOk result (λ bytes. Consumes (T.remaining stream.old) (T.remaining stream.new) bytes.items) }
     ensures count { IfOk result (λ bytes. length bytes.items ≡ n) }
     ensures refused { IfErr result (λ e. IsMemory e ⊎ IsIo e) }
@@ -218,12 +214,7 @@ pub(crate) fn fill_array<T: Read>(
 }
 
 // One read into so many bytes from a place on.
-fn read_at<T: Read>(
-    stream: &mut T,
-    bytes: &mut [u8],
-    at: usize,
-    room: usize,
-) -> io::Result<usize>
+fn read_at<T: Read>(stream: &mut T, bytes: &mut [u8], at: usize, room: usize) -> io::Result<usize>
     requires some { 0 < room }
     requires within { at + room ≤ length bytes.old }
     ensures front { take at bytes.new ≡ take at bytes.old }
@@ -238,8 +229,5 @@ fn read_at<T: Read>(
 fn ended_early() -> PcapError
     ensures { IsIo result }
 {
-    PcapError::IoError(io::Error::new(
-        ErrorKind::UnexpectedEof,
-        "the stream ended early",
-    ))
+    PcapError::IoError(io::Error::new(ErrorKind::UnexpectedEof, "the stream ended early"))
 }

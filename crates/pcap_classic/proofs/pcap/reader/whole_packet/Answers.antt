@@ -1,4 +1,4 @@
-use Rattle.std.proofs.Common.{◌≡◌, List, ℕ, [], subst}
+use Rattle.std.proofs.Common.{List, ℕ, [], subst}
 use Rattle.pcap_classic.specs.Answer.{number_in, whole}
 use Rattle.pcap_classic.specs.Magic.{order_of, resolution_of}
 use Rattle.pcap_classic.specs.PacketText.{packet_limit, captured}

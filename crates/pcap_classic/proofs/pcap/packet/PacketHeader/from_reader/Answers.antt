@@ -1,4 +1,4 @@
-use Rattle.std.proofs.Common.{◌≡◌, ◌∙◌, List, ℕ, length, arith, inr}
+use Rattle.std.proofs.Common.{◌≡◌, length, arith, inr}
 use Rattle.std.proofs.lemmas.Result.{err_from_is_err_and}
 use Rattle.pcap_classic.specs.Answer.{faulty}
 use Rattle.pcap_classic.specs.Faults.{Shows}
@@ -17,5 +17,5 @@ returns-in_err-header g c =
     let p = err_from_is_err_and c.from_residual-in_err-header.result c.from_residual-in_err-header.ensures.1 in
     let e = c.in_err-header.field-0.0 in
     let shows : Shows (λ fault. PacketHeaderSays packet_limit order r bytes (faulty fault)) e =
-      refuses_shows (LacksHead bytes) (λ fault. PacketHeaderSays packet_limit order r bytes (faulty fault)) e (λ n lack. omega (arith, long, lack.some, lack.missing)) c.in_err-header.ensures.tells in
+    refuses_shows (LacksHead bytes) (λ fault. PacketHeaderSays packet_limit order r bytes (faulty fault)) e (λ n lack. omega (arith, long, lack.some, lack.missing)) c.in_err-header.ensures.tells in
     rw (p.1, p.2) (inr (inr (asked_shows (PacketHeaderSays packet_limit order r) (packet_header_stable packet_limit order r) e bytes shows _ _ c.in_ok-fill_array.ensures.1)))

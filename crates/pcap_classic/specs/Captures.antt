@@ -1,0 +1,20 @@
+-- What a run over a stream of a capture tells.
+use Rattle.std.specs.Prelude.{ℕ, List, map, Option}
+use Rattle.pcap_classic.specs.declared.run.PcapRead.{PcapRead}
+use Rattle.pcap_classic.specs.HeaderText.{HeaderSays, HeaderText}
+use Rattle.pcap_classic.specs.Packets.{format_under}
+use Rattle.pcap_classic.specs.PacketText.{packet_limit, captured}
+use Rattle.pcap_classic.specs.Reading.{Takes}
+use Rattle.pcap_classic.specs.Takes.{TakesItems, ReadsFront}
+
+-- the header's text and the packets' texts were taken and no more, at most so many, up to a cause to stop
+pub record TakesCapture (known : Option (List ℕ)) (most : ℕ) (read : PcapRead) : Type 0 where
+  pub after : Option (List ℕ)
+  pub now : Option (List ℕ)
+  pub header : Takes HeaderSays known after read.header
+  pub items : TakesItems (format_under packet_limit read.header) tt after now read.failed most (map captured read.packets.items) read.fault
+
+-- the header is that of the bytes, and whatever failed, the packets are a beginning of the front's
+abbrev pub ReadsCapture : List ℕ → ℕ → PcapRead → Type 0
+ReadsCapture bytes most read =
+    (after : List ℕ) × HeaderText read.header bytes after × ReadsFront (format_under packet_limit read.header) tt after most (map captured read.packets.items) read.fault read.failed
