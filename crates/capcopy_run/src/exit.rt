@@ -7,9 +7,8 @@ ghost use Rattle.capcopy_run.specs.Exits.{status_of, line_of, EndsAt};
 
 use pcap_classic::PcapError;
 use std::alloc::{AllocError, AllocFailed};
-use std::fmt;
-use std::io;
 use std::io::ErrorKind;
+use std::{fmt, io};
 
 /// How a run of the program ends.
 #[derive(Debug, Drop)]
