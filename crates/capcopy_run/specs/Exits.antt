@@ -57,3 +57,8 @@ EndsBehind Clean (Ok done) = ⊤
 EndsBehind (Needs n) (Err exit) = IsEarlyEnd exit
 EndsBehind (rests.Refused error) (Err exit) = EndsAt error exit
 EndsBehind rest result = ⊥
+
+-- the exit is one of a known word
+abbrev pub IsOfKnownWord : Exit → Type 0
+IsOfKnownWord Usage = ⊥
+IsOfKnownWord exit = ⊤

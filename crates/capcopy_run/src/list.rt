@@ -4,7 +4,7 @@ ghost use Rattle.std.specs.Prelude.{◌≡◌, ℕ, List, map, IfOk, IfSome, IfE
 ghost use Rattle.std.specs.Io.KnownBytes.{Appends};
 ghost use Rattle.pcap_classic.specs.PacketText.{captured};
 ghost use Rattle.pcap_classic.specs.Run.{IsRun};
-ghost use Rattle.capcopy_run.specs.Exits.{IsEndOfReading, IsIo, EndsBehind};
+ghost use Rattle.capcopy_run.specs.Exits.{IsEndOfReading, IsIo, IsOfKnownWord, EndsBehind};
 ghost use Rattle.capcopy_run.specs.Lines.{line_of, lines_from};
 ghost use Rattle.capcopy_run.specs.Listing.{Lists};
 
@@ -64,7 +64,8 @@ fn write_lines<W: Write>(output: &mut W, packets: &[Packet<'_>]) -> Result<(), E
 
 // How the run ends behind the last whole packet.
 fn end_at(rest: Rest) -> Result<(), Exit>
-    ensures { EndsBehind rest result }
+    ensures known { IfErr result IsOfKnownWord }
+    ensures by_rest { EndsBehind rest result }
 {
     match rest {
         Rest::Clean => Ok(()),
@@ -75,7 +76,8 @@ fn end_at(rest: Rest) -> Result<(), Exit>
 
 // The lines of the first `most` packets of a run, and how it ends.
 fn write_run<W: Write>(output: &mut W, run: PcapRun<'_>, most: u64) -> Result<(), Exit>
-    ensures { (s : List ℕ) → IsRun run.entry s → Lists most s (W.contents output.old) (W.contents output.new) result }
+    ensures known { IfErr result IsOfKnownWord }
+    ensures lists { (s : List ℕ) → IsRun run.entry s → Lists most s (W.contents output.old) (W.contents output.new) result }
 {
     let PcapRun { packets, rest, .. } = run;
     let shown = packets.len().min(most as usize);
@@ -95,7 +97,8 @@ pub(crate) fn list<R: Read, W: Write>(
     output: &mut W,
     most: u64,
 ) -> Result<(), Exit>
-    ensures { IfSome (R.remaining input.old) (λ s. Lists most s (W.contents output.old) (W.contents output.new) result) }
+    ensures known { IfErr result IsOfKnownWord }
+    ensures lists { IfSome (R.remaining input.old) (λ s. Lists most s (W.contents output.old) (W.contents output.new) result) }
 {
     let bytes = read_all(alloc, input)?;
     let run = parse_pcap(alloc, bytes.as_slice())?;
