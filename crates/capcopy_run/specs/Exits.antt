@@ -58,7 +58,9 @@ EndsBehind (Needs n) (Err exit) = IsEarlyEnd exit
 EndsBehind (rests.Refused error) (Err exit) = EndsAt error exit
 EndsBehind rest result = ⊥
 
--- the exit is one of a known word
+-- the exit is one of a known word, and an `Io` holds the error of a read, a write or an early end
 abbrev pub IsOfKnownWord : Exit → Type 0
 IsOfKnownWord Usage = ⊥
+IsOfKnownWord (Io (IoError e)) = ⊤
+IsOfKnownWord (Io error) = ⊥
 IsOfKnownWord exit = ⊤
