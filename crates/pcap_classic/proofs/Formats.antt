@@ -316,3 +316,20 @@ pub front_extends : {S V : Type 0} (f g : Format S V) → IsLawful g → Extends
 front_extends f g laws e q vs ws s a b x y =
     let on = front_goes_on g laws q vs ws s a b (texts_extend f g e q vs s a x.texts) y in
     (on.0, on.1)
+
+-- a format that says the same with a head of the same length is lawful too
+pub lawful_moved : {S V : Type 0} (f g : Format S V) → f.head ≡ g.head → ((q : S) (s : List ℕ) (v : Verdict V) → f.says q s v → g.says q s v)
+    → ((q : S) (s : List ℕ) (v : Verdict V) → g.says q s v → f.says q s v) → IsLawful f → IsLawful g
+lawful_moved f g head to from laws = record {
+  one = λ q s. let o = laws.one q s in record { value = o.value; holds = to q s o.value o.holds; only = λ other x. o.only other (from q s other x) };
+  stable = λ q. record {
+    text = λ s more rest v x. to q (s ++ more) (whole v (rest ++ more)) ((laws.stable q).text s more rest v (from q s (whole v rest) x));
+    fault = λ s more fault x. to q (s ++ more) (faulty fault) ((laws.stable q).fault s more fault (from q s (faulty fault) x));
+    request = λ s more n fewer x. to q (s ++ more) (lacks (n - length more)) ((laws.stable q).request s more n fewer (from q s (lacks n) x));
+  };
+  own = λ q s rest v x. let o = laws.own q s rest v (from q s (whole v rest) x) in (o.0, o.1, to q o.0 (whole v []) o.2);
+  some = omega (arith, head, laws.some);
+  asks = λ q s n x. laws.asks q s n (from q s (lacks n) x);
+  short = λ q s n sum some. to q s (lacks n) (laws.short q s n (sum ∙ sym head) some);
+  last = λ q s more n m long x count y. laws.last q s more n m (omega (arith, head, long)) (from q s (lacks n) x) count (from q (s ++ more) (lacks m) y);
+}

@@ -18,9 +18,6 @@ piece_length n P s rest p = omega (arith, ap length p.text, length-append p.byte
 pub piece_more : (n : ℕ) (P : List ℕ → Type 0) (s rest more : List ℕ) → Piece n P s rest → Piece n P (s ++ more) (rest ++ more)
 piece_more n P s rest more p = record { bytes = p.bytes; text = ap (λ (t : List ℕ). t ++ more) p.text ∙ append_assoc p.bytes rest more; length_is = p.length_is; holds = p.holds }
 
-pub piece_put : (n : ℕ) (P : List ℕ → Type 0) (s rest after : List ℕ) (p : Piece n P s rest) → Piece n P (p.bytes ++ after) after
-piece_put n P s rest after p = record { bytes = p.bytes; text = refl; length_is = p.length_is; holds = p.holds }
-
 -- two pieces of one length at one place are the same bytes, of which one thing is said
 pub piece_same : {X : Type 0} (n : ℕ) (P : List ℕ → X → Type 0) → ((b : List ℕ) → length b ≡ n → ExactlyOne (P b)) → (x y : X) (s a c : List ℕ) → Piece n (λ b. P b x) s a → Piece n (λ b. P b y) s c → (x ≡ y) × (a ≡ c)
 piece_same {X} n P one x y s a c p r =

@@ -7,6 +7,7 @@ pub mod Stable
 pub mod Concrete
 pub mod Packets
 pub mod HeadedPackets
+pub mod Equal
 pub mod OneFront
 pub mod ReadBack
 pub mod Formats

@@ -14,11 +14,11 @@ use Rattle.pcap_classic.specs.declared.pcap.packet.PacketHeader.{PacketHeader}
 use Rattle.pcap_classic.specs.Answer.{Verdict, whole, lacks, faulty, Number, number_in}
 use Rattle.pcap_classic.specs.Link.{Link}
 use Rattle.pcap_classic.specs.Magic.{is_magic, order_of}
-use Rattle.pcap_classic.specs.PacketText.{PacketSays, PacketHeaderSays, Head, HeadText, IsGood, head_fault, spelled_header, nanoseconds, PacketHeaderText, LacksHead, HasHeadFault, Captured, PacketText, LacksPacket}
+use Rattle.pcap_classic.specs.PacketText.{PacketHeaderSays, Head, HeadText, IsGood, head_fault, spelled_header, nanoseconds, PacketHeaderText, LacksHead, HasHeadFault, Captured}
 use Rattle.pcap_classic.specs.HeaderText.{HeaderSays, FieldsText, HeaderText, HasHeaderFault}
 use Rattle.pcap_classic.specs.Laws.{ExactlyOne}
 use Rattle.pcap_classic.proofs.Links.{plain_same, link_of}
-use Rattle.pcap_classic.proofs.Texts.{split_same, number_same, number_length, head_same, head_length, packet_header_same, good_has_none, lacks_no_packet, fault_no_packet, header_length}
+use Rattle.pcap_classic.proofs.Texts.{number_same, number_length, head_same, head_length, packet_header_same, good_has_none, header_length}
 
 -- ---- a head is good or has a fault
 
@@ -110,67 +110,6 @@ pub captured_is : (p q : Captured) → p.header ≡ q.header → p.bytes ≡ q.b
 unfolding make_captured
 captured_is p q a b = let t : make_captured p.header p.bytes ≡ make_captured q.header q.bytes = rw (a, b) refl in t
 
-pub packet_same : (limit : ℕ) (order : ℕ → List ℕ → ℕ) (r : TsResolution) (p q : Captured) (s a b : List ℕ) → PacketText limit order r p s a → PacketText limit order r q s b → (p ≡ q) × (a ≡ b)
-packet_same limit order r p q s a b x y =
-    let e = packet_header_same order limit r p.header q.header s x.after y.after x.header y.header in
-    let len : length p.bytes ≡ length q.bytes = x.whole ∙ ap (λ (h : PacketHeader). h.incl_len) e.0 ∙ sym y.whole in
-    let d = split_same p.bytes a q.bytes b len (sym x.data_is ∙ e.1 ∙ y.data_is) in
-    (captured_is p q e.0 d.0, d.1)
-
-lacks_same : (limit : ℕ) (order : ℕ → List ℕ → ℕ) (r : TsResolution) (s : List ℕ) (n m : ℕ) → LacksPacket limit order r s n → LacksPacket limit order r s m → n ≡ m
-lacks_same limit order r s n m (inl p) (inl q) = omega (arith, p.missing, q.missing)
-lacks_same limit order r s n m (inl p) (inr q) = absurd (lacks_head_no_head order s n q.text.head q.after p q.text.text)
-lacks_same limit order r s n m (inr p) (inl q) = absurd (lacks_head_no_head order s m p.text.head p.after q p.text.text)
-lacks_same limit order r s n m (inr p) (inr q) =
-    let e = packet_header_same order limit r p.header q.header s p.after q.after p.text q.text in
-    omega (arith, p.missing, q.missing, ap length e.1, ap (λ (h : PacketHeader). h.incl_len) e.0)
-
-lacks_no_fault : (limit : ℕ) (order : ℕ → List ℕ → ℕ) (r : TsResolution) (s : List ℕ) (n : ℕ) (f : Fault) → LacksPacket limit order r s n → HasHeadFault limit order r s f → ⊥
-lacks_no_fault limit order r s n f (inl p) q = lacks_head_no_head order s n q.head q.after p q.text
-lacks_no_fault limit order r s n f (inr p) q = good_no_fault limit order r s p.header p.after f p.text q
-
-packet_only : (limit : ℕ) (order : ℕ → List ℕ → ℕ) (r : TsResolution) (s : List ℕ) (v w : Verdict Captured) → PacketSays limit order r s v → PacketSays limit order r s w → v ≡ w
-packet_only limit order r s (whole p a) (whole q b) x y = let e = packet_same limit order r p q s a b x y in rw (e.0, e.1) refl
-packet_only limit order r s (whole p a) (lacks m) x y = absurd (lacks_no_packet order limit r m s y p a x)
-packet_only limit order r s (whole p a) (faulty g) x y = absurd (fault_no_packet order limit r s g y p a x)
-packet_only limit order r s (lacks n) (whole q b) x y = absurd (lacks_no_packet order limit r n s x q b y)
-packet_only limit order r s (lacks n) (lacks m) x y = let e = lacks_same limit order r s n m x y in rw e refl
-packet_only limit order r s (lacks n) (faulty g) x y = absurd (lacks_no_fault limit order r s n g x y)
-packet_only limit order r s (faulty f) (whole q b) x y = absurd (fault_no_packet order limit r s f x q b y)
-packet_only limit order r s (faulty f) (lacks m) x y = absurd (lacks_no_fault limit order r s m f y x)
-packet_only limit order r s (faulty f) (faulty g) x y = let e = fault_same limit order r s f g x y in rw e refl
-
-packet_there : (limit : ℕ) (order : ℕ → List ℕ → ℕ) (r : TsResolution) (s : List ℕ) → (v : Verdict Captured) × PacketSays limit order r s v
-packet_there limit order r s =
-    elim (cases_lt (length s) 16) [
-      | inl short ↦ (lacks (16 - length s), inl (record { some = omega arith; missing = omega arith }))
-      | inr long ↦
-          let h = head_there order s long in
-          elim (option_cases (head_fault limit r h.0)) [
-            | inr f ↦ (faulty f.0, record { head = h.0; after = h.1; text = h.2; first = f.1 })
-            | inl none ↦
-                let header : PacketHeader = spelled_header r h.0 in
-                let text : PacketHeaderText limit order r header s h.1 = record { head = h.0; text = h.2; good = none_is_good limit r h.0 none; value = refl } in
-                elim (cases_lt (length h.1) h.0.included) [
-                  | inl short ↦ (lacks (h.0.included - length h.1), inr (record { header = header; after = h.1; text = text; some = omega arith; missing = omega arith }))
-                  | inr enough ↦ (
-                    whole (record { header = header; bytes = take h.0.included h.1 }) (drop h.0.included h.1),
-                    record {
-                      after = h.1;
-                      header = text;
-                      data_is = sym (take-append-drop h.0.included h.1);
-                      whole = omega (arith, length-take h.0.included h.1);
-                    },
-                  )
-                ]
-          ]
-    ]
-
-pub packet_one : (limit : ℕ) (order : ℕ → List ℕ → ℕ) (r : TsResolution) (s : List ℕ) → ExactlyOne (PacketSays limit order r s)
-packet_one limit order r s =
-    let v = packet_there limit order r s in
-    record { value = v.0; holds = v.1; only = λ w h. packet_only limit order r s w v.0 h v.1 }
-
 -- ---- a packet's header
 
 packet_header_only : (limit : ℕ) (order : ℕ → List ℕ → ℕ) (r : TsResolution) (s : List ℕ) (v w : Verdict PacketHeader) → PacketHeaderSays limit order r s v → PacketHeaderSays limit order r s w → v ≡ w
@@ -206,8 +145,15 @@ packet_header_one limit order r s =
 make_header : ℕ → ℕ → ℕ → ℤ → ℕ → ℕ → DataLink → PcapHeader
 make_header a b d e f g h = record { magic_number = a; version_major = b; version_minor = d; ts_correction = e; ts_accuracy = f; snaplen = g; datalink = h }
 
-pub header_same : (p q : PcapHeader) (s a b : List ℕ) → HeaderText p s a → HeaderText q s b → (p ≡ q) × (a ≡ b)
+pub header_is : (p q : PcapHeader) → p.magic_number ≡ q.magic_number → p.version_major ≡ q.version_major → p.version_minor ≡ q.version_minor → p.ts_correction ≡ q.ts_correction
+    → p.ts_accuracy ≡ q.ts_accuracy → p.snaplen ≡ q.snaplen → p.datalink ≡ q.datalink → p ≡ q
 unfolding make_header
+header_is p q a b d e f g h =
+    let made : make_header p.magic_number p.version_major p.version_minor p.ts_correction p.ts_accuracy p.snaplen p.datalink
+    ≡ make_header q.magic_number q.version_major q.version_minor q.ts_correction q.ts_accuracy q.snaplen q.datalink = rw (a, b, d, e, f, g, h) refl in
+    made
+
+pub header_same : (p q : PcapHeader) (s a b : List ℕ) → HeaderText p s a → HeaderText q s b → (p ≡ q) × (a ≡ b)
 header_same p q s a b x y =
     let m = number_same big_number 4 p.magic_number q.magic_number s x.after_magic y.after_magic x.magic y.magic in
     let order = number_in (order_of q.magic_number) in
@@ -226,8 +172,7 @@ header_same p q s a b x y =
     let e6 = number_same order 4 xf.link_number_is yf.link_number_is yf.after_snaplen a b t6 yf.link in
     let correction : p.ts_correction ≡ q.ts_correction = xf.correction_is ∙ ap (cast_signed w32) e3.0 ∙ sym yf.correction_is in
     let link : p.datalink ≡ q.datalink = plain_same p.datalink q.datalink xf.link_is.plain yf.link_is.plain (xf.link_is.number ∙ e6.0 ∙ sym yf.link_is.number) in
-    let made : make_header p.magic_number p.version_major p.version_minor p.ts_correction p.ts_accuracy p.snaplen p.datalink ≡ make_header q.magic_number q.version_major q.version_minor q.ts_correction q.ts_accuracy q.snaplen q.datalink = rw (m.0, e1.0, e2.0, correction, e4.0, e5.0, link) refl in
-    (made, e6.1)
+    (header_is p q m.0 e1.0 e2.0 correction e4.0 e5.0 link, e6.1)
 
 true_or_false : (b : Bool) → (b ≡ true) ⊎ (b ≡ false)
 true_or_false true = inl refl

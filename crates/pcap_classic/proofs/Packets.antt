@@ -1,78 +1,20 @@
 -- Packets are a lawful format.
-use Rattle.std.proofs.Common.{◌≡◌, ℕ, Bool, true, false, ◌<◌, ◌≤◌, List, [], ◌∷◌, ◌++◌, length, refl, sym, ap, subst, ◌∙◌, arith, append-nil, length-append, inl, inr}
+use Rattle.std.proofs.Common.{◌≡◌, ℕ, Bool, true, false, ◌≤◌, List, [], ◌∷◌, ◌++◌, length, refl, sym, ap, subst, ◌∙◌, arith, length-append}
 use Rattle.pcap_classic.specs.declared.rules.Rule.TheVariants.{CaptureMagic}
 use Rattle.pcap_classic.specs.Faults.{Invalid}
 use Rattle.pcap_classic.specs.declared.common.TsResolution.{TsResolution}
 use Rattle.pcap_classic.specs.declared.pcap.header.PcapHeader.{PcapHeader}
-use Rattle.pcap_classic.specs.declared.pcap.packet.PacketHeader.{PacketHeader}
 use Rattle.pcap_classic.specs.declared.errors.PcapError.{PcapError}
 use Rattle.pcap_classic.specs.Magic.{is_magic, order_of, resolution_of}
-use Rattle.pcap_classic.specs.Answer.{number_in, Number, Verdict, whole, lacks, faulty, Refuses}
-use Rattle.pcap_classic.specs.PacketText.{HeadText, LacksPacket, PacketText, PacketSays, Captured}
+use Rattle.pcap_classic.specs.Answer.{number_in, Verdict, whole, lacks, faulty, Refuses}
+use Rattle.pcap_classic.specs.PacketText.{PacketSays, Captured}
 use Rattle.pcap_classic.specs.Laws.{ExactlyOne}
 use Rattle.pcap_classic.specs.Format.{Format, IsLawful, Extends, Front}
 use Rattle.pcap_classic.specs.Packets.{packet_format, format_under, RefusingSays, refusing_format, chosen, reader_format}
 use Rattle.pcap_classic.specs.Front.{CaptureFront}
-use Rattle.pcap_classic.proofs.Texts.{packet_header_same}
-use Rattle.pcap_classic.proofs.One.{packet_one, header_same}
-use Rattle.pcap_classic.proofs.Stable.{packet_stable, packet_header_more}
-use Rattle.pcap_classic.proofs.Concrete.{joined}
+use Rattle.pcap_classic.proofs.One.{header_same}
+use Rattle.pcap_classic.proofs.HeadedPackets.{packets_lawful}
 use Rattle.pcap_classic.proofs.Formats.{front_extends}
-
-number_put : (order : ℕ → List ℕ → ℕ) (w n : ℕ) (s a b : List ℕ) (p : Number order w n s a) → Number order w n (p.bytes ++ b) b
-number_put order w n s a b p = record { bytes = p.bytes; text = refl; length_is = p.length_is; value = p.value }
-
--- a packet's text without what follows it
-packet_own : (limit : ℕ) (order : ℕ → List ℕ → ℕ) (r : TsResolution) (packet : Captured) (s rest : List ℕ) → PacketText limit order r packet s rest
-    → (t : List ℕ) × (s ≡ t ++ rest) × PacketText limit order r packet t []
-packet_own limit order r packet s rest p =
-    let h = p.header.head in
-    let t = p.header.text in
-    let b1 = t.seconds.bytes in
-    let b2 = t.fraction.bytes in
-    let b3 = t.included.bytes in
-    let b4 = t.original.bytes in
-    let text : HeadText order h (b1 ++ (b2 ++ (b3 ++ (b4 ++ packet.bytes)))) packet.bytes = record {
-      after_seconds = b2 ++ (b3 ++ (b4 ++ packet.bytes));
-      after_fraction = b3 ++ (b4 ++ packet.bytes);
-      after_included = b4 ++ packet.bytes;
-      seconds = number_put order 4 h.seconds s t.after_seconds (b2 ++ (b3 ++ (b4 ++ packet.bytes))) t.seconds;
-      fraction = number_put order 4 h.fraction t.after_seconds t.after_fraction (b3 ++ (b4 ++ packet.bytes)) t.fraction;
-      included = number_put order 4 h.included t.after_fraction t.after_included (b4 ++ packet.bytes) t.included;
-      original = number_put order 4 h.original t.after_included p.after packet.bytes t.original;
-    } in (
-      b1 ++ (b2 ++ (b3 ++ (b4 ++ packet.bytes))),
-      joined s b1 t.after_seconds b2 t.after_fraction b3 t.after_included b4 p.after packet.bytes rest t.seconds.text t.fraction.text t.included.text t.original.text p.data_is,
-      record {
-        after = packet.bytes;
-        header = record { head = h; text = text; good = p.header.good; value = p.header.value };
-        data_is = sym (append-nil packet.bytes);
-        whole = p.whole;
-      },
-    )
-
-packet_asks : (limit : ℕ) (order : ℕ → List ℕ → ℕ) (r : TsResolution) (s : List ℕ) (n : ℕ) → LacksPacket limit order r s n → 0 < n
-packet_asks limit order r s n (inl p) = p.some
-packet_asks limit order r s n (inr p) = p.some
-
-packet_last : (limit : ℕ) (order : ℕ → List ℕ → ℕ) (r : TsResolution) (s more : List ℕ) (n m : ℕ) → 16 ≤ length s → LacksPacket limit order r s n → length more ≡ n → LacksPacket limit order r (s ++ more) m → ⊥
-packet_last limit order r s more n m long (inl p) count q = omega (arith, long, p.missing, p.some)
-packet_last limit order r s more n m long (inr p) count (inl q) = omega (arith, long, q.missing, q.some, length-append s more)
-packet_last limit order r s more n m long (inr p) count (inr q) =
-    let e = packet_header_same order limit r p.header q.header (s ++ more) (p.after ++ more) q.after (packet_header_more more limit order r p.header s p.after p.text) q.text in
-    omega (arith, p.missing, q.missing, q.some, count, ap length e.1, length-append p.after more, ap (λ (h : PacketHeader). h.incl_len) e.0)
-
-pub packets_lawful : (limit : ℕ) (order : ℕ → List ℕ → ℕ) (r : TsResolution) → IsLawful (packet_format limit order r)
-unfolding packet_format
-packets_lawful limit order r = record {
-  one = λ q s. packet_one limit order r s;
-  stable = λ q. packet_stable limit order r;
-  own = λ q s rest packet text. packet_own limit order r packet s rest text;
-  some = omega arith;
-  asks = λ q s n lack. packet_asks limit order r s n lack;
-  short = λ q s n sum some. inl (record { some = some; missing = sum });
-  last = λ q s more n m long lack count again. packet_last limit order r s more n m long lack count again;
-}
 
 -- what the calls on slices say is what the format says
 pub packets_say : (limit : ℕ) (order : ℕ → List ℕ → ℕ) (r : TsResolution) (q : Unit {0}) (s : List ℕ) (v : Verdict Captured) → PacketSays limit order r s v → (packet_format limit order r).says q s v

@@ -1,5 +1,5 @@
 -- More bytes change no answer, but a request by their number.
-use Rattle.std.proofs.Common.{ℕ, ◌-◌, ◌<◌, List, ◌++◌, length, ap, ◌∙◌, append_assoc, arith, inl, inr}
+use Rattle.std.proofs.Common.{ℕ, ◌-◌, ◌<◌, List, ◌++◌, length, ap, ◌∙◌, append_assoc, arith}
 use Rattle.std.proofs.lemmas.List.{length-append}
 use Rattle.byteorder.specs.Endian.{big_number}
 use Rattle.pcap_classic.specs.Faults.{Fault}
@@ -8,7 +8,7 @@ use Rattle.pcap_classic.specs.declared.pcap.header.PcapHeader.{PcapHeader}
 use Rattle.pcap_classic.specs.declared.pcap.packet.PacketHeader.{PacketHeader}
 use Rattle.pcap_classic.specs.Answer.{Number, number_in}
 use Rattle.pcap_classic.specs.Magic.{order_of}
-use Rattle.pcap_classic.specs.PacketText.{PacketSays, PacketHeaderSays, Head, HeadText, PacketHeaderText, LacksHead, HasHeadFault, Captured, PacketText, LacksPacket}
+use Rattle.pcap_classic.specs.PacketText.{PacketHeaderSays, Head, HeadText, PacketHeaderText, LacksHead, HasHeadFault}
 use Rattle.pcap_classic.specs.HeaderText.{HeaderSays, FieldsText, HeaderText}
 use Rattle.pcap_classic.specs.Laws.{IsStable}
 
@@ -16,7 +16,7 @@ module _ (more : List ℕ) where
   number_more : (order : ℕ → List ℕ → ℕ) (w n : ℕ) (s a : List ℕ) → Number order w n s a → Number order w n (s ++ more) (a ++ more)
   number_more order w n s a p = record { bytes = p.bytes; text = ap (λ t. t ++ more) p.text ∙ append_assoc p.bytes a more; length_is = p.length_is; value = p.value }
 
-  head_more : (order : ℕ → List ℕ → ℕ) (h : Head) (s a : List ℕ) → HeadText order h s a → HeadText order h (s ++ more) (a ++ more)
+  pub head_more : (order : ℕ → List ℕ → ℕ) (h : Head) (s a : List ℕ) → HeadText order h s a → HeadText order h (s ++ more) (a ++ more)
   head_more order h s a p = record {
     after_seconds = p.after_seconds ++ more;
     after_fraction = p.after_fraction ++ more;
@@ -30,29 +30,11 @@ module _ (more : List ℕ) where
   pub packet_header_more : (limit : ℕ) (order : ℕ → List ℕ → ℕ) (r : TsResolution) (h : PacketHeader) (s a : List ℕ) → PacketHeaderText limit order r h s a → PacketHeaderText limit order r h (s ++ more) (a ++ more)
   packet_header_more limit order r h s a p = record { head = p.head; text = head_more order p.head s a p.text; good = p.good; value = p.value }
 
-  packet_more : (limit : ℕ) (order : ℕ → List ℕ → ℕ) (r : TsResolution) (packet : Captured) (s a : List ℕ) → PacketText limit order r packet s a → PacketText limit order r packet (s ++ more) (a ++ more)
-  packet_more limit order r packet s a p = record {
-    after = p.after ++ more;
-    header = packet_header_more limit order r packet.header s p.after p.header;
-    data_is = ap (λ t. t ++ more) p.data_is ∙ append_assoc packet.bytes a more;
-    whole = p.whole;
-  }
-
   fault_more : (limit : ℕ) (order : ℕ → List ℕ → ℕ) (r : TsResolution) (s : List ℕ) (fault : Fault) → HasHeadFault limit order r s fault → HasHeadFault limit order r (s ++ more) fault
   fault_more limit order r s fault p = record { head = p.head; after = p.after ++ more; text = head_more order p.head s p.after p.text; first = p.first }
 
   lacks_head_more : (s : List ℕ) (n : ℕ) → length more < n → LacksHead s n → LacksHead (s ++ more) (n - length more)
   lacks_head_more s n fewer p = record { some = omega arith; missing = omega (arith, p.missing, length-append s more) }
-
-  lacks_more : (limit : ℕ) (order : ℕ → List ℕ → ℕ) (r : TsResolution) (s : List ℕ) (n : ℕ) → length more < n → LacksPacket limit order r s n → LacksPacket limit order r (s ++ more) (n - length more)
-  lacks_more limit order r s n fewer (inl p) = inl (lacks_head_more s n fewer p)
-  lacks_more limit order r s n fewer (inr p) = inr (record {
-    header = p.header;
-    after = p.after ++ more;
-    text = packet_header_more limit order r p.header s p.after p.text;
-    some = omega arith;
-    missing = omega (arith, p.missing, length-append p.after more);
-  })
 
   fields_more : (order : ℕ → List ℕ → ℕ) (h : PcapHeader) (s a : List ℕ) → FieldsText order h s a → FieldsText order h (s ++ more) (a ++ more)
   fields_more order h s a p = record {
@@ -80,13 +62,6 @@ module _ (more : List ℕ) where
     magic = number_more big_number 4 h.magic_number s p.after_magic p.magic;
     fields = fields_more (number_in (order_of h.magic_number)) h p.after_magic a p.fields;
   }
-
-pub packet_stable : (limit : ℕ) (order : ℕ → List ℕ → ℕ) (r : TsResolution) → IsStable (PacketSays limit order r)
-packet_stable limit order r = record {
-  text = λ s more rest packet h. packet_more more limit order r packet s rest h;
-  fault = λ s more fault h. fault_more more limit order r s fault h;
-  request = λ s more n fewer h. lacks_more more limit order r s n fewer h;
-}
 
 pub packet_header_stable : (limit : ℕ) (order : ℕ → List ℕ → ℕ) (r : TsResolution) → IsStable (PacketHeaderSays limit order r)
 packet_header_stable limit order r = record {

@@ -1,9 +1,8 @@
 -- What a text says is said once: no two values have texts that begin the same bytes.
-use Rattle.std.proofs.Common.{◌≡◌, ℕ, ◌+◌, List, [], ◌∷◌, ◌++◌, length, false, Some, None, refl, sym, ap, subst, ◌∙◌, arith, inl, inr}
+use Rattle.std.proofs.Common.{◌≡◌, ℕ, ◌+◌, List, [], ◌∷◌, ◌++◌, length, false, None, refl, sym, ap, subst, ◌∙◌, arith, append_assoc}
 use Rattle.std.specs.Prelude.{nat_lt}
 use Rattle.std.proofs.lemmas.List.{length-append}
 use Rattle.std.proofs.lemmas.Bool.{le-ltb}
-use Rattle.pcap_classic.specs.Faults.{Fault}
 use Rattle.pcap_classic.specs.declared.common.TsResolution.{TsResolution}
 use Rattle.pcap_classic.specs.declared.pcap.packet.PacketHeader.{PacketHeader}
 use Rattle.byteorder.specs.Endian.{big_number}
@@ -11,7 +10,7 @@ use Rattle.pcap_classic.specs.declared.pcap.header.PcapHeader.{PcapHeader}
 use Rattle.pcap_classic.specs.Answer.{Number, number_in}
 use Rattle.pcap_classic.specs.Magic.{order_of}
 use Rattle.pcap_classic.specs.HeaderText.{FieldsText, HeaderText}
-use Rattle.pcap_classic.specs.PacketText.{Head, HeadText, IsGood, head_fault, spelled_header, nanoseconds, PacketHeaderText, HasHeadFault, Captured, PacketText, LacksPacket}
+use Rattle.pcap_classic.specs.PacketText.{Head, HeadText, IsGood, head_fault, spelled_header, nanoseconds, PacketHeaderText, Captured, PacketText}
 
 -- two ways to split a list at one place are one
 pub split_same : {A : Type 0} (a x b y : List A) → length a ≡ length b → a ++ x ≡ b ++ y → (a ≡ b) × (x ≡ y)
@@ -83,22 +82,9 @@ module _ (order : ℕ → List ℕ → ℕ) where
   packet_length limit r p s rest text =
       omega (arith, head_length text.header.head s text.after text.header.text, ap length text.data_is, length-append p.bytes rest, text.whole)
 
-  -- no packet begins what lacks bytes, what has a fault, or nothing
-  pub lacks_no_packet : (limit : ℕ) (r : TsResolution) (n : ℕ) (s : List ℕ) → LacksPacket limit order r s n → (p : Captured) (rest : List ℕ) → PacketText limit order r p s rest → ⊥
-  lacks_no_packet limit r n s (inl lacks) p rest text = omega (arith, lacks.missing, lacks.some, packet_length limit r p s rest text)
-  lacks_no_packet limit r n s (inr lacks) p rest text =
-      let e = packet_header_same limit r lacks.header p.header s lacks.after text.after lacks.text text.header in
-      omega (arith, lacks.missing, lacks.some, ap length e.1, ap (λ (h : PacketHeader). h.incl_len) e.0, ap length text.data_is, length-append p.bytes rest, text.whole)
-
-  pub fault_no_packet : (limit : ℕ) (r : TsResolution) (s : List ℕ) (fault : Fault) → HasHeadFault limit order r s fault → (p : Captured) (rest : List ℕ) → PacketText limit order r p s rest → ⊥
-  fault_no_packet limit r s fault wrong p rest text =
-      let e = head_same wrong.head text.header.head s wrong.after text.after wrong.text text.header.text in
-      let none : head_fault limit r wrong.head ≡ None = ap (head_fault limit r) e.0 ∙ good_has_none limit r text.header.head text.header.good in
-      let some : head_fault limit r wrong.head ≡ Some fault = wrong.first in
-      cc
-
-  pub nothing_no_packet : (limit : ℕ) (r : TsResolution) (p : Captured) (rest : List ℕ) → PacketText limit order r p [] rest → ⊥
-  nothing_no_packet limit r p rest text = let e : length {A = ℕ} [] ≡ 16 + p.header.incl_len + length rest = packet_length limit r p [] rest text in omega (arith, e)
+-- five lists one behind the other
+pub joined : (s b1 a1 b2 a2 b3 a3 b4 a4 b5 rest : List ℕ) → s ≡ b1 ++ a1 → a1 ≡ b2 ++ a2 → a2 ≡ b3 ++ a3 → a3 ≡ b4 ++ a4 → a4 ≡ b5 ++ rest → s ≡ (b1 ++ (b2 ++ (b3 ++ (b4 ++ b5)))) ++ rest
+joined s b1 a1 b2 a2 b3 a3 b4 a4 b5 rest e1 e2 e3 e4 e5 = rw (e1, e2, e3, e4, e5) (simp append_assoc)
 
 pub fields_length : (order : ℕ → List ℕ → ℕ) (header : PcapHeader) (s rest : List ℕ) → FieldsText order header s rest → length s ≡ 20 + length rest
 fields_length order header s rest p =

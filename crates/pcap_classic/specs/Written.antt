@@ -1,5 +1,5 @@
 -- The bytes of a capture, as they are written.
-use Rattle.std.specs.Prelude.{◌<◌, ◌/◌, ◌++◌, ℕ, List, slice_index, ◌≡◌, ◌≤◌, ◌^◌, length}
+use Rattle.std.specs.Prelude.{◌<◌, ◌/◌, ◌++◌, ℕ, List, ◌≡◌, ◌≤◌, ◌^◌, length}
 use Rattle.std.specs.Int.{w32, cast_unsigned}
 use Rattle.std.specs.List.{flat_map}
 use Rattle.byteorder.specs.Endian.{big_bytes, little_bytes}
@@ -11,10 +11,6 @@ use Rattle.pcap_classic.specs.declared.pcap.header.PcapHeader.{PcapHeader}
 use Rattle.pcap_classic.specs.Link.{link_number}
 use Rattle.pcap_classic.specs.Magic.{order_of, resolution_of}
 use Rattle.pcap_classic.specs.PacketText.{Captured, packet_limit, nanoseconds}
-
--- a list of bytes
-abbrev pub IsBytes : List ℕ → Type 0
-IsBytes s = (i : ℕ) → slice_index s i < 256
 
 -- the bytes of a number in an order
 abbrev pub bytes_in : Endianness → ℕ → ℕ → List ℕ

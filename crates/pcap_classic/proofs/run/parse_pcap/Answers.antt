@@ -11,7 +11,8 @@ use Rattle.pcap_classic.specs.Format.{state_after}
 use Rattle.pcap_classic.specs.Packets.{packet_format}
 use Rattle.pcap_classic.proofs.Texts.{packet_length, header_length}
 use Rattle.pcap_classic.proofs.Formats.{texts_push, nothing_no_text}
-use Rattle.pcap_classic.proofs.Packets.{packets_lawful, packets_say, packets_refuse}
+use Rattle.pcap_classic.proofs.HeadedPackets.{packets_lawful}
+use Rattle.pcap_classic.proofs.Packets.{packets_say, packets_refuse}
 use Rattle.pcap_classic.proofs.Fronts.{stops}
 use Rattle.pcap_classic.proofs.run.parse_pcap.Goals as goal
 

@@ -1,0 +1,120 @@
+//! The program over inputs and outputs in memory.
+
+use crate::captures::{big, front, little};
+use capcopy_run::{Exit, run};
+use pcap_classic::PcapError;
+use std::io::ErrorKind;
+use std::test::Fail;
+
+// Whether the run ended because the input did.
+fn is_early_end(exit: &Exit) -> bool {
+    match exit {
+        Exit::Io(PcapError::IoError(error)) => error.kind() == ErrorKind::UnexpectedEof,
+        _ => false,
+    }
+}
+
+#[test]
+fn lists(rt: HostRuntime) -> Result<(), Fail> {
+    let rows = [
+        (big(rt.alloc())?, "1 1335958313.152630000 98/98\n"),
+        (little(rt.alloc())?, "1 1331901000.000000000 117/117\n"),
+    ];
+    for (bytes, lines) in &rows {
+        let mut input = bytes.as_slice();
+        let mut output = Vec::new(rt.alloc());
+        let exit = run(
+            rt.alloc(),
+            &["list"],
+            &mut input,
+            &mut output,
+            4_294_967_295,
+        );
+        assert!(rt; matches!(exit, Exit::Done));
+        assert_eq!(rt; exit.status(), 0);
+        assert_eq!(rt; output.as_slice(), lines.as_bytes());
+    }
+    Ok(())
+}
+
+#[test]
+fn lists_of_torn_captures(rt: HostRuntime) -> Result<(), Fail> {
+    let bytes = big(rt.alloc())?;
+    for end in [0, 10, 40, 137] {
+        let mut input = front(bytes.as_slice(), end);
+        let mut output = Vec::new(rt.alloc());
+        let exit = run(
+            rt.alloc(),
+            &["list"],
+            &mut input,
+            &mut output,
+            4_294_967_295,
+        );
+        assert!(rt; is_early_end(&exit), "at {end}");
+        assert_eq!(rt; exit.status(), 3);
+        assert!(rt; output.is_empty());
+    }
+    Ok(())
+}
+
+#[test]
+fn most_lines(rt: HostRuntime) -> Result<(), Fail> {
+    let bytes = big(rt.alloc())?;
+    let mut input = bytes.as_slice();
+    let mut output = Vec::new(rt.alloc());
+    let exit = run(rt.alloc(), &["list"], &mut input, &mut output, 1);
+    assert!(rt; matches!(exit, Exit::Most));
+    assert_eq!(rt; exit.status(), 1);
+    assert_eq!(rt;
+        output.as_slice(),
+        b"1 1335958313.152630000 98/98\n".as_slice()
+    );
+    Ok(())
+}
+
+#[test]
+fn refused_captures(rt: HostRuntime) -> Result<(), Fail> {
+    let mut bytes = big(rt.alloc())?;
+    bytes.extend_from_slice(&[0, 0, 0, 1, 0, 0, 0, 0, 0, 0, 0, 2, 0, 0, 0, 1])?;
+    let mut input = bytes.as_slice();
+    let mut output = Vec::new(rt.alloc());
+    let exit = run(
+        rt.alloc(),
+        &["list"],
+        &mut input,
+        &mut output,
+        4_294_967_295,
+    );
+    assert_eq!(rt;
+        output.as_slice(),
+        b"1 1335958313.152630000 98/98\n".as_slice()
+    );
+    assert_eq!(rt; exit.status(), 1);
+    let line = format!(in rt.alloc(); "{exit}")?;
+    assert_eq!(rt;
+        line.as_str(),
+        "capcopy: Invalid field value: PacketHeader incl_len > orig_len"
+    );
+    Ok(())
+}
+
+#[test]
+fn usage(rt: HostRuntime) -> Result<(), Fail> {
+    let bytes = big(rt.alloc())?;
+    let rows: [&[&str]; 5] = [
+        &[],
+        &["copy", "big"],
+        &["list", "list"],
+        &["lists"],
+        &["blocks"],
+    ];
+    for words in rows {
+        let mut input = bytes.as_slice();
+        let mut output = Vec::new(rt.alloc());
+        let exit = run(rt.alloc(), words, &mut input, &mut output, 4_294_967_295);
+        assert!(rt; matches!(exit, Exit::Usage));
+        assert_eq!(rt; exit.status(), 2);
+        assert!(rt; input.len() == 138 && output.is_empty());
+    }
+    Ok(())
+}
