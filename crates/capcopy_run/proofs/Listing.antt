@@ -1,8 +1,8 @@
 -- What a run over a slice gives the word list.
-use Rattle.std.proofs.Common.{arith, ◌≡◌, ◌<◌, ◌≤◌, ℕ, List, [], length, take, Option, Result, Ok, Err, inl, inr}
+use Rattle.std.proofs.Common.{◌<◌, ◌≤◌, ℕ, List, length, take, Option, Result, Ok, Err, inl, inr}
 use Rattle.std.specs.Prelude.{⊤, map}
 use Rattle.std.specs.Io.KnownBytes.{Appends, Keeps}
-use Rattle.std.proofs.lemmas.List.{take-map, take_all, length-map}
+use Rattle.std.proofs.lemmas.List.{take-map, length-map}
 use Rattle.pcap_classic.specs.declared.errors.PcapError.{PcapError}
 use Rattle.pcap_classic.specs.declared.errors.PcapError.TheVariants as errors
 use Rattle.pcap_classic.specs.declared.run.PcapRun.{PcapRun}
@@ -18,7 +18,7 @@ use Rattle.capcopy_run.specs.declared.exit.Exit.{Exit}
 use Rattle.capcopy_run.specs.declared.exit.Exit.TheVariants as exits
 use Rattle.capcopy_run.specs.Exits.{EndsAt, IsEarlyEnd, EndsBehind}
 use Rattle.capcopy_run.specs.Lines.{lines_from}
-use Rattle.capcopy_run.specs.Listing.{Lists, ListsUntil, HasLines, EndsClean, EndsRefused}
+use Rattle.capcopy_run.specs.Listing.{Lists, ListsUntil}
 
 -- an early end is Io
 early_exit : (P : Exit → Type 0) (io : (e : PcapError) → P (exits.Io e)) (exit : Exit) → IsEarlyEnd exit → P exit

@@ -4,8 +4,6 @@
 mod commands;
 mod exit;
 mod list;
-#[cfg(test)]
-mod tests;
 
 pub use commands::run;
 pub use exit::Exit;

@@ -1,4 +1,4 @@
-use Rattle.std.proofs.Common.{rules, ap, ◌≡◌}
+use Rattle.std.proofs.Common.{rules}
 use Rattle.std.proofs.lemmas.List.{append_assoc}
 use Rattle.capcopy_run.proofs.Digits.{nine_digits-padded}
 use Rattle.capcopy_run.proofs.list.write_line.Goals as goal

@@ -1,8 +1,5 @@
-use Rattle.std.proofs.Common.{arith, ap, sym, ◌≡◌, ◌<◌, ◌≤◌, ◌∙◌, length, take, min}
-use Rattle.std.specs.Prelude.{map}
+use Rattle.std.proofs.Common.{arith, sym, ◌≡◌, ◌<◌, ◌≤◌, ◌∙◌, length, take}
 use Rattle.std.proofs.lemmas.List.{take_all}
-use Rattle.pcap_classic.specs.PacketText.{captured}
-use Rattle.capcopy_run.specs.Lines.{lines_from}
 use Rattle.capcopy_run.proofs.Listing.{lists_most, lists_rest}
 use Rattle.capcopy_run.proofs.list.write_run.Goals as goal
 
