@@ -1,1 +1,4 @@
 pub mod Exits
+pub mod Lines
+pub mod Listing
+pub mod Words

@@ -1,5 +1,12 @@
 //! The words that the program knows, and what each does.
 
+ghost use Rattle.std.specs.Prelude.{◌≡◌, ◌↔◌, IsSome, IfSome};
+ghost use Rattle.std.specs.Io.KnownBytes.{Keeps};
+ghost use Rattle.capcopy_run.specs.declared.exit.Exit.TheVariants as exits;
+ghost use Rattle.capcopy_run.specs.Exits.{IsOfKnownWord};
+ghost use Rattle.capcopy_run.specs.Listing.{ListsUntil};
+ghost use Rattle.capcopy_run.specs.Words.{AskForList, AskForNothing};
+
 use crate::Exit;
 use crate::list::list;
 use std::alloc::Global;
@@ -10,7 +17,9 @@ enum Command {
     List,
 }
 
-fn asked_for(words: &[&str]) -> Option<Command> {
+fn asked_for(words: &[&str]) -> Option<Command>
+    ensures { IsSome result ↔ AskForList words.now }
+{
     match words {
         ["list"] => Some(Command::List),
         _ => None,
@@ -28,7 +37,14 @@ pub fn run<R: Read, W: Write>(
     input: &mut R,
     output: &mut W,
     most: u64,
-) -> Exit {
+) -> Exit
+    ensures listed { AskForList words.now → IfSome (R.remaining input.old) (λ s.
+        ListsUntil most s (W.contents output.old) (W.contents output.new) result) }
+    ensures known { AskForList words.now → IsOfKnownWord result }
+    ensures usage { AskForNothing words.now → result ≡ exits.Usage }
+    ensures unread { AskForNothing words.now → Keeps (R.remaining input.old) (R.remaining input.new) }
+    ensures unwritten { AskForNothing words.now → Keeps (W.contents output.old) (W.contents output.new) }
+{
     let Some(command) = asked_for(words) else {
         return Exit::Usage;
     };

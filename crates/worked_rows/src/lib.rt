@@ -6,6 +6,8 @@ mod captures;
 #[cfg(test)]
 mod errors;
 #[cfg(test)]
+mod failing;
+#[cfg(test)]
 mod program;
 #[cfg(test)]
 mod slices;

@@ -1,0 +1,21 @@
+-- What the word list writes.
+use Rattle.std.specs.Prelude.{ℕ, suc, ◌-◌, List, [], ◌∷◌, ◌++◌, length, replicate, codes}
+use Rattle.std.specs.Fmt.{decimal}
+use Rattle.pcap_classic.specs.declared.pcap.packet.PacketHeader.{PacketHeader}
+use Rattle.pcap_classic.specs.PacketText.{Captured}
+
+-- a number with zeros before it, to at least nine digits
+abbrev pub nine_digits : ℕ → List ℕ
+nine_digits n = replicate (9 - length (decimal n)) 48 ++ decimal n
+
+-- the line of the packet at this index: its index, its time in seconds and nanoseconds, its stored and original length
+abbrev pub line_of : ℕ → PacketHeader → List ℕ
+line_of index header =
+    let time = decimal header.ts_sec ++ (codes "." ++ nine_digits header.ts_nsec) in
+    let lengths = decimal header.incl_len ++ (codes "/" ++ decimal header.orig_len) in
+    decimal index ++ (codes " " ++ (time ++ (codes " " ++ (lengths ++ codes "\n"))))
+
+-- the lines of packets, the first of which has this index
+abbrev pub lines_from : ℕ → List Captured → List ℕ
+lines_from index [] = []
+lines_from index (packet ∷ others) = line_of index packet.header ++ lines_from (suc index) others
