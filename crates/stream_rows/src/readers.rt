@@ -1,15 +1,17 @@
 //! Streams that give few bytes at once, fail, or end and go on.
 
-ghost use Rattle.std.specs.Prelude.{Some};
-
+use crate::writers::back;
+use std::alloc::{AllocError, Global};
 use std::io;
 use std::io::{ErrorKind, Read};
 
 /// Gives its bytes, so many at most in a read, and fails at one of its calls.
 #[derive(Drop)]
-pub struct Halting<'a> {
-    /// What it has left.
-    pub bytes: &'a [u8],
+pub struct Halting {
+    /// All its bytes.
+    pub bytes: Vec<u8>,
+    /// How many of them it has given.
+    pub taken: usize,
     /// The most bytes of one read.
     pub step: usize,
     /// The call that fails, counted from 1.
@@ -22,42 +24,33 @@ pub struct Halting<'a> {
     pub most_room: usize,
 }
 
-impl<'a> Halting<'a> {
+impl Halting {
     /// A stream of these bytes that never fails.
-    pub fn new(bytes: &'a [u8], step: usize) -> Halting<'a> {
-        Halting {
-            bytes,
+    pub fn new(alloc: Global, bytes: &[u8], step: usize) -> Result<Halting, AllocError> {
+        Ok(Halting {
+            bytes: Vec::from_slice(alloc, bytes)?,
+            taken: 0,
             step,
             fails_at: 0,
             kind: ErrorKind::Other,
             calls: 0,
             most_room: 0,
-        }
-    }
-
-    /// A stream of these bytes that fails at this call.
-    pub fn failing(bytes: &'a [u8], step: usize, fails_at: usize, kind: ErrorKind) -> Halting<'a> {
-        Halting {
-            fails_at,
-            kind,
-            ..Halting::new(bytes, step)
-        }
+        })
     }
 }
 
-impl Read for Halting<'_> {
-    ghost remaining = { λ h. Some h.bytes.now };
-
+impl Read for Halting {
     fn read(&mut self, buf: &mut [u8]) -> io::Result<usize> {
         self.calls = self.calls.saturating_add(1);
         self.most_room = self.most_room.max(buf.len());
         if self.calls == self.fails_at {
             return Err(io::Error::from(self.kind));
         }
-        let n = buf.len().min(self.step.max(1)).min(self.bytes.len());
-        let (given, left) = self.bytes.split_at(n);
+        let left = back(self.bytes.as_slice(), self.taken);
+        let n = buf.len().min(self.step).min(left.len());
+        let (given, _) = left.split_at(n);
         buf[..n].copy_from_slice(given);
-        self.bytes = left;
+        self.taken = self.taken.saturating_add(n);
         Ok(n)
     }
 }

@@ -21,6 +21,14 @@ fn is_packet(item: &Option<ResultParsing<Packet<'static>>>, contents: &[u8]) -> 
     }
 }
 
+// The nanoseconds of a packet, 0 for anything else.
+fn nanoseconds(item: &Option<ResultParsing<Packet<'static>>>) -> u32 {
+    match item {
+        Some(Ok(packet)) => packet.header.ts_nsec,
+        _ => 0,
+    }
+}
+
 fn is_io(item: &Option<ResultParsing<Packet<'static>>>) -> bool {
     matches!(item, Some(Err(PcapError::IoError(_))))
 }
@@ -36,57 +44,54 @@ fn names(item: &Option<ResultParsing<Packet<'static>>>, rule: &str) -> bool {
 fn values(rt: HostRuntime) -> Result<(), Fail> {
     let whole = capture(rt.alloc())?;
     for step in [1, 7, 200] {
-        let mut stream = Halting::new(whole.as_slice(), step);
+        let mut stream = Halting::new(rt.alloc(), whole.as_slice(), step)?;
         let header = PcapHeader::from_reader(&mut stream)?;
         assert_eq!(rt; header, PcapHeader::default());
-        assert_eq!(rt; stream.bytes.len(), 114);
-        let mut again = Halting::new(stream.bytes, step);
+        assert_eq!(rt; stream.taken, 24);
+        let mut again = Halting::new(rt.alloc(), back(whole.as_slice(), 24), step)?;
         let packet = PacketHeader::from_reader::<_, BigEndian>(
             &mut stream,
             TsResolution::MicroSecond,
         )?;
         assert_eq!(rt; packet, PacketHeader::new(0x4fa11b29, 152_630_000, 98, 98));
-        assert_eq!(rt; stream.bytes.len(), 98);
+        assert_eq!(rt; stream.taken, 40);
         let packet = Packet::from_reader::<_, BigEndian>(
             rt.alloc(),
             &mut again,
             TsResolution::MicroSecond,
         )?;
         assert_eq!(rt; packet.data_.as_slice(), back(whole.as_slice(), 40));
-        assert!(rt; again.bytes.is_empty() && again.most_room <= 98);
+        assert!(rt; again.taken == 114 && again.most_room <= 98);
     }
     Ok(())
 }
 
 #[test]
-fn empty_streams(rt: HostRuntime) {
-    let header = PcapHeader::from_reader(&mut Halting::new(&[], 9));
+fn empty_streams(rt: HostRuntime) -> Result<(), Fail> {
+    let mut empty = Halting::new(rt.alloc(), &[], 9)?;
+    let header = PcapHeader::from_reader(&mut empty);
     assert!(rt; matches!(header, Err(PcapError::IoError(_))));
-    let header = PacketHeader::from_reader::<_, BigEndian>(
-        &mut Halting::new(&[], 9),
-        TsResolution::NanoSecond,
-    );
+    let header = PacketHeader::from_reader::<_, BigEndian>(&mut empty, TsResolution::NanoSecond);
     assert!(rt; matches!(header, Err(PcapError::IoError(_))));
     let packet = Packet::from_reader::<_, BigEndian>(
         rt.alloc(),
-        &mut Halting::new(&[], 9),
+        &mut empty,
         TsResolution::NanoSecond,
     );
     assert!(rt; matches!(packet, Err(PcapError::IoError(_))));
-    let wrong = PcapHeader::from_reader(&mut Halting::new(&[0xff; 24], 9));
-    assert!(rt;
-        matches!(
-            wrong,
-            Err(PcapError::InvalidField("PcapHeader wrong magic number"))
-        )
-    );
-    let short = PcapReader::new(rt.alloc(), Halting::new(&[0xff; 10], 9));
+    let mut wrong = Halting::new(rt.alloc(), &[0xff; 24], 9)?;
+    match PcapHeader::from_reader(&mut wrong) {
+        Err(PcapError::InvalidField(text)) => assert_eq!(rt; text, "PcapHeader wrong magic number"),
+        _ => assert!(rt; false, "no fault"),
+    }
+    let short = PcapReader::new(rt.alloc(), Halting::new(rt.alloc(), &[0xff; 10], 9)?);
     assert!(rt;
         matches!(
             short,
             Err(PcapError::InvalidField(_) | PcapError::IoError(_))
         )
     );
+    Ok(())
 }
 
 // Whether this is what the first bytes of the capture have to give, all 138 of them being the header and one packet.
@@ -111,7 +116,7 @@ fn is_read_of(read: &ResultParsing<PcapRead>, end: usize) -> bool {
 fn every_beginning(rt: HostRuntime) -> Result<(), Fail> {
     let whole = capture(rt.alloc())?;
     for end in 0..139usize {
-        let mut stream = Halting::new(front(whole.as_slice(), end), 1);
+        let mut stream = Halting::new(rt.alloc(), front(whole.as_slice(), end), 1)?;
         let read = read_pcap(rt.alloc(), &mut stream, 9);
         assert!(rt; is_read_of(&read, end), "at {end}");
         assert!(rt; stream.most_room <= 98);
@@ -123,19 +128,19 @@ fn every_beginning(rt: HostRuntime) -> Result<(), Fail> {
 fn most_packets(rt: HostRuntime) -> Result<(), Fail> {
     let mut bytes = capture(rt.alloc())?;
     bytes.extend_from_slice(&[0, 0, 0, 1, 0, 0, 0, 0, 0, 0, 0, 2, 0, 0, 0, 1])?;
-    // how many packets are wanted, how many bytes are there, and how many come and are left
+    // how many packets are wanted, how many bytes are there, how many packets come, and how many bytes are taken
     let rows = [
-        (0, 138, 0, 114),
-        (1, 154, 1, 16),
-        (1, 143, 1, 5),
-        (1, 138, 1, 0),
+        (0, 138, 0, 24),
+        (1, 154, 1, 138),
+        (1, 143, 1, 138),
+        (1, 138, 1, 138),
     ];
-    for (most, end, count, left) in rows {
-        let mut stream = Halting::new(front(bytes.as_slice(), end), 200);
+    for (most, end, count, taken) in rows {
+        let mut stream = Halting::new(rt.alloc(), front(bytes.as_slice(), end), 200)?;
         let read = read_pcap(rt.alloc(), &mut stream, most)?;
         assert!(rt; read.fault.is_none() && !read.failed);
         assert_eq!(rt; read.packets.len(), count);
-        assert_eq!(rt; stream.bytes.len(), left);
+        assert_eq!(rt; stream.taken, taken);
     }
     Ok(())
 }
@@ -167,7 +172,9 @@ fn refusals(rt: HostRuntime) -> Result<(), Fail> {
     assert!(rt; names(&reader.next(), "PacketHeader incl_len > orig_len"));
     assert!(rt; reader.next().is_none() && reader.next().is_none());
     assert!(rt; !reader.failed());
-    let stream = Halting::failing(front(whole.as_slice(), 50), 50, 4, ErrorKind::Interrupted);
+    let mut stream = Halting::new(rt.alloc(), front(whole.as_slice(), 50), 50)?;
+    stream.fails_at = 4;
+    stream.kind = ErrorKind::Interrupted;
     let mut reader = PcapReader::new(rt.alloc(), stream)?;
     assert!(rt; is_io(&reader.next()) && reader.failed());
     assert!(rt; reader.next().is_none() && reader.next().is_none());
@@ -194,7 +201,8 @@ fn every_failed_read(rt: HostRuntime) -> Result<(), Fail> {
     let whole = capture(rt.alloc())?;
     bytes.extend_from_slice(back(whole.as_slice(), 24))?;
     for fails_at in 1..254usize {
-        let stream = Halting::failing(bytes.as_slice(), 1, fails_at, ErrorKind::Other);
+        let mut stream = Halting::new(rt.alloc(), bytes.as_slice(), 1)?;
+        stream.fails_at = fails_at;
         let read = read_pcap(rt.alloc(), stream, 9);
         assert!(rt; is_beginning(&read, fails_at), "at {fails_at}");
     }
@@ -209,10 +217,7 @@ fn changed_headers(rt: HostRuntime) -> Result<(), Fail> {
     let mut reader = PcapReader::new(rt.alloc(), bytes.as_slice())?;
     assert!(rt; is_packet(&reader.next(), back(whole.as_slice(), 40)));
     reader.header.magic_number = 0xa1b23c4d;
-    match reader.next() {
-        Some(Ok(packet)) => assert_eq!(rt; packet.header.ts_nsec, 152_630),
-        _ => assert!(rt; false, "no packet"),
-    }
+    assert_eq!(rt; nanoseconds(&reader.next()), 152_630);
     reader.header.magic_number = 0;
     assert!(rt; reader.next().is_none());
     let mut reader = PcapReader::new(rt.alloc(), front(whole.as_slice(), 29))?;
@@ -229,7 +234,7 @@ fn large_packets(rt: HostRuntime) -> Result<(), Fail> {
     let mut bytes = Vec::from_slice(rt.alloc(), front(whole.as_slice(), 24))?;
     bytes.extend_from_slice(&[0, 0, 0, 0, 0, 0, 0, 0, 0, 4, 0, 0, 0, 4, 0, 0])?;
     bytes.resize(24 + 16 + 262_144, 7)?;
-    let mut stream = Halting::new(bytes.as_slice(), 100_000);
+    let mut stream = Halting::new(rt.alloc(), bytes.as_slice(), 100_000)?;
     let read = read_pcap(rt.alloc(), &mut stream, 9)?;
     assert!(rt; read.fault.is_none());
     for packet in &read.packets {
