@@ -4,8 +4,11 @@ use Rattle.std.proofs.lemmas.Result.{err_from_is_err_and}
 use Rattle.std.proofs.KnownBytes.{Keeps-refl}
 use Rattle.pcap_classic.specs.Copies.{Copying}
 use Rattle.pcap_classic.specs.Held.{held_bytes}
-use Rattle.pcap_classic.specs.PacketText.{packet_limit}
-use Rattle.pcap_classic.proofs.Copied.{copying_none, copying_more, under_cause, torn_write}
+use Rattle.pcap_classic.specs.Format.{Format}
+use Rattle.pcap_classic.specs.PacketText.{Captured, packet_limit}
+use Rattle.pcap_classic.specs.Reading.{HasCause}
+use Rattle.pcap_classic.proofs.Copied.{copying_none, copying_more, torn_write}
+use Rattle.pcap_classic.proofs.Captures.{under_valid}
 use Rattle.pcap_classic.proofs.Packets.{reader_whole}
 use Rattle.pcap_classic.proofs.run.copy.copy_packets.Goals as goal
 
@@ -34,7 +37,7 @@ returns-in_err-fill_packet g c =
       so_far = c.loop-copied.invariant.so_far;
       ends = inr (inr (record {
         fewer = omega (arith, c.loop-copied-test.true);
-        refused = rw (p.1, p.2) (under_cause c.args.header.now c.requires.read _ _ _ c.in_err-fill_packet.ensures);
+        refused = rw (p.1, p.2) (under_valid packet_limit c.args.header.now c.requires.read (λ (f : Format (Unit {0}) Captured). HasCause (f.says tt) (g.R.Read.remaining c.loop-copied.reader) c.fill_packet.new.has_failed c.in_err-fill_packet.field-0.0) c.in_err-fill_packet.ensures);
         no_write_failed = c.loop-copied.invariant.wrote;
         out = Keeps-refl _;
       }));
