@@ -46,7 +46,8 @@ module _ {S V : Type 0} (f : Format S V) (laws : IsLawful f) (q : S) where
       let all = nothing_more f laws q more after rest front none in
       (all.0, subst (λ (l : List ℕ). HasCause (f.says q) (Some l) failed e) (sym all.1) cause)
 
-  ends_front : (fault : Option PcapError) (after rest : List ℕ) (more : List V) (now : Option (List ℕ)) (failed : Bool) (count most : ℕ)
+  -- what stopped a run, as the front shows it
+  pub ends_front : (fault : Option PcapError) (after rest : List ℕ) (more : List V) (now : Option (List ℕ)) (failed : Bool) (count most : ℕ)
       → Front f q more after rest → Stops (f.says q) (Some after) now failed count most fault → EndsFront (f.says q) rest more failed count most fault
   ends_front None after rest more now failed count most front stops =
       elim stops.2 [

@@ -1,5 +1,9 @@
 //! Whole runs over a capture.
 
+mod copy;
+
+pub use copy::{Copied, Under, copy_pcap};
+
 ghost use Rattle.std.specs.Prelude.{◌≡◌, ◌⊎◌, ⊤, false, All, IfOk, IfErr, IfSome, map};
 ghost use Rattle.pcap_classic.specs.Answer.{Refuses};
 ghost use Rattle.pcap_classic.specs.Bytes.{IsBorrowed};
