@@ -1,0 +1,5 @@
+pub mod Padded
+pub mod Texts
+pub mod Refusals
+pub mod Options
+pub mod Bodies
