@@ -3,3 +3,10 @@ pub mod Texts
 pub mod Refusals
 pub mod Options
 pub mod Bodies
+pub mod Verdicts
+pub mod Numbers
+pub mod OnePadded
+pub mod OneOption
+pub mod OneList
+pub mod OneSection
+pub mod OneInterface

@@ -1,5 +1,5 @@
 -- The body of an interface description ('Interface Description Block').
-use Rattle.std.specs.Prelude.{◌≡◌, ◌<◌, ℕ, List, [], ◌∷◌, ◌++◌, length, map, All}
+use Rattle.std.specs.Prelude.{◌<◌, ℕ, List, ◌∷◌, length, map, All}
 use Rattle.std.specs.Cow.{cow_str_bytes, IsBorrowedStr}
 use Rattle.pcap_classic.specs.declared.link.DataLink.{DataLink}
 use Rattle.pcap_classic.specs.declared.rules.Rule.TheVariants as rules

@@ -1,6 +1,6 @@
 use Rattle.std.proofs.Common.{arith}
 use Rattle.std.proofs.lemmas.Result.{err_from_is_err_and}
-use Rattle.pcap_blocks.specs.Options.{OptionHead, short, cut}
+use Rattle.pcap_blocks.specs.Options.{short, cut}
 use Rattle.pcap_blocks.proofs.Options.{head_is, option_wrong}
 use Rattle.pcap_blocks.proofs.Refusals.{Denies-weaker}
 use Rattle.pcap_blocks.proofs.common.option_from_slice.Goals as goal
