@@ -10,3 +10,9 @@ pub mod OneOption
 pub mod OneList
 pub mod OneSection
 pub mod OneInterface
+pub mod StoredPackets
+pub mod OneStored
+pub mod OneEnhanced
+pub mod OnePacket
+pub mod OneStatistics
+pub mod OneWhole

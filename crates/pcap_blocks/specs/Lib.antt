@@ -5,3 +5,8 @@ pub mod Options
 pub mod CommonOptions
 pub mod SectionHeader
 pub mod InterfaceDescription
+pub mod StoredPacket
+pub mod EnhancedPacket
+pub mod PacketBody
+pub mod InterfaceStatistics
+pub mod WholeBodies

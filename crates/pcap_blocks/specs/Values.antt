@@ -1,5 +1,5 @@
 -- Options and their values ('Options', 'Custom Options').
-use Rattle.std.specs.Prelude.{◌≡◌, ℕ, List, [], ◌∷◌, length, take, drop, slice_index, Result, Ok, Err, ◌==◌, nat_lt, if◌then◌else◌}
+use Rattle.std.specs.Prelude.{◌≡◌, ◌+◌, ◌*◌, ◌^◌, ℕ, List, [], ◌∷◌, length, take, drop, slice_index, Result, Ok, Err, ◌==◌, nat_lt, if◌then◌else◌}
 use Rattle.std.specs.Str.{is_utf8}
 use Rattle.pcap_classic.specs.Answer.{Order, Verdict, Says}
 use Rattle.pcap_classic.specs.Faults.{Fault, Invalid, Io, NoText}
@@ -37,7 +37,7 @@ integer_in (CustomText pen t) = pen
 integer_in (CustomBytes pen b) = pen
 integer_in (Unknown len b) = len
 
--- how the bytes of a value are read; a rule is broken where their number is another
+-- how the bytes of a value are read; a rule is broken where their number is another; of a first number and a first time more bytes than 8 are ignored
 pub data Shape : Type 0 where
   text : Shape
   bytes : Shape
@@ -45,6 +45,8 @@ pub data Shape : Type 0 where
   fixed_bytes : ℕ → Rule → Shape
   byte : Rule → Shape
   number : ℕ → Rule → Shape
+  first_number : Shape
+  first_time : Shape
   custom_text : Shape
   custom_bytes : Shape
   unknown : Shape
@@ -74,6 +76,14 @@ byte_at wrong_length v = if length v == 1 then Ok (Integer (slice_index v 0)) el
 abbrev pub number_at : Order → ℕ → Rule → List ℕ → Result Value Fault
 number_at order n wrong_length v = if length v == n then Ok (Integer (order n v)) else Err (Invalid wrong_length)
 
+-- the number in the first 8 bytes
+abbrev pub first_number_at : Order → List ℕ → Result Value Fault
+first_number_at order v = if nat_lt (length v) 8 then Err Io else Ok (Integer (order 8 (take 8 v)))
+
+-- the time in the first 8 bytes, its high 4 before its low 4
+abbrev pub first_time_at : Order → List ℕ → Result Value Fault
+first_time_at order v = if nat_lt (length v) 8 then Err Io else Ok (Integer (order 4 (take 4 v) * 2 ^ 32 + order 4 (take 4 (drop 4 v))))
+
 -- the value that bytes of this shape are, or the fault that stands there
 abbrev pub value_of : Order → Shape → List ℕ → Result Value Fault
 value_of order text v = with_value Text (text_at v)
@@ -82,6 +92,8 @@ value_of order (some_bytes empty) v = some_at empty v
 value_of order (fixed_bytes n wrong_length) v = fixed_at n wrong_length v
 value_of order (byte wrong_length) v = byte_at wrong_length v
 value_of order (number n wrong_length) v = number_at order n wrong_length v
+value_of order first_number v = first_number_at order v
+value_of order first_time v = first_time_at order v
 value_of order custom_text v = if nat_lt (length v) 4 then Err Io else with_value (CustomText (order 4 (take 4 v))) (text_at (drop 4 v))
 value_of order custom_bytes v = if nat_lt (length v) 4 then Err Io else Ok (CustomBytes (order 4 (take 4 v)) (drop 4 v))
 value_of order unknown v = Ok (Unknown (length v) v)

@@ -3,6 +3,7 @@
 ghost use Rattle.std.specs.Prelude.{◌≡◌, ◌≤◌, ◌<◌, ◌+◌, ◌^◌, length, MatchOption};
 ghost use Rattle.pcap_classic.specs.Answer.{Number};
 ghost use Rattle.pcap_blocks.specs.Padded.{Padded, up_to_4};
+ghost use Rattle.pcap_blocks.specs.StoredPacket.{TimeText};
 
 use byteorder::ByteOrder;
 
@@ -34,6 +35,17 @@ pub(crate) fn split_u64<B: ByteOrder>(bytes: &[u8]) -> (u64, &[u8])
 {
     let (front, rest) = bytes.split_at(8);
     (B::read_u64(front), rest)
+}
+
+// The time in the first eight bytes, its high half first, and the bytes after them.
+pub(crate) fn split_time<B: ByteOrder>(bytes: &[u8]) -> (u64, &[u8])
+    requires { 8 ≤ length bytes.now }
+    ensures time { TimeText B.number_of result.0 bytes.now result.1.now }
+    ensures rest { length result.1.now + 8 ≡ length bytes.now }
+{
+    let (high, rest) = split_u32::<B>(bytes);
+    let (low, rest) = split_u32::<B>(rest);
+    ((u64::from(high) << 32) + u64::from(low), rest)
 }
 
 // The first `len` bytes, and what follows their padding. None where that passes the end.

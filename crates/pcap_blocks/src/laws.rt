@@ -7,6 +7,10 @@ ghost use Rattle.pcap_blocks.specs.Values.{Entry, Kind, Shape, EntrySays};
 ghost use Rattle.pcap_blocks.specs.Options.{Ending, wants_end, may_end_with_body, OptionList, OptionSays, ListSays};
 ghost use Rattle.pcap_blocks.specs.SectionHeader.{SectionSays};
 ghost use Rattle.pcap_blocks.specs.InterfaceDescription.{InterfaceSays};
+ghost use Rattle.pcap_blocks.specs.EnhancedPacket.{EnhancedSays};
+ghost use Rattle.pcap_blocks.specs.PacketBody.{PacketBodySays};
+ghost use Rattle.pcap_blocks.specs.InterfaceStatistics.{StatisticsSays};
+ghost use Rattle.pcap_blocks.specs.WholeBodies.{SimpleSays, JournalSays};
 
 /// Of all bytes of a value exactly one thing is said, whatever its shape: the option that it is, or one fault. This
 /// holds of the custom options.
@@ -32,6 +36,31 @@ pub fn section_is_one()
 /// The same where the body of an interface is.
 pub fn interface_is_one()
     ensures { (order : Order) (s : List ℕ) → ExactlyOne (InterfaceSays order s) }
+{}
+
+/// The same where the body of an enhanced packet is.
+pub fn enhanced_is_one()
+    ensures { (order : Order) (s : List ℕ) → ExactlyOne (EnhancedSays order s) }
+{}
+
+/// The same where the body of a packet block is.
+pub fn packet_body_is_one()
+    ensures { (order : Order) (s : List ℕ) → ExactlyOne (PacketBodySays order s) }
+{}
+
+/// The same where the body of interface statistics is.
+pub fn statistics_are_one()
+    ensures { (order : Order) (s : List ℕ) → ExactlyOne (StatisticsSays order s) }
+{}
+
+/// The same where the body of a simple packet is.
+pub fn simple_is_one()
+    ensures { (order : Order) (s : List ℕ) → ExactlyOne (SimpleSays order s) }
+{}
+
+/// The same where a journal entry is.
+pub fn journal_is_one()
+    ensures { (s : List ℕ) → ExactlyOne (JournalSays s) }
 {}
 
 /// Where bytes are a list of options that wants its mark, they are that list, and no other, where a list may end

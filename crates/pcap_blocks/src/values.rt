@@ -4,7 +4,7 @@ ghost use Rattle.std.specs.Prelude.{IfOk};
 ghost use Rattle.std.specs.Cow.{cow_str_bytes, IsBorrowedStr};
 ghost use Rattle.pcap_classic.specs.Bytes.{cow_bytes, IsBorrowed};
 ghost use Rattle.pcap_blocks.specs.Refusals.{FindsAll};
-ghost use Rattle.pcap_blocks.specs.Values.{Bytes, Integer, AllSay, text_at, fixed_at, some_at, byte_at, number_at};
+ghost use Rattle.pcap_blocks.specs.Values.{Bytes, Integer, AllSay, text_at, fixed_at, some_at, byte_at, number_at, first_number_at, first_time_at};
 
 use crate::refusal::Refusal;
 use byteorder::ByteOrder;
@@ -75,4 +75,27 @@ pub(crate) fn u64_value<B: ByteOrder>(value: &[u8], wrong: Rule) -> Result<u64, 
         return Err(Refusal::Invalid(wrong));
     }
     Ok(B::read_u64(value))
+}
+
+// The number in the first 8 bytes; more are ignored.
+pub(crate) fn first_number<B: ByteOrder>(value: &[u8]) -> Result<u64, Refusal>
+    ensures tells { FindsAll (AllSay (first_number_at B.number_of value.now)) Integer result }
+{
+    if value.len() < 8 {
+        return Err(Refusal::Short);
+    }
+    let (number, _ignored) = value.split_at(8);
+    Ok(B::read_u64(number))
+}
+
+// The time in the first 8 bytes, its high half first; more are ignored.
+pub(crate) fn first_time<B: ByteOrder>(value: &[u8]) -> Result<u64, Refusal>
+    ensures tells { FindsAll (AllSay (first_time_at B.number_of value.now)) Integer result }
+{
+    if value.len() < 8 {
+        return Err(Refusal::Short);
+    }
+    let (high, rest) = value.split_at(4);
+    let (low, _ignored) = rest.split_at(4);
+    Ok((u64::from(B::read_u32(high)) << 32) + u64::from(B::read_u32(low)))
 }

@@ -252,7 +252,7 @@ fn refused_interfaces(rt: HostRuntime) -> Result<(), Fail> {
             rt.alloc(),
             body.as_slice(),
         );
-        assert_eq!(rt; refusal(&result), reason, "at {digits}");
+        assert_eq!(rt; refusal(result.err()), reason, "at {digits}");
     }
     Ok(())
 }

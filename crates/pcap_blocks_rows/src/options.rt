@@ -20,11 +20,11 @@ fn options_by_themselves(rt: HostRuntime) -> Result<(), Fail> {
 
     let short = bytes(rt.alloc(), "616263")?;
     let result = CustomUtf8Option::from_slice::<BigEndian>(2988, short.as_slice());
-    assert_eq!(rt; refusal(&result), "IoError");
+    assert_eq!(rt; refusal(result.err()), "IoError");
     let result = CustomBinaryOption::from_slice::<BigEndian>(2989, short.as_slice());
-    assert_eq!(rt; refusal(&result), "IoError");
+    assert_eq!(rt; refusal(result.err()), "IoError");
     let no_text = bytes(rt.alloc(), "00007ed9 ff")?;
     let result = CustomUtf8Option::from_slice::<BigEndian>(2988, no_text.as_slice());
-    assert_eq!(rt; refusal(&result), "Utf8Error");
+    assert_eq!(rt; refusal(result.err()), "Utf8Error");
     Ok(())
 }

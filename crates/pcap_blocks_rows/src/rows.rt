@@ -1,6 +1,6 @@
 //! Bytes written as hexadecimal digits, and refusals as texts.
 
-use pcap_classic::{PcapError, ResultParsing};
+use pcap_classic::PcapError;
 use std::alloc::Global;
 use std::test::Fail;
 
@@ -16,13 +16,13 @@ pub(crate) fn bytes(alloc: Global, digits: &str) -> Result<Vec<u8>, Fail> {
 }
 
 // Why a call gave no value: the text of an `InvalidField`, or the kind of the error.
-pub(crate) fn refusal<T>(answer: &ResultParsing<T>) -> &'static str {
-    match answer {
-        Ok(_) => "none",
-        Err(PcapError::InvalidField(text)) => text,
-        Err(PcapError::IoError(_)) => "IoError",
-        Err(PcapError::Utf8Error(_)) => "Utf8Error",
-        Err(PcapError::OutOfMemory(_)) => "OutOfMemory",
-        Err(_) => "another",
+pub(crate) fn refusal(error: Option<PcapError>) -> &'static str {
+    match error {
+        None => "none",
+        Some(PcapError::InvalidField(text)) => text,
+        Some(PcapError::IoError(_)) => "IoError",
+        Some(PcapError::Utf8Error(_)) => "Utf8Error",
+        Some(PcapError::OutOfMemory(_)) => "OutOfMemory",
+        Some(_) => "another",
     }
 }

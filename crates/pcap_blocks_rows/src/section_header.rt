@@ -149,7 +149,7 @@ fn refused_sections(rt: HostRuntime) -> Result<(), Fail> {
     ] {
         let body = bytes(rt.alloc(), digits)?;
         let result = SectionHeaderBlock::from_slice(rt.alloc(), body.as_slice());
-        assert_eq!(rt; refusal(&result), reason, "at {digits}");
+        assert_eq!(rt; refusal(result.err()), reason, "at {digits}");
     }
     Ok(())
 }
