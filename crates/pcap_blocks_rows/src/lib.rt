@@ -6,6 +6,10 @@ mod interface_description;
 #[cfg(test)]
 mod options;
 #[cfg(test)]
+mod other_blocks;
+#[cfg(test)]
+mod packets;
+#[cfg(test)]
 mod rows;
 #[cfg(test)]
 mod section_header;
