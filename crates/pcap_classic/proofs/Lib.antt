@@ -21,3 +21,4 @@ pub mod PacketStream
 pub mod Taking
 pub mod Captures
 pub mod Copied
+pub mod Accepted

@@ -16,7 +16,7 @@ pub takes_none : {S V : Type 0} (f : Format S V) (q : S) (known : Option (List �
 takes_none f q known = record { bytes = []; texts = refl; took = Consumes-nil known }
 
 -- a fault that stands for the one that an error shows
-shown_fault : (Stands : Fault → Type 0) (e : PcapError) → Shows Stands e → (fault : Fault) × Stands fault
+pub shown_fault : (Stands : Fault → Type 0) (e : PcapError) → Shows Stands e → (fault : Fault) × Stands fault
 shown_fault Stands (errors.InvalidField text) shown = (Invalid shown.0, shown.2)
 shown_fault Stands (errors.IoError x) shown = (Io, shown)
 shown_fault Stands (errors.Utf8Error x) shown = (NoText, shown)

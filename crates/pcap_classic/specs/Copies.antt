@@ -1,5 +1,5 @@
 -- What a copy takes and writes.
-use Rattle.std.specs.Prelude.{◌≡◌, ◌<◌, ◌≤◌, ◌⊎◌, ℕ, List, [], ◌∷◌, ◌++◌, length, Bool, true, false, Option, None, Some, Result, Err}
+use Rattle.std.specs.Prelude.{◌≡◌, ◌<◌, ◌≤◌, ◌⊎◌, ℕ, List, [], ◌∷◌, ◌++◌, length, Bool, true, false, Option, None, Some, IfSome, Result, Err}
 use Rattle.std.specs.Option.{IsSomeAnd}
 use Rattle.std.specs.Result.{result_err}
 use Rattle.std.specs.List.{flat_map}
@@ -180,3 +180,15 @@ pub record CopiesFront (under : Under) (bytes : List ℕ) (now out_before out_no
 -- What holds where the reader tells its bytes.
 abbrev pub CopyFront : Under → List ℕ → Option (List ℕ) → Option (List ℕ) → Option (List ℕ) → ℕ → Copied → Type 0
 CopyFront under bytes now out_before out_now most copied = Copies (CopiesFront under bytes now out_before out_now most copied) under (Some bytes) now out_before out_now copied
+
+-- memory sufficed, and no read and no write failed
+pub record NothingFailed (copied : Copied) : Type 0 where
+  pub no_read_failed : copied.read_failed ≡ false
+  pub no_write_failed : copied.write_failed ≡ false
+  pub memory : IfSome copied.fault (λ e. IsMemory e → ⊥)
+
+-- without a refusal the header and all of these packets went out
+pub record CopiesAll (header : PcapHeader) (packets : List Captured) (out_before out_now : Option (List ℕ)) (copied : Copied) : Type 0 where
+  pub fine : copied.fault ≡ None
+  pub count : copied.packets ≡ length packets
+  pub out : Appends out_before out_now (capture header packets)
