@@ -109,8 +109,8 @@ fn told_writers(rt: HostRuntime) -> Result<(), Fail> {
         let mut told = Told::new(Narrow::new(rt.alloc(), 3, fails));
         assert!(rt; matches!(told.write(&[1, 2]), Ok(2)));
         assert!(rt; matches!(told.write(&[]), Ok(0)));
-        assert!(rt; matches!(told.write(&[3, 4]), Ok(1)));
         assert!(rt; told.flush().is_ok());
+        assert!(rt; matches!(told.write(&[3, 4]), Ok(1)));
         assert!(rt; !told.failed());
         assert_eq!(rt; told.write(&[4]).is_err(), fails);
         assert!(rt; told.failed());
@@ -119,6 +119,9 @@ fn told_writers(rt: HostRuntime) -> Result<(), Fail> {
         assert!(rt; matches!(told.write(&[4]), Ok(1)));
         assert!(rt; told.failed());
         assert_eq!(rt; told.into_inner().out.as_slice(), [1, 2, 3, 4].as_slice());
+        let mut full = Told::new(Narrow::new(rt.alloc(), 0, fails));
+        assert_eq!(rt; full.flush().is_err(), fails);
+        assert_eq!(rt; full.failed(), fails);
     }
     Ok(())
 }

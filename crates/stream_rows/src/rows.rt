@@ -67,9 +67,20 @@ fn packets_under_headers(rt: HostRuntime) -> Result<(), Fail> {
             header: *header,
             data_: CowBytes::Borrowed(*bytes),
         })?;
-        let out = writer.into_writer();
-        assert_eq!(rt; front(back(out.as_slice(), 24), 16), wanted.as_slice());
-        assert_eq!(rt; back(out.as_slice(), 40), *bytes);
+        let end = writer.get_ref().len();
+        assert_eq!(rt;
+            front(back(writer.get_ref().as_slice(), 24), 16),
+            wanted.as_slice()
+        );
+        assert_eq!(rt; back(writer.get_ref().as_slice(), 40), *bytes);
+        if header.incl_len as usize == bytes.len() {
+            writer.write(header.ts_sec, header.ts_nsec, *bytes, header.orig_len)?;
+            let out = writer.into_writer();
+            assert_eq!(rt;
+                back(out.as_slice(), end),
+                back(front(out.as_slice(), end), 24)
+            );
+        }
     }
     Ok(())
 }

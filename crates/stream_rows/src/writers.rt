@@ -44,8 +44,8 @@ pub fn back(bytes: &[u8], start: usize) -> &[u8] {
     &bytes[start.min(bytes.len())..]
 }
 
-/// A writer that takes `room` bytes in all, at most `step` in a call, and then fails or takes nothing. One of its calls is
-/// interrupted.
+/// A writer that takes `room` bytes in all, at most `step` in a call, and then fails, flushes too, or takes nothing. One of
+/// its calls is interrupted.
 #[derive(Debug, Drop)]
 pub struct Narrow {
     pub out: Vec<u8>,
@@ -88,6 +88,9 @@ impl Write for Narrow {
     }
 
     fn flush(&mut self) -> io::Result<()> {
+        if self.room == 0 && self.fails {
+            return Err(io::Error::new(ErrorKind::Other, "told to fail"));
+        }
         Ok(())
     }
 }
