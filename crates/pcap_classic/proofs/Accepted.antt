@@ -1,5 +1,5 @@
 -- The copy of a capture that is accepted whole.
-use Rattle.std.proofs.Common.{◌≡◌, ◌≤◌, ◌<◌, ℕ, zero, suc, ◌^◌, List, [], ◌∷◌, ◌++◌, length, refl, ap, sym, ◌∙◌, subst, arith, length-append, append-nil, true, false, Bool, Err, Some, None, ◌⊎◌, inl, inr}
+use Rattle.std.proofs.Common.{◌≡◌, ◌≤◌, ◌<◌, ℕ, zero, suc, List, [], ◌∷◌, ◌++◌, length, refl, ap, sym, ◌∙◌, subst, arith, length-append, append-nil, true, false, Bool, Err, Some, None, ◌⊎◌, inl, inr}
 use Rattle.std.specs.Prelude.{Option, IfSome, All, map}
 use Rattle.std.specs.Option.{IsSomeAnd}
 use Rattle.std.specs.Io.KnownBytes.{Appends, Keeps}
@@ -16,10 +16,10 @@ use Rattle.pcap_classic.specs.declared.run.copy.Under.{Under}
 use Rattle.pcap_classic.specs.declared.run.copy.Under.TheVariants.{Same}
 use Rattle.pcap_classic.specs.Answer.{number_in, whole, lacks, faulty}
 use Rattle.pcap_classic.specs.Bytes.{IsBytes}
-use Rattle.pcap_classic.specs.Copies.{PacketIsSaid, RefusesHeader, TearsHeader, StopsFront, Ends, EndsRefused, CopiesFront, CopyFront, CanBeUnder, header_under, NothingFailed, CopiesAll}
+use Rattle.pcap_classic.specs.Copies.{PacketIsSaid, StopsFront, CopiesFront, CopyFront, CanBeUnder, header_under, NothingFailed, CopiesAll}
 use Rattle.pcap_classic.specs.Early.{EarlyFault}
-use Rattle.pcap_classic.specs.Errors.{IsIo, IsMemory}
-use Rattle.pcap_classic.specs.Faults.{Fault, Shows}
+use Rattle.pcap_classic.specs.Errors.{IsMemory}
+use Rattle.pcap_classic.specs.Faults.{Fault}
 use Rattle.pcap_classic.specs.Format.{Texts}
 use Rattle.pcap_classic.specs.Front.{CaptureFront}
 use Rattle.pcap_classic.specs.HeaderText.{HeaderText, HeaderSays}
@@ -111,7 +111,7 @@ no_stop header more failed None unfailed memory stops = stops
 no_stop header more failed (Some e) unfailed memory stops =
     elim stops [
       | inl io ↦ absurd (let x : true ≡ false = sym io.1 ∙ unfailed in cc)
-      | inr other ↦ elim other [ | inl out ↦ memory out.0 | inr why ↦ no_cause header failed e unfailed memory why.1 ]
+      | inr other ↦ elim other [ inl out ↦ memory out.0 | inr why ↦ no_cause header failed e unfailed memory why.1 ]
     ]
 
 -- the header of a capture is not refused
@@ -144,7 +144,7 @@ kept (Some x) (Some y) None s out keeps = absurd keeps
 kept (Some x) (Some y) (Some z) s out keeps = keeps ∙ out
 
 module _ (under : Under) (header : PcapHeader) (packets : List Captured) (bytes : List ℕ) (now out_before out_now : Option (List ℕ)) (most : ℕ) (copied : Copied)
-  (front : CaptureFront packet_limit header packets bytes []) (room : length packets ≤ most) (fine : NothingFailed copied) where
+    (front : CaptureFront packet_limit header packets bytes []) (room : length packets ≤ most) (fine : NothingFailed copied) where
   all_of : (copy : CopiesFront under bytes now out_before out_now most copied) → Keeps copy.mid out_now → copied.fault ≡ None → copy.more ≡ [] → CopiesAll (header_under under header) packets out_before out_now copied
   all_of copy keeps none last =
       let one = front_one packet_limit header copy.header packets (copy.packets ++ copy.more) bytes [] copy.rest front copy.front in

@@ -1,5 +1,5 @@
 -- Packets that are copied, one after another.
-use Rattle.std.proofs.Common.{◌≡◌, ◌≤◌, ℕ, List, [], ◌∷◌, ◌++◌, ◌+◌, refl, ap, sym, ◌∙◌, subst, arith, length-append, append-nil, Err, Some, None, ◌⊎◌, inl, inr}
+use Rattle.std.proofs.Common.{◌≡◌, ◌≤◌, ℕ, List, [], ◌∷◌, ◌++◌, ◌+◌, refl, ap, sym, ◌∙◌, subst, arith, length-append, append-nil, Err, Some, None, inl, inr}
 use Rattle.std.specs.Prelude.{Option, IfSome}
 use Rattle.std.specs.Option.{IsSomeAnd}
 use Rattle.std.specs.List.{flat_map}
@@ -71,7 +71,7 @@ run_within under before now out_before out_now most copied run =
           | inl tear ↦ omega (arith, tear.none)
           | inr them ↦ elim them.packets.ends [
             | inl ended ↦ ended.within
-            | inr not ↦ elim not [ | inl tear ↦ omega (arith, tear.fewer) | inr refused ↦ omega (arith, refused.fewer) ]
+            | inr not ↦ elim not [ inl tear ↦ omega (arith, tear.fewer) | inr refused ↦ omega (arith, refused.fewer) ]
           ]
         ]
       ]
@@ -115,7 +115,7 @@ module _ (header : PcapHeader) (more : List Captured) (left rest : List ℕ) (fr
           no_write_failed = ended.no_write_failed;
           taken = ended.taken;
           out = ended.out;
-          why = elim ended.why [ | inl end ↦ inl (all_of end) | inr full ↦ inr full ];
+          why = elim ended.why [ inl end ↦ inl (all_of end) | inr full ↦ inr full ];
         })
         | inr not ↦ elim not [
           | inl tear ↦ inr (inl (record {
@@ -176,7 +176,7 @@ run_known under bytes now out_before out_now most copied run =
       | inl given ↦ inl given
       | inr read ↦ elim read [
         | inl refused ↦ inr (inl refused)
-        | inr went ↦ elim went [ | inl tear ↦ inr (inr (inl tear)) | inr them ↦ inr (inr (inr (copies_known under bytes now out_before out_now most copied them))) ]
+        | inr went ↦ elim went [ inl tear ↦ inr (inr (inl tear)) | inr them ↦ inr (inr (inr (copies_known under bytes now out_before out_now most copied them))) ]
       ]
     ]
 

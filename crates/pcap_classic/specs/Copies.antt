@@ -13,10 +13,10 @@ use Rattle.pcap_classic.specs.declared.run.copy.Under.TheVariants.{Same, Header,
 use Rattle.pcap_classic.specs.Answer.{Verdict, whole}
 use Rattle.pcap_classic.specs.Errors.{IsMemory, IsIo}
 use Rattle.pcap_classic.specs.Faults.{Names}
-use Rattle.pcap_classic.specs.Format.{Texts, Front}
+use Rattle.pcap_classic.specs.Format.{Texts}
 use Rattle.pcap_classic.specs.Front.{CaptureFront}
 use Rattle.pcap_classic.specs.HeaderText.{HeaderText, HeaderSays}
-use Rattle.pcap_classic.specs.Magic.{is_magic, magic_for}
+use Rattle.pcap_classic.specs.Magic.{magic_for}
 use Rattle.pcap_classic.specs.Packets.{format_under}
 use Rattle.pcap_classic.specs.PacketText.{Captured, packet_limit}
 use Rattle.pcap_classic.specs.Reading.{Takes, HasCause, ReadsTold}
@@ -175,7 +175,7 @@ pub record CopiesFront (under : Under) (bytes : List ℕ) (now out_before out_no
   pub count : length packets ≡ copied.packets
   pub out : Appends out_before mid (capture (header_under under header) packets)
   pub ends : Ends ((more ≡ []) × (rest ≡ [])) (λ packet. (others : List Captured) × (more ≡ packet ∷ others)) (StopsFront header more rest copied.read_failed)
-    (header_under under header) (Some left) now mid out_now most copied
+      (header_under under header) (Some left) now mid out_now most copied
 
 -- What holds where the reader tells its bytes.
 abbrev pub CopyFront : Under → List ℕ → Option (List ℕ) → Option (List ℕ) → Option (List ℕ) → ℕ → Copied → Type 0

@@ -1,5 +1,4 @@
-use Rattle.std.proofs.Common.{◌≡◌, ◌≤◌, ◌<◌, ◌∙◌, sym, arith, refl, inl, inr, subst, [], Some, Err, Ok}
-use Rattle.std.proofs.lemmas.Grind.{common_steps}
+use Rattle.std.proofs.Common.{◌∙◌, sym, arith, refl, inl, inr, subst, []}
 use Rattle.std.proofs.lemmas.Result.{err_from_is_err_and}
 use Rattle.std.proofs.KnownBytes.{Keeps-refl}
 use Rattle.pcap_classic.specs.Copies.{Copying}
@@ -15,7 +14,7 @@ use Rattle.pcap_classic.proofs.run.copy.copy_packets.Goals as goal
 pub loop-copied-init : goal.loop-copied-init
 loop-copied-init g c = record {
   so_far = subst (λ n. Copying c.args.header.now c.args.out.now (g.R.Read.remaining c.args.reader.now) (g.R.Read.remaining c.args.reader.now) (g.W.Write.contents c.args.writer.now) (g.W.Write.contents c.args.writer.now) n)
-  (sym c.requires.new.none) (copying_none _ _ _ _);
+      (sym c.requires.new.none) (copying_none _ _ _ _);
   between = c.new-held.ensures;
   within = omega (arith, c.requires.new.none);
   read = c.requires.new.no_read_failed;
@@ -88,7 +87,7 @@ loop-copied-preserved g c =
     let wrote = c.in_ok-put_held.ensures.out in
     record {
       so_far = copying_more _ _ _ _ _ _ _ _ _ wrote.0 c.loop-copied.invariant.so_far
-      (held_bytes c.fill_packet.new.held, (reader_whole packet_limit c.args.header.now _ [] wrote.0 (rw c.as_slice.ensures at wrote.1)).1, filled.2) wrote.2;
+          (held_bytes c.fill_packet.new.held, (reader_whole packet_limit c.args.header.now _ [] wrote.0 (rw c.as_slice.ensures at wrote.1)).1, filled.2) wrote.2;
       between = c.clear.ensures;
       within = omega (arith, c.loop-copied-test.true);
       read = filled.0;
