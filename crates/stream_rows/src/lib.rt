@@ -2,6 +2,8 @@
 #![tactic(auto)]
 
 #[cfg(test)]
+mod copying;
+#[cfg(test)]
 mod failing;
 #[cfg(test)]
 mod readers;
