@@ -152,6 +152,7 @@ copies_known under bytes now out_before out_now most copied run =
     let texts : Texts f tt packets b.0 l.0 = subst (λ (s : List ℕ). Texts f tt packets s l.0) (sym l.2) (texts_more f laws tt packets took.bytes [] l.0 took.texts) in
     let front = has_front f laws tt b.0 in
     let on = front_goes_on f laws tt packets front.0 b.0 l.0 front.1 texts front.2 in
+    let all : Front f tt (packets ++ on.0) b.0 front.1 = subst (λ (ps : List Captured). Front f tt ps b.0 front.1) {y = packets ++ on.0} on.1 front.2 in
     let Ended : Option (List ℕ) → Type 0 = λ o. Ends (IsAtEnd o) (Takes (PacketIsSaid run.header) o now) (HasCause (PacketIsSaid run.header) o copied.read_failed) other o now behind.mid out_now most copied in
     let ends = subst Ended l.1 behind.ends in
     record {
@@ -162,7 +163,7 @@ copies_known under bytes now out_before out_now most copied run =
       rest = front.1;
       mid = behind.mid;
       valid = run.valid;
-      front = record { after = b.0; header_text = header_text; front = subst (λ (ps : List Captured). Front f tt ps b.0 front.1) on.1 front.2 };
+      front = record { after = b.0; header_text = header_text; front = all };
       texts = (b.0, header_text, texts);
       count = behind.so_far.count;
       out = Appends-trans out_before run.out_behind behind.mid (written_header other) (flat_map (written_under other) packets) run.out behind.so_far.out;

@@ -110,6 +110,7 @@ pub record EndsRefused (IsCause : PcapError → Type 0) (mid out_now : Option (L
   pub no_write_failed : copied.write_failed ≡ false
   pub out : Keeps mid out_now
 
+-- why a copy ended behind so many packets
 abbrev pub Ends : Type 0 → (Captured → Type 0) → (PcapError → Type 0) → PcapHeader → Option (List ℕ) → Option (List ℕ) → Option (List ℕ) → Option (List ℕ) → ℕ → Copied → Type 0
 Ends IsEnd IsNext IsCause under left now mid out_now most copied =
     EndsWhole IsEnd left now mid out_now most copied ⊎ EndsTorn IsNext under mid out_now most copied ⊎ EndsRefused IsCause mid out_now most copied

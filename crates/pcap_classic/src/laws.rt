@@ -1,13 +1,18 @@
 //! Laws of the grammar. Each function does nothing: its contract is the law.
 
-ghost use Rattle.std.specs.Prelude.{◌≡◌, ◌≤◌, ◌++◌, ◌↔◌, ℕ, List, [], ◌∷◌, length, map, All, IsTrue};
+ghost use Rattle.std.specs.Prelude.{◌≡◌, ◌≤◌, ◌++◌, ◌↔◌, ℕ, List, [], ◌∷◌, length, map, All, IsTrue, Option};
+ghost use Rattle.std.specs.Io.KnownBytes.{Appends};
 ghost use Rattle.std.specs.List.{flat_map};
 ghost use Rattle.pcap_classic.specs.declared.common.Endianness.{Endianness};
 ghost use Rattle.pcap_classic.specs.declared.common.TsResolution.{TsResolution};
 ghost use Rattle.pcap_classic.specs.declared.link.DataLink.{DataLink};
 ghost use Rattle.pcap_classic.specs.declared.pcap.header.PcapHeader.{PcapHeader};
+ghost use Rattle.pcap_classic.specs.declared.run.copy.Copied.{Copied};
+ghost use Rattle.pcap_classic.specs.declared.run.copy.Under.{Under};
+ghost use Rattle.pcap_classic.specs.declared.run.copy.Under.TheVariants.{Same};
 ghost use Rattle.pcap_classic.specs.Answer.{Order, number_in};
 ghost use Rattle.pcap_classic.specs.Bytes.{IsBytes};
+ghost use Rattle.pcap_classic.specs.Copies.{CanBeUnder, CopyFront, CopiesAll, NothingFailed, header_under};
 ghost use Rattle.pcap_classic.specs.Format.{Front, Texts, Asks, IsLawful};
 ghost use Rattle.pcap_classic.specs.Front.{CaptureFront};
 ghost use Rattle.pcap_classic.specs.HeaderText.{HeaderSays, HeaderText};
@@ -17,12 +22,6 @@ ghost use Rattle.pcap_classic.specs.Magic.{resolution_of};
 ghost use Rattle.pcap_classic.specs.Packets.{packet_format};
 ghost use Rattle.pcap_classic.specs.PacketText.{packet_limit, PacketSays, PacketHeaderSays, Captured, PacketText};
 ghost use Rattle.pcap_classic.specs.Written.{IsWhole, IsWholeHeader, bytes_in, capture, cut, written};
-ghost use Rattle.std.specs.Prelude.{Option};
-ghost use Rattle.std.specs.Io.KnownBytes.{Appends};
-ghost use Rattle.pcap_classic.specs.declared.run.copy.Copied.{Copied};
-ghost use Rattle.pcap_classic.specs.declared.run.copy.Under.{Under};
-ghost use Rattle.pcap_classic.specs.declared.run.copy.Under.TheVariants.{Same};
-ghost use Rattle.pcap_classic.specs.Copies.{CanBeUnder, CopyFront, CopiesAll, NothingFailed, header_under};
 
 use crate::DataLink;
 use crate::pcap::{PacketHeader, PcapHeader};

@@ -70,13 +70,14 @@ impl Under {
     }
 }
 
-/// Copies a capture from a reader to a writer: its header, as `under` demands, and then its packets, each of them before
-/// the next one is read, up to so many. Exactly what was copied is taken from the reader where there is no fault. Under
-/// microseconds the times are cut to them.
+/// Copies a capture from a reader to a writer: its header, as `under` demands, and then at most `most` of its packets, each
+/// of them before the next one is read. Where there is no fault exactly what was copied was taken from the reader. Under
+/// microseconds the rest of the nanoseconds is lost.
 ///
 /// `InvalidField` where the magic number of the header that is given is none of the four: nothing is read or written then.
-/// A header or packet that is refused gives what `PcapReader` gives there, and what stands before it has gone out.
-/// `IoError` where a write failed: a beginning of the text that comes next has gone out then.
+/// A header that is refused gives what `PcapHeader::from_reader` gives, and nothing is written; a rest that is refused gives
+/// what `PcapReader` gives there, and the header and all packets before it have gone out. `IoError` also where a write
+/// failed: a beginning of the text that comes next has gone out then. `OutOfMemory` where a packet can't be held.
 pub fn copy_pcap<R: Read, W: Write>(
     alloc: Global,
     reader: &mut R,
