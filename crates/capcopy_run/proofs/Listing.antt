@@ -1,94 +1,88 @@
--- What a run over a slice gives the word list.
-use Rattle.std.proofs.Common.{◌<◌, ◌≤◌, ℕ, List, length, take, Option, Result, Ok, Err, inl, inr}
-use Rattle.std.specs.Prelude.{⊤, map}
-use Rattle.std.specs.Io.KnownBytes.{Appends, Keeps}
-use Rattle.std.proofs.lemmas.List.{take-map, length-map}
+-- Packets that are listed, one after another.
+use Rattle.std.proofs.Common.{◌≡◌, ◌<◌, ◌+◌, ◌⊎◌, ℕ, suc, List, [], ◌∷◌, ◌++◌, length, Bool, true, false, Option, Some, None, Result, Ok, Err, inl, inr, refl, sym, ap, ◌∙◌, subst, arith, length-append, append_assoc}
+use Rattle.std.specs.Io.KnownBytes.{Appends, Keeps, IsAtEnd}
+use Rattle.std.proofs.KnownBytes.{Appends-nil, Appends-trans, Consumes-nil, Keeps-refl}
 use Rattle.pcap_classic.specs.declared.errors.PcapError.{PcapError}
 use Rattle.pcap_classic.specs.declared.errors.PcapError.TheVariants as errors
-use Rattle.pcap_classic.specs.declared.run.PcapRun.{PcapRun}
-use Rattle.pcap_classic.specs.declared.run.Rest.{Rest}
-use Rattle.pcap_classic.specs.declared.run.Rest.TheVariants as rests
-use Rattle.pcap_classic.specs.Answer.{Refuses, faulty}
-use Rattle.pcap_classic.specs.Faults.{Fault, Shows}
-use Rattle.pcap_classic.specs.HeaderText.{LacksHeader, HasHeaderFault}
-use Rattle.pcap_classic.specs.Packets.{format_under}
-use Rattle.pcap_classic.specs.PacketText.{packet_limit, captured}
-use Rattle.pcap_classic.specs.Run.{IsRun, IsRest}
+use Rattle.pcap_classic.specs.declared.pcap.header.PcapHeader.{PcapHeader}
+use Rattle.pcap_classic.specs.Answer.{Verdict}
+use Rattle.pcap_classic.specs.Errors.{IsIo, IsMemory}
+use Rattle.pcap_classic.specs.Faults.{Shows}
+use Rattle.pcap_classic.specs.Format.{Format, IsLawful}
+use Rattle.pcap_classic.specs.HeaderText.{HeaderSays, HeaderText}
+use Rattle.pcap_classic.specs.Answer.{number_in}
+use Rattle.pcap_classic.specs.Magic.{order_of, resolution_of}
+use Rattle.pcap_classic.specs.PacketText.{packet_limit, Captured}
+use Rattle.pcap_classic.specs.Packets.{format_under, reader_format}
+use Rattle.pcap_classic.specs.Reading.{IsFaultOf, Takes, HasCause, read_failed, no_memory, torn, refused}
+use Rattle.pcap_classic.specs.Takes.{TakesTexts, TakesItems, ReadsFront, Stops}
+use Rattle.pcap_classic.specs.Writing.{AppendsPart}
+use Rattle.pcap_classic.proofs.Captures.{under_valid}
+use Rattle.pcap_classic.proofs.HeadedPackets.{packets_lawful}
+use Rattle.pcap_classic.proofs.Packets.{reader_lawful}
+use Rattle.pcap_classic.proofs.Stable.{header_stable}
+use Rattle.pcap_classic.proofs.Taking.{takes_more, run_reads}
 use Rattle.capcopy_run.specs.declared.exit.Exit.{Exit}
 use Rattle.capcopy_run.specs.declared.exit.Exit.TheVariants as exits
-use Rattle.capcopy_run.specs.Exits.{EndsAt, IsEarlyEnd, EndsBehind}
-use Rattle.capcopy_run.specs.Lines.{lines_from}
-use Rattle.capcopy_run.specs.Listing.{Lists, ListsUntil}
+use Rattle.capcopy_run.specs.Exits.{EndsAt}
+use Rattle.capcopy_run.specs.Lines.{line_of, lines_from, WritesLine}
+use Rattle.capcopy_run.specs.Listing.{ReaderSays, Listing, TearsNext, LinesEnd, ListsBehind, Listed, EndsClean, EndsRefused, TearsLine, ListsUntil, Lists}
+use Rattle.capcopy_run.proofs.Lines.{lines_push}
 
--- an early end is Io
-early_exit : (P : Exit → Type 0) (io : (e : PcapError) → P (exits.Io e)) (exit : Exit) → IsEarlyEnd exit → P exit
-early_exit P io (exits.Io e) early = io e
-early_exit P io exits.Done early = elim early [ ]
-early_exit P io (exits.Refused e) early = elim early [ ]
-early_exit P io exits.Most early = elim early [ ]
-early_exit P io exits.Usage early = elim early [ ]
-early_exit P io exits.Memory early = elim early [ ]
-
--- the exit of an error that shows a fault
-shown_exit : (Stands : Fault → Type 0) (P : Exit → Type 0) (io : (e : PcapError) → P (exits.Io e))
-    (refused : (e : PcapError) → Shows Stands e → P (exits.Refused e)) (error : PcapError) (exit : Exit) → Shows Stands error → EndsAt error exit → P exit
-shown_exit Stands P io refused (errors.IncompleteBuffer n) exit shows ends = elim shows [ ]
-shown_exit Stands P io refused (errors.IoError e) exit shows ends = rw ends (io (errors.IoError e))
-shown_exit Stands P io refused (errors.InvalidField e) exit shows ends = rw ends (refused (errors.InvalidField e) shows)
-shown_exit Stands P io refused (errors.Utf8Error e) exit shows ends = rw ends (refused (errors.Utf8Error e) shows)
-shown_exit Stands P io refused (errors.FromUtf8Error e) exit shows ends = elim shows [ ]
-shown_exit Stands P io refused (errors.OutOfMemory e) exit shows ends = elim shows [ ]
-shown_exit Stands P io refused errors.WriterFailed exit shows ends = elim shows [ ]
-
--- the exit where the header is refused, or no memory is left for the packets
-pub lists_none : (s : List ℕ) (most : ℕ) (before after : Option (List ℕ)) (error : PcapError) (exit : Exit) → Keeps before after
-    → Refuses ⊤ (LacksHeader s) (HasHeaderFault s) error → EndsAt error exit → ListsUntil most s before after exit
-lists_none s most before after (errors.IncompleteBuffer n) exit kept refused ends = early_exit (ListsUntil most s before after) (λ e. tt) exit ends
-lists_none s most before after (errors.OutOfMemory e) exit kept refused ends = rw ends kept
-lists_none s most before after (errors.IoError e) exit kept refused ends =
-    shown_exit (HasHeaderFault s) (ListsUntil most s before after) (λ e. tt) (λ e shows. inl (shows, kept)) (errors.IoError e) exit refused ends
-lists_none s most before after (errors.InvalidField e) exit kept refused ends =
-    shown_exit (HasHeaderFault s) (ListsUntil most s before after) (λ e. tt) (λ e shows. inl (shows, kept)) (errors.InvalidField e) exit refused ends
-lists_none s most before after (errors.Utf8Error e) exit kept refused ends =
-    shown_exit (HasHeaderFault s) (ListsUntil most s before after) (λ e. tt) (λ e shows. inl (shows, kept)) (errors.Utf8Error e) exit refused ends
-lists_none s most before after (errors.FromUtf8Error e) exit kept refused ends = elim refused [ ]
-lists_none s most before after errors.WriterFailed exit kept refused ends = elim refused [ ]
-
--- the run has as many packets as may be listed
-pub lists_most : (run : PcapRun) (s : List ℕ) (most : ℕ) (before after : Option (List ℕ)) → IsRun run s → most ≤ length run.packets.items
-    → Appends before after (lines_from 1 (map captured (take most run.packets.items))) → ListsUntil most s before after exits.Most
-lists_most run s most before after h many wrote = record {
-  header = run.header;
-  packets = map captured run.packets.items;
-  left = h.left;
-  front = h.front;
-  lines = rw (take-map captured most run.packets.items) wrote;
-  ends = rw (length-map run.packets.items captured) many;
+pub listing_none : (header : PcapHeader) (before out : Option (List ℕ)) → Listing header before before out out 0
+listing_none header before out = record {
+  packets = [];
+  count = refl;
+  took = record { bytes = []; texts = refl; took = Consumes-nil before };
+  out = Appends-nil out;
 }
 
--- all packets of the run are listed, and it ends by its rest
-pub lists_rest : (run : PcapRun) (s : List ℕ) (most : ℕ) (before after : Option (List ℕ)) (h : IsRun run s) → length run.packets.items < most
-    → Appends before after (lines_from 1 (map captured (take most run.packets.items)))
-    → (rest : Rest) (result : Result (Unit {0}) Exit) → IsRest ((format_under packet_limit run.header).says tt) h.left rest → EndsBehind rest result → Lists most s before after result
-lists_rest run s most before after h few wrote rests.Clean (Ok done) stands ends = record {
-  header = run.header;
-  packets = map captured run.packets.items;
-  left = h.left;
-  front = h.front;
-  lines = rw (take-map captured most run.packets.items) wrote;
-  ends = (rw (length-map run.packets.items captured) few, stands);
-}
-lists_rest run s most before after h few wrote (rests.Needs n) (Err exit) stands ends = early_exit (ListsUntil most s before after) (λ e. tt) exit ends
-lists_rest run s most before after h few wrote (rests.Refused error) (Err exit) stands ends =
-    let Stands : Fault → Type 0 = λ fault. (format_under packet_limit run.header).says tt h.left (faulty fault) in
-    shown_exit Stands (ListsUntil most s before after) (λ e. tt) (λ e shows. inr record {
-      header = run.header;
-      packets = map captured run.packets.items;
-      left = h.left;
-      front = h.front;
-      lines = rw (take-map captured most run.packets.items) wrote;
-      ends = (rw (length-map run.packets.items captured) few, shows);
-    }) error exit stands ends
-lists_rest run s most before after h few wrote rests.Clean (Err exit) stands ends = elim ends [ ]
-lists_rest run s most before after h few wrote (rests.Needs n) (Ok done) stands ends = elim ends [ ]
-lists_rest run s most before after h few wrote (rests.Refused error) (Ok done) stands ends = elim ends [ ]
+pub listing_more : (header : PcapHeader) (a b c p q r : Option (List ℕ)) (n : ℕ) (packet : Captured) → Listing header a b p q n
+    → Takes (ReaderSays header) b c packet → Appends q r (line_of (n + 1) packet.header) → Listing header a c p r (n + 1)
+listing_more header a b c p q r n packet so_far took out =
+    let index : n + 1 ≡ 1 + length so_far.packets = omega (arith, so_far.count) in
+    let goes : lines_from 1 (so_far.packets ++ packet ∷ []) ≡ lines_from 1 so_far.packets ++ line_of (n + 1) packet.header =
+    lines_push 1 so_far.packets packet ∙ ap (λ k. lines_from 1 so_far.packets ++ line_of k packet.header) (sym index) in
+    record {
+      packets = so_far.packets ++ packet ∷ [];
+      count = length-append so_far.packets (packet ∷ []) ∙ omega (arith, so_far.count);
+      took = takes_more (reader_format packet_limit header) (reader_lawful packet_limit header) tt so_far.packets packet a b c so_far.took took;
+      out = subst (λ l. Appends p r l) (sym goes) (Appends-trans p q r (lines_from 1 so_far.packets) (line_of (n + 1) packet.header) so_far.out out);
+    }
+
+-- a refusal that is neither of a read nor for want of memory shows a fault
+shows : {V : Type 0} (IsSaid : List ℕ → Verdict V → Type 0) (left : Option (List ℕ)) (failed : Bool) (e : PcapError) → (IsIo e → ⊥) → (IsMemory e → ⊥)
+    → HasCause IsSaid left failed e → Shows (IsFaultOf IsSaid left) e
+shows IsSaid left failed e no_io no_memory_ cause =
+    elim cause [ read_failed io is ↦ absurd (no_io io) | no_memory memory is ↦ absurd (no_memory_ memory) | torn io is short ↦ absurd (no_io io) | refused stands is ↦ stands ]
+
+module _ (header : PcapHeader) (left mid : Option (List ℕ)) (n most : ℕ) (fewer : n < most) where
+  -- the reader's refusal ends the lines
+  pub ends_refused : (failed : Bool) (e : PcapError) (exit : Exit) → HasCause (ReaderSays header) left failed e → EndsAt e exit → LinesEnd header left mid mid n most (Err exit)
+  ends_refused failed (errors.IoError x) exit cause ends = rw ends (fewer, inl (Keeps-refl mid))
+  ends_refused failed (errors.OutOfMemory x) exit cause ends = rw ends (fewer, Keeps-refl mid)
+  ends_refused failed (errors.InvalidField t) exit cause ends =
+      rw ends (fewer, shows (ReaderSays header) left failed (errors.InvalidField t) (λ x. x) (λ x. x) cause, Keeps-refl mid)
+  ends_refused failed (errors.Utf8Error x) exit cause ends =
+      rw ends (fewer, shows (ReaderSays header) left failed (errors.Utf8Error x) (λ x. x) (λ x. x) cause, Keeps-refl mid)
+  ends_refused failed (errors.IncompleteBuffer k) exit cause ends = absurd (shows (ReaderSays header) left failed (errors.IncompleteBuffer k) (λ x. x) (λ x. x) cause)
+  ends_refused failed (errors.FromUtf8Error x) exit cause ends = absurd (shows (ReaderSays header) left failed (errors.FromUtf8Error x) (λ x. x) (λ x. x) cause)
+  ends_refused failed errors.WriterFailed exit cause ends = absurd (shows (ReaderSays header) left failed errors.WriterFailed (λ x. x) (λ x. x) cause)
+
+  -- a line that was not written ends them
+  pub ends_torn : (now out_now : Option (List ℕ)) (packet : Captured) (exit : Exit) → Takes (ReaderSays header) left now packet
+      → WritesLine mid out_now (line_of (n + 1) packet.header) (Err exit) → LinesEnd header left mid out_now n most (Err exit)
+  ends_torn now out_now packet (exits.Io (errors.IoError x)) took part =
+      let next : n + 1 ≡ suc n = omega arith in
+      (fewer, inr (record { packet = packet; now = now; took = took; out = subst (λ k. AppendsPart mid out_now (line_of k packet.header)) next part }))
+  ends_torn now out_now packet (exits.Io (errors.IncompleteBuffer k)) took part = absurd part
+  ends_torn now out_now packet (exits.Io (errors.InvalidField t)) took part = absurd part
+  ends_torn now out_now packet (exits.Io (errors.Utf8Error x)) took part = absurd part
+  ends_torn now out_now packet (exits.Io (errors.FromUtf8Error x)) took part = absurd part
+  ends_torn now out_now packet (exits.Io (errors.OutOfMemory x)) took part = absurd part
+  ends_torn now out_now packet (exits.Io errors.WriterFailed) took part = absurd part
+  ends_torn now out_now packet exits.Memory took part = (fewer, part)
+  ends_torn now out_now packet exits.Done took part = absurd part
+  ends_torn now out_now packet (exits.Refused e) took part = absurd part
+  ends_torn now out_now packet exits.Most took part = absurd part
+  ends_torn now out_now packet exits.Usage took part = absurd part

@@ -1,42 +1,21 @@
 //! The word `list`: a line for each packet of a capture.
 
-ghost use Rattle.std.specs.Prelude.{◌≡◌, ℕ, List, map, IfOk, IfSome, IfErr, OnOk};
-ghost use Rattle.std.specs.Io.KnownBytes.{Appends};
-ghost use Rattle.pcap_classic.specs.PacketText.{captured};
-ghost use Rattle.pcap_classic.specs.Run.{IsRun};
-ghost use Rattle.capcopy_run.specs.Exits.{IsEndOfReading, IsIo, IsOfKnownWord, EndsBehind};
-ghost use Rattle.capcopy_run.specs.Lines.{line_of, lines_from};
-ghost use Rattle.capcopy_run.specs.Listing.{Lists};
+ghost use Rattle.std.specs.Prelude.{◌≡◌, false, [], IfSome, IfErr, OnOk, string_bytes};
+ghost use Rattle.pcap_classic.specs.Reader.{stream_of, has_failed, is_done};
+ghost use Rattle.capcopy_run.specs.Exits.{IsOfKnownWord};
+ghost use Rattle.capcopy_run.specs.Lines.{line_of, WritesLine};
+ghost use Rattle.capcopy_run.specs.Listing.{Lists, ListsBehind};
 
 use crate::Exit;
-use pcap_classic::PcapError;
-use pcap_classic::pcap::{Packet, PacketHeader};
-use pcap_classic::run::{PcapRun, Rest, parse_pcap};
-use std::alloc::Global;
+use pcap_classic::pcap::{PacketHeader, PcapReader};
+use pcap_classic::stream::put;
+use std::alloc::{AllocError, Global};
 use std::io::{Read, Write};
 
-/// The most bytes that one read is asked for.
-const CHUNK: usize = 65536;
-
-// All that the input has left.
-fn read_all<R: Read>(alloc: Global, input: &mut R) -> Result<Vec<u8>, Exit>
-    ensures ok { IfOk result (λ bytes. IfSome (R.remaining input.old) (λ left. bytes.items ≡ left)) }
-    ensures err { IfErr result IsEndOfReading }
-{
-    let mut chunk = [0; CHUNK];
-    let mut bytes = Vec::new(alloc);
-    loop {
-        let n = input.read(&mut chunk)?;
-        if n == 0 {
-            return Ok(bytes);
-        }
-        bytes.extend_from_slice(&chunk[..n])?;
-    }
-}
-
-fn write_line<W: Write>(output: &mut W, index: u64, header: PacketHeader) -> Result<(), Exit>
-    ensures ok { OnOk result (Appends (W.contents output.old) (W.contents output.new) (line_of index header)) }
-    ensures err { IfErr result IsIo }
+// Makes the line of the packet at this index.
+fn push_line(line: &mut String, index: u64, header: PacketHeader) -> Result<(), AllocError>
+    requires { string_bytes line.old ≡ [] }
+    ensures { OnOk result (string_bytes line.new ≡ line_of index header) }
 {
     let PacketHeader {
         ts_sec,
@@ -44,48 +23,44 @@ fn write_line<W: Write>(output: &mut W, index: u64, header: PacketHeader) -> Res
         incl_len,
         orig_len,
     } = header;
-    writeln!(
-        output,
-        "{index} {ts_sec}.{ts_nsec:09} {incl_len}/{orig_len}"
-    )?;
+    writeln!(line, "{index} {ts_sec}.{ts_nsec:09} {incl_len}/{orig_len}")
+}
+
+fn write_line<W: Write>(
+    output: &mut W,
+    line: &mut String,
+    index: u64,
+    header: PacketHeader,
+) -> Result<(), Exit>
+    requires { string_bytes line.old ≡ [] }
+    ensures { WritesLine (W.contents output.old) (W.contents output.new) (line_of index header) result }
+{
+    push_line(line, index, header)?;
+    put(output, &mut false, line.as_bytes())?;
     Ok(())
 }
 
-fn write_lines<W: Write>(output: &mut W, packets: &[Packet<'_>]) -> Result<(), Exit>
-    ensures ok { OnOk result (Appends (W.contents output.old) (W.contents output.new)
-        (lines_from 1 (map captured packets.now))) }
-    ensures err { IfErr result IsIo }
+// Writes a line for each packet that the reader gives, before it is asked for the next one.
+fn list_packets<T: Read + Drop, W: Write>(
+    alloc: Global,
+    reader: &mut PcapReader<T>,
+    output: &mut W,
+    most: u64,
+) -> Result<(), Exit>
+    requires ready { is_done reader.old ≡ false }
+    requires unfailed { has_failed reader.old ≡ false }
+    ensures { ListsBehind reader.old.header (T.remaining (stream_of reader.old)) (W.contents output.old) (W.contents output.new) most result }
 {
-    for (i, packet) in packets.iter().enumerate() {
-        write_line(output, i as u64 + 1, packet.header)?;
+    let mut line = String::new(alloc);
+    for turn in 0..most {
+        line.clear();
+        match reader.next() {
+            None => return Ok(()),
+            Some(Ok(packet)) => write_line(output, &mut line, turn + 1, packet.header)?,
+            Some(Err(error)) => return Err(Exit::from(error)),
+        }
     }
-    Ok(())
-}
-
-// How the run ends behind the last whole packet.
-fn end_at(rest: Rest) -> Result<(), Exit>
-    ensures known { IfErr result IsOfKnownWord }
-    ensures by_rest { EndsBehind rest result }
-{
-    match rest {
-        Rest::Clean => Ok(()),
-        Rest::Needs(n) => Err(Exit::from(PcapError::IncompleteBuffer(n))),
-        Rest::Refused(error) => Err(Exit::from(error)),
-    }
-}
-
-// The lines of the first `most` packets of a run, and how it ends.
-fn write_run<W: Write>(output: &mut W, run: PcapRun<'_>, most: u64) -> Result<(), Exit>
-    ensures known { IfErr result IsOfKnownWord }
-    ensures lists { (s : List ℕ) → IsRun run.entry s → Lists most s (W.contents output.old) (W.contents output.new) result }
-{
-    let PcapRun { packets, rest, .. } = run;
-    let shown = packets.len().min(most as usize);
-    write_lines(output, &packets.as_slice()[..shown])?;
-    if shown as u64 == most {
-        return Err(Exit::Most);
-    }
-    end_at(rest)
+    Err(Exit::Most)
 }
 
 /// Writes a line for each packet of the capture that the input holds, and `most` lines at most.
@@ -100,7 +75,6 @@ pub(crate) fn list<R: Read, W: Write>(
     ensures known { IfErr result IsOfKnownWord }
     ensures lists { IfSome (R.remaining input.old) (λ s. Lists most s (W.contents output.old) (W.contents output.new) result) }
 {
-    let bytes = read_all(alloc, input)?;
-    let run = parse_pcap(alloc, bytes.as_slice())?;
-    write_run(output, run, most)
+    let mut reader = PcapReader::new(alloc, input)?;
+    list_packets(alloc, &mut reader, output, most)
 }

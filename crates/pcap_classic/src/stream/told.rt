@@ -119,8 +119,8 @@ impl<T: Write> Write for Told<T> {
     }
 }
 
-// Writes all of the bytes, or up to a call that fails or takes nothing of them.
-pub(crate) fn put<W: Write>(
+/// Writes all of the bytes, or up to a call that fails or takes nothing of them. `IoError` then.
+pub fn put<W: Write>(
     writer: &mut W,
     has_failed: &mut bool,
     bytes: &[u8],
