@@ -20,3 +20,5 @@ pub mod Pulling
 pub mod PacketStream
 pub mod Taking
 pub mod Captures
+pub mod Copied
+pub mod Accepted

@@ -16,7 +16,7 @@ pub takes_none : {S V : Type 0} (f : Format S V) (q : S) (known : Option (List �
 takes_none f q known = record { bytes = []; texts = refl; took = Consumes-nil known }
 
 -- a fault that stands for the one that an error shows
-shown_fault : (Stands : Fault → Type 0) (e : PcapError) → Shows Stands e → (fault : Fault) × Stands fault
+pub shown_fault : (Stands : Fault → Type 0) (e : PcapError) → Shows Stands e → (fault : Fault) × Stands fault
 shown_fault Stands (errors.InvalidField text) shown = (Invalid shown.0, shown.2)
 shown_fault Stands (errors.IoError x) shown = (Io, shown)
 shown_fault Stands (errors.Utf8Error x) shown = (NoText, shown)
@@ -46,7 +46,8 @@ module _ {S V : Type 0} (f : Format S V) (laws : IsLawful f) (q : S) where
       let all = nothing_more f laws q more after rest front none in
       (all.0, subst (λ (l : List ℕ). HasCause (f.says q) (Some l) failed e) (sym all.1) cause)
 
-  ends_front : (fault : Option PcapError) (after rest : List ℕ) (more : List V) (now : Option (List ℕ)) (failed : Bool) (count most : ℕ)
+  -- what stopped a run, as the front shows it
+  pub ends_front : (fault : Option PcapError) (after rest : List ℕ) (more : List V) (now : Option (List ℕ)) (failed : Bool) (count most : ℕ)
       → Front f q more after rest → Stops (f.says q) (Some after) now failed count most fault → EndsFront (f.says q) rest more failed count most fault
   ends_front None after rest more now failed count most front stops =
       elim stops.2 [

@@ -1,5 +1,5 @@
 -- Numbers as bytes, and the three answers of a call on a slice.
-use Rattle.std.specs.Prelude.{◌≡◌, ℕ, List, ◌++◌, length, Result, Ok, Err}
+use Rattle.std.specs.Prelude.{◌≡◌, ℕ, List, [], ◌++◌, length, Result, Ok, Err}
 use Rattle.std.specs.Borrow.{Bor}
 use Rattle.byteorder.specs.Endian.{big_number, little_number}
 use Rattle.pcap_classic.specs.declared.common.Endianness.{Endianness}
@@ -49,3 +49,12 @@ TellsWhere MayGrow IsSaid view (Err error) = Refuses MayGrow (λ n. IsSaid (lack
 -- the same of a call that takes no memory
 abbrev pub Tells : {X V : Type 0} → (Verdict V → Type 0) → (X → V) → Result (Bor (List ℕ) × X) PcapError → Type 0
 Tells = TellsWhere ⊥
+
+-- the result of a call whose value takes all of the slice, so that nothing follows it
+abbrev pub TellsAllWhere : {X V : Type 0} → Type 0 → (Verdict V → Type 0) → (X → V) → Result X PcapError → Type 0
+TellsAllWhere MayGrow IsSaid view (Ok x) = IsSaid (whole (view x) [])
+TellsAllWhere MayGrow IsSaid view (Err error) = Refuses MayGrow (λ n. IsSaid (lacks n)) (λ fault. IsSaid (faulty fault)) error
+
+-- the same of a call that takes no memory
+abbrev pub TellsAll : {X V : Type 0} → (Verdict V → Type 0) → (X → V) → Result X PcapError → Type 0
+TellsAll = TellsAllWhere ⊥

@@ -1,4 +1,4 @@
--- The text of a capture's header.
+-- The text of a capture's header ('File Header').
 use Rattle.std.specs.Prelude.{◌≡◌, ◌<◌, ◌≤◌, ◌+◌, ℕ, List, length, IsTrue, false}
 use Rattle.std.specs.Int.{w32, cast_signed}
 use Rattle.byteorder.specs.Endian.{big_number}

@@ -28,3 +28,4 @@ pub mod LentStreams
 pub mod Writing
 pub mod Errors
 pub mod Defaults
+pub mod Copies

@@ -1,4 +1,4 @@
--- The text of a packet, and what it means that it is cut off or wrong.
+-- The text of a packet, what it lacks, and its faults ('Packet Record').
 use Rattle.std.specs.Prelude.{◌≡◌, ◌<◌, ◌≤◌, ◌+◌, ◌*◌, ◌⊎◌, ℕ, List, ◌++◌, length, Option, Some, None, nat_lt, if◌then◌else◌}
 use Rattle.pcap_classic.specs.declared.common.TsResolution.{TsResolution}
 use Rattle.pcap_classic.specs.declared.common.TsResolution.TheVariants.{MicroSecond, NanoSecond}

@@ -23,30 +23,31 @@ abbrev pub fraction_of : TsResolution → ℕ → ℕ
 fraction_of MicroSecond nanoseconds = nanoseconds / 1000
 fraction_of NanoSecond nanoseconds = nanoseconds
 
--- a packet's header as it is written by an order
+-- a packet's header as it is written by an order (pcap draft, 'Packet Record')
 abbrev pub packet_header_bytes : (ℕ → ℕ → List ℕ) → TsResolution → PacketHeader → List ℕ
 packet_header_bytes bytes r header =
     bytes 4 header.ts_sec ++ (bytes 4 (fraction_of r header.ts_nsec) ++ (bytes 4 header.incl_len ++ bytes 4 header.orig_len))
 
--- a packet as it is written by an order
+-- a packet as it is written by an order: its header, and then its bytes (pcap draft, 'Packet Record')
 abbrev pub written : (ℕ → ℕ → List ℕ) → TsResolution → Captured → List ℕ
 written bytes r packet = packet_header_bytes bytes r packet.header ++ packet.bytes
 
--- a header as it is written by an order, the magic number high byte first
+-- a header as it is written by an order, the magic number high byte first (pcap draft, 'File Header')
 abbrev pub header_bytes : (ℕ → ℕ → List ℕ) → PcapHeader → List ℕ
 header_bytes bytes header =
     big_bytes 4 header.magic_number ++ (bytes 2 header.version_major ++ (bytes 2 header.version_minor
     ++ (bytes 4 (cast_unsigned w32 header.ts_correction) ++ (bytes 4 header.ts_accuracy ++ (bytes 4 header.snaplen
     ++ bytes 4 (link_number header.datalink))))))
 
+-- a header as it is written in the order that its magic number tells
 abbrev pub written_header : PcapHeader → List ℕ
 written_header header = header_bytes (bytes_in (order_of header.magic_number)) header
 
--- a packet as it is written under a header
+-- a packet as it is written in the order and resolution that a header's magic number tells
 abbrev pub written_under : PcapHeader → Captured → List ℕ
 written_under header packet = written (bytes_in (order_of header.magic_number)) (resolution_of header.magic_number) packet
 
--- a whole capture
+-- a whole capture: its header, and then its packets
 abbrev pub capture : PcapHeader → List Captured → List ℕ
 capture header packets = written_header header ++ flat_map (written_under header) packets
 

@@ -17,6 +17,12 @@ ghost use Rattle.pcap_classic.specs.Magic.{resolution_of};
 ghost use Rattle.pcap_classic.specs.Packets.{packet_format};
 ghost use Rattle.pcap_classic.specs.PacketText.{packet_limit, PacketSays, PacketHeaderSays, Captured, PacketText};
 ghost use Rattle.pcap_classic.specs.Written.{IsWhole, IsWholeHeader, bytes_in, capture, cut, written};
+ghost use Rattle.std.specs.Prelude.{Option};
+ghost use Rattle.std.specs.Io.KnownBytes.{Appends};
+ghost use Rattle.pcap_classic.specs.declared.run.copy.Copied.{Copied};
+ghost use Rattle.pcap_classic.specs.declared.run.copy.Under.{Under};
+ghost use Rattle.pcap_classic.specs.declared.run.copy.Under.TheVariants.{Same};
+ghost use Rattle.pcap_classic.specs.Copies.{CanBeUnder, CopyFront, CopiesAll, NothingFailed, header_under};
 
 use crate::DataLink;
 use crate::pcap::{PacketHeader, PcapHeader};
@@ -131,4 +137,26 @@ pub fn packet_headers_are_equal(left: &PacketHeader, right: &PacketHeader) -> bo
 pub fn written_capture_is_read()
     ensures { (header : PcapHeader) (packets : List Captured) → IsWholeHeader header → All IsWhole packets →
         CaptureFront packet_limit header (map (cut (resolution_of header.magic_number)) packets) (capture header packets) [] }
+{}
+
+/// A capture that is accepted whole is copied whole, where nothing fails: its header as it is asked for, and all its packets.
+pub fn accepted_capture_is_copied()
+    ensures { (under : Under) (header : PcapHeader) (packets : List Captured) (bytes : List ℕ) (now out_before out_now : Option (List ℕ)) (most : ℕ) (copied : Copied) →
+        CaptureFront packet_limit header packets bytes [] → length packets ≤ most → NothingFailed copied → CanBeUnder under →
+        CopyFront under bytes now out_before out_now most copied → CopiesAll (header_under under header) packets out_before out_now copied }
+{}
+
+/// Its copy under its own header is its bytes.
+pub fn copy_is_the_capture()
+    ensures { (header : PcapHeader) (packets : List Captured) (bytes : List ℕ) (now out_before out_now : Option (List ℕ)) (most : ℕ) (copied : Copied) →
+        IsBytes bytes → CaptureFront packet_limit header packets bytes [] → length packets ≤ most → NothingFailed copied →
+        CopyFront Same bytes now out_before out_now most copied → Appends out_before out_now bytes }
+{}
+
+/// What went out under another header has that header and the packets that were read in front, their nanoseconds cut as
+/// its resolution demands, and nothing behind them.
+pub fn copy_is_read_under_its_header()
+    ensures { (header under : PcapHeader) (packets : List Captured) (s rest : List ℕ) → IsBytes s →
+        CaptureFront packet_limit header packets s rest → IsWholeHeader under →
+        CaptureFront packet_limit under (map (cut (resolution_of under.magic_number)) packets) (capture under packets) [] }
 {}

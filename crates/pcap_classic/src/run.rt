@@ -1,5 +1,7 @@
 //! Whole runs over a capture.
 
+mod copy;
+
 ghost use Rattle.std.specs.Prelude.{◌≡◌, ◌⊎◌, ⊤, false, All, IfOk, IfErr, IfSome, map};
 ghost use Rattle.pcap_classic.specs.Answer.{Refuses};
 ghost use Rattle.pcap_classic.specs.Bytes.{IsBorrowed};
@@ -16,6 +18,7 @@ ghost use Rattle.pcap_classic.specs.Run.{IsRun, rest_after};
 
 use crate::pcap::{Packet, PcapHeader, PcapParser, PcapReader};
 use crate::{PcapError, ResultParsing};
+pub use copy::{Copied, Under, copy_pcap};
 use std::alloc::Global;
 use std::io::Read;
 

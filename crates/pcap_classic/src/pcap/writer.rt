@@ -86,7 +86,7 @@ impl<W: Write + Drop> PcapWriter<W> {
 
 impl<W: Write> PcapWriter<W> {
     /// Writes a packet of these bytes: seconds, nanoseconds, the bytes, and the original length in bytes. There have to be
-    /// less than 2^32 bytes. It fails as `write_packet` does.
+    /// fewer than 2^32 bytes. It fails as `write_packet` does.
     pub fn write(
         &mut self,
         ts_sec: u32,

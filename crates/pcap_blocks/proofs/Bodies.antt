@@ -1,0 +1,49 @@
+-- What the calls that read bodies give together.
+use Rattle.std.proofs.Common.{◌≡◌, ◌≢◌, ℕ, List, refl, false, Ok, Err, Some, None, Result}
+use Rattle.std.specs.Prelude.{⊤, ◌==◌}
+use Rattle.std.specs.Borrow.{Bor}
+use Rattle.std.proofs.lemmas.Bool.{ne_eqb}
+use Rattle.byteorder.specs.Endian.{big_number}
+use Rattle.pcap_classic.specs.declared.common.Endianness.{Endianness}
+use Rattle.pcap_classic.specs.declared.common.Endianness.TheVariants.{Big, Little}
+use Rattle.pcap_classic.specs.Answer.{Order, Number, number_in}
+use Rattle.pcap_classic.specs.Faults.{Fault}
+use Rattle.pcap_blocks.specs.declared.refusal.Refusal.{Refusal}
+use Rattle.pcap_blocks.specs.declared.section_header.SectionHeaderBlock.{SectionHeaderBlock}
+use Rattle.pcap_blocks.specs.Refusals.{FindsWhere}
+use Rattle.pcap_blocks.specs.Padded.{Behind}
+use Rattle.pcap_blocks.specs.Options.{may_end_with_body, ListFault}
+use Rattle.pcap_blocks.specs.InterfaceDescription.{interface_description, InterfaceFault, in_options}
+use Rattle.pcap_blocks.specs.SectionHeader.{section_header, magic_order, AfterMagicFault, AfterMagicSays, SectionFault, after_magic, SectionSays, section_of}
+use Rattle.pcap_blocks.proofs.Refusals.{Denies-weaker}
+
+pub interface_fails : (order : Order) (s after : List ℕ) → Behind 8 s after → (f : Fault) → ListFault may_end_with_body order interface_description after f → InterfaceFault order s f
+interface_fails order s after behind f fault = in_options f after behind fault
+
+pub after_magic_fails : (order : Order) (s after : List ℕ) → Behind 12 s after → (f : Fault) → ListFault may_end_with_body order section_header after f → AfterMagicFault order s f
+after_magic_fails order s after behind f fault = record { after_version = after; behind = behind; in_options = fault }
+
+section_fails : (magic : ℕ) (endianness : Endianness) (s after : List ℕ) → Number big_number 4 magic s after → magic_order magic ≡ Some endianness → (f : Fault) → AfterMagicFault (number_in endianness) after f → SectionFault s f
+section_fails magic endianness s after is names f fault = after_magic f magic after endianness is names fault
+
+-- what is told behind the magic number is told of the body
+pub section_tells : (magic : ℕ) (endianness : Endianness) (s after : List ℕ) → Number big_number 4 magic s after → magic_order magic ≡ Some endianness → (r : Result (Bor (List ℕ) × SectionHeaderBlock) Refusal)
+    → FindsWhere ⊤ (AfterMagicSays (number_in endianness) magic after) section_of r → FindsWhere ⊤ (SectionSays s) section_of r
+section_tells magic endianness s after is names (Ok x) tells =
+    record { after_magic = after; endianness = endianness; magic_is = rw tells.0 is; names = rw tells.0 names; after = tells.1 }
+section_tells magic endianness s after is names (Err e) tells = Denies-weaker ⊤ e (section_fails magic endianness s after is names) tells
+
+pub big_magic : (magic : ℕ) → magic ≡ 0x1A2B3C4D → magic_order magic ≡ Some Big
+unfolding magic_order
+big_magic magic is = rw is refl
+
+pub little_magic : (magic : ℕ) → magic ≡ 0x4D3C2B1A → magic_order magic ≡ Some Little
+unfolding magic_order
+little_magic magic is = rw is refl
+
+pub no_magic_order : (magic : ℕ) → magic ≢ 0x1A2B3C4D → magic ≢ 0x4D3C2B1A → magic_order magic ≡ None
+unfolding magic_order
+no_magic_order magic a b =
+    let x : (magic == 0x1A2B3C4D) ≡ false = ne_eqb _ _ a in
+    let y : (magic == 0x4D3C2B1A) ≡ false = ne_eqb _ _ b in
+    rw (x, y) refl

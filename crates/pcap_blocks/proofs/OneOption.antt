@@ -1,0 +1,152 @@
+-- Of all bytes exactly one thing is said as a value, and as an option or the mark.
+use Rattle.std.proofs.Common.{◌≡◌, ◌≢◌, ℕ, suc, zero, ◌<◌, List, [], ◌∷◌, length, Option, Some, None, Result, Ok, Err, refl, sym, ap, subst, ◌∙◌, arith, inl, inr}
+use Rattle.pcap_classic.specs.Answer.{Order, Verdict, whole, lacks, faulty}
+use Rattle.pcap_classic.specs.Faults.{Fault, Invalid}
+use Rattle.pcap_classic.specs.Laws.{ExactlyOne}
+use Rattle.pcap_classic.specs.declared.rules.Rule.TheVariants.{OptionTooShort, OptionCut}
+use Rattle.pcap_blocks.specs.Padded.{Padded, up_to_4}
+use Rattle.pcap_blocks.specs.Values.{Kind, Entry, Value, Shape, shape_at, value_of, EntrySays}
+use Rattle.pcap_blocks.specs.Options.{OptionHead, OptionText, OptionFault, short, cut, wrong, OptionSays}
+use Rattle.pcap_blocks.proofs.Options.{head_with}
+use Rattle.pcap_blocks.proofs.Verdicts.{one_moved, Then, one_then, same_whole}
+use Rattle.pcap_blocks.proofs.Numbers.{Values, Numbers, NumbersSay, numbers_one}
+use Rattle.pcap_blocks.proofs.OnePadded.{PaddedSays, padded_one}
+
+entry : ℕ → Value → Entry
+entry c v = record { code = c; value = v }
+
+-- a value
+entry_only_ok : (order : Order) (shape : Shape) (code : ℕ) (v : List ℕ) (x : Value) → value_of order shape v ≡ Ok x → (w : Verdict Entry) → EntrySays order shape code v w → w ≡ whole (entry code x) []
+unfolding entry
+entry_only_ok order shape code v x is (whole o rest) k =
+    let both : Ok x ≡ Ok o.value = sym is ∙ k.1 in
+    let value : o.value ≡ x = cc in
+    let same : o ≡ entry code x = ap (λ (c : ℕ). entry c o.value) k.0 ∙ ap (entry code) value in
+    rw (same, k.2) refl
+entry_only_ok order shape code v x is (lacks n) k = absurd k
+entry_only_ok order shape code v x is (faulty g) k = let both : Ok x ≡ Err g = sym is ∙ k in absurd cc
+
+entry_only_err : (order : Order) (shape : Shape) (code : ℕ) (v : List ℕ) (f : Fault) → value_of order shape v ≡ Err f → (w : Verdict Entry) → EntrySays order shape code v w → w ≡ faulty f
+entry_only_err order shape code v f is (whole o rest) k = let both : Err f ≡ Ok o.value = sym is ∙ k.1 in absurd cc
+entry_only_err order shape code v f is (lacks n) k = absurd k
+entry_only_err order shape code v f is (faulty g) k = let both : Err f ≡ Err g = sym is ∙ k in let same : f ≡ g = cc in rw same refl
+
+entry_of : (order : Order) (shape : Shape) (code : ℕ) (v : List ℕ) (r : Result Value Fault) → value_of order shape v ≡ r → ExactlyOne (EntrySays order shape code v)
+unfolding entry
+entry_of order shape code v (Ok x) is = record { value = whole (entry code x) []; holds = (refl, is, refl); only = entry_only_ok order shape code v x is }
+entry_of order shape code v (Err f) is = record { value = faulty f; holds = is; only = entry_only_err order shape code v f is }
+
+pub entry_one : (order : Order) (shape : Shape) (code : ℕ) (v : List ℕ) → ExactlyOne (EntrySays order shape code v)
+entry_one order shape code v = entry_of order shape code v (value_of order shape v) refl
+
+-- the option that a value of this code is, with what follows it
+PieceSays : Order → Kind → ℕ → List ℕ → List ℕ → Verdict (Option Entry) → Type 0
+PieceSays order kind code v after (whole p rest) = (x : Value) × (value_of order (shape_at kind code) v ≡ Ok x) × (p ≡ Some (entry code x)) × (rest ≡ after)
+PieceSays order kind code v after (lacks n) = ⊥
+PieceSays order kind code v after (faulty f) = value_of order (shape_at kind code) v ≡ Err f
+
+piece_only_ok : (order : Order) (kind : Kind) (code : ℕ) (v after : List ℕ) (x : Value) → value_of order (shape_at kind code) v ≡ Ok x → (w : Verdict (Option Entry)) → PieceSays order kind code v after w → w ≡ whole (Some (entry code x)) after
+unfolding PieceSays
+piece_only_ok order kind code v after x is (whole p rest) k = let both = sym is ∙ k.1 in let same : x ≡ k.0 = cc in rw (k.2, k.3, same) refl
+piece_only_ok order kind code v after x is (lacks n) k = absurd k
+piece_only_ok order kind code v after x is (faulty g) k = let both = sym is ∙ k in absurd cc
+
+piece_only_err : (order : Order) (kind : Kind) (code : ℕ) (v after : List ℕ) (f : Fault) → value_of order (shape_at kind code) v ≡ Err f → (w : Verdict (Option Entry)) → PieceSays order kind code v after w → w ≡ faulty f
+unfolding PieceSays
+piece_only_err order kind code v after f is (whole p rest) k = let both = sym is ∙ k.1 in absurd cc
+piece_only_err order kind code v after f is (lacks n) k = absurd k
+piece_only_err order kind code v after f is (faulty g) k = let both = sym is ∙ k in let same : f ≡ g = cc in rw same refl
+
+piece_of : (order : Order) (kind : Kind) (code : ℕ) (v after : List ℕ) (r : Result Value Fault) → value_of order (shape_at kind code) v ≡ r → ExactlyOne (PieceSays order kind code v after)
+unfolding PieceSays
+piece_of order kind code v after (Ok x) is = record { value = whole (Some (entry code x)) after; holds = (x, is, refl, refl); only = piece_only_ok order kind code v after x is }
+piece_of order kind code v after (Err f) is = record { value = faulty f; holds = is; only = piece_only_err order kind code v after f is }
+
+-- what follows a head
+AfterHead : Order → Kind → ℕ → ℕ → List ℕ → Verdict (Option Entry) → Type 0
+AfterHead order kind zero len after w = w ≡ whole None after
+AfterHead order kind (suc c) len after w = Then (PaddedSays (Invalid OptionCut) len after) (λ v rest. PieceSays order kind (suc c) v rest) w
+
+after_one : (order : Order) (kind : Kind) (code len : ℕ) (after : List ℕ) → ExactlyOne (AfterHead order kind code len after)
+unfolding AfterHead
+after_one order kind zero len after = record { value = whole None after; holds = refl; only = λ w k. k }
+after_one order kind (suc c) len after =
+    one_then (PaddedSays (Invalid OptionCut) len after) (λ v rest. PieceSays order kind (suc c) v rest) (padded_one (Invalid OptionCut) len after) (λ v rest h. piece_of order kind (suc c) v rest (value_of order (shape_at kind (suc c)) v) refl)
+
+-- a code and a length
+abbrev widths : List ℕ
+widths = 2 ∷ 2 ∷ []
+
+OptionThen : Order → Kind → List ℕ → Verdict (Option Entry) → Type 0
+OptionThen order kind s = Then (NumbersSay order (Invalid OptionTooShort) widths s) (λ ns after. AfterHead order kind ns.0 ns.1.0 after)
+
+option_then_one : (order : Order) (kind : Kind) (s : List ℕ) → ExactlyOne (OptionThen order kind s)
+unfolding OptionThen
+option_then_one order kind s = one_then (NumbersSay order (Invalid OptionTooShort) widths s) (λ ns after. AfterHead order kind ns.0 ns.1.0 after) (numbers_one order (Invalid OptionTooShort) widths s) (λ ns after k. after_one order kind ns.0 ns.1.0 after)
+
+head_to : (order : Order) (code len : ℕ) (s rest : List ℕ) → OptionHead order code len s rest → Numbers order widths (code, (len, tt)) s rest
+head_to order code len s rest h = (h.after_code, h.code_is, (rest, h.length_is, refl))
+
+head_from : (order : Order) (ns : Values widths) (s rest : List ℕ) → Numbers order widths ns s rest → OptionHead order ns.0 ns.1.0 s rest
+head_from order ns s rest t = subst (λ (x : List ℕ). OptionHead order ns.0 ns.1.0 s x) t.2.2 (record { after_code = t.0; code_is = t.1; length_is = t.2.1 })
+
+after_option : (order : Order) (kind : Kind) (code : ℕ) (v after rest : List ℕ) (x : Value) → code ≢ 0 → Padded v after rest → value_of order (shape_at kind code) v ≡ Ok x → AfterHead order kind code (length v) after (whole (Some (entry code x)) rest)
+unfolding AfterHead PieceSays
+after_option order kind zero v after rest x ne p is = absurd (ne refl)
+after_option order kind (suc c) v after rest x ne p is = (v, rest, (p, refl), (x, is, refl, refl))
+
+after_cut : (order : Order) (kind : Kind) (code len : ℕ) (after : List ℕ) → code ≢ 0 → length after < up_to_4 len → AfterHead order kind code len after (faulty (Invalid OptionCut))
+unfolding AfterHead
+after_cut order kind zero len after ne lt = absurd (ne refl)
+after_cut order kind (suc c) len after ne lt = inl (refl, lt)
+
+after_wrong : (order : Order) (kind : Kind) (code : ℕ) (v after rest : List ℕ) (f : Fault) → code ≢ 0 → Padded v after rest → value_of order (shape_at kind code) v ≡ Err f → AfterHead order kind code (length v) after (faulty f)
+unfolding AfterHead PieceSays
+after_wrong order kind zero v after rest f ne p is = absurd (ne refl)
+after_wrong order kind (suc c) v after rest f ne p is = inr (v, rest, (p, refl), is)
+
+option_to : (order : Order) (kind : Kind) (s : List ℕ) (w : Verdict (Option Entry)) → OptionSays order kind s w → OptionThen order kind s w
+unfolding OptionThen AfterHead entry
+option_to order kind s (whole None rest) h = ((0, (h.ignored, tt)), rest, head_to order 0 h.ignored s rest h.head, refl)
+option_to order kind s (whole (Some o) rest) h =
+    ((o.code, (length h.v, tt)), h.after_head, head_to order o.code (length h.v) s h.after_head h.head, after_option order kind o.code h.v h.after_head rest o.value h.no_mark h.padded h.value_is)
+option_to order kind s (lacks n) h = absurd h
+option_to order kind s (faulty f) (short lt) = inl (refl, lt)
+option_to order kind s (faulty f) (cut code len rest h ne lt) = inr ((code, (len, tt)), rest, head_to order code len s rest h, after_cut order kind code len rest ne lt)
+option_to order kind s (faulty f) (wrong _ code v after rest h ne p is) = inr ((code, (length v, tt)), after, head_to order code (length v) s after h, after_wrong order kind code v after rest f ne p is)
+
+from_whole : (order : Order) (kind : Kind) (s : List ℕ) (code len : ℕ) (after : List ℕ) → OptionHead order code len s after → (p : Option Entry) (rest : List ℕ) → AfterHead order kind code len after (whole p rest) → OptionSays order kind s (whole p rest)
+unfolding AfterHead PieceSays entry
+from_whole order kind s zero len after h p rest k =
+    let same = same_whole p None rest after k in
+    subst (λ (q : Option Entry). OptionSays order kind s (whole q rest)) (sym same.0) (record { ignored = len; head = subst (λ (x : List ℕ). OptionHead order 0 len s x) (sym same.1) h })
+from_whole order kind s (suc c) len after h p rest k =
+    let pad : Padded k.0 after rest = subst (λ (x : List ℕ). Padded k.0 after x) (sym k.3.3) k.2.0 in
+    let is : OptionText order kind (entry (suc c) k.3.0) s rest = record { v = k.0; after_head = after; head = head_with order (suc c) len k.0 s after h k.2.1; no_mark = λ z. omega (arith, z); padded = pad; value_is = k.3.1 } in
+    subst (λ (q : Option Entry). OptionSays order kind s (whole q rest)) (sym k.3.2) is
+
+from_fault : (order : Order) (kind : Kind) (s : List ℕ) (code len : ℕ) (after : List ℕ) → OptionHead order code len s after → (f : Fault) → AfterHead order kind code len after (faulty f) → OptionFault order kind s f
+unfolding AfterHead PieceSays
+from_fault order kind s zero len after h f k = absurd cc
+from_fault order kind s (suc c) len after h f (inl t) = rw t.0 (cut (suc c) len after h (λ z. omega (arith, z)) t.1)
+from_fault order kind s (suc c) len after h f (inr t) = wrong f (suc c) t.0 after t.1 (head_with order (suc c) len t.0 s after h t.2.1) (λ z. omega (arith, z)) t.2.0 t.3
+
+no_lack_behind : (order : Order) (kind : Kind) (code len : ℕ) (after : List ℕ) (n : ℕ) → AfterHead order kind code len after (lacks n) → ⊥
+unfolding AfterHead PieceSays
+no_lack_behind order kind zero len after n k = absurd cc
+no_lack_behind order kind (suc c) len after n (inl t) = t
+no_lack_behind order kind (suc c) len after n (inr t) = t.3
+
+option_from : (order : Order) (kind : Kind) (s : List ℕ) (w : Verdict (Option Entry)) → OptionThen order kind s w → OptionSays order kind s w
+unfolding OptionThen
+option_from order kind s (whole p rest) t = from_whole order kind s t.0.0 t.0.1.0 t.1 (head_from order t.0 s t.1 t.2) p rest t.3
+option_from order kind s (lacks n) (inl t) = absurd t
+option_from order kind s (lacks n) (inr t) = no_lack_behind order kind t.0.0 t.0.1.0 t.1 n t.3
+option_from order kind s (faulty f) (inl t) = rw t.0 (short t.1)
+option_from order kind s (faulty f) (inr t) = from_fault order kind s t.0.0 t.0.1.0 t.1 (head_from order t.0 s t.1 t.2) f t.3
+
+pub option_one : (order : Order) (kind : Kind) (s : List ℕ) → ExactlyOne (OptionSays order kind s)
+option_one order kind s = one_moved (OptionSays order kind s) (OptionThen order kind s) (option_to order kind s) (option_from order kind s) (option_then_one order kind s)
+
+pub option_same : (order : Order) (kind : Kind) (s : List ℕ) (v w : Verdict (Option Entry)) → OptionSays order kind s v → OptionSays order kind s w → w ≡ v
+option_same order kind s v w h k = (option_one order kind s).only w k ∙ sym ((option_one order kind s).only v h)

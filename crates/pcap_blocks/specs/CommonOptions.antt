@@ -1,0 +1,25 @@
+-- The options of the code that every kind of block has.
+use Rattle.std.specs.Cow.{cow_str_bytes, IsBorrowedStr}
+use Rattle.pcap_classic.specs.Bytes.{cow_bytes, IsBorrowed}
+use Rattle.pcap_blocks.specs.Values.{Entry, CustomText, CustomBytes, Unknown}
+use Rattle.pcap_blocks.specs.declared.common.UnknownOption.{UnknownOption}
+use Rattle.pcap_blocks.specs.declared.common.CustomBinaryOption.{CustomBinaryOption}
+use Rattle.pcap_blocks.specs.declared.common.CustomUtf8Option.{CustomUtf8Option}
+
+abbrev pub unknown_entry : UnknownOption → Entry
+unknown_entry o = record { code = o.code; value = Unknown o.length (cow_bytes o.value) }
+
+abbrev pub custom_bytes_entry : CustomBinaryOption → Entry
+custom_bytes_entry o = record { code = o.code; value = CustomBytes o.pen (cow_bytes o.value) }
+
+abbrev pub custom_text_entry : CustomUtf8Option → Entry
+custom_text_entry o = record { code = o.code; value = CustomText o.pen (cow_str_bytes o.value) }
+
+abbrev pub UnknownIsBorrowed : UnknownOption → Type 0
+UnknownIsBorrowed o = IsBorrowed o.value
+
+abbrev pub CustomBytesIsBorrowed : CustomBinaryOption → Type 0
+CustomBytesIsBorrowed o = IsBorrowed o.value
+
+abbrev pub CustomTextIsBorrowed : CustomUtf8Option → Type 0
+CustomTextIsBorrowed o = IsBorrowedStr o.value

@@ -1,0 +1,76 @@
+-- The body of an enhanced packet ('Enhanced Packet Block').
+use Rattle.std.specs.Prelude.{◌<◌, ℕ, List, ◌∷◌, length, map, All}
+use Rattle.std.specs.Cow.{cow_str_bytes, IsBorrowedStr}
+use Rattle.pcap_classic.specs.Answer.{Order, Number, Verdict, Says}
+use Rattle.pcap_classic.specs.Bytes.{cow_bytes, IsBorrowed}
+use Rattle.pcap_classic.specs.Faults.{Fault, Invalid}
+use Rattle.pcap_classic.specs.declared.rules.Rule.TheVariants.{EnhancedTooShort, EnhancedFlagsLength, EnhancedDropCountLength}
+use Rattle.pcap_blocks.specs.declared.enhanced_packet.EnhancedPacketBlock.{EnhancedPacketBlock}
+use Rattle.pcap_blocks.specs.declared.enhanced_packet.EnhancedPacketOption.{EnhancedPacketOption}
+use Rattle.pcap_blocks.specs.declared.enhanced_packet.EnhancedPacketOption.TheVariants as option_of
+use Rattle.pcap_blocks.specs.Padded.{Behind}
+use Rattle.pcap_blocks.specs.Values.{Entry, Text, Bytes, Integer, Kind, text, bytes, number, custom}
+use Rattle.pcap_blocks.specs.CommonOptions.{unknown_entry, custom_bytes_entry, custom_text_entry, UnknownIsBorrowed, CustomBytesIsBorrowed, CustomTextIsBorrowed}
+use Rattle.pcap_blocks.specs.StoredPacket.{Stored, StoredText, StoredFault}
+
+-- comment, flags, hash, drop count
+abbrev pub enhanced_packet : Kind
+enhanced_packet = (1, text) ∷ (2, number 4 EnhancedFlagsLength) ∷ (3, bytes) ∷ (4, number 8 EnhancedDropCountLength) ∷ custom
+
+-- an enhanced packet, wherever its bytes lie
+pub record Enhanced : Type 0 where
+  pub interface_id : ℕ
+  pub packet : Stored
+
+-- s is the body of an enhanced packet, and then rest: its interface and the packet
+pub record EnhancedText (order : Order) (enhanced : Enhanced) (s rest : List ℕ) : Type 0 where
+  pub after_interface : List ℕ
+  pub interface_is : Number order 4 enhanced.interface_id s after_interface
+  pub packet_is : StoredText order enhanced_packet enhanced.packet after_interface rest
+
+-- the first fault of a body
+pub data EnhancedFault (order : Order) (s : List ℕ) : Fault → Type 0 where
+  short : length s < 20 → EnhancedFault order s (Invalid EnhancedTooShort)
+  in_packet : (fault : Fault) (after : List ℕ) → Behind 4 s after → StoredFault order enhanced_packet after fault → EnhancedFault order s fault
+
+-- what is said of bytes where the body of an enhanced packet is asked for
+abbrev pub EnhancedSays : Order → List ℕ → Verdict Enhanced → Type 0
+EnhancedSays order s = Says (λ enhanced rest. EnhancedText order enhanced s rest) (λ n. ⊥) (EnhancedFault order s)
+
+-- an option of the code
+abbrev pub enhanced_entry : EnhancedPacketOption → Entry
+enhanced_entry (option_of.Comment t) = record { code = 1; value = Text (cow_str_bytes t) }
+enhanced_entry (option_of.Flags n) = record { code = 2; value = Integer n }
+enhanced_entry (option_of.Hash b) = record { code = 3; value = Bytes (cow_bytes b) }
+enhanced_entry (option_of.DropCount n) = record { code = 4; value = Integer n }
+enhanced_entry (option_of.CustomBinary o) = custom_bytes_entry o
+enhanced_entry (option_of.CustomUtf8 o) = custom_text_entry o
+enhanced_entry (option_of.Unknown o) = unknown_entry o
+
+-- its text or bytes are borrowed, where it has any
+abbrev pub EnhancedOptionIsBorrowed : EnhancedPacketOption → Type 0
+EnhancedOptionIsBorrowed (option_of.Comment t) = IsBorrowedStr t
+EnhancedOptionIsBorrowed (option_of.Flags n) = Unit {0}
+EnhancedOptionIsBorrowed (option_of.Hash b) = IsBorrowed b
+EnhancedOptionIsBorrowed (option_of.DropCount n) = Unit {0}
+EnhancedOptionIsBorrowed (option_of.CustomBinary o) = CustomBytesIsBorrowed o
+EnhancedOptionIsBorrowed (option_of.CustomUtf8 o) = CustomTextIsBorrowed o
+EnhancedOptionIsBorrowed (option_of.Unknown o) = UnknownIsBorrowed o
+
+-- a block of the code
+abbrev pub enhanced_of : EnhancedPacketBlock → Enhanced
+enhanced_of block = record {
+  interface_id = block.interface_id;
+  packet = record {
+    timestamp = block.timestamp;
+    captured_len = block.captured_len;
+    original_len = block.original_len;
+    bytes = cow_bytes block.data_;
+    options = map enhanced_entry block.options.items;
+  };
+}
+
+-- its bytes and what its options hold are borrowed
+pub record EnhancedIsBorrowed (block : EnhancedPacketBlock) : Type 0 where
+  pub bytes : IsBorrowed block.data_
+  pub options : All EnhancedOptionIsBorrowed block.options.items

@@ -1,0 +1,12 @@
+pub mod Refusals
+pub mod Padded
+pub mod Values
+pub mod Options
+pub mod CommonOptions
+pub mod SectionHeader
+pub mod InterfaceDescription
+pub mod StoredPacket
+pub mod EnhancedPacket
+pub mod PacketBody
+pub mod InterfaceStatistics
+pub mod WholeBodies

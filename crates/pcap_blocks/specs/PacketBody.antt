@@ -1,0 +1,78 @@
+-- The body of an obsolete packet block ('Packet Block').
+use Rattle.std.specs.Prelude.{◌<◌, ℕ, List, ◌∷◌, length, map, All}
+use Rattle.std.specs.Cow.{cow_str_bytes, IsBorrowedStr}
+use Rattle.pcap_classic.specs.Answer.{Order, Number, Verdict, Says}
+use Rattle.pcap_classic.specs.Bytes.{cow_bytes, IsBorrowed}
+use Rattle.pcap_classic.specs.Faults.{Fault, Invalid}
+use Rattle.pcap_classic.specs.declared.rules.Rule.TheVariants.{EnhancedTooShort, PacketFlagsLength}
+use Rattle.pcap_blocks.specs.declared.packet.PacketBlock.{PacketBlock}
+use Rattle.pcap_blocks.specs.declared.packet.PacketOption.{PacketOption}
+use Rattle.pcap_blocks.specs.declared.packet.PacketOption.TheVariants as option_of
+use Rattle.pcap_blocks.specs.Padded.{Behind}
+use Rattle.pcap_blocks.specs.Values.{Entry, Text, Bytes, Integer, Kind, text, bytes, number, custom}
+use Rattle.pcap_blocks.specs.CommonOptions.{unknown_entry, custom_bytes_entry, custom_text_entry, UnknownIsBorrowed, CustomBytesIsBorrowed, CustomTextIsBorrowed}
+use Rattle.pcap_blocks.specs.StoredPacket.{Stored, StoredText, StoredFault}
+
+-- comment, flags, hash
+abbrev pub packet_kind : Kind
+packet_kind = (1, text) ∷ (2, number 4 PacketFlagsLength) ∷ (3, bytes) ∷ custom
+
+-- a packet block, wherever its bytes lie
+pub record PacketBody : Type 0 where
+  pub interface_id : ℕ
+  pub drop_count : ℕ
+  pub packet : Stored
+
+-- s is the body of a packet block, and then rest: its interface, its drop count and the packet
+pub record PacketBodyText (order : Order) (body : PacketBody) (s rest : List ℕ) : Type 0 where
+  pub after_interface : List ℕ
+  pub after_drops : List ℕ
+  pub interface_is : Number order 2 body.interface_id s after_interface
+  pub drops_are : Number order 2 body.drop_count after_interface after_drops
+  pub packet_is : StoredText order packet_kind body.packet after_drops rest
+
+-- the first fault of a body, with the names of the enhanced packet's
+pub data PacketBodyFault (order : Order) (s : List ℕ) : Fault → Type 0 where
+  short : length s < 20 → PacketBodyFault order s (Invalid EnhancedTooShort)
+  in_packet : (fault : Fault) (after : List ℕ) → Behind 4 s after → StoredFault order packet_kind after fault → PacketBodyFault order s fault
+
+-- what is said of bytes where the body of a packet block is asked for
+abbrev pub PacketBodySays : Order → List ℕ → Verdict PacketBody → Type 0
+PacketBodySays order s = Says (λ body rest. PacketBodyText order body s rest) (λ n. ⊥) (PacketBodyFault order s)
+
+-- an option of the code
+abbrev pub packet_entry : PacketOption → Entry
+packet_entry (option_of.Comment t) = record { code = 1; value = Text (cow_str_bytes t) }
+packet_entry (option_of.Flags n) = record { code = 2; value = Integer n }
+packet_entry (option_of.Hash b) = record { code = 3; value = Bytes (cow_bytes b) }
+packet_entry (option_of.CustomBinary o) = custom_bytes_entry o
+packet_entry (option_of.CustomUtf8 o) = custom_text_entry o
+packet_entry (option_of.Unknown o) = unknown_entry o
+
+-- its text or bytes are borrowed, where it has any
+abbrev pub PacketOptionIsBorrowed : PacketOption → Type 0
+PacketOptionIsBorrowed (option_of.Comment t) = IsBorrowedStr t
+PacketOptionIsBorrowed (option_of.Flags n) = Unit {0}
+PacketOptionIsBorrowed (option_of.Hash b) = IsBorrowed b
+PacketOptionIsBorrowed (option_of.CustomBinary o) = CustomBytesIsBorrowed o
+PacketOptionIsBorrowed (option_of.CustomUtf8 o) = CustomTextIsBorrowed o
+PacketOptionIsBorrowed (option_of.Unknown o) = UnknownIsBorrowed o
+
+-- a block of the code
+abbrev pub packet_of : PacketBlock → PacketBody
+packet_of block = record {
+  interface_id = block.interface_id;
+  drop_count = block.drop_count;
+  packet = record {
+    timestamp = block.timestamp;
+    captured_len = block.captured_len;
+    original_len = block.original_len;
+    bytes = cow_bytes block.data_;
+    options = map packet_entry block.options.items;
+  };
+}
+
+-- its bytes and what its options hold are borrowed
+pub record PacketIsBorrowed (block : PacketBlock) : Type 0 where
+  pub bytes : IsBorrowed block.data_
+  pub options : All PacketOptionIsBorrowed block.options.items

@@ -1,0 +1,70 @@
+-- What both kinds of packet body hold behind their interface ('Enhanced Packet Block', 'Packet Block').
+use Rattle.std.specs.Prelude.{◌≡◌, ◌<◌, ◌+◌, ◌*◌, ◌^◌, ℕ, List, length, map, All}
+use Rattle.pcap_classic.specs.Answer.{Order, Number, Verdict, Says}
+use Rattle.pcap_classic.specs.Bytes.{cow_bytes, IsBorrowed}
+use Rattle.pcap_classic.specs.Faults.{Fault, Invalid}
+use Rattle.pcap_classic.specs.declared.rules.Rule.TheVariants.{EnhancedTooShort, EnhancedCut}
+use Rattle.pcap_blocks.specs.declared.stored.StoredPacket.{StoredPacket}
+use Rattle.pcap_blocks.specs.Padded.{up_to_4, Padded}
+use Rattle.pcap_blocks.specs.Values.{Entry, Kind}
+use Rattle.pcap_blocks.specs.Options.{may_end_with_body, OptionList, ListFault}
+
+-- s is a time, its high 4 bytes before its low 4, and then rest
+pub record TimeText (order : Order) (time : ℕ) (s rest : List ℕ) : Type 0 where
+  pub high : ℕ
+  pub low : ℕ
+  pub after_high : List ℕ
+  pub high_is : Number order 4 high s after_high
+  pub low_is : Number order 4 low after_high rest
+  pub both : time ≡ high * 2 ^ 32 + low
+
+-- a packet that is stored, wherever its bytes lie
+pub record Stored : Type 0 where
+  pub timestamp : ℕ
+  pub captured_len : ℕ
+  pub original_len : ℕ
+  pub bytes : List ℕ
+  pub options : List Entry
+
+-- s is the time, the captured and the original length, and then rest
+pub record StoredHead (order : Order) (packet : Stored) (s rest : List ℕ) : Type 0 where
+  pub after_time : List ℕ
+  pub after_captured : List ℕ
+  pub time_is : TimeText order packet.timestamp s after_time
+  pub captured_is : Number order 4 packet.captured_len after_time after_captured
+  pub original_is : Number order 4 packet.original_len after_captured rest
+
+-- s is a stored packet, and then rest: its head, as many bytes as were captured with their padding, and its options
+pub record StoredText (order : Order) (kind : Kind) (packet : Stored) (s rest : List ℕ) : Type 0 where
+  pub after_head : List ℕ
+  pub after_bytes : List ℕ
+  pub head : StoredHead order packet s after_head
+  pub captured : length packet.bytes ≡ packet.captured_len
+  pub padded : Padded packet.bytes after_head after_bytes
+  pub options_are : OptionList may_end_with_body order kind packet.options after_bytes rest
+
+-- the first fault of a stored packet
+pub data StoredFault (order : Order) (kind : Kind) (s : List ℕ) : Fault → Type 0 where
+  short : length s < 16 → StoredFault order kind s (Invalid EnhancedTooShort)
+  cut : (packet : Stored) (after : List ℕ) → StoredHead order packet s after → length after < up_to_4 packet.captured_len → StoredFault order kind s (Invalid EnhancedCut)
+  in_options : (fault : Fault) (packet : Stored) (after after_bytes : List ℕ) → StoredHead order packet s after → length packet.bytes ≡ packet.captured_len
+      → Padded packet.bytes after after_bytes → ListFault may_end_with_body order kind after_bytes fault → StoredFault order kind s fault
+
+-- what is said of bytes where a stored packet is asked for
+abbrev pub StoredSays : Order → Kind → List ℕ → Verdict Stored → Type 0
+StoredSays order kind s = Says (λ packet rest. StoredText order kind packet s rest) (λ n. ⊥) (StoredFault order kind s)
+
+-- a stored packet of the code
+abbrev pub stored_of : {O : Type 0} → (O → Entry) → StoredPacket O → Stored
+stored_of view p = record {
+  timestamp = p.timestamp;
+  captured_len = p.captured_len;
+  original_len = p.original_len;
+  bytes = cow_bytes p.data_;
+  options = map view p.options.items;
+}
+
+-- its bytes and what its options hold are borrowed
+pub record StoredIsBorrowed {O : Type 0} (OptionIsBorrowed : O → Type 0) (p : StoredPacket O) : Type 0 where
+  pub bytes : IsBorrowed p.data_
+  pub options : All OptionIsBorrowed p.options.items

@@ -1,0 +1,124 @@
+-- Options and their values ('Options', 'Custom Options').
+use Rattle.std.specs.Prelude.{◌≡◌, ◌+◌, ◌*◌, ◌^◌, ℕ, List, [], ◌∷◌, length, take, drop, slice_index, Result, Ok, Err, ◌==◌, nat_lt, if◌then◌else◌}
+use Rattle.std.specs.Str.{is_utf8}
+use Rattle.pcap_classic.specs.Answer.{Order, Verdict, Says}
+use Rattle.pcap_classic.specs.Faults.{Fault, Invalid, Io, NoText}
+use Rattle.pcap_classic.specs.declared.rules.Rule.{Rule}
+
+-- what an option holds; a custom option the number of an enterprise before its text or bytes, an unknown one its length
+pub data Value : Type 0 where
+  Text : List ℕ → Value
+  Bytes : List ℕ → Value
+  Integer : ℕ → Value
+  CustomText : ℕ → List ℕ → Value
+  CustomBytes : ℕ → List ℕ → Value
+  Unknown : ℕ → List ℕ → Value
+
+-- an option, wherever its bytes lie
+pub record Entry : Type 0 where
+  pub code : ℕ
+  pub value : Value
+
+-- the bytes or the text that a value holds
+abbrev pub bytes_in : Value → List ℕ
+bytes_in (Text t) = t
+bytes_in (Bytes b) = b
+bytes_in (Integer n) = []
+bytes_in (CustomText pen t) = t
+bytes_in (CustomBytes pen b) = b
+bytes_in (Unknown len b) = b
+
+-- the number that a value holds, before its bytes or alone
+abbrev pub integer_in : Value → ℕ
+integer_in (Text t) = 0
+integer_in (Bytes b) = 0
+integer_in (Integer n) = n
+integer_in (CustomText pen t) = pen
+integer_in (CustomBytes pen b) = pen
+integer_in (Unknown len b) = len
+
+-- how the bytes of a value are read; a rule is broken where their number is another; of a first number and a first time more bytes than 8 are ignored
+pub data Shape : Type 0 where
+  text : Shape
+  bytes : Shape
+  some_bytes : Rule → Shape
+  fixed_bytes : ℕ → Rule → Shape
+  byte : Rule → Shape
+  number : ℕ → Rule → Shape
+  first_number : Shape
+  first_time : Shape
+  custom_text : Shape
+  custom_bytes : Shape
+  unknown : Shape
+
+-- the text that bytes are, or the fault that they are none
+abbrev pub text_at : List ℕ → Result (List ℕ) Fault
+text_at v = if is_utf8 v then Ok v else Err NoText
+
+-- a value made of what was read, or the same fault
+abbrev pub with_value : (List ℕ → Value) → Result (List ℕ) Fault → Result Value Fault
+with_value make (Ok x) = Ok (make x)
+with_value make (Err fault) = Err fault
+
+-- bytes of which there has to be one
+abbrev pub some_at : Rule → List ℕ → Result Value Fault
+some_at empty v = if length v == 0 then Err (Invalid empty) else Ok (Bytes v)
+
+-- so many bytes
+abbrev pub fixed_at : ℕ → Rule → List ℕ → Result Value Fault
+fixed_at n wrong_length v = if length v == n then Ok (Bytes v) else Err (Invalid wrong_length)
+
+-- one byte, as a number
+abbrev pub byte_at : Rule → List ℕ → Result Value Fault
+byte_at wrong_length v = if length v == 1 then Ok (Integer (slice_index v 0)) else Err (Invalid wrong_length)
+
+-- a number of so many bytes
+abbrev pub number_at : Order → ℕ → Rule → List ℕ → Result Value Fault
+number_at order n wrong_length v = if length v == n then Ok (Integer (order n v)) else Err (Invalid wrong_length)
+
+-- the number in the first 8 bytes
+abbrev pub first_number_at : Order → List ℕ → Result Value Fault
+first_number_at order v = if nat_lt (length v) 8 then Err Io else Ok (Integer (order 8 (take 8 v)))
+
+-- the time in the first 8 bytes, its high 4 before its low 4
+abbrev pub first_time_at : Order → List ℕ → Result Value Fault
+first_time_at order v = if nat_lt (length v) 8 then Err Io else Ok (Integer (order 4 (take 4 v) * 2 ^ 32 + order 4 (take 4 (drop 4 v))))
+
+-- the value that bytes of this shape are, or the fault that stands there
+abbrev pub value_of : Order → Shape → List ℕ → Result Value Fault
+value_of order text v = with_value Text (text_at v)
+value_of order bytes v = Ok (Bytes v)
+value_of order (some_bytes empty) v = some_at empty v
+value_of order (fixed_bytes n wrong_length) v = fixed_at n wrong_length v
+value_of order (byte wrong_length) v = byte_at wrong_length v
+value_of order (number n wrong_length) v = number_at order n wrong_length v
+value_of order first_number v = first_number_at order v
+value_of order first_time v = first_time_at order v
+value_of order custom_text v = if nat_lt (length v) 4 then Err Io else with_value (CustomText (order 4 (take 4 v))) (text_at (drop 4 v))
+value_of order custom_bytes v = if nat_lt (length v) 4 then Err Io else Ok (CustomBytes (order 4 (take 4 v)) (drop 4 v))
+value_of order unknown v = Ok (Unknown (length v) v)
+
+-- what is said of bytes that are all read as this
+abbrev pub AllSay : {V : Type 0} → Result V Fault → Verdict V → Type 0
+AllSay read = Says (λ value rest. (read ≡ Ok value) × (rest ≡ [])) (λ n. ⊥) (λ fault. read ≡ Err fault)
+
+-- what is said of bytes where the value of an option of this shape and code is asked for: they are all its value
+abbrev pub EntrySays : Order → Shape → ℕ → List ℕ → Verdict Entry → Type 0
+EntrySays order shape code v =
+    Says
+    (λ option rest. (option.code ≡ code) × (value_of order shape v ≡ Ok option.value) × (rest ≡ []))
+    (λ n. ⊥)
+    (λ fault. value_of order shape v ≡ Err fault)
+
+-- a kind of option is a table: a shape for each of its codes
+abbrev pub Kind : Type 0
+Kind = List (ℕ × Shape)
+
+-- a code that the table doesn't name is unknown
+abbrev pub shape_at : Kind → ℕ → Shape
+shape_at [] code = unknown
+shape_at ((named, shape) ∷ rows) code = if code == named then shape else shape_at rows code
+
+-- the codes that each kind has
+abbrev pub custom : Kind
+custom = (2988, custom_text) ∷ (19372, custom_text) ∷ (2989, custom_bytes) ∷ (19373, custom_bytes) ∷ []

@@ -1,0 +1,64 @@
+//! The types of blocks.
+
+ghost use Rattle.std.specs.Prelude.{◌≡◌};
+ghost use Rattle.pcap_blocks.specs.WholeBodies.{block_type, unknown_of, UnknownBlockIsBorrowed};
+
+use pcap_classic::CowBytes;
+
+/// The type of a block.
+#[derive(Clone, Copy, Debug, PartialEq, Eq)]
+pub enum BlockType {
+    SectionHeader,
+    InterfaceDescription,
+    Packet,
+    SimplePacket,
+    NameResolution,
+    InterfaceStatistics,
+    EnhancedPacket,
+    SystemdJournalExport,
+    /// A type with this number, which has no name here.
+    Unknown(u32),
+}
+
+impl From<u32> for BlockType {
+    ghost from_gives = { λ n type. type ≡ block_type n };
+
+    fn from(src: u32) -> BlockType {
+        match src {
+            0x0A0D0D0A => BlockType::SectionHeader,
+            1 => BlockType::InterfaceDescription,
+            2 => BlockType::Packet,
+            3 => BlockType::SimplePacket,
+            4 => BlockType::NameResolution,
+            5 => BlockType::InterfaceStatistics,
+            6 => BlockType::EnhancedPacket,
+            9 => BlockType::SystemdJournalExport,
+            _ => BlockType::Unknown(src),
+        }
+    }
+}
+
+/// The body of a block whose type has no name here.
+#[derive(Clone, Debug, Drop)]
+pub struct UnknownBlock<'a> {
+    /// The block's type.
+    pub type_: BlockType,
+    /// The length of its value in bytes.
+    pub length: u32,
+    /// Its value: the whole body.
+    pub value: CowBytes<'a>,
+}
+
+impl<'a> UnknownBlock<'a> {
+    /// The block of this type, length in bytes and value.
+    pub fn new(type_: BlockType, len: u32, value: &'a [u8]) -> Self
+        ensures block { unknown_of result ≡ record { type_ = type_; len = len; bytes = value.now } }
+        ensures borrowed { UnknownBlockIsBorrowed result }
+    {
+        UnknownBlock {
+            type_,
+            length: len,
+            value: CowBytes::Borrowed(value),
+        }
+    }
+}

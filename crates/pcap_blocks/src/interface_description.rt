@@ -1,0 +1,142 @@
+//! Interface descriptions.
+
+ghost use Rattle.std.specs.Prelude.{⊤, ◌≡◌, IfOk};
+ghost use Rattle.pcap_classic.specs.Answer.{TellsWhere};
+ghost use Rattle.pcap_blocks.specs.Refusals.{FindsWhere};
+ghost use Rattle.pcap_blocks.specs.InterfaceDescription.{interface_description, InterfaceSays, interface_entry, InterfaceOptionIsBorrowed, interface_of, InterfaceIsBorrowed};
+
+use crate::common::{
+    CustomBinaryOption, CustomUtf8Option, PcapNgOption, UnknownOption, options_from_slice,
+};
+use crate::fields::{split_u16, split_u32};
+use crate::refusal::Refusal;
+use crate::values::{fixed_value, some_value, text_value, u8_value, u32_value, u64_value};
+use byteorder::ByteOrder;
+use pcap_classic::rules::Rule;
+use pcap_classic::{CowBytes, DataLink, ResultParsing};
+use std::alloc::Global;
+use std::borrow::CowStr;
+
+/// The body of an interface description: an interface that packets were captured on.
+#[derive(Clone, Debug, Drop)]
+pub struct InterfaceDescriptionBlock<'a> {
+    /// The type of the packets' first layer.
+    pub linktype: DataLink,
+    /// Not used, and to be ignored.
+    pub reserved: u16,
+    /// The most bytes that are stored of a packet; 0 is no limit.
+    pub snaplen: u32,
+    /// What else is said of the interface.
+    pub options: Vec<InterfaceDescriptionOption<'a>>,
+}
+
+impl<'a> InterfaceDescriptionBlock<'a> {
+    /// The interface that a block's body is, and what follows its options. Texts and bytes are borrowed from the slice.
+    ///
+    /// `InvalidField` under 8 bytes, then for the first fault of the options, or `Utf8Error` or `IoError` where that
+    /// is a text that isn't UTF-8 or a custom value under 4 bytes. `OutOfMemory` where the list of options can't grow.
+    pub fn from_slice<B: ByteOrder>(
+        alloc: Global,
+        slice: &'a [u8],
+    ) -> ResultParsing<(&'a [u8], Self)>
+        ensures tells { TellsWhere ⊤ (InterfaceSays B.number_of slice.now) interface_of result }
+        ensures borrowed { IfOk result (λ x. InterfaceIsBorrowed x.1) }
+    {
+        Ok(InterfaceDescriptionBlock::read::<B>(alloc, slice)?)
+    }
+
+    pub(crate) fn read<B: ByteOrder>(
+        alloc: Global,
+        slice: &'a [u8],
+    ) -> Result<(&'a [u8], Self), Refusal>
+        ensures tells { FindsWhere ⊤ (InterfaceSays B.number_of slice.now) interface_of result }
+        ensures borrowed { IfOk result (λ x. InterfaceIsBorrowed x.1) }
+    {
+        if slice.len() < 8 {
+            return Err(Refusal::Invalid(Rule::InterfaceTooShort));
+        }
+        let (linktype, rest) = split_u16::<B>(slice);
+        let (reserved, rest) = split_u16::<B>(rest);
+        let (snaplen, rest) = split_u32::<B>(rest);
+        let (rest, options) = options_from_slice::<InterfaceDescriptionOption, B>(alloc, rest)?;
+        let block = InterfaceDescriptionBlock {
+            linktype: DataLink::from(u32::from(linktype)),
+            reserved,
+            snaplen,
+            options,
+        };
+        Ok((rest, block))
+    }
+}
+
+/// An option of an interface description.
+#[derive(Clone, Debug, Drop)]
+pub enum InterfaceDescriptionOption<'a> {
+    /// A comment on the interface.
+    Comment(CowStr<'a>),
+    /// The name of the device.
+    IfName(CowStr<'a>),
+    /// What the device is.
+    IfDescription(CowStr<'a>),
+    /// An IPv4 address and its mask, 8 bytes.
+    IfIpv4Addr(CowBytes<'a>),
+    /// An IPv6 address and the length of its prefix, 17 bytes.
+    IfIpv6Addr(CowBytes<'a>),
+    /// The hardware's MAC address, 6 bytes.
+    IfMacAddr(CowBytes<'a>),
+    /// The hardware's EUI address.
+    IfEuIAddr(u64),
+    /// The interface's speed in bits a second.
+    IfSpeed(u64),
+    /// The resolution of times: a power of 10, or of 2 where the highest bit is set.
+    IfTsResol(u8),
+    /// The time zone, of 4 bytes.
+    IfTzone(u32),
+    /// The filter of the capture, at least one byte.
+    IfFilter(CowBytes<'a>),
+    /// The operating system of the interface's machine.
+    IfOs(CowStr<'a>),
+    /// The length of the frame check sequence.
+    IfFcsLen(u8),
+    /// Seconds that are to be added to each time.
+    IfTsOffset(u64),
+    /// What the hardware is.
+    IfHardware(CowStr<'a>),
+    /// Bytes of an enterprise.
+    CustomBinary(CustomBinaryOption<'a>),
+    /// A text of an enterprise.
+    CustomUtf8(CustomUtf8Option<'a>),
+    /// An option of another code.
+    Unknown(UnknownOption<'a>),
+}
+
+impl<'a> PcapNgOption<'a> for InterfaceDescriptionOption<'a> {
+    ghost kind = { interface_description };
+
+    ghost view = { interface_entry };
+
+    ghost is_borrowed = { InterfaceOptionIsBorrowed };
+
+    fn from_value<B: ByteOrder>(code: u16, len: u16, value: &'a [u8]) -> Result<Self, Refusal> {
+        Ok(match code {
+            1 => Self::Comment(text_value(value)?),
+            2 => Self::IfName(text_value(value)?),
+            3 => Self::IfDescription(text_value(value)?),
+            4 => Self::IfIpv4Addr(fixed_value(value, 8, Rule::InterfaceIpv4Length)?),
+            5 => Self::IfIpv6Addr(fixed_value(value, 17, Rule::InterfaceIpv6Length)?),
+            6 => Self::IfMacAddr(fixed_value(value, 6, Rule::InterfaceMacLength)?),
+            7 => Self::IfEuIAddr(u64_value::<B>(value, Rule::InterfaceEuiLength)?),
+            8 => Self::IfSpeed(u64_value::<B>(value, Rule::InterfaceSpeedLength)?),
+            9 => Self::IfTsResol(u8_value(value, Rule::InterfaceResolutionLength)?),
+            10 => Self::IfTzone(u32_value::<B>(value, Rule::InterfaceZoneLength)?),
+            11 => Self::IfFilter(some_value(value, Rule::InterfaceFilterEmpty)?),
+            12 => Self::IfOs(text_value(value)?),
+            13 => Self::IfFcsLen(u8_value(value, Rule::InterfaceFcsLength)?),
+            14 => Self::IfTsOffset(u64_value::<B>(value, Rule::InterfaceOffsetLength)?),
+            15 => Self::IfHardware(text_value(value)?),
+            2988 | 19372 => Self::CustomUtf8(CustomUtf8Option::read::<B>(code, value)?),
+            2989 | 19373 => Self::CustomBinary(CustomBinaryOption::read::<B>(code, value)?),
+            _ => Self::Unknown(UnknownOption::new(code, len, value)),
+        })
+    }
+}

@@ -1,0 +1,118 @@
+//! Interface statistics.
+
+ghost use Rattle.std.specs.Prelude.{⊤, IfOk};
+ghost use Rattle.pcap_classic.specs.Answer.{TellsWhere};
+ghost use Rattle.pcap_blocks.specs.Refusals.{FindsWhere};
+ghost use Rattle.pcap_blocks.specs.InterfaceStatistics.{interface_statistics, StatisticsSays, statistics_entry, StatisticsOptionIsBorrowed, statistics_of, StatisticsIsBorrowed};
+
+use crate::common::{
+    CustomBinaryOption, CustomUtf8Option, PcapNgOption, UnknownOption, options_from_slice,
+};
+use crate::fields::{split_time, split_u32};
+use crate::refusal::Refusal;
+use crate::values::{first_number, first_time, text_value};
+use byteorder::ByteOrder;
+use pcap_classic::ResultParsing;
+use pcap_classic::rules::Rule;
+use std::alloc::Global;
+use std::borrow::CowStr;
+
+/// The body of interface statistics: what an interface counted.
+#[derive(Clone, Debug, Drop)]
+pub struct InterfaceStatisticsBlock<'a> {
+    /// The number of the interface among those of the section, from 0.
+    pub interface_id: u32,
+    /// When it was counted: units of time since 1970-01-01 00:00:00 UTC; the interface's options tell the unit.
+    pub timestamp: u64,
+    /// What was counted.
+    pub options: Vec<InterfaceStatisticsOption<'a>>,
+}
+
+impl<'a> InterfaceStatisticsBlock<'a> {
+    /// The statistics that a block's body is, and what follows their options. Texts and bytes are borrowed from the slice.
+    ///
+    /// `InvalidField` under 12 bytes, then for the first fault of the options, or `Utf8Error` where that is a text that
+    /// isn't UTF-8, or `IoError` where a number or time is under 8 bytes or a custom value under 4.
+    /// `OutOfMemory` where the list of options can't grow.
+    pub fn from_slice<B: ByteOrder>(
+        alloc: Global,
+        slice: &'a [u8],
+    ) -> ResultParsing<(&'a [u8], Self)>
+        ensures tells { TellsWhere ⊤ (StatisticsSays B.number_of slice.now) statistics_of result }
+        ensures borrowed { IfOk result (λ x. StatisticsIsBorrowed x.1) }
+    {
+        Ok(InterfaceStatisticsBlock::read::<B>(alloc, slice)?)
+    }
+
+    pub(crate) fn read<B: ByteOrder>(
+        alloc: Global,
+        slice: &'a [u8],
+    ) -> Result<(&'a [u8], Self), Refusal>
+        ensures tells { FindsWhere ⊤ (StatisticsSays B.number_of slice.now) statistics_of result }
+        ensures borrowed { IfOk result (λ x. StatisticsIsBorrowed x.1) }
+    {
+        if slice.len() < 12 {
+            return Err(Refusal::Invalid(Rule::StatisticsTooShort));
+        }
+        let (interface_id, rest) = split_u32::<B>(slice);
+        let (timestamp, rest) = split_time::<B>(rest);
+        let (rest, options) = options_from_slice::<InterfaceStatisticsOption, B>(alloc, rest)?;
+        let block = InterfaceStatisticsBlock {
+            interface_id,
+            timestamp,
+            options,
+        };
+        Ok((rest, block))
+    }
+}
+
+/// An option of interface statistics.
+#[derive(Clone, Debug, Drop)]
+pub enum InterfaceStatisticsOption<'a> {
+    /// A comment on the statistics.
+    Comment(CowStr<'a>),
+    /// When the capture began.
+    IsbStartTime(u64),
+    /// When the capture ended.
+    IsbEndTime(u64),
+    /// How many packets the interface received.
+    IsbIfRecv(u64),
+    /// How many packets the interface dropped.
+    IsbIfDrop(u64),
+    /// How many packets the filter accepted.
+    IsbFilterAccept(u64),
+    /// How many packets the operating system dropped.
+    IsbOsDrop(u64),
+    /// How many packets the user was given.
+    IsbUsrDeliv(u64),
+    /// Bytes of an enterprise.
+    CustomBinary(CustomBinaryOption<'a>),
+    /// A text of an enterprise.
+    CustomUtf8(CustomUtf8Option<'a>),
+    /// An option of another code.
+    Unknown(UnknownOption<'a>),
+}
+
+impl<'a> PcapNgOption<'a> for InterfaceStatisticsOption<'a> {
+    ghost kind = { interface_statistics };
+
+    ghost view = { statistics_entry };
+
+    ghost is_borrowed = { StatisticsOptionIsBorrowed };
+
+    fn from_value<B: ByteOrder>(code: u16, len: u16, value: &'a [u8]) -> Result<Self, Refusal> {
+        Ok(match code {
+            1 => Self::Comment(text_value(value)?),
+            2 => Self::IsbStartTime(first_time::<B>(value)?),
+            3 => Self::IsbEndTime(first_time::<B>(value)?),
+            4 => Self::IsbIfRecv(first_number::<B>(value)?),
+            5 => Self::IsbIfDrop(first_number::<B>(value)?),
+            6 => Self::IsbFilterAccept(first_number::<B>(value)?),
+            7 => Self::IsbOsDrop(first_number::<B>(value)?),
+            8 => Self::IsbUsrDeliv(first_number::<B>(value)?),
+            2988 | 19372 => Self::CustomUtf8(CustomUtf8Option::read::<B>(code, value)?),
+            2989 | 19373 => Self::CustomBinary(CustomBinaryOption::read::<B>(code, value)?),
+            _ => Self::Unknown(UnknownOption::new(code, len, value)),
+        })
+    }
+}

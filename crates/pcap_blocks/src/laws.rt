@@ -1,0 +1,73 @@
+//! Laws of the grammar. Each function does nothing: its contract is the law.
+
+ghost use Rattle.std.specs.Prelude.{◌≡◌, ℕ, List};
+ghost use Rattle.pcap_classic.specs.Answer.{Order};
+ghost use Rattle.pcap_classic.specs.Laws.{ExactlyOne};
+ghost use Rattle.pcap_blocks.specs.Values.{Entry, Kind, Shape, EntrySays};
+ghost use Rattle.pcap_blocks.specs.Options.{Ending, wants_end, may_end_with_body, OptionList, OptionSays, ListSays};
+ghost use Rattle.pcap_blocks.specs.SectionHeader.{SectionSays};
+ghost use Rattle.pcap_blocks.specs.InterfaceDescription.{InterfaceSays};
+ghost use Rattle.pcap_blocks.specs.EnhancedPacket.{EnhancedSays};
+ghost use Rattle.pcap_blocks.specs.PacketBody.{PacketBodySays};
+ghost use Rattle.pcap_blocks.specs.InterfaceStatistics.{StatisticsSays};
+ghost use Rattle.pcap_blocks.specs.WholeBodies.{SimpleSays, JournalSays};
+
+/// Of all bytes of a value exactly one thing is said, whatever its shape: the option that it is, or one fault. This
+/// holds of the custom options.
+pub fn value_is_one()
+    ensures { (order : Order) (shape : Shape) (code : ℕ) (v : List ℕ) → ExactlyOne (EntrySays order shape code v) }
+{}
+
+/// The same where an option or the mark is asked for.
+pub fn option_is_one()
+    ensures { (order : Order) (kind : Kind) (s : List ℕ) → ExactlyOne (OptionSays order kind s) }
+{}
+
+/// The same where a list of options is, however it may end.
+pub fn list_is_one()
+    ensures { (ending : Ending) (order : Order) (kind : Kind) (s : List ℕ) → ExactlyOne (ListSays ending order kind s) }
+{}
+
+/// The same where the body of a section is.
+pub fn section_is_one()
+    ensures { (s : List ℕ) → ExactlyOne (SectionSays s) }
+{}
+
+/// The same where the body of an interface is.
+pub fn interface_is_one()
+    ensures { (order : Order) (s : List ℕ) → ExactlyOne (InterfaceSays order s) }
+{}
+
+/// The same where the body of an enhanced packet is.
+pub fn enhanced_is_one()
+    ensures { (order : Order) (s : List ℕ) → ExactlyOne (EnhancedSays order s) }
+{}
+
+/// The same where the body of a packet block is.
+pub fn packet_body_is_one()
+    ensures { (order : Order) (s : List ℕ) → ExactlyOne (PacketBodySays order s) }
+{}
+
+/// The same where the body of interface statistics is.
+pub fn statistics_are_one()
+    ensures { (order : Order) (s : List ℕ) → ExactlyOne (StatisticsSays order s) }
+{}
+
+/// The same where the body of a simple packet is.
+pub fn simple_is_one()
+    ensures { (order : Order) (s : List ℕ) → ExactlyOne (SimpleSays order s) }
+{}
+
+/// The same where a journal entry is.
+pub fn journal_is_one()
+    ensures { (s : List ℕ) → ExactlyOne (JournalSays s) }
+{}
+
+/// Where bytes are a list of options that wants its mark, they are that list, and no other, where a list may end
+/// with its body.
+pub fn list_is_kept()
+    ensures kept { (order : Order) (kind : Kind) (options : List Entry) (s rest : List ℕ) →
+        OptionList wants_end order kind options s rest → OptionList may_end_with_body order kind options s rest }
+    ensures no_others { (order : Order) (kind : Kind) (options others : List Entry) (s rest more : List ℕ) →
+        OptionList wants_end order kind options s rest → OptionList may_end_with_body order kind others s more → (others ≡ options) × (more ≡ rest) }
+{}

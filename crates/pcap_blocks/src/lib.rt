@@ -1,0 +1,27 @@
+//! Blocks of PcapNg captures: their bodies and options, read from slices.
+#![tactic(auto)]
+
+mod block;
+mod common;
+mod enhanced_packet;
+mod fields;
+mod interface_description;
+mod interface_statistics;
+pub mod laws;
+mod packet;
+mod refusal;
+mod section_header;
+mod simple_packet;
+mod stored;
+mod systemd_journal_export;
+mod values;
+
+pub use block::{BlockType, UnknownBlock};
+pub use common::{CustomBinaryOption, CustomUtf8Option, UnknownOption};
+pub use enhanced_packet::{EnhancedPacketBlock, EnhancedPacketOption};
+pub use interface_description::{InterfaceDescriptionBlock, InterfaceDescriptionOption};
+pub use interface_statistics::{InterfaceStatisticsBlock, InterfaceStatisticsOption};
+pub use packet::{PacketBlock, PacketOption};
+pub use section_header::{SectionHeaderBlock, SectionHeaderOption};
+pub use simple_packet::SimplePacketBlock;
+pub use systemd_journal_export::SystemdJournalExportBlock;

@@ -1,0 +1,133 @@
+//! Packet blocks, which enhanced packets have replaced.
+
+ghost use Rattle.std.specs.Prelude.{⊤, map, All, IfOk};
+ghost use Rattle.pcap_classic.specs.Answer.{TellsWhere};
+ghost use Rattle.pcap_blocks.specs.Refusals.{FindsWhere};
+ghost use Rattle.pcap_blocks.specs.Options.{may_end_with_body, ListSays};
+ghost use Rattle.pcap_blocks.specs.PacketBody.{packet_kind, PacketBodySays, packet_entry, PacketOptionIsBorrowed, packet_of, PacketIsBorrowed};
+
+use crate::common::{
+    CustomBinaryOption, CustomUtf8Option, PcapNgOption, UnknownOption, options_from_slice,
+};
+use crate::fields::split_u16;
+use crate::refusal::Refusal;
+use crate::stored::stored_from_slice;
+use crate::values::{text_value, u32_value};
+use byteorder::ByteOrder;
+use pcap_classic::rules::Rule;
+use pcap_classic::{CowBytes, ResultParsing};
+use std::alloc::Global;
+use std::borrow::CowStr;
+
+/// The body of a packet block: a packet of an interface, in an obsolete form.
+#[derive(Clone, Debug, Drop)]
+pub struct PacketBlock<'a> {
+    /// The number of the interface among those of the section, from 0.
+    pub interface_id: u16,
+    /// How many packets were lost between this one and the one before it.
+    pub drop_count: u16,
+    /// Units of time since 1970-01-01 00:00:00 UTC; the interface's options tell the unit.
+    pub timestamp: u64,
+    /// How many bytes of the packet are stored.
+    pub captured_len: u32,
+    /// How many bytes the packet had on the wire.
+    pub original_len: u32,
+    /// The bytes that are stored of the packet.
+    pub data_: CowBytes<'a>,
+    /// What else is said of the packet.
+    pub options: Vec<PacketOption<'a>>,
+}
+
+impl<'a> PacketBlock<'a> {
+    /// The packet that a block's body is, and what follows its options. Texts and bytes are borrowed from the slice.
+    ///
+    /// `InvalidField` under 20 bytes, then where the data and its padding pass the slice, then for the first fault of
+    /// the options, or `Utf8Error` or `IoError` where that is a text that isn't UTF-8 or a custom value under 4 bytes.
+    /// `OutOfMemory` where the list of options can't grow.
+    pub fn from_slice<B: ByteOrder>(
+        alloc: Global,
+        slice: &'a [u8],
+    ) -> ResultParsing<(&'a [u8], Self)>
+        ensures tells { TellsWhere ⊤ (PacketBodySays B.number_of slice.now) packet_of result }
+        ensures borrowed { IfOk result (λ x. PacketIsBorrowed x.1) }
+    {
+        Ok(PacketBlock::read::<B>(alloc, slice)?)
+    }
+
+    pub(crate) fn read<B: ByteOrder>(
+        alloc: Global,
+        slice: &'a [u8],
+    ) -> Result<(&'a [u8], Self), Refusal>
+        ensures tells { FindsWhere ⊤ (PacketBodySays B.number_of slice.now) packet_of result }
+        ensures borrowed { IfOk result (λ x. PacketIsBorrowed x.1) }
+    {
+        if slice.len() < 20 {
+            return Err(Refusal::Invalid(Rule::EnhancedTooShort));
+        }
+        let (interface_id, rest) = split_u16::<B>(slice);
+        let (drop_count, rest) = split_u16::<B>(rest);
+        let (rest, packet) = stored_from_slice::<PacketOption, B>(alloc, rest)?;
+        let block = PacketBlock {
+            interface_id,
+            drop_count,
+            timestamp: packet.timestamp,
+            captured_len: packet.captured_len,
+            original_len: packet.original_len,
+            data_: packet.data_,
+            options: packet.options,
+        };
+        Ok((rest, block))
+    }
+}
+
+/// An option of a packet block.
+#[derive(Clone, Debug, Drop)]
+pub enum PacketOption<'a> {
+    /// A comment on the packet.
+    Comment(CowStr<'a>),
+    /// What the link layer says of the packet.
+    Flags(u32),
+    /// A hash of the packet, behind a byte that names its algorithm.
+    Hash(CowBytes<'a>),
+    /// Bytes of an enterprise.
+    CustomBinary(CustomBinaryOption<'a>),
+    /// A text of an enterprise.
+    CustomUtf8(CustomUtf8Option<'a>),
+    /// An option of another code.
+    Unknown(UnknownOption<'a>),
+}
+
+impl<'a> PacketOption<'a> {
+    /// The list of options at the front of a slice, and what follows it.
+    ///
+    /// `InvalidField` for the first fault of the list, or `Utf8Error` or `IoError` where that is a text that isn't
+    /// UTF-8 or a custom value under 4 bytes. `OutOfMemory` where the list can't grow.
+    pub fn from_slice<B: ByteOrder>(
+        alloc: Global,
+        slice: &'a [u8],
+    ) -> ResultParsing<(&'a [u8], Vec<Self>)>
+        ensures tells { TellsWhere ⊤ (ListSays may_end_with_body B.number_of packet_kind slice.now) (λ options. map packet_entry options.items) result }
+        ensures borrowed { IfOk result (λ x. All PacketOptionIsBorrowed x.1.items) }
+    {
+        Ok(options_from_slice::<PacketOption, B>(alloc, slice)?)
+    }
+}
+
+impl<'a> PcapNgOption<'a> for PacketOption<'a> {
+    ghost kind = { packet_kind };
+
+    ghost view = { packet_entry };
+
+    ghost is_borrowed = { PacketOptionIsBorrowed };
+
+    fn from_value<B: ByteOrder>(code: u16, len: u16, value: &'a [u8]) -> Result<Self, Refusal> {
+        Ok(match code {
+            1 => Self::Comment(text_value(value)?),
+            2 => Self::Flags(u32_value::<B>(value, Rule::PacketFlagsLength)?),
+            3 => Self::Hash(CowBytes::Borrowed(value)),
+            2988 | 19372 => Self::CustomUtf8(CustomUtf8Option::read::<B>(code, value)?),
+            2989 | 19373 => Self::CustomBinary(CustomBinaryOption::read::<B>(code, value)?),
+            _ => Self::Unknown(UnknownOption::new(code, len, value)),
+        })
+    }
+}

@@ -1,0 +1,146 @@
+//! Section headers.
+
+ghost use Rattle.std.specs.Prelude.{⊤, ◌≡◌, ◌≤◌, ◌↔◌, length, IfOk, IsTrue, IsSome, Some};
+ghost use Rattle.pcap_classic.specs.Answer.{TellsWhere};
+ghost use Rattle.pcap_blocks.specs.Refusals.{FindsWhere};
+ghost use Rattle.pcap_blocks.specs.SectionHeader.{section_header, magic_order, SectionSays, AfterMagicSays, section_entry, SectionOptionIsBorrowed, section_of, SectionIsBorrowed};
+
+use crate::common::{
+    CustomBinaryOption, CustomUtf8Option, PcapNgOption, UnknownOption, options_from_slice,
+};
+use crate::fields::{split_u16, split_u32, split_u64};
+use crate::refusal::Refusal;
+use crate::values::text_value;
+use byteorder::{BigEndian, ByteOrder, LittleEndian};
+use pcap_classic::rules::Rule;
+use pcap_classic::{Endianness, ResultParsing};
+use std::alloc::Global;
+use std::borrow::CowStr;
+
+/// The body of a section header: what holds for all blocks up to the next one.
+#[derive(Clone, Debug, Drop)]
+pub struct SectionHeaderBlock<'a> {
+    /// Magic number, read high byte first: 0x1A2B3C4D in a big-endian section, 0x4D3C2B1A in a little-endian one.
+    pub magic: u32,
+    /// Major version number, 1 as a rule.
+    pub major_version: u16,
+    /// Minor version number, 0 as a rule.
+    pub minor_version: u16,
+    /// Length in bytes of the section without this block, or -1 where it isn't known. Nothing is skipped by it.
+    pub section_length: i64,
+    /// What else is said of the section.
+    pub options: Vec<SectionHeaderOption<'a>>,
+}
+
+impl<'a> SectionHeaderBlock<'a> {
+    /// The section that a block's body is, and what follows its options. Texts and bytes are borrowed from the slice.
+    ///
+    /// `InvalidField` under 16 bytes, then where the magic number is neither of the two, then for the first fault of
+    /// the options, or `Utf8Error` or `IoError` where that is a text that isn't UTF-8 or a custom value under 4 bytes.
+    /// `OutOfMemory` where the list of options can't grow.
+    pub fn from_slice(alloc: Global, slice: &'a [u8]) -> ResultParsing<(&'a [u8], Self)>
+        ensures tells { TellsWhere ⊤ (SectionSays slice.now) section_of result }
+        ensures borrowed { IfOk result (λ x. SectionIsBorrowed x.1) }
+    {
+        Ok(SectionHeaderBlock::read(alloc, slice)?)
+    }
+
+    pub(crate) fn read(alloc: Global, slice: &'a [u8]) -> Result<(&'a [u8], Self), Refusal>
+        ensures tells { FindsWhere ⊤ (SectionSays slice.now) section_of result }
+        ensures borrowed { IfOk result (λ x. SectionIsBorrowed x.1) }
+    {
+        if slice.len() < 16 {
+            return Err(Refusal::Invalid(Rule::SectionTooShort));
+        }
+        let (magic, rest) = split_u32::<BigEndian>(slice);
+        match magic {
+            0x1A2B3C4D => SectionHeaderBlock::read_after::<BigEndian>(alloc, magic, rest),
+            0x4D3C2B1A => SectionHeaderBlock::read_after::<LittleEndian>(alloc, magic, rest),
+            _ => Err(Refusal::Invalid(Rule::SectionMagic)),
+        }
+    }
+
+    // The section whose magic number is known, from what follows that.
+    fn read_after<B: ByteOrder>(
+        alloc: Global,
+        magic: u32,
+        slice: &'a [u8],
+    ) -> Result<(&'a [u8], Self), Refusal>
+        requires { 12 ≤ length slice.now }
+        ensures tells { FindsWhere ⊤ (AfterMagicSays B.number_of magic slice.now) section_of result }
+        ensures borrowed { IfOk result (λ x. SectionIsBorrowed x.1) }
+    {
+        let (major_version, rest) = split_u16::<B>(slice);
+        let (minor_version, rest) = split_u16::<B>(rest);
+        let (section_length, rest) = split_u64::<B>(rest);
+        let (rest, options) = options_from_slice::<SectionHeaderOption, B>(alloc, rest)?;
+        let block = SectionHeaderBlock {
+            magic,
+            major_version,
+            minor_version,
+            section_length: section_length.cast_signed(),
+            options,
+        };
+        Ok((rest, block))
+    }
+
+    /// Whether the magic number names an order.
+    #[tactic(auto, unfolding(crate::specs::SectionHeader::magic_order))]
+    pub fn has_valid_magic(&self) -> bool
+        ensures { IsTrue result ↔ IsSome (magic_order self.now.magic) }
+    {
+        matches!(self.magic, 0x1A2B3C4D | 0x4D3C2B1A)
+    }
+
+    /// The order of the section's numbers. The magic number has to name one: see `has_valid_magic`.
+    #[tactic(auto, unfolding(crate::specs::SectionHeader::magic_order))]
+    pub fn endianness(&self) -> Endianness
+        requires { IsSome (magic_order self.now.magic) }
+        ensures { magic_order self.now.magic ≡ Some result }
+    {
+        if self.magic == 0x1A2B3C4D {
+            Endianness::Big
+        } else {
+            Endianness::Little
+        }
+    }
+}
+
+/// An option of a section header.
+#[derive(Clone, Debug, Drop)]
+pub enum SectionHeaderOption<'a> {
+    /// A comment on the section.
+    Comment(CowStr<'a>),
+    /// The hardware that the section was made on.
+    Hardware(CowStr<'a>),
+    /// The operating system that the section was made on.
+    OS(CowStr<'a>),
+    /// The application that made the section.
+    UserApplication(CowStr<'a>),
+    /// Bytes of an enterprise.
+    CustomBinary(CustomBinaryOption<'a>),
+    /// A text of an enterprise.
+    CustomUtf8(CustomUtf8Option<'a>),
+    /// An option of another code.
+    Unknown(UnknownOption<'a>),
+}
+
+impl<'a> PcapNgOption<'a> for SectionHeaderOption<'a> {
+    ghost kind = { section_header };
+
+    ghost view = { section_entry };
+
+    ghost is_borrowed = { SectionOptionIsBorrowed };
+
+    fn from_value<B: ByteOrder>(code: u16, len: u16, value: &'a [u8]) -> Result<Self, Refusal> {
+        Ok(match code {
+            1 => Self::Comment(text_value(value)?),
+            2 => Self::Hardware(text_value(value)?),
+            3 => Self::OS(text_value(value)?),
+            4 => Self::UserApplication(text_value(value)?),
+            2988 | 19372 => Self::CustomUtf8(CustomUtf8Option::read::<B>(code, value)?),
+            2989 | 19373 => Self::CustomBinary(CustomBinaryOption::read::<B>(code, value)?),
+            _ => Self::Unknown(UnknownOption::new(code, len, value)),
+        })
+    }
+}

@@ -1,0 +1,48 @@
+//! Simple packets.
+
+ghost use Rattle.std.specs.Prelude.{IfOk};
+ghost use Rattle.pcap_classic.specs.Answer.{Tells};
+ghost use Rattle.pcap_blocks.specs.Refusals.{Finds};
+ghost use Rattle.pcap_blocks.specs.WholeBodies.{SimpleSays, simple_of, SimpleIsBorrowed};
+
+use crate::fields::split_u32;
+use crate::refusal::Refusal;
+use byteorder::ByteOrder;
+use pcap_classic::rules::Rule;
+use pcap_classic::{CowBytes, ResultParsing};
+
+/// The body of a simple packet: a packet of the section's first interface, with no time.
+#[derive(Clone, Debug, Drop)]
+pub struct SimplePacketBlock<'a> {
+    /// How many bytes the packet had on the wire.
+    pub original_len: u32,
+    /// The bytes that are stored of the packet, and their padding.
+    pub data_: CowBytes<'a>,
+}
+
+impl<'a> SimplePacketBlock<'a> {
+    /// The packet that a block's body is; nothing is left behind it. Its bytes are borrowed from the slice.
+    ///
+    /// `InvalidField` under 4 bytes.
+    pub fn from_slice<B: ByteOrder>(slice: &'a [u8]) -> ResultParsing<(&'a [u8], Self)>
+        ensures tells { Tells (SimpleSays B.number_of slice.now) simple_of result }
+        ensures borrowed { IfOk result (λ x. SimpleIsBorrowed x.1) }
+    {
+        Ok(SimplePacketBlock::read::<B>(slice)?)
+    }
+
+    pub(crate) fn read<B: ByteOrder>(slice: &'a [u8]) -> Result<(&'a [u8], Self), Refusal>
+        ensures tells { Finds (SimpleSays B.number_of slice.now) simple_of result }
+        ensures borrowed { IfOk result (λ x. SimpleIsBorrowed x.1) }
+    {
+        if slice.len() < 4 {
+            return Err(Refusal::Invalid(Rule::SimpleTooShort));
+        }
+        let (original_len, bytes) = split_u32::<B>(slice);
+        let block = SimplePacketBlock {
+            original_len,
+            data_: CowBytes::Borrowed(bytes),
+        };
+        Ok((&slice[slice.len()..], block))
+    }
+}

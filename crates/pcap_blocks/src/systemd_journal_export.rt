@@ -1,0 +1,28 @@
+//! Entries of the systemd journal.
+
+ghost use Rattle.std.specs.Prelude.{IfOk};
+ghost use Rattle.pcap_classic.specs.Answer.{Tells};
+ghost use Rattle.pcap_blocks.specs.WholeBodies.{JournalSays, journal_of, JournalIsBorrowed};
+
+use byteorder::ByteOrder;
+use pcap_classic::{CowBytes, ResultParsing};
+
+/// The body of a systemd journal export.
+#[derive(Clone, Debug, Drop)]
+pub struct SystemdJournalExportBlock<'a> {
+    /// An entry in the journal export format.
+    pub journal_entry: CowBytes<'a>,
+}
+
+impl<'a> SystemdJournalExportBlock<'a> {
+    /// The entry that a block's body is; nothing is left behind it. Its bytes are borrowed from the slice.
+    pub fn from_slice<B: ByteOrder>(slice: &'a [u8]) -> ResultParsing<(&'a [u8], Self)>
+        ensures tells { Tells (JournalSays slice.now) journal_of result }
+        ensures borrowed { IfOk result (λ x. JournalIsBorrowed x.1) }
+    {
+        let block = SystemdJournalExportBlock {
+            journal_entry: CowBytes::Borrowed(slice),
+        };
+        Ok((&slice[slice.len()..], block))
+    }
+}

@@ -1,0 +1,15 @@
+//! Rows of bytes, and the values or refusals that `pcap_blocks` gives for them.
+#![tactic(auto)]
+
+#[cfg(test)]
+mod interface_description;
+#[cfg(test)]
+mod options;
+#[cfg(test)]
+mod other_blocks;
+#[cfg(test)]
+mod packets;
+#[cfg(test)]
+mod rows;
+#[cfg(test)]
+mod section_header;

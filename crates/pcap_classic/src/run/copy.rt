@@ -1,0 +1,169 @@
+//! Copies of captures, from a reader to a writer.
+
+ghost use Rattle.std.specs.Prelude.{◌≡◌, ◌≤◌, ◌↔◌, true, IsTrue, IfSome, MatchResult};
+ghost use Rattle.pcap_classic.specs.Asked.{HoldsItem};
+ghost use Rattle.pcap_classic.specs.Copies.{CanBeUnder, IsNew, ended, CopyRun, CopyFront, CopiesBehind, WritesHeld, header_under};
+ghost use Rattle.pcap_classic.specs.Magic.{is_magic};
+ghost use Rattle.pcap_classic.specs.Packets.{reader_format};
+ghost use Rattle.pcap_classic.specs.PacketText.{packet_limit};
+ghost use Rattle.pcap_classic.specs.Written.{written_under};
+
+use crate::pcap::{PcapHeader, fill_packet, put_header, put_packet, read_header, whole_packet};
+use crate::rules::Rule;
+use crate::stream::Held;
+use crate::{Endianness, PcapError, ResultParsing, TsResolution};
+use std::alloc::Global;
+use std::io::{Read, Write};
+
+/// The header under which a copy is written.
+#[derive(Clone, Copy, Debug, PartialEq, Eq)]
+pub enum Under {
+    /// The header that was read.
+    Same,
+    /// This header.
+    Header(PcapHeader),
+    /// The header that was read, with the magic number of this order and resolution.
+    Order(Endianness, TsResolution),
+}
+
+/// How a copy ended.
+#[derive(Debug, Drop)]
+pub struct Copied {
+    /// How many whole packets went out.
+    pub packets: u64,
+    /// Why the copy ended before the end of the capture and before the most packets that were asked for.
+    pub fault: Option<PcapError>,
+    /// Whether a read failed.
+    pub read_failed: bool,
+    /// Whether a write failed.
+    pub write_failed: bool,
+}
+
+impl Under {
+    // Whether the header that is given, if one is, has one of the four magic numbers.
+    fn is_writable(&self) -> bool
+        ensures { IsTrue result ↔ CanBeUnder self.now }
+    {
+        match self {
+            Under::Header(header) => header.has_valid_magic(),
+            Under::Same | Under::Order(_, _) => true,
+        }
+    }
+
+    // The header under which the copy of a capture with this header is written.
+    fn header(self, read: PcapHeader) -> PcapHeader
+        requires writable { CanBeUnder self }
+        requires valid { IsTrue (is_magic read.magic_number) }
+        ensures header { result ≡ header_under self read }
+        ensures valid { IsTrue (is_magic result.magic_number) }
+    {
+        match self {
+            Under::Same => read,
+            Under::Header(header) => header,
+            Under::Order(endianness, ts_resolution) => {
+                let mut header = read;
+                header.set_endianness(endianness);
+                header.set_ts_resolution(ts_resolution);
+                header
+            }
+        }
+    }
+}
+
+/// Copies a capture from a reader to a writer: its header, as `under` demands, and then its packets, each of them before
+/// the next one is read, up to so many. Exactly what was copied is taken from the reader where there is no fault. Under
+/// microseconds the times are cut to them.
+///
+/// `InvalidField` where the magic number of the header that is given is none of the four: nothing is read or written then.
+/// A header or packet that is refused gives what `PcapReader` gives there, and what stands before it has gone out.
+/// `IoError` where a write failed: a beginning of the text that comes next has gone out then.
+pub fn copy_pcap<R: Read, W: Write>(
+    alloc: Global,
+    reader: &mut R,
+    writer: &mut W,
+    under: Under,
+    most: u64,
+) -> Copied
+    ensures most { result.packets ≤ most }
+    ensures run { CopyRun under (R.remaining reader.old) (R.remaining reader.new) (W.contents writer.old) (W.contents writer.new) most result }
+    ensures front { IfSome (R.remaining reader.old) (λ bytes. CopyFront under bytes (R.remaining reader.new) (W.contents writer.old) (W.contents writer.new) most result) }
+{
+    let mut copied = Copied {
+        packets: 0,
+        fault: None,
+        read_failed: false,
+        write_failed: false,
+    };
+    copied.fault = copy_under(alloc, reader, writer, under, most, &mut copied).err();
+    copied
+}
+
+// Copies the header and the packets, and counts these.
+fn copy_under<R: Read, W: Write>(
+    alloc: Global,
+    reader: &mut R,
+    writer: &mut W,
+    under: Under,
+    most: u64,
+    copied: &mut Copied,
+) -> ResultParsing<()>
+    requires { IsNew copied.old }
+    ensures { CopyRun under (R.remaining reader.old) (R.remaining reader.new) (W.contents writer.old) (W.contents writer.new) most (ended copied.new result) }
+{
+    if !under.is_writable() {
+        return Err(PcapError::from(Rule::CaptureMagic));
+    }
+    let header = read_header(reader, &mut copied.read_failed)?;
+    let out = under.header(header);
+    put_header(writer, &mut copied.write_failed, &out)?;
+    copy_packets(alloc, reader, writer, &header, &out, most, copied)
+}
+
+// Copies the packets behind a header that was read, to behind one that went out.
+fn copy_packets<R: Read, W: Write>(
+    alloc: Global,
+    reader: &mut R,
+    writer: &mut W,
+    header: &PcapHeader,
+    out: &PcapHeader,
+    most: u64,
+    copied: &mut Copied,
+) -> ResultParsing<()>
+    requires new { IsNew copied.old }
+    requires read { IsTrue (is_magic header.now.magic_number) }
+    requires written { IsTrue (is_magic out.now.magic_number) }
+    ensures { CopiesBehind header.now out.now (R.remaining reader.old) (R.remaining reader.new) (W.contents writer.old) (W.contents writer.new) most (ended copied.new result) }
+{
+    let mut held = Held::new(alloc);
+    while copied.packets < most {
+        if !fill_packet(header, reader, &mut copied.read_failed, &mut held)? {
+            return Ok(());
+        }
+        put_held(
+            writer,
+            &mut copied.write_failed,
+            header,
+            out,
+            held.as_slice(),
+        )?;
+        held.clear();
+        copied.packets += 1;
+    }
+    Ok(())
+}
+
+// Writes the packet that the bytes are, lent from them.
+fn put_held<W: Write>(
+    writer: &mut W,
+    has_failed: &mut bool,
+    header: &PcapHeader,
+    out: &PcapHeader,
+    held: &[u8],
+) -> ResultParsing<()>
+    requires item { HoldsItem ((reader_format packet_limit header.now).says tt held.now) }
+    requires written { IsTrue (is_magic out.now.magic_number) }
+    ensures out { WritesHeld ((reader_format packet_limit header.now).says tt) (written_under out.now) held.now (W.contents writer.old) (W.contents writer.new) result }
+    ensures told { MatchResult result (λ _. has_failed.new ≡ has_failed.old) (λ _. has_failed.new ≡ true) }
+{
+    put_packet(writer, has_failed, out, &whole_packet(header, held))
+}

@@ -1,0 +1,154 @@
+//! Copies from streams to writers.
+
+use crate::readers::Halting;
+use crate::writers::{Narrow, back, capture, front};
+use pcap_classic::pcap::PcapHeader;
+use pcap_classic::run::{Copied, Under, copy_pcap};
+use pcap_classic::{Endianness, PcapError, TsResolution};
+use std::alloc::{AllocError, Global};
+use std::io::ErrorKind;
+use std::test::Fail;
+
+// Whether so many packets were copied, and nothing failed.
+fn is_whole(copied: &Copied, packets: u64) -> bool {
+    copied.packets == packets
+        && copied.fault.is_none()
+        && !copied.read_failed
+        && !copied.write_failed
+}
+
+fn is_io(copied: &Copied) -> bool {
+    matches!(copied.fault, Some(PcapError::IoError(_)))
+}
+
+fn names(copied: &Copied, rule: &str) -> bool {
+    match copied.fault {
+        Some(PcapError::InvalidField(text)) => text == rule,
+        _ => false,
+    }
+}
+
+// The capture's header and then these bytes.
+fn behind_header(alloc: Global, bytes: &[u8]) -> Result<Vec<u8>, AllocError> {
+    let whole = capture(alloc)?;
+    let mut capture = Vec::from_slice(alloc, front(whole.as_slice(), 24))?;
+    capture.extend_from_slice(bytes)?;
+    Ok(capture)
+}
+
+#[test]
+fn other_orders(rt: HostRuntime) -> Result<(), Fail> {
+    let whole = capture(rt.alloc())?;
+    let mut stream = Halting::new(rt.alloc(), whole.as_slice(), 1)?;
+    let mut out = Vec::new(rt.alloc());
+    let under = Under::Order(Endianness::Little, TsResolution::NanoSecond);
+    let copied = copy_pcap(rt.alloc(), &mut stream, &mut out, under, 9);
+    assert!(rt; is_whole(&copied, 1));
+    let head = [
+        0x4d, 0x3c, 0xb2, 0xa1, 2, 0, 4, 0, 0, 0, 0, 0, 0, 0, 0, 0, 0xff, 0xff, 0, 0, 1, 0, 0, 0,
+        0x29, 0x1b, 0xa1, 0x4f, 0xf0, 0xf2, 0x18, 0x09, 0x62, 0, 0, 0, 0x62, 0, 0, 0,
+    ];
+    assert_eq!(rt; front(out.as_slice(), 40), head.as_slice());
+    assert_eq!(rt; back(out.as_slice(), 40), back(whole.as_slice(), 40));
+    Ok(())
+}
+
+#[test]
+fn fractions_are_cut(rt: HostRuntime) -> Result<(), Fail> {
+    let nanoseconds = [0, 0, 0, 1, 0, 0, 3, 0xe7, 0, 0, 0, 0, 0, 0, 0, 0];
+    let cut = [0, 0, 0, 1, 0, 0, 0, 0, 0, 0, 0, 0, 0, 0, 0, 0];
+    let whole = behind_header(rt.alloc(), &nanoseconds)?;
+    let wanted = behind_header(rt.alloc(), &cut)?;
+    let mut bytes = Vec::from_slice(rt.alloc(), &[0xa1, 0xb2, 0x3c, 0x4d])?;
+    bytes.extend_from_slice(back(whole.as_slice(), 4))?;
+    let mut stream = Halting::new(rt.alloc(), bytes.as_slice(), 99)?;
+    let mut out = Vec::new(rt.alloc());
+    let under = Under::Order(Endianness::Big, TsResolution::MicroSecond);
+    let copied = copy_pcap(rt.alloc(), &mut stream, &mut out, under, 9);
+    assert!(rt; is_whole(&copied, 1));
+    assert_eq!(rt; out.as_slice(), wanted.as_slice());
+    Ok(())
+}
+
+#[test]
+fn every_room(rt: HostRuntime) -> Result<(), Fail> {
+    let whole = capture(rt.alloc())?;
+    for room in 0..138usize {
+        let mut stream = Halting::new(rt.alloc(), whole.as_slice(), 50)?;
+        let mut output = Narrow::new(rt.alloc(), room, true);
+        let copied = copy_pcap(rt.alloc(), &mut stream, &mut output, Under::Same, 9);
+        assert!(rt; is_io(&copied) && copied.write_failed, "at {room}");
+        assert!(rt; copied.packets == 0 && !copied.read_failed);
+        assert_eq!(rt; output.out.as_slice(), front(whole.as_slice(), room));
+    }
+    Ok(())
+}
+
+#[test]
+fn every_failed_read(rt: HostRuntime) -> Result<(), Fail> {
+    let whole = capture(rt.alloc())?;
+    for fails_at in 1..140usize {
+        let mut stream = Halting::new(rt.alloc(), whole.as_slice(), 1)?;
+        stream.fails_at = fails_at;
+        stream.kind = ErrorKind::Interrupted;
+        let mut out = Vec::new(rt.alloc());
+        let copied = copy_pcap(rt.alloc(), &mut stream, &mut out, Under::Same, 9);
+        let gone = if fails_at <= 24 {
+            0
+        } else if fails_at < 139 {
+            24
+        } else {
+            138
+        };
+        assert!(rt; is_io(&copied) && copied.read_failed && !copied.write_failed);
+        assert_eq!(rt;
+            out.as_slice(),
+            front(whole.as_slice(), gone),
+            "at {fails_at}"
+        );
+    }
+    Ok(())
+}
+
+#[test]
+fn most_packets(rt: HostRuntime) -> Result<(), Fail> {
+    let whole = capture(rt.alloc())?;
+    let mut bytes = capture(rt.alloc())?;
+    bytes.extend_from_slice(&[0, 0, 0, 1, 0, 0, 0, 0, 0, 0, 0, 2, 0, 0, 0, 1])?;
+    for (most, taken) in [(0, 24), (1, 138)] {
+        let mut stream = Halting::new(rt.alloc(), bytes.as_slice(), 200)?;
+        let mut out = Vec::new(rt.alloc());
+        let copied = copy_pcap(rt.alloc(), &mut stream, &mut out, Under::Same, most);
+        assert!(rt; is_whole(&copied, most));
+        assert_eq!(rt; stream.taken, taken);
+        assert_eq!(rt; out.as_slice(), front(whole.as_slice(), taken));
+    }
+    let mut stream = Halting::new(rt.alloc(), bytes.as_slice(), 200)?;
+    let mut out = Vec::new(rt.alloc());
+    let copied = copy_pcap(rt.alloc(), &mut stream, &mut out, Under::Same, 2);
+    assert!(rt; names(&copied, "PacketHeader incl_len > orig_len") && copied.packets == 1);
+    assert_eq!(rt; out.as_slice(), whole.as_slice());
+    Ok(())
+}
+
+#[test]
+fn refused_headers(rt: HostRuntime) -> Result<(), Fail> {
+    let whole = capture(rt.alloc())?;
+    let header = PcapHeader {
+        magic_number: 0,
+        ..PcapHeader::default()
+    };
+    let mut stream = Halting::new(rt.alloc(), whole.as_slice(), 200)?;
+    let mut out = Vec::new(rt.alloc());
+    let copied = copy_pcap(rt.alloc(), &mut stream, &mut out, Under::Header(header), 9);
+    assert!(rt; names(&copied, "PcapHeader wrong magic number"));
+    assert!(rt; stream.calls == 0 && out.is_empty() && !copied.read_failed);
+    let mut stream = Halting::new(rt.alloc(), &[0xff; 30], 200)?;
+    let copied = copy_pcap(rt.alloc(), &mut stream, &mut out, Under::Same, 9);
+    assert!(rt; names(&copied, "PcapHeader wrong magic number") && out.is_empty());
+    let mut stream = Halting::new(rt.alloc(), front(whole.as_slice(), 40), 200)?;
+    let copied = copy_pcap(rt.alloc(), &mut stream, &mut out, Under::Same, 9);
+    assert!(rt; is_io(&copied) && !copied.read_failed && copied.packets == 0);
+    assert_eq!(rt; out.as_slice(), front(whole.as_slice(), 24));
+    Ok(())
+}
