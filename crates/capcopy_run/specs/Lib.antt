@@ -1,3 +1,4 @@
+pub mod Copying
 pub mod Exits
 pub mod Lines
 pub mod Listing
