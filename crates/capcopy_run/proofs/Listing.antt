@@ -25,9 +25,9 @@ use Rattle.pcap_classic.proofs.Stable.{header_stable}
 use Rattle.pcap_classic.proofs.Taking.{takes_more, run_reads}
 use Rattle.capcopy_run.specs.declared.exit.Exit.{Exit}
 use Rattle.capcopy_run.specs.declared.exit.Exit.TheVariants as exits
-use Rattle.capcopy_run.specs.Exits.{EndsAt, IsOfKnownWord}
+use Rattle.capcopy_run.specs.Exits.{EndsAt, IsOfKnownWord, exit_of}
 use Rattle.capcopy_run.specs.Lines.{line_of, lines_from, WritesLine}
-use Rattle.capcopy_run.specs.Listing.{ReaderSays, Listing, TearsNext, LinesEnd, ListsBehind, Listed, EndsClean, EndsRefused, TearsLine, ListsUntil, Lists}
+use Rattle.capcopy_run.specs.Listing.{ReaderSays, Listing, TearsNext, LinesEnd, ListsBehind, Listed, EndsClean, EndsRefused, TearsLine, ListsUntil}
 use Rattle.capcopy_run.proofs.Lines.{lines_push}
 
 pub listing_none : (header : PcapHeader) (before out : Option (List ℕ)) → Listing header before before out out 0
@@ -214,7 +214,7 @@ module _ (header : PcapHeader) (s rest : List ℕ) (text : HeaderText header s r
       let part = subst (λ k. AppendsPart mid after (line_of (suc k) torn_.packet.header)) (sym so_far.count) torn_.out in
       (listed, omega (arith, so_far.count, fewer), inr (record { next = torn_.packet; others = read.more; more = refl; out = part }))
 
-  lists_from : (most : ℕ) (before after : Option (List ℕ)) (result : Result (Unit {0}) Exit) → ListsBehind header (Some rest) before after most result → Lists most s before after result
+  lists_from : (most : ℕ) (before after : Option (List ℕ)) (result : Result (Unit {0}) Exit) → ListsBehind header (Some rest) before after most result → ListsUntil most s before after (exit_of result)
   lists_from most before after (Ok done) run = lists_clean most run.n before run.mid after run.left run.so_far run.ends.0 run.ends.1 run.ends.2
   lists_from most before after (Err exits.Most) run = lists_most most run.n before run.mid after run.left run.so_far run.ends.0 run.ends.1
   lists_from most before after (Err (exits.Refused (errors.InvalidField t))) run =
@@ -243,13 +243,13 @@ module _ (header : PcapHeader) (s rest : List ℕ) (text : HeaderText header s r
   lists_from most before after (Err exits.Usage) run = absurd run.ends
 
 lists_behind : (header : PcapHeader) (s : List ℕ) (known : Option (List ℕ)) → Takes HeaderSays (Some s) known header → (most : ℕ) (before after : Option (List ℕ)) (result : Result (Unit {0}) Exit)
-    → ListsBehind header known before after most result → Lists most s before after result
+    → ListsBehind header known before after most result → ListsUntil most s before after (exit_of result)
 lists_behind header s None took most before after result run = absurd took.2
 lists_behind header s (Some rest) took most before after result run =
     let text = subst (λ (l : List ℕ). HeaderText header l rest) (sym took.2) (header_stable.text took.0 rest [] header took.1) in
     lists_from header s rest text (took.1).valid most before after result run
 
 pub lists_known : (header : PcapHeader) (bytes known : Option (List ℕ)) → Takes HeaderSays bytes known header → (most : ℕ) (before after : Option (List ℕ)) (result : Result (Unit {0}) Exit)
-    → ListsBehind header known before after most result → IfSome bytes (λ s. Lists most s before after result)
+    → ListsBehind header known before after most result → IfSome bytes (λ s. ListsUntil most s before after (exit_of result))
 lists_known header None known took most before after result run = tt
 lists_known header (Some s) known took most before after result run = lists_behind header s known took most before after result run

@@ -1,5 +1,5 @@
 -- How copies end.
-use Rattle.std.specs.Prelude.{◌≡◌, ◌<◌, ◌⊎◌, ℕ, List, Option, None, Some, Result, Ok, Err, IfSome}
+use Rattle.std.specs.Prelude.{◌≡◌, ◌<◌, ◌⊎◌, ℕ, List, Option, None, Some, IfSome}
 use Rattle.pcap_classic.specs.declared.errors.PcapError.{PcapError}
 use Rattle.pcap_classic.specs.declared.run.copy.Copied.{Copied}
 use Rattle.pcap_classic.specs.declared.run.copy.Under.{Under}
@@ -7,11 +7,6 @@ use Rattle.pcap_classic.specs.Copies.{CopyRun, CopyFront}
 use Rattle.capcopy_run.specs.declared.exit.Exit.{Exit}
 use Rattle.capcopy_run.specs.declared.exit.Exit.TheVariants.{Done, Most}
 use Rattle.capcopy_run.specs.Exits.{EndsAt}
-
--- the exit of a call, whose `Ok` is `Done`
-abbrev pub exit_of : Result (Unit {0}) Exit → Exit
-exit_of (Ok done) = Done
-exit_of (Err exit) = exit
 
 -- the exit of a copy of so many packets: that of its fault, else `Most` where these are the most, else `Done`
 abbrev pub EndsCopy : ℕ → ℕ → Option PcapError → Exit → Type 0

@@ -1,11 +1,16 @@
 -- How runs of the program end.
-use Rattle.std.specs.Prelude.{◌≡◌, ⊤, ℕ, List, [], Option, None, Some, codes}
+use Rattle.std.specs.Prelude.{◌≡◌, ⊤, ℕ, List, [], Option, None, Some, Result, Ok, Err, codes}
 use Rattle.std.specs.IoError.{error_kind}
 use Rattle.std.specs.declared.io.ErrorKind.TheVariants.{UnexpectedEof}
 use Rattle.pcap_classic.specs.declared.errors.PcapError.{PcapError}
 use Rattle.pcap_classic.specs.declared.errors.PcapError.TheVariants.{IncompleteBuffer, IoError, OutOfMemory}
 use Rattle.capcopy_run.specs.declared.exit.Exit.{Exit}
 use Rattle.capcopy_run.specs.declared.exit.Exit.TheVariants.{Done, Refused, Most, Usage, Io, Memory}
+
+-- the exit of a call, whose `Ok` is `Done`
+abbrev pub exit_of : Result (Unit {0}) Exit → Exit
+exit_of (Ok done) = Done
+exit_of (Err exit) = exit
 
 -- the status of the process
 abbrev pub status_of : Exit → ℕ

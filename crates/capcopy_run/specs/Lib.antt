@@ -1,3 +1,4 @@
+pub mod Commands
 pub mod Copying
 pub mod Exits
 pub mod Lines

@@ -94,8 +94,3 @@ ListsUntil most s before after (Io error) =
     Keeps before after ⊎ ((listed : Listed s before) × (length listed.packets < most) × (Keeps listed.mid after ⊎ TearsLine after listed))
 ListsUntil most s before after Memory = (listed : Listed s before) × (length listed.packets < most) × Keeps listed.mid after
 ListsUntil most s before after Usage = ⊥
-
--- the same of a call's result, whose `Ok` is `Done`
-abbrev pub Lists : ℕ → List ℕ → Option (List ℕ) → Option (List ℕ) → Result (Unit {0}) Exit → Type 0
-Lists most s before after (Ok done) = ListsUntil most s before after Done
-Lists most s before after (Err exit) = ListsUntil most s before after exit

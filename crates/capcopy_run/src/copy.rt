@@ -1,6 +1,8 @@
 //! The word `copy`: the capture again, as it is or under another header.
 
-ghost use Rattle.capcopy_run.specs.Copying.{exit_of, CopiesUntil};
+ghost use Rattle.std.specs.Prelude.{IfErr};
+ghost use Rattle.capcopy_run.specs.Copying.{CopiesUntil};
+ghost use Rattle.capcopy_run.specs.Exits.{exit_of, IsOfKnownWord};
 
 use crate::Exit;
 use pcap_classic::run::{Copied, Under, copy_pcap};
@@ -17,7 +19,8 @@ pub(crate) fn copy<R: Read, W: Write>(
     under: Under,
     most: u64,
 ) -> Result<(), Exit>
-    ensures { CopiesUntil under (R.remaining input.old) (R.remaining input.new) (W.contents output.old) (W.contents output.new) most (exit_of result) }
+    ensures known { IfErr result IsOfKnownWord }
+    ensures copied { CopiesUntil under (R.remaining input.old) (R.remaining input.new) (W.contents output.old) (W.contents output.new) most (exit_of result) }
 {
     let Copied { packets, fault, .. } = copy_pcap(alloc, input, output, under, most);
     match fault {
