@@ -48,13 +48,7 @@ fn run_buffered(rt: &HostRuntime) -> Result<Exit, Exit> {
     let Ok(mut output) = BufWriter::with_capacity(rt.alloc(), BUFFER, rt.stdout()) else {
         return Err(Exit::Memory);
     };
-    let exit = capcopy_run::run(
-        rt.alloc(),
-        names.as_slice(),
-        &mut input,
-        &mut output,
-        MOST,
-    );
+    let exit = capcopy_run::run(rt.alloc(), names.as_slice(), &mut input, &mut output, MOST);
     output.flush()?;
     Ok(exit)
 }
