@@ -16,7 +16,7 @@ use Rattle.pcap_classic.specs.Magic.{is_magic, order_of, resolution_of}
 use Rattle.pcap_classic.specs.PacketText.{packet_limit, Captured}
 use Rattle.pcap_classic.specs.Packets.{format_under, reader_format}
 use Rattle.pcap_classic.specs.Reading.{IsFaultOf, Takes, HasCause, read_failed, no_memory, torn, refused}
-use Rattle.pcap_classic.specs.Takes.{TakesTexts, TakesItems, ReadsFront, Stops}
+use Rattle.pcap_classic.specs.Takes.{TakesTexts, ReadsFront, Stops}
 use Rattle.pcap_classic.specs.Writing.{AppendsPart}
 use Rattle.pcap_classic.proofs.Captures.{under_valid}
 use Rattle.pcap_classic.proofs.HeadedPackets.{packets_lawful}
@@ -27,7 +27,7 @@ use Rattle.capcopy_run.specs.declared.exit.Exit.{Exit}
 use Rattle.capcopy_run.specs.declared.exit.Exit.TheVariants as exits
 use Rattle.capcopy_run.specs.Exits.{EndsAt, IsOfKnownWord, exit_of}
 use Rattle.capcopy_run.specs.Lines.{line_of, lines_from, WritesLine}
-use Rattle.capcopy_run.specs.Listing.{ReaderSays, Listing, TearsNext, LinesEnd, ListsBehind, Listed, EndsClean, EndsRefused, TearsLine, ListsUntil}
+use Rattle.capcopy_run.specs.Listing.{ReaderSays, Listing, TearsNext, LinesEnd, ListsBehind, Listed, TearsLine, ListsUntil}
 use Rattle.capcopy_run.proofs.Lines.{lines_push}
 
 pub listing_none : (header : PcapHeader) (before out : Option (List ℕ)) → Listing header before before out out 0

@@ -1,5 +1,5 @@
 -- The words that the program knows.
-use Rattle.std.specs.Prelude.{◌≡◌, ℕ, List, [], ◌∷◌, Option, None, Some, map, codes}
+use Rattle.std.specs.Prelude.{◌≡◌, ℕ, List, [], ◌∷◌, map, codes}
 use Rattle.std.specs.Borrow.{Bor}
 use Rattle.pcap_classic.specs.declared.common.Endianness.{Endianness}
 use Rattle.pcap_classic.specs.declared.common.Endianness.TheVariants.{Big, Little}

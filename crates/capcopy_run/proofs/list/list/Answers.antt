@@ -1,5 +1,5 @@
 use Rattle.pcap_classic.specs.Reader.{stream_of}
-use Rattle.capcopy_run.proofs.Listing.{lists_known, known_end}
+use Rattle.capcopy_run.proofs.Listing.{lists_known}
 use Rattle.capcopy_run.proofs.list.list.Goals as goal
 
 pub returns-clause-lists : goal.returns-clause-lists

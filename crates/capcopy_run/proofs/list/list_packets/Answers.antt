@@ -1,4 +1,4 @@
-use Rattle.std.proofs.Common.{◌≡◌, ◌∙◌, subst}
+use Rattle.std.proofs.Common.{◌∙◌, subst}
 use Rattle.std.proofs.lemmas.Result.{err_from_is_err_and}
 use Rattle.pcap_classic.specs.declared.pcap.header.PcapHeader.{PcapHeader}
 use Rattle.pcap_classic.specs.PacketText.{captured}
