@@ -1,4 +1,4 @@
-//! Lists the packets of the capture on standard input.
+//! Lists or copies the capture on standard input.
 #![tactic(auto)]
 
 mod program;

@@ -3,13 +3,13 @@
 use capcopy_run::Exit;
 use std::alloc::Global;
 use std::env::{Env, FillError};
-use std::io::{BufWriter, Write};
+use std::io::{BufReader, BufWriter, Write};
 use std::str;
 
-/// The most lines of one run.
-const MOST_LINES: u64 = 4_294_967_295;
+/// The most lines or packets of one run.
+const MOST: u64 = 4_294_967_295;
 
-/// The size of the buffer before standard output, in bytes.
+/// The size of the buffers over standard input and before standard output, in bytes.
 const BUFFER: usize = 65536;
 
 /// A longer word is none that the program knows.
@@ -42,16 +42,13 @@ fn run_buffered(rt: &HostRuntime) -> Result<Exit, Exit> {
     for word in &words {
         names.push(word.as_str())?;
     }
+    let Ok(mut input) = BufReader::with_capacity(rt.alloc(), BUFFER, rt.stdin()) else {
+        return Err(Exit::Memory);
+    };
     let Ok(mut output) = BufWriter::with_capacity(rt.alloc(), BUFFER, rt.stdout()) else {
         return Err(Exit::Memory);
     };
-    let exit = capcopy_run::run(
-        rt.alloc(),
-        names.as_slice(),
-        &mut rt.stdin(),
-        &mut output,
-        MOST_LINES,
-    );
+    let exit = capcopy_run::run(rt.alloc(), names.as_slice(), &mut input, &mut output, MOST);
     output.flush()?;
     Ok(exit)
 }

@@ -1,3 +1,4 @@
 mod Digits
 mod Lines
 mod Listing
+mod Exits

@@ -4,11 +4,13 @@ use Rattle.std.specs.IoError.{error_kind}
 use Rattle.std.specs.declared.io.ErrorKind.TheVariants.{UnexpectedEof}
 use Rattle.pcap_classic.specs.declared.errors.PcapError.{PcapError}
 use Rattle.pcap_classic.specs.declared.errors.PcapError.TheVariants.{IncompleteBuffer, IoError, OutOfMemory}
-use Rattle.pcap_classic.specs.declared.run.Rest.{Rest}
-use Rattle.pcap_classic.specs.declared.run.Rest.TheVariants.{Clean, Needs}
-use Rattle.pcap_classic.specs.declared.run.Rest.TheVariants as rests
 use Rattle.capcopy_run.specs.declared.exit.Exit.{Exit}
 use Rattle.capcopy_run.specs.declared.exit.Exit.TheVariants.{Done, Refused, Most, Usage, Io, Memory}
+
+-- the exit of a call, whose `Ok` is `Done`
+abbrev pub exit_of : Result (Unit {0}) Exit → Exit
+exit_of (Ok done) = Done
+exit_of (Err exit) = exit
 
 -- the status of the process
 abbrev pub status_of : Exit → ℕ
@@ -39,24 +41,6 @@ EndsAt (IncompleteBuffer n) exit = IsEarlyEnd exit
 EndsAt (IoError e) exit = exit ≡ Io (IoError e)
 EndsAt (OutOfMemory e) exit = exit ≡ Memory
 EndsAt error exit = exit ≡ Refused error
-
--- the input could not be read, or there was no memory for its bytes
-abbrev pub IsEndOfReading : Exit → Type 0
-IsEndOfReading (Io (IoError e)) = ⊤
-IsEndOfReading Memory = ⊤
-IsEndOfReading exit = ⊥
-
--- a read or a write failed, or the input ended early
-abbrev pub IsIo : Exit → Type 0
-IsIo (Io (IoError e)) = ⊤
-IsIo exit = ⊥
-
--- how a run ends behind the last whole packet
-abbrev pub EndsBehind : Rest → Result (Unit {0}) Exit → Type 0
-EndsBehind Clean (Ok done) = ⊤
-EndsBehind (Needs n) (Err exit) = IsEarlyEnd exit
-EndsBehind (rests.Refused error) (Err exit) = EndsAt error exit
-EndsBehind rest result = ⊥
 
 -- the exit is one of a known word, and an `Io` holds the error of a read, a write or an early end
 abbrev pub IsOfKnownWord : Exit → Type 0

@@ -1,3 +1,5 @@
+pub mod Commands
+pub mod Copying
 pub mod Exits
 pub mod Lines
 pub mod Listing

@@ -1,8 +1,13 @@
 -- What the word list writes.
-use Rattle.std.specs.Prelude.{ℕ, suc, ◌-◌, List, [], ◌∷◌, ◌++◌, length, replicate, codes}
+use Rattle.std.specs.Prelude.{ℕ, suc, ◌-◌, List, [], ◌∷◌, ◌++◌, length, replicate, codes, Option, Result, Ok, Err}
 use Rattle.std.specs.Fmt.{decimal}
+use Rattle.std.specs.Io.KnownBytes.{Appends, Keeps}
+use Rattle.pcap_classic.specs.declared.errors.PcapError.TheVariants.{IoError}
 use Rattle.pcap_classic.specs.declared.pcap.packet.PacketHeader.{PacketHeader}
 use Rattle.pcap_classic.specs.PacketText.{Captured}
+use Rattle.pcap_classic.specs.Writing.{AppendsPart}
+use Rattle.capcopy_run.specs.declared.exit.Exit.{Exit}
+use Rattle.capcopy_run.specs.declared.exit.Exit.TheVariants.{Io, Memory}
 
 -- a number with zeros before it, to at least nine digits
 abbrev pub nine_digits : ℕ → List ℕ
@@ -19,3 +24,10 @@ line_of index header =
 abbrev pub lines_from : ℕ → List Captured → List ℕ
 lines_from index [] = []
 lines_from index (packet ∷ others) = line_of index packet.header ++ lines_from (suc index) others
+
+-- one call that writes a line: all of it went out, or a write failed behind a beginning of it, or there was no room to make it
+abbrev pub WritesLine : Option (List ℕ) → Option (List ℕ) → List ℕ → Result (Unit {0}) Exit → Type 0
+WritesLine before after line (Ok done) = Appends before after line
+WritesLine before after line (Err (Io (IoError e))) = AppendsPart before after line
+WritesLine before after line (Err Memory) = Keeps before after
+WritesLine before after line (Err exit) = ⊥

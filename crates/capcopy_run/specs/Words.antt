@@ -1,11 +1,34 @@
 -- The words that the program knows.
 use Rattle.std.specs.Prelude.{◌≡◌, ℕ, List, [], ◌∷◌, map, codes}
 use Rattle.std.specs.Borrow.{Bor}
+use Rattle.pcap_classic.specs.declared.common.Endianness.{Endianness}
+use Rattle.pcap_classic.specs.declared.common.Endianness.TheVariants.{Big, Little}
+use Rattle.pcap_classic.specs.declared.common.TsResolution.{TsResolution}
+use Rattle.pcap_classic.specs.declared.common.TsResolution.TheVariants.{MicroSecond, NanoSecond}
+use Rattle.pcap_classic.specs.declared.run.copy.Under.{Under}
+use Rattle.pcap_classic.specs.declared.run.copy.Under.TheVariants.{Same, Header, Order}
+
+abbrev pub order_word : Endianness → List ℕ
+order_word Big = codes "big"
+order_word Little = codes "little"
+
+abbrev pub resolution_word : TsResolution → List ℕ
+resolution_word MicroSecond = codes "micro"
+resolution_word NanoSecond = codes "nano"
+
+abbrev pub texts_of : List (Bor (List ℕ)) → List (List ℕ)
+texts_of words = map (λ word. word.now) words
 
 -- the words are the one word list
 abbrev pub AskForList : List (Bor (List ℕ)) → Type 0
-AskForList words = map (λ word. word.now) words ≡ codes "list" ∷ []
+AskForList words = texts_of words ≡ codes "list" ∷ []
+
+-- the words ask for a copy under this: the word copy, and for an order and a resolution the words of both behind it
+abbrev pub AskForCopy : Under → List (Bor (List ℕ)) → Type 0
+AskForCopy Same words = texts_of words ≡ codes "copy" ∷ []
+AskForCopy (Order e r) words = texts_of words ≡ codes "copy" ∷ order_word e ∷ resolution_word r ∷ []
+AskForCopy (Header header) words = ⊥
 
 -- the words are none that the program knows
 abbrev pub AskForNothing : List (Bor (List ℕ)) → Type 0
-AskForNothing words = AskForList words → ⊥
+AskForNothing words = (AskForList words → ⊥) × ((under : Under) → AskForCopy under words → ⊥)

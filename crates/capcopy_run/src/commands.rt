@@ -1,36 +1,51 @@
 //! The words that the program knows, and what each does.
 
-ghost use Rattle.std.specs.Prelude.{◌≡◌, ◌↔◌, IsSome, IfSome};
+ghost use Rattle.std.specs.Prelude.{◌≡◌, IfSome};
 ghost use Rattle.std.specs.Io.KnownBytes.{Keeps};
+ghost use Rattle.pcap_classic.specs.declared.run.copy.Under.{Under};
 ghost use Rattle.capcopy_run.specs.declared.exit.Exit.TheVariants as exits;
-ghost use Rattle.capcopy_run.specs.Exits.{IsOfKnownWord};
+ghost use Rattle.capcopy_run.specs.Commands.{IsAsked};
+ghost use Rattle.capcopy_run.specs.Copying.{CopiesUntil};
+ghost use Rattle.capcopy_run.specs.Exits.{IsOfKnownWord, exit_of};
 ghost use Rattle.capcopy_run.specs.Listing.{ListsUntil};
-ghost use Rattle.capcopy_run.specs.Words.{AskForList, AskForNothing};
+ghost use Rattle.capcopy_run.specs.Words.{AskForList, AskForCopy, AskForNothing};
 
 use crate::Exit;
+use crate::copy::copy;
 use crate::list::list;
+use pcap_classic::run::Under;
+use pcap_classic::{Endianness, TsResolution};
 use std::alloc::Global;
 use std::io::{Read, Write};
 
 // What the program is asked to do.
-enum Command {
+pub(crate) enum Command {
     List,
+    Copy(Under),
 }
 
 fn asked_for(words: &[&str]) -> Option<Command>
-    ensures { IsSome result ↔ AskForList words.now }
+    ensures { IsAsked words.now result }
 {
-    match words {
-        ["list"] => Some(Command::List),
-        _ => None,
-    }
+    let under = match words {
+        ["list"] => return Some(Command::List),
+        ["copy"] => Under::Same,
+        ["copy", "big", "micro"] => Under::Order(Endianness::Big, TsResolution::MicroSecond),
+        ["copy", "big", "nano"] => Under::Order(Endianness::Big, TsResolution::NanoSecond),
+        ["copy", "little", "micro"] => Under::Order(Endianness::Little, TsResolution::MicroSecond),
+        ["copy", "little", "nano"] => Under::Order(Endianness::Little, TsResolution::NanoSecond),
+        _ => return None,
+    };
+    Some(Command::Copy(under))
 }
 
-/// Does what the words ask for, with `most` lines at most.
+/// Does what the words ask for, with `most` lines or packets at most.
 ///
 /// `list` writes a line for each packet of the capture that the input holds: `index sec.nsec incl/orig`, where index
 /// counts from 1, sec and nsec are the time in seconds and nanoseconds, and incl and orig the stored and the original
-/// length in bytes. Lines before a fault are written. Other words are `Usage`, and then nothing is read or written.
+/// length in bytes. `copy` writes the capture again, and `copy big|little micro|nano` writes it in that order of bytes
+/// and resolution of time. Lines and packets before a fault are written. Other words are `Usage`, and then nothing is
+/// read or written.
 pub fn run<R: Read, W: Write>(
     alloc: Global,
     words: &[&str],
@@ -40,17 +55,23 @@ pub fn run<R: Read, W: Write>(
 ) -> Exit
     ensures listed { AskForList words.now → IfSome (R.remaining input.old) (λ s.
         ListsUntil most s (W.contents output.old) (W.contents output.new) result) }
-    ensures known { AskForList words.now → IsOfKnownWord result }
+    ensures copied { (under : Under) → AskForCopy under words.now →
+        CopiesUntil under (R.remaining input.old) (R.remaining input.new) (W.contents output.old) (W.contents output.new) most result }
+    ensures known { (AskForNothing words.now → ⊥) → IsOfKnownWord result }
     ensures usage { AskForNothing words.now → result ≡ exits.Usage }
     ensures unread { AskForNothing words.now → Keeps (R.remaining input.old) (R.remaining input.new) }
     ensures unwritten { AskForNothing words.now → Keeps (W.contents output.old) (W.contents output.new) }
 {
-    let Some(command) = asked_for(words) else {
-        return Exit::Usage;
-    };
-    let done = match command {
-        Command::List => list(alloc, input, output, most),
-    };
+    match asked_for(words) {
+        None => Exit::Usage,
+        Some(Command::List) => exit_at(list(alloc, input, output, most)),
+        Some(Command::Copy(under)) => exit_at(copy(alloc, input, output, under, most)),
+    }
+}
+
+fn exit_at(done: Result<(), Exit>) -> Exit
+    ensures { result ≡ exit_of done }
+{
     match done {
         Ok(()) => Exit::Done,
         Err(exit) => exit,

@@ -7,5 +7,4 @@ mod told;
 pub use fill::Fill;
 pub(crate) use fill::{fill_array, more_of, take_bytes};
 pub(crate) use held::Held;
-pub use told::Told;
-pub(crate) use told::put;
+pub use told::{Told, put};

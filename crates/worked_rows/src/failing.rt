@@ -1,6 +1,6 @@
 //! The program over an input and an output that fail.
 
-use crate::captures::big;
+use crate::captures::{big, front};
 use capcopy_run::run;
 use std::io;
 use std::io::{ErrorKind, Read, Write};
@@ -30,15 +30,17 @@ impl Read for Halting<'_> {
     }
 }
 
-// Takes so many bytes in all, and then none.
+// Takes so many bytes in all, and then none. It keeps what it took.
 #[derive(Drop)]
 struct Narrow {
     room: usize,
+    kept: Vec<u8>,
 }
 
 impl Write for Narrow {
     fn write(&mut self, buf: &[u8]) -> io::Result<usize> {
         let taken = buf.len().min(self.room);
+        self.kept.extend_from_slice(&buf[..taken])?;
         self.room -= taken;
         Ok(taken)
     }
@@ -48,29 +50,37 @@ impl Write for Narrow {
     }
 }
 
+const LINE: &str = "1 1335958313.152630000 98/98\n";
+
 #[test]
 fn interrupted_reads(rt: HostRuntime) -> Result<(), Fail> {
     let bytes = big(rt.alloc())?;
-    let mut input = Halting {
-        bytes: bytes.as_slice(),
-        is_interrupted: false,
-    };
-    let mut output = Vec::new(rt.alloc());
-    let exit = run(rt.alloc(), &["list"], &mut input, &mut output, 9);
-    assert_eq!(rt; exit.status(), 3);
-    assert!(rt; output.is_empty());
+    let rows: [(&str, &[u8]); 2] = [("list", LINE.as_bytes()), ("copy", bytes.as_slice())];
+    for (word, written) in rows {
+        let mut input = Halting {
+            bytes: bytes.as_slice(),
+            is_interrupted: false,
+        };
+        let mut output = Vec::new(rt.alloc());
+        let exit = run(rt.alloc(), &[word], &mut input, &mut output, 9);
+        assert_eq!(rt; exit.status(), 3);
+        assert_eq!(rt; output.as_slice(), written);
+    }
     Ok(())
 }
 
 #[test]
 fn narrow_outputs(rt: HostRuntime) -> Result<(), Fail> {
     let bytes = big(rt.alloc())?;
-    let line = "1 1335958313.152630000 98/98\n";
-    for room in 0..line.len() {
-        let mut output = Narrow { room };
-        let exit = run(rt.alloc(), &["list"], &mut bytes.as_slice(), &mut output, 9);
-        assert_eq!(rt; exit.status(), 3, "at {room}");
-        assert_eq!(rt; output.room, 0);
+    let rows: [(&str, &[u8]); 2] = [("list", LINE.as_bytes()), ("copy", bytes.as_slice())];
+    for (word, written) in rows {
+        for room in 0..written.len() {
+            let kept = Vec::new(rt.alloc());
+            let mut output = Narrow { room, kept };
+            let exit = run(rt.alloc(), &[word], &mut bytes.as_slice(), &mut output, 9);
+            assert!(rt; exit.status() == 3, "{word} at {room}");
+            assert_eq!(rt; output.kept.as_slice(), front(written, room));
+        }
     }
     Ok(())
 }

@@ -1,10 +1,22 @@
 //! The program over inputs and outputs in memory.
 
-use crate::captures::{big, front, little};
+use crate::captures::{big, capture, front, little};
 use capcopy_run::{Exit, run};
 use pcap_classic::PcapError;
 use std::io::ErrorKind;
 use std::test::Fail;
+
+/// A big-endian capture in nanoseconds of one empty packet, at 1 second and 999 nanoseconds.
+const BIG_NANO: [u8; 40] = [
+    0xa1, 0xb2, 0x3c, 0x4d, 0, 2, 0, 4, 0, 0, 0, 0, 0, 0, 0, 0, 0, 0, 0xff, 0xff, 0, 0, 0, 1, 0, 0,
+    0, 1, 0, 0, 3, 0xe7, 0, 0, 0, 0, 0, 0, 0, 0,
+];
+
+/// The same in microseconds, to which its time is cut.
+const BIG_MICRO: [u8; 40] = [
+    0xa1, 0xb2, 0xc3, 0xd4, 0, 2, 0, 4, 0, 0, 0, 0, 0, 0, 0, 0, 0, 0, 0xff, 0xff, 0, 0, 0, 1, 0, 0,
+    0, 1, 0, 0, 0, 0, 0, 0, 0, 0, 0, 0, 0, 0,
+];
 
 // Whether the run ended because the input did.
 fn is_early_end(exit: &Exit) -> bool {
@@ -59,12 +71,14 @@ fn lists_of_torn_captures(rt: HostRuntime) -> Result<(), Fail> {
 
 #[test]
 fn most_lines(rt: HostRuntime) -> Result<(), Fail> {
-    let bytes = big(rt.alloc())?;
+    let mut bytes = big(rt.alloc())?;
+    bytes.extend_from_slice(&[0xff; 16])?;
     let mut input = bytes.as_slice();
     let mut output = Vec::new(rt.alloc());
     let exit = run(rt.alloc(), &["list"], &mut input, &mut output, 1);
     assert!(rt; matches!(exit, Exit::Most));
     assert_eq!(rt; exit.status(), 1);
+    assert_eq!(rt; input.len(), 16);
     assert_eq!(rt;
         output.as_slice(),
         b"1 1335958313.152630000 98/98\n".as_slice()
@@ -98,12 +112,70 @@ fn refused_captures(rt: HostRuntime) -> Result<(), Fail> {
     Ok(())
 }
 
+const ALL: u64 = 4_294_967_295;
+
+#[test]
+fn copies(rt: HostRuntime) -> Result<(), Fail> {
+    let big = big(rt.alloc())?;
+    let little = little(rt.alloc())?;
+    let little_nano = capture(
+        rt.alloc(),
+        &[
+            0x4d, 0x3c, 0xb2, 0xa1, 2, 0, 4, 0, 0, 0, 0, 0, 0, 0, 0, 0, 0xff, 0xff, 0, 0, 1, 0, 0,
+            0, 0x29, 0x1b, 0xa1, 0x4f, 0xf0, 0xf2, 0x18, 0x09, 0x62, 0, 0, 0, 0x62, 0, 0, 0,
+        ],
+        98,
+    )?;
+    let rows: [(&[&str], &[u8], &[u8]); 4] = [
+        (&["copy"], little.as_slice(), little.as_slice()),
+        (
+            &["copy", "little", "nano"],
+            big.as_slice(),
+            little_nano.as_slice(),
+        ),
+        (
+            &["copy", "big", "micro"],
+            little_nano.as_slice(),
+            big.as_slice(),
+        ),
+        (&["copy", "big", "micro"], &BIG_NANO, &BIG_MICRO),
+    ];
+    for (words, bytes, copy) in rows {
+        let mut input = bytes;
+        let mut output = Vec::new(rt.alloc());
+        let exit = run(rt.alloc(), words, &mut input, &mut output, ALL);
+        assert!(rt; matches!(exit, Exit::Done));
+        assert_eq!(rt; output.as_slice(), copy);
+        let mut input = bytes;
+        let mut output = Vec::new(rt.alloc());
+        let exit = run(rt.alloc(), words, &mut input, &mut output, 1);
+        assert!(rt; matches!(exit, Exit::Most));
+        assert_eq!(rt; output.as_slice(), copy);
+    }
+    Ok(())
+}
+
+#[test]
+fn copies_of_torn_captures(rt: HostRuntime) -> Result<(), Fail> {
+    let bytes = big(rt.alloc())?;
+    for (end, written) in [(0, 0), (10, 0), (40, 24), (137, 24)] {
+        let mut input = front(bytes.as_slice(), end);
+        let mut output = Vec::new(rt.alloc());
+        let exit = run(rt.alloc(), &["copy"], &mut input, &mut output, ALL);
+        assert!(rt; exit.status() == 3, "at {end}");
+        assert_eq!(rt; output.as_slice(), front(bytes.as_slice(), written));
+    }
+    Ok(())
+}
+
 #[test]
 fn usage(rt: HostRuntime) -> Result<(), Fail> {
     let bytes = big(rt.alloc())?;
-    let rows: [&[&str]; 5] = [
+    let rows: [&[&str]; 7] = [
         &[],
         &["copy", "big"],
+        &["copy", "nano"],
+        &["copy", "nano", "big"],
         &["list", "list"],
         &["lists"],
         &["blocks"],

@@ -119,12 +119,8 @@ impl<T: Write> Write for Told<T> {
     }
 }
 
-// Writes all of the bytes, or up to a call that fails or takes nothing of them.
-pub(crate) fn put<W: Write>(
-    writer: &mut W,
-    has_failed: &mut bool,
-    bytes: &[u8],
-) -> ResultParsing<()>
+/// Writes all of the bytes, or up to a call that fails or takes nothing of them. `IoError` then.
+pub fn put<W: Write>(writer: &mut W, has_failed: &mut bool, bytes: &[u8]) -> ResultParsing<()>
     ensures out { WritesAll (W.contents writer.old) (W.contents writer.new) bytes.now result }
     ensures told { MatchResult result (λ _. has_failed.new ≡ has_failed.old) (λ _. has_failed.new ≡ true) }
 {

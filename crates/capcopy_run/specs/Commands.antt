@@ -1,0 +1,12 @@
+-- What the words are taken for.
+use Rattle.std.specs.Prelude.{ℕ, List, Option, None, Some}
+use Rattle.std.specs.Borrow.{Bor}
+use Rattle.capcopy_run.specs.declared.commands.Command.{Command}
+use Rattle.capcopy_run.specs.declared.commands.Command.TheVariants as commands
+use Rattle.capcopy_run.specs.Words.{AskForList, AskForCopy, AskForNothing}
+
+-- the words ask for this
+abbrev pub IsAsked : List (Bor (List ℕ)) → Option Command → Type 0
+IsAsked words None = AskForNothing words
+IsAsked words (Some commands.List) = AskForList words
+IsAsked words (Some (commands.Copy under)) = AskForCopy under words

@@ -1,0 +1,21 @@
+-- How copies end.
+use Rattle.std.specs.Prelude.{◌≡◌, ◌<◌, ◌⊎◌, ℕ, List, Option, None, Some, IfSome}
+use Rattle.pcap_classic.specs.declared.errors.PcapError.{PcapError}
+use Rattle.pcap_classic.specs.declared.run.copy.Copied.{Copied}
+use Rattle.pcap_classic.specs.declared.run.copy.Under.{Under}
+use Rattle.pcap_classic.specs.Copies.{CopyRun, CopyFront}
+use Rattle.capcopy_run.specs.declared.exit.Exit.{Exit}
+use Rattle.capcopy_run.specs.declared.exit.Exit.TheVariants.{Done, Most}
+use Rattle.capcopy_run.specs.Exits.{EndsAt}
+
+-- the exit of a copy of so many packets: that of its fault, else `Most` where these are the most, else `Done`
+abbrev pub EndsCopy : ℕ → ℕ → Option PcapError → Exit → Type 0
+EndsCopy most n None exit = ((n ≡ most) × (exit ≡ Most)) ⊎ ((n < most) × (exit ≡ Done))
+EndsCopy most n (Some error) exit = EndsAt error exit
+
+-- a capture was copied, and the run ended so
+pub record CopiesUntil (under : Under) (before now out_before out_now : Option (List ℕ)) (most : ℕ) (exit : Exit) : Type 0 where
+  pub copied : Copied
+  pub run : CopyRun under before now out_before out_now most copied
+  pub front : IfSome before (λ s. CopyFront under s now out_before out_now most copied)
+  pub ends : EndsCopy most copied.packets copied.fault exit

@@ -1,0 +1,31 @@
+//! The word `copy`: the capture again, as it is or under another header.
+
+ghost use Rattle.std.specs.Prelude.{IfErr};
+ghost use Rattle.capcopy_run.specs.Copying.{CopiesUntil};
+ghost use Rattle.capcopy_run.specs.Exits.{exit_of, IsOfKnownWord};
+
+use crate::Exit;
+use pcap_classic::run::{Copied, Under, copy_pcap};
+use std::alloc::Global;
+use std::io::{Read, Write};
+
+/// Writes the capture that the input holds, and `most` packets of it at most.
+///
+/// What refuses the rest is told behind the packets before it.
+pub(crate) fn copy<R: Read, W: Write>(
+    alloc: Global,
+    input: &mut R,
+    output: &mut W,
+    under: Under,
+    most: u64,
+) -> Result<(), Exit>
+    ensures known { IfErr result IsOfKnownWord }
+    ensures copied { CopiesUntil under (R.remaining input.old) (R.remaining input.new) (W.contents output.old) (W.contents output.new) most (exit_of result) }
+{
+    let Copied { packets, fault, .. } = copy_pcap(alloc, input, output, under, most);
+    match fault {
+        Some(error) => Err(Exit::from(error)),
+        None if packets == most => Err(Exit::Most),
+        None => Ok(()),
+    }
+}
