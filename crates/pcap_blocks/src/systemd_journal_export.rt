@@ -1,7 +1,7 @@
 //! Entries of the systemd journal.
 
 ghost use Rattle.std.specs.Prelude.{IfOk};
-ghost use Rattle.pcap_classic.specs.Answer.{Tells};
+ghost use Rattle.pcap_classic.specs.Answer.{Tells, whole};
 ghost use Rattle.pcap_blocks.specs.WholeBodies.{JournalSays, journal_of, JournalIsBorrowed};
 
 use byteorder::ByteOrder;
@@ -20,9 +20,16 @@ impl<'a> SystemdJournalExportBlock<'a> {
         ensures tells { Tells (JournalSays slice.now) journal_of result }
         ensures borrowed { IfOk result (λ x. JournalIsBorrowed x.1) }
     {
+        Ok(SystemdJournalExportBlock::read(slice))
+    }
+
+    pub(crate) fn read(slice: &'a [u8]) -> (&'a [u8], Self)
+        ensures tells { JournalSays slice.now (whole (journal_of result.1) result.0.now) }
+        ensures borrowed { JournalIsBorrowed result.1 }
+    {
         let block = SystemdJournalExportBlock {
             journal_entry: CowBytes::Borrowed(slice),
         };
-        Ok((&slice[slice.len()..], block))
+        (&slice[slice.len()..], block)
     }
 }
