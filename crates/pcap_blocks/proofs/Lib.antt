@@ -22,3 +22,4 @@ pub mod OneName
 pub mod OneRecord
 pub mod OneResolution
 pub mod OneBody
+pub mod Kept

@@ -1,5 +1,5 @@
 -- Of all bytes exactly one thing is said as the body of a block of any type.
-use Rattle.std.proofs.Common.{◌≡◌, ◌<◌, ◌≤◌, ◌^◌, ℕ, List, length, refl, arith, inl, inr}
+use Rattle.std.proofs.Common.{◌≡◌, ◌^◌, ℕ, List, length, refl, arith, inl, inr}
 use Rattle.std.proofs.lemmas.Bool.{cases_lt}
 use Rattle.pcap_classic.specs.Answer.{Order, Verdict, whole, lacks, faulty}
 use Rattle.pcap_classic.specs.Faults.{Invalid}

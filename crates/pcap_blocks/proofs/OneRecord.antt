@@ -14,7 +14,7 @@ use Rattle.pcap_blocks.specs.Names.{NamesSay}
 use Rattle.pcap_blocks.specs.Records.{Made, Address, AddressText, short, in_names, AddressSays, NameRecord, End, Other, Form, no_value, address, any_value, form_of, RecordValueSays, RecordFault, cut, wrong, unpadded, RecordSays}
 use Rattle.pcap_blocks.proofs.Options.{head_with}
 use Rattle.pcap_blocks.proofs.Verdicts.{one_moved, Then, one_then, one_made}
-use Rattle.pcap_blocks.proofs.Numbers.{Values, Numbers, NumbersSay, numbers_one}
+use Rattle.pcap_blocks.proofs.Numbers.{NumbersSay, numbers_one}
 use Rattle.pcap_blocks.proofs.OneName.{names_one}
 use Rattle.pcap_blocks.proofs.OneOption.{widths, head_to, head_from}
 use Rattle.pcap_blocks.proofs.NameRecords.{same_padded}

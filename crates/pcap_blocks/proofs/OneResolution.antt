@@ -1,5 +1,5 @@
 -- Of all bytes exactly one thing is said as a name resolution body.
-use Rattle.std.proofs.Common.{◌≡◌, ℕ, ◌+◌, ◌<◌, List, length, refl, sym, ap, subst, ◌∙◌, arith, inl, inr}
+use Rattle.std.proofs.Common.{◌≡◌, ℕ, ◌<◌, List, length, refl, sym, subst, ◌∙◌, arith, inl, inr}
 use Rattle.std.specs.Prelude.{◌⊎◌}
 use Rattle.pcap_classic.specs.Answer.{Order, Verdict, whole, lacks, faulty}
 use Rattle.pcap_classic.specs.Faults.{Fault}

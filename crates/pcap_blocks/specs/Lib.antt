@@ -14,3 +14,4 @@ pub mod Names
 pub mod Records
 pub mod NameResolution
 pub mod ParsedBlock
+pub mod Owned

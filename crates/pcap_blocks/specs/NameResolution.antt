@@ -1,18 +1,19 @@
 -- The body of a name resolution block ('Name Resolution Block').
-use Rattle.std.specs.Prelude.{◌≡◌, ◌≢◌, ℕ, List, [], ◌∷◌, ◌++◌, map, All}
-use Rattle.std.specs.Cow.{cow_str_bytes, IsBorrowedStr}
+use Rattle.std.specs.Prelude.{◌≢◌, ℕ, List, ◌∷◌, map, All}
+use Rattle.std.specs.Cow.{cow_str_bytes, IsBorrowedStr, IsOwnedStr}
 use Rattle.pcap_classic.specs.Answer.{Order, Verdict, Says}
 use Rattle.pcap_classic.specs.Bytes.{cow_bytes, IsBorrowed}
 use Rattle.pcap_classic.specs.Faults.{Fault}
 use Rattle.pcap_classic.specs.declared.rules.Rule.TheVariants.{NameIpv4Length, NameIpv6Length}
+use Rattle.pcap_blocks.specs.Owned.{IsOwned}
 use Rattle.pcap_blocks.specs.declared.name_resolution.NameResolutionBlock.{NameResolutionBlock}
 use Rattle.pcap_blocks.specs.declared.name_resolution.NameResolutionOption.{NameResolutionOption}
 use Rattle.pcap_blocks.specs.declared.name_resolution.NameResolutionOption.TheVariants as option_of
 use Rattle.pcap_blocks.specs.Padded.{Chain}
 use Rattle.pcap_blocks.specs.Values.{Entry, Text, Bytes, Kind, text, fixed_bytes, custom}
 use Rattle.pcap_blocks.specs.Options.{may_end_with_body, OptionList, ListFault}
-use Rattle.pcap_blocks.specs.CommonOptions.{unknown_entry, custom_bytes_entry, custom_text_entry, UnknownIsBorrowed, CustomBytesIsBorrowed, CustomTextIsBorrowed}
-use Rattle.pcap_blocks.specs.Records.{NameRecord, End, RecordText, RecordFault, name_record_of, RecordIsBorrowed}
+use Rattle.pcap_blocks.specs.CommonOptions.{unknown_entry, custom_bytes_entry, custom_text_entry, UnknownIsBorrowed, UnknownIsOwned, CustomBytesIsBorrowed, CustomBytesIsOwned, CustomTextIsBorrowed, CustomTextIsOwned}
+use Rattle.pcap_blocks.specs.Records.{NameRecord, End, RecordText, RecordFault, name_record_of, RecordIsBorrowed, RecordIsOwned}
 
 -- comment, and the name and addresses of the server that resolved the names
 abbrev pub name_resolution : Kind
@@ -80,6 +81,16 @@ NameOptionIsBorrowed (option_of.CustomBinary o) = CustomBytesIsBorrowed o
 NameOptionIsBorrowed (option_of.CustomUtf8 o) = CustomTextIsBorrowed o
 NameOptionIsBorrowed (option_of.Unknown o) = UnknownIsBorrowed o
 
+-- its text or bytes are owned
+abbrev pub NameOptionIsOwned : NameResolutionOption → Type 0
+NameOptionIsOwned (option_of.Comment t) = IsOwnedStr t
+NameOptionIsOwned (option_of.NsDnsName t) = IsOwnedStr t
+NameOptionIsOwned (option_of.NsDnsIpv4Addr b) = IsOwned b
+NameOptionIsOwned (option_of.NsDnsIpv6Addr b) = IsOwned b
+NameOptionIsOwned (option_of.CustomBinary o) = CustomBytesIsOwned o
+NameOptionIsOwned (option_of.CustomUtf8 o) = CustomTextIsOwned o
+NameOptionIsOwned (option_of.Unknown o) = UnknownIsOwned o
+
 -- a block of the code
 abbrev pub resolution_of : NameResolutionBlock → Resolution
 resolution_of block = record { records = map name_record_of block.records.items; options = map name_entry block.options.items }
@@ -88,3 +99,8 @@ resolution_of block = record { records = map name_record_of block.records.items;
 pub record ResolutionIsBorrowed (block : NameResolutionBlock) : Type 0 where
   pub records : All RecordIsBorrowed block.records.items
   pub options : All NameOptionIsBorrowed block.options.items
+
+-- what its records and options hold is owned
+pub record ResolutionIsOwned (block : NameResolutionBlock) : Type 0 where
+  pub records : All RecordIsOwned block.records.items
+  pub options : All NameOptionIsOwned block.options.items

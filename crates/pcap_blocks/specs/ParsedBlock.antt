@@ -1,7 +1,7 @@
 -- The body of a block of any type.
 use Rattle.std.specs.Prelude.{◌≡◌, ◌<◌, ◌≤◌, ◌^◌, ℕ, List, length, Option, Some, None, ⊤}
 use Rattle.pcap_classic.specs.Answer.{Order, Verdict, Says}
-use Rattle.pcap_classic.specs.Faults.{Fault, Invalid}
+use Rattle.pcap_classic.specs.Faults.{Invalid}
 use Rattle.pcap_classic.specs.declared.rules.Rule.TheVariants.{UnknownTooLong}
 use Rattle.pcap_blocks.specs.declared.block.BlockType.{BlockType}
 use Rattle.pcap_blocks.specs.declared.block.BlockType.TheVariants as types
@@ -10,13 +10,13 @@ use Rattle.pcap_blocks.specs.declared.parsed_block.ParsedBlock.TheVariants as bl
 use Rattle.pcap_blocks.specs.declared.section_header.SectionHeaderBlock.{SectionHeaderBlock}
 use Rattle.pcap_blocks.specs.declared.interface_description.InterfaceDescriptionBlock.{InterfaceDescriptionBlock}
 use Rattle.pcap_blocks.specs.Records.{Made}
-use Rattle.pcap_blocks.specs.SectionHeader.{Section, SectionSays, section_of, SectionIsBorrowed}
-use Rattle.pcap_blocks.specs.InterfaceDescription.{Interface, InterfaceSays, interface_of, InterfaceIsBorrowed}
-use Rattle.pcap_blocks.specs.PacketBody.{PacketBody, PacketBodySays, packet_of, PacketIsBorrowed}
-use Rattle.pcap_blocks.specs.NameResolution.{Resolution, ResolutionSays, resolution_of, ResolutionIsBorrowed}
-use Rattle.pcap_blocks.specs.InterfaceStatistics.{Statistics, StatisticsSays, statistics_of, StatisticsIsBorrowed}
-use Rattle.pcap_blocks.specs.EnhancedPacket.{Enhanced, EnhancedSays, enhanced_of, EnhancedIsBorrowed}
-use Rattle.pcap_blocks.specs.WholeBodies.{Simple, SimpleSays, simple_of, SimpleIsBorrowed, JournalSays, journal_of, JournalIsBorrowed, UnknownBody, unknown_of, UnknownBlockIsBorrowed}
+use Rattle.pcap_blocks.specs.SectionHeader.{Section, SectionSays, section_of, SectionIsBorrowed, SectionIsOwned}
+use Rattle.pcap_blocks.specs.InterfaceDescription.{Interface, InterfaceSays, interface_of, InterfaceIsBorrowed, InterfaceIsOwned}
+use Rattle.pcap_blocks.specs.PacketBody.{PacketBody, PacketBodySays, packet_of, PacketIsBorrowed, PacketIsOwned}
+use Rattle.pcap_blocks.specs.NameResolution.{Resolution, ResolutionSays, resolution_of, ResolutionIsBorrowed, ResolutionIsOwned}
+use Rattle.pcap_blocks.specs.InterfaceStatistics.{Statistics, StatisticsSays, statistics_of, StatisticsIsBorrowed, StatisticsIsOwned}
+use Rattle.pcap_blocks.specs.EnhancedPacket.{Enhanced, EnhancedSays, enhanced_of, EnhancedIsBorrowed, EnhancedIsOwned}
+use Rattle.pcap_blocks.specs.WholeBodies.{Simple, SimpleSays, simple_of, SimpleIsBorrowed, SimpleIsOwned, JournalSays, journal_of, JournalIsBorrowed, JournalIsOwned, UnknownBody, unknown_of, UnknownBlockIsBorrowed, UnknownBlockIsOwned}
 
 -- a body, wherever its bytes lie
 pub data Body : Type 0 where
@@ -85,6 +85,18 @@ ParsedIsBorrowed (block_of.InterfaceStatistics b) = StatisticsIsBorrowed b
 ParsedIsBorrowed (block_of.EnhancedPacket b) = EnhancedIsBorrowed b
 ParsedIsBorrowed (block_of.SystemdJournalExport b) = JournalIsBorrowed b
 ParsedIsBorrowed (block_of.Unknown b) = UnknownBlockIsBorrowed b
+
+-- what it holds is owned
+abbrev pub ParsedIsOwned : ParsedBlock → Type 0
+ParsedIsOwned (block_of.SectionHeader b) = SectionIsOwned b
+ParsedIsOwned (block_of.InterfaceDescription b) = InterfaceIsOwned b
+ParsedIsOwned (block_of.Packet b) = PacketIsOwned b
+ParsedIsOwned (block_of.SimplePacket b) = SimpleIsOwned b
+ParsedIsOwned (block_of.NameResolution b) = ResolutionIsOwned b
+ParsedIsOwned (block_of.InterfaceStatistics b) = StatisticsIsOwned b
+ParsedIsOwned (block_of.EnhancedPacket b) = EnhancedIsOwned b
+ParsedIsOwned (block_of.SystemdJournalExport b) = JournalIsOwned b
+ParsedIsOwned (block_of.Unknown b) = UnknownBlockIsOwned b
 
 -- the section that a block is, if it is one
 abbrev pub section_in : ParsedBlock → Option SectionHeaderBlock

@@ -1,11 +1,12 @@
 -- The records of a name resolution body ('Name Resolution Block').
 use Rattle.std.specs.Prelude.{◌≡◌, ◌≢◌, ℕ, ◌+◌, ◌<◌, ◌≤◌, List, [], ◌++◌, length, ◌==◌, if◌then◌else◌, map, All}
-use Rattle.std.specs.Cow.{cow_str_bytes, IsBorrowedStr}
+use Rattle.std.specs.Cow.{cow_str_bytes, IsBorrowedStr, IsOwnedStr}
 use Rattle.pcap_classic.specs.Answer.{Order, Verdict, whole, lacks, faulty, Says}
 use Rattle.pcap_classic.specs.Bytes.{cow_bytes, IsBorrowed}
 use Rattle.pcap_classic.specs.Faults.{Fault, Invalid, Io}
 use Rattle.pcap_classic.specs.declared.rules.Rule.{Rule}
 use Rattle.pcap_classic.specs.declared.rules.Rule.TheVariants.{RecordCut, EndNotEmpty, Ipv4RecordTooShort, Ipv6RecordTooShort, RecordUnpadded}
+use Rattle.pcap_blocks.specs.Owned.{IsOwned}
 use Rattle.pcap_blocks.specs.declared.record.Ipv4Record.{Ipv4Record}
 use Rattle.pcap_blocks.specs.declared.record.Ipv6Record.{Ipv6Record}
 use Rattle.pcap_blocks.specs.declared.record.UnknownRecord.{UnknownRecord}
@@ -113,12 +114,30 @@ pub record Ipv4IsBorrowed (r : Ipv4Record) : Type 0 where
   pub bytes : IsBorrowed r.ip_addr
   pub names : All IsBorrowedStr r.names.items
 
+-- their bytes and names are owned
+pub record Ipv4IsOwned (r : Ipv4Record) : Type 0 where
+  pub bytes : IsOwned r.ip_addr
+  pub names : All IsOwnedStr r.names.items
+
 pub record Ipv6IsBorrowed (r : Ipv6Record) : Type 0 where
   pub bytes : IsBorrowed r.ip_addr
   pub names : All IsBorrowedStr r.names.items
+
+pub record Ipv6IsOwned (r : Ipv6Record) : Type 0 where
+  pub bytes : IsOwned r.ip_addr
+  pub names : All IsOwnedStr r.names.items
 
 abbrev pub RecordIsBorrowed : Record → Type 0
 RecordIsBorrowed record_of.End = Unit {0}
 RecordIsBorrowed (record_of.Ipv4 r) = Ipv4IsBorrowed r
 RecordIsBorrowed (record_of.Ipv6 r) = Ipv6IsBorrowed r
 RecordIsBorrowed (record_of.Unknown r) = IsBorrowed r.value
+
+abbrev pub RecordIsOwned : Record → Type 0
+RecordIsOwned record_of.End = Unit {0}
+RecordIsOwned (record_of.Ipv4 r) = Ipv4IsOwned r
+RecordIsOwned (record_of.Ipv6 r) = Ipv6IsOwned r
+RecordIsOwned (record_of.Unknown r) = IsOwned r.value
+
+abbrev pub UnknownRecordIsOwned : UnknownRecord → Type 0
+UnknownRecordIsOwned r = IsOwned r.value

@@ -10,6 +10,7 @@ mod interface_statistics;
 pub mod laws;
 mod name_resolution;
 mod names;
+mod owned;
 mod packet;
 mod parsed_block;
 mod record;

@@ -1,21 +1,23 @@
 //! Name resolution.
 
-ghost use Rattle.std.specs.Prelude.{⊤, map, All, IfOk};
+ghost use Rattle.std.specs.Prelude.{⊤, map, All, IfOk, ◌≡◌, IfErr};
 ghost use Rattle.pcap_classic.specs.Answer.{TellsWhere};
 ghost use Rattle.pcap_blocks.specs.Refusals.{FindsWhere};
 ghost use Rattle.pcap_blocks.specs.Records.{name_record_of, RecordIsBorrowed};
-ghost use Rattle.pcap_blocks.specs.NameResolution.{name_resolution, RecordsSay, ResolutionSays, name_entry, NameOptionIsBorrowed, resolution_of, ResolutionIsBorrowed};
+ghost use Rattle.pcap_blocks.specs.NameResolution.{name_resolution, RecordsSay, ResolutionSays, name_entry, NameOptionIsBorrowed, resolution_of, ResolutionIsBorrowed, NameOptionIsOwned, ResolutionIsOwned};
+ghost use Rattle.pcap_blocks.specs.Owned.{IsMemory};
 
 use crate::common::{
     CustomBinaryOption, CustomUtf8Option, PcapNgOption, UnknownOption, options_from_slice,
 };
+use crate::owned::{KeepValue, keep_all};
 use crate::record::Record;
 use crate::refusal::Refusal;
 use crate::values::{fixed_value, text_value};
 use byteorder::ByteOrder;
 use pcap_classic::rules::Rule;
 use pcap_classic::{CowBytes, ResultParsing};
-use std::alloc::Global;
+use std::alloc::{AllocError, Global};
 use std::borrow::CowStr;
 
 /// The body of a name resolution block: names of addresses.
@@ -112,6 +114,78 @@ impl<'a> PcapNgOption<'a> for NameResolutionOption<'a> {
             2988 | 19372 => Self::CustomUtf8(CustomUtf8Option::read::<B>(code, value)?),
             2989 | 19373 => Self::CustomBinary(CustomBinaryOption::read::<B>(code, value)?),
             _ => Self::Unknown(UnknownOption::new(code, len, value)),
+        })
+    }
+}
+
+impl<'a> NameResolutionOption<'a> {
+    /// The same option, with bytes and texts of its own: borrowed ones are copied, owned ones kept.
+    ///
+    /// `OutOfMemory` where a copy can't be made; the value is then dropped.
+    pub fn into_owned(self, alloc: Global) -> ResultParsing<NameResolutionOption<'static>>
+        ensures same { IfOk result (λ kept. name_entry kept ≡ name_entry self.entry) }
+        ensures owned { IfOk result NameOptionIsOwned }
+        ensures memory { IfErr result IsMemory }
+    {
+        Ok(self.keep(alloc)?)
+    }
+}
+
+impl<'a> KeepValue for NameResolutionOption<'a> {
+    type Owned = NameResolutionOption<'static>;
+
+    ghost is_same = { λ value kept. name_entry kept ≡ name_entry value };
+
+    ghost is_owned = { NameOptionIsOwned };
+
+    fn keep(self, alloc: Global) -> Result<NameResolutionOption<'static>, AllocError> {
+        Ok(match self {
+            NameResolutionOption::Comment(held) => NameResolutionOption::Comment(held.keep(alloc)?),
+            NameResolutionOption::NsDnsName(held) => NameResolutionOption::NsDnsName(held.keep(
+                alloc,
+            )?),
+            NameResolutionOption::NsDnsIpv4Addr(held) => NameResolutionOption::NsDnsIpv4Addr(
+                held.keep(alloc)?,
+            ),
+            NameResolutionOption::NsDnsIpv6Addr(held) => NameResolutionOption::NsDnsIpv6Addr(
+                held.keep(alloc)?,
+            ),
+            NameResolutionOption::CustomBinary(held) => NameResolutionOption::CustomBinary(
+                held.keep(alloc)?,
+            ),
+            NameResolutionOption::CustomUtf8(held) => NameResolutionOption::CustomUtf8(held.keep(
+                alloc,
+            )?),
+            NameResolutionOption::Unknown(held) => NameResolutionOption::Unknown(held.keep(alloc)?),
+        })
+    }
+}
+
+impl<'a> NameResolutionBlock<'a> {
+    /// The same block, with bytes and texts of its own: borrowed ones are copied, owned ones kept.
+    ///
+    /// `OutOfMemory` where a copy can't be made; the value is then dropped.
+    pub fn into_owned(self, alloc: Global) -> ResultParsing<NameResolutionBlock<'static>>
+        ensures same { IfOk result (λ kept. resolution_of kept ≡ resolution_of self.entry) }
+        ensures owned { IfOk result ResolutionIsOwned }
+        ensures memory { IfErr result IsMemory }
+    {
+        Ok(self.keep(alloc)?)
+    }
+}
+
+impl<'a> KeepValue for NameResolutionBlock<'a> {
+    type Owned = NameResolutionBlock<'static>;
+
+    ghost is_same = { λ value kept. resolution_of kept ≡ resolution_of value };
+
+    ghost is_owned = { ResolutionIsOwned };
+
+    fn keep(self, alloc: Global) -> Result<NameResolutionBlock<'static>, AllocError> {
+        let NameResolutionBlock { records, options } = self;
+        Ok(NameResolutionBlock {
+            records: keep_all(alloc, records)?,
+            options: keep_all(alloc, options)?,
         })
     }
 }

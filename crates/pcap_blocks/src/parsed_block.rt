@@ -1,15 +1,17 @@
 //! Blocks of all types.
 
-ghost use Rattle.std.specs.Prelude.{◌≡◌, IfOk};
+ghost use Rattle.std.specs.Prelude.{◌≡◌, IfOk, IfErr};
 ghost use Rattle.pcap_classic.specs.Answer.{TellsWhere};
 ghost use Rattle.pcap_blocks.specs.Refusals.{FindsWhere};
-ghost use Rattle.pcap_blocks.specs.ParsedBlock.{BodySays, HasLists, body_of, ParsedIsBorrowed, section_in, interface_in};
+ghost use Rattle.pcap_blocks.specs.ParsedBlock.{BodySays, HasLists, body_of, ParsedIsBorrowed, section_in, interface_in, ParsedIsOwned};
+ghost use Rattle.pcap_blocks.specs.Owned.{IsMemory};
 
 use crate::block::{BlockType, UnknownBlock};
 use crate::enhanced_packet::EnhancedPacketBlock;
 use crate::interface_description::InterfaceDescriptionBlock;
 use crate::interface_statistics::InterfaceStatisticsBlock;
 use crate::name_resolution::NameResolutionBlock;
+use crate::owned::KeepValue;
 use crate::packet::PacketBlock;
 use crate::refusal::Refusal;
 use crate::section_header::SectionHeaderBlock;
@@ -18,7 +20,7 @@ use crate::systemd_journal_export::SystemdJournalExportBlock;
 use byteorder::ByteOrder;
 use pcap_classic::ResultParsing;
 use pcap_classic::rules::Rule;
-use std::alloc::Global;
+use std::alloc::{AllocError, Global};
 
 /// The body of a block, by its type.
 #[derive(Clone, Debug, Drop)]
@@ -122,5 +124,46 @@ impl<'a> ParsedBlock<'a> {
             ParsedBlock::InterfaceDescription(block) => Some(block),
             _ => None,
         }
+    }
+}
+
+impl<'a> ParsedBlock<'a> {
+    /// The same block, with bytes and texts of its own: borrowed ones are copied, owned ones kept.
+    ///
+    /// `OutOfMemory` where a copy can't be made; the value is then dropped.
+    pub fn into_owned(self, alloc: Global) -> ResultParsing<ParsedBlock<'static>>
+        ensures same { IfOk result (λ kept. body_of kept ≡ body_of self.entry) }
+        ensures owned { IfOk result ParsedIsOwned }
+        ensures memory { IfErr result IsMemory }
+    {
+        Ok(self.keep(alloc)?)
+    }
+}
+
+impl<'a> KeepValue for ParsedBlock<'a> {
+    type Owned = ParsedBlock<'static>;
+
+    ghost is_same = { λ value kept. body_of kept ≡ body_of value };
+
+    ghost is_owned = { ParsedIsOwned };
+
+    fn keep(self, alloc: Global) -> Result<ParsedBlock<'static>, AllocError> {
+        Ok(match self {
+            ParsedBlock::SectionHeader(held) => ParsedBlock::SectionHeader(held.keep(alloc)?),
+            ParsedBlock::InterfaceDescription(held) => ParsedBlock::InterfaceDescription(held.keep(
+                alloc,
+            )?),
+            ParsedBlock::Packet(held) => ParsedBlock::Packet(held.keep(alloc)?),
+            ParsedBlock::SimplePacket(held) => ParsedBlock::SimplePacket(held.keep(alloc)?),
+            ParsedBlock::NameResolution(held) => ParsedBlock::NameResolution(held.keep(alloc)?),
+            ParsedBlock::InterfaceStatistics(held) => ParsedBlock::InterfaceStatistics(held.keep(
+                alloc,
+            )?),
+            ParsedBlock::EnhancedPacket(held) => ParsedBlock::EnhancedPacket(held.keep(alloc)?),
+            ParsedBlock::SystemdJournalExport(held) => ParsedBlock::SystemdJournalExport(held.keep(
+                alloc,
+            )?),
+            ParsedBlock::Unknown(held) => ParsedBlock::Unknown(held.keep(alloc)?),
+        })
     }
 }

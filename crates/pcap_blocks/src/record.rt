@@ -1,18 +1,20 @@
 //! Records of a name resolution body.
 
-ghost use Rattle.std.specs.Prelude.{⊤, ◌≡◌, length, IfOk};
+ghost use Rattle.std.specs.Prelude.{⊤, ◌≡◌, length, IfOk, IfErr};
 ghost use Rattle.pcap_classic.specs.Answer.{TellsWhere, TellsAllWhere};
 ghost use Rattle.pcap_classic.specs.declared.rules.Rule.TheVariants.{Ipv4RecordTooShort, Ipv6RecordTooShort};
 ghost use Rattle.pcap_blocks.specs.Refusals.{FindsWhere, FindsAllWhere};
-ghost use Rattle.pcap_blocks.specs.Records.{AddressSays, form_of, RecordValueSays, RecordSays, ipv4_of, ipv6_of, name_record_of, Ipv4IsBorrowed, Ipv6IsBorrowed, RecordIsBorrowed};
+ghost use Rattle.pcap_blocks.specs.Records.{AddressSays, form_of, RecordValueSays, RecordSays, ipv4_of, ipv6_of, name_record_of, Ipv4IsBorrowed, Ipv6IsBorrowed, RecordIsBorrowed, other_of, Ipv4IsOwned, Ipv6IsOwned, UnknownRecordIsOwned, RecordIsOwned};
+ghost use Rattle.pcap_blocks.specs.Owned.{IsMemory};
 
 use crate::fields::{split_padded, split_u16};
 use crate::names::names_from_slice;
+use crate::owned::{KeepValue, keep_all};
 use crate::refusal::Refusal;
 use byteorder::ByteOrder;
 use pcap_classic::rules::Rule;
 use pcap_classic::{CowBytes, ResultParsing};
-use std::alloc::Global;
+use std::alloc::{AllocError, Global};
 use std::borrow::CowStr;
 
 /// The names of an IPv4 address.
@@ -172,5 +174,127 @@ impl<'a> Record<'a> {
                 value: CowBytes::Borrowed(value),
             })),
         }
+    }
+}
+
+impl<'a> Ipv4Record<'a> {
+    /// The same record, with bytes and texts of its own: borrowed ones are copied, owned ones kept.
+    ///
+    /// `OutOfMemory` where a copy can't be made; the value is then dropped.
+    pub fn into_owned(self, alloc: Global) -> ResultParsing<Ipv4Record<'static>>
+        ensures same { IfOk result (λ kept. ipv4_of kept ≡ ipv4_of self.entry) }
+        ensures owned { IfOk result Ipv4IsOwned }
+        ensures memory { IfErr result IsMemory }
+    {
+        Ok(self.keep(alloc)?)
+    }
+}
+
+impl<'a> KeepValue for Ipv4Record<'a> {
+    type Owned = Ipv4Record<'static>;
+
+    ghost is_same = { λ value kept. ipv4_of kept ≡ ipv4_of value };
+
+    ghost is_owned = { Ipv4IsOwned };
+
+    fn keep(self, alloc: Global) -> Result<Ipv4Record<'static>, AllocError> {
+        let Ipv4Record { ip_addr, names } = self;
+        Ok(Ipv4Record {
+            ip_addr: ip_addr.keep(alloc)?,
+            names: keep_all(alloc, names)?,
+        })
+    }
+}
+
+impl<'a> Ipv6Record<'a> {
+    /// The same record, with bytes and texts of its own: borrowed ones are copied, owned ones kept.
+    ///
+    /// `OutOfMemory` where a copy can't be made; the value is then dropped.
+    pub fn into_owned(self, alloc: Global) -> ResultParsing<Ipv6Record<'static>>
+        ensures same { IfOk result (λ kept. ipv6_of kept ≡ ipv6_of self.entry) }
+        ensures owned { IfOk result Ipv6IsOwned }
+        ensures memory { IfErr result IsMemory }
+    {
+        Ok(self.keep(alloc)?)
+    }
+}
+
+impl<'a> KeepValue for Ipv6Record<'a> {
+    type Owned = Ipv6Record<'static>;
+
+    ghost is_same = { λ value kept. ipv6_of kept ≡ ipv6_of value };
+
+    ghost is_owned = { Ipv6IsOwned };
+
+    fn keep(self, alloc: Global) -> Result<Ipv6Record<'static>, AllocError> {
+        let Ipv6Record { ip_addr, names } = self;
+        Ok(Ipv6Record {
+            ip_addr: ip_addr.keep(alloc)?,
+            names: keep_all(alloc, names)?,
+        })
+    }
+}
+
+impl<'a> UnknownRecord<'a> {
+    /// The same record, with bytes and texts of its own: borrowed ones are copied, owned ones kept.
+    ///
+    /// `OutOfMemory` where a copy can't be made; the value is then dropped.
+    pub fn into_owned(self, alloc: Global) -> ResultParsing<UnknownRecord<'static>>
+        ensures same { IfOk result (λ kept. other_of kept ≡ other_of self.entry) }
+        ensures owned { IfOk result UnknownRecordIsOwned }
+        ensures memory { IfErr result IsMemory }
+    {
+        Ok(self.keep(alloc)?)
+    }
+}
+
+impl<'a> KeepValue for UnknownRecord<'a> {
+    type Owned = UnknownRecord<'static>;
+
+    ghost is_same = { λ value kept. other_of kept ≡ other_of value };
+
+    ghost is_owned = { UnknownRecordIsOwned };
+
+    fn keep(self, alloc: Global) -> Result<UnknownRecord<'static>, AllocError> {
+        let UnknownRecord {
+            type_,
+            length,
+            value,
+        } = self;
+        Ok(UnknownRecord {
+            type_,
+            length,
+            value: value.keep(alloc)?,
+        })
+    }
+}
+
+impl<'a> Record<'a> {
+    /// The same record, with bytes and texts of its own: borrowed ones are copied, owned ones kept.
+    ///
+    /// `OutOfMemory` where a copy can't be made; the value is then dropped.
+    pub fn into_owned(self, alloc: Global) -> ResultParsing<Record<'static>>
+        ensures same { IfOk result (λ kept. name_record_of kept ≡ name_record_of self.entry) }
+        ensures owned { IfOk result RecordIsOwned }
+        ensures memory { IfErr result IsMemory }
+    {
+        Ok(self.keep(alloc)?)
+    }
+}
+
+impl<'a> KeepValue for Record<'a> {
+    type Owned = Record<'static>;
+
+    ghost is_same = { λ value kept. name_record_of kept ≡ name_record_of value };
+
+    ghost is_owned = { RecordIsOwned };
+
+    fn keep(self, alloc: Global) -> Result<Record<'static>, AllocError> {
+        Ok(match self {
+            Record::End => Record::End,
+            Record::Ipv4(held) => Record::Ipv4(held.keep(alloc)?),
+            Record::Ipv6(held) => Record::Ipv6(held.keep(alloc)?),
+            Record::Unknown(held) => Record::Unknown(held.keep(alloc)?),
+        })
     }
 }

@@ -10,6 +10,8 @@ mod options;
 #[cfg(test)]
 mod other_blocks;
 #[cfg(test)]
+mod owned;
+#[cfg(test)]
 mod packets;
 #[cfg(test)]
 mod parsed_block;
