@@ -109,10 +109,17 @@ fn replay_body<B: ByteOrder>(rt: &HostRuntime, name: &str, slice: &[u8]) -> io::
 }
 
 fn refused(rt: &HostRuntime, error: PcapError) -> io::Result<()> {
+    let (kind, text) = reason(&error);
+    println!(rt; "{kind}{text}")
+}
+
+// The kind of an error, and the text of an `InvalidField`.
+fn reason(error: &PcapError) -> (&'static str, &'static str) {
     match error {
-        PcapError::IoError(_) => println!(rt; "io"),
-        PcapError::Utf8Error(_) => println!(rt; "utf8"),
-        PcapError::InvalidField(text) => println!(rt; "invalid {text}"),
-        _ => println!(rt; "another error"),
+        PcapError::IoError(_) => ("io", ""),
+        PcapError::Utf8Error(_) => ("utf8", ""),
+        PcapError::InvalidField(text) => ("invalid ", *text),
+        PcapError::OutOfMemory(_) => ("out of memory", ""),
+        _ => ("another error", ""),
     }
 }

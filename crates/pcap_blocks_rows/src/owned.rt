@@ -33,10 +33,10 @@ fn bodies_outlive_their_bytes(rt: HostRuntime) -> Result<(), Fail> {
     );
     assert_eq!(rt; (section.section_length, section.options.len()), (-1, 2));
     assert!(rt;
-        matches!(&section.options[0], SectionHeaderOption::Hardware(CowStr::Owned(text)) if *text == "x86")
+        matches!(&section.options[0], SectionHeaderOption::Hardware(CowStr::Owned(text)) if text.as_str() == "x86")
     );
     assert!(rt;
-        matches!(&section.options[1], SectionHeaderOption::OS(CowStr::Owned(text)) if *text == "Linux")
+        matches!(&section.options[1], SectionHeaderOption::OS(CowStr::Owned(text)) if text.as_str() == "Linux")
     );
 
     let block = owned(
@@ -139,8 +139,8 @@ fn names_outlive_their_bytes(rt: HostRuntime) -> Result<(), Fail> {
     };
     assert!(rt; !record.ip_addr.is_borrowed());
     assert_eq!(rt; record.names.len(), 2);
-    assert!(rt; matches!(&record.names[0], CowStr::Owned(name) if *name == "a"));
-    assert!(rt; matches!(&record.names[1], CowStr::Owned(name) if *name == "b"));
+    assert!(rt; matches!(&record.names[0], CowStr::Owned(name) if name.as_str() == "a"));
+    assert!(rt; matches!(&record.names[1], CowStr::Owned(name) if name.as_str() == "b"));
     assert!(rt;
         matches!(&names.records[1], Record::Unknown(unknown) if unknown.type_ == 9 && !unknown.value.is_borrowed())
     );
