@@ -7,7 +7,8 @@ use Rattle.pcap_classic.specs.declared.rules.Rule.TheVariants.{EnhancedTooShort}
 use Rattle.pcap_blocks.specs.StoredPacket.{Stored, StoredSays}
 use Rattle.pcap_blocks.specs.StoredPacket as stored
 use Rattle.pcap_blocks.specs.EnhancedPacket.{enhanced_packet, Enhanced, EnhancedText, short, in_packet, EnhancedSays}
-use Rattle.pcap_blocks.proofs.Verdicts.{one_moved, Then, one_then, Made, one_made}
+use Rattle.pcap_blocks.specs.Records.{Made}
+use Rattle.pcap_blocks.proofs.Verdicts.{one_moved, Then, one_then, one_made}
 use Rattle.pcap_blocks.proofs.Numbers.{Values, NumbersSay, numbers_one, numbers_behind, numbers_at, numbers_length}
 use Rattle.pcap_blocks.proofs.OneStored.{stored_one}
 

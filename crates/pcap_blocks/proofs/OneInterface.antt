@@ -10,7 +10,8 @@ use Rattle.pcap_classic.proofs.Links.{plain_same, link_of}
 use Rattle.pcap_blocks.specs.Values.{Entry}
 use Rattle.pcap_blocks.specs.Options.{may_end_with_body, ListSays}
 use Rattle.pcap_blocks.specs.InterfaceDescription.{interface_description, Interface, InterfaceHead, InterfaceText, short, in_options, InterfaceSays}
-use Rattle.pcap_blocks.proofs.Verdicts.{one_moved, Then, one_then, Made, one_made}
+use Rattle.pcap_blocks.specs.Records.{Made}
+use Rattle.pcap_blocks.proofs.Verdicts.{one_moved, Then, one_then, one_made}
 use Rattle.pcap_blocks.proofs.Numbers.{Values, Numbers, NumbersSay, numbers_one, numbers_behind, numbers_at}
 use Rattle.pcap_blocks.proofs.OneList.{list_one}
 

@@ -24,7 +24,7 @@ padded_same v w s a b len p q =
 pub padded_length : (v s rest : List ℕ) → Padded v s rest → length s ≡ up_to_4 (length v) + length rest
 padded_length v s rest p = ap length p.text ∙ length-append (v ++ p.padding) rest ∙ ap (λ (k : ℕ). k + length rest) (length-append v p.padding ∙ p.aligned)
 
-no_short_padded : (v s rest : List ℕ) (n : ℕ) → Padded v s rest → length v ≡ n → length s < up_to_4 n → ⊥
+pub no_short_padded : (v s rest : List ℕ) (n : ℕ) → Padded v s rest → length v ≡ n → length s < up_to_4 n → ⊥
 no_short_padded v s rest n p is lt =
     let l : length s ≡ up_to_4 n + length rest = padded_length v s rest p ∙ ap (λ (k : ℕ). up_to_4 k + length rest) is in
     omega (arith, l, lt)

@@ -14,7 +14,8 @@ use Rattle.pcap_classic.proofs.Texts.{number_length}
 use Rattle.pcap_blocks.specs.Values.{Entry}
 use Rattle.pcap_blocks.specs.Options.{may_end_with_body, ListSays}
 use Rattle.pcap_blocks.specs.SectionHeader.{section_header, magic_order, Section, VersionText, AfterMagic, AfterMagicFault, SectionText, SectionFault, short, no_magic, after_magic, SectionSays}
-use Rattle.pcap_blocks.proofs.Verdicts.{one_moved, Then, one_then, Made, one_made}
+use Rattle.pcap_blocks.specs.Records.{Made}
+use Rattle.pcap_blocks.proofs.Verdicts.{one_moved, Then, one_then, one_made}
 use Rattle.pcap_blocks.proofs.Numbers.{Values, Numbers, NumbersSay, numbers_one, numbers_behind, numbers_at}
 use Rattle.pcap_blocks.proofs.OneList.{list_one}
 

@@ -7,7 +7,8 @@ use Rattle.pcap_classic.specs.declared.rules.Rule.TheVariants.{StatisticsTooShor
 use Rattle.pcap_blocks.specs.Values.{Entry}
 use Rattle.pcap_blocks.specs.Options.{may_end_with_body, ListSays}
 use Rattle.pcap_blocks.specs.InterfaceStatistics.{interface_statistics, Statistics, StatisticsText, short, in_options, StatisticsSays}
-use Rattle.pcap_blocks.proofs.Verdicts.{one_moved, Then, one_then, Made, one_made}
+use Rattle.pcap_blocks.specs.Records.{Made}
+use Rattle.pcap_blocks.proofs.Verdicts.{one_moved, Then, one_then, one_made}
 use Rattle.pcap_blocks.proofs.Numbers.{Values, NumbersSay, numbers_one, numbers_behind, numbers_at}
 use Rattle.pcap_blocks.proofs.OneList.{list_one}
 

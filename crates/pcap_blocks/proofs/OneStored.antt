@@ -7,7 +7,8 @@ use Rattle.pcap_classic.specs.declared.rules.Rule.TheVariants.{EnhancedTooShort,
 use Rattle.pcap_blocks.specs.Values.{Entry, Kind}
 use Rattle.pcap_blocks.specs.Options.{may_end_with_body, ListSays}
 use Rattle.pcap_blocks.specs.StoredPacket.{Stored, StoredHead, StoredText, StoredFault, short, cut, in_options, StoredSays}
-use Rattle.pcap_blocks.proofs.Verdicts.{one_moved, Then, one_then, Made, one_made}
+use Rattle.pcap_blocks.specs.Records.{Made}
+use Rattle.pcap_blocks.proofs.Verdicts.{one_moved, Then, one_then, one_made}
 use Rattle.pcap_blocks.proofs.Numbers.{Values, Numbers, NumbersSay, numbers_one}
 use Rattle.pcap_blocks.proofs.OnePadded.{PaddedSays, padded_one}
 use Rattle.pcap_blocks.proofs.OneList.{list_one}

@@ -5,6 +5,7 @@ use Rattle.pcap_classic.specs.Answer.{Verdict, whole, lacks, faulty}
 use Rattle.pcap_classic.specs.Faults.{Fault}
 use Rattle.pcap_classic.specs.Laws.{ExactlyOne}
 use Rattle.pcap_blocks.specs.Padded.{Chain}
+use Rattle.pcap_blocks.specs.Records.{Made}
 use Rattle.pcap_blocks.proofs.Padded.{chain_more}
 
 -- what says the same has the same law
@@ -16,12 +17,6 @@ abbrev pub Then : {V W : Type 0} → (Verdict V → Type 0) → (V → List ℕ 
 Then {V = V} First Next (whole w rest) = (v : V) × (after : List ℕ) × First (whole v after) × Next v after (whole w rest)
 Then {V = V} First Next (lacks n) = First (lacks n) ⊎ ((v : V) × (after : List ℕ) × First (whole v after) × Next v after (lacks n))
 Then {V = V} First Next (faulty f) = First (faulty f) ⊎ ((v : V) × (after : List ℕ) × First (whole v after) × Next v after (faulty f))
-
--- a verdict with its value made into another
-abbrev pub Made : {V W : Type 0} → (V → W) → (Verdict V → Type 0) → Verdict W → Type 0
-Made {V = V} make IsSaid (whole value rest) = (made_of : V) × (value ≡ make made_of) × IsSaid (whole made_of rest)
-Made make IsSaid (lacks n) = IsSaid (lacks n)
-Made make IsSaid (faulty f) = IsSaid (faulty f)
 
 abbrev made : {V W : Type 0} → (V → W) → Verdict V → Verdict W
 made make (whole v rest) = whole (make v) rest

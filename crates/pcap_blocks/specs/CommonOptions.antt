@@ -1,6 +1,7 @@
 -- The options of the code that every kind of block has.
-use Rattle.std.specs.Cow.{cow_str_bytes, IsBorrowedStr}
+use Rattle.std.specs.Cow.{cow_str_bytes, IsBorrowedStr, IsOwnedStr}
 use Rattle.pcap_classic.specs.Bytes.{cow_bytes, IsBorrowed}
+use Rattle.pcap_blocks.specs.Owned.{IsOwned}
 use Rattle.pcap_blocks.specs.Values.{Entry, CustomText, CustomBytes, Unknown}
 use Rattle.pcap_blocks.specs.declared.common.UnknownOption.{UnknownOption}
 use Rattle.pcap_blocks.specs.declared.common.CustomBinaryOption.{CustomBinaryOption}
@@ -18,8 +19,17 @@ custom_text_entry o = record { code = o.code; value = CustomText o.pen (cow_str_
 abbrev pub UnknownIsBorrowed : UnknownOption → Type 0
 UnknownIsBorrowed o = IsBorrowed o.value
 
+abbrev pub UnknownIsOwned : UnknownOption → Type 0
+UnknownIsOwned o = IsOwned o.value
+
 abbrev pub CustomBytesIsBorrowed : CustomBinaryOption → Type 0
 CustomBytesIsBorrowed o = IsBorrowed o.value
 
+abbrev pub CustomBytesIsOwned : CustomBinaryOption → Type 0
+CustomBytesIsOwned o = IsOwned o.value
+
 abbrev pub CustomTextIsBorrowed : CustomUtf8Option → Type 0
 CustomTextIsBorrowed o = IsBorrowedStr o.value
+
+abbrev pub CustomTextIsOwned : CustomUtf8Option → Type 0
+CustomTextIsOwned o = IsOwnedStr o.value

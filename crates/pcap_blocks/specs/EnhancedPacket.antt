@@ -1,16 +1,17 @@
 -- The body of an enhanced packet ('Enhanced Packet Block').
 use Rattle.std.specs.Prelude.{◌<◌, ℕ, List, ◌∷◌, length, map, All}
-use Rattle.std.specs.Cow.{cow_str_bytes, IsBorrowedStr}
+use Rattle.std.specs.Cow.{cow_str_bytes, IsBorrowedStr, IsOwnedStr}
 use Rattle.pcap_classic.specs.Answer.{Order, Number, Verdict, Says}
 use Rattle.pcap_classic.specs.Bytes.{cow_bytes, IsBorrowed}
 use Rattle.pcap_classic.specs.Faults.{Fault, Invalid}
 use Rattle.pcap_classic.specs.declared.rules.Rule.TheVariants.{EnhancedTooShort, EnhancedFlagsLength, EnhancedDropCountLength}
+use Rattle.pcap_blocks.specs.Owned.{IsOwned}
 use Rattle.pcap_blocks.specs.declared.enhanced_packet.EnhancedPacketBlock.{EnhancedPacketBlock}
 use Rattle.pcap_blocks.specs.declared.enhanced_packet.EnhancedPacketOption.{EnhancedPacketOption}
 use Rattle.pcap_blocks.specs.declared.enhanced_packet.EnhancedPacketOption.TheVariants as option_of
 use Rattle.pcap_blocks.specs.Padded.{Behind}
 use Rattle.pcap_blocks.specs.Values.{Entry, Text, Bytes, Integer, Kind, text, bytes, number, custom}
-use Rattle.pcap_blocks.specs.CommonOptions.{unknown_entry, custom_bytes_entry, custom_text_entry, UnknownIsBorrowed, CustomBytesIsBorrowed, CustomTextIsBorrowed}
+use Rattle.pcap_blocks.specs.CommonOptions.{unknown_entry, custom_bytes_entry, custom_text_entry, UnknownIsBorrowed, UnknownIsOwned, CustomBytesIsBorrowed, CustomBytesIsOwned, CustomTextIsBorrowed, CustomTextIsOwned}
 use Rattle.pcap_blocks.specs.StoredPacket.{Stored, StoredText, StoredFault}
 
 -- comment, flags, hash, drop count
@@ -57,6 +58,16 @@ EnhancedOptionIsBorrowed (option_of.CustomBinary o) = CustomBytesIsBorrowed o
 EnhancedOptionIsBorrowed (option_of.CustomUtf8 o) = CustomTextIsBorrowed o
 EnhancedOptionIsBorrowed (option_of.Unknown o) = UnknownIsBorrowed o
 
+-- its text or bytes are owned, where it has any
+abbrev pub EnhancedOptionIsOwned : EnhancedPacketOption → Type 0
+EnhancedOptionIsOwned (option_of.Comment t) = IsOwnedStr t
+EnhancedOptionIsOwned (option_of.Flags n) = Unit {0}
+EnhancedOptionIsOwned (option_of.Hash b) = IsOwned b
+EnhancedOptionIsOwned (option_of.DropCount n) = Unit {0}
+EnhancedOptionIsOwned (option_of.CustomBinary o) = CustomBytesIsOwned o
+EnhancedOptionIsOwned (option_of.CustomUtf8 o) = CustomTextIsOwned o
+EnhancedOptionIsOwned (option_of.Unknown o) = UnknownIsOwned o
+
 -- a block of the code
 abbrev pub enhanced_of : EnhancedPacketBlock → Enhanced
 enhanced_of block = record {
@@ -74,3 +85,8 @@ enhanced_of block = record {
 pub record EnhancedIsBorrowed (block : EnhancedPacketBlock) : Type 0 where
   pub bytes : IsBorrowed block.data_
   pub options : All EnhancedOptionIsBorrowed block.options.items
+
+-- its bytes and what its options hold are owned
+pub record EnhancedIsOwned (block : EnhancedPacketBlock) : Type 0 where
+  pub bytes : IsOwned block.data_
+  pub options : All EnhancedOptionIsOwned block.options.items

@@ -1,19 +1,20 @@
 -- The body of an interface description ('Interface Description Block').
 use Rattle.std.specs.Prelude.{◌<◌, ℕ, List, ◌∷◌, length, map, All}
-use Rattle.std.specs.Cow.{cow_str_bytes, IsBorrowedStr}
+use Rattle.std.specs.Cow.{cow_str_bytes, IsBorrowedStr, IsOwnedStr}
 use Rattle.pcap_classic.specs.declared.link.DataLink.{DataLink}
 use Rattle.pcap_classic.specs.declared.rules.Rule.TheVariants as rules
 use Rattle.pcap_classic.specs.Answer.{Order, Number, Verdict, Says}
 use Rattle.pcap_classic.specs.Bytes.{cow_bytes, IsBorrowed}
 use Rattle.pcap_classic.specs.Faults.{Fault, Invalid}
 use Rattle.pcap_classic.specs.Link.{Link}
+use Rattle.pcap_blocks.specs.Owned.{IsOwned}
 use Rattle.pcap_blocks.specs.declared.interface_description.InterfaceDescriptionBlock.{InterfaceDescriptionBlock}
 use Rattle.pcap_blocks.specs.declared.interface_description.InterfaceDescriptionOption.{InterfaceDescriptionOption}
 use Rattle.pcap_blocks.specs.declared.interface_description.InterfaceDescriptionOption.TheVariants as option_of
 use Rattle.pcap_blocks.specs.Padded.{Behind}
 use Rattle.pcap_blocks.specs.Values.{Entry, Text, Bytes, Integer, Kind, text, some_bytes, fixed_bytes, byte, number, custom}
 use Rattle.pcap_blocks.specs.Options.{may_end_with_body, OptionList, ListFault}
-use Rattle.pcap_blocks.specs.CommonOptions.{unknown_entry, custom_bytes_entry, custom_text_entry, UnknownIsBorrowed, CustomBytesIsBorrowed, CustomTextIsBorrowed}
+use Rattle.pcap_blocks.specs.CommonOptions.{unknown_entry, custom_bytes_entry, custom_text_entry, UnknownIsBorrowed, UnknownIsOwned, CustomBytesIsBorrowed, CustomBytesIsOwned, CustomTextIsBorrowed, CustomTextIsOwned}
 
 -- comment, name, description, addresses, speed, time, filter, system, check sequence, hardware
 abbrev pub interface_description : Kind
@@ -109,6 +110,27 @@ InterfaceOptionIsBorrowed (option_of.IfTzone n) = Unit {0}
 InterfaceOptionIsBorrowed (option_of.IfFcsLen n) = Unit {0}
 InterfaceOptionIsBorrowed (option_of.IfTsOffset n) = Unit {0}
 
+-- its text or bytes are owned, where it has any
+abbrev pub InterfaceOptionIsOwned : InterfaceDescriptionOption → Type 0
+InterfaceOptionIsOwned (option_of.Comment t) = IsOwnedStr t
+InterfaceOptionIsOwned (option_of.IfName t) = IsOwnedStr t
+InterfaceOptionIsOwned (option_of.IfDescription t) = IsOwnedStr t
+InterfaceOptionIsOwned (option_of.IfIpv4Addr b) = IsOwned b
+InterfaceOptionIsOwned (option_of.IfIpv6Addr b) = IsOwned b
+InterfaceOptionIsOwned (option_of.IfMacAddr b) = IsOwned b
+InterfaceOptionIsOwned (option_of.IfFilter b) = IsOwned b
+InterfaceOptionIsOwned (option_of.IfOs t) = IsOwnedStr t
+InterfaceOptionIsOwned (option_of.IfHardware t) = IsOwnedStr t
+InterfaceOptionIsOwned (option_of.CustomBinary o) = CustomBytesIsOwned o
+InterfaceOptionIsOwned (option_of.CustomUtf8 o) = CustomTextIsOwned o
+InterfaceOptionIsOwned (option_of.Unknown o) = UnknownIsOwned o
+InterfaceOptionIsOwned (option_of.IfEuIAddr n) = Unit {0}
+InterfaceOptionIsOwned (option_of.IfSpeed n) = Unit {0}
+InterfaceOptionIsOwned (option_of.IfTsResol n) = Unit {0}
+InterfaceOptionIsOwned (option_of.IfTzone n) = Unit {0}
+InterfaceOptionIsOwned (option_of.IfFcsLen n) = Unit {0}
+InterfaceOptionIsOwned (option_of.IfTsOffset n) = Unit {0}
+
 -- a block of the code
 abbrev pub interface_of : InterfaceDescriptionBlock → Interface
 interface_of block = record {
@@ -121,3 +143,7 @@ interface_of block = record {
 -- what its options hold is borrowed
 abbrev pub InterfaceIsBorrowed : InterfaceDescriptionBlock → Type 0
 InterfaceIsBorrowed block = All InterfaceOptionIsBorrowed block.options.items
+
+-- what its options hold is owned
+abbrev pub InterfaceIsOwned : InterfaceDescriptionBlock → Type 0
+InterfaceIsOwned block = All InterfaceOptionIsOwned block.options.items

@@ -1,6 +1,6 @@
 -- The body of interface statistics ('Interface Statistics Block').
 use Rattle.std.specs.Prelude.{◌<◌, ℕ, List, ◌∷◌, length, map, All}
-use Rattle.std.specs.Cow.{cow_str_bytes, IsBorrowedStr}
+use Rattle.std.specs.Cow.{cow_str_bytes, IsBorrowedStr, IsOwnedStr}
 use Rattle.pcap_classic.specs.Answer.{Order, Number, Verdict, Says}
 use Rattle.pcap_classic.specs.Faults.{Fault, Invalid}
 use Rattle.pcap_classic.specs.declared.rules.Rule.TheVariants.{StatisticsTooShort}
@@ -10,7 +10,7 @@ use Rattle.pcap_blocks.specs.declared.interface_statistics.InterfaceStatisticsOp
 use Rattle.pcap_blocks.specs.Padded.{Behind}
 use Rattle.pcap_blocks.specs.Values.{Entry, Text, Integer, Kind, text, first_number, first_time, custom}
 use Rattle.pcap_blocks.specs.Options.{may_end_with_body, OptionList, ListFault}
-use Rattle.pcap_blocks.specs.CommonOptions.{unknown_entry, custom_bytes_entry, custom_text_entry, UnknownIsBorrowed, CustomBytesIsBorrowed, CustomTextIsBorrowed}
+use Rattle.pcap_blocks.specs.CommonOptions.{unknown_entry, custom_bytes_entry, custom_text_entry, UnknownIsBorrowed, UnknownIsOwned, CustomBytesIsBorrowed, CustomBytesIsOwned, CustomTextIsBorrowed, CustomTextIsOwned}
 use Rattle.pcap_blocks.specs.StoredPacket.{TimeText}
 
 -- comment, start and end time, and the numbers of packets
@@ -77,6 +77,20 @@ StatisticsOptionIsBorrowed (option_of.CustomBinary o) = CustomBytesIsBorrowed o
 StatisticsOptionIsBorrowed (option_of.CustomUtf8 o) = CustomTextIsBorrowed o
 StatisticsOptionIsBorrowed (option_of.Unknown o) = UnknownIsBorrowed o
 
+-- its text or bytes are owned, where it has any
+abbrev pub StatisticsOptionIsOwned : InterfaceStatisticsOption → Type 0
+StatisticsOptionIsOwned (option_of.Comment t) = IsOwnedStr t
+StatisticsOptionIsOwned (option_of.IsbStartTime n) = Unit {0}
+StatisticsOptionIsOwned (option_of.IsbEndTime n) = Unit {0}
+StatisticsOptionIsOwned (option_of.IsbIfRecv n) = Unit {0}
+StatisticsOptionIsOwned (option_of.IsbIfDrop n) = Unit {0}
+StatisticsOptionIsOwned (option_of.IsbFilterAccept n) = Unit {0}
+StatisticsOptionIsOwned (option_of.IsbOsDrop n) = Unit {0}
+StatisticsOptionIsOwned (option_of.IsbUsrDeliv n) = Unit {0}
+StatisticsOptionIsOwned (option_of.CustomBinary o) = CustomBytesIsOwned o
+StatisticsOptionIsOwned (option_of.CustomUtf8 o) = CustomTextIsOwned o
+StatisticsOptionIsOwned (option_of.Unknown o) = UnknownIsOwned o
+
 -- a block of the code
 abbrev pub statistics_of : InterfaceStatisticsBlock → Statistics
 statistics_of block = record { interface_id = block.interface_id; timestamp = block.timestamp; options = map statistics_entry block.options.items }
@@ -84,3 +98,7 @@ statistics_of block = record { interface_id = block.interface_id; timestamp = bl
 -- what its options hold is borrowed
 abbrev pub StatisticsIsBorrowed : InterfaceStatisticsBlock → Type 0
 StatisticsIsBorrowed block = All StatisticsOptionIsBorrowed block.options.items
+
+-- what its options hold is owned
+abbrev pub StatisticsIsOwned : InterfaceStatisticsBlock → Type 0
+StatisticsIsOwned block = All StatisticsOptionIsOwned block.options.items

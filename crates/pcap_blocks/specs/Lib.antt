@@ -10,3 +10,8 @@ pub mod EnhancedPacket
 pub mod PacketBody
 pub mod InterfaceStatistics
 pub mod WholeBodies
+pub mod Names
+pub mod Records
+pub mod NameResolution
+pub mod ParsedBlock
+pub mod Owned

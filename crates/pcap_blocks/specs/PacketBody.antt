@@ -1,16 +1,17 @@
 -- The body of an obsolete packet block ('Packet Block').
 use Rattle.std.specs.Prelude.{◌<◌, ℕ, List, ◌∷◌, length, map, All}
-use Rattle.std.specs.Cow.{cow_str_bytes, IsBorrowedStr}
+use Rattle.std.specs.Cow.{cow_str_bytes, IsBorrowedStr, IsOwnedStr}
 use Rattle.pcap_classic.specs.Answer.{Order, Number, Verdict, Says}
 use Rattle.pcap_classic.specs.Bytes.{cow_bytes, IsBorrowed}
 use Rattle.pcap_classic.specs.Faults.{Fault, Invalid}
 use Rattle.pcap_classic.specs.declared.rules.Rule.TheVariants.{EnhancedTooShort, PacketFlagsLength}
+use Rattle.pcap_blocks.specs.Owned.{IsOwned}
 use Rattle.pcap_blocks.specs.declared.packet.PacketBlock.{PacketBlock}
 use Rattle.pcap_blocks.specs.declared.packet.PacketOption.{PacketOption}
 use Rattle.pcap_blocks.specs.declared.packet.PacketOption.TheVariants as option_of
 use Rattle.pcap_blocks.specs.Padded.{Behind}
 use Rattle.pcap_blocks.specs.Values.{Entry, Text, Bytes, Integer, Kind, text, bytes, number, custom}
-use Rattle.pcap_blocks.specs.CommonOptions.{unknown_entry, custom_bytes_entry, custom_text_entry, UnknownIsBorrowed, CustomBytesIsBorrowed, CustomTextIsBorrowed}
+use Rattle.pcap_blocks.specs.CommonOptions.{unknown_entry, custom_bytes_entry, custom_text_entry, UnknownIsBorrowed, UnknownIsOwned, CustomBytesIsBorrowed, CustomBytesIsOwned, CustomTextIsBorrowed, CustomTextIsOwned}
 use Rattle.pcap_blocks.specs.StoredPacket.{Stored, StoredText, StoredFault}
 
 -- comment, flags, hash
@@ -58,6 +59,15 @@ PacketOptionIsBorrowed (option_of.CustomBinary o) = CustomBytesIsBorrowed o
 PacketOptionIsBorrowed (option_of.CustomUtf8 o) = CustomTextIsBorrowed o
 PacketOptionIsBorrowed (option_of.Unknown o) = UnknownIsBorrowed o
 
+-- its text or bytes are owned, where it has any
+abbrev pub PacketOptionIsOwned : PacketOption → Type 0
+PacketOptionIsOwned (option_of.Comment t) = IsOwnedStr t
+PacketOptionIsOwned (option_of.Flags n) = Unit {0}
+PacketOptionIsOwned (option_of.Hash b) = IsOwned b
+PacketOptionIsOwned (option_of.CustomBinary o) = CustomBytesIsOwned o
+PacketOptionIsOwned (option_of.CustomUtf8 o) = CustomTextIsOwned o
+PacketOptionIsOwned (option_of.Unknown o) = UnknownIsOwned o
+
 -- a block of the code
 abbrev pub packet_of : PacketBlock → PacketBody
 packet_of block = record {
@@ -76,3 +86,8 @@ packet_of block = record {
 pub record PacketIsBorrowed (block : PacketBlock) : Type 0 where
   pub bytes : IsBorrowed block.data_
   pub options : All PacketOptionIsBorrowed block.options.items
+
+-- its bytes and what its options hold are owned
+pub record PacketIsOwned (block : PacketBlock) : Type 0 where
+  pub bytes : IsOwned block.data_
+  pub options : All PacketOptionIsOwned block.options.items

@@ -1,7 +1,7 @@
 -- The body of a section header ('Section Header Block').
 use Rattle.std.specs.Prelude.{◌≡◌, ◌≤◌, ◌<◌, ◌==◌, if◌then◌else◌, ℕ, ℤ, List, ◌∷◌, length, map, All, Option, Some, None}
 use Rattle.std.specs.Int.{w64, cast_signed}
-use Rattle.std.specs.Cow.{cow_str_bytes, IsBorrowedStr}
+use Rattle.std.specs.Cow.{cow_str_bytes, IsBorrowedStr, IsOwnedStr}
 use Rattle.byteorder.specs.Endian.{big_number}
 use Rattle.pcap_classic.specs.declared.common.Endianness.{Endianness}
 use Rattle.pcap_classic.specs.declared.common.Endianness.TheVariants.{Big, Little}
@@ -14,7 +14,7 @@ use Rattle.pcap_blocks.specs.declared.section_header.SectionHeaderOption.TheVari
 use Rattle.pcap_blocks.specs.Padded.{Behind}
 use Rattle.pcap_blocks.specs.Values.{Entry, Text, Kind, text, custom}
 use Rattle.pcap_blocks.specs.Options.{may_end_with_body, OptionList, ListFault}
-use Rattle.pcap_blocks.specs.CommonOptions.{unknown_entry, custom_bytes_entry, custom_text_entry, UnknownIsBorrowed, CustomBytesIsBorrowed, CustomTextIsBorrowed}
+use Rattle.pcap_blocks.specs.CommonOptions.{unknown_entry, custom_bytes_entry, custom_text_entry, UnknownIsBorrowed, UnknownIsOwned, CustomBytesIsBorrowed, CustomBytesIsOwned, CustomTextIsBorrowed, CustomTextIsOwned}
 
 -- comment, hardware, operating system, application
 abbrev pub section_header : Kind
@@ -97,6 +97,16 @@ SectionOptionIsBorrowed (option_of.CustomBinary o) = CustomBytesIsBorrowed o
 SectionOptionIsBorrowed (option_of.CustomUtf8 o) = CustomTextIsBorrowed o
 SectionOptionIsBorrowed (option_of.Unknown o) = UnknownIsBorrowed o
 
+-- its text or bytes are owned
+abbrev pub SectionOptionIsOwned : SectionHeaderOption → Type 0
+SectionOptionIsOwned (option_of.Comment t) = IsOwnedStr t
+SectionOptionIsOwned (option_of.Hardware t) = IsOwnedStr t
+SectionOptionIsOwned (option_of.OS t) = IsOwnedStr t
+SectionOptionIsOwned (option_of.UserApplication t) = IsOwnedStr t
+SectionOptionIsOwned (option_of.CustomBinary o) = CustomBytesIsOwned o
+SectionOptionIsOwned (option_of.CustomUtf8 o) = CustomTextIsOwned o
+SectionOptionIsOwned (option_of.Unknown o) = UnknownIsOwned o
+
 -- a block of the code
 abbrev pub section_of : SectionHeaderBlock → Section
 section_of block = record {
@@ -110,3 +120,7 @@ section_of block = record {
 -- what its options hold is borrowed
 abbrev pub SectionIsBorrowed : SectionHeaderBlock → Type 0
 SectionIsBorrowed block = All SectionOptionIsBorrowed block.options.items
+
+-- what its options hold is owned
+abbrev pub SectionIsOwned : SectionHeaderBlock → Type 0
+SectionIsOwned block = All SectionOptionIsOwned block.options.items

@@ -4,6 +4,7 @@ use Rattle.pcap_classic.specs.Answer.{Order, Number, Verdict, Says}
 use Rattle.pcap_classic.specs.Bytes.{cow_bytes, IsBorrowed}
 use Rattle.pcap_classic.specs.Faults.{Fault, Invalid}
 use Rattle.pcap_classic.specs.declared.rules.Rule.TheVariants.{SimpleTooShort}
+use Rattle.pcap_blocks.specs.Owned.{IsOwned}
 use Rattle.pcap_blocks.specs.declared.block.BlockType.{BlockType}
 use Rattle.pcap_blocks.specs.declared.block.BlockType.TheVariants as types
 use Rattle.pcap_blocks.specs.declared.block.UnknownBlock.{UnknownBlock}
@@ -65,8 +66,18 @@ unknown_of block = record { type_ = block.type_; len = block.length; bytes = cow
 abbrev pub SimpleIsBorrowed : SimplePacketBlock → Type 0
 SimpleIsBorrowed block = IsBorrowed block.data_
 
+-- their bytes are owned
+abbrev pub SimpleIsOwned : SimplePacketBlock → Type 0
+SimpleIsOwned block = IsOwned block.data_
+
 abbrev pub JournalIsBorrowed : SystemdJournalExportBlock → Type 0
 JournalIsBorrowed block = IsBorrowed block.journal_entry
 
+abbrev pub JournalIsOwned : SystemdJournalExportBlock → Type 0
+JournalIsOwned block = IsOwned block.journal_entry
+
 abbrev pub UnknownBlockIsBorrowed : UnknownBlock → Type 0
 UnknownBlockIsBorrowed block = IsBorrowed block.value
+
+abbrev pub UnknownBlockIsOwned : UnknownBlock → Type 0
+UnknownBlockIsOwned block = IsOwned block.value

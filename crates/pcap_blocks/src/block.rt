@@ -1,9 +1,12 @@
 //! The types of blocks.
 
-ghost use Rattle.std.specs.Prelude.{◌≡◌};
-ghost use Rattle.pcap_blocks.specs.WholeBodies.{block_type, unknown_of, UnknownBlockIsBorrowed};
+ghost use Rattle.std.specs.Prelude.{◌≡◌, IfOk, IfErr};
+ghost use Rattle.pcap_blocks.specs.WholeBodies.{block_type, unknown_of, UnknownBlockIsBorrowed, UnknownBlockIsOwned};
+ghost use Rattle.pcap_blocks.specs.Owned.{IsMemory};
 
-use pcap_classic::CowBytes;
+use crate::owned::KeepValue;
+use pcap_classic::{CowBytes, ResultParsing};
+use std::alloc::{AllocError, Global};
 
 /// The type of a block.
 #[derive(Clone, Copy, Debug, PartialEq, Eq)]
@@ -60,5 +63,39 @@ impl<'a> UnknownBlock<'a> {
             length: len,
             value: CowBytes::Borrowed(value),
         }
+    }
+}
+
+impl<'a> UnknownBlock<'a> {
+    /// The same block, with bytes and texts of its own: borrowed ones are copied, owned ones kept.
+    ///
+    /// `OutOfMemory` where a copy can't be made; the value is then dropped.
+    pub fn into_owned(self, alloc: Global) -> ResultParsing<UnknownBlock<'static>>
+        ensures same { IfOk result (λ kept. unknown_of kept ≡ unknown_of self.entry) }
+        ensures owned { IfOk result UnknownBlockIsOwned }
+        ensures memory { IfErr result IsMemory }
+    {
+        Ok(self.keep(alloc)?)
+    }
+}
+
+impl<'a> KeepValue for UnknownBlock<'a> {
+    type Owned = UnknownBlock<'static>;
+
+    ghost is_same = { λ value kept. unknown_of kept ≡ unknown_of value };
+
+    ghost is_owned = { UnknownBlockIsOwned };
+
+    fn keep(self, alloc: Global) -> Result<UnknownBlock<'static>, AllocError> {
+        let UnknownBlock {
+            type_,
+            length,
+            value,
+        } = self;
+        Ok(UnknownBlock {
+            type_,
+            length,
+            value: value.keep(alloc)?,
+        })
     }
 }

@@ -1,20 +1,22 @@
 //! The options that every kind of block has, and the list of them.
 
-ghost use Rattle.std.specs.Prelude.{⊤, ◌≡◌, length, map, All, IfOk, IfSome};
+ghost use Rattle.std.specs.Prelude.{⊤, ◌≡◌, length, map, All, IfOk, IfSome, IfErr};
 ghost use Rattle.std.specs.Option.{option_map};
 ghost use Rattle.pcap_classic.specs.Answer.{TellsAll};
 ghost use Rattle.pcap_blocks.specs.Refusals.{Finds, FindsWhere, FindsAll};
 ghost use Rattle.pcap_blocks.specs.Values.{Entry, Kind, Unknown, shape_at, custom_text, custom_bytes, EntrySays, bytes_in, integer_in};
 ghost use Rattle.pcap_blocks.specs.Options.{may_end_with_body, OptionSays, ListSays};
-ghost use Rattle.pcap_blocks.specs.CommonOptions.{unknown_entry, custom_bytes_entry, custom_text_entry, UnknownIsBorrowed, CustomBytesIsBorrowed, CustomTextIsBorrowed};
+ghost use Rattle.pcap_blocks.specs.CommonOptions.{unknown_entry, custom_bytes_entry, custom_text_entry, UnknownIsBorrowed, CustomBytesIsBorrowed, CustomTextIsBorrowed, UnknownIsOwned, CustomBytesIsOwned, CustomTextIsOwned};
+ghost use Rattle.pcap_blocks.specs.Owned.{IsMemory};
 
 use crate::fields::{split_padded, split_u16};
+use crate::owned::KeepValue;
 use crate::refusal::Refusal;
 use crate::values::text_value;
 use byteorder::ByteOrder;
 use pcap_classic::rules::Rule;
 use pcap_classic::{CowBytes, ResultParsing};
-use std::alloc::Global;
+use std::alloc::{AllocError, Global};
 use std::borrow::CowStr;
 
 /// An option whose code has no meaning in its kind of block.
@@ -231,4 +233,98 @@ pub(crate) fn options_from_slice<'a, O: PcapNgOption<'a> + Drop, B: ByteOrder>(
         }
     }
     Ok((rest, options))
+}
+
+impl<'a> UnknownOption<'a> {
+    /// The same option, with bytes and texts of its own: borrowed ones are copied, owned ones kept.
+    ///
+    /// `OutOfMemory` where a copy can't be made; the value is then dropped.
+    pub fn into_owned(self, alloc: Global) -> ResultParsing<UnknownOption<'static>>
+        ensures same { IfOk result (λ kept. unknown_entry kept ≡ unknown_entry self.entry) }
+        ensures owned { IfOk result UnknownIsOwned }
+        ensures memory { IfErr result IsMemory }
+    {
+        Ok(self.keep(alloc)?)
+    }
+}
+
+impl<'a> KeepValue for UnknownOption<'a> {
+    type Owned = UnknownOption<'static>;
+
+    ghost is_same = { λ value kept. unknown_entry kept ≡ unknown_entry value };
+
+    ghost is_owned = { UnknownIsOwned };
+
+    fn keep(self, alloc: Global) -> Result<UnknownOption<'static>, AllocError> {
+        let UnknownOption {
+            code,
+            length,
+            value,
+        } = self;
+        Ok(UnknownOption {
+            code,
+            length,
+            value: value.keep(alloc)?,
+        })
+    }
+}
+
+impl<'a> CustomBinaryOption<'a> {
+    /// The same option, with bytes and texts of its own: borrowed ones are copied, owned ones kept.
+    ///
+    /// `OutOfMemory` where a copy can't be made; the value is then dropped.
+    pub fn into_owned(self, alloc: Global) -> ResultParsing<CustomBinaryOption<'static>>
+        ensures same { IfOk result (λ kept. custom_bytes_entry kept ≡ custom_bytes_entry self.entry) }
+        ensures owned { IfOk result CustomBytesIsOwned }
+        ensures memory { IfErr result IsMemory }
+    {
+        Ok(self.keep(alloc)?)
+    }
+}
+
+impl<'a> KeepValue for CustomBinaryOption<'a> {
+    type Owned = CustomBinaryOption<'static>;
+
+    ghost is_same = { λ value kept. custom_bytes_entry kept ≡ custom_bytes_entry value };
+
+    ghost is_owned = { CustomBytesIsOwned };
+
+    fn keep(self, alloc: Global) -> Result<CustomBinaryOption<'static>, AllocError> {
+        let CustomBinaryOption { code, pen, value } = self;
+        Ok(CustomBinaryOption {
+            code,
+            pen,
+            value: value.keep(alloc)?,
+        })
+    }
+}
+
+impl<'a> CustomUtf8Option<'a> {
+    /// The same option, with bytes and texts of its own: borrowed ones are copied, owned ones kept.
+    ///
+    /// `OutOfMemory` where a copy can't be made; the value is then dropped.
+    pub fn into_owned(self, alloc: Global) -> ResultParsing<CustomUtf8Option<'static>>
+        ensures same { IfOk result (λ kept. custom_text_entry kept ≡ custom_text_entry self.entry) }
+        ensures owned { IfOk result CustomTextIsOwned }
+        ensures memory { IfErr result IsMemory }
+    {
+        Ok(self.keep(alloc)?)
+    }
+}
+
+impl<'a> KeepValue for CustomUtf8Option<'a> {
+    type Owned = CustomUtf8Option<'static>;
+
+    ghost is_same = { λ value kept. custom_text_entry kept ≡ custom_text_entry value };
+
+    ghost is_owned = { CustomTextIsOwned };
+
+    fn keep(self, alloc: Global) -> Result<CustomUtf8Option<'static>, AllocError> {
+        let CustomUtf8Option { code, pen, value } = self;
+        Ok(CustomUtf8Option {
+            code,
+            pen,
+            value: value.keep(alloc)?,
+        })
+    }
 }

@@ -1,22 +1,24 @@
 //! Enhanced packets.
 
-ghost use Rattle.std.specs.Prelude.{⊤, map, All, IfOk};
+ghost use Rattle.std.specs.Prelude.{⊤, map, All, IfOk, ◌≡◌, IfErr};
 ghost use Rattle.pcap_classic.specs.Answer.{TellsWhere};
 ghost use Rattle.pcap_blocks.specs.Refusals.{FindsWhere};
 ghost use Rattle.pcap_blocks.specs.Options.{may_end_with_body, ListSays};
-ghost use Rattle.pcap_blocks.specs.EnhancedPacket.{enhanced_packet, EnhancedSays, enhanced_entry, EnhancedOptionIsBorrowed, enhanced_of, EnhancedIsBorrowed};
+ghost use Rattle.pcap_blocks.specs.EnhancedPacket.{enhanced_packet, EnhancedSays, enhanced_entry, EnhancedOptionIsBorrowed, enhanced_of, EnhancedIsBorrowed, EnhancedOptionIsOwned, EnhancedIsOwned};
+ghost use Rattle.pcap_blocks.specs.Owned.{IsMemory};
 
 use crate::common::{
     CustomBinaryOption, CustomUtf8Option, PcapNgOption, UnknownOption, options_from_slice,
 };
 use crate::fields::split_u32;
+use crate::owned::{KeepValue, keep_all};
 use crate::refusal::Refusal;
 use crate::stored::stored_from_slice;
 use crate::values::{text_value, u32_value, u64_value};
 use byteorder::ByteOrder;
 use pcap_classic::rules::Rule;
 use pcap_classic::{CowBytes, ResultParsing};
-use std::alloc::Global;
+use std::alloc::{AllocError, Global};
 use std::borrow::CowStr;
 
 /// The body of an enhanced packet: a packet of an interface.
@@ -127,6 +129,83 @@ impl<'a> PcapNgOption<'a> for EnhancedPacketOption<'a> {
             2988 | 19372 => Self::CustomUtf8(CustomUtf8Option::read::<B>(code, value)?),
             2989 | 19373 => Self::CustomBinary(CustomBinaryOption::read::<B>(code, value)?),
             _ => Self::Unknown(UnknownOption::new(code, len, value)),
+        })
+    }
+}
+
+impl<'a> EnhancedPacketOption<'a> {
+    /// The same option, with bytes and texts of its own: borrowed ones are copied, owned ones kept.
+    ///
+    /// `OutOfMemory` where a copy can't be made; the value is then dropped.
+    pub fn into_owned(self, alloc: Global) -> ResultParsing<EnhancedPacketOption<'static>>
+        ensures same { IfOk result (λ kept. enhanced_entry kept ≡ enhanced_entry self.entry) }
+        ensures owned { IfOk result EnhancedOptionIsOwned }
+        ensures memory { IfErr result IsMemory }
+    {
+        Ok(self.keep(alloc)?)
+    }
+}
+
+impl<'a> KeepValue for EnhancedPacketOption<'a> {
+    type Owned = EnhancedPacketOption<'static>;
+
+    ghost is_same = { λ value kept. enhanced_entry kept ≡ enhanced_entry value };
+
+    ghost is_owned = { EnhancedOptionIsOwned };
+
+    fn keep(self, alloc: Global) -> Result<EnhancedPacketOption<'static>, AllocError> {
+        Ok(match self {
+            EnhancedPacketOption::Comment(held) => EnhancedPacketOption::Comment(held.keep(alloc)?),
+            EnhancedPacketOption::Flags(n) => EnhancedPacketOption::Flags(n),
+            EnhancedPacketOption::Hash(held) => EnhancedPacketOption::Hash(held.keep(alloc)?),
+            EnhancedPacketOption::DropCount(n) => EnhancedPacketOption::DropCount(n),
+            EnhancedPacketOption::CustomBinary(held) => EnhancedPacketOption::CustomBinary(
+                held.keep(alloc)?,
+            ),
+            EnhancedPacketOption::CustomUtf8(held) => EnhancedPacketOption::CustomUtf8(held.keep(
+                alloc,
+            )?),
+            EnhancedPacketOption::Unknown(held) => EnhancedPacketOption::Unknown(held.keep(alloc)?),
+        })
+    }
+}
+
+impl<'a> EnhancedPacketBlock<'a> {
+    /// The same packet, with bytes and texts of its own: borrowed ones are copied, owned ones kept.
+    ///
+    /// `OutOfMemory` where a copy can't be made; the value is then dropped.
+    pub fn into_owned(self, alloc: Global) -> ResultParsing<EnhancedPacketBlock<'static>>
+        ensures same { IfOk result (λ kept. enhanced_of kept ≡ enhanced_of self.entry) }
+        ensures owned { IfOk result EnhancedIsOwned }
+        ensures memory { IfErr result IsMemory }
+    {
+        Ok(self.keep(alloc)?)
+    }
+}
+
+impl<'a> KeepValue for EnhancedPacketBlock<'a> {
+    type Owned = EnhancedPacketBlock<'static>;
+
+    ghost is_same = { λ value kept. enhanced_of kept ≡ enhanced_of value };
+
+    ghost is_owned = { EnhancedIsOwned };
+
+    fn keep(self, alloc: Global) -> Result<EnhancedPacketBlock<'static>, AllocError> {
+        let EnhancedPacketBlock {
+            interface_id,
+            timestamp,
+            captured_len,
+            original_len,
+            data_,
+            options,
+        } = self;
+        Ok(EnhancedPacketBlock {
+            interface_id,
+            timestamp,
+            captured_len,
+            original_len,
+            data_: data_.keep(alloc)?,
+            options: keep_all(alloc, options)?,
         })
     }
 }

@@ -1,20 +1,22 @@
 //! Interface descriptions.
 
-ghost use Rattle.std.specs.Prelude.{⊤, ◌≡◌, IfOk};
+ghost use Rattle.std.specs.Prelude.{⊤, ◌≡◌, IfOk, IfErr};
 ghost use Rattle.pcap_classic.specs.Answer.{TellsWhere};
 ghost use Rattle.pcap_blocks.specs.Refusals.{FindsWhere};
-ghost use Rattle.pcap_blocks.specs.InterfaceDescription.{interface_description, InterfaceSays, interface_entry, InterfaceOptionIsBorrowed, interface_of, InterfaceIsBorrowed};
+ghost use Rattle.pcap_blocks.specs.InterfaceDescription.{interface_description, InterfaceSays, interface_entry, InterfaceOptionIsBorrowed, interface_of, InterfaceIsBorrowed, InterfaceOptionIsOwned, InterfaceIsOwned};
+ghost use Rattle.pcap_blocks.specs.Owned.{IsMemory};
 
 use crate::common::{
     CustomBinaryOption, CustomUtf8Option, PcapNgOption, UnknownOption, options_from_slice,
 };
 use crate::fields::{split_u16, split_u32};
+use crate::owned::{KeepValue, keep_all};
 use crate::refusal::Refusal;
 use crate::values::{fixed_value, some_value, text_value, u8_value, u32_value, u64_value};
 use byteorder::ByteOrder;
 use pcap_classic::rules::Rule;
 use pcap_classic::{CowBytes, DataLink, ResultParsing};
-use std::alloc::Global;
+use std::alloc::{AllocError, Global};
 use std::borrow::CowStr;
 
 /// The body of an interface description: an interface that packets were captured on.
@@ -137,6 +139,108 @@ impl<'a> PcapNgOption<'a> for InterfaceDescriptionOption<'a> {
             2988 | 19372 => Self::CustomUtf8(CustomUtf8Option::read::<B>(code, value)?),
             2989 | 19373 => Self::CustomBinary(CustomBinaryOption::read::<B>(code, value)?),
             _ => Self::Unknown(UnknownOption::new(code, len, value)),
+        })
+    }
+}
+
+impl<'a> InterfaceDescriptionOption<'a> {
+    /// The same option, with bytes and texts of its own: borrowed ones are copied, owned ones kept.
+    ///
+    /// `OutOfMemory` where a copy can't be made; the value is then dropped.
+    pub fn into_owned(self, alloc: Global) -> ResultParsing<InterfaceDescriptionOption<'static>>
+        ensures same { IfOk result (λ kept. interface_entry kept ≡ interface_entry self.entry) }
+        ensures owned { IfOk result InterfaceOptionIsOwned }
+        ensures memory { IfErr result IsMemory }
+    {
+        Ok(self.keep(alloc)?)
+    }
+}
+
+impl<'a> KeepValue for InterfaceDescriptionOption<'a> {
+    type Owned = InterfaceDescriptionOption<'static>;
+
+    ghost is_same = { λ value kept. interface_entry kept ≡ interface_entry value };
+
+    ghost is_owned = { InterfaceOptionIsOwned };
+
+    fn keep(self, alloc: Global) -> Result<InterfaceDescriptionOption<'static>, AllocError> {
+        Ok(match self {
+            InterfaceDescriptionOption::Comment(held) => InterfaceDescriptionOption::Comment(
+                held.keep(alloc)?,
+            ),
+            InterfaceDescriptionOption::IfName(held) => InterfaceDescriptionOption::IfName(
+                held.keep(alloc)?,
+            ),
+            InterfaceDescriptionOption::IfDescription(held) =>
+                InterfaceDescriptionOption::IfDescription(held.keep(alloc)?),
+            InterfaceDescriptionOption::IfIpv4Addr(held) => InterfaceDescriptionOption::IfIpv4Addr(
+                held.keep(alloc)?,
+            ),
+            InterfaceDescriptionOption::IfIpv6Addr(held) => InterfaceDescriptionOption::IfIpv6Addr(
+                held.keep(alloc)?,
+            ),
+            InterfaceDescriptionOption::IfMacAddr(held) => InterfaceDescriptionOption::IfMacAddr(
+                held.keep(alloc)?,
+            ),
+            InterfaceDescriptionOption::IfEuIAddr(n) => InterfaceDescriptionOption::IfEuIAddr(n),
+            InterfaceDescriptionOption::IfSpeed(n) => InterfaceDescriptionOption::IfSpeed(n),
+            InterfaceDescriptionOption::IfTsResol(n) => InterfaceDescriptionOption::IfTsResol(n),
+            InterfaceDescriptionOption::IfTzone(n) => InterfaceDescriptionOption::IfTzone(n),
+            InterfaceDescriptionOption::IfFilter(held) => InterfaceDescriptionOption::IfFilter(
+                held.keep(alloc)?,
+            ),
+            InterfaceDescriptionOption::IfOs(held) => InterfaceDescriptionOption::IfOs(held.keep(
+                alloc,
+            )?),
+            InterfaceDescriptionOption::IfFcsLen(n) => InterfaceDescriptionOption::IfFcsLen(n),
+            InterfaceDescriptionOption::IfTsOffset(n) => InterfaceDescriptionOption::IfTsOffset(n),
+            InterfaceDescriptionOption::IfHardware(held) => InterfaceDescriptionOption::IfHardware(
+                held.keep(alloc)?,
+            ),
+            InterfaceDescriptionOption::CustomBinary(held) =>
+                InterfaceDescriptionOption::CustomBinary(held.keep(alloc)?),
+            InterfaceDescriptionOption::CustomUtf8(held) => InterfaceDescriptionOption::CustomUtf8(
+                held.keep(alloc)?,
+            ),
+            InterfaceDescriptionOption::Unknown(held) => InterfaceDescriptionOption::Unknown(
+                held.keep(alloc)?,
+            ),
+        })
+    }
+}
+
+impl<'a> InterfaceDescriptionBlock<'a> {
+    /// The same interface, with bytes and texts of its own: borrowed ones are copied, owned ones kept.
+    ///
+    /// `OutOfMemory` where a copy can't be made; the value is then dropped.
+    pub fn into_owned(self, alloc: Global) -> ResultParsing<InterfaceDescriptionBlock<'static>>
+        ensures same { IfOk result (λ kept. interface_of kept ≡ interface_of self.entry) }
+        ensures owned { IfOk result InterfaceIsOwned }
+        ensures memory { IfErr result IsMemory }
+    {
+        Ok(self.keep(alloc)?)
+    }
+}
+
+impl<'a> KeepValue for InterfaceDescriptionBlock<'a> {
+    type Owned = InterfaceDescriptionBlock<'static>;
+
+    ghost is_same = { λ value kept. interface_of kept ≡ interface_of value };
+
+    ghost is_owned = { InterfaceIsOwned };
+
+    fn keep(self, alloc: Global) -> Result<InterfaceDescriptionBlock<'static>, AllocError> {
+        let InterfaceDescriptionBlock {
+            linktype,
+            reserved,
+            snaplen,
+            options,
+        } = self;
+        Ok(InterfaceDescriptionBlock {
+            linktype,
+            reserved,
+            snaplen,
+            options: keep_all(alloc, options)?,
         })
     }
 }

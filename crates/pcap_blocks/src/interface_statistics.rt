@@ -1,20 +1,22 @@
 //! Interface statistics.
 
-ghost use Rattle.std.specs.Prelude.{⊤, IfOk};
+ghost use Rattle.std.specs.Prelude.{⊤, IfOk, ◌≡◌, IfErr};
 ghost use Rattle.pcap_classic.specs.Answer.{TellsWhere};
 ghost use Rattle.pcap_blocks.specs.Refusals.{FindsWhere};
-ghost use Rattle.pcap_blocks.specs.InterfaceStatistics.{interface_statistics, StatisticsSays, statistics_entry, StatisticsOptionIsBorrowed, statistics_of, StatisticsIsBorrowed};
+ghost use Rattle.pcap_blocks.specs.InterfaceStatistics.{interface_statistics, StatisticsSays, statistics_entry, StatisticsOptionIsBorrowed, statistics_of, StatisticsIsBorrowed, StatisticsOptionIsOwned, StatisticsIsOwned};
+ghost use Rattle.pcap_blocks.specs.Owned.{IsMemory};
 
 use crate::common::{
     CustomBinaryOption, CustomUtf8Option, PcapNgOption, UnknownOption, options_from_slice,
 };
 use crate::fields::{split_time, split_u32};
+use crate::owned::{KeepValue, keep_all};
 use crate::refusal::Refusal;
 use crate::values::{first_number, first_time, text_value};
 use byteorder::ByteOrder;
 use pcap_classic::ResultParsing;
 use pcap_classic::rules::Rule;
-use std::alloc::Global;
+use std::alloc::{AllocError, Global};
 use std::borrow::CowStr;
 
 /// The body of interface statistics: what an interface counted.
@@ -113,6 +115,87 @@ impl<'a> PcapNgOption<'a> for InterfaceStatisticsOption<'a> {
             2988 | 19372 => Self::CustomUtf8(CustomUtf8Option::read::<B>(code, value)?),
             2989 | 19373 => Self::CustomBinary(CustomBinaryOption::read::<B>(code, value)?),
             _ => Self::Unknown(UnknownOption::new(code, len, value)),
+        })
+    }
+}
+
+impl<'a> InterfaceStatisticsOption<'a> {
+    /// The same option, with bytes and texts of its own: borrowed ones are copied, owned ones kept.
+    ///
+    /// `OutOfMemory` where a copy can't be made; the value is then dropped.
+    pub fn into_owned(self, alloc: Global) -> ResultParsing<InterfaceStatisticsOption<'static>>
+        ensures same { IfOk result (λ kept. statistics_entry kept ≡ statistics_entry self.entry) }
+        ensures owned { IfOk result StatisticsOptionIsOwned }
+        ensures memory { IfErr result IsMemory }
+    {
+        Ok(self.keep(alloc)?)
+    }
+}
+
+impl<'a> KeepValue for InterfaceStatisticsOption<'a> {
+    type Owned = InterfaceStatisticsOption<'static>;
+
+    ghost is_same = { λ value kept. statistics_entry kept ≡ statistics_entry value };
+
+    ghost is_owned = { StatisticsOptionIsOwned };
+
+    fn keep(self, alloc: Global) -> Result<InterfaceStatisticsOption<'static>, AllocError> {
+        Ok(match self {
+            InterfaceStatisticsOption::Comment(held) => InterfaceStatisticsOption::Comment(
+                held.keep(alloc)?,
+            ),
+            InterfaceStatisticsOption::IsbStartTime(n) => InterfaceStatisticsOption::IsbStartTime(
+                n,
+            ),
+            InterfaceStatisticsOption::IsbEndTime(n) => InterfaceStatisticsOption::IsbEndTime(n),
+            InterfaceStatisticsOption::IsbIfRecv(n) => InterfaceStatisticsOption::IsbIfRecv(n),
+            InterfaceStatisticsOption::IsbIfDrop(n) => InterfaceStatisticsOption::IsbIfDrop(n),
+            InterfaceStatisticsOption::IsbFilterAccept(n) =>
+                InterfaceStatisticsOption::IsbFilterAccept(n),
+            InterfaceStatisticsOption::IsbOsDrop(n) => InterfaceStatisticsOption::IsbOsDrop(n),
+            InterfaceStatisticsOption::IsbUsrDeliv(n) => InterfaceStatisticsOption::IsbUsrDeliv(n),
+            InterfaceStatisticsOption::CustomBinary(held) =>
+                InterfaceStatisticsOption::CustomBinary(held.keep(alloc)?),
+            InterfaceStatisticsOption::CustomUtf8(held) => InterfaceStatisticsOption::CustomUtf8(
+                held.keep(alloc)?,
+            ),
+            InterfaceStatisticsOption::Unknown(held) => InterfaceStatisticsOption::Unknown(
+                held.keep(alloc)?,
+            ),
+        })
+    }
+}
+
+impl<'a> InterfaceStatisticsBlock<'a> {
+    /// The same statistics, with bytes and texts of its own: borrowed ones are copied, owned ones kept.
+    ///
+    /// `OutOfMemory` where a copy can't be made; the value is then dropped.
+    pub fn into_owned(self, alloc: Global) -> ResultParsing<InterfaceStatisticsBlock<'static>>
+        ensures same { IfOk result (λ kept. statistics_of kept ≡ statistics_of self.entry) }
+        ensures owned { IfOk result StatisticsIsOwned }
+        ensures memory { IfErr result IsMemory }
+    {
+        Ok(self.keep(alloc)?)
+    }
+}
+
+impl<'a> KeepValue for InterfaceStatisticsBlock<'a> {
+    type Owned = InterfaceStatisticsBlock<'static>;
+
+    ghost is_same = { λ value kept. statistics_of kept ≡ statistics_of value };
+
+    ghost is_owned = { StatisticsIsOwned };
+
+    fn keep(self, alloc: Global) -> Result<InterfaceStatisticsBlock<'static>, AllocError> {
+        let InterfaceStatisticsBlock {
+            interface_id,
+            timestamp,
+            options,
+        } = self;
+        Ok(InterfaceStatisticsBlock {
+            interface_id,
+            timestamp,
+            options: keep_all(alloc, options)?,
         })
     }
 }

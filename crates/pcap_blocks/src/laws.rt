@@ -10,6 +10,12 @@ ghost use Rattle.pcap_blocks.specs.InterfaceDescription.{InterfaceSays};
 ghost use Rattle.pcap_blocks.specs.EnhancedPacket.{EnhancedSays};
 ghost use Rattle.pcap_blocks.specs.PacketBody.{PacketBodySays};
 ghost use Rattle.pcap_blocks.specs.InterfaceStatistics.{StatisticsSays};
+ghost use Rattle.pcap_classic.specs.declared.rules.Rule.{Rule};
+ghost use Rattle.pcap_blocks.specs.Names.{NameSays, NamesSay};
+ghost use Rattle.pcap_blocks.specs.Records.{AddressSays, RecordSays};
+ghost use Rattle.pcap_blocks.specs.NameResolution.{RecordsSay, ResolutionSays};
+ghost use Rattle.pcap_blocks.specs.declared.block.BlockType.{BlockType};
+ghost use Rattle.pcap_blocks.specs.ParsedBlock.{BodySays};
 ghost use Rattle.pcap_blocks.specs.WholeBodies.{SimpleSays, JournalSays};
 
 /// Of all bytes of a value exactly one thing is said, whatever its shape: the option that it is, or one fault. This
@@ -61,6 +67,41 @@ pub fn simple_is_one()
 /// The same where a journal entry is.
 pub fn journal_is_one()
     ensures { (s : List ℕ) → ExactlyOne (JournalSays s) }
+{}
+
+/// The same where a name is.
+pub fn name_is_one()
+    ensures { (s : List ℕ) → ExactlyOne (NameSays s) }
+{}
+
+/// The same where names to the end are.
+pub fn names_are_one()
+    ensures { (s : List ℕ) → ExactlyOne (NamesSay s) }
+{}
+
+/// The same where an address of any width and its names are.
+pub fn address_is_one()
+    ensures { (width : ℕ) (too_short : Rule) (s : List ℕ) → ExactlyOne (AddressSays width too_short s) }
+{}
+
+/// The same where a record is.
+pub fn record_is_one()
+    ensures { (order : Order) (s : List ℕ) → ExactlyOne (RecordSays order s) }
+{}
+
+/// The same where records up to their end are.
+pub fn records_are_one()
+    ensures { (order : Order) (s : List ℕ) → ExactlyOne (RecordsSay order s) }
+{}
+
+/// The same where the body of a name resolution block is.
+pub fn resolution_is_one()
+    ensures { (order : Order) (s : List ℕ) → ExactlyOne (ResolutionSays order s) }
+{}
+
+/// The same where the body of a block of any type is.
+pub fn body_is_one()
+    ensures { (order : Order) (type : BlockType) (s : List ℕ) → ExactlyOne (BodySays order type s) }
 {}
 
 /// Where bytes are a list of options that wants its mark, they are that list, and no other, where a list may end

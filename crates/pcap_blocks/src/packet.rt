@@ -1,22 +1,24 @@
 //! Packet blocks, which enhanced packets have replaced.
 
-ghost use Rattle.std.specs.Prelude.{⊤, map, All, IfOk};
+ghost use Rattle.std.specs.Prelude.{⊤, map, All, IfOk, ◌≡◌, IfErr};
 ghost use Rattle.pcap_classic.specs.Answer.{TellsWhere};
 ghost use Rattle.pcap_blocks.specs.Refusals.{FindsWhere};
 ghost use Rattle.pcap_blocks.specs.Options.{may_end_with_body, ListSays};
-ghost use Rattle.pcap_blocks.specs.PacketBody.{packet_kind, PacketBodySays, packet_entry, PacketOptionIsBorrowed, packet_of, PacketIsBorrowed};
+ghost use Rattle.pcap_blocks.specs.PacketBody.{packet_kind, PacketBodySays, packet_entry, PacketOptionIsBorrowed, packet_of, PacketIsBorrowed, PacketOptionIsOwned, PacketIsOwned};
+ghost use Rattle.pcap_blocks.specs.Owned.{IsMemory};
 
 use crate::common::{
     CustomBinaryOption, CustomUtf8Option, PcapNgOption, UnknownOption, options_from_slice,
 };
 use crate::fields::split_u16;
+use crate::owned::{KeepValue, keep_all};
 use crate::refusal::Refusal;
 use crate::stored::stored_from_slice;
 use crate::values::{text_value, u32_value};
 use byteorder::ByteOrder;
 use pcap_classic::rules::Rule;
 use pcap_classic::{CowBytes, ResultParsing};
-use std::alloc::Global;
+use std::alloc::{AllocError, Global};
 use std::borrow::CowStr;
 
 /// The body of a packet block: a packet of an interface, in an obsolete form.
@@ -128,6 +130,80 @@ impl<'a> PcapNgOption<'a> for PacketOption<'a> {
             2988 | 19372 => Self::CustomUtf8(CustomUtf8Option::read::<B>(code, value)?),
             2989 | 19373 => Self::CustomBinary(CustomBinaryOption::read::<B>(code, value)?),
             _ => Self::Unknown(UnknownOption::new(code, len, value)),
+        })
+    }
+}
+
+impl<'a> PacketOption<'a> {
+    /// The same option, with bytes and texts of its own: borrowed ones are copied, owned ones kept.
+    ///
+    /// `OutOfMemory` where a copy can't be made; the value is then dropped.
+    pub fn into_owned(self, alloc: Global) -> ResultParsing<PacketOption<'static>>
+        ensures same { IfOk result (λ kept. packet_entry kept ≡ packet_entry self.entry) }
+        ensures owned { IfOk result PacketOptionIsOwned }
+        ensures memory { IfErr result IsMemory }
+    {
+        Ok(self.keep(alloc)?)
+    }
+}
+
+impl<'a> KeepValue for PacketOption<'a> {
+    type Owned = PacketOption<'static>;
+
+    ghost is_same = { λ value kept. packet_entry kept ≡ packet_entry value };
+
+    ghost is_owned = { PacketOptionIsOwned };
+
+    fn keep(self, alloc: Global) -> Result<PacketOption<'static>, AllocError> {
+        Ok(match self {
+            PacketOption::Comment(held) => PacketOption::Comment(held.keep(alloc)?),
+            PacketOption::Flags(n) => PacketOption::Flags(n),
+            PacketOption::Hash(held) => PacketOption::Hash(held.keep(alloc)?),
+            PacketOption::CustomBinary(held) => PacketOption::CustomBinary(held.keep(alloc)?),
+            PacketOption::CustomUtf8(held) => PacketOption::CustomUtf8(held.keep(alloc)?),
+            PacketOption::Unknown(held) => PacketOption::Unknown(held.keep(alloc)?),
+        })
+    }
+}
+
+impl<'a> PacketBlock<'a> {
+    /// The same packet, with bytes and texts of its own: borrowed ones are copied, owned ones kept.
+    ///
+    /// `OutOfMemory` where a copy can't be made; the value is then dropped.
+    pub fn into_owned(self, alloc: Global) -> ResultParsing<PacketBlock<'static>>
+        ensures same { IfOk result (λ kept. packet_of kept ≡ packet_of self.entry) }
+        ensures owned { IfOk result PacketIsOwned }
+        ensures memory { IfErr result IsMemory }
+    {
+        Ok(self.keep(alloc)?)
+    }
+}
+
+impl<'a> KeepValue for PacketBlock<'a> {
+    type Owned = PacketBlock<'static>;
+
+    ghost is_same = { λ value kept. packet_of kept ≡ packet_of value };
+
+    ghost is_owned = { PacketIsOwned };
+
+    fn keep(self, alloc: Global) -> Result<PacketBlock<'static>, AllocError> {
+        let PacketBlock {
+            interface_id,
+            drop_count,
+            timestamp,
+            captured_len,
+            original_len,
+            data_,
+            options,
+        } = self;
+        Ok(PacketBlock {
+            interface_id,
+            drop_count,
+            timestamp,
+            captured_len,
+            original_len,
+            data_: data_.keep(alloc)?,
+            options: keep_all(alloc, options)?,
         })
     }
 }

@@ -1,20 +1,22 @@
 //! Section headers.
 
-ghost use Rattle.std.specs.Prelude.{⊤, ◌≡◌, ◌≤◌, ◌↔◌, length, IfOk, IsTrue, IsSome, Some};
+ghost use Rattle.std.specs.Prelude.{⊤, ◌≡◌, ◌≤◌, ◌↔◌, length, IfOk, IsTrue, IsSome, Some, IfErr};
 ghost use Rattle.pcap_classic.specs.Answer.{TellsWhere};
 ghost use Rattle.pcap_blocks.specs.Refusals.{FindsWhere};
-ghost use Rattle.pcap_blocks.specs.SectionHeader.{section_header, magic_order, SectionSays, AfterMagicSays, section_entry, SectionOptionIsBorrowed, section_of, SectionIsBorrowed};
+ghost use Rattle.pcap_blocks.specs.SectionHeader.{section_header, magic_order, SectionSays, AfterMagicSays, section_entry, SectionOptionIsBorrowed, section_of, SectionIsBorrowed, SectionOptionIsOwned, SectionIsOwned};
+ghost use Rattle.pcap_blocks.specs.Owned.{IsMemory};
 
 use crate::common::{
     CustomBinaryOption, CustomUtf8Option, PcapNgOption, UnknownOption, options_from_slice,
 };
 use crate::fields::{split_u16, split_u32, split_u64};
+use crate::owned::{KeepValue, keep_all};
 use crate::refusal::Refusal;
 use crate::values::text_value;
 use byteorder::{BigEndian, ByteOrder, LittleEndian};
 use pcap_classic::rules::Rule;
 use pcap_classic::{Endianness, ResultParsing};
-use std::alloc::Global;
+use std::alloc::{AllocError, Global};
 use std::borrow::CowStr;
 
 /// The body of a section header: what holds for all blocks up to the next one.
@@ -141,6 +143,83 @@ impl<'a> PcapNgOption<'a> for SectionHeaderOption<'a> {
             2988 | 19372 => Self::CustomUtf8(CustomUtf8Option::read::<B>(code, value)?),
             2989 | 19373 => Self::CustomBinary(CustomBinaryOption::read::<B>(code, value)?),
             _ => Self::Unknown(UnknownOption::new(code, len, value)),
+        })
+    }
+}
+
+impl<'a> SectionHeaderOption<'a> {
+    /// The same option, with bytes and texts of its own: borrowed ones are copied, owned ones kept.
+    ///
+    /// `OutOfMemory` where a copy can't be made; the value is then dropped.
+    pub fn into_owned(self, alloc: Global) -> ResultParsing<SectionHeaderOption<'static>>
+        ensures same { IfOk result (λ kept. section_entry kept ≡ section_entry self.entry) }
+        ensures owned { IfOk result SectionOptionIsOwned }
+        ensures memory { IfErr result IsMemory }
+    {
+        Ok(self.keep(alloc)?)
+    }
+}
+
+impl<'a> KeepValue for SectionHeaderOption<'a> {
+    type Owned = SectionHeaderOption<'static>;
+
+    ghost is_same = { λ value kept. section_entry kept ≡ section_entry value };
+
+    ghost is_owned = { SectionOptionIsOwned };
+
+    fn keep(self, alloc: Global) -> Result<SectionHeaderOption<'static>, AllocError> {
+        Ok(match self {
+            SectionHeaderOption::Comment(held) => SectionHeaderOption::Comment(held.keep(alloc)?),
+            SectionHeaderOption::Hardware(held) => SectionHeaderOption::Hardware(held.keep(alloc)?),
+            SectionHeaderOption::OS(held) => SectionHeaderOption::OS(held.keep(alloc)?),
+            SectionHeaderOption::UserApplication(held) => SectionHeaderOption::UserApplication(
+                held.keep(alloc)?,
+            ),
+            SectionHeaderOption::CustomBinary(held) => SectionHeaderOption::CustomBinary(held.keep(
+                alloc,
+            )?),
+            SectionHeaderOption::CustomUtf8(held) => SectionHeaderOption::CustomUtf8(held.keep(
+                alloc,
+            )?),
+            SectionHeaderOption::Unknown(held) => SectionHeaderOption::Unknown(held.keep(alloc)?),
+        })
+    }
+}
+
+impl<'a> SectionHeaderBlock<'a> {
+    /// The same section, with bytes and texts of its own: borrowed ones are copied, owned ones kept.
+    ///
+    /// `OutOfMemory` where a copy can't be made; the value is then dropped.
+    pub fn into_owned(self, alloc: Global) -> ResultParsing<SectionHeaderBlock<'static>>
+        ensures same { IfOk result (λ kept. section_of kept ≡ section_of self.entry) }
+        ensures owned { IfOk result SectionIsOwned }
+        ensures memory { IfErr result IsMemory }
+    {
+        Ok(self.keep(alloc)?)
+    }
+}
+
+impl<'a> KeepValue for SectionHeaderBlock<'a> {
+    type Owned = SectionHeaderBlock<'static>;
+
+    ghost is_same = { λ value kept. section_of kept ≡ section_of value };
+
+    ghost is_owned = { SectionIsOwned };
+
+    fn keep(self, alloc: Global) -> Result<SectionHeaderBlock<'static>, AllocError> {
+        let SectionHeaderBlock {
+            magic,
+            major_version,
+            minor_version,
+            section_length,
+            options,
+        } = self;
+        Ok(SectionHeaderBlock {
+            magic,
+            major_version,
+            minor_version,
+            section_length,
+            options: keep_all(alloc, options)?,
         })
     }
 }

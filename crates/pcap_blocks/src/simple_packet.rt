@@ -1,15 +1,18 @@
 //! Simple packets.
 
-ghost use Rattle.std.specs.Prelude.{IfOk};
+ghost use Rattle.std.specs.Prelude.{IfOk, ◌≡◌, IfErr};
 ghost use Rattle.pcap_classic.specs.Answer.{Tells};
 ghost use Rattle.pcap_blocks.specs.Refusals.{Finds};
-ghost use Rattle.pcap_blocks.specs.WholeBodies.{SimpleSays, simple_of, SimpleIsBorrowed};
+ghost use Rattle.pcap_blocks.specs.WholeBodies.{SimpleSays, simple_of, SimpleIsBorrowed, SimpleIsOwned};
+ghost use Rattle.pcap_blocks.specs.Owned.{IsMemory};
 
 use crate::fields::split_u32;
+use crate::owned::KeepValue;
 use crate::refusal::Refusal;
 use byteorder::ByteOrder;
 use pcap_classic::rules::Rule;
 use pcap_classic::{CowBytes, ResultParsing};
+use std::alloc::{AllocError, Global};
 
 /// The body of a simple packet: a packet of the section's first interface, with no time.
 #[derive(Clone, Debug, Drop)]
@@ -44,5 +47,37 @@ impl<'a> SimplePacketBlock<'a> {
             data_: CowBytes::Borrowed(bytes),
         };
         Ok((&slice[slice.len()..], block))
+    }
+}
+
+impl<'a> SimplePacketBlock<'a> {
+    /// The same packet, with bytes and texts of its own: borrowed ones are copied, owned ones kept.
+    ///
+    /// `OutOfMemory` where a copy can't be made; the value is then dropped.
+    pub fn into_owned(self, alloc: Global) -> ResultParsing<SimplePacketBlock<'static>>
+        ensures same { IfOk result (λ kept. simple_of kept ≡ simple_of self.entry) }
+        ensures owned { IfOk result SimpleIsOwned }
+        ensures memory { IfErr result IsMemory }
+    {
+        Ok(self.keep(alloc)?)
+    }
+}
+
+impl<'a> KeepValue for SimplePacketBlock<'a> {
+    type Owned = SimplePacketBlock<'static>;
+
+    ghost is_same = { λ value kept. simple_of kept ≡ simple_of value };
+
+    ghost is_owned = { SimpleIsOwned };
+
+    fn keep(self, alloc: Global) -> Result<SimplePacketBlock<'static>, AllocError> {
+        let SimplePacketBlock {
+            original_len,
+            data_,
+        } = self;
+        Ok(SimplePacketBlock {
+            original_len,
+            data_: data_.keep(alloc)?,
+        })
     }
 }

@@ -1,11 +1,14 @@
 //! Entries of the systemd journal.
 
-ghost use Rattle.std.specs.Prelude.{IfOk};
-ghost use Rattle.pcap_classic.specs.Answer.{Tells};
-ghost use Rattle.pcap_blocks.specs.WholeBodies.{JournalSays, journal_of, JournalIsBorrowed};
+ghost use Rattle.std.specs.Prelude.{IfOk, ◌≡◌, IfErr};
+ghost use Rattle.pcap_classic.specs.Answer.{Tells, whole};
+ghost use Rattle.pcap_blocks.specs.WholeBodies.{JournalSays, journal_of, JournalIsBorrowed, JournalIsOwned};
+ghost use Rattle.pcap_blocks.specs.Owned.{IsMemory};
 
+use crate::owned::KeepValue;
 use byteorder::ByteOrder;
 use pcap_classic::{CowBytes, ResultParsing};
+use std::alloc::{AllocError, Global};
 
 /// The body of a systemd journal export.
 #[derive(Clone, Debug, Drop)]
@@ -20,9 +23,44 @@ impl<'a> SystemdJournalExportBlock<'a> {
         ensures tells { Tells (JournalSays slice.now) journal_of result }
         ensures borrowed { IfOk result (λ x. JournalIsBorrowed x.1) }
     {
+        Ok(SystemdJournalExportBlock::read(slice))
+    }
+
+    pub(crate) fn read(slice: &'a [u8]) -> (&'a [u8], Self)
+        ensures tells { JournalSays slice.now (whole (journal_of result.1) result.0.now) }
+        ensures borrowed { JournalIsBorrowed result.1 }
+    {
         let block = SystemdJournalExportBlock {
             journal_entry: CowBytes::Borrowed(slice),
         };
-        Ok((&slice[slice.len()..], block))
+        (&slice[slice.len()..], block)
+    }
+}
+
+impl<'a> SystemdJournalExportBlock<'a> {
+    /// The same entry, with bytes and texts of its own: borrowed ones are copied, owned ones kept.
+    ///
+    /// `OutOfMemory` where a copy can't be made; the value is then dropped.
+    pub fn into_owned(self, alloc: Global) -> ResultParsing<SystemdJournalExportBlock<'static>>
+        ensures same { IfOk result (λ kept. journal_of kept ≡ journal_of self.entry) }
+        ensures owned { IfOk result JournalIsOwned }
+        ensures memory { IfErr result IsMemory }
+    {
+        Ok(self.keep(alloc)?)
+    }
+}
+
+impl<'a> KeepValue for SystemdJournalExportBlock<'a> {
+    type Owned = SystemdJournalExportBlock<'static>;
+
+    ghost is_same = { λ value kept. journal_of kept ≡ journal_of value };
+
+    ghost is_owned = { JournalIsOwned };
+
+    fn keep(self, alloc: Global) -> Result<SystemdJournalExportBlock<'static>, AllocError> {
+        let SystemdJournalExportBlock { journal_entry } = self;
+        Ok(SystemdJournalExportBlock {
+            journal_entry: journal_entry.keep(alloc)?,
+        })
     }
 }

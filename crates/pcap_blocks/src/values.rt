@@ -1,6 +1,6 @@
 //! The values of options, by their shapes.
 
-ghost use Rattle.std.specs.Prelude.{IfOk};
+ghost use Rattle.std.specs.Prelude.{◌≡◌, IfOk};
 ghost use Rattle.std.specs.Cow.{cow_str_bytes, IsBorrowedStr};
 ghost use Rattle.pcap_classic.specs.Bytes.{cow_bytes, IsBorrowed};
 ghost use Rattle.pcap_blocks.specs.Refusals.{FindsAll};
@@ -12,6 +12,18 @@ use pcap_classic::CowBytes;
 use pcap_classic::rules::Rule;
 use std::borrow::CowStr;
 use std::str;
+
+// The text that all bytes of a name are.
+#[tactic(auto, using(crate::proofs::Texts::text_is, crate::proofs::Texts::no_text))]
+pub(crate) fn str_value(name: &[u8]) -> Result<&str, Refusal>
+    ensures tells { FindsAll (AllSay (text_at name.now)) (λ text. text.now) result }
+    ensures same { IfOk result (λ text. text.now ≡ name.now) }
+{
+    match str::from_utf8(name) {
+        Ok(text) => Ok(text),
+        Err(e) => Err(Refusal::Utf8(e)),
+    }
+}
 
 // A text.
 #[tactic(auto, using(crate::proofs::Texts::text_is, crate::proofs::Texts::no_text))]

@@ -4,11 +4,17 @@
 #[cfg(test)]
 mod interface_description;
 #[cfg(test)]
+mod name_resolution;
+#[cfg(test)]
 mod options;
 #[cfg(test)]
 mod other_blocks;
 #[cfg(test)]
+mod owned;
+#[cfg(test)]
 mod packets;
+#[cfg(test)]
+mod parsed_block;
 #[cfg(test)]
 mod rows;
 #[cfg(test)]

@@ -1,0 +1,51 @@
+-- What the calls that read records give together.
+use Rattle.std.proofs.Common.{◌≡◌, ◌≢◌, ℕ, ◌<◌, List, [], ◌++◌, length, refl, sym, subst, ◌∙◌, append_assoc}
+use Rattle.pcap_classic.specs.Answer.{Order, whole, faulty}
+use Rattle.pcap_classic.specs.Faults.{Fault, Invalid}
+use Rattle.pcap_classic.specs.declared.rules.Rule.TheVariants.{RecordUnpadded}
+use Rattle.pcap_classic.proofs.Texts.{split_same}
+use Rattle.pcap_blocks.specs.declared.record.Record.{Record}
+use Rattle.pcap_blocks.specs.declared.record.Record.TheVariants as record_of
+use Rattle.pcap_blocks.specs.Padded.{Padded, up_to_4}
+use Rattle.pcap_blocks.specs.Options.{HeadText, may_end_with_body, ListFault}
+use Rattle.pcap_blocks.specs.Records.{NameRecord, End, form_of, RecordValueSays, RecordText, RecordFault, wrong, unpadded, name_record_of}
+use Rattle.pcap_blocks.specs.NameResolution.{name_resolution, KeptText, RecordsText, ResolutionFault, in_options}
+use Rattle.pcap_blocks.proofs.Options.{head_with}
+
+pub record_wrong : (order : Order) (type len : ℕ) (s after v more : List ℕ) → HeadText order type len s after → length v ≡ len → after ≡ v ++ more → (f : Fault) → RecordValueSays (form_of type) v (faulty f) → RecordFault order s f
+record_wrong order type len s after v more h is parts f fault = wrong f type v after more (head_with order type len v s after h is) parts fault
+
+pub record_unpadded : (order : Order) (r : NameRecord) (type len : ℕ) (s after v more : List ℕ) → HeadText order type len s after → length v ≡ len → after ≡ v ++ more → RecordValueSays (form_of type) v (whole r [])
+    → length after < up_to_4 len → RecordFault order s (Invalid RecordUnpadded)
+record_unpadded order r type len s after v more h is parts value lt =
+    unpadded r type v after more (head_with order type len v s after h is) parts value (subst (λ (k : ℕ). length after < up_to_4 k) (sym is) lt)
+
+-- what is padded is the value in front
+pub same_padded : (v w s more rest : List ℕ) → s ≡ v ++ more → length v ≡ length w → Padded w s rest → Padded v s rest
+same_padded v w s more rest parts len p =
+    let here : s ≡ w ++ (p.padding ++ rest) = p.text ∙ append_assoc w p.padding rest in
+    let same = split_same v more w (p.padding ++ rest) len (sym parts ∙ here) in
+    subst (λ (x : List ℕ). Padded x s rest) (sym same.0) p
+
+pub record_found : (order : Order) (r : NameRecord) (type len : ℕ) (s after v more w rest : List ℕ) → HeadText order type len s after → length v ≡ len → after ≡ v ++ more → RecordValueSays (form_of type) v (whole r [])
+    → length w ≡ len → Padded w after rest → RecordText order r s rest
+record_found order r type len s after v more w rest h is parts value is' p = record {
+  type = type;
+  v = v;
+  after = after;
+  head = head_with order type len v s after h is;
+  value_is = value;
+  padded = same_padded v w after more rest parts (is ∙ sym is') p;
+}
+
+no_end_of : (r : Record) → (r ≡ record_of.End → ⊥) → name_record_of r ≢ End
+no_end_of record_of.End apart e = apart refl
+no_end_of (record_of.Ipv4 r) apart e = absurd cc
+no_end_of (record_of.Ipv6 r) apart e = absurd cc
+no_end_of (record_of.Unknown r) apart e = absurd cc
+
+pub kept_of : (order : Order) (r : Record) (s rest : List ℕ) → RecordText order (name_record_of r) s rest → (r ≡ record_of.End → ⊥) → KeptText order (name_record_of r) s rest
+kept_of order r s rest is apart = record { record_is = is; no_end = no_end_of r apart }
+
+pub resolution_options : (order : Order) (s : List ℕ) (records : List NameRecord) (after : List ℕ) → RecordsText order records s after → (f : Fault) → ListFault may_end_with_body order name_resolution after f → ResolutionFault order s f
+resolution_options order s records after are f fault = in_options records after are fault

@@ -1,0 +1,191 @@
+-- Of all bytes exactly one thing is said as names.
+use Rattle.std.proofs.Common.{◌≡◌, ◌≢◌, ℕ, zero, suc, Bool, true, false, List, [], ◌∷◌, ◌++◌, length, Ok, Err, refl, sym, ap, subst, ◌∙◌, arith, inl, inr}
+use Rattle.std.specs.Prelude.{◌⊎◌}
+use Rattle.std.specs.Str.{is_utf8}
+use Rattle.std.proofs.lemmas.List.Elements.{All-cons, All-nil}
+use Rattle.pcap_classic.specs.Answer.{Verdict, whole, lacks, faulty}
+use Rattle.pcap_classic.specs.Faults.{Fault, Invalid, NoText}
+use Rattle.pcap_classic.specs.Laws.{ExactlyOne}
+use Rattle.pcap_classic.specs.declared.rules.Rule.TheVariants.{NameUnended}
+use Rattle.pcap_blocks.specs.Padded.{Chain}
+use Rattle.pcap_blocks.specs.Values.{text_at}
+use Rattle.pcap_blocks.specs.Names.{HasNoZero, NameText, NameFault, unended, no_text, NameSays, NamesSay}
+use Rattle.pcap_blocks.proofs.Naming.{name_shorter}
+use Rattle.pcap_blocks.proofs.Verdicts.{one_moved, Then, one_then, Stopped, IsMany, one_stopped, same_whole, whole_no_fault}
+
+no_zero_head : (b : ℕ) (s : List ℕ) → HasNoZero (b ∷ s) → b ≢ 0
+no_zero_head b s all = all 0 0 (omega arith)
+
+no_zero_tail : (b : ℕ) (s : List ℕ) → HasNoZero (b ∷ s) → HasNoZero s
+no_zero_tail b s all k d lt = all (suc k) d (omega arith)
+
+-- the bytes before the first zero byte
+record HasZero (s : List ℕ) : Type 0 where
+  before : List ℕ
+  after : List ℕ
+  parts : s ≡ before ++ 0 ∷ after
+  no_zero : HasNoZero before
+
+zero_or_not : (s : List ℕ) → HasZero s ⊎ HasNoZero s
+zero_or_not [] = inr (All-nil (λ b. b ≢ 0))
+zero_or_not (zero ∷ s) = inl (record { before = []; after = s; parts = refl; no_zero = All-nil (λ b. b ≢ 0) })
+zero_or_not (suc b ∷ s) =
+    elim (zero_or_not s) [
+      | inl z ↦ inl (record { before = suc b ∷ z.before; after = z.after; parts = ap (λ (x : List ℕ). suc b ∷ x) z.parts; no_zero = All-cons (λ b. b ≢ 0) (suc b) z.before (λ e. omega (arith, e)) z.no_zero })
+      | inr none ↦ inr (All-cons (λ b. b ≢ 0) (suc b) s (λ e. omega (arith, e)) none)
+    ]
+
+-- a zero byte ends one name alone
+one_front : (a b x y : List ℕ) → HasNoZero a → HasNoZero b → a ++ 0 ∷ x ≡ b ++ 0 ∷ y → (a ≡ b) × (x ≡ y)
+one_front [] [] x y p q e = (refl, cc)
+one_front [] (d ∷ b) x y p q e = absurd (no_zero_head d b q cc)
+one_front (c ∷ a) [] x y p q e = absurd (no_zero_head c a p cc)
+one_front (c ∷ a) (d ∷ b) x y p q e =
+    let tails : a ++ 0 ∷ x ≡ b ++ 0 ∷ y = cc in
+    let both = one_front a b x y (no_zero_tail c a p) (no_zero_tail d b q) tails in
+    let heads : c ≡ d = cc in
+    (rw (heads, both.0) refl, both.1)
+
+zero_inside : (a x : List ℕ) → HasNoZero (a ++ 0 ∷ x) → ⊥
+zero_inside [] x all = no_zero_head 0 x all refl
+zero_inside (b ∷ a) x all = zero_inside a x (no_zero_tail b (a ++ 0 ∷ x) all)
+
+-- the bytes of a name, and then whether they are a text
+ZeroSays : List ℕ → Verdict (List ℕ) → Type 0
+ZeroSays s (whole name rest) = (s ≡ name ++ 0 ∷ rest) × HasNoZero name
+ZeroSays s (lacks n) = ⊥
+ZeroSays s (faulty f) = (f ≡ Invalid NameUnended) × HasNoZero s
+
+TextSays : List ℕ → List ℕ → Verdict (List ℕ) → Type 0
+TextSays name rest (whole n r) = (text_at name ≡ Ok n) × (n ≡ name) × (r ≡ rest)
+TextSays name rest (lacks n) = ⊥
+TextSays name rest (faulty f) = text_at name ≡ Err f
+
+zero_only : (s : List ℕ) (v w : Verdict (List ℕ)) → ZeroSays s v → ZeroSays s w → w ≡ v
+unfolding ZeroSays
+zero_only s (whole n r) (whole m q) h k = let e = one_front m n q r k.1 h.1 (sym k.0 ∙ h.0) in rw (e.0, e.1) refl
+zero_only s (whole n r) (lacks m) h k = absurd k
+zero_only s (whole n r) (faulty g) h k = absurd (zero_inside n r (subst HasNoZero h.0 k.1))
+zero_only s (lacks m) w h k = absurd h
+zero_only s (faulty f) (lacks m) h k = absurd k
+zero_only s (faulty f) (whole m q) h k = absurd (zero_inside m q (subst HasNoZero k.0 h.1))
+zero_only s (faulty f) (faulty g) h k = rw (h.0, k.0) refl
+
+zero_one : (s : List ℕ) → ExactlyOne (ZeroSays s)
+unfolding ZeroSays
+zero_one s =
+    elim (zero_or_not s) [
+      | inl z ↦ record { value = whole z.before z.after; holds = (z.parts, z.no_zero); only = λ w k. zero_only s (whole z.before z.after) w (z.parts, z.no_zero) k }
+      | inr none ↦ record { value = faulty (Invalid NameUnended); holds = (refl, none); only = λ w k. zero_only s (faulty (Invalid NameUnended)) w (refl, none) k }
+    ]
+
+text_cases : (name : List ℕ) (b : Bool) → is_utf8 name ≡ b → (text_at name ≡ Ok name) ⊎ (text_at name ≡ Err NoText)
+text_cases name true e = inl (rw e refl)
+text_cases name false e = inr (rw e refl)
+
+text_only : (name rest : List ℕ) (v w : Verdict (List ℕ)) → TextSays name rest v → TextSays name rest w → w ≡ v
+unfolding TextSays
+text_only name rest (whole n r) (whole m q) h k = rw (h.1, h.2, k.1, k.2) refl
+text_only name rest (whole n r) (lacks m) h k = absurd k
+text_only name rest (whole n r) (faulty g) h k = let e = sym h.0 ∙ k in absurd cc
+text_only name rest (lacks m) w h k = absurd h
+text_only name rest (faulty f) (lacks m) h k = absurd k
+text_only name rest (faulty f) (whole m q) h k = let e = sym h ∙ k.0 in absurd cc
+text_only name rest (faulty f) (faulty g) h k = let e = sym h ∙ k in let same : f ≡ g = cc in rw same refl
+
+text_one : (name rest : List ℕ) → ExactlyOne (TextSays name rest)
+unfolding TextSays
+text_one name rest =
+    elim (text_cases name (is_utf8 name) refl) [
+      | inl ok ↦ record { value = whole name rest; holds = (ok, refl, refl); only = λ w k. text_only name rest (whole name rest) w (ok, refl, refl) k }
+      | inr err ↦ record { value = faulty NoText; holds = err; only = λ w k. text_only name rest (faulty NoText) w err k }
+    ]
+
+NameThen : List ℕ → Verdict (List ℕ) → Type 0
+NameThen s = Then (ZeroSays s) TextSays
+
+name_to : (s : List ℕ) (w : Verdict (List ℕ)) → NameSays s w → NameThen s w
+unfolding NameThen ZeroSays TextSays
+name_to s (whole n r) h = (n, r, (h.parts, h.no_zero), (h.text, refl, refl))
+name_to s (lacks m) h = absurd h
+name_to s (faulty f) (unended none) = inl (refl, none)
+name_to s (faulty f) (no_text _ name rest parts no_zero e) = inr (name, rest, (parts, no_zero), e)
+
+name_from : (s : List ℕ) (w : Verdict (List ℕ)) → NameThen s w → NameSays s w
+unfolding NameThen ZeroSays TextSays
+name_from s (whole n r) t = record {
+  parts = rw (t.3.1, t.3.2) t.2.0;
+  no_zero = rw t.3.1 t.2.1;
+  text = subst (λ (x : List ℕ). text_at x ≡ Ok n) (sym t.3.1) t.3.0;
+}
+name_from s (lacks m) (inl t) = t
+name_from s (lacks m) (inr t) = t.3
+name_from s (faulty f) (inl t) = rw t.0 (unended t.1)
+name_from s (faulty f) (inr t) = no_text f t.0 t.1 t.2.0 t.2.1 t.3
+
+pub name_one : (s : List ℕ) → ExactlyOne (NameSays s)
+unfolding NameThen
+name_one s = one_moved (NameSays s) (NameThen s) (name_to s) (name_from s) (one_then (ZeroSays s) TextSays (zero_one s) (λ name rest h. text_one name rest))
+
+-- what stops names
+NamesStop : List (List ℕ) → List ℕ → Verdict (List (List ℕ)) → Type 0
+NamesStop good s (whole names rest) = (names ≡ good) × (s ≡ []) × (rest ≡ [])
+NamesStop good s (lacks m) = ⊥
+NamesStop good s (faulty f) = (s ≢ []) × NameFault s f
+
+name_same : (n m s a b : List ℕ) → NameText n s a → NameText m s b → (n ≡ m) × (a ≡ b)
+name_same n m s a b h k = same_whole n m a b ((name_one s).only (whole n a) h ∙ sym ((name_one s).only (whole m b) k))
+
+name_some : (n s a : List ℕ) → NameText n s a → s ≢ []
+name_some n s a h e = omega (arith, name_shorter n s a h, ap length e)
+
+fault_same : (s : List ℕ) (f g : Fault) → NameFault s f → NameFault s g → ◌≡◌ {A = Verdict (List (List ℕ))} (faulty g) (faulty f)
+fault_same s f g h k = let e = (name_one s).only (faulty g) k ∙ sym ((name_one s).only (faulty f) h) in let same : g ≡ f = cc in rw same refl
+
+stop_same : (good : List (List ℕ)) (s : List ℕ) (v w : Verdict (List (List ℕ))) → NamesStop good s v → NamesStop good s w → w ≡ v
+unfolding NamesStop
+stop_same good s (whole n r) (whole m q) h k = rw (h.0, h.2, k.0, k.2) refl
+stop_same good s (whole n r) (lacks m) h k = absurd k
+stop_same good s (whole n r) (faulty g) h k = absurd (k.0 h.1)
+stop_same good s (lacks m) w h k = absurd h
+stop_same good s (faulty f) (lacks m) h k = absurd k
+stop_same good s (faulty f) (whole m q) h k = absurd (h.0 k.1)
+stop_same good s (faulty f) (faulty g) h k = fault_same s f g h.1 k.1
+
+stop_no_item : (good : List (List ℕ)) (s : List ℕ) (w : Verdict (List (List ℕ))) (n a : List ℕ) → NamesStop good s w → NameText n s a → ⊥
+unfolding NamesStop
+stop_no_item good s (whole m q) n a h k = name_some n s a k h.1
+stop_no_item good s (lacks m) n a h k = h
+stop_no_item good s (faulty f) n a h k = whole_no_fault n a f ((name_one s).only (whole n a) k ∙ sym ((name_one s).only (faulty f) h.1))
+
+item_or_fault : (s : List ℕ) (v : Verdict (List ℕ)) → NameSays s v → ((f : Fault) × NameFault s f) ⊎ ((n : List ℕ) × (a : List ℕ) × NameText n s a)
+item_or_fault s (whole n a) h = inr (n, a, h)
+item_or_fault s (lacks m) h = absurd h
+item_or_fault s (faulty f) h = inl (f, h)
+
+stop_or_name : (good : List (List ℕ)) (s : List ℕ) → ((w : Verdict (List (List ℕ))) × NamesStop good s w) ⊎ ((n : List ℕ) × (a : List ℕ) × NameText n s a)
+unfolding NamesStop
+stop_or_name good [] = inl (whole good [], (refl, refl, refl))
+stop_or_name good (b ∷ s) =
+    elim (item_or_fault (b ∷ s) (name_one (b ∷ s)).value (name_one (b ∷ s)).holds) [
+      | inl bad ↦ inl (faulty bad.0, (λ e. cc, bad.1))
+      | inr item ↦ inr item
+    ]
+
+names_many : IsMany NameText NamesStop
+names_many = record { item_same = name_same; item_shorter = λ n s a h. name_shorter n s a h; stop_same = stop_same; stop_no_item = stop_no_item; one_of_both = stop_or_name }
+
+names_to : (s : List ℕ) (w : Verdict (List (List ℕ))) → NamesSay s w → Stopped NameText NamesStop s w
+unfolding NamesStop
+names_to s (whole names rest) h = (names, [], h.are, (refl, refl, h.nothing_left))
+names_to s (lacks m) h = absurd h
+names_to s (faulty f) h = (h.good, h.bad, h.are_good, (h.some, h.fault_is))
+
+names_from : (s : List ℕ) (w : Verdict (List (List ℕ))) → Stopped NameText NamesStop s w → NamesSay s w
+unfolding NamesStop
+names_from s (whole names rest) t = record { are = rw t.3.0 (subst (λ (x : List ℕ). Chain NameText t.0 s x) t.3.1 t.2); nothing_left = t.3.2 }
+names_from s (lacks m) t = t.3
+names_from s (faulty f) t = record { good = t.0; bad = t.1; are_good = t.2; some = t.3.0; fault_is = t.3.1 }
+
+pub names_one : (s : List ℕ) → ExactlyOne (NamesSay s)
+names_one s = one_moved (NamesSay s) (Stopped NameText NamesStop s) (names_to s) (names_from s) (one_stopped NameText NamesStop names_many s)

@@ -1,0 +1,109 @@
+-- Of all bytes exactly one thing is said as a name resolution body.
+use Rattle.std.proofs.Common.{◌≡◌, ℕ, ◌<◌, List, length, refl, sym, subst, ◌∙◌, arith, inl, inr}
+use Rattle.std.specs.Prelude.{◌⊎◌}
+use Rattle.pcap_classic.specs.Answer.{Order, Verdict, whole, lacks, faulty}
+use Rattle.pcap_classic.specs.Faults.{Fault}
+use Rattle.pcap_classic.specs.Laws.{ExactlyOne}
+use Rattle.pcap_blocks.specs.Padded.{Chain}
+use Rattle.pcap_blocks.specs.Values.{Entry}
+use Rattle.pcap_blocks.specs.Options.{may_end_with_body, ListSays}
+use Rattle.pcap_blocks.specs.Records.{Made, NameRecord, End, Ipv4, Ipv6, Other, RecordText, RecordFault, RecordSays}
+use Rattle.pcap_blocks.specs.NameResolution.{name_resolution, Resolution, KeptText, RecordsSay, ResolutionText, in_records, in_options, ResolutionSays}
+use Rattle.pcap_blocks.proofs.Verdicts.{one_moved, Then, one_then, one_made, Stopped, IsMany, one_stopped, same_whole, whole_no_fault}
+use Rattle.pcap_blocks.proofs.OnePadded.{padded_length}
+use Rattle.pcap_blocks.proofs.OneRecord.{record_one}
+use Rattle.pcap_blocks.proofs.OneList.{list_one, head_length}
+
+record_same : (order : Order) (s : List ℕ) (v w : Verdict NameRecord) → RecordSays order s v → RecordSays order s w → w ≡ v
+record_same order s v w h k = (record_one order s).only w k ∙ sym ((record_one order s).only v h)
+
+-- what stops records: the end, or a fault
+RecordStop : Order → List NameRecord → List ℕ → Verdict (List NameRecord) → Type 0
+RecordStop order good s (whole rs rest) = (rs ≡ good) × RecordText order End s rest
+RecordStop order good s (lacks n) = ⊥
+RecordStop order good s (faulty f) = RecordFault order s f
+
+item_same : (order : Order) (r q : NameRecord) (s a b : List ℕ) → KeptText order r s a → KeptText order q s b → (r ≡ q) × (a ≡ b)
+item_same order r q s a b h k = same_whole r q a b (record_same order s (whole q b) (whole r a) k.record_is h.record_is)
+
+item_shorter : (order : Order) (r : NameRecord) (s a : List ℕ) → KeptText order r s a → length a < length s
+item_shorter order r s a h =
+    let i = h.record_is in
+    omega (arith, head_length order i.type (length i.v) s i.after i.head, padded_length i.v i.after a i.padded)
+
+fault_same : (order : Order) (s : List ℕ) (f g : Fault) → RecordFault order s f → RecordFault order s g → g ≡ f
+fault_same order s f g h k = let both = record_same order s (faulty f) (faulty g) h k in cc
+
+stop_same : (order : Order) (good : List NameRecord) (s : List ℕ) (v w : Verdict (List NameRecord)) → RecordStop order good s v → RecordStop order good s w → w ≡ v
+unfolding RecordStop
+stop_same order good s (whole rs a) (whole qs b) h k = let same = same_whole End End b a (record_same order s (whole End a) (whole End b) h.1 k.1) in rw (h.0, k.0, same.1) refl
+stop_same order good s (whole rs a) (lacks n) h k = absurd k
+stop_same order good s (whole rs a) (faulty g) h k = absurd (whole_no_fault End a g (record_same order s (faulty g) (whole End a) k h.1))
+stop_same order good s (lacks n) w h k = absurd h
+stop_same order good s (faulty f) (lacks n) h k = absurd k
+stop_same order good s (faulty f) (whole qs b) h k = absurd (whole_no_fault End b f (record_same order s (faulty f) (whole End b) h k.1))
+stop_same order good s (faulty f) (faulty g) h k = rw (fault_same order s f g h k) refl
+
+stop_no_item : (order : Order) (good : List NameRecord) (s : List ℕ) (w : Verdict (List NameRecord)) (r : NameRecord) (a : List ℕ) → RecordStop order good s w → KeptText order r s a → ⊥
+unfolding RecordStop
+stop_no_item order good s (whole rs b) r a h k = k.no_end (same_whole r End a b (record_same order s (whole End b) (whole r a) h.1 k.record_is)).0
+stop_no_item order good s (lacks n) r a h k = h
+stop_no_item order good s (faulty f) r a h k = whole_no_fault r a f (record_same order s (faulty f) (whole r a) h k.record_is)
+
+record_stops : (order : Order) (good : List NameRecord) (s : List ℕ) (v : Verdict NameRecord) → RecordSays order s v → ((w : Verdict (List NameRecord)) × RecordStop order good s w) ⊎ ((r : NameRecord) × (a : List ℕ) × KeptText order r s a)
+unfolding RecordStop
+record_stops order good s (whole End a) h = inl (whole good a, (refl, h))
+record_stops order good s (whole (Ipv4 x) a) h = inr (Ipv4 x, a, record { record_is = h; no_end = λ z. cc })
+record_stops order good s (whole (Ipv6 x) a) h = inr (Ipv6 x, a, record { record_is = h; no_end = λ z. cc })
+record_stops order good s (whole (Other t n v) a) h = inr (Other t n v, a, record { record_is = h; no_end = λ z. cc })
+record_stops order good s (lacks n) h = absurd h
+record_stops order good s (faulty f) h = inl (faulty f, h)
+
+records_many : (order : Order) → IsMany (KeptText order) (RecordStop order)
+records_many order = record { item_same = item_same order; item_shorter = item_shorter order; stop_same = stop_same order; stop_no_item = stop_no_item order; one_of_both = λ good s. record_stops order good s (record_one order s).value (record_one order s).holds }
+
+records_to : (order : Order) (s : List ℕ) (w : Verdict (List NameRecord)) → RecordsSay order s w → Stopped (KeptText order) (RecordStop order) s w
+unfolding RecordStop
+records_to order s (whole rs rest) h = (rs, h.end, h.are, (refl, h.ends))
+records_to order s (lacks n) h = absurd h
+records_to order s (faulty f) h = (h.good, h.bad, h.are_good, h.fault_is)
+
+records_from : (order : Order) (s : List ℕ) (w : Verdict (List NameRecord)) → Stopped (KeptText order) (RecordStop order) s w → RecordsSay order s w
+unfolding RecordStop
+records_from order s (whole rs rest) t = record { end = t.1; are = subst (λ (x : List NameRecord). Chain (KeptText order) x s t.1) (sym t.3.0) t.2; ends = t.3.1 }
+records_from order s (lacks n) t = t.3
+records_from order s (faulty f) t = record { good = t.0; bad = t.1; are_good = t.2; fault_is = t.3 }
+
+pub records_one : (order : Order) (s : List ℕ) → ExactlyOne (RecordsSay order s)
+records_one order s = one_moved (RecordsSay order s) (Stopped (KeptText order) (RecordStop order) s) (records_to order s) (records_from order s) (one_stopped (KeptText order) (RecordStop order) (records_many order) s)
+
+-- ---- the body
+
+resolution_at : List NameRecord → List Entry → Resolution
+resolution_at records options = record { records = records; options = options }
+
+BodyThen : Order → List ℕ → Verdict Resolution → Type 0
+BodyThen order s = Then (RecordsSay order s) (λ records after. Made (resolution_at records) (ListSays may_end_with_body order name_resolution after))
+
+body_to : (order : Order) (s : List ℕ) (w : Verdict Resolution) → ResolutionSays order s w → BodyThen order s w
+unfolding BodyThen resolution_at
+body_to order s (whole b rest) h = (b.records, h.after, h.records_are, (b.options, refl, h.options_are))
+body_to order s (lacks n) h = absurd h
+body_to order s (faulty f) (in_records fault) = inl fault
+body_to order s (faulty f) (in_options records after are fault) = inr (records, after, are, fault)
+
+body_from : (order : Order) (s : List ℕ) (w : Verdict Resolution) → BodyThen order s w → ResolutionSays order s w
+unfolding BodyThen resolution_at
+body_from order s (whole b rest) t =
+    let is : ResolutionText order (resolution_at t.0 t.3.0) s rest = record { after = t.1; records_are = t.2; options_are = t.3.2 } in
+    subst (λ (x : Resolution). ResolutionText order x s rest) (sym t.3.1) is
+body_from order s (lacks n) (inl t) = t
+body_from order s (lacks n) (inr t) = t.3
+body_from order s (faulty f) (inl t) = in_records t
+body_from order s (faulty f) (inr t) = in_options t.0 t.1 t.2 t.3
+
+pub resolution_one : (order : Order) (s : List ℕ) → ExactlyOne (ResolutionSays order s)
+unfolding BodyThen
+resolution_one order s =
+    one_moved (ResolutionSays order s) (BodyThen order s) (body_to order s) (body_from order s)
+    (one_then (RecordsSay order s) (λ records after. Made (resolution_at records) (ListSays may_end_with_body order name_resolution after)) (records_one order s) (λ records after h. one_made (resolution_at records) (ListSays may_end_with_body order name_resolution after) (list_one may_end_with_body order name_resolution after)))

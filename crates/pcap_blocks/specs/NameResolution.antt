@@ -1,0 +1,106 @@
+-- The body of a name resolution block ('Name Resolution Block').
+use Rattle.std.specs.Prelude.{◌≢◌, ℕ, List, ◌∷◌, map, All}
+use Rattle.std.specs.Cow.{cow_str_bytes, IsBorrowedStr, IsOwnedStr}
+use Rattle.pcap_classic.specs.Answer.{Order, Verdict, Says}
+use Rattle.pcap_classic.specs.Bytes.{cow_bytes, IsBorrowed}
+use Rattle.pcap_classic.specs.Faults.{Fault}
+use Rattle.pcap_classic.specs.declared.rules.Rule.TheVariants.{NameIpv4Length, NameIpv6Length}
+use Rattle.pcap_blocks.specs.Owned.{IsOwned}
+use Rattle.pcap_blocks.specs.declared.name_resolution.NameResolutionBlock.{NameResolutionBlock}
+use Rattle.pcap_blocks.specs.declared.name_resolution.NameResolutionOption.{NameResolutionOption}
+use Rattle.pcap_blocks.specs.declared.name_resolution.NameResolutionOption.TheVariants as option_of
+use Rattle.pcap_blocks.specs.Padded.{Chain}
+use Rattle.pcap_blocks.specs.Values.{Entry, Text, Bytes, Kind, text, fixed_bytes, custom}
+use Rattle.pcap_blocks.specs.Options.{may_end_with_body, OptionList, ListFault}
+use Rattle.pcap_blocks.specs.CommonOptions.{unknown_entry, custom_bytes_entry, custom_text_entry, UnknownIsBorrowed, UnknownIsOwned, CustomBytesIsBorrowed, CustomBytesIsOwned, CustomTextIsBorrowed, CustomTextIsOwned}
+use Rattle.pcap_blocks.specs.Records.{NameRecord, End, RecordText, RecordFault, name_record_of, RecordIsBorrowed, RecordIsOwned}
+
+-- comment, and the name and addresses of the server that resolved the names
+abbrev pub name_resolution : Kind
+name_resolution = (1, text) ∷ (2, text) ∷ (3, fixed_bytes 4 NameIpv4Length) ∷ (4, fixed_bytes 16 NameIpv6Length) ∷ custom
+
+-- names, wherever their bytes lie
+pub record Resolution : Type 0 where
+  pub records : List NameRecord
+  pub options : List Entry
+
+-- a record that is kept: any but the end
+pub record KeptText (order : Order) (r : NameRecord) (s rest : List ℕ) : Type 0 where
+  pub record_is : RecordText order r s rest
+  pub no_end : r ≢ End
+
+-- s is these records, the end, and then rest
+pub record RecordsText (order : Order) (records : List NameRecord) (s rest : List ℕ) : Type 0 where
+  pub end : List ℕ
+  pub are : Chain (KeptText order) records s end
+  pub ends : RecordText order End end rest
+
+-- the fault of records: some good ones that are no end, and behind them the fault of what is left
+pub record RecordsFault (order : Order) (s : List ℕ) (fault : Fault) : Type 0 where
+  pub good : List NameRecord
+  pub bad : List ℕ
+  pub are_good : Chain (KeptText order) good s bad
+  pub fault_is : RecordFault order bad fault
+
+-- what is said of bytes where records up to their end are asked for
+abbrev pub RecordsSay : Order → List ℕ → Verdict (List NameRecord) → Type 0
+RecordsSay order s = Says (λ records rest. RecordsText order records s rest) (λ n. ⊥) (RecordsFault order s)
+
+-- s is the body of a name resolution block, and then rest
+pub record ResolutionText (order : Order) (b : Resolution) (s rest : List ℕ) : Type 0 where
+  pub after : List ℕ
+  pub records_are : RecordsText order b.records s after
+  pub options_are : OptionList may_end_with_body order name_resolution b.options after rest
+
+-- the first fault of a body
+pub data ResolutionFault (order : Order) (s : List ℕ) (fault : Fault) : Type 0 where
+  in_records : RecordsFault order s fault → ResolutionFault order s fault
+  in_options : (records : List NameRecord) (after : List ℕ) → RecordsText order records s after → ListFault may_end_with_body order name_resolution after fault → ResolutionFault order s fault
+
+-- what is said of bytes where the body of a name resolution block is asked for
+abbrev pub ResolutionSays : Order → List ℕ → Verdict Resolution → Type 0
+ResolutionSays order s = Says (λ b rest. ResolutionText order b s rest) (λ n. ⊥) (ResolutionFault order s)
+
+-- an option of the code
+abbrev pub name_entry : NameResolutionOption → Entry
+name_entry (option_of.Comment t) = record { code = 1; value = Text (cow_str_bytes t) }
+name_entry (option_of.NsDnsName t) = record { code = 2; value = Text (cow_str_bytes t) }
+name_entry (option_of.NsDnsIpv4Addr b) = record { code = 3; value = Bytes (cow_bytes b) }
+name_entry (option_of.NsDnsIpv6Addr b) = record { code = 4; value = Bytes (cow_bytes b) }
+name_entry (option_of.CustomBinary o) = custom_bytes_entry o
+name_entry (option_of.CustomUtf8 o) = custom_text_entry o
+name_entry (option_of.Unknown o) = unknown_entry o
+
+-- its text or bytes are borrowed
+abbrev pub NameOptionIsBorrowed : NameResolutionOption → Type 0
+NameOptionIsBorrowed (option_of.Comment t) = IsBorrowedStr t
+NameOptionIsBorrowed (option_of.NsDnsName t) = IsBorrowedStr t
+NameOptionIsBorrowed (option_of.NsDnsIpv4Addr b) = IsBorrowed b
+NameOptionIsBorrowed (option_of.NsDnsIpv6Addr b) = IsBorrowed b
+NameOptionIsBorrowed (option_of.CustomBinary o) = CustomBytesIsBorrowed o
+NameOptionIsBorrowed (option_of.CustomUtf8 o) = CustomTextIsBorrowed o
+NameOptionIsBorrowed (option_of.Unknown o) = UnknownIsBorrowed o
+
+-- its text or bytes are owned
+abbrev pub NameOptionIsOwned : NameResolutionOption → Type 0
+NameOptionIsOwned (option_of.Comment t) = IsOwnedStr t
+NameOptionIsOwned (option_of.NsDnsName t) = IsOwnedStr t
+NameOptionIsOwned (option_of.NsDnsIpv4Addr b) = IsOwned b
+NameOptionIsOwned (option_of.NsDnsIpv6Addr b) = IsOwned b
+NameOptionIsOwned (option_of.CustomBinary o) = CustomBytesIsOwned o
+NameOptionIsOwned (option_of.CustomUtf8 o) = CustomTextIsOwned o
+NameOptionIsOwned (option_of.Unknown o) = UnknownIsOwned o
+
+-- a block of the code
+abbrev pub resolution_of : NameResolutionBlock → Resolution
+resolution_of block = record { records = map name_record_of block.records.items; options = map name_entry block.options.items }
+
+-- what its records and options hold is borrowed
+pub record ResolutionIsBorrowed (block : NameResolutionBlock) : Type 0 where
+  pub records : All RecordIsBorrowed block.records.items
+  pub options : All NameOptionIsBorrowed block.options.items
+
+-- what its records and options hold is owned
+pub record ResolutionIsOwned (block : NameResolutionBlock) : Type 0 where
+  pub records : All RecordIsOwned block.records.items
+  pub options : All NameOptionIsOwned block.options.items

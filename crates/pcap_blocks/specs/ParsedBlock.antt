@@ -1,0 +1,109 @@
+-- The body of a block of any type.
+use Rattle.std.specs.Prelude.{◌≡◌, ◌<◌, ◌≤◌, ◌^◌, ℕ, List, length, Option, Some, None, ⊤}
+use Rattle.pcap_classic.specs.Answer.{Order, Verdict, Says}
+use Rattle.pcap_classic.specs.Faults.{Invalid}
+use Rattle.pcap_classic.specs.declared.rules.Rule.TheVariants.{UnknownTooLong}
+use Rattle.pcap_blocks.specs.declared.block.BlockType.{BlockType}
+use Rattle.pcap_blocks.specs.declared.block.BlockType.TheVariants as types
+use Rattle.pcap_blocks.specs.declared.parsed_block.ParsedBlock.{ParsedBlock}
+use Rattle.pcap_blocks.specs.declared.parsed_block.ParsedBlock.TheVariants as block_of
+use Rattle.pcap_blocks.specs.declared.section_header.SectionHeaderBlock.{SectionHeaderBlock}
+use Rattle.pcap_blocks.specs.declared.interface_description.InterfaceDescriptionBlock.{InterfaceDescriptionBlock}
+use Rattle.pcap_blocks.specs.Records.{Made}
+use Rattle.pcap_blocks.specs.SectionHeader.{Section, SectionSays, section_of, SectionIsBorrowed, SectionIsOwned}
+use Rattle.pcap_blocks.specs.InterfaceDescription.{Interface, InterfaceSays, interface_of, InterfaceIsBorrowed, InterfaceIsOwned}
+use Rattle.pcap_blocks.specs.PacketBody.{PacketBody, PacketBodySays, packet_of, PacketIsBorrowed, PacketIsOwned}
+use Rattle.pcap_blocks.specs.NameResolution.{Resolution, ResolutionSays, resolution_of, ResolutionIsBorrowed, ResolutionIsOwned}
+use Rattle.pcap_blocks.specs.InterfaceStatistics.{Statistics, StatisticsSays, statistics_of, StatisticsIsBorrowed, StatisticsIsOwned}
+use Rattle.pcap_blocks.specs.EnhancedPacket.{Enhanced, EnhancedSays, enhanced_of, EnhancedIsBorrowed, EnhancedIsOwned}
+use Rattle.pcap_blocks.specs.WholeBodies.{Simple, SimpleSays, simple_of, SimpleIsBorrowed, SimpleIsOwned, JournalSays, journal_of, JournalIsBorrowed, JournalIsOwned, UnknownBody, unknown_of, UnknownBlockIsBorrowed, UnknownBlockIsOwned}
+
+-- a body, wherever its bytes lie
+pub data Body : Type 0 where
+  SectionBody : Section → Body
+  InterfaceBody : Interface → Body
+  OldPacketBody : PacketBody → Body
+  SimpleBody : Simple → Body
+  NamesBody : Resolution → Body
+  StatisticsBody : Statistics → Body
+  EnhancedBody : Enhanced → Body
+  JournalBody : List ℕ → Body
+  OtherBody : UnknownBody → Body
+
+-- what is said of the body of an unknown block: all of it is the value, and stays as well
+abbrev pub UnknownSays : BlockType → List ℕ → Verdict UnknownBody → Type 0
+UnknownSays type s =
+    Says
+    (λ body rest. (body ≡ record { type_ = type; len = length s; bytes = s }) × (rest ≡ s) × (length s < 2 ^ 32))
+    (λ n. ⊥)
+    (λ fault. (fault ≡ Invalid UnknownTooLong) × (2 ^ 32 ≤ length s))
+
+-- what is said of bytes where the body of a block of this type is asked for; a section has its own order
+abbrev pub BodySays : Order → BlockType → List ℕ → Verdict Body → Type 0
+BodySays order types.SectionHeader s = Made SectionBody (SectionSays s)
+BodySays order types.InterfaceDescription s = Made InterfaceBody (InterfaceSays order s)
+BodySays order types.Packet s = Made OldPacketBody (PacketBodySays order s)
+BodySays order types.SimplePacket s = Made SimpleBody (SimpleSays order s)
+BodySays order types.NameResolution s = Made NamesBody (ResolutionSays order s)
+BodySays order types.InterfaceStatistics s = Made StatisticsBody (StatisticsSays order s)
+BodySays order types.EnhancedPacket s = Made EnhancedBody (EnhancedSays order s)
+BodySays order types.SystemdJournalExport s = Made JournalBody (JournalSays s)
+BodySays order (types.Unknown n) s = Made OtherBody (UnknownSays (types.Unknown n) s)
+
+-- bodies of this type have lists, which grow
+abbrev pub HasLists : BlockType → Type 0
+HasLists types.SectionHeader = ⊤
+HasLists types.InterfaceDescription = ⊤
+HasLists types.Packet = ⊤
+HasLists types.SimplePacket = ⊥
+HasLists types.NameResolution = ⊤
+HasLists types.InterfaceStatistics = ⊤
+HasLists types.EnhancedPacket = ⊤
+HasLists types.SystemdJournalExport = ⊥
+HasLists (types.Unknown n) = ⊥
+
+-- a block of the code
+abbrev pub body_of : ParsedBlock → Body
+body_of (block_of.SectionHeader b) = SectionBody (section_of b)
+body_of (block_of.InterfaceDescription b) = InterfaceBody (interface_of b)
+body_of (block_of.Packet b) = OldPacketBody (packet_of b)
+body_of (block_of.SimplePacket b) = SimpleBody (simple_of b)
+body_of (block_of.NameResolution b) = NamesBody (resolution_of b)
+body_of (block_of.InterfaceStatistics b) = StatisticsBody (statistics_of b)
+body_of (block_of.EnhancedPacket b) = EnhancedBody (enhanced_of b)
+body_of (block_of.SystemdJournalExport b) = JournalBody (journal_of b)
+body_of (block_of.Unknown b) = OtherBody (unknown_of b)
+
+-- what it holds is borrowed
+abbrev pub ParsedIsBorrowed : ParsedBlock → Type 0
+ParsedIsBorrowed (block_of.SectionHeader b) = SectionIsBorrowed b
+ParsedIsBorrowed (block_of.InterfaceDescription b) = InterfaceIsBorrowed b
+ParsedIsBorrowed (block_of.Packet b) = PacketIsBorrowed b
+ParsedIsBorrowed (block_of.SimplePacket b) = SimpleIsBorrowed b
+ParsedIsBorrowed (block_of.NameResolution b) = ResolutionIsBorrowed b
+ParsedIsBorrowed (block_of.InterfaceStatistics b) = StatisticsIsBorrowed b
+ParsedIsBorrowed (block_of.EnhancedPacket b) = EnhancedIsBorrowed b
+ParsedIsBorrowed (block_of.SystemdJournalExport b) = JournalIsBorrowed b
+ParsedIsBorrowed (block_of.Unknown b) = UnknownBlockIsBorrowed b
+
+-- what it holds is owned
+abbrev pub ParsedIsOwned : ParsedBlock → Type 0
+ParsedIsOwned (block_of.SectionHeader b) = SectionIsOwned b
+ParsedIsOwned (block_of.InterfaceDescription b) = InterfaceIsOwned b
+ParsedIsOwned (block_of.Packet b) = PacketIsOwned b
+ParsedIsOwned (block_of.SimplePacket b) = SimpleIsOwned b
+ParsedIsOwned (block_of.NameResolution b) = ResolutionIsOwned b
+ParsedIsOwned (block_of.InterfaceStatistics b) = StatisticsIsOwned b
+ParsedIsOwned (block_of.EnhancedPacket b) = EnhancedIsOwned b
+ParsedIsOwned (block_of.SystemdJournalExport b) = JournalIsOwned b
+ParsedIsOwned (block_of.Unknown b) = UnknownBlockIsOwned b
+
+-- the section that a block is, if it is one
+abbrev pub section_in : ParsedBlock → Option SectionHeaderBlock
+section_in (block_of.SectionHeader b) = Some b
+section_in _ = None
+
+-- the interface that a block is, if it is one
+abbrev pub interface_in : ParsedBlock → Option InterfaceDescriptionBlock
+interface_in (block_of.InterfaceDescription b) = Some b
+interface_in _ = None

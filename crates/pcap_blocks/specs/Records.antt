@@ -1,0 +1,143 @@
+-- The records of a name resolution body ('Name Resolution Block').
+use Rattle.std.specs.Prelude.{◌≡◌, ◌≢◌, ℕ, ◌+◌, ◌<◌, ◌≤◌, List, [], ◌++◌, length, ◌==◌, if◌then◌else◌, map, All}
+use Rattle.std.specs.Cow.{cow_str_bytes, IsBorrowedStr, IsOwnedStr}
+use Rattle.pcap_classic.specs.Answer.{Order, Verdict, whole, lacks, faulty, Says}
+use Rattle.pcap_classic.specs.Bytes.{cow_bytes, IsBorrowed}
+use Rattle.pcap_classic.specs.Faults.{Fault, Invalid, Io}
+use Rattle.pcap_classic.specs.declared.rules.Rule.{Rule}
+use Rattle.pcap_classic.specs.declared.rules.Rule.TheVariants.{RecordCut, EndNotEmpty, Ipv4RecordTooShort, Ipv6RecordTooShort, RecordUnpadded}
+use Rattle.pcap_blocks.specs.Owned.{IsOwned}
+use Rattle.pcap_blocks.specs.declared.record.Ipv4Record.{Ipv4Record}
+use Rattle.pcap_blocks.specs.declared.record.Ipv6Record.{Ipv6Record}
+use Rattle.pcap_blocks.specs.declared.record.UnknownRecord.{UnknownRecord}
+use Rattle.pcap_blocks.specs.declared.record.Record.{Record}
+use Rattle.pcap_blocks.specs.declared.record.Record.TheVariants as record_of
+use Rattle.pcap_blocks.specs.Padded.{Padded, up_to_4, Behind}
+use Rattle.pcap_blocks.specs.Options.{HeadText}
+use Rattle.pcap_blocks.specs.Names.{NamesText, NamesFault}
+
+-- an address and its names
+pub record Address : Type 0 where
+  pub bytes : List ℕ
+  pub names : List (List ℕ)
+
+-- s has at least 2 bytes more than an address of this width: it is the address, and then names to the end
+pub record AddressText (width : ℕ) (address : Address) (s rest : List ℕ) : Type 0 where
+  pub after : List ℕ
+  pub long : width + 2 ≤ length s
+  pub parts : s ≡ address.bytes ++ after
+  pub wide : length address.bytes ≡ width
+  pub names_are : NamesText address.names after rest
+
+-- the first fault of a value that is to be an address and its names
+pub data AddressFault (width : ℕ) (too_short : Rule) (s : List ℕ) : Fault → Type 0 where
+  short : length s < width + 2 → AddressFault width too_short s (Invalid too_short)
+  in_names : (fault : Fault) (after : List ℕ) → width + 2 ≤ length s → Behind width s after → NamesFault after fault → AddressFault width too_short s fault
+
+-- what is said of bytes where an address of this width and its names are asked for
+abbrev pub AddressSays : ℕ → Rule → List ℕ → Verdict Address → Type 0
+AddressSays width too_short s = Says (λ address rest. AddressText width address s rest) (λ n. ⊥) (AddressFault width too_short s)
+
+-- a verdict with its value made into another
+abbrev pub Made : {V W : Type 0} → (V → W) → (Verdict V → Type 0) → Verdict W → Type 0
+Made {V = V} make IsSaid (whole value rest) = (made_of : V) × (value ≡ make made_of) × IsSaid (whole made_of rest)
+Made make IsSaid (lacks n) = IsSaid (lacks n)
+Made make IsSaid (faulty fault) = IsSaid (faulty fault)
+
+-- a record, wherever its bytes lie
+pub data NameRecord : Type 0 where
+  End : NameRecord
+  Ipv4 : Address → NameRecord
+  Ipv6 : Address → NameRecord
+  Other : ℕ → ℕ → List ℕ → NameRecord
+
+-- what the type of a record says of its value
+pub data Form : Type 0 where
+  no_value : Form
+  address : ℕ → Rule → (Address → NameRecord) → Form
+  any_value : ℕ → Form
+
+-- the table of types
+abbrev pub form_of : ℕ → Form
+form_of type =
+    if type == 0 then no_value
+    else if type == 1 then address 4 Ipv4RecordTooShort Ipv4
+    else if type == 2 then address 16 Ipv6RecordTooShort Ipv6
+    else any_value type
+
+-- what is said of the bytes of a value of this form: they are all its
+abbrev pub RecordValueSays : Form → List ℕ → Verdict NameRecord → Type 0
+RecordValueSays no_value v = Says (λ r rest. (r ≡ End) × (v ≡ []) × (rest ≡ [])) (λ n. ⊥) (λ fault. (fault ≡ Invalid EndNotEmpty) × (v ≢ []))
+RecordValueSays (address width too_short make) v = Made make (AddressSays width too_short v)
+RecordValueSays (any_value type) v = Says (λ r rest. (r ≡ Other type (length v) v) × (rest ≡ [])) (λ n. ⊥) (λ fault. ⊥)
+
+-- s is the text of a record, and then rest: its type, the length of its value, and the value with its padding
+pub record RecordText (order : Order) (r : NameRecord) (s rest : List ℕ) : Type 0 where
+  pub type : ℕ
+  pub v : List ℕ
+  pub after : List ℕ
+  pub head : HeadText order type (length v) s after
+  pub value_is : RecordValueSays (form_of type) v (whole r [])
+  pub padded : Padded v after rest
+
+-- the first fault that stands where a record is to begin: the value's own before that of the padding
+pub data RecordFault (order : Order) (s : List ℕ) : Fault → Type 0 where
+  short : length s < 4 → RecordFault order s Io
+  cut : (type len : ℕ) (after : List ℕ) → HeadText order type len s after → length after < len → RecordFault order s (Invalid RecordCut)
+  wrong : (fault : Fault) (type : ℕ) (v after more : List ℕ) → HeadText order type (length v) s after → after ≡ v ++ more → RecordValueSays (form_of type) v (faulty fault)
+      → RecordFault order s fault
+  unpadded : (r : NameRecord) (type : ℕ) (v after more : List ℕ) → HeadText order type (length v) s after → after ≡ v ++ more → RecordValueSays (form_of type) v (whole r [])
+      → length after < up_to_4 (length v) → RecordFault order s (Invalid RecordUnpadded)
+
+-- what is said of bytes where a record is asked for
+abbrev pub RecordSays : Order → List ℕ → Verdict NameRecord → Type 0
+RecordSays order s = Says (λ r rest. RecordText order r s rest) (λ n. ⊥) (RecordFault order s)
+
+-- the records of the code
+abbrev pub ipv4_of : Ipv4Record → Address
+ipv4_of r = record { bytes = cow_bytes r.ip_addr; names = map cow_str_bytes r.names.items }
+
+abbrev pub ipv6_of : Ipv6Record → Address
+ipv6_of r = record { bytes = cow_bytes r.ip_addr; names = map cow_str_bytes r.names.items }
+
+abbrev pub other_of : UnknownRecord → NameRecord
+other_of r = Other r.type_ r.length (cow_bytes r.value)
+
+abbrev pub name_record_of : Record → NameRecord
+name_record_of record_of.End = End
+name_record_of (record_of.Ipv4 r) = Ipv4 (ipv4_of r)
+name_record_of (record_of.Ipv6 r) = Ipv6 (ipv6_of r)
+name_record_of (record_of.Unknown r) = other_of r
+
+-- their bytes and names are borrowed
+pub record Ipv4IsBorrowed (r : Ipv4Record) : Type 0 where
+  pub bytes : IsBorrowed r.ip_addr
+  pub names : All IsBorrowedStr r.names.items
+
+-- their bytes and names are owned
+pub record Ipv4IsOwned (r : Ipv4Record) : Type 0 where
+  pub bytes : IsOwned r.ip_addr
+  pub names : All IsOwnedStr r.names.items
+
+pub record Ipv6IsBorrowed (r : Ipv6Record) : Type 0 where
+  pub bytes : IsBorrowed r.ip_addr
+  pub names : All IsBorrowedStr r.names.items
+
+pub record Ipv6IsOwned (r : Ipv6Record) : Type 0 where
+  pub bytes : IsOwned r.ip_addr
+  pub names : All IsOwnedStr r.names.items
+
+abbrev pub RecordIsBorrowed : Record → Type 0
+RecordIsBorrowed record_of.End = Unit {0}
+RecordIsBorrowed (record_of.Ipv4 r) = Ipv4IsBorrowed r
+RecordIsBorrowed (record_of.Ipv6 r) = Ipv6IsBorrowed r
+RecordIsBorrowed (record_of.Unknown r) = IsBorrowed r.value
+
+abbrev pub RecordIsOwned : Record → Type 0
+RecordIsOwned record_of.End = Unit {0}
+RecordIsOwned (record_of.Ipv4 r) = Ipv4IsOwned r
+RecordIsOwned (record_of.Ipv6 r) = Ipv6IsOwned r
+RecordIsOwned (record_of.Unknown r) = IsOwned r.value
+
+abbrev pub UnknownRecordIsOwned : UnknownRecord → Type 0
+UnknownRecordIsOwned r = IsOwned r.value

@@ -1,0 +1,191 @@
+//! Name resolution.
+
+ghost use Rattle.std.specs.Prelude.{⊤, map, All, IfOk, ◌≡◌, IfErr};
+ghost use Rattle.pcap_classic.specs.Answer.{TellsWhere};
+ghost use Rattle.pcap_blocks.specs.Refusals.{FindsWhere};
+ghost use Rattle.pcap_blocks.specs.Records.{name_record_of, RecordIsBorrowed};
+ghost use Rattle.pcap_blocks.specs.NameResolution.{name_resolution, RecordsSay, ResolutionSays, name_entry, NameOptionIsBorrowed, resolution_of, ResolutionIsBorrowed, NameOptionIsOwned, ResolutionIsOwned};
+ghost use Rattle.pcap_blocks.specs.Owned.{IsMemory};
+
+use crate::common::{
+    CustomBinaryOption, CustomUtf8Option, PcapNgOption, UnknownOption, options_from_slice,
+};
+use crate::owned::{KeepValue, keep_all};
+use crate::record::Record;
+use crate::refusal::Refusal;
+use crate::values::{fixed_value, text_value};
+use byteorder::ByteOrder;
+use pcap_classic::rules::Rule;
+use pcap_classic::{CowBytes, ResultParsing};
+use std::alloc::{AllocError, Global};
+use std::borrow::CowStr;
+
+/// The body of a name resolution block: names of addresses.
+#[derive(Clone, Debug, Drop)]
+pub struct NameResolutionBlock<'a> {
+    /// The addresses and their names, without the record that ends them.
+    pub records: Vec<Record<'a>>,
+    /// What else is said of the names.
+    pub options: Vec<NameResolutionOption<'a>>,
+}
+
+impl<'a> NameResolutionBlock<'a> {
+    /// The names that a block's body is, and what follows its options. Texts and bytes are borrowed from the slice.
+    ///
+    /// The fault of the first record that has one, as `Record::from_slice` gives it: so `IoError` where the slice ends
+    /// and no record has ended the others. Then `InvalidField` for the first fault of the options, or `Utf8Error` or
+    /// `IoError` where that is a text that isn't UTF-8 or a custom value under 4 bytes. `OutOfMemory` where a list
+    /// can't grow.
+    pub fn from_slice<B: ByteOrder>(
+        alloc: Global,
+        slice: &'a [u8],
+    ) -> ResultParsing<(&'a [u8], Self)>
+        ensures tells { TellsWhere ⊤ (ResolutionSays B.number_of slice.now) resolution_of result }
+        ensures borrowed { IfOk result (λ x. ResolutionIsBorrowed x.1) }
+    {
+        Ok(NameResolutionBlock::read::<B>(alloc, slice)?)
+    }
+
+    pub(crate) fn read<B: ByteOrder>(
+        alloc: Global,
+        slice: &'a [u8],
+    ) -> Result<(&'a [u8], Self), Refusal>
+        ensures tells { FindsWhere ⊤ (ResolutionSays B.number_of slice.now) resolution_of result }
+        ensures borrowed { IfOk result (λ x. ResolutionIsBorrowed x.1) }
+    {
+        let (after, records) = records_from_slice::<B>(alloc, slice)?;
+        let (rest, options) = options_from_slice::<NameResolutionOption, B>(alloc, after)?;
+        Ok((rest, NameResolutionBlock { records, options }))
+    }
+}
+
+// The records before the end, and what follows that.
+fn records_from_slice<'a, B: ByteOrder>(
+    alloc: Global,
+    slice: &'a [u8],
+) -> Result<(&'a [u8], Vec<Record<'a>>), Refusal>
+    ensures tells { FindsWhere ⊤ (RecordsSay B.number_of slice.now) (λ records. map name_record_of records.items) result }
+    ensures borrowed { IfOk result (λ x. All RecordIsBorrowed x.1.items) }
+{
+    let mut records = Vec::new(alloc);
+    let mut rest = slice;
+    loop {
+        let (after, record) = Record::read::<B>(alloc, rest)?;
+        rest = after;
+        match record {
+            Record::End => return Ok((rest, records)),
+            record => records.push(record)?,
+        }
+    }
+}
+
+/// An option of a name resolution block.
+#[derive(Clone, Debug, Drop)]
+pub enum NameResolutionOption<'a> {
+    /// A comment on the names.
+    Comment(CowStr<'a>),
+    /// The name of the server that resolved the names.
+    NsDnsName(CowStr<'a>),
+    /// Its IPv4 address, 4 bytes.
+    NsDnsIpv4Addr(CowBytes<'a>),
+    /// Its IPv6 address, 16 bytes.
+    NsDnsIpv6Addr(CowBytes<'a>),
+    /// Bytes of an enterprise.
+    CustomBinary(CustomBinaryOption<'a>),
+    /// A text of an enterprise.
+    CustomUtf8(CustomUtf8Option<'a>),
+    /// An option of another code.
+    Unknown(UnknownOption<'a>),
+}
+
+impl<'a> PcapNgOption<'a> for NameResolutionOption<'a> {
+    ghost kind = { name_resolution };
+
+    ghost view = { name_entry };
+
+    ghost is_borrowed = { NameOptionIsBorrowed };
+
+    fn from_value<B: ByteOrder>(code: u16, len: u16, value: &'a [u8]) -> Result<Self, Refusal> {
+        Ok(match code {
+            1 => Self::Comment(text_value(value)?),
+            2 => Self::NsDnsName(text_value(value)?),
+            3 => Self::NsDnsIpv4Addr(fixed_value(value, 4, Rule::NameIpv4Length)?),
+            4 => Self::NsDnsIpv6Addr(fixed_value(value, 16, Rule::NameIpv6Length)?),
+            2988 | 19372 => Self::CustomUtf8(CustomUtf8Option::read::<B>(code, value)?),
+            2989 | 19373 => Self::CustomBinary(CustomBinaryOption::read::<B>(code, value)?),
+            _ => Self::Unknown(UnknownOption::new(code, len, value)),
+        })
+    }
+}
+
+impl<'a> NameResolutionOption<'a> {
+    /// The same option, with bytes and texts of its own: borrowed ones are copied, owned ones kept.
+    ///
+    /// `OutOfMemory` where a copy can't be made; the value is then dropped.
+    pub fn into_owned(self, alloc: Global) -> ResultParsing<NameResolutionOption<'static>>
+        ensures same { IfOk result (λ kept. name_entry kept ≡ name_entry self.entry) }
+        ensures owned { IfOk result NameOptionIsOwned }
+        ensures memory { IfErr result IsMemory }
+    {
+        Ok(self.keep(alloc)?)
+    }
+}
+
+impl<'a> KeepValue for NameResolutionOption<'a> {
+    type Owned = NameResolutionOption<'static>;
+
+    ghost is_same = { λ value kept. name_entry kept ≡ name_entry value };
+
+    ghost is_owned = { NameOptionIsOwned };
+
+    fn keep(self, alloc: Global) -> Result<NameResolutionOption<'static>, AllocError> {
+        Ok(match self {
+            NameResolutionOption::Comment(held) => NameResolutionOption::Comment(held.keep(alloc)?),
+            NameResolutionOption::NsDnsName(held) => NameResolutionOption::NsDnsName(held.keep(
+                alloc,
+            )?),
+            NameResolutionOption::NsDnsIpv4Addr(held) => NameResolutionOption::NsDnsIpv4Addr(
+                held.keep(alloc)?,
+            ),
+            NameResolutionOption::NsDnsIpv6Addr(held) => NameResolutionOption::NsDnsIpv6Addr(
+                held.keep(alloc)?,
+            ),
+            NameResolutionOption::CustomBinary(held) => NameResolutionOption::CustomBinary(
+                held.keep(alloc)?,
+            ),
+            NameResolutionOption::CustomUtf8(held) => NameResolutionOption::CustomUtf8(held.keep(
+                alloc,
+            )?),
+            NameResolutionOption::Unknown(held) => NameResolutionOption::Unknown(held.keep(alloc)?),
+        })
+    }
+}
+
+impl<'a> NameResolutionBlock<'a> {
+    /// The same block, with bytes and texts of its own: borrowed ones are copied, owned ones kept.
+    ///
+    /// `OutOfMemory` where a copy can't be made; the value is then dropped.
+    pub fn into_owned(self, alloc: Global) -> ResultParsing<NameResolutionBlock<'static>>
+        ensures same { IfOk result (λ kept. resolution_of kept ≡ resolution_of self.entry) }
+        ensures owned { IfOk result ResolutionIsOwned }
+        ensures memory { IfErr result IsMemory }
+    {
+        Ok(self.keep(alloc)?)
+    }
+}
+
+impl<'a> KeepValue for NameResolutionBlock<'a> {
+    type Owned = NameResolutionBlock<'static>;
+
+    ghost is_same = { λ value kept. resolution_of kept ≡ resolution_of value };
+
+    ghost is_owned = { ResolutionIsOwned };
+
+    fn keep(self, alloc: Global) -> Result<NameResolutionBlock<'static>, AllocError> {
+        let NameResolutionBlock { records, options } = self;
+        Ok(NameResolutionBlock {
+            records: keep_all(alloc, records)?,
+            options: keep_all(alloc, options)?,
+        })
+    }
+}

@@ -1,0 +1,69 @@
+//! Values that outlive the bytes they were read from.
+
+ghost use Rattle.std.specs.Prelude.{◌≡◌, All, IfOk};
+ghost use Rattle.std.specs.Cow.{cow_str_bytes, IsOwnedStr};
+ghost use Rattle.std.specs.List.{AllZip};
+ghost use Rattle.pcap_classic.specs.Bytes.{cow_bytes};
+ghost use Rattle.pcap_blocks.specs.Owned.{IsOwned};
+
+use pcap_classic::CowBytes;
+use std::alloc::{AllocError, Global};
+use std::borrow::CowStr;
+
+/// What can be made to own its bytes and texts.
+pub(crate) trait KeepValue: Sized {
+    type Owned;
+
+    // The owned value says the same.
+    ghost is_same: { Self → Self.Owned → Type 0 };
+
+    // Each text and all bytes of it are owned.
+    ghost is_owned: { Self.Owned → Type 0 };
+
+    // The value with borrowed bytes and texts copied; owned ones are kept.
+    fn keep(self, alloc: Global) -> Result<Self::Owned, AllocError>
+        ensures same { IfOk result (is_same self) }
+        ensures owned { IfOk result is_owned };
+}
+
+// Each value of a list, kept.
+pub(crate) fn keep_all<T: KeepValue<Owned: Drop> + Drop>(
+    alloc: Global,
+    items: Vec<T>,
+) -> Result<Vec<T::Owned>, AllocError>
+    ensures same { IfOk result (λ kept. AllZip T.is_same items.items kept.items) }
+    ensures owned { IfOk result (λ kept. All T.is_owned kept.items) }
+{
+    let mut kept = Vec::with_capacity(alloc, items.len())?;
+    for item in items {
+        kept.push(item.keep(alloc)?)?;
+    }
+    Ok(kept)
+}
+
+impl<'a> KeepValue for CowStr<'a> {
+    type Owned = CowStr<'static>;
+
+    ghost is_same = { λ text kept. cow_str_bytes kept ≡ cow_str_bytes text };
+
+    ghost is_owned = { IsOwnedStr };
+
+    fn keep(self, alloc: Global) -> Result<CowStr<'static>, AllocError> {
+        Ok(CowStr::Owned(self.into_owned(alloc)?))
+    }
+}
+
+impl<'a> KeepValue for CowBytes<'a> {
+    type Owned = CowBytes<'static>;
+
+    ghost is_same = { λ bytes kept. cow_bytes kept ≡ cow_bytes bytes };
+
+    ghost is_owned = { IsOwned };
+
+    fn keep(self, alloc: Global) -> Result<CowBytes<'static>, AllocError> {
+        match self {
+            CowBytes::Borrowed(bytes) => Ok(CowBytes::Owned(Vec::from_slice(alloc, bytes)?)),
+            CowBytes::Owned(bytes) => Ok(CowBytes::Owned(bytes)),
+        }
+    }
+}

@@ -1,0 +1,169 @@
+//! Blocks of all types.
+
+ghost use Rattle.std.specs.Prelude.{◌≡◌, IfOk, IfErr};
+ghost use Rattle.pcap_classic.specs.Answer.{TellsWhere};
+ghost use Rattle.pcap_blocks.specs.Refusals.{FindsWhere};
+ghost use Rattle.pcap_blocks.specs.ParsedBlock.{BodySays, HasLists, body_of, ParsedIsBorrowed, section_in, interface_in, ParsedIsOwned};
+ghost use Rattle.pcap_blocks.specs.Owned.{IsMemory};
+
+use crate::block::{BlockType, UnknownBlock};
+use crate::enhanced_packet::EnhancedPacketBlock;
+use crate::interface_description::InterfaceDescriptionBlock;
+use crate::interface_statistics::InterfaceStatisticsBlock;
+use crate::name_resolution::NameResolutionBlock;
+use crate::owned::KeepValue;
+use crate::packet::PacketBlock;
+use crate::refusal::Refusal;
+use crate::section_header::SectionHeaderBlock;
+use crate::simple_packet::SimplePacketBlock;
+use crate::systemd_journal_export::SystemdJournalExportBlock;
+use byteorder::ByteOrder;
+use pcap_classic::ResultParsing;
+use pcap_classic::rules::Rule;
+use std::alloc::{AllocError, Global};
+
+/// The body of a block, by its type.
+#[derive(Clone, Debug, Drop)]
+pub enum ParsedBlock<'a> {
+    SectionHeader(SectionHeaderBlock<'a>),
+    InterfaceDescription(InterfaceDescriptionBlock<'a>),
+    Packet(PacketBlock<'a>),
+    SimplePacket(SimplePacketBlock<'a>),
+    NameResolution(NameResolutionBlock<'a>),
+    InterfaceStatistics(InterfaceStatisticsBlock<'a>),
+    EnhancedPacket(EnhancedPacketBlock<'a>),
+    SystemdJournalExport(SystemdJournalExportBlock<'a>),
+    Unknown(UnknownBlock<'a>),
+}
+
+impl<'a> ParsedBlock<'a> {
+    /// The body of a block of this type, and what follows it. Texts and bytes are borrowed from the slice.
+    ///
+    /// A section's numbers have the order that its own magic number names, whatever `B` is. Of an unknown type the
+    /// whole slice is the value and is left as well: `InvalidField` where it has 2^32 bytes or more. The errors of
+    /// the other types are those of their own `from_slice`.
+    pub fn from_slice<B: ByteOrder>(
+        alloc: Global,
+        type_: BlockType,
+        slice: &'a [u8],
+    ) -> ResultParsing<(&'a [u8], Self)>
+        ensures tells { TellsWhere (HasLists type_) (BodySays B.number_of type_ slice.now) body_of result }
+        ensures borrowed { IfOk result (λ x. ParsedIsBorrowed x.1) }
+    {
+        Ok(ParsedBlock::read::<B>(alloc, type_, slice)?)
+    }
+
+    fn read<B: ByteOrder>(
+        alloc: Global,
+        type_: BlockType,
+        slice: &'a [u8],
+    ) -> Result<(&'a [u8], Self), Refusal>
+        ensures tells { FindsWhere (HasLists type_) (BodySays B.number_of type_ slice.now) body_of result }
+        ensures borrowed { IfOk result (λ x. ParsedIsBorrowed x.1) }
+    {
+        match type_ {
+            BlockType::SectionHeader => {
+                let (rest, block) = SectionHeaderBlock::read(alloc, slice)?;
+                Ok((rest, ParsedBlock::SectionHeader(block)))
+            }
+            BlockType::InterfaceDescription => {
+                let (rest, block) = InterfaceDescriptionBlock::read::<B>(alloc, slice)?;
+                Ok((rest, ParsedBlock::InterfaceDescription(block)))
+            }
+            BlockType::Packet => {
+                let (rest, block) = PacketBlock::read::<B>(alloc, slice)?;
+                Ok((rest, ParsedBlock::Packet(block)))
+            }
+            BlockType::SimplePacket => {
+                let (rest, block) = SimplePacketBlock::read::<B>(slice)?;
+                Ok((rest, ParsedBlock::SimplePacket(block)))
+            }
+            BlockType::NameResolution => {
+                let (rest, block) = NameResolutionBlock::read::<B>(alloc, slice)?;
+                Ok((rest, ParsedBlock::NameResolution(block)))
+            }
+            BlockType::InterfaceStatistics => {
+                let (rest, block) = InterfaceStatisticsBlock::read::<B>(alloc, slice)?;
+                Ok((rest, ParsedBlock::InterfaceStatistics(block)))
+            }
+            BlockType::EnhancedPacket => {
+                let (rest, block) = EnhancedPacketBlock::read::<B>(alloc, slice)?;
+                Ok((rest, ParsedBlock::EnhancedPacket(block)))
+            }
+            BlockType::SystemdJournalExport => {
+                let (rest, block) = SystemdJournalExportBlock::read(slice);
+                Ok((rest, ParsedBlock::SystemdJournalExport(block)))
+            }
+            BlockType::Unknown(_) => {
+                let Ok(len) = u32::try_from(slice.len()) else {
+                    return Err(Refusal::Invalid(Rule::UnknownTooLong));
+                };
+                Ok((
+                    slice,
+                    ParsedBlock::Unknown(UnknownBlock::new(type_, len, slice)),
+                ))
+            }
+        }
+    }
+
+    /// The section that this is, if it is one.
+    pub fn into_section_header(self) -> Option<SectionHeaderBlock<'a>>
+        ensures { result ≡ section_in self.entry }
+    {
+        match self {
+            ParsedBlock::SectionHeader(section) => Some(section),
+            _ => None,
+        }
+    }
+
+    /// The interface that this is, if it is one.
+    pub fn into_interface_description(self) -> Option<InterfaceDescriptionBlock<'a>>
+        ensures { result ≡ interface_in self.entry }
+    {
+        match self {
+            ParsedBlock::InterfaceDescription(block) => Some(block),
+            _ => None,
+        }
+    }
+}
+
+impl<'a> ParsedBlock<'a> {
+    /// The same block, with bytes and texts of its own: borrowed ones are copied, owned ones kept.
+    ///
+    /// `OutOfMemory` where a copy can't be made; the value is then dropped.
+    pub fn into_owned(self, alloc: Global) -> ResultParsing<ParsedBlock<'static>>
+        ensures same { IfOk result (λ kept. body_of kept ≡ body_of self.entry) }
+        ensures owned { IfOk result ParsedIsOwned }
+        ensures memory { IfErr result IsMemory }
+    {
+        Ok(self.keep(alloc)?)
+    }
+}
+
+impl<'a> KeepValue for ParsedBlock<'a> {
+    type Owned = ParsedBlock<'static>;
+
+    ghost is_same = { λ value kept. body_of kept ≡ body_of value };
+
+    ghost is_owned = { ParsedIsOwned };
+
+    fn keep(self, alloc: Global) -> Result<ParsedBlock<'static>, AllocError> {
+        Ok(match self {
+            ParsedBlock::SectionHeader(held) => ParsedBlock::SectionHeader(held.keep(alloc)?),
+            ParsedBlock::InterfaceDescription(held) => ParsedBlock::InterfaceDescription(held.keep(
+                alloc,
+            )?),
+            ParsedBlock::Packet(held) => ParsedBlock::Packet(held.keep(alloc)?),
+            ParsedBlock::SimplePacket(held) => ParsedBlock::SimplePacket(held.keep(alloc)?),
+            ParsedBlock::NameResolution(held) => ParsedBlock::NameResolution(held.keep(alloc)?),
+            ParsedBlock::InterfaceStatistics(held) => ParsedBlock::InterfaceStatistics(held.keep(
+                alloc,
+            )?),
+            ParsedBlock::EnhancedPacket(held) => ParsedBlock::EnhancedPacket(held.keep(alloc)?),
+            ParsedBlock::SystemdJournalExport(held) => ParsedBlock::SystemdJournalExport(held.keep(
+                alloc,
+            )?),
+            ParsedBlock::Unknown(held) => ParsedBlock::Unknown(held.keep(alloc)?),
+        })
+    }
+}

@@ -1,0 +1,300 @@
+//! Records of a name resolution body.
+
+ghost use Rattle.std.specs.Prelude.{⊤, ◌≡◌, length, IfOk, IfErr};
+ghost use Rattle.pcap_classic.specs.Answer.{TellsWhere, TellsAllWhere};
+ghost use Rattle.pcap_classic.specs.declared.rules.Rule.TheVariants.{Ipv4RecordTooShort, Ipv6RecordTooShort};
+ghost use Rattle.pcap_blocks.specs.Refusals.{FindsWhere, FindsAllWhere};
+ghost use Rattle.pcap_blocks.specs.Records.{AddressSays, form_of, RecordValueSays, RecordSays, ipv4_of, ipv6_of, name_record_of, Ipv4IsBorrowed, Ipv6IsBorrowed, RecordIsBorrowed, other_of, Ipv4IsOwned, Ipv6IsOwned, UnknownRecordIsOwned, RecordIsOwned};
+ghost use Rattle.pcap_blocks.specs.Owned.{IsMemory};
+
+use crate::fields::{split_padded, split_u16};
+use crate::names::names_from_slice;
+use crate::owned::{KeepValue, keep_all};
+use crate::refusal::Refusal;
+use byteorder::ByteOrder;
+use pcap_classic::rules::Rule;
+use pcap_classic::{CowBytes, ResultParsing};
+use std::alloc::{AllocError, Global};
+use std::borrow::CowStr;
+
+/// The names of an IPv4 address.
+#[derive(Clone, Debug, Drop)]
+pub struct Ipv4Record<'a> {
+    /// The address, 4 bytes.
+    pub ip_addr: CowBytes<'a>,
+    /// Its names.
+    pub names: Vec<CowStr<'a>>,
+}
+
+impl<'a> Ipv4Record<'a> {
+    /// The address and the names that all of a record's value is. They are borrowed from the slice.
+    ///
+    /// `InvalidField` under 6 bytes, then where a name has no zero byte behind it, or `Utf8Error` where one isn't
+    /// UTF-8. `OutOfMemory` where the list of names can't grow.
+    pub fn from_slice(alloc: Global, slice: &'a [u8]) -> ResultParsing<Self>
+        ensures tells { TellsAllWhere ⊤ (AddressSays 4 Ipv4RecordTooShort slice.now) ipv4_of result }
+        ensures borrowed { IfOk result Ipv4IsBorrowed }
+    {
+        Ok(Ipv4Record::read(alloc, slice)?)
+    }
+
+    fn read(alloc: Global, slice: &'a [u8]) -> Result<Self, Refusal>
+        ensures tells { FindsAllWhere ⊤ (AddressSays 4 Ipv4RecordTooShort slice.now) ipv4_of result }
+        ensures borrowed { IfOk result Ipv4IsBorrowed }
+    {
+        if slice.len() < 6 {
+            return Err(Refusal::Invalid(Rule::Ipv4RecordTooShort));
+        }
+        let (ip_addr, rest) = slice.split_at(4);
+        Ok(Ipv4Record {
+            ip_addr: CowBytes::Borrowed(ip_addr),
+            names: names_from_slice(alloc, rest)?,
+        })
+    }
+}
+
+/// The names of an IPv6 address.
+#[derive(Clone, Debug, Drop)]
+pub struct Ipv6Record<'a> {
+    /// The address, 16 bytes.
+    pub ip_addr: CowBytes<'a>,
+    /// Its names.
+    pub names: Vec<CowStr<'a>>,
+}
+
+impl<'a> Ipv6Record<'a> {
+    /// The address and the names that all of a record's value is. They are borrowed from the slice.
+    ///
+    /// `InvalidField` under 18 bytes, then where a name has no zero byte behind it, or `Utf8Error` where one isn't
+    /// UTF-8. `OutOfMemory` where the list of names can't grow.
+    pub fn from_slice(alloc: Global, slice: &'a [u8]) -> ResultParsing<Self>
+        ensures tells { TellsAllWhere ⊤ (AddressSays 16 Ipv6RecordTooShort slice.now) ipv6_of result }
+        ensures borrowed { IfOk result Ipv6IsBorrowed }
+    {
+        Ok(Ipv6Record::read(alloc, slice)?)
+    }
+
+    fn read(alloc: Global, slice: &'a [u8]) -> Result<Self, Refusal>
+        ensures tells { FindsAllWhere ⊤ (AddressSays 16 Ipv6RecordTooShort slice.now) ipv6_of result }
+        ensures borrowed { IfOk result Ipv6IsBorrowed }
+    {
+        if slice.len() < 18 {
+            return Err(Refusal::Invalid(Rule::Ipv6RecordTooShort));
+        }
+        let (ip_addr, rest) = slice.split_at(16);
+        Ok(Ipv6Record {
+            ip_addr: CowBytes::Borrowed(ip_addr),
+            names: names_from_slice(alloc, rest)?,
+        })
+    }
+}
+
+/// A record whose type has no name here.
+#[derive(Clone, Debug, Drop)]
+pub struct UnknownRecord<'a> {
+    /// Its type.
+    pub type_: u16,
+    /// The length of its value in bytes.
+    pub length: u16,
+    /// Its value.
+    pub value: CowBytes<'a>,
+}
+
+/// A record of a name resolution body.
+#[derive(Clone, Debug, Drop)]
+pub enum Record<'a> {
+    /// The end of the records.
+    End,
+    /// An IPv4 address and its names.
+    Ipv4(Ipv4Record<'a>),
+    /// An IPv6 address and its names.
+    Ipv6(Ipv6Record<'a>),
+    /// A record of another type.
+    Unknown(UnknownRecord<'a>),
+}
+
+impl<'a> Record<'a> {
+    /// The record at the front of a slice, and what follows its padding. Texts and bytes are borrowed from the slice.
+    ///
+    /// `IoError` under 4 bytes. `InvalidField` where its value passes the slice, then where its length doesn't fit its
+    /// type, then where a name has no zero byte behind it, or `Utf8Error` where one isn't UTF-8; last `InvalidField`
+    /// where its padding passes the slice. `OutOfMemory` where the list of names can't grow.
+    pub fn from_slice<B: ByteOrder>(
+        alloc: Global,
+        slice: &'a [u8],
+    ) -> ResultParsing<(&'a [u8], Self)>
+        ensures tells { TellsWhere ⊤ (RecordSays B.number_of slice.now) name_record_of result }
+        ensures borrowed { IfOk result (λ x. RecordIsBorrowed x.1) }
+    {
+        Ok(Record::read::<B>(alloc, slice)?)
+    }
+
+    pub(crate) fn read<B: ByteOrder>(
+        alloc: Global,
+        slice: &'a [u8],
+    ) -> Result<(&'a [u8], Self), Refusal>
+        ensures tells { FindsWhere ⊤ (RecordSays B.number_of slice.now) name_record_of result }
+        ensures borrowed { IfOk result (λ x. RecordIsBorrowed x.1) }
+    {
+        if slice.len() < 4 {
+            return Err(Refusal::Short);
+        }
+        let (type_, rest) = split_u16::<B>(slice);
+        let (len, after) = split_u16::<B>(rest);
+        if after.len() < len as usize {
+            return Err(Refusal::Invalid(Rule::RecordCut));
+        }
+        let (value, _more) = after.split_at(len as usize);
+        let record = Record::from_value(alloc, type_, len, value)?;
+        let Some((_value, rest)) = split_padded(after, len as usize) else {
+            return Err(Refusal::Invalid(Rule::RecordUnpadded));
+        };
+        Ok((rest, record))
+    }
+
+    // The record of this type whose value is all of a slice, of this length.
+    fn from_value(alloc: Global, type_: u16, len: u16, value: &'a [u8]) -> Result<Self, Refusal>
+        requires { len ≡ length value.now }
+        ensures tells { FindsAllWhere ⊤ (RecordValueSays (form_of type_) value.now) name_record_of result }
+        ensures borrowed { IfOk result RecordIsBorrowed }
+    {
+        match type_ {
+            0 => {
+                if value.is_empty() {
+                    Ok(Record::End)
+                } else {
+                    Err(Refusal::Invalid(Rule::EndNotEmpty))
+                }
+            }
+            1 => Ok(Record::Ipv4(Ipv4Record::read(alloc, value)?)),
+            2 => Ok(Record::Ipv6(Ipv6Record::read(alloc, value)?)),
+            _ => Ok(Record::Unknown(UnknownRecord {
+                type_,
+                length: len,
+                value: CowBytes::Borrowed(value),
+            })),
+        }
+    }
+}
+
+impl<'a> Ipv4Record<'a> {
+    /// The same record, with bytes and texts of its own: borrowed ones are copied, owned ones kept.
+    ///
+    /// `OutOfMemory` where a copy can't be made; the value is then dropped.
+    pub fn into_owned(self, alloc: Global) -> ResultParsing<Ipv4Record<'static>>
+        ensures same { IfOk result (λ kept. ipv4_of kept ≡ ipv4_of self.entry) }
+        ensures owned { IfOk result Ipv4IsOwned }
+        ensures memory { IfErr result IsMemory }
+    {
+        Ok(self.keep(alloc)?)
+    }
+}
+
+impl<'a> KeepValue for Ipv4Record<'a> {
+    type Owned = Ipv4Record<'static>;
+
+    ghost is_same = { λ value kept. ipv4_of kept ≡ ipv4_of value };
+
+    ghost is_owned = { Ipv4IsOwned };
+
+    fn keep(self, alloc: Global) -> Result<Ipv4Record<'static>, AllocError> {
+        let Ipv4Record { ip_addr, names } = self;
+        Ok(Ipv4Record {
+            ip_addr: ip_addr.keep(alloc)?,
+            names: keep_all(alloc, names)?,
+        })
+    }
+}
+
+impl<'a> Ipv6Record<'a> {
+    /// The same record, with bytes and texts of its own: borrowed ones are copied, owned ones kept.
+    ///
+    /// `OutOfMemory` where a copy can't be made; the value is then dropped.
+    pub fn into_owned(self, alloc: Global) -> ResultParsing<Ipv6Record<'static>>
+        ensures same { IfOk result (λ kept. ipv6_of kept ≡ ipv6_of self.entry) }
+        ensures owned { IfOk result Ipv6IsOwned }
+        ensures memory { IfErr result IsMemory }
+    {
+        Ok(self.keep(alloc)?)
+    }
+}
+
+impl<'a> KeepValue for Ipv6Record<'a> {
+    type Owned = Ipv6Record<'static>;
+
+    ghost is_same = { λ value kept. ipv6_of kept ≡ ipv6_of value };
+
+    ghost is_owned = { Ipv6IsOwned };
+
+    fn keep(self, alloc: Global) -> Result<Ipv6Record<'static>, AllocError> {
+        let Ipv6Record { ip_addr, names } = self;
+        Ok(Ipv6Record {
+            ip_addr: ip_addr.keep(alloc)?,
+            names: keep_all(alloc, names)?,
+        })
+    }
+}
+
+impl<'a> UnknownRecord<'a> {
+    /// The same record, with bytes and texts of its own: borrowed ones are copied, owned ones kept.
+    ///
+    /// `OutOfMemory` where a copy can't be made; the value is then dropped.
+    pub fn into_owned(self, alloc: Global) -> ResultParsing<UnknownRecord<'static>>
+        ensures same { IfOk result (λ kept. other_of kept ≡ other_of self.entry) }
+        ensures owned { IfOk result UnknownRecordIsOwned }
+        ensures memory { IfErr result IsMemory }
+    {
+        Ok(self.keep(alloc)?)
+    }
+}
+
+impl<'a> KeepValue for UnknownRecord<'a> {
+    type Owned = UnknownRecord<'static>;
+
+    ghost is_same = { λ value kept. other_of kept ≡ other_of value };
+
+    ghost is_owned = { UnknownRecordIsOwned };
+
+    fn keep(self, alloc: Global) -> Result<UnknownRecord<'static>, AllocError> {
+        let UnknownRecord {
+            type_,
+            length,
+            value,
+        } = self;
+        Ok(UnknownRecord {
+            type_,
+            length,
+            value: value.keep(alloc)?,
+        })
+    }
+}
+
+impl<'a> Record<'a> {
+    /// The same record, with bytes and texts of its own: borrowed ones are copied, owned ones kept.
+    ///
+    /// `OutOfMemory` where a copy can't be made; the value is then dropped.
+    pub fn into_owned(self, alloc: Global) -> ResultParsing<Record<'static>>
+        ensures same { IfOk result (λ kept. name_record_of kept ≡ name_record_of self.entry) }
+        ensures owned { IfOk result RecordIsOwned }
+        ensures memory { IfErr result IsMemory }
+    {
+        Ok(self.keep(alloc)?)
+    }
+}
+
+impl<'a> KeepValue for Record<'a> {
+    type Owned = Record<'static>;
+
+    ghost is_same = { λ value kept. name_record_of kept ≡ name_record_of value };
+
+    ghost is_owned = { RecordIsOwned };
+
+    fn keep(self, alloc: Global) -> Result<Record<'static>, AllocError> {
+        Ok(match self {
+            Record::End => Record::End,
+            Record::Ipv4(held) => Record::Ipv4(held.keep(alloc)?),
+            Record::Ipv6(held) => Record::Ipv6(held.keep(alloc)?),
+            Record::Unknown(held) => Record::Unknown(held.keep(alloc)?),
+        })
+    }
+}
