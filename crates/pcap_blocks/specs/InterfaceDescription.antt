@@ -4,10 +4,9 @@ use Rattle.std.specs.Cow.{cow_str_bytes, IsBorrowedStr, IsOwnedStr}
 use Rattle.pcap_classic.specs.declared.link.DataLink.{DataLink}
 use Rattle.pcap_classic.specs.declared.rules.Rule.TheVariants as rules
 use Rattle.pcap_classic.specs.Answer.{Order, Number, Verdict, Says}
-use Rattle.pcap_classic.specs.Bytes.{cow_bytes, IsBorrowed}
+use Rattle.pcap_classic.specs.Bytes.{cow_bytes, IsBorrowed, IsOwned}
 use Rattle.pcap_classic.specs.Faults.{Fault, Invalid}
 use Rattle.pcap_classic.specs.Link.{Link}
-use Rattle.pcap_blocks.specs.Owned.{IsOwned}
 use Rattle.pcap_blocks.specs.declared.interface_description.InterfaceDescriptionBlock.{InterfaceDescriptionBlock}
 use Rattle.pcap_blocks.specs.declared.interface_description.InterfaceDescriptionOption.{InterfaceDescriptionOption}
 use Rattle.pcap_blocks.specs.declared.interface_description.InterfaceDescriptionOption.TheVariants as option_of

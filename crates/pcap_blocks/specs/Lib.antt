@@ -14,4 +14,3 @@ pub mod Names
 pub mod Records
 pub mod NameResolution
 pub mod ParsedBlock
-pub mod Owned

@@ -2,10 +2,9 @@
 use Rattle.std.specs.Prelude.{◌≢◌, ℕ, List, ◌∷◌, map, All}
 use Rattle.std.specs.Cow.{cow_str_bytes, IsBorrowedStr, IsOwnedStr}
 use Rattle.pcap_classic.specs.Answer.{Order, Verdict, Says}
-use Rattle.pcap_classic.specs.Bytes.{cow_bytes, IsBorrowed}
+use Rattle.pcap_classic.specs.Bytes.{cow_bytes, IsBorrowed, IsOwned}
 use Rattle.pcap_classic.specs.Faults.{Fault}
 use Rattle.pcap_classic.specs.declared.rules.Rule.TheVariants.{NameIpv4Length, NameIpv6Length}
-use Rattle.pcap_blocks.specs.Owned.{IsOwned}
 use Rattle.pcap_blocks.specs.declared.name_resolution.NameResolutionBlock.{NameResolutionBlock}
 use Rattle.pcap_blocks.specs.declared.name_resolution.NameResolutionOption.{NameResolutionOption}
 use Rattle.pcap_blocks.specs.declared.name_resolution.NameResolutionOption.TheVariants as option_of

@@ -2,10 +2,9 @@
 use Rattle.std.specs.Prelude.{◌<◌, ℕ, List, ◌∷◌, length, map, All}
 use Rattle.std.specs.Cow.{cow_str_bytes, IsBorrowedStr, IsOwnedStr}
 use Rattle.pcap_classic.specs.Answer.{Order, Number, Verdict, Says}
-use Rattle.pcap_classic.specs.Bytes.{cow_bytes, IsBorrowed}
+use Rattle.pcap_classic.specs.Bytes.{cow_bytes, IsBorrowed, IsOwned}
 use Rattle.pcap_classic.specs.Faults.{Fault, Invalid}
 use Rattle.pcap_classic.specs.declared.rules.Rule.TheVariants.{EnhancedTooShort, PacketFlagsLength}
-use Rattle.pcap_blocks.specs.Owned.{IsOwned}
 use Rattle.pcap_blocks.specs.declared.packet.PacketBlock.{PacketBlock}
 use Rattle.pcap_blocks.specs.declared.packet.PacketOption.{PacketOption}
 use Rattle.pcap_blocks.specs.declared.packet.PacketOption.TheVariants as option_of

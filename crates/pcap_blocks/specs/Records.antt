@@ -2,11 +2,10 @@
 use Rattle.std.specs.Prelude.{◌≡◌, ◌≢◌, ℕ, ◌+◌, ◌<◌, ◌≤◌, List, [], ◌++◌, length, ◌==◌, if◌then◌else◌, map, All}
 use Rattle.std.specs.Cow.{cow_str_bytes, IsBorrowedStr, IsOwnedStr}
 use Rattle.pcap_classic.specs.Answer.{Order, Verdict, whole, lacks, faulty, Says}
-use Rattle.pcap_classic.specs.Bytes.{cow_bytes, IsBorrowed}
+use Rattle.pcap_classic.specs.Bytes.{cow_bytes, IsBorrowed, IsOwned}
 use Rattle.pcap_classic.specs.Faults.{Fault, Invalid, Io}
 use Rattle.pcap_classic.specs.declared.rules.Rule.{Rule}
 use Rattle.pcap_classic.specs.declared.rules.Rule.TheVariants.{RecordCut, EndNotEmpty, Ipv4RecordTooShort, Ipv6RecordTooShort, RecordUnpadded}
-use Rattle.pcap_blocks.specs.Owned.{IsOwned}
 use Rattle.pcap_blocks.specs.declared.record.Ipv4Record.{Ipv4Record}
 use Rattle.pcap_blocks.specs.declared.record.Ipv6Record.{Ipv6Record}
 use Rattle.pcap_blocks.specs.declared.record.UnknownRecord.{UnknownRecord}

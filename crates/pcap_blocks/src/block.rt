@@ -2,7 +2,7 @@
 
 ghost use Rattle.std.specs.Prelude.{◌≡◌, IfOk, IfErr};
 ghost use Rattle.pcap_blocks.specs.WholeBodies.{block_type, unknown_of, UnknownBlockIsBorrowed, UnknownBlockIsOwned};
-ghost use Rattle.pcap_blocks.specs.Owned.{IsMemory};
+ghost use Rattle.pcap_classic.specs.Errors.{IsMemory};
 
 use crate::owned::KeepValue;
 use pcap_classic::{CowBytes, ResultParsing};

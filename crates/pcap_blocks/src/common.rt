@@ -7,7 +7,7 @@ ghost use Rattle.pcap_blocks.specs.Refusals.{Finds, FindsWhere, FindsAll};
 ghost use Rattle.pcap_blocks.specs.Values.{Entry, Kind, Unknown, shape_at, custom_text, custom_bytes, EntrySays, bytes_in, integer_in};
 ghost use Rattle.pcap_blocks.specs.Options.{may_end_with_body, OptionSays, ListSays};
 ghost use Rattle.pcap_blocks.specs.CommonOptions.{unknown_entry, custom_bytes_entry, custom_text_entry, UnknownIsBorrowed, CustomBytesIsBorrowed, CustomTextIsBorrowed, UnknownIsOwned, CustomBytesIsOwned, CustomTextIsOwned};
-ghost use Rattle.pcap_blocks.specs.Owned.{IsMemory};
+ghost use Rattle.pcap_classic.specs.Errors.{IsMemory};
 
 use crate::fields::{split_padded, split_u16};
 use crate::owned::KeepValue;

@@ -4,7 +4,7 @@ ghost use Rattle.std.specs.Prelude.{⊤, ◌≡◌, IfOk, IfErr};
 ghost use Rattle.pcap_classic.specs.Answer.{TellsWhere};
 ghost use Rattle.pcap_blocks.specs.Refusals.{FindsWhere};
 ghost use Rattle.pcap_blocks.specs.InterfaceDescription.{interface_description, InterfaceSays, interface_entry, InterfaceOptionIsBorrowed, interface_of, InterfaceIsBorrowed, InterfaceOptionIsOwned, InterfaceIsOwned};
-ghost use Rattle.pcap_blocks.specs.Owned.{IsMemory};
+ghost use Rattle.pcap_classic.specs.Errors.{IsMemory};
 
 use crate::common::{
     CustomBinaryOption, CustomUtf8Option, PcapNgOption, UnknownOption, options_from_slice,

@@ -5,7 +5,7 @@ ghost use Rattle.pcap_classic.specs.Answer.{TellsWhere};
 ghost use Rattle.pcap_blocks.specs.Refusals.{FindsWhere};
 ghost use Rattle.pcap_blocks.specs.Records.{name_record_of, RecordIsBorrowed};
 ghost use Rattle.pcap_blocks.specs.NameResolution.{name_resolution, RecordsSay, ResolutionSays, name_entry, NameOptionIsBorrowed, resolution_of, ResolutionIsBorrowed, NameOptionIsOwned, ResolutionIsOwned};
-ghost use Rattle.pcap_blocks.specs.Owned.{IsMemory};
+ghost use Rattle.pcap_classic.specs.Errors.{IsMemory};
 
 use crate::common::{
     CustomBinaryOption, CustomUtf8Option, PcapNgOption, UnknownOption, options_from_slice,

@@ -3,8 +3,7 @@
 ghost use Rattle.std.specs.Prelude.{◌≡◌, All, IfOk};
 ghost use Rattle.std.specs.Cow.{cow_str_bytes, IsOwnedStr};
 ghost use Rattle.std.specs.List.{AllZip};
-ghost use Rattle.pcap_classic.specs.Bytes.{cow_bytes};
-ghost use Rattle.pcap_blocks.specs.Owned.{IsOwned};
+ghost use Rattle.pcap_classic.specs.Bytes.{cow_bytes, IsOwned};
 
 use pcap_classic::CowBytes;
 use std::alloc::{AllocError, Global};

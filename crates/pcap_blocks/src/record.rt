@@ -5,7 +5,7 @@ ghost use Rattle.pcap_classic.specs.Answer.{TellsWhere, TellsAllWhere};
 ghost use Rattle.pcap_classic.specs.declared.rules.Rule.TheVariants.{Ipv4RecordTooShort, Ipv6RecordTooShort};
 ghost use Rattle.pcap_blocks.specs.Refusals.{FindsWhere, FindsAllWhere};
 ghost use Rattle.pcap_blocks.specs.Records.{AddressSays, form_of, RecordValueSays, RecordSays, ipv4_of, ipv6_of, name_record_of, Ipv4IsBorrowed, Ipv6IsBorrowed, RecordIsBorrowed, other_of, Ipv4IsOwned, Ipv6IsOwned, UnknownRecordIsOwned, RecordIsOwned};
-ghost use Rattle.pcap_blocks.specs.Owned.{IsMemory};
+ghost use Rattle.pcap_classic.specs.Errors.{IsMemory};
 
 use crate::fields::{split_padded, split_u16};
 use crate::names::names_from_slice;

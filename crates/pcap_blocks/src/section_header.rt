@@ -4,7 +4,7 @@ ghost use Rattle.std.specs.Prelude.{⊤, ◌≡◌, ◌≤◌, ◌↔◌, length
 ghost use Rattle.pcap_classic.specs.Answer.{TellsWhere};
 ghost use Rattle.pcap_blocks.specs.Refusals.{FindsWhere};
 ghost use Rattle.pcap_blocks.specs.SectionHeader.{section_header, magic_order, SectionSays, AfterMagicSays, section_entry, SectionOptionIsBorrowed, section_of, SectionIsBorrowed, SectionOptionIsOwned, SectionIsOwned};
-ghost use Rattle.pcap_blocks.specs.Owned.{IsMemory};
+ghost use Rattle.pcap_classic.specs.Errors.{IsMemory};
 
 use crate::common::{
     CustomBinaryOption, CustomUtf8Option, PcapNgOption, UnknownOption, options_from_slice,

@@ -4,7 +4,7 @@ ghost use Rattle.std.specs.Prelude.{IfOk, ◌≡◌, IfErr};
 ghost use Rattle.pcap_classic.specs.Answer.{Tells};
 ghost use Rattle.pcap_blocks.specs.Refusals.{Finds};
 ghost use Rattle.pcap_blocks.specs.WholeBodies.{SimpleSays, simple_of, SimpleIsBorrowed, SimpleIsOwned};
-ghost use Rattle.pcap_blocks.specs.Owned.{IsMemory};
+ghost use Rattle.pcap_classic.specs.Errors.{IsMemory};
 
 use crate::fields::split_u32;
 use crate::owned::KeepValue;
