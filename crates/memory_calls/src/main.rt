@@ -1,4 +1,4 @@
-//! Makes each call that takes memory, and says of each whether it was refused.
+//! Makes calls that take memory, and says of each whether it was refused.
 #![tactic(auto)]
 
 use byteorder::BigEndian;
