@@ -1,9 +1,10 @@
-//! Replays calls of `pcap_blocks`: each line of the input is a call, the order of numbers, an option's code and a slice
-//! in hexadecimal digits, parted by bars. Each line of the output is what the call gives: the remainder and the value,
-//! or the refusal.
+//! Replays calls on slices: each line of the input is a call, the order of numbers, the resolution of times, an option's
+//! code and a slice in hexadecimal digits, parted by bars. Each line of the output is what the call gives: the remainder
+//! and the value, how many bytes it lacks, or the refusal.
 //!
-//! The calls of `stdin` were drawn at random, and the answers of `stdout` made by two programs that share nothing with
-//! this one, a model of the formats in Python and the Rust crate under this project's rules, which agree on each line.
+//! The calls of `stdin` were drawn at random. What they give was found by two programs that share nothing with this one,
+//! a model of the formats in Python and the Rust crate under this project's rules, which agree on each line; in `stdout`
+//! the model's answers are written as `Debug` writes these types.
 #![tactic(auto)]
 
 use byteorder::{BigEndian, ByteOrder, LittleEndian};
@@ -11,7 +12,8 @@ use pcap_blocks::{
     BlockType, CustomBinaryOption, CustomUtf8Option, EnhancedPacketOption, Ipv4Record, Ipv6Record,
     PacketOption, ParsedBlock, Record, str_from_u8_null_terminated,
 };
-use pcap_classic::PcapError;
+use pcap_classic::pcap::{Packet, PacketHeader, PcapHeader};
+use pcap_classic::{PcapError, TsResolution};
 use std::io;
 
 fn main(rt: HostRuntime) -> io::Result<()> {
@@ -23,14 +25,21 @@ fn main(rt: HostRuntime) -> io::Result<()> {
         let Some((order, rest)) = rest.split_once('|') else {
             continue;
         };
+        let Some((resolution, rest)) = rest.split_once('|') else {
+            continue;
+        };
         let Some((code, digits)) = rest.split_once('|') else {
             continue;
         };
+        let resolution = match resolution {
+            "nano" => TsResolution::NanoSecond,
+            _ => TsResolution::MicroSecond,
+        };
         if let (Ok(code), Ok(slice)) = (code.parse::<u16>(), hex::decode(rt.alloc(), digits)) {
             if order == "big" {
-                replay::<BigEndian>(&rt, call, code, slice.as_slice())?;
+                replay::<BigEndian>(&rt, call, resolution, code, slice.as_slice())?;
             } else {
-                replay::<LittleEndian>(&rt, call, code, slice.as_slice())?;
+                replay::<LittleEndian>(&rt, call, resolution, code, slice.as_slice())?;
             }
         }
     }
@@ -38,10 +47,40 @@ fn main(rt: HostRuntime) -> io::Result<()> {
 }
 
 // Prints what a call gives.
-fn replay<B: ByteOrder>(rt: &HostRuntime, call: &str, code: u16, slice: &[u8]) -> io::Result<()> {
+fn replay<B: ByteOrder>(
+    rt: &HostRuntime,
+    call: &str,
+    resolution: TsResolution,
+    code: u16,
+    slice: &[u8],
+) -> io::Result<()> {
     if let Some(name) = call.strip_prefix("ParsedBlock::from_slice ") {
         return replay_body::<B>(rt, name, slice);
     }
+    match call {
+        "PcapHeader::from_slice" => match PcapHeader::from_slice(slice) {
+            Ok((rest, header)) => println!(rt; "ok {rest:?} {header:?}"),
+            Err(error) => refused(rt, error),
+        },
+        "PacketHeader::from_slice" => match PacketHeader::from_slice::<B>(slice, resolution) {
+            Ok((rest, header)) => println!(rt; "ok {rest:?} {header:?}"),
+            Err(error) => refused(rt, error),
+        },
+        "Packet::from_slice" => match Packet::from_slice::<B>(slice, resolution) {
+            Ok((rest, packet)) => println!(rt; "ok {rest:?} {packet:?}"),
+            Err(error) => refused(rt, error),
+        },
+        _ => replay_options::<B>(rt, call, code, slice),
+    }
+}
+
+// The same of a call that reads options.
+fn replay_options<B: ByteOrder>(
+    rt: &HostRuntime,
+    call: &str,
+    code: u16,
+    slice: &[u8],
+) -> io::Result<()> {
     match call {
         "CustomBinaryOption::from_slice" => match CustomBinaryOption::from_slice::<B>(code, slice) {
             Ok(option) => println!(rt; "ok [] {option:?}"),
@@ -65,7 +104,6 @@ fn replay<B: ByteOrder>(rt: &HostRuntime, call: &str, code: u16, slice: &[u8]) -
         _ => replay_record::<B>(rt, call, slice),
     }
 }
-
 // The same of a call that reads names or records.
 fn replay_record<B: ByteOrder>(rt: &HostRuntime, call: &str, slice: &[u8]) -> io::Result<()> {
     match call {
@@ -109,17 +147,12 @@ fn replay_body<B: ByteOrder>(rt: &HostRuntime, name: &str, slice: &[u8]) -> io::
 }
 
 fn refused(rt: &HostRuntime, error: PcapError) -> io::Result<()> {
-    let (kind, text) = reason(&error);
-    println!(rt; "{kind}{text}")
-}
-
-// The kind of an error, and the text of an `InvalidField`.
-fn reason(error: &PcapError) -> (&'static str, &'static str) {
-    match error {
-        PcapError::IoError(_) => ("io", ""),
-        PcapError::Utf8Error(_) => ("utf8", ""),
-        PcapError::InvalidField(text) => ("invalid ", *text),
-        PcapError::OutOfMemory(_) => ("out of memory", ""),
-        _ => ("another error", ""),
+    match &error {
+        PcapError::IncompleteBuffer(lacking) => println!(rt; "needs {lacking}"),
+        PcapError::IoError(_) => println!(rt; "io"),
+        PcapError::Utf8Error(_) => println!(rt; "utf8"),
+        PcapError::InvalidField(text) => println!(rt; "invalid {text}"),
+        PcapError::OutOfMemory(_) => println!(rt; "out of memory"),
+        _ => println!(rt; "another error"),
     }
 }
