@@ -1,5 +1,5 @@
 -- The body of an interface description ('Interface Description Block').
-use Rattle.std.specs.Prelude.{◌<◌, ℕ, List, ◌∷◌, length, map, All}
+use Rattle.std.specs.Prelude.{◌≡◌, ◌<◌, ℕ, List, [], ◌∷◌, length, map, All}
 use Rattle.std.specs.Cow.{cow_str_bytes, IsBorrowedStr, IsOwnedStr}
 use Rattle.pcap_classic.specs.declared.link.DataLink.{DataLink}
 use Rattle.pcap_classic.specs.declared.rules.Rule.TheVariants as rules
@@ -146,3 +146,7 @@ InterfaceIsBorrowed block = All InterfaceOptionIsBorrowed block.options.items
 -- what its options hold is owned
 abbrev pub InterfaceIsOwned : InterfaceDescriptionBlock → Type 0
 InterfaceIsOwned block = All InterfaceOptionIsOwned block.options.items
+
+-- it is owned without memory being taken: it has no options
+abbrev pub InterfaceNeedsNoMemory : InterfaceDescriptionBlock → Type 0
+InterfaceNeedsNoMemory block = block.options.items ≡ []
