@@ -78,11 +78,11 @@ impl<'a> CustomBinaryOption<'a> {
         if src.len() < 4 {
             return Err(Refusal::Short);
         }
-        let (pen, value) = src.split_at(4);
+        let (pen, bytes) = src.split_at(4);
         Ok(CustomBinaryOption {
             code,
             pen: B::read_u32(pen),
-            value: CowBytes::Borrowed(value),
+            value: CowBytes::Borrowed(bytes),
         })
     }
 
