@@ -44,11 +44,11 @@ pub record Interface : Type 0 where
 
 -- s is the link type, the reserved number and the snap length of an interface, and then rest
 pub record InterfaceHead (order : Order) (interface : Interface) (s rest : List ℕ) : Type 0 where
-  pub link_number_is : ℕ
+  pub link_number : ℕ
   pub after_link : List ℕ
   pub after_reserved : List ℕ
-  pub link_number : Number order 2 link_number_is s after_link
-  pub link_is : Link link_number_is interface.linktype
+  pub link_number_is : Number order 2 link_number s after_link
+  pub link_is : Link link_number interface.linktype
   pub reserved_is : Number order 2 interface.reserved after_link after_reserved
   pub snaplen_is : Number order 4 interface.snaplen after_reserved rest
 
