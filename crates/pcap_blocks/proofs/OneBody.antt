@@ -33,7 +33,7 @@ unknown_only type s (faulty f) (whole b y) h k = absurd (omega (arith, h.1, k.2)
 unknown_only type s (faulty f) (lacks n) h k = absurd k
 unknown_only type s (faulty f) (faulty g) h k = rw (h.0, k.0) refl
 
-unknown_one : (type : BlockType) (s : List ℕ) → ExactlyOne (UnknownSays type s)
+pub unknown_one : (type : BlockType) (s : List ℕ) → ExactlyOne (UnknownSays type s)
 unknown_one type s =
     let body : UnknownBody = record { type_ = type; len = length s; bytes = s } in
     elim (cases_lt (length s) (2 ^ 32)) [

@@ -32,7 +32,7 @@ body_one order s =
     (λ ns after k. one_made (interface_with ns) (ListSays may_end_with_body order interface_description after) (list_one may_end_with_body order interface_description after))
 
 numbers_of : (order : Order) (i : Interface) (s rest : List ℕ) → InterfaceHead order i s rest → Values widths
-numbers_of order i s rest h = (h.link_number_is, (i.reserved, (i.snaplen, tt)))
+numbers_of order i s rest h = (h.link_number, (i.reserved, (i.snaplen, tt)))
 
 link_same : (n : ℕ) (a b : DataLink) → Link n a → Link n b → a ≡ b
 link_same n a b x y = plain_same a b x.plain y.plain (x.number ∙ sym y.number)
@@ -42,19 +42,19 @@ with_link i link = record { linktype = link; reserved = i.reserved; snaplen = i.
 
 made_of_head : (order : Order) (i : Interface) (s rest : List ℕ) (h : InterfaceHead order i s rest) → i ≡ interface_with (numbers_of order i s rest h) i.options
 unfolding interface_with with_link numbers_of
-made_of_head order i s rest h = ap (with_link i) (link_same h.link_number_is i.linktype (link_of h.link_number_is).0 h.link_is (link_of h.link_number_is).1)
+made_of_head order i s rest h = ap (with_link i) (link_same h.link_number i.linktype (link_of h.link_number).0 h.link_is (link_of h.link_number).1)
 
 head_to : (order : Order) (i : Interface) (s rest : List ℕ) (h : InterfaceHead order i s rest) → Numbers order widths (numbers_of order i s rest h) s rest
 unfolding numbers_of
-head_to order i s rest h = (h.after_link, h.link_number, (h.after_reserved, h.reserved_is, (rest, h.snaplen_is, refl)))
+head_to order i s rest h = (h.after_link, h.link_number_is, (h.after_reserved, h.reserved_is, (rest, h.snaplen_is, refl)))
 
 head_from : (order : Order) (ns : Values widths) (options : List Entry) (s rest : List ℕ) → Numbers order widths ns s rest → InterfaceHead order (interface_with ns options) s rest
 unfolding interface_with
 head_from order ns options s rest t = record {
-  link_number_is = ns.0;
+  link_number = ns.0;
   after_link = t.0;
   after_reserved = t.2.0;
-  link_number = t.1;
+  link_number_is = t.1;
   link_is = (link_of ns.0).1;
   reserved_is = t.2.1;
   snaplen_is = subst (λ (x : List ℕ). Number order 4 ns.1.1.0 t.2.0 x) t.2.2.2 t.2.2.1;

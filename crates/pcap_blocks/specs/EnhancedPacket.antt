@@ -1,5 +1,5 @@
 -- The body of an enhanced packet ('Enhanced Packet Block').
-use Rattle.std.specs.Prelude.{◌<◌, ℕ, List, ◌∷◌, length, map, All}
+use Rattle.std.specs.Prelude.{◌≡◌, ◌<◌, ℕ, List, [], ◌∷◌, length, map, All}
 use Rattle.std.specs.Cow.{cow_str_bytes, IsBorrowedStr, IsOwnedStr}
 use Rattle.pcap_classic.specs.Answer.{Order, Number, Verdict, Says}
 use Rattle.pcap_classic.specs.Bytes.{cow_bytes, IsBorrowed, IsOwned}
@@ -89,3 +89,8 @@ pub record EnhancedIsBorrowed (block : EnhancedPacketBlock) : Type 0 where
 pub record EnhancedIsOwned (block : EnhancedPacketBlock) : Type 0 where
   pub bytes : IsOwned block.data_
   pub options : All EnhancedOptionIsOwned block.options.items
+
+-- it is owned without memory being taken: its bytes are owned, and it has no options
+pub record EnhancedNeedsNoMemory (block : EnhancedPacketBlock) : Type 0 where
+  pub bytes : IsOwned block.data_
+  pub options : block.options.items ≡ []

@@ -1,5 +1,5 @@
 -- The body of an interface description ('Interface Description Block').
-use Rattle.std.specs.Prelude.{◌<◌, ℕ, List, ◌∷◌, length, map, All}
+use Rattle.std.specs.Prelude.{◌≡◌, ◌<◌, ℕ, List, [], ◌∷◌, length, map, All}
 use Rattle.std.specs.Cow.{cow_str_bytes, IsBorrowedStr, IsOwnedStr}
 use Rattle.pcap_classic.specs.declared.link.DataLink.{DataLink}
 use Rattle.pcap_classic.specs.declared.rules.Rule.TheVariants as rules
@@ -44,11 +44,11 @@ pub record Interface : Type 0 where
 
 -- s is the link type, the reserved number and the snap length of an interface, and then rest
 pub record InterfaceHead (order : Order) (interface : Interface) (s rest : List ℕ) : Type 0 where
-  pub link_number_is : ℕ
+  pub link_number : ℕ
   pub after_link : List ℕ
   pub after_reserved : List ℕ
-  pub link_number : Number order 2 link_number_is s after_link
-  pub link_is : Link link_number_is interface.linktype
+  pub link_number_is : Number order 2 link_number s after_link
+  pub link_is : Link link_number interface.linktype
   pub reserved_is : Number order 2 interface.reserved after_link after_reserved
   pub snaplen_is : Number order 4 interface.snaplen after_reserved rest
 
@@ -146,3 +146,7 @@ InterfaceIsBorrowed block = All InterfaceOptionIsBorrowed block.options.items
 -- what its options hold is owned
 abbrev pub InterfaceIsOwned : InterfaceDescriptionBlock → Type 0
 InterfaceIsOwned block = All InterfaceOptionIsOwned block.options.items
+
+-- it is owned without memory being taken: it has no options
+abbrev pub InterfaceNeedsNoMemory : InterfaceDescriptionBlock → Type 0
+InterfaceNeedsNoMemory block = block.options.items ≡ []

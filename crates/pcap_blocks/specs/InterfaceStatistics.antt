@@ -1,5 +1,5 @@
 -- The body of interface statistics ('Interface Statistics Block').
-use Rattle.std.specs.Prelude.{◌<◌, ℕ, List, ◌∷◌, length, map, All}
+use Rattle.std.specs.Prelude.{◌≡◌, ◌<◌, ℕ, List, [], ◌∷◌, length, map, All}
 use Rattle.std.specs.Cow.{cow_str_bytes, IsBorrowedStr, IsOwnedStr}
 use Rattle.pcap_classic.specs.Answer.{Order, Number, Verdict, Says}
 use Rattle.pcap_classic.specs.Faults.{Fault, Invalid}
@@ -102,3 +102,7 @@ StatisticsIsBorrowed block = All StatisticsOptionIsBorrowed block.options.items
 -- what its options hold is owned
 abbrev pub StatisticsIsOwned : InterfaceStatisticsBlock → Type 0
 StatisticsIsOwned block = All StatisticsOptionIsOwned block.options.items
+
+-- it is owned without memory being taken: it has no options
+abbrev pub StatisticsNeedsNoMemory : InterfaceStatisticsBlock → Type 0
+StatisticsNeedsNoMemory block = block.options.items ≡ []

@@ -1,5 +1,5 @@
 -- The body of a name resolution block ('Name Resolution Block').
-use Rattle.std.specs.Prelude.{◌≢◌, ℕ, List, ◌∷◌, map, All}
+use Rattle.std.specs.Prelude.{◌≡◌, ◌≢◌, ℕ, List, [], ◌∷◌, map, All}
 use Rattle.std.specs.Cow.{cow_str_bytes, IsBorrowedStr, IsOwnedStr}
 use Rattle.pcap_classic.specs.Answer.{Order, Verdict, Says}
 use Rattle.pcap_classic.specs.Bytes.{cow_bytes, IsBorrowed, IsOwned}
@@ -103,3 +103,8 @@ pub record ResolutionIsBorrowed (block : NameResolutionBlock) : Type 0 where
 pub record ResolutionIsOwned (block : NameResolutionBlock) : Type 0 where
   pub records : All RecordIsOwned block.records.items
   pub options : All NameOptionIsOwned block.options.items
+
+-- it is owned without memory being taken: it has neither records nor options
+pub record ResolutionNeedsNoMemory (block : NameResolutionBlock) : Type 0 where
+  pub records : block.records.items ≡ []
+  pub options : block.options.items ≡ []

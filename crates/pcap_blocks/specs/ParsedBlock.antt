@@ -10,12 +10,12 @@ use Rattle.pcap_blocks.specs.declared.parsed_block.ParsedBlock.TheVariants as bl
 use Rattle.pcap_blocks.specs.declared.section_header.SectionHeaderBlock.{SectionHeaderBlock}
 use Rattle.pcap_blocks.specs.declared.interface_description.InterfaceDescriptionBlock.{InterfaceDescriptionBlock}
 use Rattle.pcap_blocks.specs.Records.{Made}
-use Rattle.pcap_blocks.specs.SectionHeader.{Section, SectionSays, section_of, SectionIsBorrowed, SectionIsOwned}
-use Rattle.pcap_blocks.specs.InterfaceDescription.{Interface, InterfaceSays, interface_of, InterfaceIsBorrowed, InterfaceIsOwned}
-use Rattle.pcap_blocks.specs.PacketBody.{PacketBody, PacketBodySays, packet_of, PacketIsBorrowed, PacketIsOwned}
-use Rattle.pcap_blocks.specs.NameResolution.{Resolution, ResolutionSays, resolution_of, ResolutionIsBorrowed, ResolutionIsOwned}
-use Rattle.pcap_blocks.specs.InterfaceStatistics.{Statistics, StatisticsSays, statistics_of, StatisticsIsBorrowed, StatisticsIsOwned}
-use Rattle.pcap_blocks.specs.EnhancedPacket.{Enhanced, EnhancedSays, enhanced_of, EnhancedIsBorrowed, EnhancedIsOwned}
+use Rattle.pcap_blocks.specs.SectionHeader.{Section, SectionSays, section_of, SectionIsBorrowed, SectionIsOwned, SectionNeedsNoMemory}
+use Rattle.pcap_blocks.specs.InterfaceDescription.{Interface, InterfaceSays, interface_of, InterfaceIsBorrowed, InterfaceIsOwned, InterfaceNeedsNoMemory}
+use Rattle.pcap_blocks.specs.PacketBody.{PacketBody, PacketBodySays, packet_of, PacketIsBorrowed, PacketIsOwned, PacketNeedsNoMemory}
+use Rattle.pcap_blocks.specs.NameResolution.{Resolution, ResolutionSays, resolution_of, ResolutionIsBorrowed, ResolutionIsOwned, ResolutionNeedsNoMemory}
+use Rattle.pcap_blocks.specs.InterfaceStatistics.{Statistics, StatisticsSays, statistics_of, StatisticsIsBorrowed, StatisticsIsOwned, StatisticsNeedsNoMemory}
+use Rattle.pcap_blocks.specs.EnhancedPacket.{Enhanced, EnhancedSays, enhanced_of, EnhancedIsBorrowed, EnhancedIsOwned, EnhancedNeedsNoMemory}
 use Rattle.pcap_blocks.specs.WholeBodies.{Simple, SimpleSays, simple_of, SimpleIsBorrowed, SimpleIsOwned, JournalSays, journal_of, JournalIsBorrowed, JournalIsOwned, UnknownBody, unknown_of, UnknownBlockIsBorrowed, UnknownBlockIsOwned}
 
 -- a body, wherever its bytes lie
@@ -107,3 +107,15 @@ section_in _ = None
 abbrev pub interface_in : ParsedBlock → Option InterfaceDescriptionBlock
 interface_in (block_of.InterfaceDescription b) = Some b
 interface_in _ = None
+
+-- it is owned without memory being taken: all it holds is owned, and it has no list that would be made anew
+abbrev pub ParsedNeedsNoMemory : ParsedBlock → Type 0
+ParsedNeedsNoMemory (block_of.SectionHeader b) = SectionNeedsNoMemory b
+ParsedNeedsNoMemory (block_of.InterfaceDescription b) = InterfaceNeedsNoMemory b
+ParsedNeedsNoMemory (block_of.Packet b) = PacketNeedsNoMemory b
+ParsedNeedsNoMemory (block_of.SimplePacket b) = SimpleIsOwned b
+ParsedNeedsNoMemory (block_of.NameResolution b) = ResolutionNeedsNoMemory b
+ParsedNeedsNoMemory (block_of.InterfaceStatistics b) = StatisticsNeedsNoMemory b
+ParsedNeedsNoMemory (block_of.EnhancedPacket b) = EnhancedNeedsNoMemory b
+ParsedNeedsNoMemory (block_of.SystemdJournalExport b) = JournalIsOwned b
+ParsedNeedsNoMemory (block_of.Unknown b) = UnknownBlockIsOwned b

@@ -140,3 +140,18 @@ RecordIsOwned (record_of.Unknown r) = IsOwned r.value
 
 abbrev pub UnknownRecordIsOwned : UnknownRecord → Type 0
 UnknownRecordIsOwned r = IsOwned r.value
+
+-- they are owned without memory being taken: their bytes are owned, and they have no names
+pub record Ipv4NeedsNoMemory (r : Ipv4Record) : Type 0 where
+  pub bytes : IsOwned r.ip_addr
+  pub names : r.names.items ≡ []
+
+pub record Ipv6NeedsNoMemory (r : Ipv6Record) : Type 0 where
+  pub bytes : IsOwned r.ip_addr
+  pub names : r.names.items ≡ []
+
+abbrev pub RecordNeedsNoMemory : Record → Type 0
+RecordNeedsNoMemory record_of.End = Unit {0}
+RecordNeedsNoMemory (record_of.Ipv4 r) = Ipv4NeedsNoMemory r
+RecordNeedsNoMemory (record_of.Ipv6 r) = Ipv6NeedsNoMemory r
+RecordNeedsNoMemory (record_of.Unknown r) = UnknownRecordIsOwned r

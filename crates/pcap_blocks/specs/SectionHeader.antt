@@ -1,5 +1,5 @@
 -- The body of a section header ('Section Header Block').
-use Rattle.std.specs.Prelude.{◌≡◌, ◌≤◌, ◌<◌, ◌==◌, if◌then◌else◌, ℕ, ℤ, List, ◌∷◌, length, map, All, Option, Some, None}
+use Rattle.std.specs.Prelude.{◌≡◌, ◌≤◌, ◌<◌, ◌==◌, if◌then◌else◌, ℕ, ℤ, List, [], ◌∷◌, length, map, All, Option, Some, None}
 use Rattle.std.specs.Int.{w64, cast_signed}
 use Rattle.std.specs.Cow.{cow_str_bytes, IsBorrowedStr, IsOwnedStr}
 use Rattle.byteorder.specs.Endian.{big_number}
@@ -124,3 +124,7 @@ SectionIsBorrowed block = All SectionOptionIsBorrowed block.options.items
 -- what its options hold is owned
 abbrev pub SectionIsOwned : SectionHeaderBlock → Type 0
 SectionIsOwned block = All SectionOptionIsOwned block.options.items
+
+-- it is owned without memory being taken: it has no options
+abbrev pub SectionNeedsNoMemory : SectionHeaderBlock → Type 0
+SectionNeedsNoMemory block = block.options.items ≡ []

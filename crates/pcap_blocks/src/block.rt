@@ -1,6 +1,6 @@
 //! The types of blocks.
 
-ghost use Rattle.std.specs.Prelude.{◌≡◌, IfOk, IfErr};
+ghost use Rattle.std.specs.Prelude.{◌≡◌, IsOk, IfOk, IfErr};
 ghost use Rattle.pcap_blocks.specs.WholeBodies.{block_type, unknown_of, UnknownBlockIsBorrowed, UnknownBlockIsOwned};
 ghost use Rattle.pcap_classic.specs.Errors.{IsMemory};
 
@@ -74,6 +74,7 @@ impl<'a> UnknownBlock<'a> {
         ensures same { IfOk result (λ kept. unknown_of kept ≡ unknown_of self.entry) }
         ensures owned { IfOk result UnknownBlockIsOwned }
         ensures memory { IfErr result IsMemory }
+        ensures kept { UnknownBlockIsOwned self.entry → IsOk result }
     {
         Ok(self.keep(alloc)?)
     }
@@ -85,6 +86,8 @@ impl<'a> KeepValue for UnknownBlock<'a> {
     ghost is_same = { λ value kept. unknown_of kept ≡ unknown_of value };
 
     ghost is_owned = { UnknownBlockIsOwned };
+
+    ghost needs_no_memory = { UnknownBlockIsOwned };
 
     fn keep(self, alloc: Global) -> Result<UnknownBlock<'static>, AllocError> {
         let UnknownBlock {

@@ -1,6 +1,6 @@
 //! The options that every kind of block has, and the list of them.
 
-ghost use Rattle.std.specs.Prelude.{⊤, ◌≡◌, length, map, All, IfOk, IfSome, IfErr};
+ghost use Rattle.std.specs.Prelude.{⊤, ◌≡◌, length, map, All, IsOk, IfOk, IfSome, IfErr};
 ghost use Rattle.std.specs.Option.{option_map};
 ghost use Rattle.pcap_classic.specs.Answer.{TellsAll};
 ghost use Rattle.pcap_blocks.specs.Refusals.{Finds, FindsWhere, FindsAll};
@@ -78,11 +78,11 @@ impl<'a> CustomBinaryOption<'a> {
         if src.len() < 4 {
             return Err(Refusal::Short);
         }
-        let (pen, value) = src.split_at(4);
+        let (pen, bytes) = src.split_at(4);
         Ok(CustomBinaryOption {
             code,
             pen: B::read_u32(pen),
-            value: CowBytes::Borrowed(value),
+            value: CowBytes::Borrowed(bytes),
         })
     }
 
@@ -243,6 +243,7 @@ impl<'a> UnknownOption<'a> {
         ensures same { IfOk result (λ kept. unknown_entry kept ≡ unknown_entry self.entry) }
         ensures owned { IfOk result UnknownIsOwned }
         ensures memory { IfErr result IsMemory }
+        ensures kept { UnknownIsOwned self.entry → IsOk result }
     {
         Ok(self.keep(alloc)?)
     }
@@ -254,6 +255,8 @@ impl<'a> KeepValue for UnknownOption<'a> {
     ghost is_same = { λ value kept. unknown_entry kept ≡ unknown_entry value };
 
     ghost is_owned = { UnknownIsOwned };
+
+    ghost needs_no_memory = { UnknownIsOwned };
 
     fn keep(self, alloc: Global) -> Result<UnknownOption<'static>, AllocError> {
         let UnknownOption {
@@ -277,6 +280,7 @@ impl<'a> CustomBinaryOption<'a> {
         ensures same { IfOk result (λ kept. custom_bytes_entry kept ≡ custom_bytes_entry self.entry) }
         ensures owned { IfOk result CustomBytesIsOwned }
         ensures memory { IfErr result IsMemory }
+        ensures kept { CustomBytesIsOwned self.entry → IsOk result }
     {
         Ok(self.keep(alloc)?)
     }
@@ -288,6 +292,8 @@ impl<'a> KeepValue for CustomBinaryOption<'a> {
     ghost is_same = { λ value kept. custom_bytes_entry kept ≡ custom_bytes_entry value };
 
     ghost is_owned = { CustomBytesIsOwned };
+
+    ghost needs_no_memory = { CustomBytesIsOwned };
 
     fn keep(self, alloc: Global) -> Result<CustomBinaryOption<'static>, AllocError> {
         let CustomBinaryOption { code, pen, value } = self;
@@ -307,6 +313,7 @@ impl<'a> CustomUtf8Option<'a> {
         ensures same { IfOk result (λ kept. custom_text_entry kept ≡ custom_text_entry self.entry) }
         ensures owned { IfOk result CustomTextIsOwned }
         ensures memory { IfErr result IsMemory }
+        ensures kept { CustomTextIsOwned self.entry → IsOk result }
     {
         Ok(self.keep(alloc)?)
     }
@@ -318,6 +325,8 @@ impl<'a> KeepValue for CustomUtf8Option<'a> {
     ghost is_same = { λ value kept. custom_text_entry kept ≡ custom_text_entry value };
 
     ghost is_owned = { CustomTextIsOwned };
+
+    ghost needs_no_memory = { CustomTextIsOwned };
 
     fn keep(self, alloc: Global) -> Result<CustomUtf8Option<'static>, AllocError> {
         let CustomUtf8Option { code, pen, value } = self;

@@ -1,10 +1,10 @@
 //! Enhanced packets.
 
-ghost use Rattle.std.specs.Prelude.{⊤, map, All, IfOk, ◌≡◌, IfErr};
+ghost use Rattle.std.specs.Prelude.{⊤, map, All, IsOk, IfOk, ◌≡◌, IfErr};
 ghost use Rattle.pcap_classic.specs.Answer.{TellsWhere};
 ghost use Rattle.pcap_blocks.specs.Refusals.{FindsWhere};
 ghost use Rattle.pcap_blocks.specs.Options.{may_end_with_body, ListSays};
-ghost use Rattle.pcap_blocks.specs.EnhancedPacket.{enhanced_packet, EnhancedSays, enhanced_entry, EnhancedOptionIsBorrowed, enhanced_of, EnhancedIsBorrowed, EnhancedOptionIsOwned, EnhancedIsOwned};
+ghost use Rattle.pcap_blocks.specs.EnhancedPacket.{enhanced_packet, EnhancedSays, enhanced_entry, EnhancedOptionIsBorrowed, enhanced_of, EnhancedIsBorrowed, EnhancedOptionIsOwned, EnhancedIsOwned, EnhancedNeedsNoMemory};
 ghost use Rattle.pcap_classic.specs.Errors.{IsMemory};
 
 use crate::common::{
@@ -141,6 +141,7 @@ impl<'a> EnhancedPacketOption<'a> {
         ensures same { IfOk result (λ kept. enhanced_entry kept ≡ enhanced_entry self.entry) }
         ensures owned { IfOk result EnhancedOptionIsOwned }
         ensures memory { IfErr result IsMemory }
+        ensures kept { EnhancedOptionIsOwned self.entry → IsOk result }
     {
         Ok(self.keep(alloc)?)
     }
@@ -152,6 +153,8 @@ impl<'a> KeepValue for EnhancedPacketOption<'a> {
     ghost is_same = { λ value kept. enhanced_entry kept ≡ enhanced_entry value };
 
     ghost is_owned = { EnhancedOptionIsOwned };
+
+    ghost needs_no_memory = { EnhancedOptionIsOwned };
 
     fn keep(self, alloc: Global) -> Result<EnhancedPacketOption<'static>, AllocError> {
         Ok(match self {
@@ -178,6 +181,7 @@ impl<'a> EnhancedPacketBlock<'a> {
         ensures same { IfOk result (λ kept. enhanced_of kept ≡ enhanced_of self.entry) }
         ensures owned { IfOk result EnhancedIsOwned }
         ensures memory { IfErr result IsMemory }
+        ensures kept { EnhancedNeedsNoMemory self.entry → IsOk result }
     {
         Ok(self.keep(alloc)?)
     }
@@ -189,6 +193,8 @@ impl<'a> KeepValue for EnhancedPacketBlock<'a> {
     ghost is_same = { λ value kept. enhanced_of kept ≡ enhanced_of value };
 
     ghost is_owned = { EnhancedIsOwned };
+
+    ghost needs_no_memory = { EnhancedNeedsNoMemory };
 
     fn keep(self, alloc: Global) -> Result<EnhancedPacketBlock<'static>, AllocError> {
         let EnhancedPacketBlock {

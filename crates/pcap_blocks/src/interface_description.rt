@@ -1,9 +1,9 @@
 //! Interface descriptions.
 
-ghost use Rattle.std.specs.Prelude.{⊤, ◌≡◌, IfOk, IfErr};
+ghost use Rattle.std.specs.Prelude.{⊤, ◌≡◌, IsOk, IfOk, IfErr};
 ghost use Rattle.pcap_classic.specs.Answer.{TellsWhere};
 ghost use Rattle.pcap_blocks.specs.Refusals.{FindsWhere};
-ghost use Rattle.pcap_blocks.specs.InterfaceDescription.{interface_description, InterfaceSays, interface_entry, InterfaceOptionIsBorrowed, interface_of, InterfaceIsBorrowed, InterfaceOptionIsOwned, InterfaceIsOwned};
+ghost use Rattle.pcap_blocks.specs.InterfaceDescription.{interface_description, InterfaceSays, interface_entry, InterfaceOptionIsBorrowed, interface_of, InterfaceIsBorrowed, InterfaceOptionIsOwned, InterfaceIsOwned, InterfaceNeedsNoMemory};
 ghost use Rattle.pcap_classic.specs.Errors.{IsMemory};
 
 use crate::common::{
@@ -151,6 +151,7 @@ impl<'a> InterfaceDescriptionOption<'a> {
         ensures same { IfOk result (λ kept. interface_entry kept ≡ interface_entry self.entry) }
         ensures owned { IfOk result InterfaceOptionIsOwned }
         ensures memory { IfErr result IsMemory }
+        ensures kept { InterfaceOptionIsOwned self.entry → IsOk result }
     {
         Ok(self.keep(alloc)?)
     }
@@ -162,6 +163,8 @@ impl<'a> KeepValue for InterfaceDescriptionOption<'a> {
     ghost is_same = { λ value kept. interface_entry kept ≡ interface_entry value };
 
     ghost is_owned = { InterfaceOptionIsOwned };
+
+    ghost needs_no_memory = { InterfaceOptionIsOwned };
 
     fn keep(self, alloc: Global) -> Result<InterfaceDescriptionOption<'static>, AllocError> {
         Ok(match self {
@@ -217,6 +220,7 @@ impl<'a> InterfaceDescriptionBlock<'a> {
         ensures same { IfOk result (λ kept. interface_of kept ≡ interface_of self.entry) }
         ensures owned { IfOk result InterfaceIsOwned }
         ensures memory { IfErr result IsMemory }
+        ensures kept { InterfaceNeedsNoMemory self.entry → IsOk result }
     {
         Ok(self.keep(alloc)?)
     }
@@ -228,6 +232,8 @@ impl<'a> KeepValue for InterfaceDescriptionBlock<'a> {
     ghost is_same = { λ value kept. interface_of kept ≡ interface_of value };
 
     ghost is_owned = { InterfaceIsOwned };
+
+    ghost needs_no_memory = { InterfaceNeedsNoMemory };
 
     fn keep(self, alloc: Global) -> Result<InterfaceDescriptionBlock<'static>, AllocError> {
         let InterfaceDescriptionBlock {

@@ -1,9 +1,9 @@
 //! Interface statistics.
 
-ghost use Rattle.std.specs.Prelude.{⊤, IfOk, ◌≡◌, IfErr};
+ghost use Rattle.std.specs.Prelude.{⊤, IsOk, IfOk, ◌≡◌, IfErr};
 ghost use Rattle.pcap_classic.specs.Answer.{TellsWhere};
 ghost use Rattle.pcap_blocks.specs.Refusals.{FindsWhere};
-ghost use Rattle.pcap_blocks.specs.InterfaceStatistics.{interface_statistics, StatisticsSays, statistics_entry, StatisticsOptionIsBorrowed, statistics_of, StatisticsIsBorrowed, StatisticsOptionIsOwned, StatisticsIsOwned};
+ghost use Rattle.pcap_blocks.specs.InterfaceStatistics.{interface_statistics, StatisticsSays, statistics_entry, StatisticsOptionIsBorrowed, statistics_of, StatisticsIsBorrowed, StatisticsOptionIsOwned, StatisticsIsOwned, StatisticsNeedsNoMemory};
 ghost use Rattle.pcap_classic.specs.Errors.{IsMemory};
 
 use crate::common::{
@@ -127,6 +127,7 @@ impl<'a> InterfaceStatisticsOption<'a> {
         ensures same { IfOk result (λ kept. statistics_entry kept ≡ statistics_entry self.entry) }
         ensures owned { IfOk result StatisticsOptionIsOwned }
         ensures memory { IfErr result IsMemory }
+        ensures kept { StatisticsOptionIsOwned self.entry → IsOk result }
     {
         Ok(self.keep(alloc)?)
     }
@@ -138,6 +139,8 @@ impl<'a> KeepValue for InterfaceStatisticsOption<'a> {
     ghost is_same = { λ value kept. statistics_entry kept ≡ statistics_entry value };
 
     ghost is_owned = { StatisticsOptionIsOwned };
+
+    ghost needs_no_memory = { StatisticsOptionIsOwned };
 
     fn keep(self, alloc: Global) -> Result<InterfaceStatisticsOption<'static>, AllocError> {
         Ok(match self {
@@ -174,6 +177,7 @@ impl<'a> InterfaceStatisticsBlock<'a> {
         ensures same { IfOk result (λ kept. statistics_of kept ≡ statistics_of self.entry) }
         ensures owned { IfOk result StatisticsIsOwned }
         ensures memory { IfErr result IsMemory }
+        ensures kept { StatisticsNeedsNoMemory self.entry → IsOk result }
     {
         Ok(self.keep(alloc)?)
     }
@@ -185,6 +189,8 @@ impl<'a> KeepValue for InterfaceStatisticsBlock<'a> {
     ghost is_same = { λ value kept. statistics_of kept ≡ statistics_of value };
 
     ghost is_owned = { StatisticsIsOwned };
+
+    ghost needs_no_memory = { StatisticsNeedsNoMemory };
 
     fn keep(self, alloc: Global) -> Result<InterfaceStatisticsBlock<'static>, AllocError> {
         let InterfaceStatisticsBlock {

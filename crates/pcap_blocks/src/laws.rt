@@ -1,6 +1,6 @@
 //! Laws of the grammar. Each function does nothing: its contract is the law.
 
-ghost use Rattle.std.specs.Prelude.{◌≡◌, ℕ, List};
+ghost use Rattle.std.specs.Prelude.{◌≡◌, ◌↔◌, ℕ, List, IsTrue};
 ghost use Rattle.pcap_classic.specs.Answer.{Order};
 ghost use Rattle.pcap_classic.specs.Laws.{ExactlyOne};
 ghost use Rattle.pcap_blocks.specs.Values.{Entry, Kind, Shape, EntrySays};
@@ -15,8 +15,10 @@ ghost use Rattle.pcap_blocks.specs.Names.{NameSays, NamesSay};
 ghost use Rattle.pcap_blocks.specs.Records.{AddressSays, RecordSays};
 ghost use Rattle.pcap_blocks.specs.NameResolution.{RecordsSay, ResolutionSays};
 ghost use Rattle.pcap_blocks.specs.declared.block.BlockType.{BlockType};
-ghost use Rattle.pcap_blocks.specs.ParsedBlock.{BodySays};
+ghost use Rattle.pcap_blocks.specs.ParsedBlock.{UnknownSays, BodySays};
 ghost use Rattle.pcap_blocks.specs.WholeBodies.{SimpleSays, JournalSays};
+
+use crate::BlockType;
 
 /// Of all bytes of a value exactly one thing is said, whatever its shape: the option that it is, or one fault. This
 /// holds of the custom options.
@@ -69,6 +71,11 @@ pub fn journal_is_one()
     ensures { (s : List ℕ) → ExactlyOne (JournalSays s) }
 {}
 
+/// The same where the body of an unknown block is.
+pub fn unknown_is_one()
+    ensures { (type : BlockType) (s : List ℕ) → ExactlyOne (UnknownSays type s) }
+{}
+
 /// The same where a name is.
 pub fn name_is_one()
     ensures { (s : List ℕ) → ExactlyOne (NameSays s) }
@@ -112,3 +119,10 @@ pub fn list_is_kept()
     ensures no_others { (order : Order) (kind : Kind) (options others : List Entry) (s rest more : List ℕ) →
         OptionList wants_end order kind options s rest → OptionList may_end_with_body order kind others s more → (others ≡ options) × (more ≡ rest) }
 {}
+
+/// Two types of blocks are equal where they are the same variant and, where unknown, have the same number.
+pub fn types_are_equal(left: BlockType, right: BlockType) -> bool
+    ensures { IsTrue result ↔ (left ≡ right) }
+{
+    left == right
+}

@@ -1,10 +1,10 @@
 //! Name resolution.
 
-ghost use Rattle.std.specs.Prelude.{⊤, map, All, IfOk, ◌≡◌, IfErr};
+ghost use Rattle.std.specs.Prelude.{⊤, map, All, IsOk, IfOk, ◌≡◌, IfErr};
 ghost use Rattle.pcap_classic.specs.Answer.{TellsWhere};
 ghost use Rattle.pcap_blocks.specs.Refusals.{FindsWhere};
 ghost use Rattle.pcap_blocks.specs.Records.{name_record_of, RecordIsBorrowed};
-ghost use Rattle.pcap_blocks.specs.NameResolution.{name_resolution, RecordsSay, ResolutionSays, name_entry, NameOptionIsBorrowed, resolution_of, ResolutionIsBorrowed, NameOptionIsOwned, ResolutionIsOwned};
+ghost use Rattle.pcap_blocks.specs.NameResolution.{name_resolution, RecordsSay, ResolutionSays, name_entry, NameOptionIsBorrowed, resolution_of, ResolutionIsBorrowed, NameOptionIsOwned, ResolutionIsOwned, ResolutionNeedsNoMemory};
 ghost use Rattle.pcap_classic.specs.Errors.{IsMemory};
 
 use crate::common::{
@@ -126,6 +126,7 @@ impl<'a> NameResolutionOption<'a> {
         ensures same { IfOk result (λ kept. name_entry kept ≡ name_entry self.entry) }
         ensures owned { IfOk result NameOptionIsOwned }
         ensures memory { IfErr result IsMemory }
+        ensures kept { NameOptionIsOwned self.entry → IsOk result }
     {
         Ok(self.keep(alloc)?)
     }
@@ -137,6 +138,8 @@ impl<'a> KeepValue for NameResolutionOption<'a> {
     ghost is_same = { λ value kept. name_entry kept ≡ name_entry value };
 
     ghost is_owned = { NameOptionIsOwned };
+
+    ghost needs_no_memory = { NameOptionIsOwned };
 
     fn keep(self, alloc: Global) -> Result<NameResolutionOption<'static>, AllocError> {
         Ok(match self {
@@ -169,6 +172,7 @@ impl<'a> NameResolutionBlock<'a> {
         ensures same { IfOk result (λ kept. resolution_of kept ≡ resolution_of self.entry) }
         ensures owned { IfOk result ResolutionIsOwned }
         ensures memory { IfErr result IsMemory }
+        ensures kept { ResolutionNeedsNoMemory self.entry → IsOk result }
     {
         Ok(self.keep(alloc)?)
     }
@@ -180,6 +184,8 @@ impl<'a> KeepValue for NameResolutionBlock<'a> {
     ghost is_same = { λ value kept. resolution_of kept ≡ resolution_of value };
 
     ghost is_owned = { ResolutionIsOwned };
+
+    ghost needs_no_memory = { ResolutionNeedsNoMemory };
 
     fn keep(self, alloc: Global) -> Result<NameResolutionBlock<'static>, AllocError> {
         let NameResolutionBlock { records, options } = self;

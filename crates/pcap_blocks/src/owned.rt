@@ -1,6 +1,6 @@
 //! Values that outlive the bytes they were read from.
 
-ghost use Rattle.std.specs.Prelude.{◌≡◌, All, IfOk};
+ghost use Rattle.std.specs.Prelude.{◌≡◌, [], All, IsOk, IfOk};
 ghost use Rattle.std.specs.Cow.{cow_str_bytes, IsOwnedStr};
 ghost use Rattle.std.specs.List.{AllZip};
 ghost use Rattle.pcap_classic.specs.Bytes.{cow_bytes, IsOwned};
@@ -19,10 +19,14 @@ pub(crate) trait KeepValue: Sized {
     // Each text and all bytes of it are owned.
     ghost is_owned: { Self.Owned → Type 0 };
 
+    // All of it is owned already, and it has no list to make anew.
+    ghost needs_no_memory: { Self → Type 0 };
+
     // The value with borrowed bytes and texts copied; owned ones are kept.
     fn keep(self, alloc: Global) -> Result<Self::Owned, AllocError>
         ensures same { IfOk result (is_same self) }
-        ensures owned { IfOk result is_owned };
+        ensures owned { IfOk result is_owned }
+        ensures kept { needs_no_memory self → IsOk result };
 }
 
 // Each value of a list, kept.
@@ -32,6 +36,7 @@ pub(crate) fn keep_all<T: KeepValue<Owned: Drop> + Drop>(
 ) -> Result<Vec<T::Owned>, AllocError>
     ensures same { IfOk result (λ kept. AllZip T.is_same items.items kept.items) }
     ensures owned { IfOk result (λ kept. All T.is_owned kept.items) }
+    ensures kept { items.items ≡ [] → IsOk result }
 {
     let mut kept = Vec::with_capacity(alloc, items.len())?;
     for item in items {
@@ -47,6 +52,8 @@ impl<'a> KeepValue for CowStr<'a> {
 
     ghost is_owned = { IsOwnedStr };
 
+    ghost needs_no_memory = { IsOwnedStr };
+
     fn keep(self, alloc: Global) -> Result<CowStr<'static>, AllocError> {
         Ok(CowStr::Owned(self.into_owned(alloc)?))
     }
@@ -58,6 +65,8 @@ impl<'a> KeepValue for CowBytes<'a> {
     ghost is_same = { λ bytes kept. cow_bytes kept ≡ cow_bytes bytes };
 
     ghost is_owned = { IsOwned };
+
+    ghost needs_no_memory = { IsOwned };
 
     fn keep(self, alloc: Global) -> Result<CowBytes<'static>, AllocError> {
         match self {

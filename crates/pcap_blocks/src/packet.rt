@@ -1,10 +1,10 @@
 //! Packet blocks, which enhanced packets have replaced.
 
-ghost use Rattle.std.specs.Prelude.{⊤, map, All, IfOk, ◌≡◌, IfErr};
+ghost use Rattle.std.specs.Prelude.{⊤, map, All, IsOk, IfOk, ◌≡◌, IfErr};
 ghost use Rattle.pcap_classic.specs.Answer.{TellsWhere};
 ghost use Rattle.pcap_blocks.specs.Refusals.{FindsWhere};
 ghost use Rattle.pcap_blocks.specs.Options.{may_end_with_body, ListSays};
-ghost use Rattle.pcap_blocks.specs.PacketBody.{packet_kind, PacketBodySays, packet_entry, PacketOptionIsBorrowed, packet_of, PacketIsBorrowed, PacketOptionIsOwned, PacketIsOwned};
+ghost use Rattle.pcap_blocks.specs.PacketBody.{packet_kind, PacketBodySays, packet_entry, PacketOptionIsBorrowed, packet_of, PacketIsBorrowed, PacketOptionIsOwned, PacketIsOwned, PacketNeedsNoMemory};
 ghost use Rattle.pcap_classic.specs.Errors.{IsMemory};
 
 use crate::common::{
@@ -142,6 +142,7 @@ impl<'a> PacketOption<'a> {
         ensures same { IfOk result (λ kept. packet_entry kept ≡ packet_entry self.entry) }
         ensures owned { IfOk result PacketOptionIsOwned }
         ensures memory { IfErr result IsMemory }
+        ensures kept { PacketOptionIsOwned self.entry → IsOk result }
     {
         Ok(self.keep(alloc)?)
     }
@@ -153,6 +154,8 @@ impl<'a> KeepValue for PacketOption<'a> {
     ghost is_same = { λ value kept. packet_entry kept ≡ packet_entry value };
 
     ghost is_owned = { PacketOptionIsOwned };
+
+    ghost needs_no_memory = { PacketOptionIsOwned };
 
     fn keep(self, alloc: Global) -> Result<PacketOption<'static>, AllocError> {
         Ok(match self {
@@ -174,6 +177,7 @@ impl<'a> PacketBlock<'a> {
         ensures same { IfOk result (λ kept. packet_of kept ≡ packet_of self.entry) }
         ensures owned { IfOk result PacketIsOwned }
         ensures memory { IfErr result IsMemory }
+        ensures kept { PacketNeedsNoMemory self.entry → IsOk result }
     {
         Ok(self.keep(alloc)?)
     }
@@ -185,6 +189,8 @@ impl<'a> KeepValue for PacketBlock<'a> {
     ghost is_same = { λ value kept. packet_of kept ≡ packet_of value };
 
     ghost is_owned = { PacketIsOwned };
+
+    ghost needs_no_memory = { PacketNeedsNoMemory };
 
     fn keep(self, alloc: Global) -> Result<PacketBlock<'static>, AllocError> {
         let PacketBlock {

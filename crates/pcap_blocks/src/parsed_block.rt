@@ -1,9 +1,9 @@
 //! Blocks of all types.
 
-ghost use Rattle.std.specs.Prelude.{◌≡◌, IfOk, IfErr};
+ghost use Rattle.std.specs.Prelude.{◌≡◌, IsOk, IfOk, IfErr};
 ghost use Rattle.pcap_classic.specs.Answer.{TellsWhere};
 ghost use Rattle.pcap_blocks.specs.Refusals.{FindsWhere};
-ghost use Rattle.pcap_blocks.specs.ParsedBlock.{BodySays, HasLists, body_of, ParsedIsBorrowed, section_in, interface_in, ParsedIsOwned};
+ghost use Rattle.pcap_blocks.specs.ParsedBlock.{BodySays, HasLists, body_of, ParsedIsBorrowed, section_in, interface_in, ParsedIsOwned, ParsedNeedsNoMemory};
 ghost use Rattle.pcap_classic.specs.Errors.{IsMemory};
 
 use crate::block::{BlockType, UnknownBlock};
@@ -135,6 +135,7 @@ impl<'a> ParsedBlock<'a> {
         ensures same { IfOk result (λ kept. body_of kept ≡ body_of self.entry) }
         ensures owned { IfOk result ParsedIsOwned }
         ensures memory { IfErr result IsMemory }
+        ensures kept { ParsedNeedsNoMemory self.entry → IsOk result }
     {
         Ok(self.keep(alloc)?)
     }
@@ -146,6 +147,8 @@ impl<'a> KeepValue for ParsedBlock<'a> {
     ghost is_same = { λ value kept. body_of kept ≡ body_of value };
 
     ghost is_owned = { ParsedIsOwned };
+
+    ghost needs_no_memory = { ParsedNeedsNoMemory };
 
     fn keep(self, alloc: Global) -> Result<ParsedBlock<'static>, AllocError> {
         Ok(match self {

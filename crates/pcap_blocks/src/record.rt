@@ -1,10 +1,10 @@
 //! Records of a name resolution body.
 
-ghost use Rattle.std.specs.Prelude.{⊤, ◌≡◌, length, IfOk, IfErr};
+ghost use Rattle.std.specs.Prelude.{⊤, ◌≡◌, length, IsOk, IfOk, IfErr};
 ghost use Rattle.pcap_classic.specs.Answer.{TellsWhere, TellsAllWhere};
 ghost use Rattle.pcap_classic.specs.declared.rules.Rule.TheVariants.{Ipv4RecordTooShort, Ipv6RecordTooShort};
 ghost use Rattle.pcap_blocks.specs.Refusals.{FindsWhere, FindsAllWhere};
-ghost use Rattle.pcap_blocks.specs.Records.{AddressSays, form_of, RecordValueSays, RecordSays, ipv4_of, ipv6_of, name_record_of, Ipv4IsBorrowed, Ipv6IsBorrowed, RecordIsBorrowed, other_of, Ipv4IsOwned, Ipv6IsOwned, UnknownRecordIsOwned, RecordIsOwned};
+ghost use Rattle.pcap_blocks.specs.Records.{AddressSays, form_of, RecordValueSays, RecordSays, ipv4_of, ipv6_of, name_record_of, Ipv4IsBorrowed, Ipv6IsBorrowed, RecordIsBorrowed, other_of, Ipv4IsOwned, Ipv4NeedsNoMemory, Ipv6IsOwned, Ipv6NeedsNoMemory, UnknownRecordIsOwned, RecordIsOwned, RecordNeedsNoMemory};
 ghost use Rattle.pcap_classic.specs.Errors.{IsMemory};
 
 use crate::fields::{split_padded, split_u16};
@@ -185,6 +185,7 @@ impl<'a> Ipv4Record<'a> {
         ensures same { IfOk result (λ kept. ipv4_of kept ≡ ipv4_of self.entry) }
         ensures owned { IfOk result Ipv4IsOwned }
         ensures memory { IfErr result IsMemory }
+        ensures kept { Ipv4NeedsNoMemory self.entry → IsOk result }
     {
         Ok(self.keep(alloc)?)
     }
@@ -196,6 +197,8 @@ impl<'a> KeepValue for Ipv4Record<'a> {
     ghost is_same = { λ value kept. ipv4_of kept ≡ ipv4_of value };
 
     ghost is_owned = { Ipv4IsOwned };
+
+    ghost needs_no_memory = { Ipv4NeedsNoMemory };
 
     fn keep(self, alloc: Global) -> Result<Ipv4Record<'static>, AllocError> {
         let Ipv4Record { ip_addr, names } = self;
@@ -214,6 +217,7 @@ impl<'a> Ipv6Record<'a> {
         ensures same { IfOk result (λ kept. ipv6_of kept ≡ ipv6_of self.entry) }
         ensures owned { IfOk result Ipv6IsOwned }
         ensures memory { IfErr result IsMemory }
+        ensures kept { Ipv6NeedsNoMemory self.entry → IsOk result }
     {
         Ok(self.keep(alloc)?)
     }
@@ -225,6 +229,8 @@ impl<'a> KeepValue for Ipv6Record<'a> {
     ghost is_same = { λ value kept. ipv6_of kept ≡ ipv6_of value };
 
     ghost is_owned = { Ipv6IsOwned };
+
+    ghost needs_no_memory = { Ipv6NeedsNoMemory };
 
     fn keep(self, alloc: Global) -> Result<Ipv6Record<'static>, AllocError> {
         let Ipv6Record { ip_addr, names } = self;
@@ -243,6 +249,7 @@ impl<'a> UnknownRecord<'a> {
         ensures same { IfOk result (λ kept. other_of kept ≡ other_of self.entry) }
         ensures owned { IfOk result UnknownRecordIsOwned }
         ensures memory { IfErr result IsMemory }
+        ensures kept { UnknownRecordIsOwned self.entry → IsOk result }
     {
         Ok(self.keep(alloc)?)
     }
@@ -254,6 +261,8 @@ impl<'a> KeepValue for UnknownRecord<'a> {
     ghost is_same = { λ value kept. other_of kept ≡ other_of value };
 
     ghost is_owned = { UnknownRecordIsOwned };
+
+    ghost needs_no_memory = { UnknownRecordIsOwned };
 
     fn keep(self, alloc: Global) -> Result<UnknownRecord<'static>, AllocError> {
         let UnknownRecord {
@@ -277,6 +286,7 @@ impl<'a> Record<'a> {
         ensures same { IfOk result (λ kept. name_record_of kept ≡ name_record_of self.entry) }
         ensures owned { IfOk result RecordIsOwned }
         ensures memory { IfErr result IsMemory }
+        ensures kept { RecordNeedsNoMemory self.entry → IsOk result }
     {
         Ok(self.keep(alloc)?)
     }
@@ -288,6 +298,8 @@ impl<'a> KeepValue for Record<'a> {
     ghost is_same = { λ value kept. name_record_of kept ≡ name_record_of value };
 
     ghost is_owned = { RecordIsOwned };
+
+    ghost needs_no_memory = { RecordNeedsNoMemory };
 
     fn keep(self, alloc: Global) -> Result<Record<'static>, AllocError> {
         Ok(match self {

@@ -1,9 +1,9 @@
 //! Section headers.
 
-ghost use Rattle.std.specs.Prelude.{⊤, ◌≡◌, ◌≤◌, ◌↔◌, length, IfOk, IsTrue, IsSome, Some, IfErr};
+ghost use Rattle.std.specs.Prelude.{⊤, ◌≡◌, ◌≤◌, ◌↔◌, length, IsOk, IfOk, IsTrue, IsSome, Some, IfErr};
 ghost use Rattle.pcap_classic.specs.Answer.{TellsWhere};
 ghost use Rattle.pcap_blocks.specs.Refusals.{FindsWhere};
-ghost use Rattle.pcap_blocks.specs.SectionHeader.{section_header, magic_order, SectionSays, AfterMagicSays, section_entry, SectionOptionIsBorrowed, section_of, SectionIsBorrowed, SectionOptionIsOwned, SectionIsOwned};
+ghost use Rattle.pcap_blocks.specs.SectionHeader.{section_header, magic_order, SectionSays, AfterMagicSays, section_entry, SectionOptionIsBorrowed, section_of, SectionIsBorrowed, SectionOptionIsOwned, SectionIsOwned, SectionNeedsNoMemory};
 ghost use Rattle.pcap_classic.specs.Errors.{IsMemory};
 
 use crate::common::{
@@ -155,6 +155,7 @@ impl<'a> SectionHeaderOption<'a> {
         ensures same { IfOk result (λ kept. section_entry kept ≡ section_entry self.entry) }
         ensures owned { IfOk result SectionOptionIsOwned }
         ensures memory { IfErr result IsMemory }
+        ensures kept { SectionOptionIsOwned self.entry → IsOk result }
     {
         Ok(self.keep(alloc)?)
     }
@@ -166,6 +167,8 @@ impl<'a> KeepValue for SectionHeaderOption<'a> {
     ghost is_same = { λ value kept. section_entry kept ≡ section_entry value };
 
     ghost is_owned = { SectionOptionIsOwned };
+
+    ghost needs_no_memory = { SectionOptionIsOwned };
 
     fn keep(self, alloc: Global) -> Result<SectionHeaderOption<'static>, AllocError> {
         Ok(match self {
@@ -194,6 +197,7 @@ impl<'a> SectionHeaderBlock<'a> {
         ensures same { IfOk result (λ kept. section_of kept ≡ section_of self.entry) }
         ensures owned { IfOk result SectionIsOwned }
         ensures memory { IfErr result IsMemory }
+        ensures kept { SectionNeedsNoMemory self.entry → IsOk result }
     {
         Ok(self.keep(alloc)?)
     }
@@ -205,6 +209,8 @@ impl<'a> KeepValue for SectionHeaderBlock<'a> {
     ghost is_same = { λ value kept. section_of kept ≡ section_of value };
 
     ghost is_owned = { SectionIsOwned };
+
+    ghost needs_no_memory = { SectionNeedsNoMemory };
 
     fn keep(self, alloc: Global) -> Result<SectionHeaderBlock<'static>, AllocError> {
         let SectionHeaderBlock {

@@ -1,6 +1,6 @@
 //! Simple packets.
 
-ghost use Rattle.std.specs.Prelude.{IfOk, ◌≡◌, IfErr};
+ghost use Rattle.std.specs.Prelude.{IsOk, IfOk, ◌≡◌, IfErr};
 ghost use Rattle.pcap_classic.specs.Answer.{Tells};
 ghost use Rattle.pcap_blocks.specs.Refusals.{Finds};
 ghost use Rattle.pcap_blocks.specs.WholeBodies.{SimpleSays, simple_of, SimpleIsBorrowed, SimpleIsOwned};
@@ -58,6 +58,7 @@ impl<'a> SimplePacketBlock<'a> {
         ensures same { IfOk result (λ kept. simple_of kept ≡ simple_of self.entry) }
         ensures owned { IfOk result SimpleIsOwned }
         ensures memory { IfErr result IsMemory }
+        ensures kept { SimpleIsOwned self.entry → IsOk result }
     {
         Ok(self.keep(alloc)?)
     }
@@ -69,6 +70,8 @@ impl<'a> KeepValue for SimplePacketBlock<'a> {
     ghost is_same = { λ value kept. simple_of kept ≡ simple_of value };
 
     ghost is_owned = { SimpleIsOwned };
+
+    ghost needs_no_memory = { SimpleIsOwned };
 
     fn keep(self, alloc: Global) -> Result<SimplePacketBlock<'static>, AllocError> {
         let SimplePacketBlock {

@@ -1,6 +1,6 @@
 //! Entries of the systemd journal.
 
-ghost use Rattle.std.specs.Prelude.{IfOk, ◌≡◌, IfErr};
+ghost use Rattle.std.specs.Prelude.{IsOk, IfOk, ◌≡◌, IfErr};
 ghost use Rattle.pcap_classic.specs.Answer.{Tells, whole};
 ghost use Rattle.pcap_blocks.specs.WholeBodies.{JournalSays, journal_of, JournalIsBorrowed, JournalIsOwned};
 ghost use Rattle.pcap_classic.specs.Errors.{IsMemory};
@@ -45,6 +45,7 @@ impl<'a> SystemdJournalExportBlock<'a> {
         ensures same { IfOk result (λ kept. journal_of kept ≡ journal_of self.entry) }
         ensures owned { IfOk result JournalIsOwned }
         ensures memory { IfErr result IsMemory }
+        ensures kept { JournalIsOwned self.entry → IsOk result }
     {
         Ok(self.keep(alloc)?)
     }
@@ -56,6 +57,8 @@ impl<'a> KeepValue for SystemdJournalExportBlock<'a> {
     ghost is_same = { λ value kept. journal_of kept ≡ journal_of value };
 
     ghost is_owned = { JournalIsOwned };
+
+    ghost needs_no_memory = { JournalIsOwned };
 
     fn keep(self, alloc: Global) -> Result<SystemdJournalExportBlock<'static>, AllocError> {
         let SystemdJournalExportBlock { journal_entry } = self;

@@ -21,10 +21,10 @@ pub returns-clause-tells : goal.returns-clause-tells
 returns-clause-tells g c = record {
   after_head = _;
   head = record {
-    link_number_is = _;
+    link_number = _;
     after_link = _;
     after_reserved = _;
-    link_number = c.split_u16-linktype.ensures.number;
+    link_number_is = c.split_u16-linktype.ensures.number;
     link_is = subst (λ (n : ℕ). Link n c.from-2.result) c.from.ensures c.from-2.ensures;
     reserved_is = c.split_u16-reserved.ensures.number;
     snaplen_is = c.split_u32-snaplen.ensures.number;
