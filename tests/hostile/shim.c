@@ -2,7 +2,7 @@
 //   HOSTILE_CALL=memory|read|write  HOSTILE_AT=n  the nth such call fails
 //   HOSTILE_ON=1                    and so does each later one
 //   HOSTILE_CUT=n                   each read of standard input and write to standard output moves n bytes at most
-//   HOSTILE_MARK=file               is made once a call was refused
+//   HOSTILE_MARK=file               is made once a call was refused, and says how many bytes the reads before it gave
 // Reads are those of standard input, writes those to standard output.
 #include <errno.h>
 #include <fcntl.h>
@@ -14,7 +14,7 @@
 void *__libc_malloc(size_t);
 void *__libc_realloc(void *, size_t);
 
-static long calls, at, cut, on;
+static long calls, at, cut, on, given;
 static const char *kind = "";
 
 __attribute__((constructor)) static void start(void) {
@@ -29,7 +29,10 @@ static int is_refused(const char *call, int error) {
     calls++;
     if (on ? calls < at : calls != at) return 0;
     long mark = syscall(SYS_openat, AT_FDCWD, getenv("HOSTILE_MARK"), O_CREAT | O_WRONLY, 0600);
-    if (mark >= 0) syscall(SYS_close, mark);
+    if (mark >= 0) {
+        syscall(SYS_write, mark, &given, sizeof given);
+        syscall(SYS_close, mark);
+    }
     errno = error;
     return 1;
 }
@@ -42,7 +45,10 @@ void *realloc(void *p, size_t n) { return is_refused("memory", ENOMEM) ? NULL : 
 
 ssize_t read(int fd, void *to, size_t n) {
     if (fd != 0) return syscall(SYS_read, fd, to, n);
-    return is_refused("read", EIO) ? -1 : syscall(SYS_read, fd, to, shortened(n));
+    if (is_refused("read", EIO)) return -1;
+    long came = syscall(SYS_read, fd, to, shortened(n));
+    if (came > 0) given += came;
+    return came;
 }
 
 ssize_t write(int fd, const void *from, size_t n) {
