@@ -20,10 +20,11 @@ pub record IsShort {V : Type 0} (IsSaid : List ℕ → Verdict V → Type 0) (re
 abbrev pub IsTorn : {V : Type 0} → (List ℕ → Verdict V → Type 0) → List ℕ → Type 0
 IsTorn IsSaid rest = (0 < length rest) × IsShort IsSaid rest
 
--- the grammar has this fault, and a rest that is known shows it: it stands there, or is certain before the text is whole
+-- the grammar has this fault, and a rest that is known shows it: some bytes are left, and it stands there, or is certain before the text is whole
 pub record IsFaultOf {V : Type 0} (IsSaid : List ℕ → Verdict V → Type 0) (known : Option (List ℕ)) (fault : Fault) : Type 0 where
   pub bytes : List ℕ
   pub stands : IsSaid bytes (faulty fault)
+  pub some : IfSome known (λ rest. 0 < length rest)
   pub shown : IfSome known (λ rest. IsSaid rest (faulty fault) ⊎ EarlyFault IsSaid rest fault)
 
 -- why a call that had not failed before was refused

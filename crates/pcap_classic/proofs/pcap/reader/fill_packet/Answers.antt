@@ -5,7 +5,7 @@ use Rattle.pcap_classic.specs.Answer.{lacks, whole}
 use Rattle.pcap_classic.specs.Held.{held_bytes}
 use Rattle.pcap_classic.specs.PacketText.{packet_limit}
 use Rattle.pcap_classic.specs.Packets.{reader_format}
-use Rattle.pcap_classic.proofs.Formats.{nothing_no_text, exact, requests_fall}
+use Rattle.pcap_classic.proofs.Formats.{nothing_no_text, fault_some, exact, requests_fall}
 use Rattle.pcap_classic.proofs.Packets.{reader_lawful}
 use Rattle.pcap_classic.proofs.StreamBytes.{held_more}
 use Rattle.pcap_classic.proofs.Pulling.{unmet_cause, asked_cause}
@@ -67,4 +67,4 @@ pub returns-in-Refused : goal.returns-in-Refused
 returns-in-Refused g c =
     let f = reader_format packet_limit c.args.header.now in
     let laws = reader_lawful packet_limit c.args.header.now in
-    asked_cause (f.says tt) (laws.stable tt) _ (held_bytes c.asking.held) (rw (← c.as_slice.ensures) c.in-Refused.ensures) _ _ _ c.asking.invariant.unfailed c.asking.invariant.came
+    asked_cause (f.says tt) (laws.stable tt) _ (held_bytes c.asking.held) (fault_some f laws tt (held_bytes c.asking.held)) (rw (← c.as_slice.ensures) c.in-Refused.ensures) _ _ _ c.asking.invariant.unfailed c.asking.invariant.came
