@@ -3,10 +3,17 @@ use Rattle.std.proofs.Common.{◌≡◌, ◌<◌, ◌≤◌, ◌-◌, ◌+◌, �
 use Rattle.std.proofs.lemmas.Bool.{cases_lt}
 use Rattle.std.proofs.lemmas.List.{length-take-le, take-append-drop, take-append-le}
 use Rattle.std.proofs.Math.Seq.{take-append-add}
+use Rattle.std.specs.Prelude.{Option, false}
+use Rattle.pcap_classic.specs.declared.pcap.header.PcapHeader.{PcapHeader}
+use Rattle.pcap_classic.specs.declared.rules.Rule.TheVariants.{CaptureMagic}
 use Rattle.pcap_classic.specs.Answer.{Verdict, whole, lacks, faulty}
 use Rattle.pcap_classic.specs.Format.{Format, IsLawful}
-use Rattle.pcap_classic.specs.Reading.{IsShort}
-use Rattle.pcap_classic.proofs.Formats.{text_same, fault_no_text}
+use Rattle.pcap_classic.specs.Faults.{Invalid}
+use Rattle.pcap_classic.specs.Magic.{is_magic}
+use Rattle.pcap_classic.specs.Packets.{reader_format}
+use Rattle.pcap_classic.specs.Reading.{IsShort, TakesAsked, TakesAtMost}
+use Rattle.pcap_classic.proofs.Formats.{only, text_same, fault_no_text}
+use Rattle.pcap_classic.proofs.Packets.{reader_lawful, reader_refuses}
 
 module _ {S V : Type 0} (f : Format S V) (laws : IsLawful f) (q : S) where
   -- each shorter beginning lacks bytes
@@ -47,3 +54,18 @@ module _ {S V : Type 0} (f : Format S V) (laws : IsLawful f) (q : S) where
       let some : 0 < length (drop k s) = omega (arith, count, less, ap length parts, length-append (take k s) (drop k s)) in
       let one = laws.one q (take k s) in
       part_lacks v (take k s) (drop k s) some (subst (λ (t : List ℕ). f.says q t (whole v [])) (sym parts) text) one.value one.holds
+
+-- under a header of no valid magic number one byte is refused
+pub invalid_takes_one : (limit : ℕ) (header : PcapHeader) (before after : Option (List ℕ)) → is_magic header.magic_number ≡ false
+    → TakesAsked ((reader_format limit header).says tt) before after → TakesAtMost 1 before after
+invalid_takes_one limit header before after invalid took =
+    elim (cases_lt 1 (length took.taken)) [
+      | inr le ↦ (took.taken, took.from_stream, le)
+      | inl lt ↦
+          let one = take 1 took.taken in
+          let short = took.asked 1 lt in
+          let some : 0 < length one = omega (arith, length-take-le 1 took.taken (omega (arith, lt))) in
+          let same : lacks short.n ≡ faulty (Invalid CaptureMagic) =
+          only (reader_format limit header) (reader_lawful limit header) tt one (lacks short.n) (faulty (Invalid CaptureMagic)) short.lack (reader_refuses limit header one invalid some) in
+          absurd cc
+    ]

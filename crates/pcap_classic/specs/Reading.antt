@@ -1,5 +1,5 @@
 -- What calls that take items off a stream say, over what a grammar says of bytes.
-use Rattle.std.specs.Prelude.{◌≡◌, ◌<◌, ◌⊎◌, ℕ, List, [], length, take, Bool, true, false, Option, None, Some, Result, Ok, Err, IfSome}
+use Rattle.std.specs.Prelude.{◌≡◌, ◌<◌, ◌≤◌, ◌⊎◌, ℕ, List, [], length, take, Bool, true, false, Option, None, Some, Result, Ok, Err, IfSome}
 use Rattle.std.specs.Io.KnownBytes.{Consumes, Keeps, IsAtEnd}
 use Rattle.pcap_classic.specs.declared.errors.PcapError.{PcapError}
 use Rattle.pcap_classic.specs.Answer.{Verdict, whole, lacks, faulty}
@@ -19,6 +19,10 @@ pub record IsShort {V : Type 0} (IsSaid : List ℕ → Verdict V → Type 0) (re
 -- some bytes are left, and more are missing
 abbrev pub IsTorn : {V : Type 0} → (List ℕ → Verdict V → Type 0) → List ℕ → Type 0
 IsTorn IsSaid rest = (0 < length rest) × IsShort IsSaid rest
+
+-- at most n bytes were taken
+abbrev pub TakesAtMost : ℕ → Option (List ℕ) → Option (List ℕ) → Type 0
+TakesAtMost n before after = (t : List ℕ) × Consumes before after t × (length t ≤ n)
 
 -- what was taken is no more than was asked for: each shorter beginning of it lacks bytes
 pub record TakesAsked {V : Type 0} (IsSaid : List ℕ → Verdict V → Type 0) (before after : Option (List ℕ)) : Type 0 where
