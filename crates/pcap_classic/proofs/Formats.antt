@@ -51,6 +51,11 @@ module _ {S V : Type 0} (f : Format S V) (laws : IsLawful f) where
   pub nothing_lacks : (q : S) → f.says q [] (lacks f.head)
   nothing_lacks q = let e : 0 + f.head ≡ f.head = omega arith in laws.short q [] f.head e laws.some
 
+  -- a fault has bytes
+  pub fault_some : (q : S) (s : List ℕ) (fault : Fault) → f.says q s (faulty fault) → 0 < length s
+  fault_some q [] fault x = let e : lacks f.head ≡ faulty fault = only q [] (lacks f.head) (faulty fault) (nothing_lacks q) x in absurd cc
+  fault_some q (b ∷ s) fault x = omega arith
+
   -- a text is not empty
   pub nothing_no_text : (q : S) (v : V) (rest : List ℕ) → f.says q [] (whole v rest) → ⊥
   nothing_no_text q v rest x = lacks_no_text q f.head [] (nothing_lacks q) v rest x

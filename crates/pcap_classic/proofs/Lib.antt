@@ -17,6 +17,7 @@ pub mod Filling
 pub mod ReadCapture
 pub mod StreamBytes
 pub mod Pulling
+pub mod Asked
 pub mod PacketStream
 pub mod Taking
 pub mod Captures

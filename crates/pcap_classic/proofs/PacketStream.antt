@@ -40,6 +40,6 @@ module _ (limit : ℕ) (order : Order) (r : TsResolution) where
         | inr (inl memory) ↦ absurd memory.0
         | inr (inr bad) ↦
             let step : (fault : Fault) → IsFaultOf (PacketHeaderSays limit order r) before fault → IsFaultOf (PacketSays limit order r) before fault =
-            λ fault is. record { bytes = is.bytes; stands = is.stands; shown = shown_more before fault is.shown } in
+            λ fault is. record { bytes = is.bytes; stands = is.stands; some = is.some; shown = shown_more before fault is.shown } in
             inr (inr (shows_more step e bad))
       ]

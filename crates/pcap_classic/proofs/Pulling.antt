@@ -1,5 +1,5 @@
 -- Why a call that takes a text off a stream is refused, of any grammar whose verdicts are stable.
-use Rattle.std.proofs.Common.{◌≡◌, ℕ, List, ◌++◌, ◌-◌, ◌<◌, length, sym, ◌∙◌, subst, arith, length-append, true, false, Bool, Some, None, Err, ◌+◌, ◌⊎◌, inl, inr}
+use Rattle.std.proofs.Common.{◌≡◌, ℕ, List, ◌++◌, ◌-◌, ◌<◌, length, sym, ap, ◌∙◌, subst, arith, length-append, true, false, Bool, Some, None, Err, ◌+◌, ◌⊎◌, inl, inr}
 use Rattle.std.specs.Prelude.{Option, IfSome}
 use Rattle.std.specs.Io.KnownBytes.{Consumes}
 use Rattle.pcap_classic.specs.declared.errors.PcapError.{PcapError}
@@ -37,6 +37,12 @@ module _ {V : Type 0} (IsSaid : List ℕ → Verdict V → Type 0) (stable : IsS
         | inr ended ↦ torn ended.0 (ended.1 ∙ unfailed) (ended_torn held n ask before now came ended.2)
       ]
 
+  -- a fault has bytes, and so has the rest that they came from
+  rest_some : (held : List ℕ) → 0 < length held → (before now : Option (List ℕ)) → Consumes before now held → IfSome before (λ rest. 0 < length rest)
+  rest_some held some None now came = tt
+  rest_some held some (Some xs) None came = absurd came
+  rest_some held some (Some xs) (Some ys) came = omega (arith, some, ap length came, length-append held ys)
+
   fault_shown : (held : List ℕ) (fault : Fault) → IsSaid held (faulty fault) → (before now : Option (List ℕ)) → Consumes before now held
       → IfSome before (λ rest. IsSaid rest (faulty fault) ⊎ EarlyFault IsSaid rest fault)
   fault_shown held fault bad None now came = tt
@@ -45,14 +51,20 @@ module _ {V : Type 0} (IsSaid : List ℕ → Verdict V → Type 0) (stable : IsS
       inl (subst (λ (l : List ℕ). IsSaid l (faulty fault)) (sym came) (stable.fault held ys fault bad))
 
   -- the held bytes are refused
-  pub asked_shows : (e : PcapError) (held : List ℕ) → Shows (λ fault. IsSaid held (faulty fault)) e → (before now : Option (List ℕ)) → Consumes before now held → Shows (IsFaultOf IsSaid before) e
-  asked_shows e held bad before now came =
-      let step : (fault : Fault) → IsSaid held (faulty fault) → IsFaultOf IsSaid before fault = λ fault stands. record { bytes = held; stands = stands; shown = fault_shown held fault stands before now came } in
+  pub asked_shows : (e : PcapError) (held : List ℕ) → ((fault : Fault) → IsSaid held (faulty fault) → 0 < length held) → Shows (λ fault. IsSaid held (faulty fault)) e
+      → (before now : Option (List ℕ)) → Consumes before now held → Shows (IsFaultOf IsSaid before) e
+  asked_shows e held some bad before now came =
+      let step : (fault : Fault) → IsSaid held (faulty fault) → IsFaultOf IsSaid before fault = λ fault stands. record {
+        bytes = held;
+        stands = stands;
+        some = rest_some held (some fault stands) before now came;
+        shown = fault_shown held fault stands before now came;
+      } in
       shows_more step e bad
 
-  pub asked_cause : (e : PcapError) (held : List ℕ) → Shows (λ fault. IsSaid held (faulty fault)) e → (before now : Option (List ℕ)) (failed : Bool)
-      → failed ≡ false → Consumes before now held → HasCause IsSaid before failed e
-  asked_cause e held bad before now failed unfailed came = refused (asked_shows e held bad before now came) unfailed
+  pub asked_cause : (e : PcapError) (held : List ℕ) → ((fault : Fault) → IsSaid held (faulty fault) → 0 < length held) → Shows (λ fault. IsSaid held (faulty fault)) e
+      → (before now : Option (List ℕ)) (failed : Bool) → failed ≡ false → Consumes before now held → HasCause IsSaid before failed e
+  asked_cause e held some bad before now failed unfailed came = refused (asked_shows e held some bad before now came) unfailed
 
   array_short : (head : ℕ) → ((s : List ℕ) (n : ℕ) → length s + n ≡ head → 0 < n → IsSaid s (lacks n)) → (before : Option (List ℕ))
       → IfSome before (λ rest. length rest < head) → IfSome before (IsShort IsSaid)
@@ -70,6 +82,6 @@ module _ {V : Type 0} (IsSaid : List ℕ → Verdict V → Type 0) (stable : IsS
       ]
 
   -- the bytes of an array are refused
-  pub array_refused : {X : Type 0} (view : X → V) (e : PcapError) (bytes : List ℕ) → Shows (λ fault. IsSaid bytes (faulty fault)) e → (before mid after : Option (List ℕ)) (failed : Bool)
-      → failed ≡ false → Consumes before mid bytes → ReadsTold IsSaid view before after failed (Err e)
-  array_refused view e bytes bad before mid after failed unfailed came = inr (inr (asked_shows e bytes bad before mid came, unfailed))
+  pub array_refused : {X : Type 0} (view : X → V) (e : PcapError) (bytes : List ℕ) → 0 < length bytes → Shows (λ fault. IsSaid bytes (faulty fault)) e
+      → (before mid after : Option (List ℕ)) (failed : Bool) → failed ≡ false → Consumes before mid bytes → ReadsTold IsSaid view before after failed (Err e)
+  array_refused view e bytes some bad before mid after failed unfailed came = inr (inr (asked_shows e bytes (λ fault stands. some) bad before mid came, unfailed))

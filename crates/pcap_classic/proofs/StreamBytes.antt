@@ -3,8 +3,8 @@ use Rattle.std.proofs.Common.{◌≡◌, ℕ, List, [], ◌++◌, ◌+◌, ◌�
 use Rattle.std.specs.Prelude.{Option}
 use Rattle.std.proofs.lemmas.List.{length-take-le}
 use Rattle.std.proofs.Math.Seq.{take-add, take-append_seam}
-use Rattle.std.specs.Io.KnownBytes.{Consumes}
-use Rattle.std.proofs.KnownBytes.{Consumes-nil, Consumes-trans}
+use Rattle.std.specs.Io.KnownBytes.{Consumes, Keeps}
+use Rattle.std.proofs.KnownBytes.{Consumes-nil, Consumes-trans, Consumes-kept}
 use Rattle.pcap_classic.specs.Streams.{Adds}
 
 -- a read into room behind the held bytes
@@ -33,6 +33,15 @@ adds_more a b c r s t m k n sum first second = record {
   count = length-append first.taken second.taken ∙ omega (arith, first.count, second.count);
   added = second.added ∙ ap (λ l. l ++ second.taken) first.added ∙ append_assoc a first.taken second.taken;
   from_stream = Consumes-trans r s t first.taken second.taken first.from_stream second.from_stream;
+}
+
+-- what was added stays where a later read failed
+pub adds_kept : (a b c : List ℕ) (r s t : Option (List ℕ)) (n : ℕ) → Adds a b r s n → c ≡ b → Keeps s t → Adds a c r t n
+adds_kept a b c r s t n adds same kept = record {
+  taken = adds.taken;
+  count = adds.count;
+  added = same ∙ adds.added;
+  from_stream = Consumes-kept r s t adds.taken adds.from_stream kept;
 }
 
 -- an array that is filled from its front

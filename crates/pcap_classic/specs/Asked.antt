@@ -6,7 +6,7 @@ use Rattle.pcap_classic.specs.declared.pcap.reader.Asked.{Asked}
 use Rattle.pcap_classic.specs.declared.pcap.reader.Asked.TheVariants.{Whole, Needs, Refused}
 use Rattle.pcap_classic.specs.Answer.{Verdict, whole, lacks, faulty}
 use Rattle.pcap_classic.specs.Faults.{Shows}
-use Rattle.pcap_classic.specs.Reading.{HasCause}
+use Rattle.pcap_classic.specs.Reading.{HasCause, TakesAsked}
 
 -- an item begins the bytes, or so many lack, or they are refused
 abbrev pub AskTells : {V : Type 0} → (Verdict V → Type 0) → Asked → Type 0
@@ -18,8 +18,9 @@ AskTells IsSaid (Refused e) = Shows (λ fault. IsSaid (faulty fault)) e
 abbrev pub HoldsItem : {V : Type 0} → (Verdict V → Type 0) → Type 0
 HoldsItem {V = V} IsSaid = (v : V) × IsSaid (whole v [])
 
--- the held bytes are an item's text, which was taken and no more; or nothing is held at the end of the stream; or a refusal
+-- the held bytes are an item's text, which was taken and no more; or nothing is held at the end of the stream; or a refusal, and no
+-- more was taken than was asked for
 abbrev pub FillsItem : {V : Type 0} → (List ℕ → Verdict V → Type 0) → Option (List ℕ) → Option (List ℕ) → List ℕ → Bool → Result Bool PcapError → Type 0
 FillsItem IsSaid before after held failed (Ok true) = (failed ≡ false) × HoldsItem (IsSaid held) × Consumes before after held
 FillsItem IsSaid before after held failed (Ok false) = (failed ≡ false) × (held ≡ []) × IsAtEnd before × Keeps before after
-FillsItem IsSaid before after held failed (Err e) = HasCause IsSaid before failed e
+FillsItem IsSaid before after held failed (Err e) = HasCause IsSaid before failed e × TakesAsked IsSaid before after

@@ -11,6 +11,10 @@ pub record Adds (old new : List ℕ) (before after : Option (List ℕ)) (n : ℕ
   pub added : new ≡ old ++ taken
   pub from_stream : Consumes before after taken
 
+-- fewer than n bytes that the stream gave were added
+abbrev pub AddsFewer : ℕ → List ℕ → List ℕ → Option (List ℕ) → Option (List ℕ) → Type 0
+AddsFewer n old new before after = (k : ℕ) × (k < n) × Adds old new before after k
+
 -- memory was refused, and the flag is as before, or a read failed, and the flag is set
 abbrev pub TellsCause : Bool → Bool → PcapError → Type 0
 TellsCause old new e = (IsMemory e × (new ≡ old)) ⊎ (IsIo e × (new ≡ true))

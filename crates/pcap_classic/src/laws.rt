@@ -1,6 +1,6 @@
-//! Laws of the grammar. Each function does nothing: its contract is the law.
+//! Laws of the grammar and of `==`. Each contract is the law; only the functions of `==` call anything.
 
-ghost use Rattle.std.specs.Prelude.{◌≡◌, ◌≤◌, ◌++◌, ◌↔◌, ℕ, List, [], ◌∷◌, length, map, All, IsTrue, Option};
+ghost use Rattle.std.specs.Prelude.{◌≡◌, ◌≤◌, ◌++◌, ◌↔◌, ℕ, List, [], ◌∷◌, length, map, All, IsTrue, Option, false};
 ghost use Rattle.std.specs.Io.KnownBytes.{Appends};
 ghost use Rattle.std.specs.List.{flat_map};
 ghost use Rattle.pcap_classic.specs.declared.common.Endianness.{Endianness};
@@ -18,9 +18,10 @@ ghost use Rattle.pcap_classic.specs.Front.{CaptureFront};
 ghost use Rattle.pcap_classic.specs.HeaderText.{HeaderSays, HeaderText};
 ghost use Rattle.pcap_classic.specs.Laws.{ExactlyOne, IsStable};
 ghost use Rattle.pcap_classic.specs.Link.{Link, IsPlain, link_number};
-ghost use Rattle.pcap_classic.specs.Magic.{resolution_of};
-ghost use Rattle.pcap_classic.specs.Packets.{packet_format};
+ghost use Rattle.pcap_classic.specs.Magic.{is_magic, resolution_of};
+ghost use Rattle.pcap_classic.specs.Packets.{packet_format, reader_format};
 ghost use Rattle.pcap_classic.specs.PacketText.{packet_limit, PacketSays, PacketHeaderSays, Captured, PacketText};
+ghost use Rattle.pcap_classic.specs.Reading.{TakesAsked, TakesAtMost};
 ghost use Rattle.pcap_classic.specs.Written.{IsWhole, IsWholeHeader, bytes_in, capture, cut, written};
 
 use crate::DataLink;
@@ -68,6 +69,12 @@ pub fn packets_are_asked_for_twice()
     ensures { (limit : ℕ) (order : Order) (r : TsResolution) (n : ℕ) (ns s t : List ℕ) →
         Asks (packet_format limit order r) tt (n ∷ ns) s t →
         (length (n ∷ ns) ≤ 2) × ((packet : Captured) (rest : List ℕ) → PacketText limit order r packet t rest → rest ≡ []) }
+{}
+
+/// Under a magic number that is none of the four a refused call of `PcapReader::next` has taken one byte at most.
+pub fn invalid_magic_takes_one_byte()
+    ensures { (limit : ℕ) (header : PcapHeader) (before after : Option (List ℕ)) → is_magic header.magic_number ≡ false →
+        TakesAsked ((reader_format limit header).says tt) before after → TakesAtMost 1 before after }
 {}
 
 /// All bytes have one front of packets and no other.

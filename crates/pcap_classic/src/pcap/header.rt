@@ -160,7 +160,7 @@ impl PcapHeader {
     }
 
     /// The 24 bytes that `write_to` writes. `OutOfMemory` where they can't be kept.
-    #[deprecated(since = "1.0.0", note = "Please use `write_to` instead")]
+    #[deprecated(since = "1.0.0", note = "`write_to` takes no memory")]
     pub fn to_array<B: ByteOrder>(&self, alloc: Global) -> ResultParsing<Vec<u8>>
         ensures bytes { IfOk result (λ bytes. bytes.items ≡ header_bytes B.bytes_of self.now) }
         ensures memory { IfErr result IsMemory }
@@ -169,7 +169,7 @@ impl PcapHeader {
     }
 
     /// The default header with this link type.
-    #[deprecated(since = "1.0.0", note = "Please use `PcapHeader::default` instead")]
+    #[deprecated(since = "1.0.0", note = "change `datalink` of `PcapHeader::default()`")]
     pub fn with_datalink(datalink: DataLink) -> PcapHeader
         ensures { result ≡ record default_header { datalink = datalink } }
     {

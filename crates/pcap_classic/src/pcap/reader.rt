@@ -22,7 +22,8 @@ use std::io::Read;
 /// Reads the packets of a capture off a stream, one for each call of `next`.
 ///
 /// `next` is None where the stream ends between packets; the next call asks the stream again. After its first refusal it
-/// is None for good. Between packets exactly the bytes of the header and of the packets were taken.
+/// is None for good. Between packets exactly the bytes of the header and of the packets were taken; a refused call has
+/// taken no more than was missing.
 #[derive(Debug, Drop)]
 pub struct PcapReader<T> {
     /// The header of the capture. Each packet is read under the header as it stands.

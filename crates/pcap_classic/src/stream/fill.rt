@@ -8,7 +8,7 @@ ghost use Rattle.pcap_classic.specs.Errors.{IsMemory, IsIo};
 ghost use Rattle.pcap_classic.specs.Fill.{told_of, held_of, source_of, has_failed};
 ghost use Rattle.pcap_classic.specs.Held.{held_bytes};
 ghost use Rattle.pcap_classic.specs.LentStreams.{fill_with};
-ghost use Rattle.pcap_classic.specs.Streams.{Adds, TellsCause, FillGives, HasCauseToFill, FillsArray};
+ghost use Rattle.pcap_classic.specs.Streams.{Adds, AddsFewer, TellsCause, FillGives, HasCauseToFill, FillsArray};
 
 use crate::stream::{Held, Told};
 use crate::{PcapError, ResultParsing};
@@ -106,11 +106,13 @@ impl<T: Read> Fill<T> {
     }
 
     /// Adds n bytes of the stream to those that are held. `Ok(false)` says that nothing was held and nothing is left.
-    /// `OutOfMemory` where there is no room, `IoError` where a read failed or the stream ended before n bytes.
+    /// `OutOfMemory` where there is no room, `IoError` where a read failed or the stream ended before n bytes; what came
+    /// before that is held too.
     pub fn more(&mut self, n: usize) -> ResultParsing<bool>
         requires { 0 < n }
         ensures added { IfOk result (FillGives n (held_of self.old) (held_of self.new) (T.remaining (source_of self.old)) (T.remaining (source_of self.new))) }
         ensures told { OnOk result (has_failed self.new ≡ has_failed self.old) }
+        ensures part { OnErr result (AddsFewer n (held_of self.old) (held_of self.new) (T.remaining (source_of self.old)) (T.remaining (source_of self.new))) }
         ensures cause { IfErr result (HasCauseToFill n (held_of self.old) (T.remaining (source_of self.old)) (has_failed self.old) (has_failed self.new)) }
     {
         more_of(
@@ -161,6 +163,7 @@ pub(crate) fn more_of<T: Read>(
     requires { 0 < n }
     ensures added { IfOk result (FillGives n (held_bytes held.old) (held_bytes held.new) (T.remaining stream.old) (T.remaining stream.new)) }
     ensures told { OnOk result (has_failed.new ≡ has_failed.old) }
+    ensures part { OnErr result (AddsFewer n (held_bytes held.old) (held_bytes held.new) (T.remaining stream.old) (T.remaining stream.new)) }
     ensures cause { IfErr result (HasCauseToFill n (held_bytes held.old) (T.remaining stream.old) has_failed.old has_failed.new) }
 {
     let mut missing = n;

@@ -36,7 +36,7 @@ returns-in_err-fill_packet g c =
       so_far = c.loop-copied.invariant.so_far;
       ends = inr (inr (record {
         fewer = omega (arith, c.loop-copied-test.true);
-        refused = rw (p.1, p.2) (under_valid packet_limit c.args.header.now c.requires.read (λ (f : Format (Unit {0}) Captured). HasCause (f.says tt) (g.R.Read.remaining c.loop-copied.reader) c.fill_packet.new.has_failed c.in_err-fill_packet.field-0.0) c.in_err-fill_packet.ensures);
+        refused = rw (p.1, p.2) (under_valid packet_limit c.args.header.now c.requires.read (λ (f : Format (Unit {0}) Captured). HasCause (f.says tt) (g.R.Read.remaining c.loop-copied.reader) c.fill_packet.new.has_failed c.in_err-fill_packet.field-0.0) c.in_err-fill_packet.ensures.0);
         no_write_failed = c.loop-copied.invariant.wrote;
         out = Keeps-refl _;
       }));

@@ -18,4 +18,4 @@ returns-in_err-header g c =
     let e = c.in_err-header.field-0.0 in
     let shows : Shows (λ fault. PacketHeaderSays packet_limit order r bytes (faulty fault)) e =
     refuses_shows (LacksHead bytes) (λ fault. PacketHeaderSays packet_limit order r bytes (faulty fault)) e (λ n lack. omega (arith, long, lack.some, lack.missing)) c.in_err-header.ensures.tells in
-    rw (p.1, p.2) (inr (inr (asked_shows (PacketHeaderSays packet_limit order r) (packet_header_stable packet_limit order r) e bytes shows _ _ c.in_ok-fill_array.ensures.1)))
+    rw (p.1, p.2) (inr (inr (asked_shows (PacketHeaderSays packet_limit order r) (packet_header_stable packet_limit order r) e bytes (λ fault stands. omega (arith, long)) shows _ _ c.in_ok-fill_array.ensures.1)))
