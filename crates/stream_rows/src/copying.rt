@@ -2,8 +2,8 @@
 
 use crate::readers::Halting;
 use crate::writers::{Narrow, back, capture, front};
-use pcap_classic::pcap::PcapHeader;
-use pcap_classic::run::{Copied, Under, copy_pcap};
+use pcap_classic::pcap::{PacketHeader, PcapHeader};
+use pcap_classic::run::{Copied, PcapRead, Under, copy_pcap, read_pcap};
 use pcap_classic::{Endianness, PcapError, TsResolution};
 use std::alloc::{AllocError, Global};
 use std::io::ErrorKind;
@@ -24,6 +24,14 @@ fn is_io(copied: &Copied) -> bool {
 fn names(copied: &Copied, rule: &str) -> bool {
     match copied.fault {
         Some(PcapError::InvalidField(text)) => text == rule,
+        _ => false,
+    }
+}
+
+// Whether this is one packet, whose nanoseconds were cut.
+fn is_cut(read: &PcapRead) -> bool {
+    match read.packets.as_slice() {
+        [packet] => read.fault.is_none() && packet.header == PacketHeader::new(1, 0, 0, 0),
         _ => false,
     }
 }
@@ -61,25 +69,35 @@ fn fractions_are_cut(rt: HostRuntime) -> Result<(), Fail> {
     let wanted = behind_header(rt.alloc(), &cut)?;
     let mut bytes = Vec::from_slice(rt.alloc(), &[0xa1, 0xb2, 0x3c, 0x4d])?;
     bytes.extend_from_slice(back(whole.as_slice(), 4))?;
-    let mut stream = Halting::new(rt.alloc(), bytes.as_slice(), 99)?;
-    let mut out = Vec::new(rt.alloc());
-    let under = Under::Order(Endianness::Big, TsResolution::MicroSecond);
-    let copied = copy_pcap(rt.alloc(), &mut stream, &mut out, under, 9);
-    assert!(rt; is_whole(&copied, 1));
-    assert_eq!(rt; out.as_slice(), wanted.as_slice());
+    for step in [1, 99] {
+        let mut stream = Halting::new(rt.alloc(), bytes.as_slice(), step)?;
+        let mut out = Vec::new(rt.alloc());
+        let under = Under::Order(Endianness::Big, TsResolution::MicroSecond);
+        let copied = copy_pcap(rt.alloc(), &mut stream, &mut out, under, 9);
+        assert!(rt; is_whole(&copied, 1));
+        assert_eq!(rt; out.as_slice(), wanted.as_slice());
+        let read = read_pcap(
+            rt.alloc(),
+            Halting::new(rt.alloc(), out.as_slice(), step)?,
+            9,
+        )?;
+        assert!(rt; is_cut(&read));
+    }
     Ok(())
 }
 
 #[test]
 fn every_room(rt: HostRuntime) -> Result<(), Fail> {
     let whole = capture(rt.alloc())?;
-    for room in 0..138usize {
-        let mut stream = Halting::new(rt.alloc(), whole.as_slice(), 50)?;
-        let mut output = Narrow::new(rt.alloc(), room, true);
-        let copied = copy_pcap(rt.alloc(), &mut stream, &mut output, Under::Same, 9);
-        assert!(rt; is_io(&copied) && copied.write_failed, "at {room}");
-        assert!(rt; copied.packets == 0 && !copied.read_failed);
-        assert_eq!(rt; output.out.as_slice(), front(whole.as_slice(), room));
+    for step in [1, 50] {
+        for room in 0..138usize {
+            let mut stream = Halting::new(rt.alloc(), whole.as_slice(), step)?;
+            let mut output = Narrow::new(rt.alloc(), room, true);
+            let copied = copy_pcap(rt.alloc(), &mut stream, &mut output, Under::Same, 9);
+            assert!(rt; is_io(&copied) && copied.write_failed, "at {room}");
+            assert!(rt; copied.packets == 0 && !copied.read_failed);
+            assert_eq!(rt; output.out.as_slice(), front(whole.as_slice(), room));
+        }
     }
     Ok(())
 }
@@ -115,24 +133,26 @@ fn most_packets(rt: HostRuntime) -> Result<(), Fail> {
     let whole = capture(rt.alloc())?;
     let mut bytes = capture(rt.alloc())?;
     bytes.extend_from_slice(&[0, 0, 0, 1, 0, 0, 0, 0, 0, 0, 0, 2, 0, 0, 0, 1])?;
-    for (most, taken) in [(0, 24), (1, 138)] {
-        let mut stream = Halting::new(rt.alloc(), bytes.as_slice(), 200)?;
+    for (most, taken, step) in [(0, 24, 1), (0, 24, 200), (1, 138, 1), (1, 138, 200)] {
+        let mut stream = Halting::new(rt.alloc(), bytes.as_slice(), step)?;
         let mut out = Vec::new(rt.alloc());
         let copied = copy_pcap(rt.alloc(), &mut stream, &mut out, Under::Same, most);
         assert!(rt; is_whole(&copied, most));
         assert_eq!(rt; stream.taken, taken);
         assert_eq!(rt; out.as_slice(), front(whole.as_slice(), taken));
     }
-    let mut stream = Halting::new(rt.alloc(), bytes.as_slice(), 200)?;
-    let mut out = Vec::new(rt.alloc());
-    let copied = copy_pcap(rt.alloc(), &mut stream, &mut out, Under::Same, 2);
-    assert!(rt; names(&copied, "PacketHeader incl_len > orig_len") && copied.packets == 1);
-    assert_eq!(rt; out.as_slice(), whole.as_slice());
+    for step in [1, 200] {
+        let mut stream = Halting::new(rt.alloc(), bytes.as_slice(), step)?;
+        let mut out = Vec::new(rt.alloc());
+        let copied = copy_pcap(rt.alloc(), &mut stream, &mut out, Under::Same, 2);
+        assert!(rt; names(&copied, "PacketHeader incl_len > orig_len") && copied.packets == 1);
+        assert_eq!(rt; out.as_slice(), whole.as_slice());
+    }
     Ok(())
 }
 
 #[test]
-fn refused_headers(rt: HostRuntime) -> Result<(), Fail> {
+fn invalid_header(rt: HostRuntime) -> Result<(), Fail> {
     let whole = capture(rt.alloc())?;
     let header = PcapHeader {
         magic_number: 0,
@@ -143,12 +163,21 @@ fn refused_headers(rt: HostRuntime) -> Result<(), Fail> {
     let copied = copy_pcap(rt.alloc(), &mut stream, &mut out, Under::Header(header), 9);
     assert!(rt; names(&copied, "PcapHeader wrong magic number"));
     assert!(rt; stream.calls == 0 && out.is_empty() && !copied.read_failed);
-    let mut stream = Halting::new(rt.alloc(), &[0xff; 30], 200)?;
-    let copied = copy_pcap(rt.alloc(), &mut stream, &mut out, Under::Same, 9);
-    assert!(rt; names(&copied, "PcapHeader wrong magic number") && out.is_empty());
-    let mut stream = Halting::new(rt.alloc(), front(whole.as_slice(), 40), 200)?;
-    let copied = copy_pcap(rt.alloc(), &mut stream, &mut out, Under::Same, 9);
-    assert!(rt; is_io(&copied) && !copied.read_failed && copied.packets == 0);
-    assert_eq!(rt; out.as_slice(), front(whole.as_slice(), 24));
+    Ok(())
+}
+
+#[test]
+fn refused_headers(rt: HostRuntime) -> Result<(), Fail> {
+    let whole = capture(rt.alloc())?;
+    for step in [1, 200] {
+        let mut stream = Halting::new(rt.alloc(), &[0xff; 30], step)?;
+        let mut out = Vec::new(rt.alloc());
+        let copied = copy_pcap(rt.alloc(), &mut stream, &mut out, Under::Same, 9);
+        assert!(rt; names(&copied, "PcapHeader wrong magic number") && out.is_empty());
+        let mut stream = Halting::new(rt.alloc(), front(whole.as_slice(), 40), step)?;
+        let copied = copy_pcap(rt.alloc(), &mut stream, &mut out, Under::Same, 9);
+        assert!(rt; is_io(&copied) && !copied.read_failed && copied.packets == 0);
+        assert_eq!(rt; out.as_slice(), front(whole.as_slice(), 24));
+    }
     Ok(())
 }

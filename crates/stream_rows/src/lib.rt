@@ -6,6 +6,10 @@ mod copying;
 #[cfg(test)]
 mod failing;
 #[cfg(test)]
+mod filling;
+#[cfg(test)]
+mod kinds;
+#[cfg(test)]
 mod readers;
 #[cfg(test)]
 mod reading;

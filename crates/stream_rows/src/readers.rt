@@ -55,13 +55,15 @@ impl Read for Halting {
     }
 }
 
-/// Gives the first bytes, ends once, and then gives the second ones.
+/// Gives the first bytes, so many at most in a read, ends once, and then gives the second ones.
 #[derive(Drop)]
 pub struct EndsOnce<'a> {
     /// What it gives before it ends.
     pub first: &'a [u8],
     /// What it gives behind its end.
     pub second: &'a [u8],
+    /// The most bytes of one read.
+    pub step: usize,
     /// Whether it has ended once.
     pub has_ended: bool,
 }
@@ -77,7 +79,7 @@ impl Read for EndsOnce<'_> {
         } else {
             self.first
         };
-        let n = buf.len().min(from.len());
+        let n = buf.len().min(self.step).min(from.len());
         let (given, left) = from.split_at(n);
         buf[..n].copy_from_slice(given);
         if self.has_ended {

@@ -59,8 +59,8 @@ fn values(rt: HostRuntime) -> Result<(), Fail> {
             rt.alloc(),
             &mut again,
             TsResolution::MicroSecond,
-        )?;
-        assert_eq!(rt; packet.data_.as_slice(), back(whole.as_slice(), 40));
+        );
+        assert!(rt; is_packet(&Some(packet), back(whole.as_slice(), 40)));
         assert!(rt; again.taken == 114 && again.most_room <= 98);
     }
     Ok(())
@@ -79,18 +79,28 @@ fn empty_streams(rt: HostRuntime) -> Result<(), Fail> {
         TsResolution::NanoSecond,
     );
     assert!(rt; matches!(packet, Err(PcapError::IoError(_))));
-    let mut wrong = Halting::new(rt.alloc(), &[0xff; 24], 9)?;
-    match PcapHeader::from_reader(&mut wrong) {
-        Err(PcapError::InvalidField(text)) => assert_eq!(rt; text, "PcapHeader wrong magic number"),
-        _ => assert!(rt; false, "no fault"),
+    Ok(())
+}
+
+#[test]
+fn wrong_headers(rt: HostRuntime) -> Result<(), Fail> {
+    for step in [1, 9] {
+        let mut wrong = Halting::new(rt.alloc(), &[0xff; 24], step)?;
+        match PcapHeader::from_reader(&mut wrong) {
+            Err(PcapError::InvalidField(text)) => assert_eq!(rt;
+                text,
+                "PcapHeader wrong magic number"
+            ),
+            _ => assert!(rt; false, "no fault"),
+        }
+        let short = PcapReader::new(rt.alloc(), Halting::new(rt.alloc(), &[0xff; 10], step)?);
+        assert!(rt;
+            matches!(
+                short,
+                Err(PcapError::InvalidField(_) | PcapError::IoError(_))
+            )
+        );
     }
-    let short = PcapReader::new(rt.alloc(), Halting::new(rt.alloc(), &[0xff; 10], 9)?);
-    assert!(rt;
-        matches!(
-            short,
-            Err(PcapError::InvalidField(_) | PcapError::IoError(_))
-        )
-    );
     Ok(())
 }
 
@@ -135,12 +145,14 @@ fn most_packets(rt: HostRuntime) -> Result<(), Fail> {
         (1, 143, 1, 138),
         (1, 138, 1, 138),
     ];
-    for (most, end, count, taken) in rows {
-        let mut stream = Halting::new(rt.alloc(), front(bytes.as_slice(), end), 200)?;
-        let read = read_pcap(rt.alloc(), &mut stream, most)?;
-        assert!(rt; read.fault.is_none() && !read.failed);
-        assert_eq!(rt; read.packets.len(), count);
-        assert_eq!(rt; stream.taken, taken);
+    for step in [1, 200] {
+        for (most, end, count, taken) in rows {
+            let mut stream = Halting::new(rt.alloc(), front(bytes.as_slice(), end), step)?;
+            let read = read_pcap(rt.alloc(), &mut stream, most)?;
+            assert!(rt; read.fault.is_none() && !read.failed);
+            assert_eq!(rt; read.packets.len(), count);
+            assert_eq!(rt; stream.taken, taken);
+        }
     }
     Ok(())
 }
@@ -149,16 +161,19 @@ fn most_packets(rt: HostRuntime) -> Result<(), Fail> {
 fn a_stream_that_goes_on(rt: HostRuntime) -> Result<(), Fail> {
     let whole = capture(rt.alloc())?;
     let contents = back(whole.as_slice(), 40);
-    let stream = EndsOnce {
-        first: whole.as_slice(),
-        second: back(whole.as_slice(), 24),
-        has_ended: false,
-    };
-    let mut reader = PcapReader::new(rt.alloc(), stream)?;
-    assert!(rt; is_packet(&reader.next(), contents));
-    assert!(rt; reader.next().is_none());
-    assert!(rt; is_packet(&reader.next(), contents));
-    assert!(rt; reader.next().is_none());
+    for step in [1, 200] {
+        let stream = EndsOnce {
+            first: whole.as_slice(),
+            second: back(whole.as_slice(), 24),
+            step,
+            has_ended: false,
+        };
+        let mut reader = PcapReader::new(rt.alloc(), stream)?;
+        assert!(rt; is_packet(&reader.next(), contents));
+        assert!(rt; reader.next().is_none());
+        assert!(rt; is_packet(&reader.next(), contents));
+        assert!(rt; reader.next().is_none());
+    }
     Ok(())
 }
 
@@ -168,17 +183,29 @@ fn refusals(rt: HostRuntime) -> Result<(), Fail> {
     let mut bytes = Vec::from_slice(rt.alloc(), front(whole.as_slice(), 24))?;
     bytes.extend_from_slice(&[0, 0, 0, 1, 0, 0, 0, 0, 0, 0, 0, 2, 0, 0, 0, 1])?;
     bytes.extend_from_slice(back(whole.as_slice(), 24))?;
-    let mut reader = PcapReader::new(rt.alloc(), bytes.as_slice())?;
-    assert!(rt; names(&reader.next(), "PacketHeader incl_len > orig_len"));
-    assert!(rt; reader.next().is_none() && reader.next().is_none());
-    assert!(rt; !reader.failed());
-    let mut stream = Halting::new(rt.alloc(), front(whole.as_slice(), 50), 50)?;
-    stream.fails_at = 4;
-    stream.kind = ErrorKind::Interrupted;
-    let mut reader = PcapReader::new(rt.alloc(), stream)?;
-    assert!(rt; is_io(&reader.next()) && reader.failed());
-    assert!(rt; reader.next().is_none() && reader.next().is_none());
-    assert_eq!(rt; reader.get_ref().calls, 4);
+    for step in [1, 200] {
+        let stream = Halting::new(rt.alloc(), bytes.as_slice(), step)?;
+        let mut reader = PcapReader::new(rt.alloc(), stream)?;
+        assert!(rt; names(&reader.next(), "PacketHeader incl_len > orig_len"));
+        assert!(rt; reader.next().is_none() && reader.next().is_none());
+        assert!(rt; !reader.failed());
+    }
+    Ok(())
+}
+
+#[test]
+fn failed_reads(rt: HostRuntime) -> Result<(), Fail> {
+    let whole = capture(rt.alloc())?;
+    // the most bytes of one read, and the call that fails, behind 50 bytes
+    for (step, fails_at) in [(1, 51), (50, 4)] {
+        let mut stream = Halting::new(rt.alloc(), front(whole.as_slice(), 50), step)?;
+        stream.fails_at = fails_at;
+        stream.kind = ErrorKind::Interrupted;
+        let mut reader = PcapReader::new(rt.alloc(), stream)?;
+        assert!(rt; is_io(&reader.next()) && reader.failed());
+        assert!(rt; reader.next().is_none() && reader.next().is_none());
+        assert_eq!(rt; reader.get_ref().calls, fails_at);
+    }
     Ok(())
 }
 
@@ -214,12 +241,40 @@ fn changed_headers(rt: HostRuntime) -> Result<(), Fail> {
     let mut bytes = capture(rt.alloc())?;
     let whole = capture(rt.alloc())?;
     bytes.extend_from_slice(back(whole.as_slice(), 24))?;
-    let mut reader = PcapReader::new(rt.alloc(), bytes.as_slice())?;
-    assert!(rt; is_packet(&reader.next(), back(whole.as_slice(), 40)));
-    reader.header.magic_number = 0xa1b23c4d;
-    assert_eq!(rt; nanoseconds(&reader.next()), 152_630);
-    reader.header.magic_number = 0;
-    assert!(rt; reader.next().is_none());
+    for step in [1, 300] {
+        let stream = Halting::new(rt.alloc(), bytes.as_slice(), step)?;
+        let mut reader = PcapReader::new(rt.alloc(), stream)?;
+        assert!(rt; is_packet(&reader.next(), back(whole.as_slice(), 40)));
+        reader.header.magic_number = 0xa1b23c4d;
+        assert_eq!(rt; nanoseconds(&reader.next()), 152_630);
+        reader.header.magic_number = 0;
+        assert!(rt; reader.next().is_none());
+    }
+    Ok(())
+}
+
+#[test]
+fn wrong_magics(rt: HostRuntime) -> Result<(), Fail> {
+    let whole = capture(rt.alloc())?;
+    let mut bytes = capture(rt.alloc())?;
+    bytes.extend_from_slice(back(whole.as_slice(), 24))?;
+    // where the stream ends: behind the second packet, or inside it
+    for (end, step) in [(252, 1), (252, 300), (238, 1), (238, 300), (143, 300)] {
+        let stream = Halting::new(rt.alloc(), front(bytes.as_slice(), end), step)?;
+        let mut reader = PcapReader::new(rt.alloc(), stream)?;
+        assert!(rt; is_packet(&reader.next(), back(whole.as_slice(), 40)));
+        reader.header.magic_number = 0;
+        assert!(rt; names(&reader.next(), "PcapHeader wrong magic number"));
+        assert!(rt; reader.next().is_none() && reader.next().is_none());
+        assert!(rt; reader.header.magic_number == 0 && !reader.failed());
+        assert!(rt; reader.into_reader().taken <= 138 + 16);
+    }
+    Ok(())
+}
+
+#[test]
+fn wrong_magic_at_once(rt: HostRuntime) -> Result<(), Fail> {
+    let whole = capture(rt.alloc())?;
     let mut reader = PcapReader::new(rt.alloc(), front(whole.as_slice(), 29))?;
     reader.header.magic_number = 0;
     assert!(rt; names(&reader.next(), "PcapHeader wrong magic number"));

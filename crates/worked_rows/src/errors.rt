@@ -1,8 +1,9 @@
 //! The texts of errors, and the errors that others become.
 
-use pcap_classic::pcap::{PcapHeader, PcapParser};
+use crate::captures::BIG_HEAD;
+use pcap_classic::pcap::{Packet, PcapHeader, PcapParser};
 use pcap_classic::rules::Rule;
-use pcap_classic::{DataLink, Endianness, PcapError, TsResolution};
+use pcap_classic::{CowBytes, DataLink, Endianness, PcapError, TsResolution};
 use std::alloc::AllocError;
 use std::io::ErrorKind;
 use std::string::String;
@@ -12,6 +13,9 @@ use std::{io, str};
 #[test]
 fn texts(rt: HostRuntime) -> Result<(), Fail> {
     let Err(not_text) = str::from_utf8(&[0xff]) else {
+        return Ok(assert!(rt; false, "ff is no text"));
+    };
+    let Err(no_text) = String::from_utf8(Vec::from_slice(rt.alloc(), &[0xff])?) else {
         return Ok(assert!(rt; false, "ff is no text"));
     };
     let rows = [
@@ -26,6 +30,7 @@ fn texts(rt: HostRuntime) -> Result<(), Fail> {
             "Invalid field value: PcapHeader wrong magic number",
         ),
         (PcapError::from(not_text), "UTF8 error"),
+        (PcapError::from(no_text), "UTF8 error"),
         (PcapError::from(AllocError), "Out of memory"),
         (PcapError::WriterFailed, "Writer failed earlier"),
     ];
@@ -85,5 +90,42 @@ fn debug_texts(rt: HostRuntime) -> Result<(), Fail> {
         shown.as_str(),
         "PcapHeader { magic_number: 1, version_major: 2, version_minor: 4, ts_correction: 0, ts_accuracy: 0, snaplen: 5, datalink: Unknown(6) } Big NanoSecond"
     );
+    Ok(())
+}
+
+#[test]
+fn debug_texts_of_packets(rt: HostRuntime) -> Result<(), Fail> {
+    let owned = CowBytes::Owned(Vec::from_slice(rt.alloc(), &[7])?);
+    let packet = Packet::new(1, 2, &[5, 6], 3);
+    let shown = format!(in rt.alloc(); "{packet:?} {owned:?}")?;
+    assert_eq!(rt;
+        shown.as_str(),
+        "Packet { header: PacketHeader { ts_sec: 1, ts_nsec: 2, incl_len: 2, orig_len: 3 }, data_: Borrowed([5, 6]) } Owned([7])"
+    );
+    Ok(())
+}
+
+#[test]
+fn debug_text_of_a_parser(rt: HostRuntime) -> Result<(), Fail> {
+    let (_, parser) = PcapParser::new(&BIG_HEAD)?;
+    let shown = format!(in rt.alloc(); "{parser:?}")?;
+    assert_eq!(rt;
+        shown.as_str(),
+        "PcapParser { header: PcapHeader { magic_number: 2712847316, version_major: 2, version_minor: 4, ts_correction: 0, ts_accuracy: 0, snaplen: 65535, datalink: ETHERNET } }"
+    );
+    Ok(())
+}
+
+#[test]
+fn debug_texts_of_errors(rt: HostRuntime) -> Result<(), Fail> {
+    let rows = [
+        (PcapError::IncompleteBuffer(7), "IncompleteBuffer(7)"),
+        (PcapError::InvalidField("x"), "InvalidField(\"x\")"),
+        (PcapError::WriterFailed, "WriterFailed"),
+    ];
+    for (error, text) in &rows {
+        let shown = format!(in rt.alloc(); "{error:?}")?;
+        assert_eq!(rt; shown.as_str(), *text);
+    }
     Ok(())
 }

@@ -10,4 +10,6 @@ mod failing;
 #[cfg(test)]
 mod program;
 #[cfg(test)]
+mod readers;
+#[cfg(test)]
 mod slices;

@@ -1,6 +1,7 @@
 //! The program over inputs and outputs in memory.
 
 use crate::captures::{big, capture, front, little};
+use crate::readers::Slow;
 use capcopy_run::{Exit, run};
 use pcap_classic::PcapError;
 use std::io::ErrorKind;
@@ -18,6 +19,12 @@ const BIG_MICRO: [u8; 40] = [
     0, 1, 0, 0, 0, 0, 0, 0, 0, 0, 0, 0, 0, 0,
 ];
 
+/// The most bytes that one read of the input gives.
+const STEPS: [usize; 2] = [1, 1000];
+
+/// The most lines or packets of a run that asks for all.
+const ALL: u64 = 4_294_967_295;
+
 // Whether the run ended because the input did.
 fn is_early_end(exit: &Exit) -> bool {
     match exit {
@@ -32,87 +39,82 @@ fn lists(rt: HostRuntime) -> Result<(), Fail> {
         (big(rt.alloc())?, "1 1335958313.152630000 98/98\n"),
         (little(rt.alloc())?, "1 1331901000.000000000 117/117\n"),
     ];
-    for (bytes, lines) in &rows {
-        let mut input = bytes.as_slice();
-        let mut output = Vec::new(rt.alloc());
-        let exit = run(
-            rt.alloc(),
-            &["list"],
-            &mut input,
-            &mut output,
-            4_294_967_295,
-        );
-        assert!(rt; matches!(exit, Exit::Done));
-        assert_eq!(rt; exit.status(), 0);
-        assert_eq!(rt; output.as_slice(), lines.as_bytes());
+    for step in STEPS {
+        for (bytes, lines) in &rows {
+            let bytes = bytes.as_slice();
+            let mut input = Slow { bytes, step };
+            let mut output = Vec::new(rt.alloc());
+            let exit = run(rt.alloc(), &["list"], &mut input, &mut output, ALL);
+            assert!(rt; matches!(exit, Exit::Done));
+            assert_eq!(rt; exit.status(), 0);
+            assert_eq!(rt; output.as_slice(), lines.as_bytes());
+        }
     }
     Ok(())
 }
 
 #[test]
 fn lists_of_torn_captures(rt: HostRuntime) -> Result<(), Fail> {
-    let bytes = big(rt.alloc())?;
-    for end in [0, 10, 40, 137] {
-        let mut input = front(bytes.as_slice(), end);
-        let mut output = Vec::new(rt.alloc());
-        let exit = run(
-            rt.alloc(),
-            &["list"],
-            &mut input,
-            &mut output,
-            4_294_967_295,
-        );
-        assert!(rt; is_early_end(&exit), "at {end}");
-        assert_eq!(rt; exit.status(), 3);
-        assert!(rt; output.is_empty());
+    let whole = big(rt.alloc())?;
+    for step in STEPS {
+        for end in [0, 10, 40, 137] {
+            let bytes = front(whole.as_slice(), end);
+            let mut input = Slow { bytes, step };
+            let mut output = Vec::new(rt.alloc());
+            let exit = run(rt.alloc(), &["list"], &mut input, &mut output, ALL);
+            assert!(rt; is_early_end(&exit), "at {end}");
+            assert_eq!(rt; exit.status(), 3);
+            assert!(rt; output.is_empty());
+        }
     }
     Ok(())
 }
 
 #[test]
 fn most_lines(rt: HostRuntime) -> Result<(), Fail> {
-    let mut bytes = big(rt.alloc())?;
-    bytes.extend_from_slice(&[0xff; 16])?;
-    let mut input = bytes.as_slice();
-    let mut output = Vec::new(rt.alloc());
-    let exit = run(rt.alloc(), &["list"], &mut input, &mut output, 1);
-    assert!(rt; matches!(exit, Exit::Most));
-    assert_eq!(rt; exit.status(), 1);
-    assert_eq!(rt; input.len(), 16);
-    assert_eq!(rt;
-        output.as_slice(),
-        b"1 1335958313.152630000 98/98\n".as_slice()
-    );
+    let mut whole = big(rt.alloc())?;
+    whole.extend_from_slice(&[0xff; 16])?;
+    // how many bytes there are, and how many of them are left
+    for (end, left) in [(154, 16), (138, 0)] {
+        for step in STEPS {
+            let bytes = front(whole.as_slice(), end);
+            let mut input = Slow { bytes, step };
+            let mut output = Vec::new(rt.alloc());
+            let exit = run(rt.alloc(), &["list"], &mut input, &mut output, 1);
+            assert!(rt; matches!(exit, Exit::Most));
+            assert_eq!(rt; exit.status(), 1);
+            assert_eq!(rt; input.bytes.len(), left);
+            assert_eq!(rt;
+                output.as_slice(),
+                b"1 1335958313.152630000 98/98\n".as_slice()
+            );
+        }
+    }
     Ok(())
 }
 
 #[test]
 fn refused_captures(rt: HostRuntime) -> Result<(), Fail> {
-    let mut bytes = big(rt.alloc())?;
-    bytes.extend_from_slice(&[0, 0, 0, 1, 0, 0, 0, 0, 0, 0, 0, 2, 0, 0, 0, 1])?;
-    let mut input = bytes.as_slice();
-    let mut output = Vec::new(rt.alloc());
-    let exit = run(
-        rt.alloc(),
-        &["list"],
-        &mut input,
-        &mut output,
-        4_294_967_295,
-    );
-    assert_eq!(rt;
-        output.as_slice(),
-        b"1 1335958313.152630000 98/98\n".as_slice()
-    );
-    assert_eq!(rt; exit.status(), 1);
-    let line = format!(in rt.alloc(); "{exit}")?;
-    assert_eq!(rt;
-        line.as_str(),
-        "capcopy: Invalid field value: PacketHeader incl_len > orig_len"
-    );
+    let mut whole = big(rt.alloc())?;
+    whole.extend_from_slice(&[0, 0, 0, 1, 0, 0, 0, 0, 0, 0, 0, 2, 0, 0, 0, 1])?;
+    for step in STEPS {
+        let bytes = whole.as_slice();
+        let mut input = Slow { bytes, step };
+        let mut output = Vec::new(rt.alloc());
+        let exit = run(rt.alloc(), &["list"], &mut input, &mut output, ALL);
+        assert_eq!(rt;
+            output.as_slice(),
+            b"1 1335958313.152630000 98/98\n".as_slice()
+        );
+        assert_eq!(rt; exit.status(), 1);
+        let line = format!(in rt.alloc(); "{exit}")?;
+        assert_eq!(rt;
+            line.as_str(),
+            "capcopy: Invalid field value: PacketHeader incl_len > orig_len"
+        );
+    }
     Ok(())
 }
-
-const ALL: u64 = 4_294_967_295;
 
 #[test]
 fn copies(rt: HostRuntime) -> Result<(), Fail> {
@@ -140,37 +142,75 @@ fn copies(rt: HostRuntime) -> Result<(), Fail> {
         ),
         (&["copy", "big", "micro"], &BIG_NANO, &BIG_MICRO),
     ];
-    for (words, bytes, copy) in rows {
-        let mut input = bytes;
-        let mut output = Vec::new(rt.alloc());
-        let exit = run(rt.alloc(), words, &mut input, &mut output, ALL);
-        assert!(rt; matches!(exit, Exit::Done));
-        assert_eq!(rt; output.as_slice(), copy);
-        let mut input = bytes;
-        let mut output = Vec::new(rt.alloc());
-        let exit = run(rt.alloc(), words, &mut input, &mut output, 1);
-        assert!(rt; matches!(exit, Exit::Most));
-        assert_eq!(rt; output.as_slice(), copy);
+    for step in STEPS {
+        for (words, bytes, copy) in rows {
+            let mut output = Vec::new(rt.alloc());
+            let exit = run(
+                rt.alloc(),
+                words,
+                &mut Slow { bytes, step },
+                &mut output,
+                ALL,
+            );
+            assert!(rt; matches!(exit, Exit::Done));
+            assert_eq!(rt; output.as_slice(), copy);
+            let mut output = Vec::new(rt.alloc());
+            let exit = run(rt.alloc(), words, &mut Slow { bytes, step }, &mut output, 1);
+            assert!(rt; matches!(exit, Exit::Most));
+            assert_eq!(rt; output.as_slice(), copy);
+        }
+    }
+    Ok(())
+}
+
+#[test]
+fn largest_packet(rt: HostRuntime) -> Result<(), Fail> {
+    let mut whole = Vec::from_slice(rt.alloc(), front(&BIG_MICRO, 24))?;
+    whole.extend_from_slice(&[0, 0, 0, 1, 0, 0, 0, 2, 0, 4, 0, 0, 0, 4, 0, 0])?;
+    whole.resize(262_184, 7)?;
+    let bytes = whole.as_slice();
+    let rows: [(&str, &[u8]); 2] = [("list", b"1 1.000002000 262144/262144\n"), ("copy", bytes)];
+    for step in STEPS {
+        for (word, written) in rows {
+            let mut output = Vec::new(rt.alloc());
+            let exit = run(
+                rt.alloc(),
+                &[word],
+                &mut Slow { bytes, step },
+                &mut output,
+                ALL,
+            );
+            assert!(rt; matches!(exit, Exit::Done));
+            assert!(rt; output.as_slice() == written);
+        }
     }
     Ok(())
 }
 
 #[test]
 fn copies_of_torn_captures(rt: HostRuntime) -> Result<(), Fail> {
-    let bytes = big(rt.alloc())?;
-    for (end, written) in [(0, 0), (10, 0), (40, 24), (137, 24)] {
-        let mut input = front(bytes.as_slice(), end);
-        let mut output = Vec::new(rt.alloc());
-        let exit = run(rt.alloc(), &["copy"], &mut input, &mut output, ALL);
-        assert!(rt; exit.status() == 3, "at {end}");
-        assert_eq!(rt; output.as_slice(), front(bytes.as_slice(), written));
+    let whole = big(rt.alloc())?;
+    for step in STEPS {
+        for (end, written) in [(0, 0), (10, 0), (40, 24), (137, 24)] {
+            let bytes = front(whole.as_slice(), end);
+            let mut output = Vec::new(rt.alloc());
+            let exit = run(
+                rt.alloc(),
+                &["copy"],
+                &mut Slow { bytes, step },
+                &mut output,
+                ALL,
+            );
+            assert!(rt; exit.status() == 3, "at {end}");
+            assert_eq!(rt; output.as_slice(), front(whole.as_slice(), written));
+        }
     }
     Ok(())
 }
 
 #[test]
 fn usage(rt: HostRuntime) -> Result<(), Fail> {
-    let bytes = big(rt.alloc())?;
+    let whole = big(rt.alloc())?;
     let rows: [&[&str]; 7] = [
         &[],
         &["copy", "big"],
@@ -180,13 +220,16 @@ fn usage(rt: HostRuntime) -> Result<(), Fail> {
         &["lists"],
         &["blocks"],
     ];
-    for words in rows {
-        let mut input = bytes.as_slice();
-        let mut output = Vec::new(rt.alloc());
-        let exit = run(rt.alloc(), words, &mut input, &mut output, 4_294_967_295);
-        assert!(rt; matches!(exit, Exit::Usage));
-        assert_eq!(rt; exit.status(), 2);
-        assert!(rt; input.len() == 138 && output.is_empty());
+    for step in STEPS {
+        for words in rows {
+            let bytes = whole.as_slice();
+            let mut input = Slow { bytes, step };
+            let mut output = Vec::new(rt.alloc());
+            let exit = run(rt.alloc(), words, &mut input, &mut output, ALL);
+            assert!(rt; matches!(exit, Exit::Usage));
+            assert_eq!(rt; exit.status(), 2);
+            assert!(rt; input.bytes.len() == 138 && output.is_empty());
+        }
     }
     Ok(())
 }
