@@ -1,7 +1,8 @@
-//! Bytes written as hexadecimal digits, and refusals as texts.
+//! Bytes written as hexadecimal digits, and what calls give as texts.
 
-use pcap_classic::PcapError;
+use pcap_classic::{PcapError, ResultParsing};
 use std::alloc::Global;
+use std::fmt::Debug;
 use std::test::Fail;
 
 // The bytes of these digits; white space parts them for the reader.
@@ -15,14 +16,49 @@ pub(crate) fn bytes(alloc: Global, digits: &str) -> Result<Vec<u8>, Fail> {
     Ok(hex::decode(alloc, pairs)?)
 }
 
-// Why a call gave no value: the text of an `InvalidField`, or the kind of the error.
-pub(crate) fn refusal(error: Option<PcapError>) -> &'static str {
+// Why a call gives no value: the text of an `InvalidField`, or the kind of the error.
+fn refusal(error: &PcapError) -> &'static str {
     match error {
-        None => "none",
-        Some(PcapError::InvalidField(text)) => text,
-        Some(PcapError::IoError(_)) => "IoError",
-        Some(PcapError::Utf8Error(_)) => "Utf8Error",
-        Some(PcapError::OutOfMemory(_)) => "OutOfMemory",
-        Some(_) => "another",
+        PcapError::InvalidField(text) => *text,
+        PcapError::IoError(_) => "IoError",
+        PcapError::Utf8Error(_) => "Utf8Error",
+        PcapError::OutOfMemory(_) => "OutOfMemory",
+        _ => "another",
     }
+}
+
+// What a call gives: the remainder and the value, or why it is refused.
+pub(crate) fn told<T: Debug + Drop>(
+    alloc: Global,
+    outcome: ResultParsing<(&[u8], T)>,
+) -> Result<String, Fail> {
+    match outcome {
+        Ok((rest, value)) => Ok(format!(in alloc; "{rest:?} {value:?}")?),
+        Err(error) => Ok(format!(in alloc; "{}", refusal(&error))?),
+    }
+}
+
+// The same of a call that gives no remainder.
+pub(crate) fn told_alone<T: Debug + Drop>(
+    alloc: Global,
+    outcome: ResultParsing<T>,
+) -> Result<String, Fail> {
+    match outcome {
+        Ok(value) => Ok(format!(in alloc; "{value:?}")?),
+        Err(error) => Ok(format!(in alloc; "{}", refusal(&error))?),
+    }
+}
+
+// The digits of a list and its text, from those of each member.
+pub(crate) fn list(alloc: Global, rows: &[(&str, &str)]) -> Result<(String, String), Fail> {
+    let mut digits = String::new(alloc);
+    let mut shown = String::new(alloc);
+    for (member, text) in rows {
+        if !shown.is_empty() {
+            shown.push_str(", ")?;
+        }
+        digits.push_str(member)?;
+        shown.push_str(text)?;
+    }
+    Ok((digits, shown))
 }
