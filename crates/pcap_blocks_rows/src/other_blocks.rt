@@ -1,49 +1,32 @@
 //! Statistics, journal entries, unknown blocks and the types of blocks.
 
-use crate::rows::{bytes, list, told};
-use byteorder::{BigEndian, ByteOrder, LittleEndian};
+use crate::rows::{bytes, list, rows, told};
+use byteorder::{BigEndian, LittleEndian};
 use pcap_blocks::{BlockType, InterfaceStatisticsBlock, SystemdJournalExportBlock, UnknownBlock};
-use std::alloc::Global;
 use std::test::*;
-
-// What the body of these digits gives.
-fn statistics<B: ByteOrder>(alloc: Global, digits: &str) -> Result<String, Fail> {
-    let body = bytes(alloc, digits)?;
-    told(
-        alloc,
-        InterfaceStatisticsBlock::from_slice::<B>(alloc, body.as_slice()),
-    )
-}
 
 #[test]
 fn each_option_of_statistics(rt: HostRuntime) -> Result<(), Fail> {
-    let (options, shown) = list(
-        rt.alloc(),
-        &[
-            ("0001 0001 61 000000", r#"Comment("a")"#),
-            ("0002 0008 00000001 00000002", "IsbStartTime(4294967298)"),
-            ("0003 0008 00000003 00000004", "IsbEndTime(12884901892)"),
-            ("0004 0008 0000000100000005", "IsbIfRecv(4294967301)"),
-            ("0005 0009 0000000000000006 ff 000000", "IsbIfDrop(6)"),
-            ("0006 0008 0000000000000007", "IsbFilterAccept(7)"),
-            ("0007 0008 0000000000000008", "IsbOsDrop(8)"),
-            ("0008 0008 0000000000000009", "IsbUsrDeliv(9)"),
-            (
-                "0bac 0004 00000001",
-                r#"CustomUtf8(CustomUtf8Option { code: 2988, pen: 1, value: "" })"#,
-            ),
-            (
-                "0bad 0004 00000002",
-                "CustomBinary(CustomBinaryOption { code: 2989, pen: 2, value: Borrowed([]) })",
-            ),
-            (
-                "0009 0000",
-                "Unknown(UnknownOption { code: 9, length: 0, value: Borrowed([]) })",
-            ),
-        ],
-    )?;
+    let table = r#"
+        0001 0001 61 000000 => Comment("a")
+        0002 0008 00000001 00000002 => IsbStartTime(4294967298)
+        0003 0008 00000003 00000004 => IsbEndTime(12884901892)
+        0004 0008 0000000100000005 => IsbIfRecv(4294967301)
+        0005 0009 0000000000000006 ff 000000 => IsbIfDrop(6)
+        0006 0008 0000000000000007 => IsbFilterAccept(7)
+        0007 0008 0000000000000008 => IsbOsDrop(8)
+        0008 0008 0000000000000009 => IsbUsrDeliv(9)
+        0bac 0004 00000001 => CustomUtf8(CustomUtf8Option { code: 2988, pen: 1, value: "" })
+        0bad 0004 00000002 => CustomBinary(CustomBinaryOption { code: 2989, pen: 2, value: Borrowed([]) })
+        0009 0000 => Unknown(UnknownOption { code: 9, length: 0, value: Borrowed([]) })
+    "#;
+    let (options, shown) = list(rt.alloc(), table)?;
     let digits = format!(in rt.alloc(); "00000001 00000002 00000003 {options}")?;
-    let statistics = statistics::<BigEndian>(rt.alloc(), digits.as_str())?;
+    let body = bytes(rt.alloc(), digits.as_str())?;
+    let statistics = told(
+        rt.alloc(),
+        InterfaceStatisticsBlock::from_slice::<BigEndian>(rt.alloc(), body.as_slice()),
+    )?;
     let shown = format!(in rt.alloc();
         "[] InterfaceStatisticsBlock {{ interface_id: 1, timestamp: 8589934595, options: [{shown}] }}"
     )?;
@@ -53,25 +36,18 @@ fn each_option_of_statistics(rt: HostRuntime) -> Result<(), Fail> {
 
 #[test]
 fn little_endian_statistics(rt: HostRuntime) -> Result<(), Fail> {
-    for (digits, shown) in [
-        (
-            "01000000 02000000 03000000 0200 0900 01000000 02000000 ff 000000 0000 0000",
-            "[] InterfaceStatisticsBlock { interface_id: 1, timestamp: 8589934595, options: [IsbStartTime(4294967298)] }",
-        ),
-        (
-            "01000000 02000000 03000000 0400 0400 01000000 0000 0000",
-            "IoError",
-        ),
-        (
-            "01000000 02000000 03000000 0300 0700 01000000 020000 00",
-            "IoError",
-        ),
-        (
-            "0100000002000000030000",
-            "InterfaceStatisticsBlock: block length < 12",
-        ),
-    ] {
-        let statistics = statistics::<LittleEndian>(rt.alloc(), digits)?;
+    let table = "
+        01000000 02000000 03000000 0200 0900 01000000 02000000 ff 000000 0000 0000 => [] InterfaceStatisticsBlock { interface_id: 1, timestamp: 8589934595, options: [IsbStartTime(4294967298)] }
+        01000000 02000000 03000000 0400 0400 01000000 0000 0000 => IoError
+        01000000 02000000 03000000 0300 0700 01000000 020000 00 => IoError
+        0100000002000000030000 => InterfaceStatisticsBlock: block length < 12
+    ";
+    for (digits, shown) in rows(rt.alloc(), table)? {
+        let body = bytes(rt.alloc(), digits)?;
+        let statistics = told(
+            rt.alloc(),
+            InterfaceStatisticsBlock::from_slice::<LittleEndian>(rt.alloc(), body.as_slice()),
+        )?;
         assert_eq!(rt; statistics.as_str(), shown, "at {digits}");
     }
     Ok(())
@@ -79,10 +55,9 @@ fn little_endian_statistics(rt: HostRuntime) -> Result<(), Fail> {
 
 #[test]
 fn journal_entries(rt: HostRuntime) -> Result<(), Fail> {
-    let body = bytes(rt.alloc(), "5f 3d 0a")?;
     let journal = told(
         rt.alloc(),
-        SystemdJournalExportBlock::from_slice::<BigEndian>(body.as_slice()),
+        SystemdJournalExportBlock::from_slice::<BigEndian>(&[0x5f, 0x3d, 0x0a]),
     )?;
     assert_eq!(rt;
         journal.as_str(),
