@@ -54,24 +54,22 @@ fn little_endian_statistics(rt: HostRuntime) -> Result<(), Fail> {
 }
 
 #[test]
-fn journal_entries(rt: HostRuntime) -> Result<(), Fail> {
+fn journal_entries_and_unknown_blocks(rt: HostRuntime) -> Result<(), Fail> {
+    let body = [0x5f, 0x3d, 0x0a];
     let journal = told(
         rt.alloc(),
-        SystemdJournalExportBlock::from_slice::<BigEndian>(&[0x5f, 0x3d, 0x0a]),
+        SystemdJournalExportBlock::from_slice::<BigEndian>(&body),
     )?;
     assert_eq!(rt;
         journal.as_str(),
         "[] SystemdJournalExportBlock { journal_entry: Borrowed([95, 61, 10]) }"
     );
-    Ok(())
-}
-
-#[test]
-fn unknown_blocks(rt: HostRuntime) -> Result<(), Fail> {
-    let unknown = UnknownBlock::new(BlockType::Unknown(77), 5, &[0x5f, 0x3d, 0x0a]);
-    let shown = format!(in rt.alloc(); "{unknown:?}")?;
+    let unknown = format!(in rt.alloc();
+        "{:?}",
+        UnknownBlock::new(BlockType::Unknown(77), 5, &body)
+    )?;
     assert_eq!(rt;
-        shown.as_str(),
+        unknown.as_str(),
         "UnknownBlock { type_: Unknown(77), length: 5, value: Borrowed([95, 61, 10]) }"
     );
     Ok(())

@@ -72,10 +72,7 @@ fn little_endian_packets(rt: HostRuntime) -> Result<(), Fail> {
 
 #[test]
 fn packets_without_data(rt: HostRuntime) -> Result<(), Fail> {
-    let body = [0; 20];
-    let (_rest, enhanced) = EnhancedPacketBlock::from_slice::<LittleEndian>(rt.alloc(), &body)?;
-    assert!(rt; enhanced.data_.is_empty() && enhanced.data_.is_borrowed());
-    let (_rest, packet) = PacketBlock::from_slice::<LittleEndian>(rt.alloc(), &body)?;
+    let (_rest, packet) = PacketBlock::from_slice::<LittleEndian>(rt.alloc(), &[0; 20])?;
     assert!(rt; packet.data_.is_empty() && packet.data_.is_borrowed());
     Ok(())
 }
