@@ -1,129 +1,77 @@
 //! Statistics, journal entries, unknown blocks and the types of blocks.
 
-use crate::rows::{bytes, refusal};
+use crate::rows::{bytes, list, rows, told};
 use byteorder::{BigEndian, LittleEndian};
-use pcap_blocks::{
-    BlockType, InterfaceStatisticsBlock, InterfaceStatisticsOption, SystemdJournalExportBlock,
-    UnknownBlock,
-};
-use pcap_classic::CowBytes;
-use std::borrow::CowStr;
+use pcap_blocks::{BlockType, InterfaceStatisticsBlock, SystemdJournalExportBlock, UnknownBlock};
 use std::test::*;
 
 #[test]
-fn statistics(rt: HostRuntime) -> Result<(), Fail> {
-    let body = bytes(
+fn each_option_of_statistics(rt: HostRuntime) -> Result<(), Fail> {
+    let table = r#"
+        0001 0001 61 000000 => Comment("a")
+        0002 0008 00000001 00000002 => IsbStartTime(4294967298)
+        0003 0008 00000003 00000004 => IsbEndTime(12884901892)
+        0004 0008 0000000100000005 => IsbIfRecv(4294967301)
+        0005 0009 0000000000000006 ff 000000 => IsbIfDrop(6)
+        0006 0008 0000000000000007 => IsbFilterAccept(7)
+        0007 0008 0000000000000008 => IsbOsDrop(8)
+        0008 0008 0000000000000009 => IsbUsrDeliv(9)
+        0bac 0004 00000001 => CustomUtf8(CustomUtf8Option { code: 2988, pen: 1, value: "" })
+        0bad 0004 00000002 => CustomBinary(CustomBinaryOption { code: 2989, pen: 2, value: Borrowed([]) })
+        0009 0000 => Unknown(UnknownOption { code: 9, length: 0, value: Borrowed([]) })
+    "#;
+    let (options, shown) = list(rt.alloc(), table)?;
+    let digits = format!(in rt.alloc(); "00000001 00000002 00000003 {options}")?;
+    let body = bytes(rt.alloc(), digits.as_str())?;
+    let statistics = told(
         rt.alloc(),
-        "01000000 02000000 03000000 0200 0900 01000000 02000000 ff 000000 0000 0000",
+        InterfaceStatisticsBlock::from_slice::<BigEndian>(rt.alloc(), body.as_slice()),
     )?;
-    let (rest, statistics) = InterfaceStatisticsBlock::from_slice::<LittleEndian>(
-        rt.alloc(),
-        body.as_slice(),
+    let shown = format!(in rt.alloc();
+        "[] InterfaceStatisticsBlock {{ interface_id: 1, timestamp: 8589934595, options: [{shown}] }}"
     )?;
-    assert_eq!(rt; rest.len(), 0);
-    assert_eq!(rt;
-        (statistics.interface_id, statistics.timestamp),
-        (1, 0x0000000200000003)
-    );
-    assert_eq!(rt; statistics.options.len(), 1);
-    assert!(rt;
-        matches!(
-            statistics.options[0],
-            InterfaceStatisticsOption::IsbStartTime(0x0000000100000002)
-        )
-    );
+    assert_eq!(rt; statistics.as_str(), shown.as_str());
+    Ok(())
+}
 
-    let body = bytes(
-        rt.alloc(),
-        "00000001 00000002 00000003 0001 0001 61 000000 0002 0008 00000001 00000002 0003 0008 00000003 00000004
-        0004 0008 0000000100000005 0005 0009 0000000000000006 ff 000000 0006 0008 0000000000000007
-        0007 0008 0000000000000008 0008 0008 0000000000000009 0bac 0004 00000001 0bad 0004 00000002 0009 0000",
-    )?;
-    let (rest, statistics) = InterfaceStatisticsBlock::from_slice::<BigEndian>(
-        rt.alloc(),
-        body.as_slice(),
-    )?;
-    assert_eq!(rt; rest.len(), 0);
-    let options = statistics.options.as_slice();
-    assert_eq!(rt; options.len(), 11);
-    assert!(rt;
-        matches!(
-            options[0],
-            InterfaceStatisticsOption::Comment(CowStr::Borrowed("a"))
-        )
-    );
-    assert!(rt;
-        matches!(
-            options[1],
-            InterfaceStatisticsOption::IsbStartTime(0x0000000100000002)
-        )
-    );
-    assert!(rt;
-        matches!(
-            options[2],
-            InterfaceStatisticsOption::IsbEndTime(0x0000000300000004)
-        )
-    );
-    assert!(rt;
-        matches!(
-            options[3],
-            InterfaceStatisticsOption::IsbIfRecv(0x0000000100000005)
-        )
-    );
-    assert!(rt; matches!(options[4], InterfaceStatisticsOption::IsbIfDrop(6)));
-    assert!(rt; matches!(options[5], InterfaceStatisticsOption::IsbFilterAccept(7)));
-    assert!(rt; matches!(options[6], InterfaceStatisticsOption::IsbOsDrop(8)));
-    assert!(rt; matches!(options[7], InterfaceStatisticsOption::IsbUsrDeliv(9)));
-    assert!(rt;
-        matches!(&options[8], InterfaceStatisticsOption::CustomUtf8(custom) if custom.pen() == 1)
-    );
-    assert!(rt;
-        matches!(&options[9], InterfaceStatisticsOption::CustomBinary(custom) if custom.pen() == 2)
-    );
-    assert!(rt;
-        matches!(&options[10], InterfaceStatisticsOption::Unknown(unknown) if unknown.code() == 9)
-    );
-    for (digits, reason) in [
-        (
-            "01000000 02000000 03000000 0400 0400 01000000 0000 0000",
-            "IoError",
-        ),
-        (
-            "01000000 02000000 03000000 0300 0700 01000000 020000 00",
-            "IoError",
-        ),
-        (
-            "0100000002000000030000",
-            "InterfaceStatisticsBlock: block length < 12",
-        ),
-    ] {
+#[test]
+fn little_endian_statistics(rt: HostRuntime) -> Result<(), Fail> {
+    let table = "
+        01000000 02000000 03000000 0200 0900 01000000 02000000 ff 000000 0000 0000 => [] InterfaceStatisticsBlock { interface_id: 1, timestamp: 8589934595, options: [IsbStartTime(4294967298)] }
+        01000000 02000000 03000000 0400 0400 01000000 0000 0000 => IoError
+        01000000 02000000 03000000 0300 0700 01000000 020000 00 => IoError
+        0100000002000000030000 => InterfaceStatisticsBlock: block length < 12
+    ";
+    for (digits, shown) in rows(rt.alloc(), table)? {
         let body = bytes(rt.alloc(), digits)?;
-        let result = InterfaceStatisticsBlock::from_slice::<LittleEndian>(
+        let statistics = told(
             rt.alloc(),
-            body.as_slice(),
-        );
-        assert_eq!(rt; refusal(result.err()), reason, "at {digits}");
+            InterfaceStatisticsBlock::from_slice::<LittleEndian>(rt.alloc(), body.as_slice()),
+        )?;
+        assert_eq!(rt; statistics.as_str(), shown, "at {digits}");
     }
     Ok(())
 }
 
 #[test]
 fn journal_entries_and_unknown_blocks(rt: HostRuntime) -> Result<(), Fail> {
-    let body = bytes(rt.alloc(), "5f 3d 0a")?;
-    let (rest, journal) = SystemdJournalExportBlock::from_slice::<BigEndian>(body.as_slice())?;
-    assert_eq!(rt; rest.len(), 0);
-    assert!(rt;
-        matches!(
-            journal.journal_entry,
-            CowBytes::Borrowed([0x5f, 0x3d, 0x0a])
-        )
-    );
-    let unknown = UnknownBlock::new(BlockType::Unknown(77), 5, body.as_slice());
+    let body = [0x5f, 0x3d, 0x0a];
+    let journal = told(
+        rt.alloc(),
+        SystemdJournalExportBlock::from_slice::<BigEndian>(&body),
+    )?;
     assert_eq!(rt;
-        (unknown.type_, unknown.length),
-        (BlockType::Unknown(77), 5)
+        journal.as_str(),
+        "[] SystemdJournalExportBlock { journal_entry: Borrowed([95, 61, 10]) }"
     );
-    assert_eq!(rt; unknown.value.as_slice(), body.as_slice());
+    let unknown = format!(in rt.alloc();
+        "{:?}",
+        UnknownBlock::new(BlockType::Unknown(77), 5, &body)
+    )?;
+    assert_eq!(rt;
+        unknown.as_str(),
+        "UnknownBlock { type_: Unknown(77), length: 5, value: Borrowed([95, 61, 10]) }"
+    );
     Ok(())
 }
 
