@@ -27,6 +27,14 @@ fn interfaces_of_both_orders(rt: HostRuntime) -> Result<(), Fail> {
     );
     let big = interface::<BigEndian>(
         rt.alloc(),
+        "0001 0000 00040000 000a 0004 00000e10 0000 0000",
+    )?;
+    assert_eq!(rt;
+        big.as_str(),
+        "[] InterfaceDescriptionBlock { linktype: ETHERNET, reserved: 0, snaplen: 262144, options: [IfTzone(3600)] }"
+    );
+    let big = interface::<BigEndian>(
+        rt.alloc(),
         "0002 0003 00040000 000a 0004 00000e10 0000 0000 aa",
     )?;
     assert_eq!(rt;
@@ -71,6 +79,8 @@ fn custom_and_unknown_options_of_an_interface(rt: HostRuntime) -> Result<(), Fai
         0bac 0006 00007ed9 6869 0000 => CustomUtf8(CustomUtf8Option { code: 2988, pen: 32473, value: "hi" })
         0063 0002 aabb ffff => Unknown(UnknownOption { code: 99, length: 2, value: Borrowed([170, 187]) })
         4bad 0005 00000001 cc 000000 => CustomBinary(CustomBinaryOption { code: 19373, pen: 1, value: Borrowed([204]) })
+        4bac 0004 00000002 => CustomUtf8(CustomUtf8Option { code: 19372, pen: 2, value: "" })
+        0bad 0004 00000003 => CustomBinary(CustomBinaryOption { code: 2989, pen: 3, value: Borrowed([]) })
     "#;
     let (options, shown) = list(rt.alloc(), table)?;
     let digits = format!(in rt.alloc(); "0001 0000 00040000 {options} 0000 0000")?;

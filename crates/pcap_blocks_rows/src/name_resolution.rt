@@ -55,6 +55,7 @@ fn ipv4_records(rt: HostRuntime) -> Result<(), Fail> {
 #[test]
 fn ipv6_records(rt: HostRuntime) -> Result<(), Fail> {
     let table = r#"
+        00000000000000000000000000000000 6100 => Ipv6Record { ip_addr: Borrowed([0, 0, 0, 0, 0, 0, 0, 0, 0, 0, 0, 0, 0, 0, 0, 0]), names: ["a"] }
         00000000000000000000000000000000 6100 00 => Ipv6Record { ip_addr: Borrowed([0, 0, 0, 0, 0, 0, 0, 0, 0, 0, 0, 0, 0, 0, 0, 0]), names: ["a", ""] }
         7f00000100 => NameResolutionBlock: Ipv6Record len < 18
     "#;
@@ -72,7 +73,9 @@ fn ipv6_records(rt: HostRuntime) -> Result<(), Fail> {
 #[test]
 fn records(rt: HostRuntime) -> Result<(), Fail> {
     let table = r#"
+        0001 0006 7f000001 6100 0000 => [] Ipv4(Ipv4Record { ip_addr: Borrowed([127, 0, 0, 1]), names: ["a"] })
         0001 0006 7f000001 0000 0000 => [] Ipv4(Ipv4Record { ip_addr: Borrowed([127, 0, 0, 1]), names: ["", ""] })
+        0002 0012 00000000000000000000000000000000 6100 0000 => [] Ipv6(Ipv6Record { ip_addr: Borrowed([0, 0, 0, 0, 0, 0, 0, 0, 0, 0, 0, 0, 0, 0, 0, 0]), names: ["a"] })
         0002 0012 00000000000000000000000000000000 6100 0000 ff => [255] Ipv6(Ipv6Record { ip_addr: Borrowed([0, 0, 0, 0, 0, 0, 0, 0, 0, 0, 0, 0, 0, 0, 0, 0]), names: ["a"] })
         0009 0001 aa ffffff => [] Unknown(UnknownRecord { type_: 9, length: 1, value: Borrowed([170]) })
         0000 0000 ff => [255] End
@@ -107,6 +110,8 @@ fn each_option_of_names(rt: HostRuntime) -> Result<(), Fail> {
         0004 0010 00000000000000000000000000000001 => NsDnsIpv6Addr(Borrowed([0, 0, 0, 0, 0, 0, 0, 0, 0, 0, 0, 0, 0, 0, 0, 1]))
         0bac 0004 00000001 => CustomUtf8(CustomUtf8Option { code: 2988, pen: 1, value: "" })
         0bad 0004 00000002 => CustomBinary(CustomBinaryOption { code: 2989, pen: 2, value: Borrowed([]) })
+        4bac 0004 00000003 => CustomUtf8(CustomUtf8Option { code: 19372, pen: 3, value: "" })
+        4bad 0005 00000004 aa 000000 => CustomBinary(CustomBinaryOption { code: 19373, pen: 4, value: Borrowed([170]) })
         0005 0000 => Unknown(UnknownOption { code: 5, length: 0, value: Borrowed([]) })
     "#;
     let (options, shown) = list(rt.alloc(), table)?;
@@ -125,6 +130,7 @@ fn each_option_of_names(rt: HostRuntime) -> Result<(), Fail> {
 fn name_bodies(rt: HostRuntime) -> Result<(), Fail> {
     let table = r#"
         0001 0008 7f000001 61006200 0000 0000 => [] NameResolutionBlock { records: [Ipv4(Ipv4Record { ip_addr: Borrowed([127, 0, 0, 1]), names: ["a", "b"] })], options: [] }
+        0001 0008 7f000001 61006200 0000 0000 0003 0004 08080808 0000 0000 => [] NameResolutionBlock { records: [Ipv4(Ipv4Record { ip_addr: Borrowed([127, 0, 0, 1]), names: ["a", "b"] })], options: [NsDnsIpv4Addr(Borrowed([8, 8, 8, 8]))] }
         0001 0008 7f000001 61006200 => IoError
         => IoError
         0000 0000 0003 0003 080808 00 => NameResolutionOption: NsDnsIpv4Addr length != 4

@@ -18,6 +18,8 @@ fn each_option_of_statistics(rt: HostRuntime) -> Result<(), Fail> {
         0008 0008 0000000000000009 => IsbUsrDeliv(9)
         0bac 0004 00000001 => CustomUtf8(CustomUtf8Option { code: 2988, pen: 1, value: "" })
         0bad 0004 00000002 => CustomBinary(CustomBinaryOption { code: 2989, pen: 2, value: Borrowed([]) })
+        4bac 0004 00000003 => CustomUtf8(CustomUtf8Option { code: 19372, pen: 3, value: "" })
+        4bad 0005 00000004 aa 000000 => CustomBinary(CustomBinaryOption { code: 19373, pen: 4, value: Borrowed([170]) })
         0009 0000 => Unknown(UnknownOption { code: 9, length: 0, value: Borrowed([]) })
     "#;
     let (options, shown) = list(rt.alloc(), table)?;

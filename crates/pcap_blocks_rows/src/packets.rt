@@ -86,6 +86,8 @@ fn each_option_of_an_enhanced_packet(rt: HostRuntime) -> Result<(), Fail> {
         0004 0008 0000000000000007 => DropCount(7)
         0bac 0004 00000001 => CustomUtf8(CustomUtf8Option { code: 2988, pen: 1, value: "" })
         0bad 0004 00000002 => CustomBinary(CustomBinaryOption { code: 2989, pen: 2, value: Borrowed([]) })
+        4bac 0004 00000003 => CustomUtf8(CustomUtf8Option { code: 19372, pen: 3, value: "" })
+        4bad 0005 00000004 aa 000000 => CustomBinary(CustomBinaryOption { code: 19373, pen: 4, value: Borrowed([170]) })
         0005 0000 => Unknown(UnknownOption { code: 5, length: 0, value: Borrowed([]) })
     "#;
     let (digits, shown) = list(rt.alloc(), table)?;
@@ -99,6 +101,7 @@ fn each_option_of_an_enhanced_packet(rt: HostRuntime) -> Result<(), Fail> {
 fn lists_of_enhanced_options(rt: HostRuntime) -> Result<(), Fail> {
     let table = r#"
         0001 0002 6869 0000 0000 0000 => [] [Comment("hi")]
+        0001 0002 6869 0000 => [] [Comment("hi")]
         0000 0005 aabb => [170, 187] []
         => [] []
         0001 0002 6869 0000 00 => Option: slice.len() < 4
@@ -121,6 +124,8 @@ fn each_option_of_a_packet(rt: HostRuntime) -> Result<(), Fail> {
         0002 0004 00000003 => Flags(3)
         0003 0001 01 000000 => Hash(Borrowed([1]))
         4bac 0004 00000004 => CustomUtf8(CustomUtf8Option { code: 19372, pen: 4, value: "" })
+        0bac 0006 00000005 6869 0000 => CustomUtf8(CustomUtf8Option { code: 2988, pen: 5, value: "hi" })
+        4bad 0004 00000006 => CustomBinary(CustomBinaryOption { code: 19373, pen: 6, value: Borrowed([]) })
         0004 0000 => Unknown(UnknownOption { code: 4, length: 0, value: Borrowed([]) })
     "#;
     let (digits, shown) = list(rt.alloc(), table)?;
