@@ -1,10 +1,7 @@
 //! Block bodies by themselves.
 
-use crate::rows::{bytes, shown};
-use crate::texts::{
-    enhanced_is_owned, interface_is_owned, name_is_owned, packet_is_owned, record_is_owned,
-    section_is_owned, statistics_are_owned,
-};
+use crate::rows::{Owned, bytes, mismatch, text_with_clone};
+use crate::texts::record_owns_texts;
 use byteorder::{BigEndian, LittleEndian};
 use pcap_blocks::{
     BlockType, EnhancedPacketBlock, InterfaceDescriptionBlock, InterfaceStatisticsBlock,
@@ -14,70 +11,106 @@ use pcap_blocks::{
 use std::alloc::Global;
 use std::test::*;
 
-// The body of these digits, owned. Each of these functions drops the bytes that it was read from.
+impl Owned for SectionHeaderBlock<'static> {
+    fn owned(alloc: Global, digits: &str) -> Result<Self, Fail> {
+        let body = bytes(alloc, digits)?;
+        let (_rest, block) = SectionHeaderBlock::from_slice(alloc, body.as_slice())?;
+        Ok(block.into_owned(alloc)?)
+    }
 
-fn section(alloc: Global, digits: &str) -> Result<SectionHeaderBlock<'static>, Fail> {
-    let body = bytes(alloc, digits)?;
-    let (_rest, block) = SectionHeaderBlock::from_slice(alloc, body.as_slice())?;
-    Ok(block.into_owned(alloc)?)
+    fn owns_texts(&self) -> bool {
+        self.options.owns_texts()
+    }
 }
 
-fn interface(alloc: Global, digits: &str) -> Result<InterfaceDescriptionBlock<'static>, Fail> {
-    let body = bytes(alloc, digits)?;
-    let (_rest, block) = InterfaceDescriptionBlock::from_slice::<BigEndian>(
-        alloc,
-        body.as_slice(),
-    )?;
-    Ok(block.into_owned(alloc)?)
+impl Owned for InterfaceDescriptionBlock<'static> {
+    fn owned(alloc: Global, digits: &str) -> Result<Self, Fail> {
+        let body = bytes(alloc, digits)?;
+        let (_rest, block) = InterfaceDescriptionBlock::from_slice::<BigEndian>(
+            alloc,
+            body.as_slice(),
+        )?;
+        Ok(block.into_owned(alloc)?)
+    }
+
+    fn owns_texts(&self) -> bool {
+        self.options.owns_texts()
+    }
 }
 
-fn enhanced_packet(alloc: Global, digits: &str) -> Result<EnhancedPacketBlock<'static>, Fail> {
-    let body = bytes(alloc, digits)?;
-    let (_rest, block) = EnhancedPacketBlock::from_slice::<BigEndian>(alloc, body.as_slice())?;
-    Ok(block.into_owned(alloc)?)
+impl Owned for EnhancedPacketBlock<'static> {
+    fn owned(alloc: Global, digits: &str) -> Result<Self, Fail> {
+        let body = bytes(alloc, digits)?;
+        let (_rest, block) = EnhancedPacketBlock::from_slice::<BigEndian>(alloc, body.as_slice())?;
+        Ok(block.into_owned(alloc)?)
+    }
+
+    fn owns_texts(&self) -> bool {
+        self.options.owns_texts()
+    }
 }
 
-fn packet(alloc: Global, digits: &str) -> Result<PacketBlock<'static>, Fail> {
-    let body = bytes(alloc, digits)?;
-    let (_rest, block) = PacketBlock::from_slice::<LittleEndian>(alloc, body.as_slice())?;
-    Ok(block.into_owned(alloc)?)
+impl Owned for PacketBlock<'static> {
+    fn owned(alloc: Global, digits: &str) -> Result<Self, Fail> {
+        let body = bytes(alloc, digits)?;
+        let (_rest, block) = PacketBlock::from_slice::<LittleEndian>(alloc, body.as_slice())?;
+        Ok(block.into_owned(alloc)?)
+    }
+
+    fn owns_texts(&self) -> bool {
+        self.options.owns_texts()
+    }
 }
 
-fn simple_packet(alloc: Global, digits: &str) -> Result<SimplePacketBlock<'static>, Fail> {
-    let body = bytes(alloc, digits)?;
-    let (_rest, block) = SimplePacketBlock::from_slice::<BigEndian>(body.as_slice())?;
-    Ok(block.into_owned(alloc)?)
+impl Owned for SimplePacketBlock<'static> {
+    fn owned(alloc: Global, digits: &str) -> Result<Self, Fail> {
+        let body = bytes(alloc, digits)?;
+        let (_rest, block) = SimplePacketBlock::from_slice::<BigEndian>(body.as_slice())?;
+        Ok(block.into_owned(alloc)?)
+    }
+
+    fn owns_texts(&self) -> bool {
+        true
+    }
 }
 
-fn names(alloc: Global, digits: &str) -> Result<NameResolutionBlock<'static>, Fail> {
-    let body = bytes(alloc, digits)?;
-    let (_rest, block) = NameResolutionBlock::from_slice::<BigEndian>(alloc, body.as_slice())?;
-    Ok(block.into_owned(alloc)?)
+impl Owned for NameResolutionBlock<'static> {
+    fn owned(alloc: Global, digits: &str) -> Result<Self, Fail> {
+        let body = bytes(alloc, digits)?;
+        let (_rest, block) = NameResolutionBlock::from_slice::<BigEndian>(alloc, body.as_slice())?;
+        Ok(block.into_owned(alloc)?)
+    }
+
+    fn owns_texts(&self) -> bool {
+        self.records.iter().all(record_owns_texts) && self.options.owns_texts()
+    }
 }
 
-fn statistics(alloc: Global, digits: &str) -> Result<InterfaceStatisticsBlock<'static>, Fail> {
-    let body = bytes(alloc, digits)?;
-    let (_rest, block) = InterfaceStatisticsBlock::from_slice::<LittleEndian>(
-        alloc,
-        body.as_slice(),
-    )?;
-    Ok(block.into_owned(alloc)?)
+impl Owned for InterfaceStatisticsBlock<'static> {
+    fn owned(alloc: Global, digits: &str) -> Result<Self, Fail> {
+        let body = bytes(alloc, digits)?;
+        let (_rest, block) = InterfaceStatisticsBlock::from_slice::<LittleEndian>(
+            alloc,
+            body.as_slice(),
+        )?;
+        Ok(block.into_owned(alloc)?)
+    }
+
+    fn owns_texts(&self) -> bool {
+        self.options.owns_texts()
+    }
 }
 
-fn journal(alloc: Global, digits: &str) -> Result<SystemdJournalExportBlock<'static>, Fail> {
-    let body = bytes(alloc, digits)?;
-    let (_rest, block) = SystemdJournalExportBlock::from_slice::<BigEndian>(body.as_slice())?;
-    Ok(block.into_owned(alloc)?)
-}
+impl Owned for SystemdJournalExportBlock<'static> {
+    fn owned(alloc: Global, digits: &str) -> Result<Self, Fail> {
+        let body = bytes(alloc, digits)?;
+        let (_rest, block) = SystemdJournalExportBlock::from_slice::<BigEndian>(body.as_slice())?;
+        Ok(block.into_owned(alloc)?)
+    }
 
-fn unknown(
-    alloc: Global,
-    type_: BlockType,
-    len: u32,
-    digits: &str,
-) -> Result<UnknownBlock<'static>, Fail> {
-    let body = bytes(alloc, digits)?;
-    Ok(UnknownBlock::new(type_, len, body.as_slice()).into_owned(alloc)?)
+    fn owns_texts(&self) -> bool {
+        true
+    }
 }
 
 const SECTIONS: [(&str, &str); 3] = [
@@ -154,92 +187,69 @@ const STATISTICS: [(&str, &str); 2] = [
     ),
 ];
 
-#[test]
-fn sections(rt: HostRuntime) -> Result<(), Fail> {
-    for (digits, text) in SECTIONS {
-        let block = section(rt.alloc(), digits)?;
-        assert!(rt; block.options.iter().all(section_is_owned), "at {digits}");
-        assert_eq!(rt; shown(rt.alloc(), &block)?.as_str(), text);
-        assert_eq!(rt; shown(rt.alloc(), &block.clone()?)?.as_str(), text);
-    }
-    Ok(())
-}
+const SIMPLE_PACKETS: [(&str, &str); 1] = [(
+    "00000001 61000000",
+    "SimplePacketBlock { original_len: 1, data_: Owned([97, 0, 0, 0]) }",
+)];
+
+const JOURNALS: [(&str, &str); 1] = [(
+    "5f 3d 0a",
+    "SystemdJournalExportBlock { journal_entry: Owned([95, 61, 10]) }",
+)];
 
 #[test]
-fn interfaces(rt: HostRuntime) -> Result<(), Fail> {
-    for (digits, text) in INTERFACES {
-        let block = interface(rt.alloc(), digits)?;
-        assert!(rt; block.options.iter().all(interface_is_owned), "at {digits}");
-        assert_eq!(rt; shown(rt.alloc(), &block)?.as_str(), text);
-        assert_eq!(rt; shown(rt.alloc(), &block.clone()?)?.as_str(), text);
-    }
-    Ok(())
-}
-
-#[test]
-fn enhanced_packets(rt: HostRuntime) -> Result<(), Fail> {
-    for (digits, text) in ENHANCED_PACKETS {
-        let block = enhanced_packet(rt.alloc(), digits)?;
-        assert!(rt; block.options.iter().all(enhanced_is_owned), "at {digits}");
-        assert_eq!(rt; shown(rt.alloc(), &block)?.as_str(), text);
-        assert_eq!(rt; shown(rt.alloc(), &block.clone()?)?.as_str(), text);
-    }
+fn sections_and_interfaces(rt: HostRuntime) -> Result<(), Fail> {
+    assert_eq!(rt;
+        mismatch::<SectionHeaderBlock>(rt.alloc(), &SECTIONS)?.as_str(),
+        ""
+    );
+    assert_eq!(rt;
+        mismatch::<InterfaceDescriptionBlock>(rt.alloc(), &INTERFACES)?.as_str(),
+        ""
+    );
+    assert_eq!(rt;
+        mismatch::<InterfaceStatisticsBlock>(rt.alloc(), &STATISTICS)?.as_str(),
+        ""
+    );
     Ok(())
 }
 
 #[test]
 fn packets(rt: HostRuntime) -> Result<(), Fail> {
-    for (digits, text) in PACKETS {
-        let block = packet(rt.alloc(), digits)?;
-        assert!(rt; block.options.iter().all(packet_is_owned), "at {digits}");
-        assert_eq!(rt; shown(rt.alloc(), &block)?.as_str(), text);
-        assert_eq!(rt; shown(rt.alloc(), &block.clone()?)?.as_str(), text);
-    }
+    assert_eq!(rt;
+        mismatch::<EnhancedPacketBlock>(rt.alloc(), &ENHANCED_PACKETS)?.as_str(),
+        ""
+    );
+    assert_eq!(rt; mismatch::<PacketBlock>(rt.alloc(), &PACKETS)?.as_str(), "");
+    assert_eq!(rt;
+        mismatch::<SimplePacketBlock>(rt.alloc(), &SIMPLE_PACKETS)?.as_str(),
+        ""
+    );
     Ok(())
 }
 
 #[test]
-fn resolved_names(rt: HostRuntime) -> Result<(), Fail> {
-    for (digits, text) in NAMES {
-        let block = names(rt.alloc(), digits)?;
-        assert!(rt; block.records.iter().all(record_is_owned), "at {digits}");
-        assert!(rt; block.options.iter().all(name_is_owned), "at {digits}");
-        assert_eq!(rt; shown(rt.alloc(), &block)?.as_str(), text);
-        assert_eq!(rt; shown(rt.alloc(), &block.clone()?)?.as_str(), text);
-    }
+fn names_and_journals(rt: HostRuntime) -> Result<(), Fail> {
+    assert_eq!(rt;
+        mismatch::<NameResolutionBlock>(rt.alloc(), &NAMES)?.as_str(),
+        ""
+    );
+    assert_eq!(rt;
+        mismatch::<SystemdJournalExportBlock>(rt.alloc(), &JOURNALS)?.as_str(),
+        ""
+    );
     Ok(())
 }
 
-#[test]
-fn interface_statistics(rt: HostRuntime) -> Result<(), Fail> {
-    for (digits, text) in STATISTICS {
-        let block = statistics(rt.alloc(), digits)?;
-        assert!(rt;
-            block.options.iter().all(statistics_are_owned),
-            "at {digits}"
-        );
-        assert_eq!(rt; shown(rt.alloc(), &block)?.as_str(), text);
-        assert_eq!(rt; shown(rt.alloc(), &block.clone()?)?.as_str(), text);
-    }
-    Ok(())
-}
-
-#[test]
-fn simple_packets(rt: HostRuntime) -> Result<(), Fail> {
-    let block = simple_packet(rt.alloc(), "00000001 61000000")?;
-    let text = "SimplePacketBlock { original_len: 1, data_: Owned([97, 0, 0, 0]) }";
-    assert_eq!(rt; shown(rt.alloc(), &block)?.as_str(), text);
-    assert_eq!(rt; shown(rt.alloc(), &block.clone()?)?.as_str(), text);
-    Ok(())
-}
-
-#[test]
-fn journal_entries(rt: HostRuntime) -> Result<(), Fail> {
-    let block = journal(rt.alloc(), "5f 3d 0a")?;
-    let text = "SystemdJournalExportBlock { journal_entry: Owned([95, 61, 10]) }";
-    assert_eq!(rt; shown(rt.alloc(), &block)?.as_str(), text);
-    assert_eq!(rt; shown(rt.alloc(), &block.clone()?)?.as_str(), text);
-    Ok(())
+// The block of this type and length whose value these digits are, owned.
+fn unknown(
+    alloc: Global,
+    type_: BlockType,
+    len: u32,
+    digits: &str,
+) -> Result<UnknownBlock<'static>, Fail> {
+    let body = bytes(alloc, digits)?;
+    Ok(UnknownBlock::new(type_, len, body.as_slice()).into_owned(alloc)?)
 }
 
 #[test]
@@ -259,8 +269,7 @@ fn unknown_blocks(rt: HostRuntime) -> Result<(), Fail> {
         ),
     ] {
         let block = unknown(rt.alloc(), type_, len, digits)?;
-        assert_eq!(rt; shown(rt.alloc(), &block)?.as_str(), text);
-        assert_eq!(rt; shown(rt.alloc(), &block.clone()?)?.as_str(), text);
+        assert_eq!(rt; text_with_clone(rt.alloc(), &block)?.as_str(), text);
     }
     Ok(())
 }

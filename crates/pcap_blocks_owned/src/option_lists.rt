@@ -1,9 +1,9 @@
 //! Options by themselves, of each kind of block.
 
-use crate::rows::{bytes, bytes_behind, shown};
+use crate::rows::{Owned, bytes, bytes_behind, mismatch};
 use crate::texts::{
-    enhanced_is_owned, interface_is_owned, name_is_owned, packet_is_owned, section_is_owned,
-    statistics_are_owned,
+    enhanced_owns_text, interface_owns_text, name_owns_text, packet_owns_text, section_owns_text,
+    statistics_own_text,
 };
 use byteorder::BigEndian;
 use pcap_blocks::{
@@ -14,79 +14,108 @@ use pcap_blocks::{
 use std::alloc::Global;
 use std::test::*;
 
-// The options of a list of these digits, each owned by its own call. Each of these functions drops the bytes that they
-// were read from.
+// The options of a list. Each is owned by its own call.
 
-fn of_section(alloc: Global, digits: &str) -> Result<Vec<SectionHeaderOption<'static>>, Fail> {
-    let body = bytes_behind(alloc, "1a2b3c4d 0001 0000 0000000000000010", digits)?;
-    let (_rest, block) = SectionHeaderBlock::from_slice(alloc, body.as_slice())?;
-    let mut options = Vec::new(alloc);
-    for option in block.options {
-        options.push(option.into_owned(alloc)?)?;
+impl Owned for Vec<SectionHeaderOption<'static>> {
+    fn owned(alloc: Global, digits: &str) -> Result<Self, Fail> {
+        let body = bytes_behind(alloc, "1a2b3c4d 0001 0000 0000000000000010", digits)?;
+        let (_rest, block) = SectionHeaderBlock::from_slice(alloc, body.as_slice())?;
+        let mut options = Vec::new(alloc);
+        for option in block.options {
+            options.push(option.into_owned(alloc)?)?;
+        }
+        Ok(options)
     }
-    Ok(options)
+
+    fn owns_texts(&self) -> bool {
+        self.iter().all(section_owns_text)
+    }
 }
 
-fn of_interface(
-    alloc: Global,
-    digits: &str,
-) -> Result<Vec<InterfaceDescriptionOption<'static>>, Fail> {
-    let body = bytes_behind(alloc, "0001 0000 00040000", digits)?;
-    let (_rest, block) = InterfaceDescriptionBlock::from_slice::<BigEndian>(
-        alloc,
-        body.as_slice(),
-    )?;
-    let mut options = Vec::new(alloc);
-    for option in block.options {
-        options.push(option.into_owned(alloc)?)?;
+impl Owned for Vec<InterfaceDescriptionOption<'static>> {
+    fn owned(alloc: Global, digits: &str) -> Result<Self, Fail> {
+        let body = bytes_behind(alloc, "0001 0000 00040000", digits)?;
+        let (_rest, block) = InterfaceDescriptionBlock::from_slice::<BigEndian>(
+            alloc,
+            body.as_slice(),
+        )?;
+        let mut options = Vec::new(alloc);
+        for option in block.options {
+            options.push(option.into_owned(alloc)?)?;
+        }
+        Ok(options)
     }
-    Ok(options)
+
+    fn owns_texts(&self) -> bool {
+        self.iter().all(interface_owns_text)
+    }
 }
 
-fn of_enhanced_packet(
-    alloc: Global,
-    digits: &str,
-) -> Result<Vec<EnhancedPacketOption<'static>>, Fail> {
-    let list = bytes(alloc, digits)?;
-    let (_rest, lent) = EnhancedPacketOption::from_slice::<BigEndian>(alloc, list.as_slice())?;
-    let mut options = Vec::new(alloc);
-    for option in lent {
-        options.push(option.into_owned(alloc)?)?;
+impl Owned for Vec<EnhancedPacketOption<'static>> {
+    fn owned(alloc: Global, digits: &str) -> Result<Self, Fail> {
+        let list = bytes(alloc, digits)?;
+        let (_rest, lent) = EnhancedPacketOption::from_slice::<BigEndian>(alloc, list.as_slice())?;
+        let mut options = Vec::new(alloc);
+        for option in lent {
+            options.push(option.into_owned(alloc)?)?;
+        }
+        Ok(options)
     }
-    Ok(options)
+
+    fn owns_texts(&self) -> bool {
+        self.iter().all(enhanced_owns_text)
+    }
 }
 
-fn of_packet(alloc: Global, digits: &str) -> Result<Vec<PacketOption<'static>>, Fail> {
-    let list = bytes(alloc, digits)?;
-    let (_rest, lent) = PacketOption::from_slice::<BigEndian>(alloc, list.as_slice())?;
-    let mut options = Vec::new(alloc);
-    for option in lent {
-        options.push(option.into_owned(alloc)?)?;
+impl Owned for Vec<PacketOption<'static>> {
+    fn owned(alloc: Global, digits: &str) -> Result<Self, Fail> {
+        let list = bytes(alloc, digits)?;
+        let (_rest, lent) = PacketOption::from_slice::<BigEndian>(alloc, list.as_slice())?;
+        let mut options = Vec::new(alloc);
+        for option in lent {
+            options.push(option.into_owned(alloc)?)?;
+        }
+        Ok(options)
     }
-    Ok(options)
+
+    fn owns_texts(&self) -> bool {
+        self.iter().all(packet_owns_text)
+    }
 }
 
-fn of_statistics(
-    alloc: Global,
-    digits: &str,
-) -> Result<Vec<InterfaceStatisticsOption<'static>>, Fail> {
-    let body = bytes_behind(alloc, "00000001 00000002 00000003", digits)?;
-    let (_rest, block) = InterfaceStatisticsBlock::from_slice::<BigEndian>(alloc, body.as_slice())?;
-    let mut options = Vec::new(alloc);
-    for option in block.options {
-        options.push(option.into_owned(alloc)?)?;
+impl Owned for Vec<InterfaceStatisticsOption<'static>> {
+    fn owned(alloc: Global, digits: &str) -> Result<Self, Fail> {
+        let body = bytes_behind(alloc, "00000001 00000002 00000003", digits)?;
+        let (_rest, block) = InterfaceStatisticsBlock::from_slice::<BigEndian>(
+            alloc,
+            body.as_slice(),
+        )?;
+        let mut options = Vec::new(alloc);
+        for option in block.options {
+            options.push(option.into_owned(alloc)?)?;
+        }
+        Ok(options)
     }
-    Ok(options)
+
+    fn owns_texts(&self) -> bool {
+        self.iter().all(statistics_own_text)
+    }
 }
 
-fn of_names(alloc: Global, digits: &str) -> Result<Vec<NameResolutionOption<'static>>, Fail> {
-    let body = bytes_behind(alloc, "0000 0000", digits)?;
-    let (_rest, block) = NameResolutionBlock::from_slice::<BigEndian>(alloc, body.as_slice())?;
-    let mut options = Vec::new(alloc);
-    for option in block.options {
-        options.push(option.into_owned(alloc)?)?;
+impl Owned for Vec<NameResolutionOption<'static>> {
+    fn owned(alloc: Global, digits: &str) -> Result<Self, Fail> {
+        let body = bytes_behind(alloc, "0000 0000", digits)?;
+        let (_rest, block) = NameResolutionBlock::from_slice::<BigEndian>(alloc, body.as_slice())?;
+        let mut options = Vec::new(alloc);
+        for option in block.options {
+            options.push(option.into_owned(alloc)?)?;
+        }
+        Ok(options)
     }
-    Ok(options)
+
+    fn owns_texts(&self) -> bool {
+        self.iter().all(name_owns_text)
+    }
 }
 
 const OF_SECTION: [(&str, &str); 5] = [
@@ -254,67 +283,35 @@ const OF_NAMES: [(&str, &str); 6] = [
 ];
 
 #[test]
-fn options_of_sections(rt: HostRuntime) -> Result<(), Fail> {
-    for (digits, text) in OF_SECTION {
-        let options = of_section(rt.alloc(), digits)?;
-        assert!(rt; options.iter().all(section_is_owned), "at {digits}");
-        assert_eq!(rt; shown(rt.alloc(), &options)?.as_str(), text);
-        assert_eq!(rt; shown(rt.alloc(), &options.clone()?)?.as_str(), text);
-    }
+fn options_of_sections_and_interfaces(rt: HostRuntime) -> Result<(), Fail> {
+    assert_eq!(rt;
+        mismatch::<Vec<SectionHeaderOption>>(rt.alloc(), &OF_SECTION)?.as_str(),
+        ""
+    );
+    assert_eq!(rt;
+        mismatch::<Vec<InterfaceDescriptionOption>>(rt.alloc(), &OF_INTERFACE)?.as_str(),
+        ""
+    );
+    assert_eq!(rt;
+        mismatch::<Vec<InterfaceStatisticsOption>>(rt.alloc(), &OF_STATISTICS)?.as_str(),
+        ""
+    );
     Ok(())
 }
 
 #[test]
-fn options_of_interfaces(rt: HostRuntime) -> Result<(), Fail> {
-    for (digits, text) in OF_INTERFACE {
-        let options = of_interface(rt.alloc(), digits)?;
-        assert!(rt; options.iter().all(interface_is_owned), "at {digits}");
-        assert_eq!(rt; shown(rt.alloc(), &options)?.as_str(), text);
-        assert_eq!(rt; shown(rt.alloc(), &options.clone()?)?.as_str(), text);
-    }
-    Ok(())
-}
-
-#[test]
-fn options_of_enhanced_packets(rt: HostRuntime) -> Result<(), Fail> {
-    for (digits, text) in OF_ENHANCED_PACKET {
-        let options = of_enhanced_packet(rt.alloc(), digits)?;
-        assert!(rt; options.iter().all(enhanced_is_owned), "at {digits}");
-        assert_eq!(rt; shown(rt.alloc(), &options)?.as_str(), text);
-        assert_eq!(rt; shown(rt.alloc(), &options.clone()?)?.as_str(), text);
-    }
-    Ok(())
-}
-
-#[test]
-fn options_of_packets(rt: HostRuntime) -> Result<(), Fail> {
-    for (digits, text) in OF_PACKET {
-        let options = of_packet(rt.alloc(), digits)?;
-        assert!(rt; options.iter().all(packet_is_owned), "at {digits}");
-        assert_eq!(rt; shown(rt.alloc(), &options)?.as_str(), text);
-        assert_eq!(rt; shown(rt.alloc(), &options.clone()?)?.as_str(), text);
-    }
-    Ok(())
-}
-
-#[test]
-fn options_of_statistics(rt: HostRuntime) -> Result<(), Fail> {
-    for (digits, text) in OF_STATISTICS {
-        let options = of_statistics(rt.alloc(), digits)?;
-        assert!(rt; options.iter().all(statistics_are_owned), "at {digits}");
-        assert_eq!(rt; shown(rt.alloc(), &options)?.as_str(), text);
-        assert_eq!(rt; shown(rt.alloc(), &options.clone()?)?.as_str(), text);
-    }
-    Ok(())
-}
-
-#[test]
-fn options_of_names(rt: HostRuntime) -> Result<(), Fail> {
-    for (digits, text) in OF_NAMES {
-        let options = of_names(rt.alloc(), digits)?;
-        assert!(rt; options.iter().all(name_is_owned), "at {digits}");
-        assert_eq!(rt; shown(rt.alloc(), &options)?.as_str(), text);
-        assert_eq!(rt; shown(rt.alloc(), &options.clone()?)?.as_str(), text);
-    }
+fn options_of_packets_and_names(rt: HostRuntime) -> Result<(), Fail> {
+    assert_eq!(rt;
+        mismatch::<Vec<EnhancedPacketOption>>(rt.alloc(), &OF_ENHANCED_PACKET)?.as_str(),
+        ""
+    );
+    assert_eq!(rt;
+        mismatch::<Vec<PacketOption>>(rt.alloc(), &OF_PACKET)?.as_str(),
+        ""
+    );
+    assert_eq!(rt;
+        mismatch::<Vec<NameResolutionOption>>(rt.alloc(), &OF_NAMES)?.as_str(),
+        ""
+    );
     Ok(())
 }

@@ -21,7 +21,7 @@ pub(crate) fn are_owned(texts: &[CowStr]) -> bool {
 
 // Of a record or an option: whether its texts are owned, where it has any.
 
-pub(crate) fn record_is_owned(record: &Record) -> bool {
+pub(crate) fn record_owns_texts(record: &Record) -> bool {
     match record {
         Record::Ipv4(record) => are_owned(record.names.as_slice()),
         Record::Ipv6(record) => are_owned(record.names.as_slice()),
@@ -29,7 +29,7 @@ pub(crate) fn record_is_owned(record: &Record) -> bool {
     }
 }
 
-pub(crate) fn section_is_owned(option: &SectionHeaderOption) -> bool {
+pub(crate) fn section_owns_text(option: &SectionHeaderOption) -> bool {
     match option {
         SectionHeaderOption::Comment(text) => is_owned(text),
         SectionHeaderOption::Hardware(text) => is_owned(text),
@@ -39,7 +39,7 @@ pub(crate) fn section_is_owned(option: &SectionHeaderOption) -> bool {
     }
 }
 
-pub(crate) fn interface_is_owned(option: &InterfaceDescriptionOption) -> bool {
+pub(crate) fn interface_owns_text(option: &InterfaceDescriptionOption) -> bool {
     match option {
         InterfaceDescriptionOption::Comment(text) => is_owned(text),
         InterfaceDescriptionOption::IfName(text) => is_owned(text),
@@ -50,28 +50,28 @@ pub(crate) fn interface_is_owned(option: &InterfaceDescriptionOption) -> bool {
     }
 }
 
-pub(crate) fn enhanced_is_owned(option: &EnhancedPacketOption) -> bool {
+pub(crate) fn enhanced_owns_text(option: &EnhancedPacketOption) -> bool {
     match option {
         EnhancedPacketOption::Comment(text) => is_owned(text),
         _ => true,
     }
 }
 
-pub(crate) fn packet_is_owned(option: &PacketOption) -> bool {
+pub(crate) fn packet_owns_text(option: &PacketOption) -> bool {
     match option {
         PacketOption::Comment(text) => is_owned(text),
         _ => true,
     }
 }
 
-pub(crate) fn statistics_are_owned(option: &InterfaceStatisticsOption) -> bool {
+pub(crate) fn statistics_own_text(option: &InterfaceStatisticsOption) -> bool {
     match option {
         InterfaceStatisticsOption::Comment(text) => is_owned(text),
         _ => true,
     }
 }
 
-pub(crate) fn name_is_owned(option: &NameResolutionOption) -> bool {
+pub(crate) fn name_owns_text(option: &NameResolutionOption) -> bool {
     match option {
         NameResolutionOption::Comment(text) => is_owned(text),
         NameResolutionOption::NsDnsName(text) => is_owned(text),
