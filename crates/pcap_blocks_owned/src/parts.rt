@@ -1,52 +1,46 @@
 //! The options that all kinds of blocks share, and bytes, by themselves.
 
-use crate::rows::{Owned, bytes, mismatch, text_with_clone};
+use crate::rows::{Owned, bytes, mismatch};
 use byteorder::BigEndian;
 use pcap_blocks::{CustomBinaryOption, CustomUtf8Option, UnknownOption};
 use pcap_classic::CowBytes;
 use std::alloc::Global;
 use std::test::*;
 
-// What these digits are, owned. Each of these functions drops the bytes that it was read from.
+impl Owned for CustomUtf8Option<'static> {
+    fn owned(alloc: Global, digits: &str) -> Result<Self, Fail> {
+        let value = bytes(alloc, digits)?;
+        let option = CustomUtf8Option::from_slice::<BigEndian>(2988, value.as_slice())?;
+        Ok(option.into_owned(alloc)?)
+    }
 
-fn custom_text(alloc: Global, code: u16, digits: &str) -> Result<CustomUtf8Option<'static>, Fail> {
-    let value = bytes(alloc, digits)?;
-    let option = CustomUtf8Option::from_slice::<BigEndian>(code, value.as_slice())?;
-    Ok(option.into_owned(alloc)?)
+    // Nothing shows how it holds its text, but that it outlives the bytes.
+    fn owns_texts(&self) -> bool {
+        true
+    }
 }
 
-fn custom_bytes(
-    alloc: Global,
-    code: u16,
-    digits: &str,
-) -> Result<CustomBinaryOption<'static>, Fail> {
-    let value = bytes(alloc, digits)?;
-    let option = CustomBinaryOption::from_slice::<BigEndian>(code, value.as_slice())?;
-    Ok(option.into_owned(alloc)?)
+impl Owned for CustomBinaryOption<'static> {
+    fn owned(alloc: Global, digits: &str) -> Result<Self, Fail> {
+        let value = bytes(alloc, digits)?;
+        let option = CustomBinaryOption::from_slice::<BigEndian>(2989, value.as_slice())?;
+        Ok(option.into_owned(alloc)?)
+    }
+
+    fn owns_texts(&self) -> bool {
+        true
+    }
 }
 
-fn unknown_option(
-    alloc: Global,
-    code: u16,
-    len: u16,
-    digits: &str,
-) -> Result<UnknownOption<'static>, Fail> {
-    let value = bytes(alloc, digits)?;
-    Ok(UnknownOption::new(code, len, value.as_slice()).into_owned(alloc)?)
-}
+impl Owned for UnknownOption<'static> {
+    fn owned(alloc: Global, digits: &str) -> Result<Self, Fail> {
+        let value = bytes(alloc, digits)?;
+        Ok(UnknownOption::new(99, 2, value.as_slice()).into_owned(alloc)?)
+    }
 
-#[test]
-fn shared_options(rt: HostRuntime) -> Result<(), Fail> {
-    let option = custom_text(rt.alloc(), 2988, "00007ed9 6869")?;
-    let text = r#"CustomUtf8Option { code: 2988, pen: 32473, value: "hi" }"#;
-    assert_eq!(rt; text_with_clone(rt.alloc(), &option)?.as_str(), text);
-    let option = custom_bytes(rt.alloc(), 2989, "00007ed9 ff")?;
-    let text = "CustomBinaryOption { code: 2989, pen: 32473, value: Owned([255]) }";
-    assert_eq!(rt; text_with_clone(rt.alloc(), &option)?.as_str(), text);
-    let option = unknown_option(rt.alloc(), 99, 2, "aabb")?;
-    let text = "UnknownOption { code: 99, length: 2, value: Owned([170, 187]) }";
-    assert_eq!(rt; text_with_clone(rt.alloc(), &option)?.as_str(), text);
-    Ok(())
+    fn owns_texts(&self) -> bool {
+        true
+    }
 }
 
 impl Owned for CowBytes<'static> {
@@ -55,11 +49,25 @@ impl Owned for CowBytes<'static> {
         Ok(CowBytes::Borrowed(value.as_slice()).into_owned(alloc)?)
     }
 
-    // It has no text.
     fn owns_texts(&self) -> bool {
         !self.is_borrowed()
     }
 }
+
+const CUSTOM_TEXTS: [(&str, &str); 1] = [(
+    "00007ed9 6869",
+    r#"CustomUtf8Option { code: 2988, pen: 32473, value: "hi" }"#,
+)];
+
+const CUSTOM_BYTES: [(&str, &str); 1] = [(
+    "00007ed9 ff",
+    "CustomBinaryOption { code: 2989, pen: 32473, value: Owned([255]) }",
+)];
+
+const UNKNOWN_OPTIONS: [(&str, &str); 1] = [(
+    "aabb",
+    "UnknownOption { code: 99, length: 2, value: Owned([170, 187]) }",
+)];
 
 // The data, addresses and values of the blocks, options and records.
 const BYTES: [(&str, &str); 9] = [
@@ -78,12 +86,24 @@ const BYTES: [(&str, &str); 9] = [
 ];
 
 #[test]
+fn shared_options(rt: HostRuntime) -> Result<(), Fail> {
+    assert_eq!(rt;
+        mismatch::<CustomUtf8Option>(rt.alloc(), &CUSTOM_TEXTS)?.as_str(),
+        ""
+    );
+    assert_eq!(rt;
+        mismatch::<CustomBinaryOption>(rt.alloc(), &CUSTOM_BYTES)?.as_str(),
+        ""
+    );
+    assert_eq!(rt;
+        mismatch::<UnknownOption>(rt.alloc(), &UNKNOWN_OPTIONS)?.as_str(),
+        ""
+    );
+    Ok(())
+}
+
+#[test]
 fn owned_bytes(rt: HostRuntime) -> Result<(), Fail> {
     assert_eq!(rt; mismatch::<CowBytes>(rt.alloc(), &BYTES)?.as_str(), "");
-    let again = CowBytes::owned(rt.alloc(), "aabb")?.into_owned(rt.alloc())?;
-    assert_eq!(rt;
-        text_with_clone(rt.alloc(), &again)?.as_str(),
-        "Owned([170, 187])"
-    );
     Ok(())
 }

@@ -1,6 +1,6 @@
 //! Name records by themselves.
 
-use crate::rows::{Owned, bytes, mismatch, text_with_clone};
+use crate::rows::{Owned, bytes, mismatch};
 use crate::texts::{are_owned, record_owns_texts};
 use byteorder::BigEndian;
 use pcap_blocks::{Ipv4Record, Ipv6Record, Record, UnknownRecord};
@@ -39,6 +39,22 @@ impl Owned for Ipv6Record<'static> {
 
     fn owns_texts(&self) -> bool {
         are_owned(self.names.as_slice())
+    }
+}
+
+impl Owned for UnknownRecord<'static> {
+    fn owned(alloc: Global, digits: &str) -> Result<Self, Fail> {
+        let value = bytes(alloc, digits)?;
+        let record = UnknownRecord {
+            type_: 9,
+            length: 1,
+            value: CowBytes::Borrowed(value.as_slice()),
+        };
+        Ok(record.into_owned(alloc)?)
+    }
+
+    fn owns_texts(&self) -> bool {
+        true
     }
 }
 
@@ -82,6 +98,11 @@ const IPV6_RECORDS: [(&str, &str); 1] = [(
     r#"Ipv6Record { ip_addr: Owned([0, 0, 0, 0, 0, 0, 0, 0, 0, 0, 0, 0, 0, 0, 0, 0]), names: ["a"] }"#,
 )];
 
+const UNKNOWN_RECORDS: [(&str, &str); 1] = [(
+    "aa",
+    "UnknownRecord { type_: 9, length: 1, value: Owned([170]) }",
+)];
+
 #[test]
 fn records(rt: HostRuntime) -> Result<(), Fail> {
     assert_eq!(rt; mismatch::<Record>(rt.alloc(), &RECORDS)?.as_str(), "");
@@ -93,29 +114,9 @@ fn records(rt: HostRuntime) -> Result<(), Fail> {
         mismatch::<Ipv6Record>(rt.alloc(), &IPV6_RECORDS)?.as_str(),
         ""
     );
-    Ok(())
-}
-
-// The record of this type and length whose value these digits are, owned.
-fn unknown_record(
-    alloc: Global,
-    type_: u16,
-    length: u16,
-    digits: &str,
-) -> Result<UnknownRecord<'static>, Fail> {
-    let value = bytes(alloc, digits)?;
-    let record = UnknownRecord {
-        type_,
-        length,
-        value: CowBytes::Borrowed(value.as_slice()),
-    };
-    Ok(record.into_owned(alloc)?)
-}
-
-#[test]
-fn unknown_records(rt: HostRuntime) -> Result<(), Fail> {
-    let record = unknown_record(rt.alloc(), 9, 1, "aa")?;
-    let text = "UnknownRecord { type_: 9, length: 1, value: Owned([170]) }";
-    assert_eq!(rt; text_with_clone(rt.alloc(), &record)?.as_str(), text);
+    assert_eq!(rt;
+        mismatch::<UnknownRecord>(rt.alloc(), &UNKNOWN_RECORDS)?.as_str(),
+        ""
+    );
     Ok(())
 }

@@ -9,7 +9,7 @@ pub(crate) trait Owned: Clone + Debug {
     // The value of these digits, by its own `into_owned`. The bytes that it was read from are dropped before the end.
     fn owned(alloc: Global, digits: &str) -> Result<Self, Fail>;
 
-    // Whether each of its texts is owned.
+    // Whether its texts are owned, as far as a look at them shows it. Bytes show it in the value's text.
     fn owns_texts(&self) -> bool;
 }
 
