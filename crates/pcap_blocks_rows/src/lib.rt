@@ -10,8 +10,6 @@ mod options;
 #[cfg(test)]
 mod other_blocks;
 #[cfg(test)]
-mod owned;
-#[cfg(test)]
 mod packets;
 #[cfg(test)]
 mod parsed_block;
