@@ -14,7 +14,13 @@ fn main() -> Result<(), Box<dyn Error>> {
             for (index, packet) in reader.enumerate() {
                 let header = packet?.header;
                 let (sec, nsec) = (header.ts_sec, header.ts_nsec);
-                writeln!(output, "{} {sec}.{nsec:09} {}/{}", index + 1, header.incl_len, header.orig_len)?;
+                writeln!(
+                    output,
+                    "{} {sec}.{nsec:09} {}/{}",
+                    index + 1,
+                    header.incl_len,
+                    header.orig_len
+                )?;
             }
         }
         Some("copy") => {
