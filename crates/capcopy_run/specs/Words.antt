@@ -8,14 +8,17 @@ use Rattle.pcap_classic.specs.declared.common.TsResolution.TheVariants.{MicroSec
 use Rattle.pcap_classic.specs.declared.run.copy.Under.{Under}
 use Rattle.pcap_classic.specs.declared.run.copy.Under.TheVariants.{Same, Header, Order}
 
+-- the word for an order of bytes
 abbrev pub order_word : Endianness → List ℕ
 order_word Big = codes "big"
 order_word Little = codes "little"
 
+-- the word for a resolution of time
 abbrev pub resolution_word : TsResolution → List ℕ
 resolution_word MicroSecond = codes "micro"
 resolution_word NanoSecond = codes "nano"
 
+-- the texts of words, wherever they lie
 abbrev pub texts_of : List (Bor (List ℕ)) → List (List ℕ)
 texts_of words = map (λ word. word.now) words
 

@@ -6,6 +6,7 @@ use Rattle.pcap_classic.specs.declared.rules.Rule.TheVariants.{NameUnended}
 use Rattle.pcap_blocks.specs.Padded.{Chain}
 use Rattle.pcap_blocks.specs.Values.{text_at}
 
+-- no byte is zero
 abbrev pub HasNoZero : List ℕ → Type 0
 HasNoZero bytes = All (λ b. b ≢ 0) bytes
 

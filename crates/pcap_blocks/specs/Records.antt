@@ -92,64 +92,74 @@ pub data RecordFault (order : Order) (s : List ℕ) : Fault → Type 0 where
 abbrev pub RecordSays : Order → List ℕ → Verdict NameRecord → Type 0
 RecordSays order s = Says (λ r rest. RecordText order r s rest) (λ n. ⊥) (RecordFault order s)
 
--- the records of the code
+-- what a record of an address of four bytes says
 abbrev pub ipv4_of : Ipv4Record → Address
 ipv4_of r = record { bytes = cow_bytes r.ip_addr; names = map cow_str_bytes r.names.items }
 
+-- what a record of an address of sixteen bytes says
 abbrev pub ipv6_of : Ipv6Record → Address
 ipv6_of r = record { bytes = cow_bytes r.ip_addr; names = map cow_str_bytes r.names.items }
 
+-- what a record of an unknown type says
 abbrev pub other_of : UnknownRecord → NameRecord
 other_of r = Other r.type_ r.length (cow_bytes r.value)
 
+-- what a record of any type says
 abbrev pub name_record_of : Record → NameRecord
 name_record_of record_of.End = End
 name_record_of (record_of.Ipv4 r) = Ipv4 (ipv4_of r)
 name_record_of (record_of.Ipv6 r) = Ipv6 (ipv6_of r)
 name_record_of (record_of.Unknown r) = other_of r
 
--- their bytes and names are borrowed
+-- the address and the names of a record are borrowed
 pub record Ipv4IsBorrowed (r : Ipv4Record) : Type 0 where
   pub bytes : IsBorrowed r.ip_addr
   pub names : All IsBorrowedStr r.names.items
 
--- their bytes and names are owned
+-- the address and the names of a record are owned
 pub record Ipv4IsOwned (r : Ipv4Record) : Type 0 where
   pub bytes : IsOwned r.ip_addr
   pub names : All IsOwnedStr r.names.items
 
+-- the longer address and the names of a record are borrowed
 pub record Ipv6IsBorrowed (r : Ipv6Record) : Type 0 where
   pub bytes : IsBorrowed r.ip_addr
   pub names : All IsBorrowedStr r.names.items
 
+-- the longer address and the names of a record are owned
 pub record Ipv6IsOwned (r : Ipv6Record) : Type 0 where
   pub bytes : IsOwned r.ip_addr
   pub names : All IsOwnedStr r.names.items
 
+-- what a record of any type holds is borrowed
 abbrev pub RecordIsBorrowed : Record → Type 0
 RecordIsBorrowed record_of.End = Unit {0}
 RecordIsBorrowed (record_of.Ipv4 r) = Ipv4IsBorrowed r
 RecordIsBorrowed (record_of.Ipv6 r) = Ipv6IsBorrowed r
 RecordIsBorrowed (record_of.Unknown r) = IsBorrowed r.value
 
+-- what a record of any type holds is owned
 abbrev pub RecordIsOwned : Record → Type 0
 RecordIsOwned record_of.End = Unit {0}
 RecordIsOwned (record_of.Ipv4 r) = Ipv4IsOwned r
 RecordIsOwned (record_of.Ipv6 r) = Ipv6IsOwned r
 RecordIsOwned (record_of.Unknown r) = IsOwned r.value
 
+-- the bytes of a record of an unknown type are owned
 abbrev pub UnknownRecordIsOwned : UnknownRecord → Type 0
 UnknownRecordIsOwned r = IsOwned r.value
 
--- they are owned without memory being taken: their bytes are owned, and they have no names
+-- it is owned without memory being taken: its address is owned, and it has no names
 pub record Ipv4NeedsNoMemory (r : Ipv4Record) : Type 0 where
   pub bytes : IsOwned r.ip_addr
   pub names : r.names.items ≡ []
 
+-- the same of a record of a longer address
 pub record Ipv6NeedsNoMemory (r : Ipv6Record) : Type 0 where
   pub bytes : IsOwned r.ip_addr
   pub names : r.names.items ≡ []
 
+-- the same of a record of any type
 abbrev pub RecordNeedsNoMemory : Record → Type 0
 RecordNeedsNoMemory record_of.End = Unit {0}
 RecordNeedsNoMemory (record_of.Ipv4 r) = Ipv4NeedsNoMemory r

@@ -29,6 +29,7 @@ abbrev pub FindsAllWhere : {X V : Type 0} → Type 0 → (Verdict V → Type 0) 
 FindsAllWhere MayGrow IsSaid view (Ok x) = IsSaid (whole (view x) [])
 FindsAllWhere MayGrow IsSaid view (Err refusal) = Denies MayGrow (λ fault. IsSaid (faulty fault)) refusal
 
+-- the same of a call that takes no memory, and whose value takes all of the slice
 abbrev pub FindsAll : {X V : Type 0} → (Verdict V → Type 0) → (X → V) → Result X Refusal → Type 0
 FindsAll = FindsAllWhere ⊥
 

@@ -51,32 +51,38 @@ pub record UnknownBody : Type 0 where
   pub len : ℕ
   pub bytes : List ℕ
 
--- the blocks of the code
+-- what a simple packet says
 abbrev pub simple_of : SimplePacketBlock → Simple
 simple_of block = record { original_len = block.original_len; bytes = cow_bytes block.data_ }
 
+-- what a journal entry says
 abbrev pub journal_of : SystemdJournalExportBlock → List ℕ
 journal_of block = cow_bytes block.journal_entry
 
+-- what an unknown block says
 abbrev pub unknown_of : UnknownBlock → UnknownBody
 unknown_of block = record { type_ = block.type_; len = block.length; bytes = cow_bytes block.value }
 
--- their bytes are borrowed
+-- the bytes of a simple packet are borrowed
 abbrev pub SimpleIsBorrowed : SimplePacketBlock → Type 0
 SimpleIsBorrowed block = IsBorrowed block.data_
 
--- their bytes are owned
+-- the bytes of a simple packet are owned
 abbrev pub SimpleIsOwned : SimplePacketBlock → Type 0
 SimpleIsOwned block = IsOwned block.data_
 
+-- the bytes of a journal entry are borrowed
 abbrev pub JournalIsBorrowed : SystemdJournalExportBlock → Type 0
 JournalIsBorrowed block = IsBorrowed block.journal_entry
 
+-- the bytes of a journal entry are owned
 abbrev pub JournalIsOwned : SystemdJournalExportBlock → Type 0
 JournalIsOwned block = IsOwned block.journal_entry
 
+-- the bytes of an unknown block are borrowed
 abbrev pub UnknownBlockIsBorrowed : UnknownBlock → Type 0
 UnknownBlockIsBorrowed block = IsBorrowed block.value
 
+-- the bytes of an unknown block are owned
 abbrev pub UnknownBlockIsOwned : UnknownBlock → Type 0
 UnknownBlockIsOwned block = IsOwned block.value

@@ -12,6 +12,7 @@ use Rattle.pcap_classic.specs.Faults.{Fault, Shows}
 abbrev pub Order : Type 0
 Order = ℕ → List ℕ → ℕ
 
+-- the byte order of an endianness
 abbrev pub number_in : Endianness → Order
 number_in Big = big_number
 number_in Little = little_number

@@ -5,6 +5,7 @@ use Rattle.pcap_classic.specs.declared.stream.told.Told.{Told}
 use Rattle.pcap_classic.specs.Held.{held_bytes}
 use Rattle.pcap_classic.specs.Told.{stream_of, is_failed}
 
+-- the stream behind it, with what it remembers
 abbrev pub told_of : {T : Type 0} → Fill T → Told T
 told_of f = f.told
 
@@ -12,9 +13,10 @@ told_of f = f.told
 abbrev pub held_of : {T : Type 0} → Fill T → List ℕ
 held_of f = held_bytes f.held
 
--- the stream behind it, and whether a read of it failed
+-- the stream behind it
 abbrev pub source_of : {T : Type 0} → Fill T → T
 source_of f = stream_of f.told
 
+-- a read of the stream behind it failed
 abbrev pub has_failed : {T : Type 0} → Fill T → Bool
 has_failed f = is_failed f.told

@@ -17,6 +17,7 @@ pub data Reading (X : Type 0) : Type 0 where
   good : X → Reading X
   bad : Fault → Reading X
 
+-- a format whose items have a head that states how many bytes follow it
 pub record Headed (S X V : Type 0) : Type 1 where
   pub head : ℕ
   -- what is said of a head, how many bytes follow one, what is said of these, and where the item leads

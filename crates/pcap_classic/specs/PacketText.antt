@@ -54,6 +54,7 @@ head_fault limit r head =
     else if nat_lt head.original head.included then Some (Invalid IncludedPastOriginal)
     else None
 
+-- this is the first fault of a head
 abbrev pub IsHeadFault : ℕ → TsResolution → Head → Fault → Type 0
 IsHeadFault limit r head fault = head_fault limit r head ≡ Some fault
 
@@ -81,6 +82,7 @@ pub record Captured : Type 0 where
   pub header : PacketHeader
   pub bytes : List ℕ
 
+-- what a packet says, wherever its bytes lie
 abbrev pub captured : Packet → Captured
 captured packet = record { header = packet.header; bytes = cow_bytes packet.data_ }
 
@@ -103,9 +105,10 @@ pub record LacksData (limit : ℕ) (order : Order) (r : TsResolution) (s : List 
 abbrev pub LacksPacket : ℕ → Order → TsResolution → List ℕ → ℕ → Type 0
 LacksPacket limit order r s n = LacksHead s n ⊎ LacksData limit order r s n
 
--- what is said of bytes where a packet's header is asked for, and where a packet is
+-- what is said of bytes where a packet's header is asked for
 abbrev pub PacketHeaderSays : ℕ → Order → TsResolution → List ℕ → Verdict PacketHeader → Type 0
 PacketHeaderSays limit order r s = Says (λ header rest. PacketHeaderText limit order r header s rest) (LacksHead s) (HasHeadFault limit order r s)
 
+-- what is said of bytes where a packet is asked for
 abbrev pub PacketSays : ℕ → Order → TsResolution → List ℕ → Verdict Captured → Type 0
 PacketSays limit order r s = Says (λ packet rest. PacketText limit order r packet s rest) (LacksPacket limit order r s) (HasHeadFault limit order r s)

@@ -23,6 +23,7 @@ RefusingSays s (whole packet rest) = ⊥
 RefusingSays s (lacks n) = (s ≡ []) × (n ≡ 1)
 RefusingSays s (faulty fault) = (0 < length s) × (fault ≡ Invalid CaptureMagic)
 
+-- the format under a header of no valid magic number: no packet
 unfoldable pub refusing_format : Format (Unit {0}) Captured
 refusing_format = record { says = λ q. RefusingSays; goes = λ q packet. q; head = 1 }
 

@@ -27,10 +27,11 @@ WritesAll before after bytes (Ok u) = Appends before after bytes
 WritesAll before after bytes (Err (IoError e)) = AppendsPart before after bytes
 WritesAll before after bytes (Err _) = ⊥
 
--- the stream behind a writer, and whether a write of it failed
+-- the stream behind a writer
 abbrev pub writer_of : {W : Type 0} → PcapWriter W → W
 writer_of w = w.told.inner
 
+-- a write of the stream behind a writer failed
 abbrev pub has_failed : {W : Type 0} → PcapWriter W → Bool
 has_failed w = w.told.has_failed
 
