@@ -12,14 +12,14 @@ use Rattle.pcap_classic.specs.declared.pcap.header.PcapHeader.{PcapHeader}
 use Rattle.pcap_classic.specs.declared.run.copy.Copied.{Copied}
 use Rattle.pcap_classic.specs.declared.run.copy.Under.{Under}
 use Rattle.pcap_classic.specs.Answer.{number_in, whole}
-use Rattle.pcap_classic.specs.Copies.{PacketIsSaid, Copying, Ends, StopsFront, CopiesBehind, CopiesPackets, CopiesFront, CopyRun, CopyFront, header_under}
+use Rattle.pcap_classic.specs.Copies.{PacketIsSaid, Copying, Ends, StopsFront, TakesNext, CopiesBehind, CopiesPackets, CopiesFront, CopyRun, CopyFront, header_under}
 use Rattle.pcap_classic.specs.Errors.{IsIo}
 use Rattle.pcap_classic.specs.Format.{Texts, Front, IsLawful}
 use Rattle.pcap_classic.specs.HeaderText.{HeaderText}
 use Rattle.pcap_classic.specs.Magic.{order_of, resolution_of}
 use Rattle.pcap_classic.specs.Packets.{format_under}
 use Rattle.pcap_classic.specs.PacketText.{Captured, packet_limit}
-use Rattle.pcap_classic.specs.Reading.{Takes, HasCause}
+use Rattle.pcap_classic.specs.Reading.{Takes, TakesAsked, HasCause}
 use Rattle.pcap_classic.specs.Writing.{AppendsPart, WritesAll}
 use Rattle.pcap_classic.specs.Written.{written_header, written_under}
 use Rattle.pcap_classic.proofs.Formats.{texts_more, has_front, front_goes_on, nothing_more, nothing_no_text}
@@ -104,8 +104,10 @@ module _ (header : PcapHeader) (more : List Captured) (left rest : List ℕ) (fr
 
   -- why a copy ended, as the front shows it
   ends_known : (under : PcapHeader) (now mid out_now : Option (List ℕ)) (most : ℕ) (copied : Copied)
-      → Ends (IsAtEnd (Some left)) (Takes (PacketIsSaid header) (Some left) now) (HasCause (PacketIsSaid header) (Some left) copied.read_failed) under (Some left) now mid out_now most copied
-      → Ends ((more ≡ []) × (rest ≡ [])) (λ packet. (others : List Captured) × (more ≡ packet ∷ others)) (StopsFront header more rest copied.read_failed) under (Some left) now mid out_now most copied
+      → Ends (IsAtEnd (Some left)) (Takes (PacketIsSaid header) (Some left) now) (HasCause (PacketIsSaid header) (Some left) copied.read_failed)
+      (TakesAsked (PacketIsSaid header) (Some left) now) under (Some left) now mid out_now most copied
+      → Ends ((more ≡ []) × (rest ≡ [])) (TakesNext header more left now) (StopsFront header more rest copied.read_failed)
+      (TakesAsked (PacketIsSaid header) (Some left) now) under (Some left) now mid out_now most copied
   ends_known under now mid out_now most copied ends =
       elim ends [
         | inl ended ↦ inl (record {
@@ -120,7 +122,7 @@ module _ (header : PcapHeader) (more : List Captured) (left rest : List ℕ) (fr
         | inr not ↦ elim not [
           | inl tear ↦ inr (inl (record {
             packet = tear.packet;
-            next = next_of now tear.packet tear.next;
+            next = (next_of now tear.packet tear.next, tear.next);
             fewer = tear.fewer;
             refused = tear.refused;
             no_read_failed = tear.no_read_failed;
@@ -130,6 +132,7 @@ module _ (header : PcapHeader) (more : List Captured) (left rest : List ℕ) (fr
           | inr refused ↦ inr (inr (record {
             fewer = refused.fewer;
             refused = some_more copied.fault (λ e cause. (ends_front (format_under packet_limit header) (lawful_under header) tt (Some e) left rest more now copied.read_failed copied.packets most front (refused.fewer, cause)).1) refused.refused;
+            part = refused.part;
             no_write_failed = refused.no_write_failed;
             out = refused.out;
           }))
@@ -153,7 +156,7 @@ copies_known under bytes now out_before out_now most copied run =
     let front = has_front f laws tt b.0 in
     let on = front_goes_on f laws tt packets front.0 b.0 l.0 front.1 texts front.2 in
     let all : Front f tt (packets ++ on.0) b.0 front.1 = subst (λ (ps : List Captured). Front f tt ps b.0 front.1) {y = packets ++ on.0} on.1 front.2 in
-    let Ended : Option (List ℕ) → Type 0 = λ o. Ends (IsAtEnd o) (Takes (PacketIsSaid run.header) o now) (HasCause (PacketIsSaid run.header) o copied.read_failed) other o now behind.mid out_now most copied in
+    let Ended : Option (List ℕ) → Type 0 = λ o. Ends (IsAtEnd o) (Takes (PacketIsSaid run.header) o now) (HasCause (PacketIsSaid run.header) o copied.read_failed) (TakesAsked (PacketIsSaid run.header) o now) other o now behind.mid out_now most copied in
     let ends = subst Ended l.1 behind.ends in
     record {
       header = run.header;

@@ -19,7 +19,7 @@ use Rattle.pcap_classic.specs.HeaderText.{HeaderText, HeaderSays}
 use Rattle.pcap_classic.specs.Magic.{magic_for}
 use Rattle.pcap_classic.specs.Packets.{format_under}
 use Rattle.pcap_classic.specs.PacketText.{Captured, packet_limit}
-use Rattle.pcap_classic.specs.Reading.{Takes, HasCause, ReadsTold}
+use Rattle.pcap_classic.specs.Reading.{Takes, TakesAsked, HasCause, ReadsTold}
 use Rattle.pcap_classic.specs.Takes.{TakesTexts}
 use Rattle.pcap_classic.specs.Writing.{AppendsPart, WritesAll, IsWritable}
 use Rattle.pcap_classic.specs.Written.{written_header, written_under, capture}
@@ -103,17 +103,18 @@ pub record EndsTorn (IsNext : Captured → Type 0) (under : PcapHeader) (mid out
   pub write_failed : copied.write_failed ≡ true
   pub out : AppendsPart mid out_now (written_under under packet)
 
--- Behind them the reader refused what is left, and nothing more went out.
-pub record EndsRefused (IsCause : PcapError → Type 0) (mid out_now : Option (List ℕ)) (most : ℕ) (copied : Copied) : Type 0 where
+-- Behind them the reader refused what is left, took a part of it, and nothing more went out.
+pub record EndsRefused (IsCause : PcapError → Type 0) (IsPart : Type 0) (mid out_now : Option (List ℕ)) (most : ℕ) (copied : Copied) : Type 0 where
   pub fewer : copied.packets < most
   pub refused : IsSomeAnd copied.fault IsCause
+  pub part : IsPart
   pub no_write_failed : copied.write_failed ≡ false
   pub out : Keeps mid out_now
 
 -- why a copy ended behind so many packets
-abbrev pub Ends : Type 0 → (Captured → Type 0) → (PcapError → Type 0) → PcapHeader → Option (List ℕ) → Option (List ℕ) → Option (List ℕ) → Option (List ℕ) → ℕ → Copied → Type 0
-Ends IsEnd IsNext IsCause under left now mid out_now most copied =
-    EndsWhole IsEnd left now mid out_now most copied ⊎ EndsTorn IsNext under mid out_now most copied ⊎ EndsRefused IsCause mid out_now most copied
+abbrev pub Ends : Type 0 → (Captured → Type 0) → (PcapError → Type 0) → Type 0 → PcapHeader → Option (List ℕ) → Option (List ℕ) → Option (List ℕ) → Option (List ℕ) → ℕ → Copied → Type 0
+Ends IsEnd IsNext IsCause IsPart under left now mid out_now most copied =
+    EndsWhole IsEnd left now mid out_now most copied ⊎ EndsTorn IsNext under mid out_now most copied ⊎ EndsRefused IsCause IsPart mid out_now most copied
 
 -- So many packets behind a header were taken, and went out under another.
 pub record Copying (header under : PcapHeader) (before now out_before out_now : Option (List ℕ)) (n : ℕ) : Type 0 where
@@ -127,7 +128,8 @@ pub record CopiesBehind (header under : PcapHeader) (before now out_before out_n
   pub left : Option (List ℕ)
   pub mid : Option (List ℕ)
   pub so_far : Copying header under before left out_before mid copied.packets
-  pub ends : Ends (IsAtEnd left) (Takes (PacketIsSaid header) left now) (HasCause (PacketIsSaid header) left copied.read_failed) under left now mid out_now most copied
+  pub ends : Ends (IsAtEnd left) (Takes (PacketIsSaid header) left now) (HasCause (PacketIsSaid header) left copied.read_failed)
+      (TakesAsked (PacketIsSaid header) left now) under left now mid out_now most copied
 
 -- The header was taken and went out, and then packets.
 pub record CopiesPackets (under : Under) (before now out_before out_now : Option (List ℕ)) (most : ℕ) (copied : Copied) : Type 0 where
@@ -160,9 +162,14 @@ abbrev pub StopsFront : PcapHeader → List Captured → List ℕ → Bool → P
 StopsFront header more rest failed e =
     (IsIo e × (failed ≡ true)) ⊎ (IsMemory e × (failed ≡ false)) ⊎ ((more ≡ []) × HasCause (PacketIsSaid header) (Some rest) failed e)
 
+-- this packet is the next of the front, and exactly its text was taken
+abbrev pub TakesNext : PcapHeader → List Captured → List ℕ → Option (List ℕ) → Captured → Type 0
+TakesNext header more left now packet = ((others : List Captured) × (more ≡ packet ∷ others)) × Takes (PacketIsSaid header) (Some left) now packet
+
 -- The packets that went out are a beginning of the front's. Without a refusal exactly the header and these were taken, and
--- they are all, with nothing behind them, or the first `most`. A failed write tore the next packet of the front. A refusal
--- of the reader's is that of the rest, behind all packets of the front.
+-- they are all, with nothing behind them, or the first `most`. A failed write tore the next packet of the front, which was
+-- taken. A refusal of the reader's is that of the rest, behind all packets of the front, and no more was taken than was
+-- asked for.
 pub record CopiesFront (under : Under) (bytes : List ℕ) (now out_before out_now : Option (List ℕ)) (most : ℕ) (copied : Copied) : Type 0 where
   pub header : PcapHeader
   pub packets : List Captured
@@ -175,8 +182,8 @@ pub record CopiesFront (under : Under) (bytes : List ℕ) (now out_before out_no
   pub texts : CaptureTexts header packets bytes left
   pub count : length packets ≡ copied.packets
   pub out : Appends out_before mid (capture (header_under under header) packets)
-  pub ends : Ends ((more ≡ []) × (rest ≡ [])) (λ packet. (others : List Captured) × (more ≡ packet ∷ others)) (StopsFront header more rest copied.read_failed)
-      (header_under under header) (Some left) now mid out_now most copied
+  pub ends : Ends ((more ≡ []) × (rest ≡ [])) (TakesNext header more left now) (StopsFront header more rest copied.read_failed)
+      (TakesAsked (PacketIsSaid header) (Some left) now) (header_under under header) (Some left) now mid out_now most copied
 
 -- What holds where the reader tells its bytes.
 abbrev pub CopyFront : Under → List ℕ → Option (List ℕ) → Option (List ℕ) → Option (List ℕ) → ℕ → Copied → Type 0

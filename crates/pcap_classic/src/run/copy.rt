@@ -76,8 +76,9 @@ impl Under {
 ///
 /// `InvalidField` where the magic number of the header that is given is none of the four: nothing is read or written then.
 /// A header that is refused gives what `PcapHeader::from_reader` gives, and nothing is written; a rest that is refused gives
-/// what `PcapReader` gives there, and the header and all packets before it have gone out. `IoError` also where a write
-/// failed: a beginning of the text that comes next has gone out then. `OutOfMemory` where a packet can't be held.
+/// what `PcapReader` gives there, the header and all packets before it have gone out, and no more of it was taken than was
+/// missing. `IoError` also where a write failed: a beginning of the text that comes next has gone out then, and that packet
+/// was taken. `OutOfMemory` where a packet can't be held.
 pub fn copy_pcap<R: Read, W: Write>(
     alloc: Global,
     reader: &mut R,

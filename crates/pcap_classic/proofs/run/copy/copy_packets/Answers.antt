@@ -5,7 +5,7 @@ use Rattle.pcap_classic.specs.Copies.{Copying}
 use Rattle.pcap_classic.specs.Held.{held_bytes}
 use Rattle.pcap_classic.specs.Format.{Format}
 use Rattle.pcap_classic.specs.PacketText.{Captured, packet_limit}
-use Rattle.pcap_classic.specs.Reading.{HasCause}
+use Rattle.pcap_classic.specs.Reading.{HasCause, TakesAsked}
 use Rattle.pcap_classic.proofs.Copied.{copying_none, copying_more, torn_write}
 use Rattle.pcap_classic.proofs.Captures.{under_valid}
 use Rattle.pcap_classic.proofs.Packets.{reader_whole}
@@ -37,6 +37,7 @@ returns-in_err-fill_packet g c =
       ends = inr (inr (record {
         fewer = omega (arith, c.loop-copied-test.true);
         refused = rw (p.1, p.2) (under_valid packet_limit c.args.header.now c.requires.read (λ (f : Format (Unit {0}) Captured). HasCause (f.says tt) (g.R.Read.remaining c.loop-copied.reader) c.fill_packet.new.has_failed c.in_err-fill_packet.field-0.0) c.in_err-fill_packet.ensures.0);
+        part = under_valid packet_limit c.args.header.now c.requires.read (λ (f : Format (Unit {0}) Captured). TakesAsked (f.says tt) (g.R.Read.remaining c.loop-copied.reader) (g.R.Read.remaining c.fill_packet.new.stream)) c.in_err-fill_packet.ensures.1;
         no_write_failed = c.loop-copied.invariant.wrote;
         out = Keeps-refl _;
       }));
