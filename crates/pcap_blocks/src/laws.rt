@@ -1,4 +1,4 @@
-//! Laws of the grammar. Each function does nothing: its contract is the law.
+//! Laws of the grammar and of `==`. Each contract is the law; only the function of `==` calls anything.
 
 ghost use Rattle.std.specs.Prelude.{◌≡◌, ◌↔◌, ℕ, List, IsTrue};
 ghost use Rattle.pcap_classic.specs.Answer.{Order};

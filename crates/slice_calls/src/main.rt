@@ -104,6 +104,7 @@ fn replay_options<B: ByteOrder>(
         _ => replay_record::<B>(rt, call, slice),
     }
 }
+
 // The same of a call that reads names or records.
 fn replay_record<B: ByteOrder>(rt: &HostRuntime, call: &str, slice: &[u8]) -> io::Result<()> {
     match call {

@@ -3,7 +3,7 @@
 use crate::readers::Halting;
 use crate::writers::{Narrow, back, capture, contents, front, packet};
 use byteorder::BigEndian;
-use pcap_classic::pcap::{Packet, PcapHeader, PcapReader, PcapWriter};
+use pcap_classic::pcap::{Packet, PacketHeader, PcapHeader, PcapReader, PcapWriter};
 use pcap_classic::run::{Under, copy_pcap, read_pcap};
 use pcap_classic::{PcapError, ResultParsing, TsResolution};
 use std::alloc::{AllocError, Global};
@@ -63,6 +63,23 @@ fn values(rt: HostRuntime) -> Result<(), Fail> {
 }
 
 #[test]
+fn headers(rt: HostRuntime) -> Result<(), Fail> {
+    let whole = capture(rt.alloc())?;
+    for end in ENDS {
+        // three reads of a beginning of the capture's header, and of the packet's
+        let stream = ending(rt.alloc(), front(whole.as_slice(), 21), 7, end)?;
+        let reader = PcapReader::new(rt.alloc(), stream);
+        assert_eq!(rt; kind_of(reader.err()), Some(end.1));
+        let bytes = front(back(whole.as_slice(), 24), 15);
+        let mut stream = ending(rt.alloc(), bytes, 5, end)?;
+        let resolution = TsResolution::MicroSecond;
+        let header = PacketHeader::from_reader::<_, BigEndian>(&mut stream, resolution);
+        assert_eq!(rt; kind_of(header.err()), Some(end.1));
+    }
+    Ok(())
+}
+
+#[test]
 fn captures(rt: HostRuntime) -> Result<(), Fail> {
     let whole = capture(rt.alloc())?;
     // the header, the packet's header, and ten bytes of its data
@@ -95,6 +112,25 @@ fn writers(rt: HostRuntime) -> Result<(), Fail> {
         output.interrupted = interrupted;
         let mut writer = PcapWriter::with_header(PcapHeader::default(), output)?;
         assert_eq!(rt; kind_of(writer.write_packet(&packet).err()), Some(kind));
+    }
+    Ok(())
+}
+
+#[test]
+fn narrow_headers(rt: HostRuntime) -> Result<(), Fail> {
+    let header = PcapHeader::default();
+    let packet = PacketHeader::new(1, 2, 3, 4);
+    for (fails, kind) in [(false, ErrorKind::WriteZero), (true, ErrorKind::Other)] {
+        let made = PcapWriter::new(Narrow::new(rt.alloc(), 10, fails));
+        assert_eq!(rt; kind_of(made.err()), Some(kind));
+        let made = PcapWriter::with_header(header, Narrow::new(rt.alloc(), 10, fails));
+        assert_eq!(rt; kind_of(made.err()), Some(kind));
+        let mut output = Narrow::new(rt.alloc(), 10, fails);
+        let written = header.write_to::<_, BigEndian>(&mut output);
+        assert_eq!(rt; kind_of(written.err()), Some(kind));
+        let mut output = Narrow::new(rt.alloc(), 10, fails);
+        let written = packet.write_to::<_, BigEndian>(&mut output, TsResolution::MicroSecond);
+        assert_eq!(rt; kind_of(written.err()), Some(kind));
     }
     Ok(())
 }

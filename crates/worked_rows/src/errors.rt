@@ -1,7 +1,7 @@
 //! The texts of errors, and the errors that others become.
 
 use crate::captures::BIG_HEAD;
-use pcap_classic::pcap::{Packet, PcapHeader, PcapParser};
+use pcap_classic::pcap::{Packet, PcapHeader, PcapParser, PcapReader, PcapWriter};
 use pcap_classic::rules::Rule;
 use pcap_classic::{CowBytes, DataLink, Endianness, PcapError, TsResolution};
 use std::alloc::AllocError;
@@ -113,6 +113,17 @@ fn debug_text_of_a_parser(rt: HostRuntime) -> Result<(), Fail> {
         shown.as_str(),
         "PcapParser { header: PcapHeader { magic_number: 2712847316, version_major: 2, version_minor: 4, ts_correction: 0, ts_accuracy: 0, snaplen: 65535, datalink: ETHERNET } }"
     );
+    Ok(())
+}
+
+#[test]
+fn debug_texts_of_readers_and_writers(rt: HostRuntime) -> Result<(), Fail> {
+    let reader = PcapReader::new(rt.alloc(), BIG_HEAD.as_slice())?;
+    let shown = format!(in rt.alloc(); "{reader:?}")?;
+    assert!(rt; shown.starts_with("PcapReader { header: PcapHeader { magic_number: 2712847316, "));
+    let writer = PcapWriter::new(Vec::new(rt.alloc()))?;
+    let shown = format!(in rt.alloc(); "{writer:?}")?;
+    assert!(rt; shown.starts_with("PcapWriter { header: PcapHeader { magic_number: 3569595041, "));
     Ok(())
 }
 

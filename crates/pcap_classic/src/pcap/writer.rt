@@ -40,7 +40,7 @@ impl<W> PcapWriter<W> {
         self.told.get_ref()
     }
 
-    /// The wrapped writer. It is inadvisable to write to it directly.
+    /// The wrapped writer. What is written to it directly is no part of this writer's capture.
     pub fn get_mut(&mut self) -> &mut W
         ensures value { result.now ≡ writer_of self.old }
         ensures* writes_back { sem 𝓛 (Lends (writer-row W.row) W.row self.entry result (writer_with self.old)) }
