@@ -3,26 +3,25 @@ use Rattle.std.proofs.Common.{◌≡◌, ◌<◌, ◌≤◌, ◌+◌, IfSome, �
 use Rattle.std.specs.Prelude.{IfErr}
 use Rattle.std.specs.Io.KnownBytes.{Appends, Keeps, IsAtEnd}
 use Rattle.std.proofs.KnownBytes.{Appends-nil, Appends-trans, Consumes-nil, Keeps-refl}
-use Rattle.pcap_classic.specs.declared.errors.PcapError.{PcapError}
-use Rattle.pcap_classic.specs.declared.errors.PcapError.TheVariants as errors
+use Rattle.pcap_core.specs.declared.errors.PcapError.{PcapError}
+use Rattle.pcap_core.specs.declared.errors.PcapError.TheVariants as errors
 use Rattle.pcap_classic.specs.declared.pcap.header.PcapHeader.{PcapHeader}
-use Rattle.pcap_classic.specs.Answer.{Verdict}
-use Rattle.pcap_classic.specs.Errors.{IsIo, IsMemory}
-use Rattle.pcap_classic.specs.Faults.{Shows}
-use Rattle.pcap_classic.specs.Format.{Format, Front, IsLawful}
+use Rattle.pcap_core.specs.Answer.{Verdict, number_in}
+use Rattle.pcap_core.specs.Errors.{IsIo, IsMemory}
+use Rattle.pcap_core.specs.Faults.{Shows}
+use Rattle.pcap_core.specs.Format.{Format, Front, IsLawful}
 use Rattle.pcap_classic.specs.HeaderText.{HeaderSays, HeaderText}
-use Rattle.pcap_classic.specs.Answer.{number_in}
 use Rattle.pcap_classic.specs.Magic.{is_magic, order_of, resolution_of}
 use Rattle.pcap_classic.specs.PacketText.{packet_limit, Captured}
 use Rattle.pcap_classic.specs.Packets.{format_under, reader_format}
-use Rattle.pcap_classic.specs.Reading.{IsFaultOf, Takes, HasCause, read_failed, no_memory, torn, refused}
-use Rattle.pcap_classic.specs.Takes.{TakesTexts, ReadsFront, Stops}
-use Rattle.pcap_classic.specs.Writing.{AppendsPart}
+use Rattle.pcap_core.specs.Reading.{IsFaultOf, Takes, HasCause, read_failed, no_memory, torn, refused}
+use Rattle.pcap_core.specs.Takes.{TakesTexts, ReadsFront, Stops}
+use Rattle.pcap_core.specs.Writing.{AppendsPart}
 use Rattle.pcap_classic.proofs.Captures.{under_valid}
 use Rattle.pcap_classic.proofs.HeadedPackets.{packets_lawful}
 use Rattle.pcap_classic.proofs.Packets.{reader_lawful}
 use Rattle.pcap_classic.proofs.Stable.{header_stable}
-use Rattle.pcap_classic.proofs.Taking.{takes_more, run_reads}
+use Rattle.pcap_core.proofs.Taking.{takes_more, run_reads}
 use Rattle.capcopy_run.specs.declared.exit.Exit.{Exit}
 use Rattle.capcopy_run.specs.declared.exit.Exit.TheVariants as exits
 use Rattle.capcopy_run.specs.Exits.{EndsAt, IsOfKnownWord, exit_of}

@@ -1,6 +1,6 @@
 -- How copies end.
 use Rattle.std.specs.Prelude.{◌≡◌, ◌<◌, ◌⊎◌, ℕ, List, Option, None, Some, IfSome}
-use Rattle.pcap_classic.specs.declared.errors.PcapError.{PcapError}
+use Rattle.pcap_core.specs.declared.errors.PcapError.{PcapError}
 use Rattle.pcap_classic.specs.declared.run.copy.Copied.{Copied}
 use Rattle.pcap_classic.specs.declared.run.copy.Under.{Under}
 use Rattle.pcap_classic.specs.Copies.{CopyRun, CopyFront}

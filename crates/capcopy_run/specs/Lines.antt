@@ -2,10 +2,10 @@
 use Rattle.std.specs.Prelude.{ℕ, suc, ◌-◌, List, [], ◌∷◌, ◌++◌, length, replicate, codes, Option, Result, Ok, Err}
 use Rattle.std.specs.Fmt.{decimal}
 use Rattle.std.specs.Io.KnownBytes.{Appends, Keeps}
-use Rattle.pcap_classic.specs.declared.errors.PcapError.TheVariants.{IoError}
+use Rattle.pcap_core.specs.declared.errors.PcapError.TheVariants.{IoError}
 use Rattle.pcap_classic.specs.declared.pcap.packet.PacketHeader.{PacketHeader}
 use Rattle.pcap_classic.specs.PacketText.{Captured}
-use Rattle.pcap_classic.specs.Writing.{AppendsPart}
+use Rattle.pcap_core.specs.Writing.{AppendsPart}
 use Rattle.capcopy_run.specs.declared.exit.Exit.{Exit}
 use Rattle.capcopy_run.specs.declared.exit.Exit.TheVariants.{Io, Memory}
 

@@ -1,18 +1,18 @@
 -- What the word list takes and writes.
 use Rattle.std.specs.Prelude.{◌≡◌, ◌<◌, ◌⊎◌, ℕ, suc, List, [], ◌∷◌, ◌++◌, Option, Some, Result, Ok, Err, length}
 use Rattle.std.specs.Io.KnownBytes.{Keeps, Appends, IsAtEnd}
-use Rattle.pcap_classic.specs.declared.errors.PcapError.{PcapError}
-use Rattle.pcap_classic.specs.declared.errors.PcapError.TheVariants.{IoError}
+use Rattle.pcap_core.specs.declared.errors.PcapError.{PcapError}
+use Rattle.pcap_core.specs.declared.errors.PcapError.TheVariants.{IoError}
 use Rattle.pcap_classic.specs.declared.pcap.header.PcapHeader.{PcapHeader}
-use Rattle.pcap_classic.specs.Answer.{Verdict}
-use Rattle.pcap_classic.specs.Faults.{Shows}
+use Rattle.pcap_core.specs.Answer.{Verdict}
+use Rattle.pcap_core.specs.Faults.{Shows}
 use Rattle.pcap_classic.specs.HeaderText.{HeaderSays}
 use Rattle.pcap_classic.specs.PacketText.{packet_limit, Captured}
 use Rattle.pcap_classic.specs.Packets.{format_under, reader_format}
 use Rattle.pcap_classic.specs.Front.{CaptureFront}
-use Rattle.pcap_classic.specs.Reading.{IsFaultOf, Takes}
-use Rattle.pcap_classic.specs.Takes.{TakesTexts}
-use Rattle.pcap_classic.specs.Writing.{AppendsPart}
+use Rattle.pcap_core.specs.Reading.{IsFaultOf, Takes}
+use Rattle.pcap_core.specs.Takes.{TakesTexts}
+use Rattle.pcap_core.specs.Writing.{AppendsPart}
 use Rattle.capcopy_run.specs.declared.exit.Exit.{Exit}
 use Rattle.capcopy_run.specs.declared.exit.Exit.TheVariants.{Done, Refused, Most, Usage, Io, Memory}
 use Rattle.capcopy_run.specs.Lines.{line_of, lines_from}

@@ -2,7 +2,7 @@
 
 ghost use Rattle.std.specs.Prelude.{◌≡◌};
 ghost use Rattle.capcopy_run.specs.declared.exit.Exit.TheVariants as exits;
-ghost use Rattle.pcap_classic.specs.declared.errors.PcapError.TheVariants as errors;
+ghost use Rattle.pcap_core.specs.declared.errors.PcapError.TheVariants as errors;
 ghost use Rattle.capcopy_run.specs.Exits.{status_of, line_of, EndsAt};
 
 use pcap_classic::PcapError;

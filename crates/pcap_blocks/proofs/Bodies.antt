@@ -4,14 +4,14 @@ use Rattle.std.specs.Prelude.{⊤, ◌==◌}
 use Rattle.std.specs.Borrow.{Bor}
 use Rattle.std.proofs.lemmas.Bool.{ne_eqb}
 use Rattle.byteorder.specs.Endian.{big_number}
-use Rattle.pcap_classic.specs.declared.common.Endianness.{Endianness}
-use Rattle.pcap_classic.specs.declared.common.Endianness.TheVariants.{Big, Little}
-use Rattle.pcap_classic.specs.Answer.{Order, Number, number_in}
-use Rattle.pcap_classic.specs.Faults.{Fault}
+use Rattle.pcap_core.specs.declared.common.Endianness.{Endianness}
+use Rattle.pcap_core.specs.declared.common.Endianness.TheVariants.{Big, Little}
+use Rattle.pcap_core.specs.Answer.{Order, Number, number_in}
+use Rattle.pcap_core.specs.Faults.{Fault}
 use Rattle.pcap_blocks.specs.declared.refusal.Refusal.{Refusal}
 use Rattle.pcap_blocks.specs.declared.section_header.SectionHeaderBlock.{SectionHeaderBlock}
 use Rattle.pcap_blocks.specs.Refusals.{FindsWhere}
-use Rattle.pcap_blocks.specs.Padded.{Behind}
+use Rattle.pcap_core.specs.Padded.{Behind}
 use Rattle.pcap_blocks.specs.Options.{may_end_with_body, ListFault}
 use Rattle.pcap_blocks.specs.InterfaceDescription.{interface_description, InterfaceFault, in_options}
 use Rattle.pcap_blocks.specs.SectionHeader.{section_header, magic_order, AfterMagicFault, AfterMagicSays, SectionFault, after_magic, SectionSays, section_of}

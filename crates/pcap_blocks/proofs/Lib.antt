@@ -1,11 +1,7 @@
-pub mod Padded
-pub mod Texts
 pub mod Refusals
+pub mod Texts
 pub mod Options
 pub mod Bodies
-pub mod Verdicts
-pub mod Numbers
-pub mod OnePadded
 pub mod OneOption
 pub mod OneList
 pub mod OneSection
@@ -22,4 +18,3 @@ pub mod OneName
 pub mod OneRecord
 pub mod OneResolution
 pub mod OneBody
-pub mod Kept

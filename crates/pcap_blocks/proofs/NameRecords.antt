@@ -1,12 +1,12 @@
 -- What the calls that read records give together.
 use Rattle.std.proofs.Common.{◌≡◌, ◌≢◌, ℕ, ◌<◌, List, [], ◌++◌, length, refl, sym, subst, ◌∙◌, append_assoc}
-use Rattle.pcap_classic.specs.Answer.{Order, whole, faulty}
-use Rattle.pcap_classic.specs.Faults.{Fault, Invalid}
-use Rattle.pcap_classic.specs.declared.rules.Rule.TheVariants.{RecordUnpadded}
-use Rattle.pcap_classic.proofs.Texts.{split_same}
+use Rattle.pcap_core.specs.Answer.{Order, whole, faulty}
+use Rattle.pcap_core.specs.Faults.{Fault, Invalid}
+use Rattle.pcap_core.specs.declared.rules.Rule.TheVariants.{RecordUnpadded}
+use Rattle.pcap_core.proofs.Texts.{split_same}
 use Rattle.pcap_blocks.specs.declared.record.Record.{Record}
 use Rattle.pcap_blocks.specs.declared.record.Record.TheVariants as record_of
-use Rattle.pcap_blocks.specs.Padded.{Padded, up_to_4}
+use Rattle.pcap_core.specs.Padded.{Padded, up_to_4}
 use Rattle.pcap_blocks.specs.Options.{HeadText, may_end_with_body, ListFault}
 use Rattle.pcap_blocks.specs.Records.{NameRecord, End, form_of, RecordValueSays, RecordText, RecordFault, wrong, unpadded, name_record_of}
 use Rattle.pcap_blocks.specs.NameResolution.{name_resolution, KeptText, RecordsText, ResolutionFault, in_options}

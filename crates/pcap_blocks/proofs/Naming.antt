@@ -2,10 +2,10 @@
 use Rattle.std.proofs.Common.{◌≡◌, ℕ, ◌+◌, ◌≤◌, suc, ◌≢◌, ◌<◌, List, [], ◌∷◌, ◌++◌, length, sym, ap, ◌∙◌, arith, take, drop, length-append, get_or, drop-cons}
 use Rattle.std.specs.Prelude.{Err}
 use Rattle.std.proofs.lemmas.List.{take-append-drop}
-use Rattle.pcap_classic.specs.Faults.{Fault}
-use Rattle.pcap_blocks.specs.Padded.{Chain}
+use Rattle.pcap_core.specs.Faults.{Fault}
+use Rattle.pcap_core.specs.Padded.{Chain}
 use Rattle.pcap_blocks.specs.Values.{text_at}
-use Rattle.pcap_classic.specs.declared.rules.Rule.{Rule}
+use Rattle.pcap_core.specs.declared.rules.Rule.{Rule}
 use Rattle.pcap_blocks.specs.Records.{AddressFault, in_names}
 use Rattle.pcap_blocks.specs.Names.{NameText, HasNoZero, NameFault, no_text, NamesFault}
 

@@ -1,10 +1,10 @@
 -- Of all bytes exactly one thing is said as the body of a block of any type.
 use Rattle.std.proofs.Common.{◌≡◌, ◌^◌, ℕ, List, length, refl, arith, inl, inr}
 use Rattle.std.proofs.lemmas.Bool.{cases_lt}
-use Rattle.pcap_classic.specs.Answer.{Order, Verdict, whole, lacks, faulty}
-use Rattle.pcap_classic.specs.Faults.{Invalid}
-use Rattle.pcap_classic.specs.Laws.{ExactlyOne}
-use Rattle.pcap_classic.specs.declared.rules.Rule.TheVariants.{UnknownTooLong}
+use Rattle.pcap_core.specs.Answer.{Order, Verdict, whole, lacks, faulty}
+use Rattle.pcap_core.specs.Faults.{Invalid}
+use Rattle.pcap_core.specs.Laws.{ExactlyOne}
+use Rattle.pcap_core.specs.declared.rules.Rule.TheVariants.{UnknownTooLong}
 use Rattle.pcap_blocks.specs.declared.block.BlockType.{BlockType}
 use Rattle.pcap_blocks.specs.declared.block.BlockType.TheVariants as types
 use Rattle.pcap_blocks.specs.SectionHeader.{SectionSays}
@@ -15,7 +15,7 @@ use Rattle.pcap_blocks.specs.InterfaceStatistics.{StatisticsSays}
 use Rattle.pcap_blocks.specs.EnhancedPacket.{EnhancedSays}
 use Rattle.pcap_blocks.specs.WholeBodies.{SimpleSays, JournalSays, UnknownBody}
 use Rattle.pcap_blocks.specs.ParsedBlock.{SectionBody, InterfaceBody, OldPacketBody, SimpleBody, NamesBody, StatisticsBody, EnhancedBody, JournalBody, OtherBody, UnknownSays, BodySays}
-use Rattle.pcap_blocks.proofs.Verdicts.{one_made}
+use Rattle.pcap_core.proofs.Verdicts.{one_made}
 use Rattle.pcap_blocks.proofs.OneSection.{section_one}
 use Rattle.pcap_blocks.proofs.OneInterface.{interface_one}
 use Rattle.pcap_blocks.proofs.OnePacket.{packet_body_one}

@@ -1,15 +1,14 @@
 -- Of all bytes exactly one thing is said as the body of an enhanced packet.
 use Rattle.std.proofs.Common.{ℕ, ◌<◌, List, [], ◌∷◌, length, refl, sym, subst, arith, inl, inr}
-use Rattle.pcap_classic.specs.Answer.{Order, Number, Verdict, whole, lacks, faulty}
-use Rattle.pcap_classic.specs.Faults.{Invalid}
-use Rattle.pcap_classic.specs.Laws.{ExactlyOne}
-use Rattle.pcap_classic.specs.declared.rules.Rule.TheVariants.{EnhancedTooShort}
+use Rattle.pcap_core.specs.Answer.{Order, Number, Verdict, whole, lacks, faulty, Made}
+use Rattle.pcap_core.specs.Faults.{Invalid}
+use Rattle.pcap_core.specs.Laws.{ExactlyOne}
+use Rattle.pcap_core.specs.declared.rules.Rule.TheVariants.{EnhancedTooShort}
 use Rattle.pcap_blocks.specs.StoredPacket.{Stored, StoredSays}
 use Rattle.pcap_blocks.specs.StoredPacket as stored
 use Rattle.pcap_blocks.specs.EnhancedPacket.{enhanced_packet, Enhanced, EnhancedText, short, in_packet, EnhancedSays}
-use Rattle.pcap_blocks.specs.Records.{Made}
-use Rattle.pcap_blocks.proofs.Verdicts.{one_moved, Then, one_then, one_made}
-use Rattle.pcap_blocks.proofs.Numbers.{Values, NumbersSay, numbers_one, numbers_behind, numbers_at, numbers_length}
+use Rattle.pcap_core.proofs.Verdicts.{one_moved, Then, one_then, one_made}
+use Rattle.pcap_core.proofs.Numbers.{Values, NumbersSay, numbers_one, numbers_behind, numbers_at, numbers_length}
 use Rattle.pcap_blocks.proofs.OneStored.{stored_one}
 
 abbrev widths : List ℕ

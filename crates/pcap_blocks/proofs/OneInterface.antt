@@ -1,18 +1,17 @@
 -- Of all bytes exactly one thing is said as the body of an interface.
 use Rattle.std.proofs.Common.{◌≡◌, ℕ, List, [], ◌∷◌, refl, sym, ap, subst, ◌∙◌, inl, inr}
-use Rattle.pcap_classic.specs.Answer.{Order, Number, Verdict, whole, lacks, faulty}
-use Rattle.pcap_classic.specs.Faults.{Invalid}
-use Rattle.pcap_classic.specs.Laws.{ExactlyOne}
-use Rattle.pcap_classic.specs.Link.{Link}
-use Rattle.pcap_classic.specs.declared.link.DataLink.{DataLink}
-use Rattle.pcap_classic.specs.declared.rules.Rule.TheVariants.{InterfaceTooShort}
-use Rattle.pcap_classic.proofs.Links.{plain_same, link_of}
+use Rattle.pcap_core.specs.Answer.{Order, Number, Verdict, whole, lacks, faulty, Made}
+use Rattle.pcap_core.specs.Faults.{Invalid}
+use Rattle.pcap_core.specs.Laws.{ExactlyOne}
+use Rattle.pcap_core.specs.Link.{Link}
+use Rattle.pcap_core.specs.declared.link.DataLink.{DataLink}
+use Rattle.pcap_core.specs.declared.rules.Rule.TheVariants.{InterfaceTooShort}
+use Rattle.pcap_core.proofs.Links.{plain_same, link_of}
 use Rattle.pcap_blocks.specs.Values.{Entry}
 use Rattle.pcap_blocks.specs.Options.{may_end_with_body, ListSays}
 use Rattle.pcap_blocks.specs.InterfaceDescription.{interface_description, Interface, InterfaceHead, InterfaceText, short, in_options, InterfaceSays}
-use Rattle.pcap_blocks.specs.Records.{Made}
-use Rattle.pcap_blocks.proofs.Verdicts.{one_moved, Then, one_then, one_made}
-use Rattle.pcap_blocks.proofs.Numbers.{Values, Numbers, NumbersSay, numbers_one, numbers_behind, numbers_at}
+use Rattle.pcap_core.proofs.Verdicts.{one_moved, Then, one_then, one_made}
+use Rattle.pcap_core.proofs.Numbers.{Values, Numbers, NumbersSay, numbers_one, numbers_behind, numbers_at}
 use Rattle.pcap_blocks.proofs.OneList.{list_one}
 
 -- link type, reserved number, snap length

@@ -3,15 +3,15 @@ use Rattle.std.proofs.Common.{◌≡◌, ◌≢◌, ℕ, zero, suc, Bool, true, 
 use Rattle.std.specs.Prelude.{◌⊎◌}
 use Rattle.std.specs.Str.{is_utf8}
 use Rattle.std.proofs.lemmas.List.Elements.{All-cons, All-nil}
-use Rattle.pcap_classic.specs.Answer.{Verdict, whole, lacks, faulty}
-use Rattle.pcap_classic.specs.Faults.{Fault, Invalid, NoText}
-use Rattle.pcap_classic.specs.Laws.{ExactlyOne}
-use Rattle.pcap_classic.specs.declared.rules.Rule.TheVariants.{NameUnended}
-use Rattle.pcap_blocks.specs.Padded.{Chain}
+use Rattle.pcap_core.specs.Answer.{Verdict, whole, lacks, faulty}
+use Rattle.pcap_core.specs.Faults.{Fault, Invalid, NoText}
+use Rattle.pcap_core.specs.Laws.{ExactlyOne}
+use Rattle.pcap_core.specs.declared.rules.Rule.TheVariants.{NameUnended}
+use Rattle.pcap_core.specs.Padded.{Chain}
 use Rattle.pcap_blocks.specs.Values.{text_at}
 use Rattle.pcap_blocks.specs.Names.{HasNoZero, NameText, NameFault, unended, no_text, NameSays, NamesSay}
 use Rattle.pcap_blocks.proofs.Naming.{name_shorter}
-use Rattle.pcap_blocks.proofs.Verdicts.{one_moved, Then, one_then, Stopped, IsMany, one_stopped, same_whole, whole_no_fault}
+use Rattle.pcap_core.proofs.Verdicts.{one_moved, Then, one_then, Stopped, IsMany, one_stopped, same_whole, whole_no_fault}
 
 no_zero_head : (b : ℕ) (s : List ℕ) → HasNoZero (b ∷ s) → b ≢ 0
 no_zero_head b s all = all 0 0 (omega arith)

@@ -1,16 +1,16 @@
 -- Of all bytes exactly one thing is said as a value, and as an option or the mark.
 use Rattle.std.proofs.Common.{◌≡◌, ◌≢◌, ℕ, suc, zero, ◌<◌, List, [], ◌∷◌, length, Option, Some, None, Result, Ok, Err, refl, sym, ap, subst, ◌∙◌, arith, inl, inr}
-use Rattle.pcap_classic.specs.Answer.{Order, Verdict, whole, lacks, faulty}
-use Rattle.pcap_classic.specs.Faults.{Fault, Invalid}
-use Rattle.pcap_classic.specs.Laws.{ExactlyOne}
-use Rattle.pcap_classic.specs.declared.rules.Rule.TheVariants.{OptionTooShort, OptionCut}
-use Rattle.pcap_blocks.specs.Padded.{Padded, up_to_4}
+use Rattle.pcap_core.specs.Answer.{Order, Verdict, whole, lacks, faulty}
+use Rattle.pcap_core.specs.Faults.{Fault, Invalid}
+use Rattle.pcap_core.specs.Laws.{ExactlyOne}
+use Rattle.pcap_core.specs.declared.rules.Rule.TheVariants.{OptionTooShort, OptionCut}
+use Rattle.pcap_core.specs.Padded.{Padded, up_to_4}
 use Rattle.pcap_blocks.specs.Values.{Kind, Entry, Value, Shape, shape_at, value_of, EntrySays}
 use Rattle.pcap_blocks.specs.Options.{HeadText, OptionText, OptionFault, short, cut, wrong, OptionSays}
 use Rattle.pcap_blocks.proofs.Options.{head_with}
-use Rattle.pcap_blocks.proofs.Verdicts.{one_moved, Then, one_then, same_whole}
-use Rattle.pcap_blocks.proofs.Numbers.{Values, Numbers, NumbersSay, numbers_one}
-use Rattle.pcap_blocks.proofs.OnePadded.{PaddedSays, padded_one}
+use Rattle.pcap_core.proofs.Verdicts.{one_moved, Then, one_then, same_whole}
+use Rattle.pcap_core.proofs.Numbers.{Values, Numbers, NumbersSay, numbers_one}
+use Rattle.pcap_core.proofs.OnePadded.{PaddedSays, padded_one}
 
 entry : ℕ → Value → Entry
 entry c v = record { code = c; value = v }

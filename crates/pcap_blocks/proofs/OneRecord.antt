@@ -2,23 +2,23 @@
 use Rattle.std.proofs.Common.{◌≡◌, ◌≢◌, ℕ, ◌+◌, ◌<◌, ◌≤◌, List, [], ◌∷◌, ◌++◌, length, take, drop, refl, sym, ap, subst, ◌∙◌, arith, append_assoc, inl, inr}
 use Rattle.std.proofs.lemmas.List.{take-append-drop, length-take, length-append}
 use Rattle.std.proofs.lemmas.Bool.{cases_lt}
-use Rattle.pcap_classic.specs.Answer.{Order, Verdict, whole, lacks, faulty}
-use Rattle.pcap_classic.specs.Faults.{Fault, Invalid, Io}
-use Rattle.pcap_classic.specs.Laws.{ExactlyOne}
-use Rattle.pcap_classic.specs.declared.rules.Rule.{Rule}
-use Rattle.pcap_classic.specs.declared.rules.Rule.TheVariants.{RecordCut, EndNotEmpty, RecordUnpadded}
-use Rattle.pcap_classic.proofs.Texts.{split_same}
-use Rattle.pcap_blocks.specs.Padded.{Padded, up_to_4}
+use Rattle.pcap_core.specs.Answer.{Order, Verdict, whole, lacks, faulty, Made}
+use Rattle.pcap_core.specs.Faults.{Fault, Invalid, Io}
+use Rattle.pcap_core.specs.Laws.{ExactlyOne}
+use Rattle.pcap_core.specs.declared.rules.Rule.{Rule}
+use Rattle.pcap_core.specs.declared.rules.Rule.TheVariants.{RecordCut, EndNotEmpty, RecordUnpadded}
+use Rattle.pcap_core.proofs.Texts.{split_same}
+use Rattle.pcap_core.specs.Padded.{Padded, up_to_4}
 use Rattle.pcap_blocks.specs.Options.{HeadText}
 use Rattle.pcap_blocks.specs.Names.{NamesSay}
-use Rattle.pcap_blocks.specs.Records.{Made, Address, AddressText, short, in_names, AddressSays, NameRecord, End, Other, Form, no_value, address, any_value, form_of, RecordValueSays, RecordFault, cut, wrong, unpadded, RecordSays}
+use Rattle.pcap_blocks.specs.Records.{Address, AddressText, short, in_names, AddressSays, NameRecord, End, Other, Form, no_value, address, any_value, form_of, RecordValueSays, RecordFault, cut, wrong, unpadded, RecordSays}
 use Rattle.pcap_blocks.proofs.Options.{head_with}
-use Rattle.pcap_blocks.proofs.Verdicts.{one_moved, Then, one_then, one_made}
-use Rattle.pcap_blocks.proofs.Numbers.{NumbersSay, numbers_one}
+use Rattle.pcap_core.proofs.Verdicts.{one_moved, Then, one_then, one_made}
+use Rattle.pcap_core.proofs.Numbers.{NumbersSay, numbers_one}
 use Rattle.pcap_blocks.proofs.OneName.{names_one}
 use Rattle.pcap_blocks.proofs.OneOption.{widths, head_to, head_from}
 use Rattle.pcap_blocks.proofs.NameRecords.{same_padded}
-use Rattle.pcap_blocks.proofs.OnePadded.{PaddedSays, padded_one, padded_same, no_short_padded}
+use Rattle.pcap_core.proofs.OnePadded.{PaddedSays, padded_one, padded_same, no_short_padded}
 
 -- n bytes, or a fault where fewer are left
 BytesSay : Fault → ℕ → List ℕ → Verdict (List ℕ) → Type 0

@@ -1,16 +1,16 @@
 -- Of all bytes exactly one thing is said as a name resolution body.
 use Rattle.std.proofs.Common.{◌≡◌, ℕ, ◌<◌, List, length, refl, sym, subst, ◌∙◌, arith, inl, inr}
 use Rattle.std.specs.Prelude.{◌⊎◌}
-use Rattle.pcap_classic.specs.Answer.{Order, Verdict, whole, lacks, faulty}
-use Rattle.pcap_classic.specs.Faults.{Fault}
-use Rattle.pcap_classic.specs.Laws.{ExactlyOne}
-use Rattle.pcap_blocks.specs.Padded.{Chain}
+use Rattle.pcap_core.specs.Answer.{Order, Verdict, whole, lacks, faulty, Made}
+use Rattle.pcap_core.specs.Faults.{Fault}
+use Rattle.pcap_core.specs.Laws.{ExactlyOne}
+use Rattle.pcap_core.specs.Padded.{Chain}
 use Rattle.pcap_blocks.specs.Values.{Entry}
 use Rattle.pcap_blocks.specs.Options.{may_end_with_body, ListSays}
-use Rattle.pcap_blocks.specs.Records.{Made, NameRecord, End, Ipv4, Ipv6, Other, RecordText, RecordFault, RecordSays}
+use Rattle.pcap_blocks.specs.Records.{NameRecord, End, Ipv4, Ipv6, Other, RecordText, RecordFault, RecordSays}
 use Rattle.pcap_blocks.specs.NameResolution.{name_resolution, Resolution, KeptText, RecordsSay, ResolutionText, in_records, in_options, ResolutionSays}
-use Rattle.pcap_blocks.proofs.Verdicts.{one_moved, Then, one_then, one_made, Stopped, IsMany, one_stopped, same_whole, whole_no_fault}
-use Rattle.pcap_blocks.proofs.OnePadded.{padded_length}
+use Rattle.pcap_core.proofs.Verdicts.{one_moved, Then, one_then, one_made, Stopped, IsMany, one_stopped, same_whole, whole_no_fault}
+use Rattle.pcap_core.proofs.OnePadded.{padded_length}
 use Rattle.pcap_blocks.proofs.OneRecord.{record_one}
 use Rattle.pcap_blocks.proofs.OneList.{list_one, head_length}
 

@@ -5,18 +5,17 @@ use Rattle.std.specs.Int.{w64, cast_signed}
 use Rattle.std.proofs.lemmas.Bool.{cases_lt}
 use Rattle.std.proofs.lemmas.List.{length-append}
 use Rattle.byteorder.specs.Endian.{big_number}
-use Rattle.pcap_classic.specs.declared.common.Endianness.{Endianness}
-use Rattle.pcap_classic.specs.declared.rules.Rule.TheVariants.{SectionTooShort, SectionMagic}
-use Rattle.pcap_classic.specs.Answer.{Order, Number, number_in, Verdict, whole, lacks, faulty}
-use Rattle.pcap_classic.specs.Faults.{Fault, Invalid}
-use Rattle.pcap_classic.specs.Laws.{ExactlyOne}
-use Rattle.pcap_classic.proofs.Texts.{number_length}
+use Rattle.pcap_core.specs.declared.common.Endianness.{Endianness}
+use Rattle.pcap_core.specs.declared.rules.Rule.TheVariants.{SectionTooShort, SectionMagic}
+use Rattle.pcap_core.specs.Answer.{Order, Number, number_in, Verdict, whole, lacks, faulty, Made}
+use Rattle.pcap_core.specs.Faults.{Fault, Invalid}
+use Rattle.pcap_core.specs.Laws.{ExactlyOne}
+use Rattle.pcap_core.proofs.Texts.{number_length}
 use Rattle.pcap_blocks.specs.Values.{Entry}
 use Rattle.pcap_blocks.specs.Options.{may_end_with_body, ListSays}
 use Rattle.pcap_blocks.specs.SectionHeader.{section_header, magic_order, Section, VersionText, AfterMagic, AfterMagicFault, SectionText, SectionFault, short, no_magic, after_magic, SectionSays}
-use Rattle.pcap_blocks.specs.Records.{Made}
-use Rattle.pcap_blocks.proofs.Verdicts.{one_moved, Then, one_then, one_made}
-use Rattle.pcap_blocks.proofs.Numbers.{Values, Numbers, NumbersSay, numbers_one, numbers_behind, numbers_at}
+use Rattle.pcap_core.proofs.Verdicts.{one_moved, Then, one_then, one_made}
+use Rattle.pcap_core.proofs.Numbers.{Values, Numbers, NumbersSay, numbers_one, numbers_behind, numbers_at}
 use Rattle.pcap_blocks.proofs.OneList.{list_one}
 
 abbrev too_short : Fault

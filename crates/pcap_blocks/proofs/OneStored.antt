@@ -1,16 +1,15 @@
 -- Of all bytes exactly one thing is said as a stored packet, and as the bodies that hold one.
 use Rattle.std.proofs.Common.{ℕ, ◌+◌, ◌*◌, ◌^◌, List, [], ◌∷◌, refl, sym, ap, subst, inl, inr}
-use Rattle.pcap_classic.specs.Answer.{Order, Number, Verdict, whole, lacks, faulty}
-use Rattle.pcap_classic.specs.Faults.{Fault, Invalid}
-use Rattle.pcap_classic.specs.Laws.{ExactlyOne}
-use Rattle.pcap_classic.specs.declared.rules.Rule.TheVariants.{EnhancedTooShort, EnhancedCut}
+use Rattle.pcap_core.specs.Answer.{Order, Number, Verdict, whole, lacks, faulty, Made}
+use Rattle.pcap_core.specs.Faults.{Fault, Invalid}
+use Rattle.pcap_core.specs.Laws.{ExactlyOne}
+use Rattle.pcap_core.specs.declared.rules.Rule.TheVariants.{EnhancedTooShort, EnhancedCut}
 use Rattle.pcap_blocks.specs.Values.{Entry, Kind}
 use Rattle.pcap_blocks.specs.Options.{may_end_with_body, ListSays}
 use Rattle.pcap_blocks.specs.StoredPacket.{Stored, StoredHead, StoredText, StoredFault, short, cut, in_options, StoredSays}
-use Rattle.pcap_blocks.specs.Records.{Made}
-use Rattle.pcap_blocks.proofs.Verdicts.{one_moved, Then, one_then, one_made}
-use Rattle.pcap_blocks.proofs.Numbers.{Values, Numbers, NumbersSay, numbers_one}
-use Rattle.pcap_blocks.proofs.OnePadded.{PaddedSays, padded_one}
+use Rattle.pcap_core.proofs.Verdicts.{one_moved, Then, one_then, one_made}
+use Rattle.pcap_core.proofs.Numbers.{Values, Numbers, NumbersSay, numbers_one}
+use Rattle.pcap_core.proofs.OnePadded.{PaddedSays, padded_one}
 use Rattle.pcap_blocks.proofs.OneList.{list_one}
 use Rattle.pcap_blocks.proofs.StoredPackets.{stored}
 

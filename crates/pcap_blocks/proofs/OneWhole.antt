@@ -1,12 +1,12 @@
 -- Of all bytes exactly one thing is said as a simple packet, and as a journal entry.
 use Rattle.std.proofs.Common.{◌≡◌, ℕ, List, [], ◌∷◌, refl, ap, subst, inl, inr}
-use Rattle.pcap_classic.specs.Answer.{Order, Number, Verdict, whole, lacks, faulty}
-use Rattle.pcap_classic.specs.Faults.{Invalid}
-use Rattle.pcap_classic.specs.Laws.{ExactlyOne}
-use Rattle.pcap_classic.specs.declared.rules.Rule.TheVariants.{SimpleTooShort}
+use Rattle.pcap_core.specs.Answer.{Order, Number, Verdict, whole, lacks, faulty}
+use Rattle.pcap_core.specs.Faults.{Invalid}
+use Rattle.pcap_core.specs.Laws.{ExactlyOne}
+use Rattle.pcap_core.specs.declared.rules.Rule.TheVariants.{SimpleTooShort}
 use Rattle.pcap_blocks.specs.WholeBodies.{Simple, SimpleText, short, SimpleSays, JournalSays}
-use Rattle.pcap_blocks.proofs.Verdicts.{one_moved, Then, one_then}
-use Rattle.pcap_blocks.proofs.Numbers.{NumbersSay, numbers_one}
+use Rattle.pcap_core.proofs.Verdicts.{one_moved, Then, one_then}
+use Rattle.pcap_core.proofs.Numbers.{NumbersSay, numbers_one}
 
 abbrev widths : List ℕ
 widths = 4 ∷ []

@@ -3,9 +3,9 @@ use Rattle.std.proofs.Common.{◌≡◌, ◌≢◌, Err, true, false, subst, ℕ
 use Rattle.std.specs.Prelude.{◌==◌}
 use Rattle.std.proofs.lemmas.List.{nil_from_length}
 use Rattle.std.proofs.lemmas.Bool.{eqb-true}
-use Rattle.pcap_classic.specs.Answer.{Order, Number}
-use Rattle.pcap_classic.specs.Faults.{Fault}
-use Rattle.pcap_blocks.specs.Padded.{Padded, Chain}
+use Rattle.pcap_core.specs.Answer.{Order, Number}
+use Rattle.pcap_core.specs.Faults.{Fault}
+use Rattle.pcap_core.specs.Padded.{Padded, Chain}
 use Rattle.pcap_blocks.specs.Values.{Kind, Entry, shape_at, value_of}
 use Rattle.pcap_blocks.specs.Options.{HeadText, OptionText, OptionFault, wrong, Ending, may_end_with_body, OptionList, with_body, ListFault}
 

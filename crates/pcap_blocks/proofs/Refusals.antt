@@ -1,5 +1,5 @@
 -- Faults of a part are faults of the whole.
-use Rattle.pcap_classic.specs.Faults.{Fault, Invalid, Io, NoText}
+use Rattle.pcap_core.specs.Faults.{Fault, Invalid, Io, NoText}
 use Rattle.pcap_blocks.specs.declared.refusal.Refusal.{Refusal}
 use Rattle.pcap_blocks.specs.declared.refusal.Refusal.TheVariants as refusals
 use Rattle.pcap_blocks.specs.Refusals.{Denies}

@@ -1,9 +1,9 @@
 -- What the calls that read packets and statistics give together.
 use Rattle.std.proofs.Common.{◌≡◌, ◌<◌, ℕ, List, [], length}
-use Rattle.pcap_classic.specs.Answer.{Order, Number}
-use Rattle.pcap_classic.specs.Faults.{Fault, Invalid}
-use Rattle.pcap_classic.specs.declared.rules.Rule.TheVariants.{EnhancedCut}
-use Rattle.pcap_blocks.specs.Padded.{up_to_4, Padded, Behind}
+use Rattle.pcap_core.specs.Answer.{Order, Number}
+use Rattle.pcap_core.specs.Faults.{Fault, Invalid}
+use Rattle.pcap_core.specs.declared.rules.Rule.TheVariants.{EnhancedCut}
+use Rattle.pcap_core.specs.Padded.{up_to_4, Padded, Behind}
 use Rattle.pcap_blocks.specs.Values.{Entry, Kind}
 use Rattle.pcap_blocks.specs.Options.{may_end_with_body, ListFault}
 use Rattle.pcap_blocks.specs.StoredPacket.{TimeText, Stored, StoredHead, StoredFault, cut, in_options}
@@ -13,7 +13,7 @@ use Rattle.pcap_blocks.specs.PacketBody.{packet_kind, PacketBodyFault}
 use Rattle.pcap_blocks.specs.PacketBody as body
 use Rattle.pcap_blocks.specs.InterfaceStatistics.{interface_statistics, StatisticsFault}
 use Rattle.pcap_blocks.specs.InterfaceStatistics as statistics
-use Rattle.pcap_blocks.proofs.Padded.{behind_number, behind_both}
+use Rattle.pcap_core.proofs.Padded.{behind_number, behind_both}
 
 abbrev pub stored : ℕ → ℕ → ℕ → List ℕ → List Entry → Stored
 stored t n o bytes options = record { timestamp = t; captured_len = n; original_len = o; bytes = bytes; options = options }

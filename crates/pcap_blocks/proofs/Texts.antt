@@ -3,7 +3,7 @@ use Rattle.std.proofs.Common.{◌≡◌, ℕ, Bool, true, false, List, Ok, Err, 
 use Rattle.std.specs.Prelude.{IsUtf8}
 use Rattle.std.specs.Str.{is_utf8}
 use Rattle.std.proofs.lemmas.Str.{IsUtf8-from_is_utf8, is_utf8-from_IsUtf8}
-use Rattle.pcap_classic.specs.Faults.{NoText}
+use Rattle.pcap_core.specs.Faults.{NoText}
 use Rattle.pcap_blocks.specs.Values.{text_at}
 
 pub text_is : (v : List ℕ) → IsUtf8 v → text_at v ≡ Ok v

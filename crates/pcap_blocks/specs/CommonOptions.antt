@@ -1,6 +1,6 @@
 -- The options of the code that every kind of block has.
 use Rattle.std.specs.Cow.{cow_str_bytes, IsBorrowedStr, IsOwnedStr}
-use Rattle.pcap_classic.specs.Bytes.{cow_bytes, IsBorrowed, IsOwned}
+use Rattle.pcap_core.specs.Bytes.{cow_bytes, IsBorrowed, IsOwned}
 use Rattle.pcap_blocks.specs.Values.{Entry, CustomText, CustomBytes, Unknown}
 use Rattle.pcap_blocks.specs.declared.common.UnknownOption.{UnknownOption}
 use Rattle.pcap_blocks.specs.declared.common.CustomBinaryOption.{CustomBinaryOption}

@@ -1,14 +1,14 @@
 -- The body of an enhanced packet ('Enhanced Packet Block').
 use Rattle.std.specs.Prelude.{◌≡◌, ◌<◌, ℕ, List, [], ◌∷◌, length, map, All}
 use Rattle.std.specs.Cow.{cow_str_bytes, IsBorrowedStr, IsOwnedStr}
-use Rattle.pcap_classic.specs.Answer.{Order, Number, Verdict, Says}
-use Rattle.pcap_classic.specs.Bytes.{cow_bytes, IsBorrowed, IsOwned}
-use Rattle.pcap_classic.specs.Faults.{Fault, Invalid}
-use Rattle.pcap_classic.specs.declared.rules.Rule.TheVariants.{EnhancedTooShort, EnhancedFlagsLength, EnhancedDropCountLength}
+use Rattle.pcap_core.specs.Answer.{Order, Number, Verdict, Says}
+use Rattle.pcap_core.specs.Bytes.{cow_bytes, IsBorrowed, IsOwned}
+use Rattle.pcap_core.specs.Faults.{Fault, Invalid}
+use Rattle.pcap_core.specs.declared.rules.Rule.TheVariants.{EnhancedTooShort, EnhancedFlagsLength, EnhancedDropCountLength}
 use Rattle.pcap_blocks.specs.declared.enhanced_packet.EnhancedPacketBlock.{EnhancedPacketBlock}
 use Rattle.pcap_blocks.specs.declared.enhanced_packet.EnhancedPacketOption.{EnhancedPacketOption}
 use Rattle.pcap_blocks.specs.declared.enhanced_packet.EnhancedPacketOption.TheVariants as option_of
-use Rattle.pcap_blocks.specs.Padded.{Behind}
+use Rattle.pcap_core.specs.Padded.{Behind}
 use Rattle.pcap_blocks.specs.Values.{Entry, Text, Bytes, Integer, Kind, text, bytes, number, custom}
 use Rattle.pcap_blocks.specs.CommonOptions.{unknown_entry, custom_bytes_entry, custom_text_entry, UnknownIsBorrowed, UnknownIsOwned, CustomBytesIsBorrowed, CustomBytesIsOwned, CustomTextIsBorrowed, CustomTextIsOwned}
 use Rattle.pcap_blocks.specs.StoredPacket.{Stored, StoredText, StoredFault}

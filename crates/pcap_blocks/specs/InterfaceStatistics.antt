@@ -1,13 +1,13 @@
 -- The body of interface statistics ('Interface Statistics Block').
 use Rattle.std.specs.Prelude.{◌≡◌, ◌<◌, ℕ, List, [], ◌∷◌, length, map, All}
 use Rattle.std.specs.Cow.{cow_str_bytes, IsBorrowedStr, IsOwnedStr}
-use Rattle.pcap_classic.specs.Answer.{Order, Number, Verdict, Says}
-use Rattle.pcap_classic.specs.Faults.{Fault, Invalid}
-use Rattle.pcap_classic.specs.declared.rules.Rule.TheVariants.{StatisticsTooShort}
+use Rattle.pcap_core.specs.Answer.{Order, Number, Verdict, Says}
+use Rattle.pcap_core.specs.Faults.{Fault, Invalid}
+use Rattle.pcap_core.specs.declared.rules.Rule.TheVariants.{StatisticsTooShort}
 use Rattle.pcap_blocks.specs.declared.interface_statistics.InterfaceStatisticsBlock.{InterfaceStatisticsBlock}
 use Rattle.pcap_blocks.specs.declared.interface_statistics.InterfaceStatisticsOption.{InterfaceStatisticsOption}
 use Rattle.pcap_blocks.specs.declared.interface_statistics.InterfaceStatisticsOption.TheVariants as option_of
-use Rattle.pcap_blocks.specs.Padded.{Behind}
+use Rattle.pcap_core.specs.Padded.{Behind}
 use Rattle.pcap_blocks.specs.Values.{Entry, Text, Integer, Kind, text, first_number, first_time, custom}
 use Rattle.pcap_blocks.specs.Options.{may_end_with_body, OptionList, ListFault}
 use Rattle.pcap_blocks.specs.CommonOptions.{unknown_entry, custom_bytes_entry, custom_text_entry, UnknownIsBorrowed, UnknownIsOwned, CustomBytesIsBorrowed, CustomBytesIsOwned, CustomTextIsBorrowed, CustomTextIsOwned}

@@ -1,5 +1,4 @@
 pub mod Refusals
-pub mod Padded
 pub mod Values
 pub mod Options
 pub mod CommonOptions

@@ -1,14 +1,14 @@
 -- The body of a name resolution block ('Name Resolution Block').
 use Rattle.std.specs.Prelude.{◌≡◌, ◌≢◌, ℕ, List, [], ◌∷◌, map, All}
 use Rattle.std.specs.Cow.{cow_str_bytes, IsBorrowedStr, IsOwnedStr}
-use Rattle.pcap_classic.specs.Answer.{Order, Verdict, Says}
-use Rattle.pcap_classic.specs.Bytes.{cow_bytes, IsBorrowed, IsOwned}
-use Rattle.pcap_classic.specs.Faults.{Fault}
-use Rattle.pcap_classic.specs.declared.rules.Rule.TheVariants.{NameIpv4Length, NameIpv6Length}
+use Rattle.pcap_core.specs.Answer.{Order, Verdict, Says}
+use Rattle.pcap_core.specs.Bytes.{cow_bytes, IsBorrowed, IsOwned}
+use Rattle.pcap_core.specs.Faults.{Fault}
+use Rattle.pcap_core.specs.declared.rules.Rule.TheVariants.{NameIpv4Length, NameIpv6Length}
 use Rattle.pcap_blocks.specs.declared.name_resolution.NameResolutionBlock.{NameResolutionBlock}
 use Rattle.pcap_blocks.specs.declared.name_resolution.NameResolutionOption.{NameResolutionOption}
 use Rattle.pcap_blocks.specs.declared.name_resolution.NameResolutionOption.TheVariants as option_of
-use Rattle.pcap_blocks.specs.Padded.{Chain}
+use Rattle.pcap_core.specs.Padded.{Chain}
 use Rattle.pcap_blocks.specs.Values.{Entry, Text, Bytes, Kind, text, fixed_bytes, custom}
 use Rattle.pcap_blocks.specs.Options.{may_end_with_body, OptionList, ListFault}
 use Rattle.pcap_blocks.specs.CommonOptions.{unknown_entry, custom_bytes_entry, custom_text_entry, UnknownIsBorrowed, UnknownIsOwned, CustomBytesIsBorrowed, CustomBytesIsOwned, CustomTextIsBorrowed, CustomTextIsOwned}

@@ -1,9 +1,9 @@
 -- Names: texts without a zero byte, each followed by one ('Name Resolution Block').
 use Rattle.std.specs.Prelude.{◌≡◌, ◌≢◌, ℕ, List, [], ◌∷◌, ◌++◌, Ok, Err, All}
-use Rattle.pcap_classic.specs.Answer.{Verdict, Says}
-use Rattle.pcap_classic.specs.Faults.{Fault, Invalid}
-use Rattle.pcap_classic.specs.declared.rules.Rule.TheVariants.{NameUnended}
-use Rattle.pcap_blocks.specs.Padded.{Chain}
+use Rattle.pcap_core.specs.Answer.{Verdict, Says}
+use Rattle.pcap_core.specs.Faults.{Fault, Invalid}
+use Rattle.pcap_core.specs.declared.rules.Rule.TheVariants.{NameUnended}
+use Rattle.pcap_core.specs.Padded.{Chain}
 use Rattle.pcap_blocks.specs.Values.{text_at}
 
 -- no byte is zero

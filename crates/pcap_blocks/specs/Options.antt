@@ -1,9 +1,9 @@
 -- Option lists, for every kind of option ('Options').
 use Rattle.std.specs.Prelude.{◌≡◌, ◌≢◌, ◌<◌, ℕ, List, [], length, Ok, Err, Option, Some, None}
-use Rattle.pcap_classic.specs.Answer.{Order, Number, Verdict, whole, lacks, faulty, Says}
-use Rattle.pcap_classic.specs.Faults.{Fault, Invalid}
-use Rattle.pcap_classic.specs.declared.rules.Rule.TheVariants.{OptionTooShort, OptionCut}
-use Rattle.pcap_blocks.specs.Padded.{up_to_4, Padded, Chain}
+use Rattle.pcap_core.specs.Answer.{Order, Number, Verdict, whole, lacks, faulty, Says}
+use Rattle.pcap_core.specs.Faults.{Fault, Invalid}
+use Rattle.pcap_core.specs.declared.rules.Rule.TheVariants.{OptionTooShort, OptionCut}
+use Rattle.pcap_core.specs.Padded.{up_to_4, Padded, Chain}
 use Rattle.pcap_blocks.specs.Values.{Entry, Kind, shape_at, value_of}
 
 -- s is a code, or the type of a record, and a length, and then rest

@@ -1,15 +1,14 @@
 -- The body of a block of any type.
 use Rattle.std.specs.Prelude.{◌≡◌, ◌<◌, ◌≤◌, ◌^◌, ℕ, List, length, Option, Some, None, ⊤}
-use Rattle.pcap_classic.specs.Answer.{Order, Verdict, Says}
-use Rattle.pcap_classic.specs.Faults.{Invalid}
-use Rattle.pcap_classic.specs.declared.rules.Rule.TheVariants.{UnknownTooLong}
+use Rattle.pcap_core.specs.Answer.{Order, Verdict, Says, Made}
+use Rattle.pcap_core.specs.Faults.{Invalid}
+use Rattle.pcap_core.specs.declared.rules.Rule.TheVariants.{UnknownTooLong}
 use Rattle.pcap_blocks.specs.declared.block.BlockType.{BlockType}
 use Rattle.pcap_blocks.specs.declared.block.BlockType.TheVariants as types
 use Rattle.pcap_blocks.specs.declared.parsed_block.ParsedBlock.{ParsedBlock}
 use Rattle.pcap_blocks.specs.declared.parsed_block.ParsedBlock.TheVariants as block_of
 use Rattle.pcap_blocks.specs.declared.section_header.SectionHeaderBlock.{SectionHeaderBlock}
 use Rattle.pcap_blocks.specs.declared.interface_description.InterfaceDescriptionBlock.{InterfaceDescriptionBlock}
-use Rattle.pcap_blocks.specs.Records.{Made}
 use Rattle.pcap_blocks.specs.SectionHeader.{Section, SectionSays, section_of, SectionIsBorrowed, SectionIsOwned, SectionNeedsNoMemory}
 use Rattle.pcap_blocks.specs.InterfaceDescription.{Interface, InterfaceSays, interface_of, InterfaceIsBorrowed, InterfaceIsOwned, InterfaceNeedsNoMemory}
 use Rattle.pcap_blocks.specs.PacketBody.{PacketBody, PacketBodySays, packet_of, PacketIsBorrowed, PacketIsOwned, PacketNeedsNoMemory}

@@ -1,17 +1,17 @@
 -- The records of a name resolution body ('Name Resolution Block').
 use Rattle.std.specs.Prelude.{◌≡◌, ◌≢◌, ℕ, ◌+◌, ◌<◌, ◌≤◌, List, [], ◌++◌, length, ◌==◌, if◌then◌else◌, map, All}
 use Rattle.std.specs.Cow.{cow_str_bytes, IsBorrowedStr, IsOwnedStr}
-use Rattle.pcap_classic.specs.Answer.{Order, Verdict, whole, lacks, faulty, Says}
-use Rattle.pcap_classic.specs.Bytes.{cow_bytes, IsBorrowed, IsOwned}
-use Rattle.pcap_classic.specs.Faults.{Fault, Invalid, Io}
-use Rattle.pcap_classic.specs.declared.rules.Rule.{Rule}
-use Rattle.pcap_classic.specs.declared.rules.Rule.TheVariants.{RecordCut, EndNotEmpty, Ipv4RecordTooShort, Ipv6RecordTooShort, RecordUnpadded}
+use Rattle.pcap_core.specs.Answer.{Order, Verdict, whole, lacks, faulty, Says, Made}
+use Rattle.pcap_core.specs.Bytes.{cow_bytes, IsBorrowed, IsOwned}
+use Rattle.pcap_core.specs.Faults.{Fault, Invalid, Io}
+use Rattle.pcap_core.specs.declared.rules.Rule.{Rule}
+use Rattle.pcap_core.specs.declared.rules.Rule.TheVariants.{RecordCut, EndNotEmpty, Ipv4RecordTooShort, Ipv6RecordTooShort, RecordUnpadded}
 use Rattle.pcap_blocks.specs.declared.record.Ipv4Record.{Ipv4Record}
 use Rattle.pcap_blocks.specs.declared.record.Ipv6Record.{Ipv6Record}
 use Rattle.pcap_blocks.specs.declared.record.UnknownRecord.{UnknownRecord}
 use Rattle.pcap_blocks.specs.declared.record.Record.{Record}
 use Rattle.pcap_blocks.specs.declared.record.Record.TheVariants as record_of
-use Rattle.pcap_blocks.specs.Padded.{Padded, up_to_4, Behind}
+use Rattle.pcap_core.specs.Padded.{Padded, up_to_4, Behind}
 use Rattle.pcap_blocks.specs.Options.{HeadText}
 use Rattle.pcap_blocks.specs.Names.{NamesText, NamesFault}
 
@@ -36,12 +36,6 @@ pub data AddressFault (width : ℕ) (too_short : Rule) (s : List ℕ) : Fault �
 -- what is said of bytes where an address of this width and its names are asked for
 abbrev pub AddressSays : ℕ → Rule → List ℕ → Verdict Address → Type 0
 AddressSays width too_short s = Says (λ address rest. AddressText width address s rest) (λ n. ⊥) (AddressFault width too_short s)
-
--- a verdict with its value made into another
-abbrev pub Made : {V W : Type 0} → (V → W) → (Verdict V → Type 0) → Verdict W → Type 0
-Made {V = V} make IsSaid (whole value rest) = (made_of : V) × (value ≡ make made_of) × IsSaid (whole made_of rest)
-Made make IsSaid (lacks n) = IsSaid (lacks n)
-Made make IsSaid (faulty fault) = IsSaid (faulty fault)
 
 -- a record, wherever its bytes lie
 pub data NameRecord : Type 0 where

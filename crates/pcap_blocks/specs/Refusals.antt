@@ -1,10 +1,10 @@
 -- What a call inside the crate answers, and the error that shows it.
 use Rattle.std.specs.Prelude.{◌≡◌, ℕ, List, [], Result, Ok, Err}
 use Rattle.std.specs.Borrow.{Bor}
-use Rattle.pcap_classic.specs.declared.errors.PcapError.{PcapError}
-use Rattle.pcap_classic.specs.declared.errors.PcapError.TheVariants as errors
-use Rattle.pcap_classic.specs.Answer.{Verdict, whole, faulty}
-use Rattle.pcap_classic.specs.Faults.{Fault, Invalid, Io, NoText, text_of}
+use Rattle.pcap_core.specs.declared.errors.PcapError.{PcapError}
+use Rattle.pcap_core.specs.declared.errors.PcapError.TheVariants as errors
+use Rattle.pcap_core.specs.Answer.{Verdict, whole, faulty}
+use Rattle.pcap_core.specs.Faults.{Fault, Invalid, Io, NoText, text_of}
 use Rattle.pcap_blocks.specs.declared.refusal.Refusal.{Refusal}
 use Rattle.pcap_blocks.specs.declared.refusal.Refusal.TheVariants as refusals
 

@@ -3,15 +3,15 @@ use Rattle.std.specs.Prelude.{◌≡◌, ◌≤◌, ◌<◌, ◌==◌, if◌then
 use Rattle.std.specs.Int.{w64, cast_signed}
 use Rattle.std.specs.Cow.{cow_str_bytes, IsBorrowedStr, IsOwnedStr}
 use Rattle.byteorder.specs.Endian.{big_number}
-use Rattle.pcap_classic.specs.declared.common.Endianness.{Endianness}
-use Rattle.pcap_classic.specs.declared.common.Endianness.TheVariants.{Big, Little}
-use Rattle.pcap_classic.specs.declared.rules.Rule.TheVariants.{SectionTooShort, SectionMagic}
-use Rattle.pcap_classic.specs.Answer.{Order, Number, number_in, Verdict, Says}
-use Rattle.pcap_classic.specs.Faults.{Fault, Invalid}
+use Rattle.pcap_core.specs.declared.common.Endianness.{Endianness}
+use Rattle.pcap_core.specs.declared.common.Endianness.TheVariants.{Big, Little}
+use Rattle.pcap_core.specs.declared.rules.Rule.TheVariants.{SectionTooShort, SectionMagic}
+use Rattle.pcap_core.specs.Answer.{Order, Number, number_in, Verdict, Says}
+use Rattle.pcap_core.specs.Faults.{Fault, Invalid}
 use Rattle.pcap_blocks.specs.declared.section_header.SectionHeaderBlock.{SectionHeaderBlock}
 use Rattle.pcap_blocks.specs.declared.section_header.SectionHeaderOption.{SectionHeaderOption}
 use Rattle.pcap_blocks.specs.declared.section_header.SectionHeaderOption.TheVariants as option_of
-use Rattle.pcap_blocks.specs.Padded.{Behind}
+use Rattle.pcap_core.specs.Padded.{Behind}
 use Rattle.pcap_blocks.specs.Values.{Entry, Text, Kind, text, custom}
 use Rattle.pcap_blocks.specs.Options.{may_end_with_body, OptionList, ListFault}
 use Rattle.pcap_blocks.specs.CommonOptions.{unknown_entry, custom_bytes_entry, custom_text_entry, UnknownIsBorrowed, UnknownIsOwned, CustomBytesIsBorrowed, CustomBytesIsOwned, CustomTextIsBorrowed, CustomTextIsOwned}

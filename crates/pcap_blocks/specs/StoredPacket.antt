@@ -1,11 +1,11 @@
 -- What both kinds of packet body hold behind their interface ('Enhanced Packet Block', 'Packet Block').
 use Rattle.std.specs.Prelude.{◌≡◌, ◌<◌, ◌+◌, ◌*◌, ◌^◌, ℕ, List, length, map, All}
-use Rattle.pcap_classic.specs.Answer.{Order, Number, Verdict, Says}
-use Rattle.pcap_classic.specs.Bytes.{cow_bytes, IsBorrowed}
-use Rattle.pcap_classic.specs.Faults.{Fault, Invalid}
-use Rattle.pcap_classic.specs.declared.rules.Rule.TheVariants.{EnhancedTooShort, EnhancedCut}
+use Rattle.pcap_core.specs.Answer.{Order, Number, Verdict, Says}
+use Rattle.pcap_core.specs.Bytes.{cow_bytes, IsBorrowed}
+use Rattle.pcap_core.specs.Faults.{Fault, Invalid}
+use Rattle.pcap_core.specs.declared.rules.Rule.TheVariants.{EnhancedTooShort, EnhancedCut}
 use Rattle.pcap_blocks.specs.declared.stored.StoredPacket.{StoredPacket}
-use Rattle.pcap_blocks.specs.Padded.{up_to_4, Padded}
+use Rattle.pcap_core.specs.Padded.{up_to_4, Padded}
 use Rattle.pcap_blocks.specs.Values.{Entry, Kind}
 use Rattle.pcap_blocks.specs.Options.{may_end_with_body, OptionList, ListFault}
 

@@ -1,9 +1,9 @@
 -- Options and their values ('Options', 'Custom Options').
 use Rattle.std.specs.Prelude.{◌≡◌, ◌+◌, ◌*◌, ◌^◌, ℕ, List, [], ◌∷◌, length, take, drop, slice_index, Result, Ok, Err, ◌==◌, nat_lt, if◌then◌else◌}
 use Rattle.std.specs.Str.{is_utf8}
-use Rattle.pcap_classic.specs.Answer.{Order, Verdict, Says}
-use Rattle.pcap_classic.specs.Faults.{Fault, Invalid, Io, NoText}
-use Rattle.pcap_classic.specs.declared.rules.Rule.{Rule}
+use Rattle.pcap_core.specs.Answer.{Order, Verdict, Says}
+use Rattle.pcap_core.specs.Faults.{Fault, Invalid, Io, NoText}
+use Rattle.pcap_core.specs.declared.rules.Rule.{Rule}
 
 -- what an option holds; a custom option the number of an enterprise before its text or bytes, an unknown one its length
 pub data Value : Type 0 where

@@ -1,9 +1,9 @@
 -- Bodies that are all data: simple packets, journal entries, unknown blocks ('Simple Packet Block', 'systemd Journal Export Block').
 use Rattle.std.specs.Prelude.{◌≡◌, ◌<◌, ◌==◌, if◌then◌else◌, ℕ, List, [], length}
-use Rattle.pcap_classic.specs.Answer.{Order, Number, Verdict, Says}
-use Rattle.pcap_classic.specs.Bytes.{cow_bytes, IsBorrowed, IsOwned}
-use Rattle.pcap_classic.specs.Faults.{Fault, Invalid}
-use Rattle.pcap_classic.specs.declared.rules.Rule.TheVariants.{SimpleTooShort}
+use Rattle.pcap_core.specs.Answer.{Order, Number, Verdict, Says}
+use Rattle.pcap_core.specs.Bytes.{cow_bytes, IsBorrowed, IsOwned}
+use Rattle.pcap_core.specs.Faults.{Fault, Invalid}
+use Rattle.pcap_core.specs.declared.rules.Rule.TheVariants.{SimpleTooShort}
 use Rattle.pcap_blocks.specs.declared.block.BlockType.{BlockType}
 use Rattle.pcap_blocks.specs.declared.block.BlockType.TheVariants as types
 use Rattle.pcap_blocks.specs.declared.block.UnknownBlock.{UnknownBlock}

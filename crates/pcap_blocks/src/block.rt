@@ -2,10 +2,10 @@
 
 ghost use Rattle.std.specs.Prelude.{◌≡◌, IsOk, IfOk, IfErr};
 ghost use Rattle.pcap_blocks.specs.WholeBodies.{block_type, unknown_of, UnknownBlockIsBorrowed, UnknownBlockIsOwned};
-ghost use Rattle.pcap_classic.specs.Errors.{IsMemory};
+ghost use Rattle.pcap_core.specs.Errors.{IsMemory};
 
 use crate::owned::KeepValue;
-use pcap_classic::{CowBytes, ResultParsing};
+use pcap_core::{CowBytes, ResultParsing};
 use std::alloc::{AllocError, Global};
 
 /// The type of a block.

@@ -2,20 +2,20 @@
 
 ghost use Rattle.std.specs.Prelude.{⊤, ◌≡◌, length, map, All, IsOk, IfOk, IfSome, IfErr};
 ghost use Rattle.std.specs.Option.{option_map};
-ghost use Rattle.pcap_classic.specs.Answer.{TellsAll};
+ghost use Rattle.pcap_core.specs.Answer.{TellsAll};
 ghost use Rattle.pcap_blocks.specs.Refusals.{Finds, FindsWhere, FindsAll};
 ghost use Rattle.pcap_blocks.specs.Values.{Entry, Kind, Unknown, shape_at, custom_text, custom_bytes, EntrySays, bytes_in, integer_in};
 ghost use Rattle.pcap_blocks.specs.Options.{may_end_with_body, OptionSays, ListSays};
 ghost use Rattle.pcap_blocks.specs.CommonOptions.{unknown_entry, custom_bytes_entry, custom_text_entry, UnknownIsBorrowed, CustomBytesIsBorrowed, CustomTextIsBorrowed, UnknownIsOwned, CustomBytesIsOwned, CustomTextIsOwned};
-ghost use Rattle.pcap_classic.specs.Errors.{IsMemory};
+ghost use Rattle.pcap_core.specs.Errors.{IsMemory};
 
-use crate::fields::{split_padded, split_u16};
+use pcap_core::fields::{split_padded, split_u16};
 use crate::owned::KeepValue;
 use crate::refusal::Refusal;
 use crate::values::text_value;
 use byteorder::ByteOrder;
-use pcap_classic::rules::Rule;
-use pcap_classic::{CowBytes, ResultParsing};
+use pcap_core::rules::Rule;
+use pcap_core::{CowBytes, ResultParsing};
 use std::alloc::{AllocError, Global};
 use std::borrow::CowStr;
 

@@ -1,21 +1,21 @@
 //! Interface descriptions.
 
 ghost use Rattle.std.specs.Prelude.{⊤, ◌≡◌, IsOk, IfOk, IfErr};
-ghost use Rattle.pcap_classic.specs.Answer.{TellsWhere};
+ghost use Rattle.pcap_core.specs.Answer.{TellsWhere};
 ghost use Rattle.pcap_blocks.specs.Refusals.{FindsWhere};
 ghost use Rattle.pcap_blocks.specs.InterfaceDescription.{interface_description, InterfaceSays, interface_entry, InterfaceOptionIsBorrowed, interface_of, InterfaceIsBorrowed, InterfaceOptionIsOwned, InterfaceIsOwned, InterfaceNeedsNoMemory};
-ghost use Rattle.pcap_classic.specs.Errors.{IsMemory};
+ghost use Rattle.pcap_core.specs.Errors.{IsMemory};
 
 use crate::common::{
     CustomBinaryOption, CustomUtf8Option, PcapNgOption, UnknownOption, options_from_slice,
 };
-use crate::fields::{split_u16, split_u32};
+use pcap_core::fields::{split_u16, split_u32};
 use crate::owned::{KeepValue, keep_all};
 use crate::refusal::Refusal;
 use crate::values::{fixed_value, some_value, text_value, u8_value, u32_value, u64_value};
 use byteorder::ByteOrder;
-use pcap_classic::rules::Rule;
-use pcap_classic::{CowBytes, DataLink, ResultParsing};
+use pcap_core::rules::Rule;
+use pcap_core::{CowBytes, DataLink, ResultParsing};
 use std::alloc::{AllocError, Global};
 use std::borrow::CowStr;
 

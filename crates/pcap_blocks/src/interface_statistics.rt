@@ -1,21 +1,22 @@
 //! Interface statistics.
 
 ghost use Rattle.std.specs.Prelude.{⊤, IsOk, IfOk, ◌≡◌, IfErr};
-ghost use Rattle.pcap_classic.specs.Answer.{TellsWhere};
+ghost use Rattle.pcap_core.specs.Answer.{TellsWhere};
 ghost use Rattle.pcap_blocks.specs.Refusals.{FindsWhere};
 ghost use Rattle.pcap_blocks.specs.InterfaceStatistics.{interface_statistics, StatisticsSays, statistics_entry, StatisticsOptionIsBorrowed, statistics_of, StatisticsIsBorrowed, StatisticsOptionIsOwned, StatisticsIsOwned, StatisticsNeedsNoMemory};
-ghost use Rattle.pcap_classic.specs.Errors.{IsMemory};
+ghost use Rattle.pcap_core.specs.Errors.{IsMemory};
 
 use crate::common::{
     CustomBinaryOption, CustomUtf8Option, PcapNgOption, UnknownOption, options_from_slice,
 };
-use crate::fields::{split_time, split_u32};
+use crate::fields::split_time;
+use pcap_core::fields::split_u32;
 use crate::owned::{KeepValue, keep_all};
 use crate::refusal::Refusal;
 use crate::values::{first_number, first_time, text_value};
 use byteorder::ByteOrder;
-use pcap_classic::ResultParsing;
-use pcap_classic::rules::Rule;
+use pcap_core::ResultParsing;
+use pcap_core::rules::Rule;
 use std::alloc::{AllocError, Global};
 use std::borrow::CowStr;
 

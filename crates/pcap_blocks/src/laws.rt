@@ -1,8 +1,8 @@
 //! Laws of the grammar and of `==`. Each contract is the law; only the function of `==` calls anything.
 
 ghost use Rattle.std.specs.Prelude.{◌≡◌, ◌↔◌, ℕ, List, IsTrue};
-ghost use Rattle.pcap_classic.specs.Answer.{Order};
-ghost use Rattle.pcap_classic.specs.Laws.{ExactlyOne};
+ghost use Rattle.pcap_core.specs.Answer.{Order};
+ghost use Rattle.pcap_core.specs.Laws.{ExactlyOne};
 ghost use Rattle.pcap_blocks.specs.Values.{Entry, Kind, Shape, EntrySays};
 ghost use Rattle.pcap_blocks.specs.Options.{Ending, wants_end, may_end_with_body, OptionList, OptionSays, ListSays};
 ghost use Rattle.pcap_blocks.specs.SectionHeader.{SectionSays};
@@ -10,7 +10,7 @@ ghost use Rattle.pcap_blocks.specs.InterfaceDescription.{InterfaceSays};
 ghost use Rattle.pcap_blocks.specs.EnhancedPacket.{EnhancedSays};
 ghost use Rattle.pcap_blocks.specs.PacketBody.{PacketBodySays};
 ghost use Rattle.pcap_blocks.specs.InterfaceStatistics.{StatisticsSays};
-ghost use Rattle.pcap_classic.specs.declared.rules.Rule.{Rule};
+ghost use Rattle.pcap_core.specs.declared.rules.Rule.{Rule};
 ghost use Rattle.pcap_blocks.specs.Names.{NameSays, NamesSay};
 ghost use Rattle.pcap_blocks.specs.Records.{AddressSays, RecordSays};
 ghost use Rattle.pcap_blocks.specs.NameResolution.{RecordsSay, ResolutionSays};

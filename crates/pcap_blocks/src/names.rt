@@ -2,14 +2,14 @@
 
 ghost use Rattle.std.specs.Prelude.{⊤, ◌≡◌, ◌<◌, length, map, take, slice_index, All, IfOk, MatchOption};
 ghost use Rattle.std.specs.Cow.{cow_str_bytes, IsBorrowedStr};
-ghost use Rattle.pcap_classic.specs.Answer.{Tells};
+ghost use Rattle.pcap_core.specs.Answer.{Tells};
 ghost use Rattle.pcap_blocks.specs.Refusals.{Finds, FindsAllWhere};
 ghost use Rattle.pcap_blocks.specs.Names.{HasNoZero, NameSays, NamesSay};
 
 use crate::refusal::Refusal;
 use crate::values::str_value;
-use pcap_classic::ResultParsing;
-use pcap_classic::rules::Rule;
+use pcap_core::ResultParsing;
+use pcap_core::rules::Rule;
 use std::alloc::Global;
 use std::borrow::CowStr;
 

@@ -3,9 +3,9 @@
 ghost use Rattle.std.specs.Prelude.{◌≡◌, [], All, IsOk, IfOk};
 ghost use Rattle.std.specs.Cow.{cow_str_bytes, IsOwnedStr};
 ghost use Rattle.std.specs.List.{AllZip};
-ghost use Rattle.pcap_classic.specs.Bytes.{cow_bytes, IsOwned};
+ghost use Rattle.pcap_core.specs.Bytes.{cow_bytes, IsOwned};
 
-use pcap_classic::CowBytes;
+use pcap_core::CowBytes;
 use std::alloc::{AllocError, Global};
 use std::borrow::CowStr;
 

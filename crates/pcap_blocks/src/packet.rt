@@ -1,23 +1,23 @@
 //! Packet blocks, which enhanced packets have replaced.
 
 ghost use Rattle.std.specs.Prelude.{⊤, map, All, IsOk, IfOk, ◌≡◌, IfErr};
-ghost use Rattle.pcap_classic.specs.Answer.{TellsWhere};
+ghost use Rattle.pcap_core.specs.Answer.{TellsWhere};
 ghost use Rattle.pcap_blocks.specs.Refusals.{FindsWhere};
 ghost use Rattle.pcap_blocks.specs.Options.{may_end_with_body, ListSays};
 ghost use Rattle.pcap_blocks.specs.PacketBody.{packet_kind, PacketBodySays, packet_entry, PacketOptionIsBorrowed, packet_of, PacketIsBorrowed, PacketOptionIsOwned, PacketIsOwned, PacketNeedsNoMemory};
-ghost use Rattle.pcap_classic.specs.Errors.{IsMemory};
+ghost use Rattle.pcap_core.specs.Errors.{IsMemory};
 
 use crate::common::{
     CustomBinaryOption, CustomUtf8Option, PcapNgOption, UnknownOption, options_from_slice,
 };
-use crate::fields::split_u16;
+use pcap_core::fields::split_u16;
 use crate::owned::{KeepValue, keep_all};
 use crate::refusal::Refusal;
 use crate::stored::stored_from_slice;
 use crate::values::{text_value, u32_value};
 use byteorder::ByteOrder;
-use pcap_classic::rules::Rule;
-use pcap_classic::{CowBytes, ResultParsing};
+use pcap_core::rules::Rule;
+use pcap_core::{CowBytes, ResultParsing};
 use std::alloc::{AllocError, Global};
 use std::borrow::CowStr;
 

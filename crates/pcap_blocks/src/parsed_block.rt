@@ -1,10 +1,10 @@
 //! Blocks of all types.
 
 ghost use Rattle.std.specs.Prelude.{◌≡◌, IsOk, IfOk, IfErr};
-ghost use Rattle.pcap_classic.specs.Answer.{TellsWhere};
+ghost use Rattle.pcap_core.specs.Answer.{TellsWhere};
 ghost use Rattle.pcap_blocks.specs.Refusals.{FindsWhere};
 ghost use Rattle.pcap_blocks.specs.ParsedBlock.{BodySays, HasLists, body_of, ParsedIsBorrowed, section_in, interface_in, ParsedIsOwned, ParsedNeedsNoMemory};
-ghost use Rattle.pcap_classic.specs.Errors.{IsMemory};
+ghost use Rattle.pcap_core.specs.Errors.{IsMemory};
 
 use crate::block::{BlockType, UnknownBlock};
 use crate::enhanced_packet::EnhancedPacketBlock;
@@ -18,8 +18,8 @@ use crate::section_header::SectionHeaderBlock;
 use crate::simple_packet::SimplePacketBlock;
 use crate::systemd_journal_export::SystemdJournalExportBlock;
 use byteorder::ByteOrder;
-use pcap_classic::ResultParsing;
-use pcap_classic::rules::Rule;
+use pcap_core::ResultParsing;
+use pcap_core::rules::Rule;
 use std::alloc::{AllocError, Global};
 
 /// The body of a block, by its type.

@@ -1,19 +1,19 @@
 //! Records of a name resolution body.
 
 ghost use Rattle.std.specs.Prelude.{⊤, ◌≡◌, length, IsOk, IfOk, IfErr};
-ghost use Rattle.pcap_classic.specs.Answer.{TellsWhere, TellsAllWhere};
-ghost use Rattle.pcap_classic.specs.declared.rules.Rule.TheVariants.{Ipv4RecordTooShort, Ipv6RecordTooShort};
+ghost use Rattle.pcap_core.specs.Answer.{TellsWhere, TellsAllWhere};
+ghost use Rattle.pcap_core.specs.declared.rules.Rule.TheVariants.{Ipv4RecordTooShort, Ipv6RecordTooShort};
 ghost use Rattle.pcap_blocks.specs.Refusals.{FindsWhere, FindsAllWhere};
 ghost use Rattle.pcap_blocks.specs.Records.{AddressSays, form_of, RecordValueSays, RecordSays, ipv4_of, ipv6_of, name_record_of, Ipv4IsBorrowed, Ipv6IsBorrowed, RecordIsBorrowed, other_of, Ipv4IsOwned, Ipv4NeedsNoMemory, Ipv6IsOwned, Ipv6NeedsNoMemory, UnknownRecordIsOwned, RecordIsOwned, RecordNeedsNoMemory};
-ghost use Rattle.pcap_classic.specs.Errors.{IsMemory};
+ghost use Rattle.pcap_core.specs.Errors.{IsMemory};
 
-use crate::fields::{split_padded, split_u16};
+use pcap_core::fields::{split_padded, split_u16};
 use crate::names::names_from_slice;
 use crate::owned::{KeepValue, keep_all};
 use crate::refusal::Refusal;
 use byteorder::ByteOrder;
-use pcap_classic::rules::Rule;
-use pcap_classic::{CowBytes, ResultParsing};
+use pcap_core::rules::Rule;
+use pcap_core::{CowBytes, ResultParsing};
 use std::alloc::{AllocError, Global};
 use std::borrow::CowStr;
 

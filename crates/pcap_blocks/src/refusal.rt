@@ -4,8 +4,8 @@ ghost use Rattle.std.specs.Prelude.{◌≡◌, alloc_error};
 ghost use Rattle.pcap_blocks.specs.Refusals.{IsShownAs};
 ghost use Rattle.pcap_blocks.specs.declared.refusal.Refusal.TheVariants as refusals;
 
-use pcap_classic::PcapError;
-use pcap_classic::rules::Rule;
+use pcap_core::PcapError;
+use pcap_core::rules::Rule;
 use std::alloc::{AllocError, AllocFailed};
 use std::io;
 use std::str::Utf8Error;

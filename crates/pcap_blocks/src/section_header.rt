@@ -1,21 +1,21 @@
 //! Section headers.
 
 ghost use Rattle.std.specs.Prelude.{⊤, ◌≡◌, ◌≤◌, ◌↔◌, length, IsOk, IfOk, IsTrue, IsSome, Some, IfErr};
-ghost use Rattle.pcap_classic.specs.Answer.{TellsWhere};
+ghost use Rattle.pcap_core.specs.Answer.{TellsWhere};
 ghost use Rattle.pcap_blocks.specs.Refusals.{FindsWhere};
 ghost use Rattle.pcap_blocks.specs.SectionHeader.{section_header, magic_order, SectionSays, AfterMagicSays, section_entry, SectionOptionIsBorrowed, section_of, SectionIsBorrowed, SectionOptionIsOwned, SectionIsOwned, SectionNeedsNoMemory};
-ghost use Rattle.pcap_classic.specs.Errors.{IsMemory};
+ghost use Rattle.pcap_core.specs.Errors.{IsMemory};
 
 use crate::common::{
     CustomBinaryOption, CustomUtf8Option, PcapNgOption, UnknownOption, options_from_slice,
 };
-use crate::fields::{split_u16, split_u32, split_u64};
+use pcap_core::fields::{split_u16, split_u32, split_u64};
 use crate::owned::{KeepValue, keep_all};
 use crate::refusal::Refusal;
 use crate::values::text_value;
 use byteorder::{BigEndian, ByteOrder, LittleEndian};
-use pcap_classic::rules::Rule;
-use pcap_classic::{Endianness, ResultParsing};
+use pcap_core::rules::Rule;
+use pcap_core::{Endianness, ResultParsing};
 use std::alloc::{AllocError, Global};
 use std::borrow::CowStr;
 

@@ -1,17 +1,17 @@
 //! Simple packets.
 
 ghost use Rattle.std.specs.Prelude.{IsOk, IfOk, ◌≡◌, IfErr};
-ghost use Rattle.pcap_classic.specs.Answer.{Tells};
+ghost use Rattle.pcap_core.specs.Answer.{Tells};
 ghost use Rattle.pcap_blocks.specs.Refusals.{Finds};
 ghost use Rattle.pcap_blocks.specs.WholeBodies.{SimpleSays, simple_of, SimpleIsBorrowed, SimpleIsOwned};
-ghost use Rattle.pcap_classic.specs.Errors.{IsMemory};
+ghost use Rattle.pcap_core.specs.Errors.{IsMemory};
 
-use crate::fields::split_u32;
+use pcap_core::fields::split_u32;
 use crate::owned::KeepValue;
 use crate::refusal::Refusal;
 use byteorder::ByteOrder;
-use pcap_classic::rules::Rule;
-use pcap_classic::{CowBytes, ResultParsing};
+use pcap_core::rules::Rule;
+use pcap_core::{CowBytes, ResultParsing};
 use std::alloc::{AllocError, Global};
 
 /// The body of a simple packet: a packet of the section's first interface, with no time.

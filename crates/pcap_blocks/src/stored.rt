@@ -5,11 +5,12 @@ ghost use Rattle.pcap_blocks.specs.Refusals.{FindsWhere};
 ghost use Rattle.pcap_blocks.specs.StoredPacket.{StoredSays, stored_of, StoredIsBorrowed};
 
 use crate::common::{PcapNgOption, options_from_slice};
-use crate::fields::{split_padded, split_time, split_u32};
+use crate::fields::split_time;
+use pcap_core::fields::{split_padded, split_u32};
 use crate::refusal::Refusal;
 use byteorder::ByteOrder;
-use pcap_classic::CowBytes;
-use pcap_classic::rules::Rule;
+use pcap_core::CowBytes;
+use pcap_core::rules::Rule;
 use std::alloc::Global;
 
 // A packet without its interface.

@@ -1,13 +1,13 @@
 //! Entries of the systemd journal.
 
 ghost use Rattle.std.specs.Prelude.{IsOk, IfOk, ◌≡◌, IfErr};
-ghost use Rattle.pcap_classic.specs.Answer.{Tells, whole};
+ghost use Rattle.pcap_core.specs.Answer.{Tells, whole};
 ghost use Rattle.pcap_blocks.specs.WholeBodies.{JournalSays, journal_of, JournalIsBorrowed, JournalIsOwned};
-ghost use Rattle.pcap_classic.specs.Errors.{IsMemory};
+ghost use Rattle.pcap_core.specs.Errors.{IsMemory};
 
 use crate::owned::KeepValue;
 use byteorder::ByteOrder;
-use pcap_classic::{CowBytes, ResultParsing};
+use pcap_core::{CowBytes, ResultParsing};
 use std::alloc::{AllocError, Global};
 
 /// The body of a systemd journal export.

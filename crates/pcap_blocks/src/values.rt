@@ -2,14 +2,14 @@
 
 ghost use Rattle.std.specs.Prelude.{◌≡◌, IfOk};
 ghost use Rattle.std.specs.Cow.{cow_str_bytes, IsBorrowedStr};
-ghost use Rattle.pcap_classic.specs.Bytes.{cow_bytes, IsBorrowed};
+ghost use Rattle.pcap_core.specs.Bytes.{cow_bytes, IsBorrowed};
 ghost use Rattle.pcap_blocks.specs.Refusals.{FindsAll};
 ghost use Rattle.pcap_blocks.specs.Values.{Bytes, Integer, AllSay, text_at, fixed_at, some_at, byte_at, number_at, first_number_at, first_time_at};
 
 use crate::refusal::Refusal;
 use byteorder::ByteOrder;
-use pcap_classic::CowBytes;
-use pcap_classic::rules::Rule;
+use pcap_core::CowBytes;
+use pcap_core::rules::Rule;
 use std::borrow::CowStr;
 use std::str;
 

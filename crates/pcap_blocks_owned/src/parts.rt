@@ -3,7 +3,7 @@
 use crate::rows::{Owned, bytes, mismatch};
 use byteorder::BigEndian;
 use pcap_blocks::{CustomBinaryOption, CustomUtf8Option, UnknownOption};
-use pcap_classic::CowBytes;
+use pcap_core::CowBytes;
 use std::alloc::Global;
 use std::test::*;
 

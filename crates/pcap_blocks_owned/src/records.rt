@@ -4,7 +4,7 @@ use crate::rows::{Owned, bytes, mismatch};
 use crate::texts::{are_owned, record_owns_texts};
 use byteorder::BigEndian;
 use pcap_blocks::{Ipv4Record, Ipv6Record, Record, UnknownRecord};
-use pcap_classic::CowBytes;
+use pcap_core::CowBytes;
 use std::alloc::Global;
 use std::test::*;
 

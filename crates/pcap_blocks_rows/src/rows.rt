@@ -3,7 +3,7 @@
 //! A row of a table is bytes as hexadecimal digits, an arrow, and what a call gives for them as text: the remainder and
 //! the value, or the refusal. These texts were written by hand, from the bytes and the rules of the formats.
 
-use pcap_classic::{PcapError, ResultParsing};
+use pcap_core::{PcapError, ResultParsing};
 use std::alloc::Global;
 use std::fmt::Debug;
 use std::test::Fail;

@@ -2,7 +2,7 @@
 
 use crate::rows::{bytes, list, rows, told};
 use pcap_blocks::SectionHeaderBlock;
-use pcap_classic::Endianness;
+use pcap_core::Endianness;
 use std::alloc::Global;
 use std::test::*;
 

@@ -4,39 +4,39 @@ use Rattle.std.specs.Prelude.{Option, IfSome, All, map}
 use Rattle.std.specs.Option.{IsSomeAnd}
 use Rattle.std.specs.Io.KnownBytes.{Appends, Keeps}
 use Rattle.std.proofs.lemmas.List.Elements.{All-nil, All-cons}
-use Rattle.pcap_classic.specs.declared.common.Endianness.{Endianness}
-use Rattle.pcap_classic.specs.declared.common.Endianness.TheVariants.{Big, Little}
-use Rattle.pcap_classic.specs.declared.common.TsResolution.{TsResolution}
-use Rattle.pcap_classic.specs.declared.common.TsResolution.TheVariants.{MicroSecond, NanoSecond}
-use Rattle.pcap_classic.specs.declared.errors.PcapError.{PcapError}
+use Rattle.pcap_core.specs.declared.common.Endianness.{Endianness}
+use Rattle.pcap_core.specs.declared.common.Endianness.TheVariants.{Big, Little}
+use Rattle.pcap_core.specs.declared.common.TsResolution.{TsResolution}
+use Rattle.pcap_core.specs.declared.common.TsResolution.TheVariants.{MicroSecond, NanoSecond}
+use Rattle.pcap_core.specs.declared.errors.PcapError.{PcapError}
 use Rattle.pcap_classic.specs.declared.pcap.header.PcapHeader.{PcapHeader}
 use Rattle.pcap_classic.specs.declared.pcap.packet.PacketHeader.{PacketHeader}
 use Rattle.pcap_classic.specs.declared.run.copy.Copied.{Copied}
 use Rattle.pcap_classic.specs.declared.run.copy.Under.{Under}
 use Rattle.pcap_classic.specs.declared.run.copy.Under.TheVariants.{Same}
-use Rattle.pcap_classic.specs.Answer.{number_in, whole, lacks, faulty}
-use Rattle.pcap_classic.specs.Bytes.{IsBytes}
+use Rattle.pcap_core.specs.Answer.{number_in, whole, lacks, faulty}
+use Rattle.pcap_core.specs.Bytes.{IsBytes}
 use Rattle.pcap_classic.specs.Copies.{PacketIsSaid, StopsFront, CopiesFront, CopyFront, CanBeUnder, header_under, NothingFailed, CopiesAll}
-use Rattle.pcap_classic.specs.Early.{EarlyFault}
-use Rattle.pcap_classic.specs.Errors.{IsMemory}
-use Rattle.pcap_classic.specs.Faults.{Fault}
-use Rattle.pcap_classic.specs.Format.{Texts}
+use Rattle.pcap_core.specs.Early.{EarlyFault}
+use Rattle.pcap_core.specs.Errors.{IsMemory}
+use Rattle.pcap_core.specs.Faults.{Fault}
+use Rattle.pcap_core.specs.Format.{Texts}
 use Rattle.pcap_classic.specs.Front.{CaptureFront}
 use Rattle.pcap_classic.specs.HeaderText.{HeaderText, HeaderSays}
 use Rattle.pcap_classic.specs.Magic.{order_of, resolution_of}
 use Rattle.pcap_classic.specs.Packets.{packet_format, format_under}
 use Rattle.pcap_classic.specs.PacketText.{Captured, PacketText, packet_limit}
-use Rattle.pcap_classic.specs.Reading.{HasCause, read_failed, no_memory, torn, refused, IsFaultOf, ReadsTold}
+use Rattle.pcap_core.specs.Reading.{HasCause, read_failed, no_memory, torn, refused, IsFaultOf, ReadsTold}
 use Rattle.pcap_classic.specs.Written.{bytes_in, written, capture, cut, IsWhole, IsWholeHeader}
 use Rattle.pcap_classic.proofs.Concrete.{number_below, packet_written, header_written, front_written}
 use Rattle.pcap_classic.proofs.Copied.{lawful_under}
-use Rattle.pcap_classic.proofs.Formats.{only}
+use Rattle.pcap_core.proofs.Formats.{only}
 use Rattle.pcap_classic.proofs.One.{header_one}
 use Rattle.pcap_classic.proofs.OneFront.{front_one}
 use Rattle.pcap_classic.proofs.Packets.{packets_say}
 use Rattle.pcap_classic.proofs.ReadBack.{written_again}
 use Rattle.pcap_classic.proofs.ReadCapture.{capture_again}
-use Rattle.pcap_classic.proofs.Taking.{shown_fault}
+use Rattle.pcap_core.proofs.Taking.{shown_fault}
 
 zeros : ℕ → List ℕ
 zeros zero = []

@@ -1,19 +1,19 @@
 -- A run over a stream of a capture: its header, and then packets under it.
 use Rattle.std.proofs.Common.{◌≡◌, ℕ, List, [], true, false, Bool, sym, subst, Some, None}
 use Rattle.std.specs.Prelude.{Option, IfSome}
-use Rattle.pcap_classic.specs.declared.errors.PcapError.{PcapError}
+use Rattle.pcap_core.specs.declared.errors.PcapError.{PcapError}
 use Rattle.pcap_classic.specs.declared.pcap.header.PcapHeader.{PcapHeader}
-use Rattle.pcap_classic.specs.Answer.{number_in}
-use Rattle.pcap_classic.specs.Format.{Format}
+use Rattle.pcap_core.specs.Answer.{number_in}
+use Rattle.pcap_core.specs.Format.{Format}
 use Rattle.pcap_classic.specs.HeaderText.{HeaderSays, HeaderText}
 use Rattle.pcap_classic.specs.Magic.{is_magic, order_of, resolution_of}
 use Rattle.pcap_classic.specs.Packets.{format_under, reader_format, chosen}
 use Rattle.pcap_classic.specs.PacketText.{Captured}
-use Rattle.pcap_classic.specs.Reading.{Takes}
-use Rattle.pcap_classic.specs.Takes.{TakesItems, ReadsFront}
+use Rattle.pcap_core.specs.Reading.{Takes}
+use Rattle.pcap_core.specs.Takes.{TakesItems, ReadsFront}
 use Rattle.pcap_classic.proofs.HeadedPackets.{packets_lawful}
 use Rattle.pcap_classic.proofs.Stable.{header_stable}
-use Rattle.pcap_classic.proofs.Taking.{run_reads}
+use Rattle.pcap_core.proofs.Taking.{run_reads}
 
 chosen_true : (b : Bool) (f g : Format (Unit {0}) Captured) → b ≡ true → (P : Format (Unit {0}) Captured → Type 0) → P (chosen b f g) → P f
 chosen_true true f g e P p = p

@@ -6,26 +6,26 @@ use Rattle.std.specs.List.{flat_map}
 use Rattle.std.proofs.lemmas.Grind.{flat_map-append}
 use Rattle.std.specs.Io.KnownBytes.{Consumes, Appends, IsAtEnd}
 use Rattle.std.proofs.KnownBytes.{Appends-nil, Appends-trans}
-use Rattle.pcap_classic.specs.declared.errors.PcapError.{PcapError}
-use Rattle.pcap_classic.specs.declared.errors.PcapError.TheVariants as errors
+use Rattle.pcap_core.specs.declared.errors.PcapError.{PcapError}
+use Rattle.pcap_core.specs.declared.errors.PcapError.TheVariants as errors
 use Rattle.pcap_classic.specs.declared.pcap.header.PcapHeader.{PcapHeader}
 use Rattle.pcap_classic.specs.declared.run.copy.Copied.{Copied}
 use Rattle.pcap_classic.specs.declared.run.copy.Under.{Under}
-use Rattle.pcap_classic.specs.Answer.{number_in, whole}
+use Rattle.pcap_core.specs.Answer.{number_in, whole}
 use Rattle.pcap_classic.specs.Copies.{PacketIsSaid, Copying, Ends, StopsFront, TakesNext, CopiesBehind, CopiesPackets, CopiesFront, CopyRun, CopyFront, header_under}
-use Rattle.pcap_classic.specs.Errors.{IsIo}
-use Rattle.pcap_classic.specs.Format.{Texts, Front, IsLawful}
+use Rattle.pcap_core.specs.Errors.{IsIo}
+use Rattle.pcap_core.specs.Format.{Texts, Front, IsLawful}
 use Rattle.pcap_classic.specs.HeaderText.{HeaderText}
 use Rattle.pcap_classic.specs.Magic.{order_of, resolution_of}
 use Rattle.pcap_classic.specs.Packets.{format_under}
 use Rattle.pcap_classic.specs.PacketText.{Captured, packet_limit}
-use Rattle.pcap_classic.specs.Reading.{Takes, TakesAsked, HasCause}
-use Rattle.pcap_classic.specs.Writing.{AppendsPart, WritesAll}
+use Rattle.pcap_core.specs.Reading.{Takes, TakesAsked, HasCause}
+use Rattle.pcap_core.specs.Writing.{AppendsPart, WritesAll}
 use Rattle.pcap_classic.specs.Written.{written_header, written_under}
-use Rattle.pcap_classic.proofs.Formats.{texts_more, has_front, front_goes_on, nothing_more, nothing_no_text}
+use Rattle.pcap_core.proofs.Formats.{texts_more, has_front, front_goes_on, nothing_more, nothing_no_text}
 use Rattle.pcap_classic.proofs.HeadedPackets.{packets_lawful}
 use Rattle.pcap_classic.proofs.Stable.{header_stable}
-use Rattle.pcap_classic.proofs.Taking.{takes_none, takes_more, ends_front}
+use Rattle.pcap_core.proofs.Taking.{takes_none, takes_more, ends_front}
 
 pub lawful_under : (header : PcapHeader) → IsLawful (format_under packet_limit header)
 lawful_under header = packets_lawful packet_limit (number_in (order_of header.magic_number)) (resolution_of header.magic_number)

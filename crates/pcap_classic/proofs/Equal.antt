@@ -6,9 +6,9 @@ use Rattle.std.specs.Cmp.Derive.{both_true}
 use Rattle.std.proofs.lemmas.Bool.{eqb-true, eq-eqb}
 use Rattle.std.proofs.lemmas.Cmp.{int_eq_equiv}
 use Rattle.std.proofs.lemmas.Bool.Decides.{Decides-int_eq}
-use Rattle.pcap_classic.specs.Link.{key}
+use Rattle.pcap_core.specs.Link.{key}
 use Rattle.pcap_classic.specs.declared.pcap.header.PcapHeader.{PcapHeader}
-use Rattle.pcap_classic.proofs.Links.{key_same}
+use Rattle.pcap_core.proofs.Links.{key_same}
 use Rattle.pcap_classic.proofs.One.{header_is}
 
 first_true : (a b : Bool) → (a && b) ≡ true → a ≡ true

@@ -1,7 +1,4 @@
-pub mod Refusals
 pub mod Texts
-pub mod Fronts
-pub mod Links
 pub mod One
 pub mod Stable
 pub mod Concrete
@@ -10,16 +7,10 @@ pub mod HeadedPackets
 pub mod Equal
 pub mod OneFront
 pub mod ReadBack
-pub mod Formats
-pub mod Headed
-pub mod Writing
-pub mod Filling
 pub mod ReadCapture
-pub mod StreamBytes
-pub mod Pulling
 pub mod Asked
 pub mod PacketStream
-pub mod Taking
 pub mod Captures
 pub mod Copied
 pub mod Accepted
+pub mod StatedPackets

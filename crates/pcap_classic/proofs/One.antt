@@ -5,20 +5,21 @@ use Rattle.std.proofs.lemmas.List.{length-take, take-append-drop}
 use Rattle.std.proofs.lemmas.Bool.{cases_lt, ltb-false}
 use Rattle.std.specs.Int.{w32, cast_signed}
 use Rattle.byteorder.specs.Endian.{big_number}
-use Rattle.pcap_classic.specs.declared.rules.Rule.TheVariants.{CaptureMagic, FractionTooLarge, IncludedTooLong, OriginalTooLong, IncludedPastOriginal}
-use Rattle.pcap_classic.specs.Faults.{Fault, Invalid}
-use Rattle.pcap_classic.specs.declared.common.TsResolution.{TsResolution}
-use Rattle.pcap_classic.specs.declared.link.DataLink.{DataLink}
+use Rattle.pcap_core.specs.declared.rules.Rule.TheVariants.{CaptureMagic, FractionTooLarge, IncludedTooLong, OriginalTooLong, IncludedPastOriginal}
+use Rattle.pcap_core.specs.Faults.{Fault, Invalid}
+use Rattle.pcap_core.specs.declared.common.TsResolution.{TsResolution}
+use Rattle.pcap_core.specs.declared.link.DataLink.{DataLink}
 use Rattle.pcap_classic.specs.declared.pcap.header.PcapHeader.{PcapHeader}
 use Rattle.pcap_classic.specs.declared.pcap.packet.PacketHeader.{PacketHeader}
-use Rattle.pcap_classic.specs.Answer.{Verdict, whole, lacks, faulty, Number, number_in}
-use Rattle.pcap_classic.specs.Link.{Link}
+use Rattle.pcap_core.specs.Answer.{Verdict, whole, lacks, faulty, Number, number_in}
+use Rattle.pcap_core.specs.Link.{Link}
 use Rattle.pcap_classic.specs.Magic.{is_magic, order_of}
 use Rattle.pcap_classic.specs.PacketText.{PacketHeaderSays, Head, HeadText, IsGood, head_fault, spelled_header, nanoseconds, PacketHeaderText, LacksHead, HasHeadFault, Captured}
 use Rattle.pcap_classic.specs.HeaderText.{HeaderSays, FieldsText, HeaderText, HasHeaderFault}
-use Rattle.pcap_classic.specs.Laws.{ExactlyOne}
-use Rattle.pcap_classic.proofs.Links.{plain_same, link_of}
-use Rattle.pcap_classic.proofs.Texts.{number_same, number_length, head_same, head_length, packet_header_same, good_has_none, header_length}
+use Rattle.pcap_core.specs.Laws.{ExactlyOne}
+use Rattle.pcap_core.proofs.Links.{plain_same, link_of}
+use Rattle.pcap_classic.proofs.Texts.{head_same, head_length, packet_header_same, good_has_none, header_length}
+use Rattle.pcap_core.proofs.Texts.{number_same, number_length}
 
 -- ---- a head is good or has a fault
 

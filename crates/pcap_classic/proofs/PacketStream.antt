@@ -1,15 +1,15 @@
 -- A packet off a stream is its header and then its data.
 use Rattle.std.proofs.Common.{◌≡◌, ℕ, List, [], ◌++◌, length, sym, append-nil, Err, Some, None, ◌⊎◌, inl, inr}
 use Rattle.std.specs.Prelude.{⊤, Option, IfSome}
-use Rattle.pcap_classic.specs.declared.common.TsResolution.{TsResolution}
-use Rattle.pcap_classic.specs.declared.errors.PcapError.{PcapError}
+use Rattle.pcap_core.specs.declared.common.TsResolution.{TsResolution}
+use Rattle.pcap_core.specs.declared.errors.PcapError.{PcapError}
 use Rattle.pcap_classic.specs.declared.pcap.packet.PacketHeader.{PacketHeader}
-use Rattle.pcap_classic.specs.Answer.{Order, faulty}
-use Rattle.pcap_classic.specs.Early.{EarlyFault}
-use Rattle.pcap_classic.specs.Faults.{Fault}
+use Rattle.pcap_core.specs.Answer.{Order, faulty}
+use Rattle.pcap_core.specs.Early.{EarlyFault}
+use Rattle.pcap_core.specs.Faults.{Fault}
 use Rattle.pcap_classic.specs.PacketText.{captured, PacketHeaderText, PacketHeaderSays, PacketText, PacketSays}
-use Rattle.pcap_classic.specs.Reading.{IsFaultOf, Reads, ReadsWhere}
-use Rattle.pcap_classic.proofs.Refusals.{shows_more}
+use Rattle.pcap_core.specs.Reading.{IsFaultOf, Reads, ReadsWhere}
+use Rattle.pcap_core.proofs.Refusals.{shows_more}
 use Rattle.pcap_classic.proofs.Stable.{packet_header_more}
 
 module _ (limit : ℕ) (order : Order) (r : TsResolution) where

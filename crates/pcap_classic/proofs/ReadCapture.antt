@@ -6,20 +6,20 @@ use Rattle.std.specs.Int.{w32, cast_unsigned}
 use Rattle.std.proofs.lemmas.Int.{to_z-of_z, ints}
 use Rattle.std.proofs.lemmas.List.Elements.{All-tail}
 use Rattle.byteorder.specs.Endian.{big_bytes}
-use Rattle.pcap_classic.specs.declared.common.Endianness.{Endianness}
-use Rattle.pcap_classic.specs.declared.common.Endianness.TheVariants.{Big}
-use Rattle.pcap_classic.specs.declared.common.TsResolution.{TsResolution}
+use Rattle.pcap_core.specs.declared.common.Endianness.{Endianness}
+use Rattle.pcap_core.specs.declared.common.Endianness.TheVariants.{Big}
+use Rattle.pcap_core.specs.declared.common.TsResolution.{TsResolution}
 use Rattle.pcap_classic.specs.declared.pcap.header.PcapHeader.{PcapHeader}
-use Rattle.pcap_classic.specs.Answer.{Number, number_in}
+use Rattle.pcap_core.specs.Answer.{Number, number_in}
 use Rattle.pcap_classic.specs.Magic.{order_of, resolution_of}
 use Rattle.pcap_classic.specs.HeaderText.{FieldsText, HeaderText}
-use Rattle.pcap_classic.specs.Link.{link_number}
+use Rattle.pcap_core.specs.Link.{link_number}
 use Rattle.pcap_classic.specs.PacketText.{packet_limit, Captured}
-use Rattle.pcap_classic.specs.Format.{Texts}
+use Rattle.pcap_core.specs.Format.{Texts}
 use Rattle.pcap_classic.specs.Packets.{packet_format, format_under}
 use Rattle.pcap_classic.specs.Front.{CaptureFront}
 use Rattle.pcap_classic.specs.Written.{bytes_in, written, written_header, capture, cut, IsWhole, IsWholeHeader}
-use Rattle.pcap_classic.proofs.Formats.{nothing_no_text}
+use Rattle.pcap_core.proofs.Formats.{nothing_no_text}
 use Rattle.pcap_classic.proofs.HeadedPackets.{packets_lawful}
 use Rattle.pcap_classic.proofs.ReadBack.{bytes_length, read_back, written_again}
 

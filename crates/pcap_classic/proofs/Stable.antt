@@ -2,15 +2,15 @@
 use Rattle.std.proofs.Common.{ℕ, ◌-◌, ◌<◌, List, ◌++◌, length, ap, ◌∙◌, append_assoc, arith}
 use Rattle.std.proofs.lemmas.List.{length-append}
 use Rattle.byteorder.specs.Endian.{big_number}
-use Rattle.pcap_classic.specs.Faults.{Fault}
-use Rattle.pcap_classic.specs.declared.common.TsResolution.{TsResolution}
+use Rattle.pcap_core.specs.Faults.{Fault}
+use Rattle.pcap_core.specs.declared.common.TsResolution.{TsResolution}
 use Rattle.pcap_classic.specs.declared.pcap.header.PcapHeader.{PcapHeader}
 use Rattle.pcap_classic.specs.declared.pcap.packet.PacketHeader.{PacketHeader}
-use Rattle.pcap_classic.specs.Answer.{Number, number_in}
+use Rattle.pcap_core.specs.Answer.{Number, number_in}
 use Rattle.pcap_classic.specs.Magic.{order_of}
 use Rattle.pcap_classic.specs.PacketText.{PacketHeaderSays, Head, HeadText, PacketHeaderText, LacksHead, HasHeadFault}
 use Rattle.pcap_classic.specs.HeaderText.{HeaderSays, FieldsText, HeaderText}
-use Rattle.pcap_classic.specs.Laws.{IsStable}
+use Rattle.pcap_core.specs.Laws.{IsStable}
 
 module _ (more : List ℕ) where
   number_more : (order : ℕ → List ℕ → ℕ) (w n : ℕ) (s a : List ℕ) → Number order w n s a → Number order w n (s ++ more) (a ++ more)

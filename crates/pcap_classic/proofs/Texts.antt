@@ -3,26 +3,15 @@ use Rattle.std.proofs.Common.{◌≡◌, ℕ, ◌+◌, List, [], ◌∷◌, ◌+
 use Rattle.std.specs.Prelude.{nat_lt}
 use Rattle.std.proofs.lemmas.List.{length-append}
 use Rattle.std.proofs.lemmas.Bool.{le-ltb}
-use Rattle.pcap_classic.specs.declared.common.TsResolution.{TsResolution}
+use Rattle.pcap_core.specs.declared.common.TsResolution.{TsResolution}
 use Rattle.pcap_classic.specs.declared.pcap.packet.PacketHeader.{PacketHeader}
 use Rattle.byteorder.specs.Endian.{big_number}
 use Rattle.pcap_classic.specs.declared.pcap.header.PcapHeader.{PcapHeader}
-use Rattle.pcap_classic.specs.Answer.{Number, number_in}
+use Rattle.pcap_core.specs.Answer.{Number, number_in}
 use Rattle.pcap_classic.specs.Magic.{order_of}
 use Rattle.pcap_classic.specs.HeaderText.{FieldsText, HeaderText}
 use Rattle.pcap_classic.specs.PacketText.{Head, HeadText, IsGood, head_fault, spelled_header, nanoseconds, PacketHeaderText, Captured, PacketText}
-
--- two ways to split a list at one place are one
-pub split_same : {A : Type 0} (a x b y : List A) → length a ≡ length b → a ++ x ≡ b ++ y → (a ≡ b) × (x ≡ y)
-split_same [] x [] y len e = (refl, e)
-split_same [] x (c ∷ b) y len e = absurd (omega (arith, len))
-split_same (c ∷ a) x [] y len e = absurd (omega (arith, len))
-split_same (c ∷ a) x (d ∷ b) y len e =
-    let tails : a ++ x ≡ b ++ y = cc in
-    let first : c ≡ d = cc in
-    let shorter : length a ≡ length b = omega (arith, len) in
-    let r = split_same a x b y shorter tails in
-    (cc, r.1)
+use Rattle.pcap_core.proofs.Texts.{split_same, number_same, number_length, joined}
 
 -- a head by its four numbers
 make_head : ℕ → ℕ → ℕ → ℕ → Head
@@ -42,35 +31,25 @@ good_has_none limit r head good =
     rw (a, b, d, e) refl
 
 module _ (order : ℕ → List ℕ → ℕ) where
-  pub number_same : (w n m : ℕ) (s a b : List ℕ) → Number order w n s a → Number order w m s b → (n ≡ m) × (a ≡ b)
-  number_same w n m s a b p q =
-      let lens : length p.bytes ≡ length q.bytes = p.length_is ∙ sym q.length_is in
-      let r = split_same p.bytes a q.bytes b lens (sym p.text ∙ q.text) in
-      (sym p.value ∙ ap (order w) r.0 ∙ q.value, r.1)
-
-  -- a number's bytes are as many as its width
-  pub number_length : (w n : ℕ) (s a : List ℕ) → Number order w n s a → length s ≡ w + length a
-  number_length w n s a p = ap length p.text ∙ length-append p.bytes a ∙ ap (λ k. k + length a) p.length_is
-
   pub head_same : (h k : Head) (s a b : List ℕ) → HeadText order h s a → HeadText order k s b → (h ≡ k) × (a ≡ b)
   head_same h k s a b p q =
-      let e1 = number_same 4 h.seconds k.seconds s p.after_seconds q.after_seconds p.seconds q.seconds in
+      let e1 = number_same order 4 h.seconds k.seconds s p.after_seconds q.after_seconds p.seconds q.seconds in
       let p2 = subst (λ (t : List ℕ). Number order 4 h.fraction t p.after_fraction) e1.1 p.fraction in
-      let e2 = number_same 4 h.fraction k.fraction q.after_seconds p.after_fraction q.after_fraction p2 q.fraction in
+      let e2 = number_same order 4 h.fraction k.fraction q.after_seconds p.after_fraction q.after_fraction p2 q.fraction in
       let p3 = subst (λ (t : List ℕ). Number order 4 h.included t p.after_included) e2.1 p.included in
-      let e3 = number_same 4 h.included k.included q.after_fraction p.after_included q.after_included p3 q.included in
+      let e3 = number_same order 4 h.included k.included q.after_fraction p.after_included q.after_included p3 q.included in
       let p4 = subst (λ (t : List ℕ). Number order 4 h.original t a) e3.1 p.original in
-      let e4 = number_same 4 h.original k.original q.after_included a b p4 q.original in
+      let e4 = number_same order 4 h.original k.original q.after_included a b p4 q.original in
       (head_is h k e1.0 e2.0 e3.0 e4.0, e4.1)
 
   pub head_length : (h : Head) (s a : List ℕ) → HeadText order h s a → length s ≡ 16 + length a
   head_length h s a p =
       omega (
         arith,
-        number_length 4 h.seconds s p.after_seconds p.seconds,
-        number_length 4 h.fraction p.after_seconds p.after_fraction p.fraction,
-        number_length 4 h.included p.after_fraction p.after_included p.included,
-        number_length 4 h.original p.after_included a p.original,
+        number_length order 4 h.seconds s p.after_seconds p.seconds,
+        number_length order 4 h.fraction p.after_seconds p.after_fraction p.fraction,
+        number_length order 4 h.included p.after_fraction p.after_included p.included,
+        number_length order 4 h.original p.after_included a p.original,
       )
 
   pub packet_header_same : (limit : ℕ) (r : TsResolution) (h k : PacketHeader) (s a b : List ℕ) → PacketHeaderText limit order r h s a → PacketHeaderText limit order r k s b → (h ≡ k) × (a ≡ b)
@@ -81,10 +60,6 @@ module _ (order : ℕ → List ℕ → ℕ) where
   pub packet_length : (limit : ℕ) (r : TsResolution) (p : Captured) (s rest : List ℕ) → PacketText limit order r p s rest → length s ≡ 16 + p.header.incl_len + length rest
   packet_length limit r p s rest text =
       omega (arith, head_length text.header.head s text.after text.header.text, ap length text.data_is, length-append p.bytes rest, text.whole)
-
--- five lists one behind the other
-pub joined : (s b1 a1 b2 a2 b3 a3 b4 a4 b5 rest : List ℕ) → s ≡ b1 ++ a1 → a1 ≡ b2 ++ a2 → a2 ≡ b3 ++ a3 → a3 ≡ b4 ++ a4 → a4 ≡ b5 ++ rest → s ≡ (b1 ++ (b2 ++ (b3 ++ (b4 ++ b5)))) ++ rest
-joined s b1 a1 b2 a2 b3 a3 b4 a4 b5 rest e1 e2 e3 e4 e5 = rw (e1, e2, e3, e4, e5) (simp append_assoc)
 
 pub fields_length : (order : ℕ → List ℕ → ℕ) (header : PcapHeader) (s rest : List ℕ) → FieldsText order header s rest → length s ≡ 20 + length rest
 fields_length order header s rest p =

@@ -4,24 +4,25 @@ use Rattle.std.specs.Option.{IsSomeAnd}
 use Rattle.std.specs.Result.{result_err}
 use Rattle.std.specs.List.{flat_map}
 use Rattle.std.specs.Io.KnownBytes.{Appends, Keeps, IsAtEnd}
-use Rattle.pcap_classic.specs.declared.errors.PcapError.{PcapError}
+use Rattle.pcap_core.specs.declared.errors.PcapError.{PcapError}
 use Rattle.pcap_classic.specs.declared.pcap.header.PcapHeader.{PcapHeader}
-use Rattle.pcap_classic.specs.declared.rules.Rule.TheVariants.{CaptureMagic}
+use Rattle.pcap_core.specs.declared.rules.Rule.TheVariants.{CaptureMagic}
 use Rattle.pcap_classic.specs.declared.run.copy.Copied.{Copied}
 use Rattle.pcap_classic.specs.declared.run.copy.Under.{Under}
 use Rattle.pcap_classic.specs.declared.run.copy.Under.TheVariants.{Same, Header, Order}
-use Rattle.pcap_classic.specs.Answer.{Verdict, whole}
-use Rattle.pcap_classic.specs.Errors.{IsMemory, IsIo}
-use Rattle.pcap_classic.specs.Faults.{Names}
-use Rattle.pcap_classic.specs.Format.{Texts}
+use Rattle.pcap_core.specs.Answer.{Verdict, whole}
+use Rattle.pcap_core.specs.Errors.{IsMemory, IsIo}
+use Rattle.pcap_core.specs.Faults.{Names}
+use Rattle.pcap_core.specs.Format.{Texts}
 use Rattle.pcap_classic.specs.Front.{CaptureFront}
 use Rattle.pcap_classic.specs.HeaderText.{HeaderText, HeaderSays}
 use Rattle.pcap_classic.specs.Magic.{magic_for}
 use Rattle.pcap_classic.specs.Packets.{format_under}
 use Rattle.pcap_classic.specs.PacketText.{Captured, packet_limit}
-use Rattle.pcap_classic.specs.Reading.{Takes, TakesAsked, HasCause, ReadsTold}
-use Rattle.pcap_classic.specs.Takes.{TakesTexts}
-use Rattle.pcap_classic.specs.Writing.{AppendsPart, WritesAll, IsWritable}
+use Rattle.pcap_core.specs.Reading.{Takes, TakesAsked, HasCause, ReadsTold}
+use Rattle.pcap_core.specs.Takes.{TakesTexts}
+use Rattle.pcap_classic.specs.Writing.{IsWritable}
+use Rattle.pcap_core.specs.Writing.{AppendsPart, WritesAll}
 use Rattle.pcap_classic.specs.Written.{written_header, written_under, capture}
 
 -- the header that a copy is written under, from the one that was read

@@ -1,7 +1,7 @@
 -- The header of a capture that is not told otherwise.
 use Rattle.std.specs.Prelude.{pos}
 use Rattle.pcap_classic.specs.declared.pcap.header.PcapHeader.{PcapHeader}
-use Rattle.pcap_classic.specs.declared.link.DataLink.TheVariants.{ETHERNET}
+use Rattle.pcap_core.specs.declared.link.DataLink.TheVariants.{ETHERNET}
 
 -- big-endian, microseconds, version 2.4, no correction, packets of at most 65535 bytes of Ethernet
 abbrev pub default_header : PcapHeader

@@ -1,10 +1,10 @@
 -- Packets as a format with a head: what is said of the sixteen bytes of a header, and then of the data.
 use Rattle.std.specs.Prelude.{◌≡◌, ℕ, List, []}
-use Rattle.pcap_classic.specs.declared.common.TsResolution.{TsResolution}
+use Rattle.pcap_core.specs.declared.common.TsResolution.{TsResolution}
 use Rattle.pcap_classic.specs.declared.pcap.packet.PacketHeader.{PacketHeader}
-use Rattle.pcap_classic.specs.Answer.{Order}
+use Rattle.pcap_core.specs.Answer.{Order}
 use Rattle.pcap_classic.specs.PacketText.{Captured, PacketHeaderText, HasHeadFault}
-use Rattle.pcap_classic.specs.Headed.{Reading, good, bad, Headed}
+use Rattle.pcap_core.specs.Headed.{Reading, good, bad, Headed}
 
 -- what is said of a head: the header whose text it is, or its fault
 abbrev pub HeadReads : ℕ → Order → TsResolution → List ℕ → Reading PacketHeader → Type 0

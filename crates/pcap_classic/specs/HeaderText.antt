@@ -3,10 +3,10 @@ use Rattle.std.specs.Prelude.{◌≡◌, ◌<◌, ◌≤◌, ◌+◌, ℕ, List,
 use Rattle.std.specs.Int.{w32, cast_signed}
 use Rattle.byteorder.specs.Endian.{big_number}
 use Rattle.pcap_classic.specs.declared.pcap.header.PcapHeader.{PcapHeader}
-use Rattle.pcap_classic.specs.declared.rules.Rule.TheVariants.{CaptureMagic}
-use Rattle.pcap_classic.specs.Answer.{Order, Number, number_in, Verdict, Says}
-use Rattle.pcap_classic.specs.Faults.{Fault, Invalid}
-use Rattle.pcap_classic.specs.Link.{Link}
+use Rattle.pcap_core.specs.declared.rules.Rule.TheVariants.{CaptureMagic}
+use Rattle.pcap_core.specs.Answer.{Order, Number, number_in, Verdict, Says}
+use Rattle.pcap_core.specs.Faults.{Fault, Invalid}
+use Rattle.pcap_core.specs.Link.{Link}
 use Rattle.pcap_classic.specs.Magic.{is_magic, order_of}
 
 -- s is the fields behind the magic number in this order, and then rest

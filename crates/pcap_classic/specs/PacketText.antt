@@ -1,13 +1,13 @@
 -- The text of a packet, what it lacks, and its faults ('Packet Record').
 use Rattle.std.specs.Prelude.{◌≡◌, ◌<◌, ◌≤◌, ◌+◌, ◌*◌, ◌⊎◌, ℕ, List, ◌++◌, length, Option, Some, None, nat_lt, if◌then◌else◌}
-use Rattle.pcap_classic.specs.declared.common.TsResolution.{TsResolution}
-use Rattle.pcap_classic.specs.declared.common.TsResolution.TheVariants.{MicroSecond, NanoSecond}
+use Rattle.pcap_core.specs.declared.common.TsResolution.{TsResolution}
+use Rattle.pcap_core.specs.declared.common.TsResolution.TheVariants.{MicroSecond, NanoSecond}
 use Rattle.pcap_classic.specs.declared.pcap.packet.PacketHeader.{PacketHeader}
 use Rattle.pcap_classic.specs.declared.pcap.packet.Packet.{Packet}
-use Rattle.pcap_classic.specs.Bytes.{cow_bytes}
-use Rattle.pcap_classic.specs.declared.rules.Rule.TheVariants.{FractionTooLarge, IncludedTooLong, OriginalTooLong, IncludedPastOriginal}
-use Rattle.pcap_classic.specs.Answer.{Order, Number, Verdict, Says}
-use Rattle.pcap_classic.specs.Faults.{Fault, Invalid}
+use Rattle.pcap_core.specs.Bytes.{cow_bytes}
+use Rattle.pcap_core.specs.declared.rules.Rule.TheVariants.{FractionTooLarge, IncludedTooLong, OriginalTooLong, IncludedPastOriginal}
+use Rattle.pcap_core.specs.Answer.{Order, Number, Verdict, Says}
+use Rattle.pcap_core.specs.Faults.{Fault, Invalid}
 
 -- the longest packet, in bytes
 abbrev pub packet_limit : ℕ

@@ -1,13 +1,13 @@
 -- The format of packets.
 use Rattle.std.specs.Prelude.{◌≡◌, ◌<◌, ℕ, List, [], length, Bool, true, false}
-use Rattle.pcap_classic.specs.declared.common.TsResolution.{TsResolution}
+use Rattle.pcap_core.specs.declared.common.TsResolution.{TsResolution}
 use Rattle.pcap_classic.specs.declared.pcap.header.PcapHeader.{PcapHeader}
-use Rattle.pcap_classic.specs.declared.rules.Rule.TheVariants.{CaptureMagic}
-use Rattle.pcap_classic.specs.Answer.{Order, number_in, Verdict, whole, lacks, faulty}
-use Rattle.pcap_classic.specs.Faults.{Invalid}
+use Rattle.pcap_core.specs.declared.rules.Rule.TheVariants.{CaptureMagic}
+use Rattle.pcap_core.specs.Answer.{Order, number_in, Verdict, whole, lacks, faulty}
+use Rattle.pcap_core.specs.Faults.{Invalid}
 use Rattle.pcap_classic.specs.Magic.{is_magic, order_of, resolution_of}
 use Rattle.pcap_classic.specs.PacketText.{Captured, PacketSays}
-use Rattle.pcap_classic.specs.Format.{Format}
+use Rattle.pcap_core.specs.Format.{Format}
 
 -- packets of at most limit bytes, in this order and resolution: no state
 unfoldable pub packet_format : ℕ → Order → TsResolution → Format (Unit {0}) Captured

@@ -1,20 +1,19 @@
 -- What a reader shows.
 use Rattle.std.specs.Prelude.{◌≡◌, ◌⊎◌, ℕ, List, Bool, false, Option, Result, Ok, Err}
-use Rattle.pcap_classic.specs.declared.errors.PcapError.{PcapError}
+use Rattle.pcap_core.specs.declared.errors.PcapError.{PcapError}
 use Rattle.pcap_classic.specs.declared.pcap.reader.PcapReader.{PcapReader}
-use Rattle.pcap_classic.specs.Errors.{IsIo}
-use Rattle.pcap_classic.specs.Faults.{Shows}
-use Rattle.pcap_classic.specs.Fill as fill
+use Rattle.pcap_core.specs.Errors.{IsIo}
+use Rattle.pcap_core.specs.Faults.{Shows}
 use Rattle.pcap_classic.specs.HeaderText.{HeaderSays}
-use Rattle.pcap_classic.specs.Reading.{IsFaultOf, Takes}
+use Rattle.pcap_core.specs.Reading.{IsFaultOf, Takes}
 
 -- the stream behind a reader
 abbrev pub stream_of : {T : Type 0} → PcapReader T → T
-stream_of reader = fill.source_of reader.fill
+stream_of reader = reader.inner
 
 -- a read of it failed
 abbrev pub has_failed : {T : Type 0} → PcapReader T → Bool
-has_failed reader = fill.has_failed reader.fill
+has_failed reader = reader.has_failed
 
 -- the reader has refused something
 abbrev pub is_done : {T : Type 0} → PcapReader T → Bool

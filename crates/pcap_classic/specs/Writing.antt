@@ -1,39 +1,24 @@
 -- What calls that write say.
 use Rattle.std.specs.Prelude.{◌≡◌, ◌<◌, ℕ, List, ◌++◌, length, Bool, true, false, IsTrue, Option, Result, Ok, Err}
 use Rattle.std.specs.Io.KnownBytes.{Appends}
-use Rattle.pcap_classic.specs.declared.errors.PcapError.{PcapError}
-use Rattle.pcap_classic.specs.declared.errors.PcapError.TheVariants.{IoError, InvalidField, WriterFailed}
+use Rattle.pcap_core.specs.declared.errors.PcapError.{PcapError}
+use Rattle.pcap_core.specs.declared.errors.PcapError.TheVariants.{IoError, InvalidField, WriterFailed}
 use Rattle.pcap_classic.specs.declared.pcap.header.PcapHeader.{PcapHeader}
 use Rattle.pcap_classic.specs.declared.pcap.writer.PcapWriter.{PcapWriter}
-use Rattle.pcap_classic.specs.declared.rules.Rule.TheVariants.{CaptureMagic}
-use Rattle.pcap_classic.specs.Faults.{text_of}
+use Rattle.pcap_core.specs.declared.rules.Rule.TheVariants.{CaptureMagic}
+use Rattle.pcap_core.specs.Faults.{text_of}
 use Rattle.pcap_classic.specs.Magic.{is_magic}
 use Rattle.pcap_classic.specs.PacketText.{Captured}
 use Rattle.pcap_classic.specs.Written.{written_header, written_under}
-
--- A beginning of the bytes went out, and these are left.
-pub record Writes (bytes left : List ℕ) (before after : Option (List ℕ)) : Type 0 where
-  pub gone : List ℕ
-  pub split : bytes ≡ gone ++ left
-  pub out : Appends before after gone
-
--- a beginning of the bytes went out, and not all of them
-abbrev pub AppendsPart : Option (List ℕ) → Option (List ℕ) → List ℕ → Type 0
-AppendsPart before after bytes = (left : List ℕ) × (0 < length left) × Writes bytes left before after
-
--- One call that writes bytes: all of them, or a beginning of them and an IoError.
-abbrev pub WritesAll : Option (List ℕ) → Option (List ℕ) → List ℕ → Result (Unit {0}) PcapError → Type 0
-WritesAll before after bytes (Ok u) = Appends before after bytes
-WritesAll before after bytes (Err (IoError e)) = AppendsPart before after bytes
-WritesAll before after bytes (Err _) = ⊥
+use Rattle.pcap_core.specs.Writing.{Writes, AppendsPart, WritesAll}
 
 -- the stream behind a writer
 abbrev pub writer_of : {W : Type 0} → PcapWriter W → W
-writer_of w = w.told.inner
+writer_of w = w.inner
 
 -- a write of the stream behind a writer failed
 abbrev pub has_failed : {W : Type 0} → PcapWriter W → Bool
-has_failed w = w.told.has_failed
+has_failed w = w.has_failed
 
 -- a header whose capture can be written
 abbrev pub IsWritable : PcapHeader → Type 0

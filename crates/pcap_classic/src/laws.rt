@@ -3,28 +3,28 @@
 ghost use Rattle.std.specs.Prelude.{◌≡◌, ◌≤◌, ◌++◌, ◌↔◌, ℕ, List, [], ◌∷◌, length, map, All, IsTrue, Option, false};
 ghost use Rattle.std.specs.Io.KnownBytes.{Appends};
 ghost use Rattle.std.specs.List.{flat_map};
-ghost use Rattle.pcap_classic.specs.declared.common.Endianness.{Endianness};
-ghost use Rattle.pcap_classic.specs.declared.common.TsResolution.{TsResolution};
-ghost use Rattle.pcap_classic.specs.declared.link.DataLink.{DataLink};
+ghost use Rattle.pcap_core.specs.declared.common.Endianness.{Endianness};
+ghost use Rattle.pcap_core.specs.declared.common.TsResolution.{TsResolution};
+ghost use Rattle.pcap_core.specs.declared.link.DataLink.{DataLink};
 ghost use Rattle.pcap_classic.specs.declared.pcap.header.PcapHeader.{PcapHeader};
 ghost use Rattle.pcap_classic.specs.declared.run.copy.Copied.{Copied};
 ghost use Rattle.pcap_classic.specs.declared.run.copy.Under.{Under};
 ghost use Rattle.pcap_classic.specs.declared.run.copy.Under.TheVariants.{Same};
-ghost use Rattle.pcap_classic.specs.Answer.{Order, number_in};
-ghost use Rattle.pcap_classic.specs.Bytes.{IsBytes};
+ghost use Rattle.pcap_core.specs.Answer.{Order, number_in};
+ghost use Rattle.pcap_core.specs.Bytes.{IsBytes};
 ghost use Rattle.pcap_classic.specs.Copies.{CanBeUnder, CopyFront, CopiesAll, NothingFailed, header_under};
-ghost use Rattle.pcap_classic.specs.Format.{Front, Texts, Asks, IsLawful};
+ghost use Rattle.pcap_core.specs.Format.{Front, Texts, Asks, IsLawful};
 ghost use Rattle.pcap_classic.specs.Front.{CaptureFront};
 ghost use Rattle.pcap_classic.specs.HeaderText.{HeaderSays, HeaderText};
-ghost use Rattle.pcap_classic.specs.Laws.{ExactlyOne, IsStable};
-ghost use Rattle.pcap_classic.specs.Link.{Link, IsPlain, link_number};
+ghost use Rattle.pcap_core.specs.Laws.{ExactlyOne, IsStable};
+ghost use Rattle.pcap_core.specs.Link.{Link, IsPlain, link_number};
 ghost use Rattle.pcap_classic.specs.Magic.{is_magic, resolution_of};
 ghost use Rattle.pcap_classic.specs.Packets.{packet_format, reader_format};
 ghost use Rattle.pcap_classic.specs.PacketText.{packet_limit, PacketSays, PacketHeaderSays, Captured, PacketText};
-ghost use Rattle.pcap_classic.specs.Reading.{TakesAsked, TakesAtMost};
+ghost use Rattle.pcap_core.specs.Reading.{TakesAsked, TakesAtMost};
 ghost use Rattle.pcap_classic.specs.Written.{IsWhole, IsWholeHeader, bytes_in, capture, cut, written};
 
-use crate::DataLink;
+use pcap_core::DataLink;
 use crate::pcap::{PacketHeader, PcapHeader};
 
 /// Of each slice exactly one thing is said where a capture's header is asked for: its text begins the slice, so

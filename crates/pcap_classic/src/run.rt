@@ -3,35 +3,26 @@
 mod copy;
 
 ghost use Rattle.std.specs.Prelude.{◌≡◌, ◌⊎◌, ⊤, false, All, IfOk, IfErr, IfSome, map};
-ghost use Rattle.pcap_classic.specs.Answer.{Refuses};
-ghost use Rattle.pcap_classic.specs.Bytes.{IsBorrowed};
+ghost use Rattle.pcap_core.specs.Answer.{Refuses};
+ghost use Rattle.pcap_core.specs.Bytes.{IsBorrowed};
 ghost use Rattle.pcap_classic.specs.Captures.{TakesCapture, ReadsCapture};
-ghost use Rattle.pcap_classic.specs.Errors.{IsIo};
-ghost use Rattle.pcap_classic.specs.Faults.{Shows};
+ghost use Rattle.pcap_core.specs.Errors.{IsIo};
+ghost use Rattle.pcap_core.specs.Faults.{Shows};
 ghost use Rattle.pcap_classic.specs.HeaderText.{LacksHeader, HasHeaderFault, HeaderSays};
 ghost use Rattle.pcap_classic.specs.Packets.{reader_format};
 ghost use Rattle.pcap_classic.specs.PacketText.{packet_limit, captured};
 ghost use Rattle.pcap_classic.specs.Reader.{stream_of, has_failed, is_done};
-ghost use Rattle.pcap_classic.specs.Reading.{IsFaultOf};
-ghost use Rattle.pcap_classic.specs.Takes.{TakesItems};
-ghost use Rattle.pcap_classic.specs.Run.{IsRun, rest_after};
+ghost use Rattle.pcap_core.specs.Reading.{IsFaultOf};
+ghost use Rattle.pcap_core.specs.Takes.{TakesItems};
+ghost use Rattle.pcap_classic.specs.Run.{IsRun};
+ghost use Rattle.pcap_core.specs.Run.{rest_after};
 
 use crate::pcap::{Packet, PcapHeader, PcapParser, PcapReader};
-use crate::{PcapError, ResultParsing};
+use pcap_core::{PcapError, ResultParsing};
 pub use copy::{Copied, Under, copy_pcap};
+pub use pcap_core::Rest;
 use std::alloc::Global;
 use std::io::Read;
-
-/// What stands behind the last whole packet.
-#[derive(Debug, Drop)]
-pub enum Rest {
-    /// Nothing.
-    Clean,
-    /// A beginning of a packet, of which so many bytes are missing, at least.
-    Needs(usize),
-    /// What begins no packet, and why.
-    Refused(PcapError),
-}
 
 /// A capture's header and packets, how many bytes they take, and what stands behind them.
 #[derive(Debug, Drop)]

@@ -2,19 +2,19 @@
 
 ghost use Rattle.std.specs.Prelude.{◌≡◌, ◌≤◌, ◌+◌, ◌↔◌, Some, false, length, IsTrue, IfOk, IfErr};
 ghost use Rattle.std.specs.Int.{w32, cast_signed};
-ghost use Rattle.pcap_classic.specs.Answer.{Tells, Number};
+ghost use Rattle.pcap_core.specs.Answer.{Tells, Number};
 ghost use Rattle.pcap_classic.specs.Magic.{kind_of, is_magic, order_of, resolution_of, magic_for};
 ghost use Rattle.pcap_classic.specs.HeaderText.{FieldsText, HeaderSays};
 ghost use Rattle.pcap_classic.specs.Defaults.{default_header};
-ghost use Rattle.pcap_classic.specs.Errors.{IsMemory};
-ghost use Rattle.pcap_classic.specs.Reading.{Reads, ReadsTold};
-ghost use Rattle.pcap_classic.specs.Writing.{WritesAll};
+ghost use Rattle.pcap_core.specs.Errors.{IsMemory};
+ghost use Rattle.pcap_core.specs.Reading.{Reads, ReadsTold};
+ghost use Rattle.pcap_core.specs.Writing.{WritesAll};
 ghost use Rattle.pcap_classic.specs.Written.{header_bytes};
 
-use crate::pcap::fields::{split_u16, split_u32};
-use crate::rules::Rule;
-use crate::stream::{fill_array, put};
-use crate::{DataLink, Endianness, PcapError, ResultParsing, TsResolution};
+use pcap_core::fields::{split_u16, split_u32};
+use pcap_core::rules::Rule;
+use pcap_core::stream::{fill_array, put};
+use pcap_core::{DataLink, Endianness, PcapError, ResultParsing, TsResolution};
 use byteorder::{BigEndian, ByteOrder, LittleEndian};
 use std::alloc::Global;
 use std::io::{Read, Write};

@@ -2,21 +2,21 @@
 
 ghost use Rattle.std.specs.Prelude.{⊤, ◌≡◌, ◌≤◌, ◌<◌, ◌*◌, ◌+◌, ◌^◌, length, IsOk, IfOk, IfErr, MatchResult, IsTrue};
 ghost use Rattle.std.specs.Duration.{as_nanos};
-ghost use Rattle.pcap_classic.specs.Answer.{Tells, number_in};
-ghost use Rattle.pcap_classic.specs.Faults.{Invalid};
+ghost use Rattle.pcap_core.specs.Answer.{Tells, number_in};
+ghost use Rattle.pcap_core.specs.Faults.{Invalid};
 ghost use Rattle.pcap_classic.specs.Magic.{is_magic, order_of, resolution_of};
-ghost use Rattle.pcap_classic.specs.Bytes.{IsBorrowed, IsOwned};
-ghost use Rattle.pcap_classic.specs.Errors.{IsMemory};
-ghost use Rattle.pcap_classic.specs.Reading.{Reads, ReadsWhere};
-ghost use Rattle.pcap_classic.specs.Writing.{WritesAll};
+ghost use Rattle.pcap_core.specs.Bytes.{IsBorrowed, IsOwned};
+ghost use Rattle.pcap_core.specs.Errors.{IsMemory};
+ghost use Rattle.pcap_core.specs.Reading.{Reads, ReadsWhere};
+ghost use Rattle.pcap_core.specs.Writing.{WritesAll};
 ghost use Rattle.pcap_classic.specs.Written.{fraction_of, packet_header_bytes};
 ghost use Rattle.pcap_classic.specs.PacketText.{packet_limit, Head, IsGood, IsHeadFault, spelled_header, captured, PacketHeaderSays, PacketSays};
 
 use crate::pcap::PcapHeader;
-use crate::pcap::fields::split_u32;
-use crate::rules::Rule;
-use crate::stream::{fill_array, put, take_bytes};
-use crate::{CowBytes, Endianness, PcapError, ResultParsing, TsResolution};
+use pcap_core::fields::split_u32;
+use pcap_core::rules::Rule;
+use pcap_core::stream::{fill_array, put, take_bytes};
+use pcap_core::{CowBytes, Endianness, PcapError, ResultParsing, TsResolution};
 use byteorder::{BigEndian, ByteOrder, LittleEndian};
 use std::alloc::Global;
 use std::io::{Read, Write};

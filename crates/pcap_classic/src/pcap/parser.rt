@@ -1,10 +1,10 @@
 //! A parser of a capture that comes in slices.
 
 ghost use Rattle.std.specs.Prelude.{◌≡◌, IfOk, IsTrue};
-ghost use Rattle.pcap_classic.specs.Answer.{Tells, number_in};
+ghost use Rattle.pcap_core.specs.Answer.{Tells, number_in};
 ghost use Rattle.pcap_classic.specs.Magic.{is_magic, order_of, resolution_of};
 
-use crate::ResultParsing;
+use pcap_core::ResultParsing;
 use crate::pcap::packet::packet_under;
 use crate::pcap::{Packet, PcapHeader};
 
@@ -16,7 +16,7 @@ pub struct PcapParser {
 }
 
 impl PcapParser {
-    ghost use Rattle.pcap_classic.specs.Bytes.{IsBorrowed};
+    ghost use Rattle.pcap_core.specs.Bytes.{IsBorrowed};
     ghost use Rattle.pcap_classic.specs.PacketText.{packet_limit, captured, PacketSays};
     ghost use Rattle.pcap_classic.specs.HeaderText.{HeaderSays};
     ghost use Rattle.pcap_classic.specs.Parser.{header_of};

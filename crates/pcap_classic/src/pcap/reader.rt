@@ -2,20 +2,20 @@
 
 ghost use Rattle.std.specs.Prelude.{◌≡◌, ◌<◌, ⊤, false, [], length, IsTrue, OnOk, IfOk, IfErr};
 ghost use Rattle.std.specs.Borrow.{sem, Lends};
-ghost use Rattle.pcap_classic.specs.Answer.{whole};
-ghost use Rattle.pcap_classic.specs.Asked.{AskTells, FillsItem, HoldsItem};
-ghost use Rattle.pcap_classic.specs.Held.{held_bytes};
+ghost use Rattle.pcap_core.specs.Answer.{whole};
+ghost use Rattle.pcap_core.specs.Asked.{FillsItem, HoldsItem};
+ghost use Rattle.pcap_core.specs.Held.{held_bytes};
 ghost use Rattle.pcap_classic.specs.HeaderText.{HeaderSays};
 ghost use Rattle.pcap_classic.specs.Magic.{is_magic};
 ghost use Rattle.pcap_classic.specs.Packets.{reader_format};
 ghost use Rattle.pcap_classic.specs.PacketText.{packet_limit, captured};
-ghost use Rattle.pcap_classic.specs.Reading.{NextGives, Pulls};
+ghost use Rattle.pcap_core.specs.Reading.{NextGives, Pulls};
 
 use crate::pcap::packet::packet_under;
+use crate::pcap::stated::{PacketsUnder, packet_of};
 use crate::pcap::{Packet, PcapHeader};
-use crate::rules::Rule;
-use crate::stream::{Fill, Held, Told, more_of};
-use crate::{PcapError, ResultParsing};
+use pcap_core::stream::{Held, fill_item};
+use pcap_core::ResultParsing;
 use std::alloc::Global;
 use std::io::Read;
 
@@ -29,39 +29,12 @@ pub struct PcapReader<T> {
     /// The header of the capture. Each packet is read under the header as it stands.
     pub header: PcapHeader,
     alloc: Global,
-    fill: Fill<T>,
+    inner: T,
+    has_failed: bool,
+    held: Held,
     is_done: bool,
-    ghost between: { is_done ≡ false → held_bytes fill.held ≡ [] },
-    ghost unfailed: { is_done ≡ false → fill.told.has_failed ≡ false },
-}
-
-/// What the slice call says of the held bytes.
-#[derive(Drop)]
-pub enum Asked {
-    /// A packet begins them.
-    Whole,
-    /// So many bytes are missing.
-    Needs(usize),
-    /// They are refused.
-    Refused(PcapError),
-}
-
-// What the slice call says of these bytes under the header as it stands.
-#[tactic(auto, unfolding(crate::specs::Packets::packet_format, crate::specs::Packets::refusing_format, crate::specs::Packets::reader_format))]
-fn ask(header: &PcapHeader, held: &[u8]) -> Asked
-    ensures { AskTells ((reader_format packet_limit header.now).says tt held.now) result }
-{
-    if !header.has_valid_magic() {
-        if held.is_empty() {
-            return Asked::Needs(1);
-        }
-        return Asked::Refused(PcapError::from(Rule::CaptureMagic));
-    }
-    match packet_under(header, held) {
-        Ok(_) => Asked::Whole,
-        Err(PcapError::IncompleteBuffer(n)) => Asked::Needs(n),
-        Err(e) => Asked::Refused(e),
-    }
+    ghost between: { is_done ≡ false → held_bytes held ≡ [] },
+    ghost unfailed: { is_done ≡ false → has_failed ≡ false },
 }
 
 // Fills what is held with the next packet. Nothing is held before it, nor where it answers false.
@@ -75,17 +48,8 @@ pub(crate) fn fill_packet<T: Read>(
     requires unfailed { has_failed.old ≡ false }
     ensures { FillsItem ((reader_format packet_limit header.now).says tt) (T.remaining stream.old) (T.remaining stream.new) (held_bytes held.new) has_failed.new result }
 {
-    'asking: loop {
-        match ask(header, held.as_slice()) {
-            Asked::Whole => return Ok(true),
-            Asked::Needs(n) => {
-                if !more_of(stream, has_failed, held, n)? {
-                    return Ok(false);
-                }
-            }
-            Asked::Refused(e) => return Err(e),
-        }
-    }
+    let head = fill_item(&PacketsUnder { header }, stream, has_failed, held)?;
+    Ok(head.is_some())
 }
 
 // The packet that the bytes are, lent from them.
@@ -112,10 +76,10 @@ pub(crate) fn pull<T: Read>(
     ensures pulls { Pulls ((reader_format packet_limit header.now).says tt) captured (T.remaining stream.old) (T.remaining stream.new) has_failed.new result }
     ensures between { OnOk result (held_bytes held.new ≡ []) }
 {
-    if !fill_packet(header, stream, has_failed, held)? {
+    let Some(head) = fill_item(&PacketsUnder { header }, stream, has_failed, held)? else {
         return Ok(None);
-    }
-    let packet = whole_packet(header, held.as_slice()).to_owned(alloc)?;
+    };
+    let packet = packet_of(header, head, held.as_slice()).to_owned(alloc)?;
     held.clear();
     Ok(Some(packet))
 }
@@ -133,7 +97,9 @@ impl<T: Read + Drop> PcapReader<T> {
         PcapReader {
             header,
             alloc,
-            fill: Fill::new(alloc, Told::new(stream)),
+            inner: stream,
+            has_failed: false,
+            held: Held::new(alloc),
             is_done: false,
         }
     }
@@ -159,14 +125,14 @@ impl<T> PcapReader<T> {
     pub fn into_reader(self) -> T
         ensures { result ≡ stream_of self }
     {
-        self.fill.into_inner()
+        self.inner
     }
 
     /// The wrapped stream.
     pub fn get_ref(&self) -> &T
         ensures { result.now ≡ stream_of self.now }
     {
-        self.fill.get_ref()
+        &self.inner
     }
 
     /// The wrapped stream. What is read of it directly is no packet of this reader's.
@@ -174,14 +140,14 @@ impl<T> PcapReader<T> {
         ensures value { result.now ≡ stream_of self.old }
         ensures* writes_back { sem 𝓛 (Lends (reader-row T.row) T.row self.entry result (reader_with self.old)) }
     {
-        self.fill.get_mut()
+        &mut self.inner
     }
 
     /// Whether a read of the wrapped stream failed.
     pub fn failed(&self) -> bool
         ensures { result ≡ has_failed self.now }
     {
-        self.fill.failed()
+        self.has_failed
     }
 }
 
@@ -200,9 +166,9 @@ impl<T: Read + Drop> Iterator for PcapReader<T> {
         let taken = pull(
             self.alloc,
             &self.header,
-            &mut self.fill.told.inner,
-            &mut self.fill.told.has_failed,
-            &mut self.fill.held,
+            &mut self.inner,
+            &mut self.has_failed,
+            &mut self.held,
         );
         match taken {
             Ok(None) => None,

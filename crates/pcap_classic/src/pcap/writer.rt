@@ -7,13 +7,14 @@ ghost use Rattle.pcap_classic.specs.Defaults.{little_header};
 ghost use Rattle.pcap_classic.specs.LentStreams.{writer_with};
 ghost use Rattle.pcap_classic.specs.Magic.{is_magic, order_of, resolution_of};
 ghost use Rattle.pcap_classic.specs.PacketText.{captured};
-ghost use Rattle.pcap_classic.specs.Writing.{writer_of, has_failed, WritesAll, OpensWriter, WritesPacket};
+ghost use Rattle.pcap_classic.specs.Writing.{writer_of, has_failed, OpensWriter, WritesPacket};
+ghost use Rattle.pcap_core.specs.Writing.{WritesAll};
 ghost use Rattle.pcap_classic.specs.Written.{written_header, written_under, packet_header_bytes, bytes_in};
 
 use crate::pcap::{Packet, PacketHeader, PcapHeader};
-use crate::rules::Rule;
-use crate::stream::{Told, put};
-use crate::{Endianness, PcapError, ResultParsing};
+use pcap_core::rules::Rule;
+use pcap_core::stream::put;
+use pcap_core::{Endianness, PcapError, ResultParsing};
 use byteorder::{BigEndian, LittleEndian};
 use std::io::Write;
 
@@ -22,7 +23,8 @@ use std::io::Write;
 pub struct PcapWriter<W> {
     /// The header of the capture. Each packet is written in the order and resolution that its magic number tells then.
     pub header: PcapHeader,
-    told: Told<W>,
+    inner: W,
+    has_failed: bool,
 }
 
 impl<W> PcapWriter<W> {
@@ -30,14 +32,14 @@ impl<W> PcapWriter<W> {
     pub fn into_writer(self) -> W
         ensures { result ≡ writer_of self }
     {
-        self.told.into_inner()
+        self.inner
     }
 
     /// The wrapped writer.
     pub fn get_ref(&self) -> &W
         ensures { result.now ≡ writer_of self.now }
     {
-        self.told.get_ref()
+        &self.inner
     }
 
     /// The wrapped writer. What is written to it directly is no part of this writer's capture.
@@ -45,14 +47,14 @@ impl<W> PcapWriter<W> {
         ensures value { result.now ≡ writer_of self.old }
         ensures* writes_back { sem 𝓛 (Lends (writer-row W.row) W.row self.entry result (writer_with self.old)) }
     {
-        self.told.get_mut()
+        &mut self.inner
     }
 
     /// Whether a write failed. From then on every packet is refused.
     pub fn failed(&self) -> bool
         ensures { result ≡ has_failed self.now }
     {
-        self.told.failed()
+        self.has_failed
     }
 }
 
@@ -72,15 +74,19 @@ impl<W: Write + Drop> PcapWriter<W> {
     ///
     /// `InvalidField` where the magic number is none of the four: nothing is written then. `IoError` where a write
     /// failed: a beginning of the header's 24 bytes has gone out then.
-    pub fn with_header(header: PcapHeader, writer: W) -> ResultParsing<PcapWriter<W>>
+    pub fn with_header(header: PcapHeader, mut writer: W) -> ResultParsing<PcapWriter<W>>
         ensures { OpensWriter W.contents header writer result }
     {
         if !header.has_valid_magic() {
             return Err(PcapError::from(Rule::CaptureMagic));
         }
-        let mut told = Told::new(writer);
-        put_header(&mut told.inner, &mut told.has_failed, &header)?;
-        Ok(PcapWriter { header, told })
+        let mut has_failed = false;
+        put_header(&mut writer, &mut has_failed, &header)?;
+        Ok(PcapWriter {
+            header,
+            inner: writer,
+            has_failed,
+        })
     }
 }
 
@@ -112,15 +118,15 @@ impl<W: Write> PcapWriter<W> {
         ensures header { self.new.header ≡ self.old.header }
         ensures packet { WritesPacket W.contents self.old self.new (captured packet.now) result }
     {
-        if self.told.failed() {
+        if self.has_failed {
             return Err(PcapError::WriterFailed);
         }
         if !self.header.has_valid_magic() {
             return Err(PcapError::from(Rule::CaptureMagic));
         }
         put_packet(
-            &mut self.told.inner,
-            &mut self.told.has_failed,
+            &mut self.inner,
+            &mut self.has_failed,
             &self.header,
             packet,
         )

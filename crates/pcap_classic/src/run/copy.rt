@@ -1,7 +1,7 @@
 //! Copies of captures, from a reader to a writer.
 
 ghost use Rattle.std.specs.Prelude.{◌≡◌, ◌≤◌, ◌↔◌, true, IsTrue, IfSome, MatchResult};
-ghost use Rattle.pcap_classic.specs.Asked.{HoldsItem};
+ghost use Rattle.pcap_core.specs.Asked.{HoldsItem};
 ghost use Rattle.pcap_classic.specs.Copies.{CanBeUnder, IsNew, ended, CopyRun, CopyFront, CopiesBehind, WritesHeld, header_under};
 ghost use Rattle.pcap_classic.specs.Magic.{is_magic};
 ghost use Rattle.pcap_classic.specs.Packets.{reader_format};
@@ -9,9 +9,9 @@ ghost use Rattle.pcap_classic.specs.PacketText.{packet_limit};
 ghost use Rattle.pcap_classic.specs.Written.{written_under};
 
 use crate::pcap::{PcapHeader, fill_packet, put_header, put_packet, read_header, whole_packet};
-use crate::rules::Rule;
-use crate::stream::Held;
-use crate::{Endianness, PcapError, ResultParsing, TsResolution};
+use pcap_core::rules::Rule;
+use pcap_core::stream::Held;
+use pcap_core::{Endianness, PcapError, ResultParsing, TsResolution};
 use std::alloc::Global;
 use std::io::{Read, Write};
 

@@ -3,7 +3,7 @@ use Rattle.std.proofs.lemmas.Result.{err_from_is_err_and}
 use Rattle.pcap_classic.specs.declared.pcap.header.PcapHeader.{PcapHeader}
 use Rattle.pcap_classic.specs.PacketText.{captured}
 use Rattle.pcap_classic.specs.Reader.{stream_of, has_failed}
-use Rattle.pcap_classic.specs.Reading.{Takes, HasCause}
+use Rattle.pcap_core.specs.Reading.{Takes, HasCause}
 use Rattle.capcopy_run.specs.Listing.{ReaderSays}
 use Rattle.capcopy_run.proofs.Listing.{listing_more, ends_refused, ends_torn}
 use Rattle.capcopy_run.proofs.list.list_packets.Goals as goal

@@ -3,7 +3,7 @@ use Rattle.std.proofs.lemmas.List.{map-append}
 use Rattle.std.proofs.lemmas.List.Elements.{All-push}
 use Rattle.std.proofs.lemmas.Result.{err_from_is_err_and}
 use Rattle.pcap_blocks.specs.Options.{OptionText, marked, may_end_with_body}
-use Rattle.pcap_blocks.proofs.Padded.{chain_more}
+use Rattle.pcap_core.proofs.Padded.{chain_more}
 use Rattle.pcap_blocks.proofs.Options.{list_fails, list_ends, not_empty, is_empty}
 use Rattle.pcap_blocks.proofs.Refusals.{denies_more}
 use Rattle.pcap_blocks.proofs.common.options_from_slice.Goals as goal

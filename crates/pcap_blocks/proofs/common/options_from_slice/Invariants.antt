@@ -1,5 +1,5 @@
 use Rattle.std.proofs.Common.{length, map, All}
-use Rattle.pcap_blocks.specs.Padded.{Chain}
+use Rattle.pcap_core.specs.Padded.{Chain}
 use Rattle.pcap_blocks.specs.Options.{OptionText}
 use Rattle.pcap_blocks.proofs.common.options_from_slice.Given as goal
 

@@ -2,7 +2,7 @@ use Rattle.std.proofs.lemmas.List.{map-append}
 use Rattle.std.proofs.lemmas.List.Elements.{All-push}
 use Rattle.pcap_blocks.specs.Records.{RecordIsBorrowed}
 use Rattle.pcap_blocks.specs.NameResolution.{KeptText}
-use Rattle.pcap_blocks.proofs.Padded.{chain_more}
+use Rattle.pcap_core.proofs.Padded.{chain_more}
 use Rattle.pcap_blocks.proofs.NameRecords.{kept_of}
 use Rattle.pcap_blocks.proofs.name_resolution.records_from_slice.Goals as goal
 

@@ -2,7 +2,7 @@ use Rattle.std.proofs.lemmas.List.{map-append}
 use Rattle.std.proofs.lemmas.List.Elements.{All-push}
 use Rattle.std.specs.Cow.{IsBorrowedStr}
 use Rattle.pcap_blocks.specs.Names.{NameText}
-use Rattle.pcap_blocks.proofs.Padded.{chain_more}
+use Rattle.pcap_core.proofs.Padded.{chain_more}
 use Rattle.pcap_blocks.proofs.names.names_from_slice.Goals as goal
 
 pub loop-rest-preserved : goal.loop-rest-preserved

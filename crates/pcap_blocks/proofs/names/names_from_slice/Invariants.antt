@@ -1,6 +1,6 @@
 use Rattle.std.proofs.Common.{length, map, All}
 use Rattle.std.specs.Cow.{cow_str_bytes, IsBorrowedStr}
-use Rattle.pcap_blocks.specs.Padded.{Chain}
+use Rattle.pcap_core.specs.Padded.{Chain}
 use Rattle.pcap_blocks.specs.Names.{NameText}
 use Rattle.pcap_blocks.proofs.names.names_from_slice.Given as goal
 

@@ -1,5 +1,5 @@
 use Rattle.std.proofs.lemmas.List.Elements.{All-push}
-use Rattle.pcap_blocks.proofs.Kept.{zip_push, moves_on}
+use Rattle.pcap_core.proofs.Kept.{zip_push, moves_on}
 use Rattle.pcap_blocks.proofs.owned.keep_all.Goals as goal
 
 pub loop-item-preserved : goal.loop-item-preserved

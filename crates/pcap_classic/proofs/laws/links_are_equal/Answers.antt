@@ -1,7 +1,7 @@
 use Rattle.std.proofs.Common.{ap, sym, ◌∙◌}
 use Rattle.std.proofs.lemmas.Bool.{eqb-true, eq-eqb}
-use Rattle.pcap_classic.specs.Link.{key}
-use Rattle.pcap_classic.proofs.Links.{key_same}
+use Rattle.pcap_core.specs.Link.{key}
+use Rattle.pcap_core.proofs.Links.{key_same}
 use Rattle.pcap_classic.proofs.laws.links_are_equal.Goals as goal
 
 pub returns : goal.returns

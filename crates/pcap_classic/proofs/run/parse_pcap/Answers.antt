@@ -3,17 +3,17 @@ use Rattle.std.proofs.lemmas.Grind.{common_steps}
 use Rattle.std.specs.Prelude.{map}
 use Rattle.std.proofs.lemmas.List.Elements.{All-push}
 use Rattle.std.proofs.lemmas.List.{map_push}
-use Rattle.pcap_classic.specs.Bytes.{IsBorrowed}
-use Rattle.pcap_classic.specs.Answer.{number_in, whole}
+use Rattle.pcap_core.specs.Bytes.{IsBorrowed}
+use Rattle.pcap_core.specs.Answer.{number_in, whole}
 use Rattle.pcap_classic.specs.Magic.{order_of, resolution_of}
 use Rattle.pcap_classic.specs.PacketText.{packet_limit, captured}
-use Rattle.pcap_classic.specs.Format.{state_after}
+use Rattle.pcap_core.specs.Format.{state_after}
 use Rattle.pcap_classic.specs.Packets.{packet_format}
 use Rattle.pcap_classic.proofs.Texts.{packet_length, header_length}
-use Rattle.pcap_classic.proofs.Formats.{texts_push, nothing_no_text}
+use Rattle.pcap_core.proofs.Formats.{texts_push, nothing_no_text}
 use Rattle.pcap_classic.proofs.HeadedPackets.{packets_lawful}
 use Rattle.pcap_classic.proofs.Packets.{packets_say, packets_refuse}
-use Rattle.pcap_classic.proofs.Fronts.{stops}
+use Rattle.pcap_core.proofs.Fronts.{stops}
 use Rattle.pcap_classic.proofs.run.parse_pcap.Goals as goal
 
 pub loop-left-preserved : goal.loop-left-preserved

@@ -1,8 +1,8 @@
 use Rattle.std.proofs.Common.{◌≤◌, length, All}
 use Rattle.std.specs.Prelude.{map}
-use Rattle.pcap_classic.specs.Bytes.{IsBorrowed}
+use Rattle.pcap_core.specs.Bytes.{IsBorrowed}
 use Rattle.pcap_classic.specs.PacketText.{packet_limit, captured}
-use Rattle.pcap_classic.specs.Format.{Texts}
+use Rattle.pcap_core.specs.Format.{Texts}
 use Rattle.pcap_classic.specs.Packets.{format_under}
 use Rattle.pcap_classic.proofs.run.parse_pcap.Given as goal
 

@@ -2,7 +2,7 @@ use Rattle.std.proofs.Common.{arith}
 use Rattle.std.specs.Prelude.{⊤}
 use Rattle.std.proofs.lemmas.Result.{err_from_is_err_and}
 use Rattle.pcap_blocks.specs.EnhancedPacket.{short}
-use Rattle.pcap_blocks.proofs.Padded.{behind_number}
+use Rattle.pcap_core.proofs.Padded.{behind_number}
 use Rattle.pcap_blocks.proofs.StoredPackets.{enhanced_fails}
 use Rattle.pcap_blocks.proofs.Refusals.{Denies-weaker}
 use Rattle.pcap_blocks.proofs.enhanced_packet.EnhancedPacketBlock.read.Goals as goal

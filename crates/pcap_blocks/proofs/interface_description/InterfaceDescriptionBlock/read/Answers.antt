@@ -1,10 +1,10 @@
 use Rattle.std.proofs.Common.{ℕ, arith, subst}
 use Rattle.std.specs.Prelude.{⊤}
 use Rattle.std.proofs.lemmas.Result.{err_from_is_err_and}
-use Rattle.pcap_classic.specs.Link.{Link}
+use Rattle.pcap_core.specs.Link.{Link}
 use Rattle.pcap_blocks.specs.InterfaceDescription.{short}
 use Rattle.pcap_blocks.proofs.Bodies.{interface_fails}
-use Rattle.pcap_blocks.proofs.Padded.{behind_number, behind_both}
+use Rattle.pcap_core.proofs.Padded.{behind_number, behind_both}
 use Rattle.pcap_blocks.proofs.Refusals.{Denies-weaker}
 use Rattle.pcap_blocks.proofs.interface_description.InterfaceDescriptionBlock.read.Goals as goal
 

@@ -2,7 +2,7 @@ use Rattle.std.proofs.Common.{arith}
 use Rattle.std.specs.Prelude.{⊤}
 use Rattle.std.proofs.lemmas.Result.{err_from_is_err_and}
 use Rattle.pcap_blocks.specs.InterfaceStatistics.{short}
-use Rattle.pcap_blocks.proofs.Padded.{behind_number, behind_both}
+use Rattle.pcap_core.proofs.Padded.{behind_number, behind_both}
 use Rattle.pcap_blocks.proofs.StoredPackets.{behind_time, statistics_fails}
 use Rattle.pcap_blocks.proofs.Refusals.{Denies-weaker}
 use Rattle.pcap_blocks.proofs.interface_statistics.InterfaceStatisticsBlock.read.Goals as goal

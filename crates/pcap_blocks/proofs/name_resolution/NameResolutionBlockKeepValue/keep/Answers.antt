@@ -1,7 +1,7 @@
 use Rattle.std.proofs.Common.{refl}
 use Rattle.pcap_blocks.specs.Records.{name_record_of}
 use Rattle.pcap_blocks.specs.NameResolution.{name_entry}
-use Rattle.pcap_blocks.proofs.Kept.{map_kept}
+use Rattle.pcap_core.proofs.Kept.{map_kept}
 use Rattle.pcap_blocks.proofs.name_resolution.NameResolutionBlockKeepValue.keep.Goals as goal
 
 pub returns-clause-same : goal.returns-clause-same

@@ -1,6 +1,6 @@
 use Rattle.std.proofs.Common.{refl}
 use Rattle.pcap_blocks.specs.PacketBody.{packet_entry}
-use Rattle.pcap_blocks.proofs.Kept.{map_kept}
+use Rattle.pcap_core.proofs.Kept.{map_kept}
 use Rattle.pcap_blocks.proofs.packet.PacketBlockKeepValue.keep.Goals as goal
 
 pub returns-clause-same : goal.returns-clause-same

@@ -1,6 +1,6 @@
 use Rattle.std.proofs.Common.{refl}
 use Rattle.std.specs.Cow.{cow_str_bytes}
-use Rattle.pcap_blocks.proofs.Kept.{map_kept}
+use Rattle.pcap_core.proofs.Kept.{map_kept}
 use Rattle.pcap_blocks.proofs.record.Ipv4RecordKeepValue.keep.Goals as goal
 
 pub returns-clause-same : goal.returns-clause-same

@@ -4,7 +4,7 @@ use Rattle.std.specs.Int.{w64}
 use Rattle.std.proofs.lemmas.Int.{to_z-of_z}
 use Rattle.std.proofs.lemmas.Result.{err_from_is_err_and}
 use Rattle.pcap_blocks.proofs.Bodies.{after_magic_fails}
-use Rattle.pcap_blocks.proofs.Padded.{behind_number, behind_both}
+use Rattle.pcap_core.proofs.Padded.{behind_number, behind_both}
 use Rattle.pcap_blocks.proofs.Refusals.{Denies-weaker}
 use Rattle.pcap_blocks.proofs.section_header.SectionHeaderBlock.read_after.Goals as goal
 

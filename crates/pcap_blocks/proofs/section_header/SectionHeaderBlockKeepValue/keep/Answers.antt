@@ -3,7 +3,7 @@ use Rattle.std.specs.Prelude.{FitsSigned}
 use Rattle.std.proofs.lemmas.Int.{to_z-of_z}
 use Rattle.std.specs.Int.{w64}
 use Rattle.pcap_blocks.specs.SectionHeader.{section_entry}
-use Rattle.pcap_blocks.proofs.Kept.{map_kept}
+use Rattle.pcap_core.proofs.Kept.{map_kept}
 use Rattle.pcap_blocks.proofs.section_header.SectionHeaderBlockKeepValue.keep.Goals as goal
 
 pub returns-clause-same : goal.returns-clause-same

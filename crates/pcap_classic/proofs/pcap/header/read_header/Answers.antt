@@ -1,13 +1,13 @@
 use Rattle.std.proofs.Common.{◌≡◌, ◌∙◌, List, ℕ, [], length, arith, subst}
 use Rattle.std.proofs.lemmas.Result.{err_from_is_err_and}
 use Rattle.std.proofs.lemmas.List.{nil_from_length}
-use Rattle.pcap_classic.specs.Answer.{faulty}
-use Rattle.pcap_classic.specs.Faults.{Shows}
+use Rattle.pcap_core.specs.Answer.{faulty}
+use Rattle.pcap_core.specs.Faults.{Shows}
 use Rattle.pcap_classic.specs.HeaderText.{HeaderSays, HeaderText, LacksHeader}
-use Rattle.pcap_classic.proofs.Refusals.{refuses_shows}
+use Rattle.pcap_core.proofs.Refusals.{refuses_shows}
 use Rattle.pcap_classic.proofs.Texts.{header_length}
 use Rattle.pcap_classic.proofs.Stable.{header_stable}
-use Rattle.pcap_classic.proofs.Pulling.{array_told, array_refused}
+use Rattle.pcap_core.proofs.Pulling.{array_told, array_refused}
 use Rattle.pcap_classic.proofs.pcap.header.read_header.Goals as goal
 
 pub returns : goal.returns

@@ -1,10 +1,10 @@
 use Rattle.std.proofs.Common.{List, ℕ, [], subst}
-use Rattle.pcap_classic.specs.Answer.{number_in, whole}
+use Rattle.pcap_core.specs.Answer.{number_in, whole}
 use Rattle.pcap_classic.specs.Magic.{order_of, resolution_of}
 use Rattle.pcap_classic.specs.PacketText.{packet_limit, captured}
 use Rattle.pcap_classic.specs.Packets.{reader_format, packet_format}
-use Rattle.pcap_classic.proofs.Formats.{text_same}
-use Rattle.pcap_classic.proofs.Fronts.{whole_not_refused}
+use Rattle.pcap_core.proofs.Formats.{text_same}
+use Rattle.pcap_core.proofs.Fronts.{whole_not_refused}
 use Rattle.pcap_classic.proofs.HeadedPackets.{packets_lawful}
 use Rattle.pcap_classic.proofs.Packets.{reader_whole, reader_says, reader_lawful, packets_refuse}
 use Rattle.pcap_classic.proofs.pcap.reader.whole_packet.Goals as goal

@@ -1,6 +1,6 @@
 use Rattle.std.proofs.Common.{◌≡◌, sym, ◌∙◌}
 use Rattle.pcap_classic.specs.Magic.{order_of}
-use Rattle.pcap_classic.specs.declared.common.Endianness.TheVariants.{Big, Little}
+use Rattle.pcap_core.specs.declared.common.Endianness.TheVariants.{Big, Little}
 use Rattle.pcap_classic.proofs.pcap.writer.put_header.Goals as goal
 
 pub returns-in-Big-clause-out : goal.returns-in-Big-clause-out

@@ -2,10 +2,10 @@ use Rattle.std.proofs.Common.{◌∙◌, sym, arith, refl, inl, inr, subst, []}
 use Rattle.std.proofs.lemmas.Result.{err_from_is_err_and}
 use Rattle.std.proofs.KnownBytes.{Keeps-refl}
 use Rattle.pcap_classic.specs.Copies.{Copying}
-use Rattle.pcap_classic.specs.Held.{held_bytes}
-use Rattle.pcap_classic.specs.Format.{Format}
+use Rattle.pcap_core.specs.Held.{held_bytes}
+use Rattle.pcap_core.specs.Format.{Format}
 use Rattle.pcap_classic.specs.PacketText.{Captured, packet_limit}
-use Rattle.pcap_classic.specs.Reading.{HasCause, TakesAsked}
+use Rattle.pcap_core.specs.Reading.{HasCause, TakesAsked}
 use Rattle.pcap_classic.proofs.Copied.{copying_none, copying_more, torn_write}
 use Rattle.pcap_classic.proofs.Captures.{under_valid}
 use Rattle.pcap_classic.proofs.Packets.{reader_whole}

@@ -1,6 +1,6 @@
 use Rattle.std.proofs.Common.{◌≡◌, ◌≤◌, ◌-◌, [], false}
 use Rattle.pcap_classic.specs.Copies.{Copying}
-use Rattle.pcap_classic.specs.Held.{held_bytes}
+use Rattle.pcap_core.specs.Held.{held_bytes}
 use Rattle.pcap_classic.proofs.run.copy.copy_packets.Given as goal
 
 abbrev pub invariant-loop-copied : goal.invariant-loop-copied

@@ -2,7 +2,7 @@ use Rattle.std.proofs.Common.{◌≡◌, ℕ, List, ◌++◌, length, refl, ap, 
 use Rattle.std.specs.Int.{w32, cast_unsigned}
 use Rattle.std.proofs.lemmas.Int.{to_z-of_z}
 use Rattle.byteorder.specs.Endian.{big_bytes}
-use Rattle.pcap_classic.proofs.Filling.{filled_first, filled_next, filled_whole, seven}
+use Rattle.pcap_core.proofs.Filling.{filled_first, filled_next, filled_whole, seven}
 use Rattle.pcap_classic.proofs.pcap.header.PcapHeader.to_bytes.Goals as goal
 
 pub returns : goal.returns

@@ -1,11 +1,11 @@
 use Rattle.std.proofs.Common.{◌≡◌, length, arith, inr}
 use Rattle.std.proofs.lemmas.Result.{err_from_is_err_and}
-use Rattle.pcap_classic.specs.Answer.{faulty}
-use Rattle.pcap_classic.specs.Faults.{Shows}
+use Rattle.pcap_core.specs.Answer.{faulty}
+use Rattle.pcap_core.specs.Faults.{Shows}
 use Rattle.pcap_classic.specs.PacketText.{packet_limit, PacketHeaderSays, LacksHead}
-use Rattle.pcap_classic.proofs.Refusals.{refuses_shows}
+use Rattle.pcap_core.proofs.Refusals.{refuses_shows}
 use Rattle.pcap_classic.proofs.Stable.{packet_header_stable}
-use Rattle.pcap_classic.proofs.Pulling.{asked_shows}
+use Rattle.pcap_core.proofs.Pulling.{asked_shows}
 use Rattle.pcap_classic.proofs.pcap.packet.PacketHeader.from_reader.Goals as goal
 
 pub returns-in_err-header : goal.returns-in_err-header

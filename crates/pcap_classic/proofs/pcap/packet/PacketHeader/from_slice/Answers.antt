@@ -1,6 +1,6 @@
-use Rattle.pcap_classic.specs.Faults.{Invalid}
+use Rattle.pcap_core.specs.Faults.{Invalid}
 use Rattle.pcap_classic.specs.PacketText.{packet_limit, PacketHeaderSays, HasHeadFault}
-use Rattle.pcap_classic.proofs.Refusals.{named_tells}
+use Rattle.pcap_core.proofs.Refusals.{named_tells}
 use Rattle.pcap_classic.proofs.pcap.packet.PacketHeader.from_slice.Goals as goal
 
 pub returns-in_err-header : goal.returns-in_err-header

@@ -1,5 +1,5 @@
 use Rattle.std.proofs.Common.{◌≡◌, ℕ, ◌++◌, length, refl, ap, ◌∙◌}
-use Rattle.pcap_classic.proofs.Filling.{filled_first, filled_next, filled_whole, four}
+use Rattle.pcap_core.proofs.Filling.{filled_first, filled_next, filled_whole, four}
 use Rattle.pcap_classic.proofs.pcap.packet.PacketHeader.to_bytes.Goals as goal
 
 pub returns : goal.returns

@@ -1,0 +1,86 @@
+-- What a packet's header states.
+use Rattle.std.proofs.Common.{◌≡◌, ◌<◌, ◌+◌, ℕ, List, [], ◌∷◌, ◌++◌, length, drop, Bool, true, false, refl, sym, ap, subst, ◌∙◌, arith, append-nil, inl, inr, Option, Some, None, Result, Ok, Err}
+use Rattle.std.proofs.lemmas.List.{drop_at}
+use Rattle.pcap_core.specs.declared.errors.PcapError.{PcapError}
+use Rattle.pcap_classic.specs.declared.pcap.header.PcapHeader.{PcapHeader}
+use Rattle.pcap_classic.specs.declared.pcap.packet.PacketHeader.{PacketHeader}
+use Rattle.pcap_core.specs.Answer.{Order, number_in, Verdict, whole, lacks, faulty, Refuses}
+use Rattle.pcap_core.specs.Faults.{Fault, Shows}
+use Rattle.pcap_core.specs.Format.{Format}
+use Rattle.pcap_classic.specs.Magic.{is_magic, order_of, resolution_of}
+use Rattle.pcap_classic.specs.PacketText.{packet_limit, Captured, PacketHeaderText, PacketText, PacketHeaderSays, LacksHead, HasHeadFault, PacketSays}
+use Rattle.std.specs.Prelude.{is_some}
+use Rattle.pcap_core.specs.Asked.{FillsItem}
+use Rattle.pcap_core.specs.Reading.{Pulls}
+use Rattle.pcap_classic.specs.Packets.{packet_format, chosen, reader_format}
+use Rattle.pcap_classic.proofs.Packets.{reader_says}
+use Rattle.pcap_core.proofs.Refusals.{refuses_shows, shows_more}
+use Rattle.pcap_classic.proofs.Stable.{packet_header_more}
+use Rattle.pcap_core.specs.Filling.{Stated, FillsHeaded}
+use Rattle.pcap_classic.specs.StatedPackets.{KnowsHeader, shown_in}
+
+chosen_head : (b : Bool) (f g : Format (Unit {0}) Captured) → b ≡ true → (chosen b f g).head ≡ f.head
+chosen_head true f g e = refl
+chosen_head false f g e = absurd cc
+
+pub reader_head : (header : PcapHeader) → is_magic header.magic_number ≡ true → (reader_format packet_limit header).head ≡ 16
+unfolding reader_format packet_format
+reader_head header valid = chosen_head (is_magic header.magic_number) _ _ valid
+
+pub no_bytes : (l : List ℕ) → length l ≡ 0 → l ≡ []
+no_bytes [] e = refl
+no_bytes (b ∷ l) e = absurd (omega (arith, e))
+
+-- a header that is known, and the data behind it, are a packet
+pub packet_stands : (header : PcapHeader) (head : PacketHeader) (n : ℕ) (front body s : List ℕ) → KnowsHeader header head n front → s ≡ front ++ body → length body ≡ n
+    → (reader_format packet_limit header).says tt s (whole (record { header = head; bytes = body }) [])
+packet_stands header head n front body s k split count =
+    let order = number_in (order_of header.magic_number) in
+    let r = resolution_of header.magic_number in
+    let more : PacketHeaderText packet_limit order r head (front ++ body) body = packet_header_more body packet_limit order r head front [] k.text in
+    let text : PacketText packet_limit order r (record { header = head; bytes = body }) s [] = record {
+      after = body;
+      header = subst (λ (l : List ℕ). PacketHeaderText packet_limit order r head l body) (sym split) more;
+      data_is = sym (append-nil body);
+      whole = count ∙ sym k.follows;
+    } in
+    reader_says packet_limit header s (whole (record { header = head; bytes = body }) []) k.valid text
+
+-- a header that is known lacks its data
+pub packet_lacks : (header : PcapHeader) (head : PacketHeader) (n : ℕ) (s : List ℕ) → KnowsHeader header head n s → 0 < n → (reader_format packet_limit header).says tt s (lacks n)
+packet_lacks header head n s k some =
+    reader_says packet_limit header s (lacks n) k.valid (inr (record { header = head; after = []; text = k.text; some = some; missing = omega (arith, k.follows) }))
+
+-- sixteen bytes that are no good header are refused
+pub header_refused : (header : PcapHeader) (s : List ℕ) (e : PcapError) → is_magic header.magic_number ≡ true → length s ≡ 16
+    → Refuses ⊥ (λ n. LacksHead s n) (HasHeadFault packet_limit (number_in (order_of header.magic_number)) (resolution_of header.magic_number) s) e
+    → Shows (λ fault. (reader_format packet_limit header).says tt s (faulty fault)) e
+header_refused header s e valid long refuses =
+    let order = number_in (order_of header.magic_number) in
+    let r = resolution_of header.magic_number in
+    let step : (fault : Fault) → HasHeadFault packet_limit order r s fault → (reader_format packet_limit header).says tt s (faulty fault) = λ fault x. reader_says packet_limit header s (faulty fault) valid x in
+    shows_more step e (refuses_shows (λ n. LacksHead s n) (HasHeadFault packet_limit order r s) e (λ n lack. omega (arith, long, lack.some, lack.missing)) refuses)
+
+-- the packet that held bytes show
+pub shown_stands : (header : PcapHeader) (head : PacketHeader) (s : List ℕ) → Stated (KnowsHeader header) (reader_format packet_limit header).head head s
+    → (reader_format packet_limit header).says tt s (whole (record { header = head; bytes = drop 16 s }) [])
+shown_stands header head s t =
+    let long : length t.front ≡ 16 = t.length_is ∙ reader_head header t.knows.valid in
+    let back : drop 16 s ≡ t.body = ap (drop 16) t.split ∙ drop_at t.front t.body 16 long in
+    subst (λ (l : List ℕ). (reader_format packet_limit header).says tt s (whole (record { header = head; bytes = l }) [])) (sym back)
+    (packet_stands header head (length t.body) t.front t.body s t.knows t.split refl)
+
+-- what was filled with was taken
+pub pulls_headed : (header : PcapHeader) (before after : Option (List ℕ)) (held : List ℕ) (failed : Bool) (result : Result (Option PacketHeader) PcapError)
+    → FillsHeaded ((reader_format packet_limit header).says tt) (KnowsHeader header) (reader_format packet_limit header).head before after held failed result
+    → Pulls ((reader_format packet_limit header).says tt) (shown_in held) before after failed result
+pulls_headed header before after held failed (Ok (Some head)) x = (x.0, (held, shown_stands header head held x.1, x.4))
+pulls_headed header before after held failed (Ok None) x = (x.0, x.2, x.3)
+pulls_headed header before after held failed (Err e) x = x
+
+-- what was filled with is an item
+pub fills_item : (header : PcapHeader) (before after : Option (List ℕ)) (held : List ℕ) (failed : Bool) (known : Option PacketHeader)
+    → FillsHeaded ((reader_format packet_limit header).says tt) (KnowsHeader header) (reader_format packet_limit header).head before after held failed (Ok known)
+    → FillsItem ((reader_format packet_limit header).says tt) before after held failed (Ok (is_some known))
+fills_item header before after held failed (Some head) x = (x.0, (shown_in held head, shown_stands header head held x.1), x.4)
+fills_item header before after held failed None x = x

@@ -1,0 +1,17 @@
+-- What is known of a packet once its header is read.
+use Rattle.std.specs.Prelude.{◌≡◌, ℕ, List, [], drop, Bool, true}
+use Rattle.pcap_classic.specs.declared.pcap.header.PcapHeader.{PcapHeader}
+use Rattle.pcap_classic.specs.declared.pcap.packet.PacketHeader.{PacketHeader}
+use Rattle.pcap_core.specs.Answer.{number_in}
+use Rattle.pcap_classic.specs.Magic.{is_magic, order_of, resolution_of}
+use Rattle.pcap_classic.specs.PacketText.{packet_limit, Captured, PacketHeaderText}
+
+-- the bytes are this header's text, which says that n bytes follow it
+pub record KnowsHeader (header : PcapHeader) (head : PacketHeader) (n : ℕ) (bytes : List ℕ) : Type 0 where
+  pub valid : is_magic header.magic_number ≡ true
+  pub text : PacketHeaderText packet_limit (number_in (order_of header.magic_number)) (resolution_of header.magic_number) head bytes []
+  pub follows : head.incl_len ≡ n
+
+-- the packet of this header whose header and data these bytes are
+abbrev pub shown_in : List ℕ → PacketHeader → Captured
+shown_in s head = record { header = head; bytes = drop 16 s }

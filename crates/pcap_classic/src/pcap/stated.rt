@@ -1,0 +1,80 @@
+//! Packets as items with a head.
+
+ghost use Rattle.std.specs.Prelude.{◌≡◌, false, [], length, IsTrue, OnOk};
+ghost use Rattle.pcap_core.specs.Answer.{Tells, number_in, whole};
+ghost use Rattle.pcap_core.specs.Fill.{held_of, source_of, has_failed};
+ghost use Rattle.pcap_classic.specs.Magic.{is_magic, order_of, resolution_of};
+ghost use Rattle.pcap_classic.specs.Packets.{reader_format};
+ghost use Rattle.pcap_classic.specs.PacketText.{packet_limit, captured, PacketHeaderSays};
+ghost use Rattle.pcap_core.specs.Reading.{Pulls};
+ghost use Rattle.pcap_core.specs.Filling.{Stated};
+ghost use Rattle.pcap_classic.specs.StatedPackets.{KnowsHeader};
+
+use byteorder::{BigEndian, LittleEndian};
+use crate::pcap::{Packet, PacketHeader, PcapHeader};
+use pcap_core::rules::Rule;
+use pcap_core::stream::HasHead;
+use pcap_core::{CowBytes, Endianness, PcapError, ResultParsing};
+
+/// The packets behind a header, as it stands.
+#[derive(Clone, Copy)]
+pub(crate) struct PacketsUnder<'a> {
+    pub(crate) header: &'a PcapHeader,
+}
+
+// The packet's header at the front of a slice, and what follows it.
+fn header_under<'a>(
+    header: &PcapHeader,
+    slice: &'a [u8],
+) -> ResultParsing<(&'a [u8], PacketHeader)>
+    requires { IsTrue (is_magic header.now.magic_number) }
+    ensures tells { let magic = header.now.magic_number in
+        Tells (PacketHeaderSays packet_limit (number_in (order_of magic)) (resolution_of magic) slice.now) (λ head. head) result }
+{
+    let ts_resolution = header.ts_resolution();
+    match header.endianness() {
+        Endianness::Big => PacketHeader::from_slice::<BigEndian>(slice, ts_resolution),
+        Endianness::Little => PacketHeader::from_slice::<LittleEndian>(slice, ts_resolution),
+    }
+}
+
+impl HasHead for PacketsUnder<'_> {
+    ghost use Rattle.pcap_classic.specs.PacketText.{Captured};
+
+    type Head = PacketHeader;
+
+    ghost State = { Unit {0} };
+
+    ghost Value = { Captured };
+
+    ghost format = { λ packets. reader_format packet_limit packets.header.now };
+
+    ghost state = { λ packets. tt };
+
+    ghost knows = { λ packets head n bytes. KnowsHeader packets.header.now head n bytes };
+
+    #[tactic(auto, unfolding(crate::specs::Packets::packet_format, crate::specs::Packets::refusing_format, crate::specs::Packets::reader_format))]
+    fn head(&self) -> usize {
+        if self.header.has_valid_magic() { 16 } else { 1 }
+    }
+
+    fn stated(&self, bytes: &[u8]) -> ResultParsing<(PacketHeader, usize)> {
+        if !self.header.has_valid_magic() {
+            return Err(PcapError::from(Rule::CaptureMagic));
+        }
+        let (_, head) = header_under(self.header, bytes)?;
+        Ok((head, head.incl_len as usize))
+    }
+}
+
+// The packet of this header that the bytes are, lent from them.
+pub(crate) fn packet_of<'a>(header: &PcapHeader, head: PacketHeader, bytes: &'a [u8]) -> Packet<'a>
+    requires { Stated (KnowsHeader header.now) (reader_format packet_limit header.now).head head bytes.now }
+    ensures { (reader_format packet_limit header.now).says tt bytes.now (whole (captured result) []) }
+{
+    let (_front, data) = bytes.split_at(16);
+    Packet {
+        header: head,
+        data_: CowBytes::Borrowed(data),
+    }
+}

@@ -1,0 +1,35 @@
+-- Where a run over a slice stops.
+use Rattle.std.proofs.Common.{◌<◌, length, ℕ, List}
+use Rattle.pcap_core.specs.Faults.{Invalid, Io, NoText}
+use Rattle.pcap_core.specs.declared.errors.PcapError.{PcapError}
+use Rattle.pcap_core.specs.declared.errors.PcapError.TheVariants as errors
+use Rattle.pcap_core.specs.Answer.{whole, lacks, faulty, Refuses}
+use Rattle.pcap_core.specs.Format.{Format, IsLawful}
+use Rattle.pcap_core.specs.Run.{IsRest, rest_after}
+use Rattle.pcap_core.proofs.Formats.{lacks_no_text, fault_no_text}
+
+-- where an item is refused, that is what is said of the rest, and no item begins it
+pub record Stops {S V : Type 0} (f : Format S V) (q : S) (left : List ℕ) (e : PcapError) : Type 0 where
+  pub rest : IsRest (f.says q) left (rest_after e)
+  pub longest : (v : V) (after : List ℕ) → f.says q left (whole v after) → ⊥
+
+pub stops : {S V : Type 0} (f : Format S V) → IsLawful f → (q : S) (left : List ℕ) (e : PcapError) → 0 < length left
+    → Refuses ⊥ (λ n. f.says q left (lacks n)) (λ fault. f.says q left (faulty fault)) e → Stops f q left e
+stops f laws q left (errors.IncompleteBuffer n) some h = record { rest = (h, some); longest = lacks_no_text f laws q n left h }
+stops f laws q left (errors.InvalidField text) some h = record { rest = h; longest = fault_no_text f laws q (Invalid h.0) left h.2 }
+stops f laws q left (errors.IoError e) some h = record { rest = h; longest = fault_no_text f laws q Io left h }
+stops f laws q left (errors.Utf8Error e) some h = record { rest = h; longest = fault_no_text f laws q NoText left h }
+stops f laws q left (errors.FromUtf8Error e) some h = absurd h
+stops f laws q left (errors.OutOfMemory e) some h = absurd h
+stops f laws q left errors.WriterFailed some h = absurd h
+
+-- bytes that an item's text begins are not refused
+pub whole_not_refused : {S V : Type 0} (f : Format S V) → IsLawful f → (q : S) (s : List ℕ) (v : V) (rest : List ℕ) → f.says q s (whole v rest)
+    → (e : PcapError) → Refuses ⊥ (λ n. f.says q s (lacks n)) (λ fault. f.says q s (faulty fault)) e → ⊥
+whole_not_refused f laws q s v rest text (errors.IncompleteBuffer n) h = lacks_no_text f laws q n s h v rest text
+whole_not_refused f laws q s v rest text (errors.InvalidField t) h = fault_no_text f laws q (Invalid h.0) s h.2 v rest text
+whole_not_refused f laws q s v rest text (errors.IoError e) h = fault_no_text f laws q Io s h v rest text
+whole_not_refused f laws q s v rest text (errors.Utf8Error e) h = fault_no_text f laws q NoText s h v rest text
+whole_not_refused f laws q s v rest text (errors.FromUtf8Error e) h = h
+whole_not_refused f laws q s v rest text (errors.OutOfMemory e) h = h
+whole_not_refused f laws q s v rest text errors.WriterFailed h = h

@@ -1,0 +1,53 @@
+-- The error that names a broken rule refuses the bytes that break it.
+use Rattle.std.proofs.Common.{ℕ, List, Result, Ok, Err}
+use Rattle.std.specs.Borrow.{Bor}
+use Rattle.std.specs.Result.{IsErrAnd}
+use Rattle.pcap_core.specs.declared.errors.PcapError.{PcapError}
+use Rattle.pcap_core.specs.declared.errors.PcapError.TheVariants as errors
+use Rattle.pcap_core.specs.declared.rules.Rule.{Rule}
+use Rattle.pcap_core.specs.Answer.{Verdict, lacks, faulty, Refuses, TellsWhere}
+use Rattle.pcap_core.specs.Faults.{Fault, Invalid, Io, NoText, Names, Shows}
+
+pub named_refuses : (M : Type 0) (L : ℕ → Type 0) (F : Fault → Type 0) (rule : Rule) (e : PcapError) → F (Invalid rule) → Names rule e → Refuses M L F e
+named_refuses M L F rule (errors.InvalidField text) stands named = (rule, named, stands)
+named_refuses M L F rule (errors.IncompleteBuffer n) stands named = absurd named
+named_refuses M L F rule (errors.IoError e) stands named = absurd named
+named_refuses M L F rule (errors.Utf8Error e) stands named = absurd named
+named_refuses M L F rule (errors.FromUtf8Error e) stands named = absurd named
+named_refuses M L F rule (errors.OutOfMemory e) stands named = absurd named
+named_refuses M L F rule errors.WriterFailed stands named = absurd named
+
+-- the same of a result that `?` gives
+pub named_tells : {X V : Type 0} (M : Type 0) (IsSaid : Verdict V → Type 0) (view : X → V) (rule : Rule) (result : Result (Bor (List ℕ) × X) PcapError)
+    → IsSaid (faulty (Invalid rule)) → IsErrAnd result (Names rule) → TellsWhere M IsSaid view result
+named_tells M IsSaid view rule (Err e) stands named = named_refuses M (λ n. IsSaid (lacks n)) (λ fault. IsSaid (faulty fault)) rule e stands named
+named_tells M IsSaid view rule (Ok x) stands named = absurd named
+
+-- the error shows what follows from the fault that it shows
+pub shows_more : {P Q : Fault → Type 0} → ((fault : Fault) → P fault → Q fault) → (e : PcapError) → Shows P e → Shows Q e
+shows_more step (errors.InvalidField text) shown = (shown.0, shown.1, step (Invalid shown.0) shown.2)
+shows_more step (errors.IoError e) shown = step Io shown
+shows_more step (errors.Utf8Error e) shown = step NoText shown
+shows_more step (errors.IncompleteBuffer n) shown = absurd shown
+shows_more step (errors.FromUtf8Error e) shown = absurd shown
+shows_more step (errors.OutOfMemory e) shown = absurd shown
+shows_more step errors.WriterFailed shown = absurd shown
+
+pub named_shows : (Stands : Fault → Type 0) (rule : Rule) (e : PcapError) → Stands (Invalid rule) → Names rule e → Shows Stands e
+named_shows Stands rule (errors.InvalidField text) stands named = (rule, named, stands)
+named_shows Stands rule (errors.IncompleteBuffer n) stands named = absurd named
+named_shows Stands rule (errors.IoError e) stands named = absurd named
+named_shows Stands rule (errors.Utf8Error e) stands named = absurd named
+named_shows Stands rule (errors.FromUtf8Error e) stands named = absurd named
+named_shows Stands rule (errors.OutOfMemory e) stands named = absurd named
+named_shows Stands rule errors.WriterFailed stands named = absurd named
+
+-- where no bytes can lack, a refusal shows a fault
+pub refuses_shows : (L : ℕ → Type 0) (F : Fault → Type 0) (e : PcapError) → ((n : ℕ) → L n → ⊥) → Refuses ⊥ L F e → Shows F e
+refuses_shows L F (errors.InvalidField text) none refuses = refuses
+refuses_shows L F (errors.IoError e) none refuses = refuses
+refuses_shows L F (errors.Utf8Error e) none refuses = refuses
+refuses_shows L F (errors.IncompleteBuffer n) none refuses = absurd (none n refuses)
+refuses_shows L F (errors.FromUtf8Error e) none refuses = refuses
+refuses_shows L F (errors.OutOfMemory e) none refuses = refuses
+refuses_shows L F errors.WriterFailed none refuses = refuses

@@ -1,0 +1,64 @@
+-- Formats whose items have a head of a fixed length, which says how long the item is.
+use Rattle.std.specs.Prelude.{◌≡◌, ◌<◌, ◌+◌, ◌⊎◌, ℕ, List, ◌++◌, length}
+use Rattle.pcap_core.specs.Answer.{Verdict, whole, lacks, faulty}
+use Rattle.pcap_core.specs.Faults.{Fault}
+use Rattle.pcap_core.specs.Laws.{ExactlyOne}
+use Rattle.pcap_core.specs.Format.{Format}
+
+-- s is n bytes of which this is said, and then rest
+pub record Piece (n : ℕ) (P : List ℕ → Type 0) (s rest : List ℕ) : Type 0 where
+  pub bytes : List ℕ
+  pub text : s ≡ bytes ++ rest
+  pub length_is : length bytes ≡ n
+  pub holds : P bytes
+
+-- what is said of bytes whose length is known: a value, or a fault
+pub data Reading (X : Type 0) : Type 0 where
+  good : X → Reading X
+  bad : Fault → Reading X
+
+-- a format whose items have a head that states how many bytes follow it
+pub record Headed (S X V : Type 0) : Type 1 where
+  pub head : ℕ
+  -- what is said of a head, how many bytes follow one, what is said of these, and where the item leads
+  pub reads : S → List ℕ → Reading X → Type 0
+  pub size : X → ℕ
+  pub means : S → X → List ℕ → Reading V → Type 0
+  pub goes : S → V → S
+
+module _ {S X V : Type 0} (g : Headed S X V) where
+  abbrev pub HasHead : S → Reading X → List ℕ → List ℕ → Type 0
+  HasHead q h s after = Piece g.head (λ b. g.reads q b h) s after
+
+  abbrev pub HasBody : S → X → Reading V → List ℕ → List ℕ → Type 0
+  HasBody q x m s rest = Piece (g.size x) (λ b. g.means q x b m) s rest
+
+  -- of bytes that are shorter than a head
+  abbrev pub ShortSays : List ℕ → Verdict V → Type 0
+  ShortSays s (lacks n) = (0 < n) × (length s + n ≡ g.head)
+  ShortSays s (whole v rest) = ⊥
+  ShortSays s (faulty fault) = ⊥
+
+  -- where a bad head stands
+  abbrev pub BadSays : S → List ℕ → Verdict V → Type 0
+  BadSays q s (faulty fault) = (after : List ℕ) × HasHead q (bad fault) s after
+  BadSays q s (lacks n) = ⊥
+  BadSays q s (whole v rest) = ⊥
+
+  -- of the bytes behind a good head
+  abbrev pub BehindSays : S → X → List ℕ → Verdict V → Type 0
+  BehindSays q x s (whole v rest) = HasBody q x (good v) s rest
+  BehindSays q x s (lacks n) = (0 < n) × (length s + n ≡ g.size x)
+  BehindSays q x s (faulty fault) = (rest : List ℕ) × HasBody q x (bad fault) s rest
+
+  abbrev pub HeadedSays : S → List ℕ → Verdict V → Type 0
+  HeadedSays q s v = ShortSays s v ⊎ BadSays q s v ⊎ ((x : X) × (after : List ℕ) × HasHead q (good x) s after × BehindSays q x after v)
+
+  abbrev pub headed : Format S V
+  headed = record { says = HeadedSays; goes = g.goes; head = g.head }
+
+  -- What has to be shown: of bytes of the right length exactly one thing is said.
+  pub record IsHeaded : Type 0 where
+    pub some : 0 < g.head
+    pub heads : (q : S) (b : List ℕ) → length b ≡ g.head → ExactlyOne (g.reads q b)
+    pub bodies : (q : S) (x : X) (b : List ℕ) → length b ≡ g.size x → ExactlyOne (g.means q x b)

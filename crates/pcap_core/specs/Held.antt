@@ -1,0 +1,7 @@
+-- Bytes that came from a stream and are held.
+use Rattle.std.specs.Prelude.{ℕ, List, take}
+use Rattle.pcap_core.specs.declared.stream.held.Held.{Held}
+
+-- the bytes that are held
+abbrev pub held_bytes : Held → List ℕ
+held_bytes h = take h.len h.room.items

@@ -1,0 +1,89 @@
+//! Why a capture could not be read or written.
+
+ghost use Rattle.std.specs.Prelude.{◌≡◌, alloc_error};
+ghost use Rattle.pcap_core.specs.Faults.{Names};
+ghost use Rattle.pcap_core.specs.declared.errors.PcapError.TheVariants as errors;
+
+use crate::rules::Rule;
+use std::alloc::{AllocError, AllocFailed};
+use std::io;
+use std::str::Utf8Error;
+use std::string::FromUtf8Error;
+use thiserror::Error;
+
+/// A value, or why there is none.
+pub type ResultParsing<T> = Result<T, PcapError>;
+
+/// Why a capture could not be read or written.
+#[derive(Debug, Drop, Error)]
+pub enum PcapError {
+    /// The slice holds a beginning of what is asked for: so many bytes are missing, at least.
+    #[error("Need at least {0} more bytes")]
+    IncompleteBuffer(usize),
+    /// A read or write failed, a stream ended early, or a value inside a body is too short.
+    #[error("Error reading bytes")]
+    IoError(io::Error),
+    /// The bytes break a rule of the format: the text names it.
+    #[error("Invalid field value: {0}")]
+    InvalidField(&'static str),
+    /// A text isn't UTF-8.
+    #[error("UTF8 error")]
+    Utf8Error(Utf8Error),
+    /// Kept from the Rust crate. No call of this crate answers it.
+    #[error("UTF8 error")]
+    FromUtf8Error(FromUtf8Error),
+    /// A growth was refused.
+    #[error("Out of memory")]
+    OutOfMemory(AllocError),
+    /// An earlier write of this writer failed.
+    #[error("Writer failed earlier")]
+    WriterFailed,
+}
+
+impl From<io::Error> for PcapError {
+    ghost from_gives = { λ e r. r ≡ errors.IoError e };
+
+    fn from(e: io::Error) -> PcapError {
+        PcapError::IoError(e)
+    }
+}
+
+impl From<Utf8Error> for PcapError {
+    ghost from_gives = { λ e r. r ≡ errors.Utf8Error e };
+
+    fn from(e: Utf8Error) -> PcapError {
+        PcapError::Utf8Error(e)
+    }
+}
+
+impl From<FromUtf8Error> for PcapError {
+    ghost from_gives = { λ e r. r ≡ errors.FromUtf8Error e };
+
+    fn from(e: FromUtf8Error) -> PcapError {
+        PcapError::FromUtf8Error(e)
+    }
+}
+
+impl From<AllocError> for PcapError {
+    ghost from_gives = { λ e r. r ≡ errors.OutOfMemory e };
+
+    fn from(e: AllocError) -> PcapError {
+        PcapError::OutOfMemory(e)
+    }
+}
+
+impl<T: Drop> From<AllocFailed<T>> for PcapError {
+    ghost from_gives = { λ _ r. r ≡ errors.OutOfMemory alloc_error };
+
+    fn from(_e: AllocFailed<T>) -> PcapError {
+        PcapError::OutOfMemory(AllocError)
+    }
+}
+
+impl From<Rule> for PcapError {
+    ghost from_gives = { Names };
+
+    fn from(rule: Rule) -> PcapError {
+        PcapError::InvalidField(rule.text())
+    }
+}

@@ -1,0 +1,67 @@
+//! Bytes that came from a stream.
+
+ghost use Rattle.std.specs.Prelude.{◌≡◌, ◌≤◌, ◌+◌, [], length, IfErr, OnOk, vec_len};
+ghost use Rattle.pcap_core.specs.Errors.{IsMemory};
+
+use crate::ResultParsing;
+use std::alloc::Global;
+
+/// Bytes that came from a stream, and behind them room that is cleared once and then used again.
+#[derive(Debug, Drop)]
+pub struct Held {
+    pub(crate) room: Vec<u8>,
+    pub(crate) len: usize,
+    pub ghost within: { len ≤ vec_len room },
+}
+
+impl Held {
+    ghost use Rattle.pcap_core.specs.Held.{held_bytes};
+
+    /// Nothing, which takes no memory.
+    pub fn new(alloc: Global) -> Held
+        ensures { held_bytes result ≡ [] }
+    {
+        Held {
+            room: Vec::new(alloc),
+            len: 0,
+        }
+    }
+
+    /// The bytes that are held.
+    pub fn as_slice(&self) -> &[u8]
+        ensures { result.now ≡ held_bytes self.now }
+    {
+        &self.room.as_slice()[..self.len]
+    }
+
+    /// The bytes that are held, as they are.
+    pub fn into_vec(self) -> Vec<u8>
+        ensures { result.items ≡ held_bytes self }
+    {
+        let Held { mut room, len } = self;
+        room.truncate(len);
+        room
+    }
+
+    /// Lets all bytes go, and keeps their room.
+    pub fn clear(&mut self)
+        ensures { held_bytes self.new ≡ [] }
+    {
+        self.len = 0;
+    }
+
+    // Makes room for so many bytes behind those that are held.
+    pub(crate) fn make_room(&mut self, n: usize) -> ResultParsing<()>
+        requires { n ≤ 65536 }
+        ensures room { OnOk result (self.new.len + n ≤ vec_len self.new.room) }
+        ensures len { self.new.len ≡ self.old.len }
+        ensures held { held_bytes self.new ≡ held_bytes self.old }
+        ensures memory { IfErr result IsMemory }
+    {
+        let end = self.len + n;
+        if self.room.len() < end {
+            self.room.resize(end, 0)?;
+        }
+        Ok(())
+    }
+}

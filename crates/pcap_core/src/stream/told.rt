@@ -1,0 +1,143 @@
+//! Streams that tell whether a call of them failed.
+
+ghost use Rattle.std.specs.Prelude.{◌≡◌, ◌<◌, ◌⊎◌, true, false, length, IfOk, OnErr, MatchResult};
+ghost use Rattle.std.specs.Borrow.{sem, Lends};
+ghost use Rattle.std.specs.Io.{ReadsAtMost, WritesAtMost};
+ghost use Rattle.std.specs.Io.KnownBytes.{ReadConsumes, WriteAppends, Keeps};
+ghost use Rattle.pcap_core.specs.contracts.stream.told.Told.{the_row as told-row};
+ghost use Rattle.pcap_core.specs.Told.{stream_of, is_failed};
+ghost use Rattle.pcap_core.specs.LentStreams.{told_with};
+ghost use Rattle.pcap_core.specs.Writing.{WritesAll};
+
+use crate::{PcapError, ResultParsing};
+use std::io;
+use std::io::{ErrorKind, Read, Write};
+
+/// A stream that remembers whether a call of it failed.
+#[derive(Debug, Drop)]
+pub struct Told<T> {
+    pub(crate) inner: T,
+    pub(crate) has_failed: bool,
+}
+
+impl<T> Told<T> {
+    /// Wraps a stream, of which no call has failed yet.
+    pub fn new(inner: T) -> Told<T>
+        ensures stream { stream_of result ≡ inner }
+        ensures unfailed { is_failed result ≡ false }
+    {
+        Told {
+            inner,
+            has_failed: false,
+        }
+    }
+
+    /// Whether a call answered an error, or a write took nothing of the bytes that it was offered.
+    pub fn failed(&self) -> bool
+        ensures { result ≡ is_failed self.now }
+    {
+        self.has_failed
+    }
+
+    /// The wrapped stream.
+    pub fn get_ref(&self) -> &T
+        ensures { result.now ≡ stream_of self.now }
+    {
+        &self.inner
+    }
+
+    /// The wrapped stream. What is called on it directly isn't remembered.
+    pub fn get_mut(&mut self) -> &mut T
+        ensures value { result.now ≡ stream_of self.old }
+        ensures* writes_back { sem 𝓛 (Lends (told-row T.row) T.row self.entry result (told_with self.old)) }
+    {
+        &mut self.inner
+    }
+
+    /// Gives the wrapped stream back.
+    pub fn into_inner(self) -> T
+        ensures { result ≡ stream_of self }
+    {
+        self.inner
+    }
+}
+
+impl<T: Read> Read for Told<T> {
+    ghost remaining = { λ t. T.remaining (stream_of t) };
+
+    fn read(&mut self, buf: &mut [u8]) -> io::Result<usize>
+        ensures bound { ReadsAtMost result buf.new }
+        ensures bytes { ReadConsumes (T.remaining (stream_of self.old)) (T.remaining (stream_of self.new)) result buf.new }
+        ensures told { MatchResult result
+            (λ _. is_failed self.new ≡ is_failed self.old) (λ _. is_failed self.new ≡ true) }
+    {
+        match self.inner.read(buf) {
+            Ok(n) => Ok(n),
+            Err(e) => {
+                self.has_failed = true;
+                Err(e)
+            }
+        }
+    }
+}
+
+impl<T: Write> Write for Told<T> {
+    ghost contents = { λ t. T.contents (stream_of t) };
+
+    fn write(&mut self, buf: &[u8]) -> io::Result<usize>
+        ensures bound { WritesAtMost result buf.now }
+        ensures bytes { WriteAppends (T.contents (stream_of self.old)) (T.contents (stream_of self.new)) result buf.now }
+        ensures err { OnErr result (is_failed self.new ≡ true) }
+        ensures took_none { IfOk result (λ n. n ≡ 0 → 0 < length buf.now → is_failed self.new ≡ true) }
+        ensures took_some { IfOk result (λ n. (0 < n) ⊎ (length buf.now ≡ 0) → is_failed self.new ≡ is_failed self.old) }
+    {
+        match self.inner.write(buf) {
+            Ok(0) if !buf.is_empty() => {
+                self.has_failed = true;
+                Ok(0)
+            }
+            Ok(n) => Ok(n),
+            Err(e) => {
+                self.has_failed = true;
+                Err(e)
+            }
+        }
+    }
+
+    fn flush(&mut self) -> io::Result<()>
+        ensures bytes { Keeps (T.contents (stream_of self.old)) (T.contents (stream_of self.new)) }
+        ensures told { MatchResult result
+            (λ _. is_failed self.new ≡ is_failed self.old) (λ _. is_failed self.new ≡ true) }
+    {
+        match self.inner.flush() {
+            Ok(()) => Ok(()),
+            Err(e) => {
+                self.has_failed = true;
+                Err(e)
+            }
+        }
+    }
+}
+
+/// Writes all of the bytes, or up to a call that fails or takes nothing of them. `IoError` then.
+pub fn put<W: Write>(writer: &mut W, has_failed: &mut bool, bytes: &[u8]) -> ResultParsing<()>
+    ensures out { WritesAll (W.contents writer.old) (W.contents writer.new) bytes.now result }
+    ensures told { MatchResult result (λ _. has_failed.new ≡ has_failed.old) (λ _. has_failed.new ≡ true) }
+{
+    let mut rest = bytes;
+    while !rest.is_empty() {
+        match writer.write(rest) {
+            Ok(0) => {
+                *has_failed = true;
+                let message = "the writer took nothing";
+                return Err(PcapError::IoError(io::Error::new(ErrorKind::WriteZero, message)));
+            }
+            Ok(n) => rest = &rest[n..],
+            Err(e) => {
+                *has_failed = true;
+                return Err(PcapError::IoError(e));
+            }
+        }
+    }
+    Ok(())
+}
