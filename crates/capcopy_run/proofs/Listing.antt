@@ -25,7 +25,7 @@ use Rattle.pcap_core.proofs.Taking.{takes_more, run_reads}
 use Rattle.capcopy_run.specs.declared.exit.Exit.{Exit}
 use Rattle.capcopy_run.specs.declared.exit.Exit.TheVariants as exits
 use Rattle.capcopy_run.specs.Exits.{EndsAt, IsOfKnownWord, exit_of}
-use Rattle.capcopy_run.specs.Lines.{line_of, lines_from, WritesLine}
+use Rattle.capcopy_run.specs.Lines.{packet_line, lines_from, WritesLine}
 use Rattle.capcopy_run.specs.Listing.{ReaderSays, Listing, TearsNext, LinesEnd, ListsBehind, Listed, TearsLine, ListsUntil}
 use Rattle.capcopy_run.proofs.Lines.{lines_push}
 
@@ -38,16 +38,16 @@ listing_none header before out = record {
 }
 
 pub listing_more : (header : PcapHeader) (a b c p q r : Option (List ℕ)) (n : ℕ) (packet : Captured) → Listing header a b p q n
-    → Takes (ReaderSays header) b c packet → Appends q r (line_of (n + 1) packet.header) → Listing header a c p r (n + 1)
+    → Takes (ReaderSays header) b c packet → Appends q r (packet_line (n + 1) packet.header) → Listing header a c p r (n + 1)
 listing_more header a b c p q r n packet so_far took out =
     let index : n + 1 ≡ 1 + length so_far.packets = omega (arith, so_far.count) in
-    let goes : lines_from 1 (so_far.packets ++ packet ∷ []) ≡ lines_from 1 so_far.packets ++ line_of (n + 1) packet.header =
-    lines_push 1 so_far.packets packet ∙ ap (λ k. lines_from 1 so_far.packets ++ line_of k packet.header) (sym index) in
+    let goes : lines_from 1 (so_far.packets ++ packet ∷ []) ≡ lines_from 1 so_far.packets ++ packet_line (n + 1) packet.header =
+    lines_push 1 so_far.packets packet ∙ ap (λ k. lines_from 1 so_far.packets ++ packet_line k packet.header) (sym index) in
     record {
       packets = so_far.packets ++ packet ∷ [];
       count = length-append so_far.packets (packet ∷ []) ∙ omega (arith, so_far.count);
       took = takes_more (reader_format packet_limit header) (reader_lawful packet_limit header) tt so_far.packets packet a b c so_far.took took;
-      out = subst (λ l. Appends p r l) (sym goes) (Appends-trans p q r (lines_from 1 so_far.packets) (line_of (n + 1) packet.header) so_far.out out);
+      out = subst (λ l. Appends p r l) (sym goes) (Appends-trans p q r (lines_from 1 so_far.packets) (packet_line (n + 1) packet.header) so_far.out out);
     }
 
 -- a refusal that is neither of a read nor for want of memory shows a fault
@@ -71,10 +71,10 @@ module _ (header : PcapHeader) (left mid : Option (List ℕ)) (n most : ℕ) (fe
 
   -- a line that was not written ends them
   pub ends_torn : (now out_now : Option (List ℕ)) (packet : Captured) (exit : Exit) → Takes (ReaderSays header) left now packet
-      → WritesLine mid out_now (line_of (n + 1) packet.header) (Err exit) → LinesEnd header left mid out_now n most (Err exit)
+      → WritesLine mid out_now (packet_line (n + 1) packet.header) (Err exit) → LinesEnd header left mid out_now n most (Err exit)
   ends_torn now out_now packet (exits.Io (errors.IoError x)) took part =
       let next : n + 1 ≡ suc n = omega arith in
-      (fewer, inr (record { packet = packet; now = now; took = took; out = subst (λ k. AppendsPart mid out_now (line_of k packet.header)) next part }))
+      (fewer, inr (record { packet = packet; now = now; took = took; out = subst (λ k. AppendsPart mid out_now (packet_line k packet.header)) next part }))
   ends_torn now out_now packet (exits.Io (errors.IncompleteBuffer k)) took part = absurd part
   ends_torn now out_now packet (exits.Io (errors.InvalidField t)) took part = absurd part
   ends_torn now out_now packet (exits.Io (errors.Utf8Error x)) took part = absurd part
@@ -210,7 +210,7 @@ module _ (header : PcapHeader) (s rest : List ℕ) (text : HeaderText header s r
         mid = mid;
         lines = so_far.out;
       } in
-      let part = subst (λ k. AppendsPart mid after (line_of (suc k) torn_.packet.header)) (sym so_far.count) torn_.out in
+      let part = subst (λ k. AppendsPart mid after (packet_line (suc k) torn_.packet.header)) (sym so_far.count) torn_.out in
       (listed, omega (arith, so_far.count, fewer), inr (record { next = torn_.packet; others = read.more; more = refl; out = part }))
 
   lists_from : (most : ℕ) (before after : Option (List ℕ)) (result : Result (Unit {0}) Exit) → ListsBehind header (Some rest) before after most result → ListsUntil most s before after (exit_of result)

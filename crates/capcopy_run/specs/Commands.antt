@@ -6,7 +6,7 @@ use Rattle.capcopy_run.specs.declared.commands.Command.TheVariants as commands
 use Rattle.capcopy_run.specs.Words.{AskForList, AskForCopy, AskForNothing}
 
 -- the words ask for this
-abbrev pub IsAsked : List (Bor (List ℕ)) → Option Command → Type 0
-IsAsked words None = AskForNothing words
-IsAsked words (Some commands.List) = AskForList words
-IsAsked words (Some (commands.Copy under)) = AskForCopy under words
+abbrev pub AsksFor : List (Bor (List ℕ)) → Option Command → Type 0
+AsksFor words None = AskForNothing words
+AsksFor words (Some commands.List) = AskForList words
+AsksFor words (Some (commands.Copy under)) = AskForCopy under words

@@ -22,13 +22,13 @@ status_of (Io e) = 3
 status_of Memory = 4
 
 -- the line on standard error; that of a refusal ends with the error's own text, which no clause states
-abbrev pub line_of : Exit → Option (List ℕ)
-line_of Done = Some []
-line_of (Refused e) = None
-line_of Most = Some (codes "capcopy: limit reached")
-line_of Usage = Some (codes "usage: capcopy list | copy [big|little micro|nano] | blocks")
-line_of (Io e) = Some (codes "capcopy: input or output failed or ended early")
-line_of Memory = Some (codes "capcopy: out of memory")
+abbrev pub message_of : Exit → Option (List ℕ)
+message_of Done = Some []
+message_of (Refused e) = None
+message_of Most = Some (codes "capcopy: limit reached")
+message_of Usage = Some (codes "usage: capcopy list | copy [big|little micro|nano] | blocks")
+message_of (Io e) = Some (codes "capcopy: input or output failed or ended early")
+message_of Memory = Some (codes "capcopy: out of memory")
 
 -- the run ended early: an input error says so
 abbrev pub IsEarlyEnd : Exit → Type 0

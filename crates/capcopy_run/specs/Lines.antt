@@ -14,8 +14,8 @@ abbrev pub nine_digits : ℕ → List ℕ
 nine_digits n = replicate (9 - length (decimal n)) 48 ++ decimal n
 
 -- the line of the packet at this index: its index, its time in seconds and nanoseconds, its stored and original length
-abbrev pub line_of : ℕ → PacketHeader → List ℕ
-line_of index header =
+abbrev pub packet_line : ℕ → PacketHeader → List ℕ
+packet_line index header =
     let time = decimal header.ts_sec ++ (codes "." ++ nine_digits header.ts_nsec) in
     let lengths = decimal header.incl_len ++ (codes "/" ++ decimal header.orig_len) in
     decimal index ++ (codes " " ++ (time ++ (codes " " ++ (lengths ++ codes "\n"))))
@@ -23,7 +23,7 @@ line_of index header =
 -- the lines of packets, the first of which has this index
 abbrev pub lines_from : ℕ → List Captured → List ℕ
 lines_from index [] = []
-lines_from index (packet ∷ others) = line_of index packet.header ++ lines_from (suc index) others
+lines_from index (packet ∷ others) = packet_line index packet.header ++ lines_from (suc index) others
 
 -- one call that writes a line: all of it went out, or a write failed behind a beginning of it, or there was no room to make it
 abbrev pub WritesLine : Option (List ℕ) → Option (List ℕ) → List ℕ → Result (Unit {0}) Exit → Type 0

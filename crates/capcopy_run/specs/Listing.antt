@@ -15,7 +15,7 @@ use Rattle.pcap_core.specs.Takes.{TakesTexts}
 use Rattle.pcap_core.specs.Writing.{AppendsPart}
 use Rattle.capcopy_run.specs.declared.exit.Exit.{Exit}
 use Rattle.capcopy_run.specs.declared.exit.Exit.TheVariants.{Done, Refused, Most, Usage, Io, Memory}
-use Rattle.capcopy_run.specs.Lines.{line_of, lines_from}
+use Rattle.capcopy_run.specs.Lines.{packet_line, lines_from}
 
 -- what is said of packets behind this header, valid or not
 abbrev pub ReaderSays : PcapHeader → List ℕ → Verdict Captured → Type 0
@@ -33,7 +33,7 @@ pub record TearsNext (header : PcapHeader) (left mid out_now : Option (List ℕ)
   pub packet : Captured
   pub now : Option (List ℕ)
   pub took : Takes (ReaderSays header) left now packet
-  pub out : AppendsPart mid out_now (line_of (suc n) packet.header)
+  pub out : AppendsPart mid out_now (packet_line (suc n) packet.header)
 
 -- how the lines end behind so many of them: at the end of the stream, at the most lines, or before both by this exit
 abbrev pub LinesEnd : PcapHeader → Option (List ℕ) → Option (List ℕ) → Option (List ℕ) → ℕ → ℕ → Result (Unit {0}) Exit → Type 0
@@ -71,7 +71,7 @@ pub record EndsClean (most : ℕ) (after : Option (List ℕ)) {s : List ℕ} {be
   pub out : Keeps listed.mid after
 
 -- all packets, fewer than `most`, and behind them a rest that shows this error
-pub record EndsRefused (most : ℕ) (error : PcapError) (after : Option (List ℕ)) {s : List ℕ} {before : Option (List ℕ)} (listed : Listed s before) : Type 0 where
+pub record ListEndsRefused (most : ℕ) (error : PcapError) (after : Option (List ℕ)) {s : List ℕ} {before : Option (List ℕ)} (listed : Listed s before) : Type 0 where
   pub fewer : length listed.packets < most
   pub all : listed.more ≡ []
   pub refused : Shows (IsFaultOf ((format_under packet_limit listed.header).says tt) (Some listed.left)) error
@@ -82,14 +82,14 @@ pub record TearsLine (after : Option (List ℕ)) {s : List ℕ} {before : Option
   pub next : Captured
   pub others : List Captured
   pub more : listed.more ≡ next ∷ others
-  pub out : AppendsPart listed.mid after (line_of (suc (length listed.packets)) next.header)
+  pub out : AppendsPart listed.mid after (packet_line (suc (length listed.packets)) next.header)
 
 -- what a run that ended so has written of the capture s; nothing tells which stream failed
 abbrev pub ListsUntil : ℕ → List ℕ → Option (List ℕ) → Option (List ℕ) → Exit → Type 0
 ListsUntil most s before after Done = (listed : Listed s before) × EndsClean most after listed
 ListsUntil most s before after Most = (listed : Listed s before) × (length listed.packets ≡ most) × Keeps listed.mid after
 ListsUntil most s before after (Refused error) =
-    (Shows (IsFaultOf HeaderSays (Some s)) error × Keeps before after) ⊎ ((listed : Listed s before) × EndsRefused most error after listed)
+    (Shows (IsFaultOf HeaderSays (Some s)) error × Keeps before after) ⊎ ((listed : Listed s before) × ListEndsRefused most error after listed)
 ListsUntil most s before after (Io error) =
     Keeps before after ⊎ ((listed : Listed s before) × (length listed.packets < most) × (Keeps listed.mid after ⊎ TearsLine after listed))
 ListsUntil most s before after Memory = (listed : Listed s before) × (length listed.packets < most) × Keeps listed.mid after

@@ -4,7 +4,7 @@ ghost use Rattle.std.specs.Prelude.{◌≡◌, IfSome};
 ghost use Rattle.std.specs.Io.KnownBytes.{Keeps};
 ghost use Rattle.pcap_classic.specs.declared.run.copy.Under.{Under};
 ghost use Rattle.capcopy_run.specs.declared.exit.Exit.TheVariants as exits;
-ghost use Rattle.capcopy_run.specs.Commands.{IsAsked};
+ghost use Rattle.capcopy_run.specs.Commands.{AsksFor};
 ghost use Rattle.capcopy_run.specs.Copying.{CopiesUntil};
 ghost use Rattle.capcopy_run.specs.Exits.{IsOfKnownWord, exit_of};
 ghost use Rattle.capcopy_run.specs.Listing.{ListsUntil};
@@ -25,7 +25,7 @@ pub(crate) enum Command {
 }
 
 fn asked_for(words: &[&str]) -> Option<Command>
-    ensures { IsAsked words.now result }
+    ensures { AsksFor words.now result }
 {
     let under = match words {
         ["list"] => return Some(Command::List),

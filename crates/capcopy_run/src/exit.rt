@@ -3,7 +3,7 @@
 ghost use Rattle.std.specs.Prelude.{◌≡◌};
 ghost use Rattle.capcopy_run.specs.declared.exit.Exit.TheVariants as exits;
 ghost use Rattle.pcap_core.specs.declared.errors.PcapError.TheVariants as errors;
-ghost use Rattle.capcopy_run.specs.Exits.{status_of, line_of, EndsAt};
+ghost use Rattle.capcopy_run.specs.Exits.{status_of, message_of, EndsAt};
 
 use pcap_classic::PcapError;
 use std::alloc::{AllocError, AllocFailed};
@@ -44,7 +44,7 @@ impl Exit {
 
 /// The line on standard error, without its newline. `Done` has none.
 impl fmt::Display for Exit {
-    ghost output = { line_of };
+    ghost output = { message_of };
 
     fn fmt<W: fmt::Write>(&self, f: &mut fmt::Formatter<W>) -> fmt::Result {
         match self {

@@ -7,15 +7,15 @@ use Rattle.pcap_core.proofs.Texts.{split_same}
 use Rattle.pcap_blocks.specs.declared.record.Record.{Record}
 use Rattle.pcap_blocks.specs.declared.record.Record.TheVariants as record_of
 use Rattle.pcap_core.specs.Padded.{Padded, up_to_4}
-use Rattle.pcap_blocks.specs.Options.{HeadText, may_end_with_body, ListFault}
+use Rattle.pcap_blocks.specs.Options.{CodeLengthText, may_end_with_body, ListFault}
 use Rattle.pcap_blocks.specs.Records.{NameRecord, End, form_of, RecordValueSays, RecordText, RecordFault, wrong, unpadded, name_record_of}
 use Rattle.pcap_blocks.specs.NameResolution.{name_resolution, KeptText, RecordsText, ResolutionFault, in_options}
 use Rattle.pcap_blocks.proofs.Options.{head_with}
 
-pub record_wrong : (order : Order) (type len : ℕ) (s after v more : List ℕ) → HeadText order type len s after → length v ≡ len → after ≡ v ++ more → (f : Fault) → RecordValueSays (form_of type) v (faulty f) → RecordFault order s f
+pub record_wrong : (order : Order) (type len : ℕ) (s after v more : List ℕ) → CodeLengthText order type len s after → length v ≡ len → after ≡ v ++ more → (f : Fault) → RecordValueSays (form_of type) v (faulty f) → RecordFault order s f
 record_wrong order type len s after v more h is parts f fault = wrong f type v after more (head_with order type len v s after h is) parts fault
 
-pub record_unpadded : (order : Order) (r : NameRecord) (type len : ℕ) (s after v more : List ℕ) → HeadText order type len s after → length v ≡ len → after ≡ v ++ more → RecordValueSays (form_of type) v (whole r [])
+pub record_unpadded : (order : Order) (r : NameRecord) (type len : ℕ) (s after v more : List ℕ) → CodeLengthText order type len s after → length v ≡ len → after ≡ v ++ more → RecordValueSays (form_of type) v (whole r [])
     → length after < up_to_4 len → RecordFault order s (Invalid RecordUnpadded)
 record_unpadded order r type len s after v more h is parts value lt =
     unpadded r type v after more (head_with order type len v s after h is) parts value (subst (λ (k : ℕ). length after < up_to_4 k) (sym is) lt)
@@ -27,7 +27,7 @@ same_padded v w s more rest parts len p =
     let same = split_same v more w (p.padding ++ rest) len (sym parts ∙ here) in
     subst (λ (x : List ℕ). Padded x s rest) (sym same.0) p
 
-pub record_found : (order : Order) (r : NameRecord) (type len : ℕ) (s after v more w rest : List ℕ) → HeadText order type len s after → length v ≡ len → after ≡ v ++ more → RecordValueSays (form_of type) v (whole r [])
+pub record_found : (order : Order) (r : NameRecord) (type len : ℕ) (s after v more w rest : List ℕ) → CodeLengthText order type len s after → length v ≡ len → after ≡ v ++ more → RecordValueSays (form_of type) v (whole r [])
     → length w ≡ len → Padded w after rest → RecordText order r s rest
 record_found order r type len s after v more w rest h is parts value is' p = record {
   type = type;

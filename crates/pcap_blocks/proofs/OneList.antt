@@ -7,12 +7,12 @@ use Rattle.pcap_core.specs.Laws.{ExactlyOne}
 use Rattle.pcap_core.proofs.Texts.{number_length}
 use Rattle.pcap_core.specs.Padded.{Chain}
 use Rattle.pcap_blocks.specs.Values.{Kind, Entry}
-use Rattle.pcap_blocks.specs.Options.{HeadText, OptionText, EndMark, OptionFault, OptionSays, Ending, wants_end, may_end_with_body, IsOver, OptionList, marked, with_body, ListSays}
+use Rattle.pcap_blocks.specs.Options.{CodeLengthText, OptionText, EndMark, OptionFault, OptionSays, Ending, wants_end, may_end_with_body, IsOver, OptionList, marked, with_body, ListSays}
 use Rattle.pcap_core.proofs.Verdicts.{one_moved, Stopped, IsMany, one_stopped, same_whole, whole_no_fault}
 use Rattle.pcap_blocks.proofs.OneOption.{option_one, option_same}
 use Rattle.pcap_core.proofs.OnePadded.{padded_length}
 
-pub head_length : (order : Order) (code len : ℕ) (s rest : List ℕ) → HeadText order code len s rest → length s ≡ 4 + length rest
+pub head_length : (order : Order) (code len : ℕ) (s rest : List ℕ) → CodeLengthText order code len s rest → length s ≡ 4 + length rest
 head_length order code len s rest h = omega (arith, number_length order 2 code s h.after_code h.code_is, number_length order 2 len h.after_code rest h.length_is)
 
 -- the list of these options ends here: at the mark, or where no byte is left and the list is over

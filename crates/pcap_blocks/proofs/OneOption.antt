@@ -6,7 +6,7 @@ use Rattle.pcap_core.specs.Laws.{ExactlyOne}
 use Rattle.pcap_core.specs.declared.rules.Rule.TheVariants.{OptionTooShort, OptionCut}
 use Rattle.pcap_core.specs.Padded.{Padded, up_to_4}
 use Rattle.pcap_blocks.specs.Values.{Kind, Entry, Value, Shape, shape_at, value_of, EntrySays}
-use Rattle.pcap_blocks.specs.Options.{HeadText, OptionText, OptionFault, short, cut, wrong, OptionSays}
+use Rattle.pcap_blocks.specs.Options.{CodeLengthText, OptionText, OptionFault, short, cut, wrong, OptionSays}
 use Rattle.pcap_blocks.proofs.Options.{head_with}
 use Rattle.pcap_core.proofs.Verdicts.{one_moved, Then, one_then, same_whole}
 use Rattle.pcap_core.proofs.Numbers.{Values, Numbers, NumbersSay, numbers_one}
@@ -84,11 +84,11 @@ option_then_one : (order : Order) (kind : Kind) (s : List ℕ) → ExactlyOne (O
 unfolding OptionThen
 option_then_one order kind s = one_then (NumbersSay order (Invalid OptionTooShort) widths s) (λ ns after. AfterHead order kind ns.0 ns.1.0 after) (numbers_one order (Invalid OptionTooShort) widths s) (λ ns after k. after_one order kind ns.0 ns.1.0 after)
 
-pub head_to : (order : Order) (code len : ℕ) (s rest : List ℕ) → HeadText order code len s rest → Numbers order widths (code, (len, tt)) s rest
+pub head_to : (order : Order) (code len : ℕ) (s rest : List ℕ) → CodeLengthText order code len s rest → Numbers order widths (code, (len, tt)) s rest
 head_to order code len s rest h = (h.after_code, h.code_is, (rest, h.length_is, refl))
 
-pub head_from : (order : Order) (ns : Values widths) (s rest : List ℕ) → Numbers order widths ns s rest → HeadText order ns.0 ns.1.0 s rest
-head_from order ns s rest t = subst (λ (x : List ℕ). HeadText order ns.0 ns.1.0 s x) t.2.2 (record { after_code = t.0; code_is = t.1; length_is = t.2.1 })
+pub head_from : (order : Order) (ns : Values widths) (s rest : List ℕ) → Numbers order widths ns s rest → CodeLengthText order ns.0 ns.1.0 s rest
+head_from order ns s rest t = subst (λ (x : List ℕ). CodeLengthText order ns.0 ns.1.0 s x) t.2.2 (record { after_code = t.0; code_is = t.1; length_is = t.2.1 })
 
 after_option : (order : Order) (kind : Kind) (code : ℕ) (v after rest : List ℕ) (x : Value) → code ≢ 0 → Padded v after rest → value_of order (shape_at kind code) v ≡ Ok x → AfterHead order kind code (length v) after (whole (Some (entry code x)) rest)
 unfolding AfterHead PieceSays
@@ -115,17 +115,17 @@ option_to order kind s (faulty f) (short lt) = inl (refl, lt)
 option_to order kind s (faulty f) (cut code len rest h ne lt) = inr ((code, (len, tt)), rest, head_to order code len s rest h, after_cut order kind code len rest ne lt)
 option_to order kind s (faulty f) (wrong _ code v after rest h ne p is) = inr ((code, (length v, tt)), after, head_to order code (length v) s after h, after_wrong order kind code v after rest f ne p is)
 
-from_whole : (order : Order) (kind : Kind) (s : List ℕ) (code len : ℕ) (after : List ℕ) → HeadText order code len s after → (p : Option Entry) (rest : List ℕ) → AfterHead order kind code len after (whole p rest) → OptionSays order kind s (whole p rest)
+from_whole : (order : Order) (kind : Kind) (s : List ℕ) (code len : ℕ) (after : List ℕ) → CodeLengthText order code len s after → (p : Option Entry) (rest : List ℕ) → AfterHead order kind code len after (whole p rest) → OptionSays order kind s (whole p rest)
 unfolding AfterHead PieceSays entry
 from_whole order kind s zero len after h p rest k =
     let same = same_whole p None rest after k in
-    subst (λ (q : Option Entry). OptionSays order kind s (whole q rest)) (sym same.0) (record { ignored = len; head = subst (λ (x : List ℕ). HeadText order 0 len s x) (sym same.1) h })
+    subst (λ (q : Option Entry). OptionSays order kind s (whole q rest)) (sym same.0) (record { ignored = len; head = subst (λ (x : List ℕ). CodeLengthText order 0 len s x) (sym same.1) h })
 from_whole order kind s (suc c) len after h p rest k =
     let pad : Padded k.0 after rest = subst (λ (x : List ℕ). Padded k.0 after x) (sym k.3.3) k.2.0 in
     let is : OptionText order kind (entry (suc c) k.3.0) s rest = record { v = k.0; after_head = after; head = head_with order (suc c) len k.0 s after h k.2.1; no_mark = λ z. omega (arith, z); padded = pad; value_is = k.3.1 } in
     subst (λ (q : Option Entry). OptionSays order kind s (whole q rest)) (sym k.3.2) is
 
-from_fault : (order : Order) (kind : Kind) (s : List ℕ) (code len : ℕ) (after : List ℕ) → HeadText order code len s after → (f : Fault) → AfterHead order kind code len after (faulty f) → OptionFault order kind s f
+from_fault : (order : Order) (kind : Kind) (s : List ℕ) (code len : ℕ) (after : List ℕ) → CodeLengthText order code len s after → (f : Fault) → AfterHead order kind code len after (faulty f) → OptionFault order kind s f
 unfolding AfterHead PieceSays
 from_fault order kind s zero len after h f k = absurd cc
 from_fault order kind s (suc c) len after h f (inl t) = rw t.0 (cut (suc c) len after h (λ z. omega (arith, z)) t.1)

@@ -9,7 +9,7 @@ use Rattle.pcap_core.specs.declared.rules.Rule.{Rule}
 use Rattle.pcap_core.specs.declared.rules.Rule.TheVariants.{RecordCut, EndNotEmpty, RecordUnpadded}
 use Rattle.pcap_core.proofs.Texts.{split_same}
 use Rattle.pcap_core.specs.Padded.{Padded, up_to_4}
-use Rattle.pcap_blocks.specs.Options.{HeadText}
+use Rattle.pcap_blocks.specs.Options.{CodeLengthText}
 use Rattle.pcap_blocks.specs.Names.{NamesSay}
 use Rattle.pcap_blocks.specs.Records.{Address, AddressText, short, in_names, AddressSays, NameRecord, End, Other, Form, no_value, address, any_value, form_of, RecordValueSays, RecordFault, cut, wrong, unpadded, RecordSays}
 use Rattle.pcap_blocks.proofs.Options.{head_with}
@@ -202,7 +202,7 @@ record_to order s (faulty f) (cut type len after h lt) = inr ((type, (len, tt)),
 record_to order s (faulty f) (wrong _ type v after more h parts fault) = inr ((type, (length v, tt)), after, head_to order type (length v) s after h, inr (v, more, (parts, refl), inl fault))
 record_to order s (faulty f) (unpadded r type v after more h parts value lt) = inr ((type, (length v, tt)), after, head_to order type (length v) s after h, inr (v, more, (parts, refl), inr (r, [], value, (refl, lt))))
 
-record_fault : (order : Order) (s : List ℕ) (f : Fault) (type len : ℕ) (after : List ℕ) → HeadText order type len s after → BytesThen type len after (faulty f) → RecordFault order s f
+record_fault : (order : Order) (s : List ℕ) (f : Fault) (type len : ℕ) (after : List ℕ) → CodeLengthText order type len s after → BytesThen type len after (faulty f) → RecordFault order s f
 unfolding BytesThen BytesSay ValueThen PadSays
 record_fault order s f type len after h (inl t) = rw t.0 (cut type len after h t.1)
 record_fault order s f type len after h (inr (v, more, b, inl t)) = wrong f type v after more (head_with order type len v s after h b.1) b.0 t

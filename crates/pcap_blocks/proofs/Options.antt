@@ -7,16 +7,16 @@ use Rattle.pcap_core.specs.Answer.{Order, Number}
 use Rattle.pcap_core.specs.Faults.{Fault}
 use Rattle.pcap_core.specs.Padded.{Padded, Chain}
 use Rattle.pcap_blocks.specs.Values.{Kind, Entry, shape_at, value_of}
-use Rattle.pcap_blocks.specs.Options.{HeadText, OptionText, OptionFault, wrong, Ending, may_end_with_body, OptionList, with_body, ListFault}
+use Rattle.pcap_blocks.specs.Options.{CodeLengthText, OptionText, OptionFault, wrong, Ending, may_end_with_body, OptionList, with_body, ListFault}
 
-pub head_is : {order : Order} {code len : ℕ} {s after rest : List ℕ} → Number order 2 code s after → Number order 2 len after rest → HeadText order code len s rest
+pub head_is : {order : Order} {code len : ℕ} {s after rest : List ℕ} → Number order 2 code s after → Number order 2 len after rest → CodeLengthText order code len s rest
 head_is a b = record { after_code = _; code_is = a; length_is = b }
 
 -- the length of a head is that of its value
-pub head_with : (order : Order) (code len : ℕ) (v s rest : List ℕ) → HeadText order code len s rest → length v ≡ len → HeadText order code (length v) s rest
-head_with order code len v s rest h is = subst (λ (k : ℕ). HeadText order code k s rest) (sym is) h
+pub head_with : (order : Order) (code len : ℕ) (v s rest : List ℕ) → CodeLengthText order code len s rest → length v ≡ len → CodeLengthText order code (length v) s rest
+head_with order code len v s rest h is = subst (λ (k : ℕ). CodeLengthText order code k s rest) (sym is) h
 
-pub option_wrong : (order : Order) (kind : Kind) (code len : ℕ) (v s after rest : List ℕ) → HeadText order code len s after → length v ≡ len → code ≢ 0 → Padded v after rest
+pub option_wrong : (order : Order) (kind : Kind) (code len : ℕ) (v s after rest : List ℕ) → CodeLengthText order code len s after → length v ≡ len → code ≢ 0 → Padded v after rest
     → (f : Fault) → value_of order (shape_at kind code) v ≡ Err f → OptionFault order kind s f
 option_wrong order kind code len v s after rest h is ne p f value = wrong f code v after rest (head_with order code len v s after h is) ne p value
 

@@ -91,8 +91,8 @@ NameOptionIsOwned (option_of.CustomUtf8 o) = CustomTextIsOwned o
 NameOptionIsOwned (option_of.Unknown o) = UnknownIsOwned o
 
 -- a block of the code
-abbrev pub resolution_of : NameResolutionBlock → Resolution
-resolution_of block = record { records = map name_record_of block.records.items; options = map name_entry block.options.items }
+abbrev pub names_of : NameResolutionBlock → Resolution
+names_of block = record { records = map name_record_of block.records.items; options = map name_entry block.options.items }
 
 -- what its records and options hold is borrowed
 pub record ResolutionIsBorrowed (block : NameResolutionBlock) : Type 0 where

@@ -7,7 +7,7 @@ use Rattle.pcap_core.specs.Padded.{up_to_4, Padded, Chain}
 use Rattle.pcap_blocks.specs.Values.{Entry, Kind, shape_at, value_of}
 
 -- s is a code, or the type of a record, and a length, and then rest
-pub record HeadText (order : Order) (code len : ℕ) (s rest : List ℕ) : Type 0 where
+pub record CodeLengthText (order : Order) (code len : ℕ) (s rest : List ℕ) : Type 0 where
   pub after_code : List ℕ
   pub code_is : Number order 2 code s after_code
   pub length_is : Number order 2 len after_code rest
@@ -16,7 +16,7 @@ pub record HeadText (order : Order) (code len : ℕ) (s rest : List ℕ) : Type 
 pub record OptionText (order : Order) (kind : Kind) (option : Entry) (s rest : List ℕ) : Type 0 where
   pub v : List ℕ
   pub after_head : List ℕ
-  pub head : HeadText order option.code (length v) s after_head
+  pub head : CodeLengthText order option.code (length v) s after_head
   pub no_mark : option.code ≢ 0
   pub padded : Padded v after_head rest
   pub value_is : value_of order (shape_at kind option.code) v ≡ Ok option.value
@@ -24,14 +24,14 @@ pub record OptionText (order : Order) (kind : Kind) (option : Entry) (s rest : L
 -- s is the mark that ends a list, and then rest: the code 0 and a length that nothing follows from
 pub record EndMark (order : Order) (s rest : List ℕ) : Type 0 where
   pub ignored : ℕ
-  pub head : HeadText order 0 ignored s rest
+  pub head : CodeLengthText order 0 ignored s rest
 
 -- the first fault that stands where an option or the mark is to begin
 pub data OptionFault (order : Order) (kind : Kind) (s : List ℕ) : Fault → Type 0 where
   short : length s < 4 → OptionFault order kind s (Invalid OptionTooShort)
-  cut : (code len : ℕ) (after : List ℕ) → HeadText order code len s after → code ≢ 0 → length after < up_to_4 len
+  cut : (code len : ℕ) (after : List ℕ) → CodeLengthText order code len s after → code ≢ 0 → length after < up_to_4 len
       → OptionFault order kind s (Invalid OptionCut)
-  wrong : (fault : Fault) (code : ℕ) (v after rest : List ℕ) → HeadText order code (length v) s after → code ≢ 0 → Padded v after rest
+  wrong : (fault : Fault) (code : ℕ) (v after rest : List ℕ) → CodeLengthText order code (length v) s after → code ≢ 0 → Padded v after rest
       → value_of order (shape_at kind code) v ≡ Err fault → OptionFault order kind s fault
 
 -- what is said of bytes where an option is asked for, or the mark, which is none

@@ -12,7 +12,7 @@ use Rattle.pcap_blocks.specs.declared.interface_description.InterfaceDescription
 use Rattle.pcap_blocks.specs.SectionHeader.{Section, SectionSays, section_of, SectionIsBorrowed, SectionIsOwned, SectionNeedsNoMemory}
 use Rattle.pcap_blocks.specs.InterfaceDescription.{Interface, InterfaceSays, interface_of, InterfaceIsBorrowed, InterfaceIsOwned, InterfaceNeedsNoMemory}
 use Rattle.pcap_blocks.specs.PacketBody.{PacketBody, PacketBodySays, packet_of, PacketIsBorrowed, PacketIsOwned, PacketNeedsNoMemory}
-use Rattle.pcap_blocks.specs.NameResolution.{Resolution, ResolutionSays, resolution_of, ResolutionIsBorrowed, ResolutionIsOwned, ResolutionNeedsNoMemory}
+use Rattle.pcap_blocks.specs.NameResolution.{Resolution, ResolutionSays, names_of, ResolutionIsBorrowed, ResolutionIsOwned, ResolutionNeedsNoMemory}
 use Rattle.pcap_blocks.specs.InterfaceStatistics.{Statistics, StatisticsSays, statistics_of, StatisticsIsBorrowed, StatisticsIsOwned, StatisticsNeedsNoMemory}
 use Rattle.pcap_blocks.specs.EnhancedPacket.{Enhanced, EnhancedSays, enhanced_of, EnhancedIsBorrowed, EnhancedIsOwned, EnhancedNeedsNoMemory}
 use Rattle.pcap_blocks.specs.WholeBodies.{Simple, SimpleSays, simple_of, SimpleIsBorrowed, SimpleIsOwned, JournalSays, journal_of, JournalIsBorrowed, JournalIsOwned, UnknownBody, unknown_of, UnknownBlockIsBorrowed, UnknownBlockIsOwned}
@@ -67,7 +67,7 @@ body_of (block_of.SectionHeader b) = SectionBody (section_of b)
 body_of (block_of.InterfaceDescription b) = InterfaceBody (interface_of b)
 body_of (block_of.Packet b) = OldPacketBody (packet_of b)
 body_of (block_of.SimplePacket b) = SimpleBody (simple_of b)
-body_of (block_of.NameResolution b) = NamesBody (resolution_of b)
+body_of (block_of.NameResolution b) = NamesBody (names_of b)
 body_of (block_of.InterfaceStatistics b) = StatisticsBody (statistics_of b)
 body_of (block_of.EnhancedPacket b) = EnhancedBody (enhanced_of b)
 body_of (block_of.SystemdJournalExport b) = JournalBody (journal_of b)

@@ -12,7 +12,7 @@ use Rattle.pcap_blocks.specs.declared.record.UnknownRecord.{UnknownRecord}
 use Rattle.pcap_blocks.specs.declared.record.Record.{Record}
 use Rattle.pcap_blocks.specs.declared.record.Record.TheVariants as record_of
 use Rattle.pcap_core.specs.Padded.{Padded, up_to_4, Behind}
-use Rattle.pcap_blocks.specs.Options.{HeadText}
+use Rattle.pcap_blocks.specs.Options.{CodeLengthText}
 use Rattle.pcap_blocks.specs.Names.{NamesText, NamesFault}
 
 -- an address and its names
@@ -69,17 +69,17 @@ pub record RecordText (order : Order) (r : NameRecord) (s rest : List ℕ) : Typ
   pub type : ℕ
   pub v : List ℕ
   pub after : List ℕ
-  pub head : HeadText order type (length v) s after
+  pub head : CodeLengthText order type (length v) s after
   pub value_is : RecordValueSays (form_of type) v (whole r [])
   pub padded : Padded v after rest
 
 -- the first fault that stands where a record is to begin: the value's own before that of the padding
 pub data RecordFault (order : Order) (s : List ℕ) : Fault → Type 0 where
   short : length s < 4 → RecordFault order s Io
-  cut : (type len : ℕ) (after : List ℕ) → HeadText order type len s after → length after < len → RecordFault order s (Invalid RecordCut)
-  wrong : (fault : Fault) (type : ℕ) (v after more : List ℕ) → HeadText order type (length v) s after → after ≡ v ++ more → RecordValueSays (form_of type) v (faulty fault)
+  cut : (type len : ℕ) (after : List ℕ) → CodeLengthText order type len s after → length after < len → RecordFault order s (Invalid RecordCut)
+  wrong : (fault : Fault) (type : ℕ) (v after more : List ℕ) → CodeLengthText order type (length v) s after → after ≡ v ++ more → RecordValueSays (form_of type) v (faulty fault)
       → RecordFault order s fault
-  unpadded : (r : NameRecord) (type : ℕ) (v after more : List ℕ) → HeadText order type (length v) s after → after ≡ v ++ more → RecordValueSays (form_of type) v (whole r [])
+  unpadded : (r : NameRecord) (type : ℕ) (v after more : List ℕ) → CodeLengthText order type (length v) s after → after ≡ v ++ more → RecordValueSays (form_of type) v (whole r [])
       → length after < up_to_4 (length v) → RecordFault order s (Invalid RecordUnpadded)
 
 -- what is said of bytes where a record is asked for

@@ -20,13 +20,13 @@ pub record Entry : Type 0 where
   pub value : Value
 
 -- the bytes or the text that a value holds
-abbrev pub bytes_in : Value → List ℕ
-bytes_in (Text t) = t
-bytes_in (Bytes b) = b
-bytes_in (Integer n) = []
-bytes_in (CustomText pen t) = t
-bytes_in (CustomBytes pen b) = b
-bytes_in (Unknown len b) = b
+abbrev pub value_bytes : Value → List ℕ
+value_bytes (Text t) = t
+value_bytes (Bytes b) = b
+value_bytes (Integer n) = []
+value_bytes (CustomText pen t) = t
+value_bytes (CustomBytes pen b) = b
+value_bytes (Unknown len b) = b
 
 -- the number that a value holds, before its bytes or alone
 abbrev pub integer_in : Value → ℕ

@@ -4,7 +4,7 @@ ghost use Rattle.std.specs.Prelude.{⊤, ◌≡◌, length, map, All, IsOk, IfOk
 ghost use Rattle.std.specs.Option.{option_map};
 ghost use Rattle.pcap_core.specs.Answer.{TellsAll};
 ghost use Rattle.pcap_blocks.specs.Refusals.{Finds, FindsWhere, FindsAll};
-ghost use Rattle.pcap_blocks.specs.Values.{Entry, Kind, Unknown, shape_at, custom_text, custom_bytes, EntrySays, bytes_in, integer_in};
+ghost use Rattle.pcap_blocks.specs.Values.{Entry, Kind, Unknown, shape_at, custom_text, custom_bytes, EntrySays, value_bytes, integer_in};
 ghost use Rattle.pcap_blocks.specs.Options.{may_end_with_body, OptionSays, ListSays};
 ghost use Rattle.pcap_blocks.specs.CommonOptions.{unknown_entry, custom_bytes_entry, custom_text_entry, UnknownIsBorrowed, CustomBytesIsBorrowed, CustomTextIsBorrowed, UnknownIsOwned, CustomBytesIsOwned, CustomTextIsOwned};
 ghost use Rattle.pcap_core.specs.Errors.{IsMemory};
@@ -56,7 +56,7 @@ impl<'a> UnknownOption<'a> {
 
     /// Its value.
     pub fn value(&self) -> &[u8]
-        ensures { result.now ≡ bytes_in (unknown_entry self.now).value }
+        ensures { result.now ≡ value_bytes (unknown_entry self.now).value }
     {
         self.value.as_slice()
     }
@@ -112,7 +112,7 @@ impl<'a> CustomBinaryOption<'a> {
 
     /// Its value, behind the number of the enterprise.
     pub fn value(&self) -> &[u8]
-        ensures { result.now ≡ bytes_in (custom_bytes_entry self.now).value }
+        ensures { result.now ≡ value_bytes (custom_bytes_entry self.now).value }
     {
         self.value.as_slice()
     }
@@ -168,7 +168,7 @@ impl<'a> CustomUtf8Option<'a> {
 
     /// Its text, behind the number of the enterprise.
     pub fn value(&self) -> &str
-        ensures { result.now ≡ bytes_in (custom_text_entry self.now).value }
+        ensures { result.now ≡ value_bytes (custom_text_entry self.now).value }
     {
         &self.value
     }

@@ -4,7 +4,7 @@ ghost use Rattle.std.specs.Prelude.{⊤, map, All, IsOk, IfOk, ◌≡◌, IfErr}
 ghost use Rattle.pcap_core.specs.Answer.{TellsWhere};
 ghost use Rattle.pcap_blocks.specs.Refusals.{FindsWhere};
 ghost use Rattle.pcap_blocks.specs.Records.{name_record_of, RecordIsBorrowed};
-ghost use Rattle.pcap_blocks.specs.NameResolution.{name_resolution, RecordsSay, ResolutionSays, name_entry, NameOptionIsBorrowed, resolution_of, ResolutionIsBorrowed, NameOptionIsOwned, ResolutionIsOwned, ResolutionNeedsNoMemory};
+ghost use Rattle.pcap_blocks.specs.NameResolution.{name_resolution, RecordsSay, ResolutionSays, name_entry, NameOptionIsBorrowed, names_of, ResolutionIsBorrowed, NameOptionIsOwned, ResolutionIsOwned, ResolutionNeedsNoMemory};
 ghost use Rattle.pcap_core.specs.Errors.{IsMemory};
 
 use crate::common::{
@@ -40,7 +40,7 @@ impl<'a> NameResolutionBlock<'a> {
         alloc: Global,
         slice: &'a [u8],
     ) -> ResultParsing<(&'a [u8], Self)>
-        ensures tells { TellsWhere ⊤ (ResolutionSays B.number_of slice.now) resolution_of result }
+        ensures tells { TellsWhere ⊤ (ResolutionSays B.number_of slice.now) names_of result }
         ensures borrowed { IfOk result (λ x. ResolutionIsBorrowed x.1) }
     {
         Ok(NameResolutionBlock::read::<B>(alloc, slice)?)
@@ -50,7 +50,7 @@ impl<'a> NameResolutionBlock<'a> {
         alloc: Global,
         slice: &'a [u8],
     ) -> Result<(&'a [u8], Self), Refusal>
-        ensures tells { FindsWhere ⊤ (ResolutionSays B.number_of slice.now) resolution_of result }
+        ensures tells { FindsWhere ⊤ (ResolutionSays B.number_of slice.now) names_of result }
         ensures borrowed { IfOk result (λ x. ResolutionIsBorrowed x.1) }
     {
         let (after, records) = records_from_slice::<B>(alloc, slice)?;
@@ -169,7 +169,7 @@ impl<'a> NameResolutionBlock<'a> {
     ///
     /// `OutOfMemory` where a copy can't be made; the value is then dropped.
     pub fn into_owned(self, alloc: Global) -> ResultParsing<NameResolutionBlock<'static>>
-        ensures same { IfOk result (λ kept. resolution_of kept ≡ resolution_of self.entry) }
+        ensures same { IfOk result (λ kept. names_of kept ≡ names_of self.entry) }
         ensures owned { IfOk result ResolutionIsOwned }
         ensures memory { IfErr result IsMemory }
         ensures kept { ResolutionNeedsNoMemory self.entry → IsOk result }
@@ -181,7 +181,7 @@ impl<'a> NameResolutionBlock<'a> {
 impl<'a> KeepValue for NameResolutionBlock<'a> {
     type Owned = NameResolutionBlock<'static>;
 
-    ghost is_same = { λ value kept. resolution_of kept ≡ resolution_of value };
+    ghost is_same = { λ value kept. names_of kept ≡ names_of value };
 
     ghost is_owned = { ResolutionIsOwned };
 

@@ -27,7 +27,7 @@ use Rattle.pcap_classic.specs.Magic.{order_of, resolution_of}
 use Rattle.pcap_classic.specs.Packets.{packet_format, format_under}
 use Rattle.pcap_classic.specs.PacketText.{Captured, PacketText, packet_limit}
 use Rattle.pcap_core.specs.Reading.{HasCause, read_failed, no_memory, torn, refused, IsFaultOf, ReadsTold}
-use Rattle.pcap_classic.specs.Written.{bytes_in, written, capture, cut, IsWhole, IsWholeHeader}
+use Rattle.pcap_classic.specs.Written.{number_bytes, record_bytes, capture, cut, IsWhole, IsWholeHeader}
 use Rattle.pcap_classic.proofs.Concrete.{number_below, packet_written, header_written, front_written}
 use Rattle.pcap_classic.proofs.Copied.{lawful_under}
 use Rattle.pcap_core.proofs.Formats.{only}
@@ -59,7 +59,7 @@ nothing_whole : IsWhole nothing
 unfolding nothing
 nothing_whole = record { seconds = omega arith; nanoseconds = omega arith; included = refl; original = omega arith; limit = omega arith }
 
-nothing_written : (e : Endianness) (r : TsResolution) → written (bytes_in e) r nothing ≡ zeros 16
+nothing_written : (e : Endianness) (r : TsResolution) → record_bytes (number_bytes e) r nothing ≡ zeros 16
 unfolding nothing zeros
 nothing_written Big MicroSecond = refl
 nothing_written Big NanoSecond = refl
@@ -71,9 +71,9 @@ zeros_text : (header : PcapHeader) → (packet : Captured) × PacketIsSaid heade
 zeros_text header =
     let e = order_of header.magic_number in
     let r = resolution_of header.magic_number in
-    let text : PacketText packet_limit (number_in e) r (cut r nothing) (written (bytes_in e) r nothing ++ []) [] = written_again e r nothing [] nothing_whole in
+    let text : PacketText packet_limit (number_in e) r (cut r nothing) (record_bytes (number_bytes e) r nothing ++ []) [] = written_again e r nothing [] nothing_whole in
     let here : PacketText packet_limit (number_in e) r (cut r nothing) (zeros 16) [] =
-    subst (λ (s : List ℕ). PacketText packet_limit (number_in e) r (cut r nothing) s []) (append-nil (written (bytes_in e) r nothing) ∙ nothing_written e r) text in
+    subst (λ (s : List ℕ). PacketText packet_limit (number_in e) r (cut r nothing) s []) (append-nil (record_bytes (number_bytes e) r nothing) ∙ nothing_written e r) text in
     (cut r nothing, packets_say packet_limit (number_in e) r tt (zeros 16) (whole (cut r nothing) []) here)
 
 sixteen_lack : (header : PcapHeader) → PacketIsSaid header [] (lacks 16)

@@ -1,18 +1,16 @@
 -- What was taken is no more than a grammar asks for.
-use Rattle.std.proofs.Common.{◌≡◌, ◌<◌, ◌≤◌, ◌-◌, ◌+◌, ℕ, List, [], ◌++◌, length, take, drop, length-append, sym, ap, ◌∙◌, subst, arith, inl, inr}
+use Rattle.std.proofs.Common.{◌≡◌, ◌<◌, ℕ, List, length, take, arith, inl, inr}
 use Rattle.std.proofs.lemmas.Bool.{cases_lt}
-use Rattle.std.proofs.lemmas.List.{length-take-le, take-append-drop, take-append-le}
-use Rattle.std.proofs.Math.Seq.{take-append-add}
+use Rattle.std.proofs.lemmas.List.{length-take-le}
 use Rattle.std.specs.Prelude.{Option, false}
 use Rattle.pcap_classic.specs.declared.pcap.header.PcapHeader.{PcapHeader}
 use Rattle.pcap_core.specs.declared.rules.Rule.TheVariants.{CaptureMagic}
-use Rattle.pcap_core.specs.Answer.{Verdict, whole, lacks, faulty}
-use Rattle.pcap_core.specs.Format.{Format, IsLawful}
+use Rattle.pcap_core.specs.Answer.{lacks, faulty}
 use Rattle.pcap_core.specs.Faults.{Invalid}
 use Rattle.pcap_classic.specs.Magic.{is_magic}
 use Rattle.pcap_classic.specs.Packets.{reader_format}
-use Rattle.pcap_core.specs.Reading.{IsShort, TakesAsked, TakesAtMost}
-use Rattle.pcap_core.proofs.Formats.{only, text_same, fault_no_text}
+use Rattle.pcap_core.specs.Reading.{TakesAsked, TakesAtMost}
+use Rattle.pcap_core.proofs.Formats.{only}
 use Rattle.pcap_classic.proofs.Packets.{reader_lawful, reader_refuses}
 
 -- under a header of no valid magic number one byte is refused

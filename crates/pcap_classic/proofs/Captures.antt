@@ -7,7 +7,7 @@ use Rattle.pcap_core.specs.Answer.{number_in}
 use Rattle.pcap_core.specs.Format.{Format}
 use Rattle.pcap_classic.specs.HeaderText.{HeaderSays, HeaderText}
 use Rattle.pcap_classic.specs.Magic.{is_magic, order_of, resolution_of}
-use Rattle.pcap_classic.specs.Packets.{format_under, reader_format, chosen}
+use Rattle.pcap_classic.specs.Packets.{format_under, reader_format, choice}
 use Rattle.pcap_classic.specs.PacketText.{Captured}
 use Rattle.pcap_core.specs.Reading.{Takes}
 use Rattle.pcap_core.specs.Takes.{TakesItems, ReadsFront}
@@ -15,7 +15,7 @@ use Rattle.pcap_classic.proofs.HeadedPackets.{packets_lawful}
 use Rattle.pcap_classic.proofs.Stable.{header_stable}
 use Rattle.pcap_core.proofs.Taking.{run_reads}
 
-chosen_true : (b : Bool) (f g : Format (Unit {0}) Captured) → b ≡ true → (P : Format (Unit {0}) Captured → Type 0) → P (chosen b f g) → P f
+chosen_true : (b : Bool) (f g : Format (Unit {0}) Captured) → b ≡ true → (P : Format (Unit {0}) Captured → Type 0) → P (choice b f g) → P f
 chosen_true true f g e P p = p
 chosen_true false f g e P p = absurd cc
 

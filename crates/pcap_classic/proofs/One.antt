@@ -14,7 +14,7 @@ use Rattle.pcap_classic.specs.declared.pcap.packet.PacketHeader.{PacketHeader}
 use Rattle.pcap_core.specs.Answer.{Verdict, whole, lacks, faulty, Number, number_in}
 use Rattle.pcap_core.specs.Link.{Link}
 use Rattle.pcap_classic.specs.Magic.{is_magic, order_of}
-use Rattle.pcap_classic.specs.PacketText.{PacketHeaderSays, Head, HeadText, IsGood, head_fault, spelled_header, nanoseconds, PacketHeaderText, LacksHead, HasHeadFault, Captured}
+use Rattle.pcap_classic.specs.PacketText.{PacketHeaderSays, Head, RecordHeadText, IsGood, head_fault, spelled_header, nanoseconds, PacketHeaderText, LacksHead, HasHeadFault, Captured}
 use Rattle.pcap_classic.specs.HeaderText.{HeaderSays, FieldsText, HeaderText, HasHeaderFault}
 use Rattle.pcap_core.specs.Laws.{ExactlyOne}
 use Rattle.pcap_core.proofs.Links.{plain_same, link_of}
@@ -63,7 +63,7 @@ number_there order w s long = (
   },
 )
 
-head_there : (order : ℕ → List ℕ → ℕ) (s : List ℕ) → 16 ≤ length s → (head : Head) × (rest : List ℕ) × HeadText order head s rest
+head_there : (order : ℕ → List ℕ → ℕ) (s : List ℕ) → 16 ≤ length s → (head : Head) × (rest : List ℕ) × RecordHeadText order head s rest
 head_there order s long =
     let a = number_there order 4 s (omega arith) in
     let la = number_length order 4 a.0 s a.1 a.2 in
@@ -87,7 +87,7 @@ head_there order s long =
 
 -- ---- nothing else is
 
-lacks_head_no_head : (order : ℕ → List ℕ → ℕ) (s : List ℕ) (n : ℕ) (head : Head) (rest : List ℕ) → LacksHead s n → HeadText order head s rest → ⊥
+lacks_head_no_head : (order : ℕ → List ℕ → ℕ) (s : List ℕ) (n : ℕ) (head : Head) (rest : List ℕ) → LacksHead s n → RecordHeadText order head s rest → ⊥
 lacks_head_no_head order s n head rest p text = omega (arith, p.missing, p.some, head_length order head s rest text)
 
 good_no_fault : (limit : ℕ) (order : ℕ → List ℕ → ℕ) (r : TsResolution) (s : List ℕ) (header : PacketHeader) (rest : List ℕ) (fault : Fault) → PacketHeaderText limit order r header s rest → HasHeadFault limit order r s fault → ⊥

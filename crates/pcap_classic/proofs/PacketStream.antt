@@ -7,7 +7,7 @@ use Rattle.pcap_classic.specs.declared.pcap.packet.PacketHeader.{PacketHeader}
 use Rattle.pcap_core.specs.Answer.{Order, faulty}
 use Rattle.pcap_core.specs.Early.{EarlyFault}
 use Rattle.pcap_core.specs.Faults.{Fault}
-use Rattle.pcap_classic.specs.PacketText.{captured, PacketHeaderText, PacketHeaderSays, PacketText, PacketSays}
+use Rattle.pcap_classic.specs.PacketText.{content_of, PacketHeaderText, PacketHeaderSays, PacketText, PacketSays}
 use Rattle.pcap_core.specs.Reading.{IsFaultOf, Reads, ReadsWhere}
 use Rattle.pcap_core.proofs.Refusals.{shows_more}
 use Rattle.pcap_classic.proofs.Stable.{packet_header_more}
@@ -33,7 +33,7 @@ module _ (limit : ℕ) (order : Order) (r : TsResolution) where
 
   -- what refuses a packet's header refuses the packet
   pub header_refuses_packet : (e : PcapError) (before after : Option (List ℕ)) → Reads (PacketHeaderSays limit order r) (λ (header : PacketHeader). header) before after (Err e)
-      → ReadsWhere ⊤ (PacketSays limit order r) captured before after (Err e)
+      → ReadsWhere ⊤ (PacketSays limit order r) content_of before after (Err e)
   header_refuses_packet e before after why =
       elim why [
         | inl io ↦ inl io

@@ -10,7 +10,7 @@ use Rattle.pcap_core.specs.Answer.{number_in, Verdict, whole, lacks, faulty, Ref
 use Rattle.pcap_classic.specs.PacketText.{PacketSays, Captured}
 use Rattle.pcap_core.specs.Laws.{ExactlyOne}
 use Rattle.pcap_core.specs.Format.{Format, IsLawful, Extends, Front}
-use Rattle.pcap_classic.specs.Packets.{packet_format, format_under, RefusingSays, refusing_format, chosen, reader_format}
+use Rattle.pcap_classic.specs.Packets.{packet_format, format_under, RefusingSays, refusing_format, choice, reader_format}
 use Rattle.pcap_classic.specs.Front.{CaptureFront}
 use Rattle.pcap_classic.proofs.One.{header_same}
 use Rattle.pcap_classic.proofs.HeadedPackets.{packets_lawful}
@@ -100,7 +100,7 @@ refusing_lawful = record {
   last = λ q s more n m long lack count again. omega (arith, long, ap length lack.0);
 }
 
-chosen_lawful : (b : Bool) (f g : Format (Unit {0}) Captured) → IsLawful f → IsLawful g → IsLawful (chosen b f g)
+chosen_lawful : (b : Bool) (f g : Format (Unit {0}) Captured) → IsLawful f → IsLawful g → IsLawful (choice b f g)
 chosen_lawful true f g x y = x
 chosen_lawful false f g x y = y
 
@@ -110,7 +110,7 @@ reader_lawful limit header =
     chosen_lawful (is_magic header.magic_number) (format_under limit header) refusing_format
     (packets_lawful limit (number_in (order_of header.magic_number)) (resolution_of header.magic_number)) refusing_lawful
 
-chosen_says : (b : Bool) (f g : Format (Unit {0}) Captured) (s : List ℕ) (v : Verdict Captured) → b ≡ true → f.says tt s v → (chosen b f g).says tt s v
+chosen_says : (b : Bool) (f g : Format (Unit {0}) Captured) (s : List ℕ) (v : Verdict Captured) → b ≡ true → f.says tt s v → (choice b f g).says tt s v
 chosen_says true f g s v e x = x
 chosen_says false f g s v e x = absurd cc
 
@@ -122,7 +122,7 @@ reader_says limit header s v valid x =
     chosen_says (is_magic header.magic_number) (format_under limit header) refusing_format s v valid
     (packets_say limit (number_in (order_of header.magic_number)) (resolution_of header.magic_number) tt s v x)
 
-chosen_refuses : (b : Bool) (f g : Format (Unit {0}) Captured) (s : List ℕ) (v : Verdict Captured) → b ≡ false → g.says tt s v → (chosen b f g).says tt s v
+chosen_refuses : (b : Bool) (f g : Format (Unit {0}) Captured) (s : List ℕ) (v : Verdict Captured) → b ≡ false → g.says tt s v → (choice b f g).says tt s v
 chosen_refuses false f g s v e x = x
 chosen_refuses true f g s v e x = absurd cc
 
@@ -132,7 +132,7 @@ unfolding reader_format refusing_format
 reader_refuses limit header s invalid some =
     chosen_refuses (is_magic header.magic_number) (format_under limit header) refusing_format s (faulty (Invalid CaptureMagic)) invalid (some, refl)
 
-chosen_whole : (b : Bool) (f : Format (Unit {0}) Captured) (s rest : List ℕ) (packet : Captured) → (chosen b f refusing_format).says tt s (whole packet rest) → (b ≡ true) × f.says tt s (whole packet rest)
+chosen_whole : (b : Bool) (f : Format (Unit {0}) Captured) (s rest : List ℕ) (packet : Captured) → (choice b f refusing_format).says tt s (whole packet rest) → (b ≡ true) × f.says tt s (whole packet rest)
 unfolding refusing_format
 chosen_whole true f s rest packet x = (refl, x)
 chosen_whole false f s rest packet x = absurd x

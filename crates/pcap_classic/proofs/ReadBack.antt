@@ -8,19 +8,19 @@ use Rattle.pcap_core.specs.declared.common.Endianness.TheVariants.{Big, Little}
 use Rattle.pcap_core.specs.declared.common.TsResolution.{TsResolution}
 use Rattle.pcap_core.specs.declared.common.TsResolution.TheVariants.{MicroSecond, NanoSecond}
 use Rattle.pcap_core.specs.Answer.{Number, number_in}
-use Rattle.pcap_classic.specs.PacketText.{packet_limit, Head, HeadText, IsGood, Captured, PacketText, nanoseconds}
-use Rattle.pcap_classic.specs.Written.{bytes_in, written, fraction_of, cut, IsWhole}
+use Rattle.pcap_classic.specs.PacketText.{packet_limit, Head, RecordHeadText, IsGood, Captured, PacketText, nanoseconds}
+use Rattle.pcap_classic.specs.Written.{number_bytes, record_bytes, fraction_of, cut, IsWhole}
 
-pub bytes_length : (e : Endianness) (w n : ℕ) → length (bytes_in e w n) ≡ w
+pub bytes_length : (e : Endianness) (w n : ℕ) → length (number_bytes e w n) ≡ w
 bytes_length Big w n = length-bytes_high_first w n
 bytes_length Little w n = length-bytes_low_first 0 w n
 
-pub read_back : (e : Endianness) (w n : ℕ) → n < 256 ^ w → number_in e w (bytes_in e w n) ≡ n
+pub read_back : (e : Endianness) (w n : ℕ) → n < 256 ^ w → number_in e w (number_bytes e w n) ≡ n
 read_back Big w n lt = ap (big_number w) (sym (append-nil (big_bytes w n))) ∙ big_number-reads_back w n [] lt
 read_back Little w n lt = ap (little_number w) (sym (append-nil (little_bytes w n))) ∙ little_number-reads_back w n [] lt
 
-number_again : (e : Endianness) (n : ℕ) (rest : List ℕ) → n < 2 ^ 32 → Number (number_in e) 4 n (bytes_in e 4 n ++ rest) rest
-number_again e n rest lt = record { bytes = bytes_in e 4 n; text = refl; length_is = bytes_length e 4 n; value = read_back e 4 n lt }
+number_again : (e : Endianness) (n : ℕ) (rest : List ℕ) → n < 2 ^ 32 → Number (number_in e) 4 n (number_bytes e 4 n ++ rest) rest
+number_again e n rest lt = record { bytes = number_bytes e 4 n; text = refl; length_is = bytes_length e 4 n; value = read_back e 4 n lt }
 
 fraction_below : (r : TsResolution) (n : ℕ) → n < 2 ^ 32 → nanoseconds r (fraction_of r n) ≤ 4294967295
 fraction_below MicroSecond n lt = omega arith
@@ -30,15 +30,15 @@ fraction_fits : (r : TsResolution) (n : ℕ) → n < 2 ^ 32 → fraction_of r n 
 fraction_fits MicroSecond n lt = omega arith
 fraction_fits NanoSecond n lt = lt
 
-pub written_again : (e : Endianness) (r : TsResolution) (packet : Captured) (rest : List ℕ) → IsWhole packet → PacketText packet_limit (number_in e) r (cut r packet) (written (bytes_in e) r packet ++ rest) rest
+pub written_again : (e : Endianness) (r : TsResolution) (packet : Captured) (rest : List ℕ) → IsWhole packet → PacketText packet_limit (number_in e) r (cut r packet) (record_bytes (number_bytes e) r packet ++ rest) rest
 written_again e r packet rest whole =
-    let b1 = bytes_in e 4 packet.header.ts_sec in
-    let b2 = bytes_in e 4 (fraction_of r packet.header.ts_nsec) in
-    let b3 = bytes_in e 4 packet.header.incl_len in
-    let b4 = bytes_in e 4 packet.header.orig_len in
+    let b1 = number_bytes e 4 packet.header.ts_sec in
+    let b2 = number_bytes e 4 (fraction_of r packet.header.ts_nsec) in
+    let b3 = number_bytes e 4 packet.header.incl_len in
+    let b4 = number_bytes e 4 packet.header.orig_len in
     let regrouped : ((b1 ++ (b2 ++ (b3 ++ b4))) ++ packet.bytes) ++ rest ≡ b1 ++ (b2 ++ (b3 ++ (b4 ++ (packet.bytes ++ rest)))) = simp append_assoc in
     let head : Head = record { seconds = packet.header.ts_sec; fraction = fraction_of r packet.header.ts_nsec; included = packet.header.incl_len; original = packet.header.orig_len } in
-    let text : HeadText (number_in e) head (b1 ++ (b2 ++ (b3 ++ (b4 ++ (packet.bytes ++ rest))))) (packet.bytes ++ rest) = record {
+    let text : RecordHeadText (number_in e) head (b1 ++ (b2 ++ (b3 ++ (b4 ++ (packet.bytes ++ rest))))) (packet.bytes ++ rest) = record {
       after_seconds = b2 ++ (b3 ++ (b4 ++ (packet.bytes ++ rest)));
       after_fraction = b3 ++ (b4 ++ (packet.bytes ++ rest));
       after_included = b4 ++ (packet.bytes ++ rest);

@@ -18,13 +18,13 @@ use Rattle.pcap_classic.specs.PacketText.{packet_limit, Captured}
 use Rattle.pcap_core.specs.Format.{Texts}
 use Rattle.pcap_classic.specs.Packets.{packet_format, format_under}
 use Rattle.pcap_classic.specs.Front.{CaptureFront}
-use Rattle.pcap_classic.specs.Written.{bytes_in, written, written_header, capture, cut, IsWhole, IsWholeHeader}
+use Rattle.pcap_classic.specs.Written.{number_bytes, record_bytes, written_header, capture, cut, IsWhole, IsWholeHeader}
 use Rattle.pcap_core.proofs.Formats.{nothing_no_text}
 use Rattle.pcap_classic.proofs.HeadedPackets.{packets_lawful}
 use Rattle.pcap_classic.proofs.ReadBack.{bytes_length, read_back, written_again}
 
-again : (e : Endianness) (w n : ℕ) (rest : List ℕ) → n < 256 ^ w → Number (number_in e) w n (bytes_in e w n ++ rest) rest
-again e w n rest lt = record { bytes = bytes_in e w n; text = refl; length_is = bytes_length e w n; value = read_back e w n lt }
+again : (e : Endianness) (w n : ℕ) (rest : List ℕ) → n < 256 ^ w → Number (number_in e) w n (number_bytes e w n ++ rest) rest
+again e w n rest lt = record { bytes = number_bytes e w n; text = refl; length_is = bytes_length e w n; value = read_back e w n lt }
 
 bits_below : (z : ℤ) → FitsSigned w32 z → cast_unsigned w32 z < 2 ^ 32
 bits_below z fits = omega (arith, ints)
@@ -34,12 +34,12 @@ header_again h rest fits =
     let e = order_of h.magic_number in
     let bits = cast_unsigned w32 h.ts_correction in
     let magic = big_bytes 4 h.magic_number in
-    let major = bytes_in e 2 h.version_major in
-    let minor = bytes_in e 2 h.version_minor in
-    let correction = bytes_in e 4 bits in
-    let accuracy = bytes_in e 4 h.ts_accuracy in
-    let snaplen = bytes_in e 4 h.snaplen in
-    let link = bytes_in e 4 (link_number h.datalink) in
+    let major = number_bytes e 2 h.version_major in
+    let minor = number_bytes e 2 h.version_minor in
+    let correction = number_bytes e 4 bits in
+    let accuracy = number_bytes e 4 h.ts_accuracy in
+    let snaplen = number_bytes e 4 h.snaplen in
+    let link = number_bytes e 4 (link_number h.datalink) in
     let behind : List ℕ = major ++ (minor ++ (correction ++ (accuracy ++ (snaplen ++ (link ++ rest))))) in
     let regrouped : (magic ++ (major ++ (minor ++ (correction ++ (accuracy ++ (snaplen ++ link)))))) ++ rest ≡ magic ++ behind = simp append_assoc in
     let fields : FieldsText (number_in e) h behind rest = record {
@@ -63,11 +63,11 @@ header_again h rest fits =
     subst (λ (s : List ℕ). HeaderText h s rest) (sym regrouped) text
 
 packets_again : (e : Endianness) (r : TsResolution) (packets : List Captured) → All IsWhole packets
-    → Texts (packet_format packet_limit (number_in e) r) tt (map (cut r) packets) (flat_map (written (bytes_in e) r) packets) []
+    → Texts (packet_format packet_limit (number_in e) r) tt (map (cut r) packets) (flat_map (record_bytes (number_bytes e) r) packets) []
 unfolding packet_format
 packets_again e r [] each = refl
 packets_again e r (packet ∷ packets) each =
-    let more = flat_map (written (bytes_in e) r) packets in
+    let more = flat_map (record_bytes (number_bytes e) r) packets in
     (more, written_again e r packet more (each 0 packet (omega arith)), packets_again e r packets (All-tail IsWhole packet packets each))
 
 pub capture_again : (h : PcapHeader) (packets : List Captured) → IsWholeHeader h → All IsWhole packets
@@ -75,7 +75,7 @@ pub capture_again : (h : PcapHeader) (packets : List Captured) → IsWholeHeader
 capture_again h packets fits each =
     let e = order_of h.magic_number in
     let r = resolution_of h.magic_number in
-    let after = flat_map (written (bytes_in e) r) packets in
+    let after = flat_map (record_bytes (number_bytes e) r) packets in
     record {
       after = after;
       header_text = header_again h after fits;

@@ -8,7 +8,7 @@ use Rattle.pcap_classic.specs.declared.pcap.header.PcapHeader.{PcapHeader}
 use Rattle.pcap_classic.specs.declared.pcap.packet.PacketHeader.{PacketHeader}
 use Rattle.pcap_core.specs.Answer.{Number, number_in}
 use Rattle.pcap_classic.specs.Magic.{order_of}
-use Rattle.pcap_classic.specs.PacketText.{PacketHeaderSays, Head, HeadText, PacketHeaderText, LacksHead, HasHeadFault}
+use Rattle.pcap_classic.specs.PacketText.{PacketHeaderSays, Head, RecordHeadText, PacketHeaderText, LacksHead, HasHeadFault}
 use Rattle.pcap_classic.specs.HeaderText.{HeaderSays, FieldsText, HeaderText}
 use Rattle.pcap_core.specs.Laws.{IsStable}
 
@@ -16,7 +16,7 @@ module _ (more : List ℕ) where
   number_more : (order : ℕ → List ℕ → ℕ) (w n : ℕ) (s a : List ℕ) → Number order w n s a → Number order w n (s ++ more) (a ++ more)
   number_more order w n s a p = record { bytes = p.bytes; text = ap (λ t. t ++ more) p.text ∙ append_assoc p.bytes a more; length_is = p.length_is; value = p.value }
 
-  pub head_more : (order : ℕ → List ℕ → ℕ) (h : Head) (s a : List ℕ) → HeadText order h s a → HeadText order h (s ++ more) (a ++ more)
+  pub head_more : (order : ℕ → List ℕ → ℕ) (h : Head) (s a : List ℕ) → RecordHeadText order h s a → RecordHeadText order h (s ++ more) (a ++ more)
   head_more order h s a p = record {
     after_seconds = p.after_seconds ++ more;
     after_fraction = p.after_fraction ++ more;

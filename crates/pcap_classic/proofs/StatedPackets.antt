@@ -1,25 +1,25 @@
 -- What a packet's header states.
-use Rattle.std.proofs.Common.{◌≡◌, ◌<◌, ◌+◌, ℕ, List, [], ◌∷◌, ◌++◌, length, drop, Bool, true, false, refl, sym, ap, subst, ◌∙◌, arith, append-nil, inl, inr, Option, Some, None, Result, Ok, Err}
+use Rattle.std.proofs.Common.{◌≡◌, ◌<◌, ℕ, List, [], ◌∷◌, ◌++◌, length, drop, Bool, true, false, refl, sym, ap, subst, ◌∙◌, arith, append-nil, inr, Option, Some, None, Result, Ok, Err}
 use Rattle.std.proofs.lemmas.List.{drop_at}
 use Rattle.pcap_core.specs.declared.errors.PcapError.{PcapError}
 use Rattle.pcap_classic.specs.declared.pcap.header.PcapHeader.{PcapHeader}
 use Rattle.pcap_classic.specs.declared.pcap.packet.PacketHeader.{PacketHeader}
-use Rattle.pcap_core.specs.Answer.{Order, number_in, Verdict, whole, lacks, faulty, Refuses}
+use Rattle.pcap_core.specs.Answer.{number_in, whole, lacks, faulty, Refuses}
 use Rattle.pcap_core.specs.Faults.{Fault, Shows}
 use Rattle.pcap_core.specs.Format.{Format}
 use Rattle.pcap_classic.specs.Magic.{is_magic, order_of, resolution_of}
-use Rattle.pcap_classic.specs.PacketText.{packet_limit, Captured, PacketHeaderText, PacketText, PacketHeaderSays, LacksHead, HasHeadFault, PacketSays}
+use Rattle.pcap_classic.specs.PacketText.{packet_limit, Captured, PacketHeaderText, PacketText, LacksHead, HasHeadFault}
 use Rattle.std.specs.Prelude.{is_some}
 use Rattle.pcap_core.specs.Asked.{FillsItem}
 use Rattle.pcap_core.specs.Reading.{Pulls}
-use Rattle.pcap_classic.specs.Packets.{packet_format, chosen, reader_format}
+use Rattle.pcap_classic.specs.Packets.{packet_format, choice, reader_format}
 use Rattle.pcap_classic.proofs.Packets.{reader_says}
 use Rattle.pcap_core.proofs.Refusals.{refuses_shows, shows_more}
 use Rattle.pcap_classic.proofs.Stable.{packet_header_more}
 use Rattle.pcap_core.specs.Filling.{Stated, FillsHeaded}
 use Rattle.pcap_classic.specs.StatedPackets.{KnowsHeader, shown_in}
 
-chosen_head : (b : Bool) (f g : Format (Unit {0}) Captured) → b ≡ true → (chosen b f g).head ≡ f.head
+chosen_head : (b : Bool) (f g : Format (Unit {0}) Captured) → b ≡ true → (choice b f g).head ≡ f.head
 chosen_head true f g e = refl
 chosen_head false f g e = absurd cc
 

@@ -1,5 +1,5 @@
 -- What a text says is said once: no two values have texts that begin the same bytes.
-use Rattle.std.proofs.Common.{◌≡◌, ℕ, ◌+◌, List, [], ◌∷◌, ◌++◌, length, false, None, refl, sym, ap, subst, ◌∙◌, arith, append_assoc}
+use Rattle.std.proofs.Common.{◌≡◌, ℕ, ◌+◌, List, length, false, None, refl, sym, ap, subst, ◌∙◌, arith}
 use Rattle.std.specs.Prelude.{nat_lt}
 use Rattle.std.proofs.lemmas.List.{length-append}
 use Rattle.std.proofs.lemmas.Bool.{le-ltb}
@@ -10,8 +10,8 @@ use Rattle.pcap_classic.specs.declared.pcap.header.PcapHeader.{PcapHeader}
 use Rattle.pcap_core.specs.Answer.{Number, number_in}
 use Rattle.pcap_classic.specs.Magic.{order_of}
 use Rattle.pcap_classic.specs.HeaderText.{FieldsText, HeaderText}
-use Rattle.pcap_classic.specs.PacketText.{Head, HeadText, IsGood, head_fault, spelled_header, nanoseconds, PacketHeaderText, Captured, PacketText}
-use Rattle.pcap_core.proofs.Texts.{split_same, number_same, number_length, joined}
+use Rattle.pcap_classic.specs.PacketText.{Head, RecordHeadText, IsGood, head_fault, spelled_header, nanoseconds, PacketHeaderText, Captured, PacketText}
+use Rattle.pcap_core.proofs.Texts.{number_same, number_length}
 
 -- a head by its four numbers
 make_head : ℕ → ℕ → ℕ → ℕ → Head
@@ -31,7 +31,7 @@ good_has_none limit r head good =
     rw (a, b, d, e) refl
 
 module _ (order : ℕ → List ℕ → ℕ) where
-  pub head_same : (h k : Head) (s a b : List ℕ) → HeadText order h s a → HeadText order k s b → (h ≡ k) × (a ≡ b)
+  pub head_same : (h k : Head) (s a b : List ℕ) → RecordHeadText order h s a → RecordHeadText order k s b → (h ≡ k) × (a ≡ b)
   head_same h k s a b p q =
       let e1 = number_same order 4 h.seconds k.seconds s p.after_seconds q.after_seconds p.seconds q.seconds in
       let p2 = subst (λ (t : List ℕ). Number order 4 h.fraction t p.after_fraction) e1.1 p.fraction in
@@ -42,7 +42,7 @@ module _ (order : ℕ → List ℕ → ℕ) where
       let e4 = number_same order 4 h.original k.original q.after_included a b p4 q.original in
       (head_is h k e1.0 e2.0 e3.0 e4.0, e4.1)
 
-  pub head_length : (h : Head) (s a : List ℕ) → HeadText order h s a → length s ≡ 16 + length a
+  pub head_length : (h : Head) (s a : List ℕ) → RecordHeadText order h s a → length s ≡ 16 + length a
   head_length h s a p =
       omega (
         arith,

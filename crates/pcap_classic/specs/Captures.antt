@@ -3,7 +3,7 @@ use Rattle.std.specs.Prelude.{ℕ, List, map, Option}
 use Rattle.pcap_classic.specs.declared.run.PcapRead.{PcapRead}
 use Rattle.pcap_classic.specs.HeaderText.{HeaderSays, HeaderText}
 use Rattle.pcap_classic.specs.Packets.{format_under}
-use Rattle.pcap_classic.specs.PacketText.{packet_limit, captured}
+use Rattle.pcap_classic.specs.PacketText.{packet_limit, content_of}
 use Rattle.pcap_core.specs.Reading.{Takes}
 use Rattle.pcap_core.specs.Takes.{TakesItems, ReadsFront}
 
@@ -12,9 +12,9 @@ pub record TakesCapture (known : Option (List ℕ)) (most : ℕ) (read : PcapRea
   pub after : Option (List ℕ)
   pub now : Option (List ℕ)
   pub header : Takes HeaderSays known after read.header
-  pub items : TakesItems (format_under packet_limit read.header) tt after now read.failed most (map captured read.packets.items) read.fault
+  pub items : TakesItems (format_under packet_limit read.header) tt after now read.failed most (map content_of read.packets.items) read.fault
 
 -- the header is that of the bytes, and whatever failed, the packets are a beginning of the front's
 abbrev pub ReadsCapture : List ℕ → ℕ → PcapRead → Type 0
 ReadsCapture bytes most read =
-    (after : List ℕ) × HeaderText read.header bytes after × ReadsFront (format_under packet_limit read.header) tt after most (map captured read.packets.items) read.fault read.failed
+    (after : List ℕ) × HeaderText read.header bytes after × ReadsFront (format_under packet_limit read.header) tt after most (map content_of read.packets.items) read.fault read.failed

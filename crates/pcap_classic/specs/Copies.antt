@@ -48,8 +48,8 @@ pub record IsNew (copied : Copied) : Type 0 where
   pub no_write_failed : copied.write_failed ≡ false
 
 -- a copy that ended with this result
-abbrev pub ended : Copied → Result (Unit {0}) PcapError → Copied
-ended copied result = record copied { fault = result_err result }
+abbrev pub outcome_of : Copied → Result (Unit {0}) PcapError → Copied
+outcome_of copied result = record copied { fault = result_err result }
 
 -- the item that the held bytes are was written, or a write failed
 abbrev pub WritesHeld : {V : Type 0} → (List ℕ → Verdict V → Type 0) → (V → List ℕ) → List ℕ → Option (List ℕ) → Option (List ℕ) → Result (Unit {0}) PcapError → Type 0
@@ -105,7 +105,7 @@ pub record EndsTorn (IsNext : Captured → Type 0) (under : PcapHeader) (mid out
   pub out : AppendsPart mid out_now (written_under under packet)
 
 -- Behind them the reader refused what is left, took a part of it, and nothing more went out.
-pub record EndsRefused (IsCause : PcapError → Type 0) (IsPart : Type 0) (mid out_now : Option (List ℕ)) (most : ℕ) (copied : Copied) : Type 0 where
+pub record CopyEndsRefused (IsCause : PcapError → Type 0) (IsPart : Type 0) (mid out_now : Option (List ℕ)) (most : ℕ) (copied : Copied) : Type 0 where
   pub fewer : copied.packets < most
   pub refused : IsSomeAnd copied.fault IsCause
   pub part : IsPart
@@ -115,7 +115,7 @@ pub record EndsRefused (IsCause : PcapError → Type 0) (IsPart : Type 0) (mid o
 -- why a copy ended behind so many packets
 abbrev pub Ends : Type 0 → (Captured → Type 0) → (PcapError → Type 0) → Type 0 → PcapHeader → Option (List ℕ) → Option (List ℕ) → Option (List ℕ) → Option (List ℕ) → ℕ → Copied → Type 0
 Ends IsEnd IsNext IsCause IsPart under left now mid out_now most copied =
-    EndsWhole IsEnd left now mid out_now most copied ⊎ EndsTorn IsNext under mid out_now most copied ⊎ EndsRefused IsCause IsPart mid out_now most copied
+    EndsWhole IsEnd left now mid out_now most copied ⊎ EndsTorn IsNext under mid out_now most copied ⊎ CopyEndsRefused IsCause IsPart mid out_now most copied
 
 -- So many packets behind a header were taken, and went out under another.
 pub record Copying (header under : PcapHeader) (before now out_before out_now : Option (List ℕ)) (n : ℕ) : Type 0 where

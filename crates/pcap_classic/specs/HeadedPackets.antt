@@ -4,15 +4,15 @@ use Rattle.pcap_core.specs.declared.common.TsResolution.{TsResolution}
 use Rattle.pcap_classic.specs.declared.pcap.packet.PacketHeader.{PacketHeader}
 use Rattle.pcap_core.specs.Answer.{Order}
 use Rattle.pcap_classic.specs.PacketText.{Captured, PacketHeaderText, HasHeadFault}
-use Rattle.pcap_core.specs.Headed.{Reading, good, bad, Headed}
+use Rattle.pcap_core.specs.Headed.{HeadReading, good, bad, Headed}
 
 -- what is said of a head: the header whose text it is, or its fault
-abbrev pub HeadReads : ℕ → Order → TsResolution → List ℕ → Reading PacketHeader → Type 0
+abbrev pub HeadReads : ℕ → Order → TsResolution → List ℕ → HeadReading PacketHeader → Type 0
 HeadReads limit order r b (good header) = PacketHeaderText limit order r header b []
 HeadReads limit order r b (bad fault) = HasHeadFault limit order r b fault
 
 -- what is said of data: with its header it is a packet
-abbrev pub DataReads : PacketHeader → List ℕ → Reading Captured → Type 0
+abbrev pub DataReads : PacketHeader → List ℕ → HeadReading Captured → Type 0
 DataReads header b (good packet) = (packet.header ≡ header) × (packet.bytes ≡ b)
 DataReads header b (bad fault) = ⊥
 

@@ -21,7 +21,7 @@ pub record Head : Type 0 where
   pub original : ℕ
 
 -- s is the four numbers of a head, and then rest
-pub record HeadText (order : Order) (head : Head) (s rest : List ℕ) : Type 0 where
+pub record RecordHeadText (order : Order) (head : Head) (s rest : List ℕ) : Type 0 where
   pub after_seconds : List ℕ
   pub after_fraction : List ℕ
   pub after_included : List ℕ
@@ -61,7 +61,7 @@ IsHeadFault limit r head fault = head_fault limit r head ≡ Some fault
 -- s is the text of a packet's header, and then rest
 pub record PacketHeaderText (limit : ℕ) (order : Order) (r : TsResolution) (header : PacketHeader) (s rest : List ℕ) : Type 0 where
   pub head : Head
-  pub text : HeadText order head s rest
+  pub text : RecordHeadText order head s rest
   pub good : IsGood limit r head
   pub value : header ≡ spelled_header r head
 
@@ -74,7 +74,7 @@ pub record LacksHead (s : List ℕ) (n : ℕ) : Type 0 where
 pub record HasHeadFault (limit : ℕ) (order : Order) (r : TsResolution) (s : List ℕ) (fault : Fault) : Type 0 where
   pub head : Head
   pub after : List ℕ
-  pub text : HeadText order head s after
+  pub text : RecordHeadText order head s after
   pub first : IsHeadFault limit r head fault
 
 -- a packet, without where its bytes lie
@@ -83,8 +83,8 @@ pub record Captured : Type 0 where
   pub bytes : List ℕ
 
 -- what a packet says, wherever its bytes lie
-abbrev pub captured : Packet → Captured
-captured packet = record { header = packet.header; bytes = cow_bytes packet.data_ }
+abbrev pub content_of : Packet → Captured
+content_of packet = record { header = packet.header; bytes = cow_bytes packet.data_ }
 
 -- s is the text of a packet, and then rest
 pub record PacketText (limit : ℕ) (order : Order) (r : TsResolution) (packet : Captured) (s rest : List ℕ) : Type 0 where

@@ -28,10 +28,10 @@ unfoldable pub refusing_format : Format (Unit {0}) Captured
 refusing_format = record { says = λ q. RefusingSays; goes = λ q packet. q; head = 1 }
 
 -- the first format where it is true, else the second
-abbrev pub chosen : {S V : Type 0} → Bool → Format S V → Format S V → Format S V
-chosen true f g = f
-chosen false f g = g
+abbrev pub choice : {S V : Type 0} → Bool → Format S V → Format S V → Format S V
+choice true f g = f
+choice false f g = g
 
 -- what a reader reads under its header as it stands
 unfoldable pub reader_format : ℕ → PcapHeader → Format (Unit {0}) Captured
-reader_format limit header = chosen (is_magic header.magic_number) (format_under limit header) refusing_format
+reader_format limit header = choice (is_magic header.magic_number) (format_under limit header) refusing_format

@@ -1,20 +1,14 @@
 -- What a run over a whole slice tells.
-use Rattle.std.specs.Prelude.{◌≡◌, ◌<◌, ◌+◌, ℕ, List, [], length, map}
-use Rattle.pcap_core.specs.declared.errors.PcapError.{PcapError}
-use Rattle.pcap_core.specs.declared.errors.PcapError.TheVariants.{IncompleteBuffer}
-use Rattle.pcap_core.specs.declared.rest.Rest.{Rest}
-use Rattle.pcap_core.specs.declared.rest.Rest.TheVariants.{Clean, Needs, Refused}
+use Rattle.std.specs.Prelude.{◌≡◌, ◌+◌, ℕ, List, length, map}
 use Rattle.pcap_classic.specs.declared.run.PcapRun.{PcapRun}
-use Rattle.pcap_core.specs.Answer.{Verdict, lacks, faulty}
-use Rattle.pcap_core.specs.Faults.{Shows}
-use Rattle.pcap_classic.specs.PacketText.{packet_limit, captured}
+use Rattle.pcap_classic.specs.PacketText.{packet_limit, content_of}
 use Rattle.pcap_classic.specs.Packets.{format_under}
 use Rattle.pcap_classic.specs.Front.{CaptureFront}
-use Rattle.pcap_core.specs.Run.{IsRest, rest_after}
+use Rattle.pcap_core.specs.Run.{IsRest}
 
 -- The run is the front of s: its header and packets, its length, and what is said of its rest.
 pub record IsRun (run : PcapRun) (s : List ℕ) : Type 0 where
   pub left : List ℕ
-  pub front : CaptureFront packet_limit run.header (map captured run.packets.items) s left
+  pub front : CaptureFront packet_limit run.header (map content_of run.packets.items) s left
   pub used : run.used + length left ≡ length s
   pub rest : IsRest ((format_under packet_limit run.header).says tt) left run.rest

@@ -1,5 +1,5 @@
 -- What is known of a packet once its header is read.
-use Rattle.std.specs.Prelude.{◌≡◌, ℕ, List, [], drop, Bool, true}
+use Rattle.std.specs.Prelude.{◌≡◌, ℕ, List, [], drop, true}
 use Rattle.pcap_classic.specs.declared.pcap.header.PcapHeader.{PcapHeader}
 use Rattle.pcap_classic.specs.declared.pcap.packet.PacketHeader.{PacketHeader}
 use Rattle.pcap_core.specs.Answer.{number_in}

@@ -1,5 +1,5 @@
 -- What calls that write say.
-use Rattle.std.specs.Prelude.{◌≡◌, ◌<◌, ℕ, List, ◌++◌, length, Bool, true, false, IsTrue, Option, Result, Ok, Err}
+use Rattle.std.specs.Prelude.{◌≡◌, ℕ, List, Bool, true, false, IsTrue, Option, Result, Ok, Err}
 use Rattle.std.specs.Io.KnownBytes.{Appends}
 use Rattle.pcap_core.specs.declared.errors.PcapError.{PcapError}
 use Rattle.pcap_core.specs.declared.errors.PcapError.TheVariants.{IoError, InvalidField, WriterFailed}
@@ -10,11 +10,11 @@ use Rattle.pcap_core.specs.Faults.{text_of}
 use Rattle.pcap_classic.specs.Magic.{is_magic}
 use Rattle.pcap_classic.specs.PacketText.{Captured}
 use Rattle.pcap_classic.specs.Written.{written_header, written_under}
-use Rattle.pcap_core.specs.Writing.{Writes, AppendsPart, WritesAll}
+use Rattle.pcap_core.specs.Writing.{AppendsPart}
 
 -- the stream behind a writer
-abbrev pub writer_of : {W : Type 0} → PcapWriter W → W
-writer_of w = w.inner
+abbrev pub stream_of : {W : Type 0} → PcapWriter W → W
+stream_of w = w.inner
 
 -- a write of the stream behind a writer failed
 abbrev pub has_failed : {W : Type 0} → PcapWriter W → Bool
@@ -31,7 +31,7 @@ RefusesMagic header text = (is_magic header.magic_number ≡ false) × (text ≡
 -- One call that makes a writer: the header's text went out, or its magic number is refused, or a write failed.
 abbrev pub OpensWriter : {W : Type 0} → (W → Option (List ℕ)) → PcapHeader → W → Result (PcapWriter W) PcapError → Type 0
 OpensWriter contents header writer (Ok made) =
-    IsWritable header × (made.header ≡ header) × (has_failed made ≡ false) × Appends (contents writer) (contents (writer_of made)) (written_header header)
+    IsWritable header × (made.header ≡ header) × (has_failed made ≡ false) × Appends (contents writer) (contents (stream_of made)) (written_header header)
 OpensWriter contents header writer (Err (InvalidField text)) = RefusesMagic header text.now
 OpensWriter contents header writer (Err (IoError e)) = IsWritable header
 OpensWriter contents header writer (Err _) = ⊥
@@ -43,8 +43,8 @@ WritesPacket contents old new packet (Err WriterFailed) = (has_failed old ≡ tr
 WritesPacket contents old new packet (Err (InvalidField text)) = (has_failed old ≡ false) × RefusesMagic old.header text.now × (new ≡ old)
 WritesPacket contents old new packet (Ok u) =
     (has_failed old ≡ false) × IsWritable old.header × (has_failed new ≡ false)
-    × Appends (contents (writer_of old)) (contents (writer_of new)) (written_under old.header packet)
+    × Appends (contents (stream_of old)) (contents (stream_of new)) (written_under old.header packet)
 WritesPacket contents old new packet (Err (IoError e)) =
     (has_failed old ≡ false) × IsWritable old.header × (has_failed new ≡ true)
-    × AppendsPart (contents (writer_of old)) (contents (writer_of new)) (written_under old.header packet)
+    × AppendsPart (contents (stream_of old)) (contents (stream_of new)) (written_under old.header packet)
 WritesPacket contents old new packet (Err _) = ⊥

@@ -14,9 +14,9 @@ use Rattle.pcap_classic.specs.Magic.{is_magic, order_of, resolution_of}
 use Rattle.pcap_classic.specs.PacketText.{Captured, packet_limit, nanoseconds}
 
 -- the bytes of a number in an order
-abbrev pub bytes_in : Endianness → ℕ → ℕ → List ℕ
-bytes_in Big = big_bytes
-bytes_in Little = little_bytes
+abbrev pub number_bytes : Endianness → ℕ → ℕ → List ℕ
+number_bytes Big = big_bytes
+number_bytes Little = little_bytes
 
 -- the fraction that is written for these nanoseconds
 abbrev pub fraction_of : TsResolution → ℕ → ℕ
@@ -29,8 +29,8 @@ packet_header_bytes bytes r header =
     bytes 4 header.ts_sec ++ (bytes 4 (fraction_of r header.ts_nsec) ++ (bytes 4 header.incl_len ++ bytes 4 header.orig_len))
 
 -- a packet as it is written by an order: its header, and then its bytes (pcap draft, 'Packet Record')
-abbrev pub written : (ℕ → ℕ → List ℕ) → TsResolution → Captured → List ℕ
-written bytes r packet = packet_header_bytes bytes r packet.header ++ packet.bytes
+abbrev pub record_bytes : (ℕ → ℕ → List ℕ) → TsResolution → Captured → List ℕ
+record_bytes bytes r packet = packet_header_bytes bytes r packet.header ++ packet.bytes
 
 -- a header as it is written by an order, the magic number high byte first (pcap draft, 'File Header')
 abbrev pub header_bytes : (ℕ → ℕ → List ℕ) → PcapHeader → List ℕ
@@ -41,11 +41,11 @@ header_bytes bytes header =
 
 -- a header as it is written in the order that its magic number tells
 abbrev pub written_header : PcapHeader → List ℕ
-written_header header = header_bytes (bytes_in (order_of header.magic_number)) header
+written_header header = header_bytes (number_bytes (order_of header.magic_number)) header
 
 -- a packet as it is written in the order and resolution that a header's magic number tells
 abbrev pub written_under : PcapHeader → Captured → List ℕ
-written_under header packet = written (bytes_in (order_of header.magic_number)) (resolution_of header.magic_number) packet
+written_under header packet = record_bytes (number_bytes (order_of header.magic_number)) (resolution_of header.magic_number) packet
 
 -- a whole capture: its header, and then its packets
 abbrev pub capture : PcapHeader → List Captured → List ℕ

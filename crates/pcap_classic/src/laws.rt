@@ -22,10 +22,10 @@ ghost use Rattle.pcap_classic.specs.Magic.{is_magic, resolution_of};
 ghost use Rattle.pcap_classic.specs.Packets.{packet_format, reader_format};
 ghost use Rattle.pcap_classic.specs.PacketText.{packet_limit, PacketSays, PacketHeaderSays, Captured, PacketText};
 ghost use Rattle.pcap_core.specs.Reading.{TakesAsked, TakesAtMost};
-ghost use Rattle.pcap_classic.specs.Written.{IsWhole, IsWholeHeader, bytes_in, capture, cut, written};
+ghost use Rattle.pcap_classic.specs.Written.{IsWhole, IsWholeHeader, number_bytes, capture, cut, record_bytes};
 
-use pcap_core::DataLink;
 use crate::pcap::{PacketHeader, PcapHeader};
+use pcap_core::DataLink;
 
 /// Of each slice exactly one thing is said where a capture's header is asked for: its text begins the slice, so
 /// many bytes lack, or there is one fault.
@@ -104,7 +104,7 @@ pub fn front_is_written()
 /// A packet that is written is read again, its nanoseconds cut as the resolution demands.
 pub fn written_packet_is_read()
     ensures { (e : Endianness) (r : TsResolution) (packet : Captured) (rest : List ℕ) → IsWhole packet →
-        PacketText packet_limit (number_in e) r (cut r packet) (written (bytes_in e) r packet ++ rest) rest }
+        PacketText packet_limit (number_in e) r (cut r packet) (record_bytes (number_bytes e) r packet ++ rest) rest }
 {}
 
 /// The link type that a number gives has that number.

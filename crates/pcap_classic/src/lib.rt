@@ -6,5 +6,6 @@ pub mod pcap;
 pub mod run;
 pub mod stream;
 
-pub use pcap_core::rules;
-pub use pcap_core::{CowBytes, DataLink, Endianness, PcapError, ResultParsing, TsResolution};
+pub use pcap_core::{
+    CowBytes, DataLink, Endianness, PcapError, ResultParsing, TsResolution, rules,
+};

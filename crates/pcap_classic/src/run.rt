@@ -10,7 +10,7 @@ ghost use Rattle.pcap_core.specs.Errors.{IsIo};
 ghost use Rattle.pcap_core.specs.Faults.{Shows};
 ghost use Rattle.pcap_classic.specs.HeaderText.{LacksHeader, HasHeaderFault, HeaderSays};
 ghost use Rattle.pcap_classic.specs.Packets.{reader_format};
-ghost use Rattle.pcap_classic.specs.PacketText.{packet_limit, captured};
+ghost use Rattle.pcap_classic.specs.PacketText.{packet_limit, content_of};
 ghost use Rattle.pcap_classic.specs.Reader.{stream_of, has_failed, is_done};
 ghost use Rattle.pcap_core.specs.Reading.{IsFaultOf};
 ghost use Rattle.pcap_core.specs.Takes.{TakesItems};
@@ -18,9 +18,9 @@ ghost use Rattle.pcap_classic.specs.Run.{IsRun};
 ghost use Rattle.pcap_core.specs.Run.{rest_after};
 
 use crate::pcap::{Packet, PcapHeader, PcapParser, PcapReader};
-use pcap_core::{PcapError, ResultParsing};
 pub use copy::{Copied, Under, copy_pcap};
 pub use pcap_core::Rest;
+use pcap_core::{PcapError, ResultParsing};
 use std::alloc::Global;
 use std::io::Read;
 
@@ -125,7 +125,7 @@ fn take_packets<T: Read + Drop>(
     requires unfailed { has_failed reader.old ≡ false }
     ensures header { reader.new.header ≡ reader.old.header }
     ensures taken { TakesItems (reader_format packet_limit reader.old.header) tt (T.remaining (stream_of reader.old)) (T.remaining (stream_of reader.new))
-        (has_failed reader.new) most (map captured result.0.items) result.1 }
+        (has_failed reader.new) most (map content_of result.0.items) result.1 }
 {
     let mut packets = Vec::new(alloc);
     for turn in 0..most {

@@ -4,20 +4,17 @@ use Rattle.std.proofs.lemmas.Bool.{cases_lt}
 use Rattle.std.proofs.lemmas.List.{length-take-le, take-append-drop, take-append-le}
 use Rattle.std.proofs.Math.Seq.{take-append-add}
 use Rattle.pcap_core.specs.Answer.{Verdict, whole, lacks, faulty}
+use Rattle.pcap_core.specs.Filling.{IsAskedFor}
 use Rattle.pcap_core.specs.Format.{Format, IsLawful}
 use Rattle.pcap_core.specs.Reading.{IsShort}
 use Rattle.pcap_core.proofs.Formats.{text_same, fault_no_text}
 
 module _ {S V : Type 0} (f : Format S V) (laws : IsLawful f) (q : S) where
-  -- each shorter beginning lacks bytes
-  abbrev pub IsAsked : List ℕ → Type 0
-  IsAsked s = (n : ℕ) → n < length s → IsShort (f.says q) (take n s)
-
-  pub asked_none : IsAsked []
+  pub asked_none : IsAskedFor (f.says q) []
   asked_none n less = absurd (omega (arith, less))
 
   -- no more came than was asked for
-  pub asked_more : (n : ℕ) (held more : List ℕ) → f.says q held (lacks n) → length more ≤ n → IsAsked held → IsAsked (held ++ more)
+  pub asked_more : (n : ℕ) (held more : List ℕ) → f.says q held (lacks n) → length more ≤ n → IsAskedFor (f.says q) held → IsAskedFor (f.says q) (held ++ more)
   asked_more n held more ask few before k less =
       elim (cases_lt k (length held)) [
         | inl lt ↦ subst (λ (s : List ℕ). IsShort (f.says q) s) (sym (take-append-le k held more (omega (arith, lt)))) (before k lt)
@@ -40,7 +37,7 @@ module _ {S V : Type 0} (f : Format S V) (laws : IsLawful f) (q : S) where
       absurd (omega (arith, some, ap length same.1, length-append rest more))
 
   -- a text is no more than is asked for
-  pub asked_text : (v : V) (s : List ℕ) → f.says q s (whole v []) → IsAsked s
+  pub asked_text : (v : V) (s : List ℕ) → f.says q s (whole v []) → IsAskedFor (f.says q) s
   asked_text v s text k less =
       let parts : take k s ++ drop k s ≡ s = take-append-drop k s in
       let count : length (take k s) ≡ k = length-take-le k s (omega (arith, less)) in

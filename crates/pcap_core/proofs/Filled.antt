@@ -9,16 +9,16 @@ use Rattle.pcap_core.specs.Faults.{Shows}
 use Rattle.pcap_core.specs.Format.{Format, IsLawful}
 use Rattle.pcap_core.specs.Reading.{HasCause, TakesAsked}
 use Rattle.pcap_core.specs.Streams.{Adds, AddsFewer, FillGives, HasCauseToFill}
-use Rattle.pcap_core.proofs.Asked.{IsAsked, asked_none, asked_more}
+use Rattle.pcap_core.proofs.Asked.{asked_none, asked_more}
 use Rattle.pcap_core.proofs.Formats.{nothing_lacks, fault_some, exact}
 use Rattle.pcap_core.proofs.Pulling.{unmet_cause, asked_cause}
 use Rattle.pcap_core.proofs.StreamBytes.{held_more}
-use Rattle.pcap_core.specs.Filling.{IsSettled, Stated}
+use Rattle.pcap_core.specs.Filling.{IsSettled, IsAskedFor, Stated}
 
 -- what is held where nothing was held before
 pub record Begins {S V : Type 0} (f : Format S V) (laws : IsLawful f) (q : S) (before now : Option (List ℕ)) (held : List ℕ) : Type 0 where
   pub came : Consumes before now held
-  pub asked : IsAsked f laws q held
+  pub asked : IsAskedFor (f.says q) held
 
 module _ {S V : Type 0} (f : Format S V) (laws : IsLawful f) (q : S) where
   pub begins_none : (held : List ℕ) (before : Option (List ℕ)) → held ≡ [] → Begins f laws q before before held

@@ -9,12 +9,12 @@ use Rattle.pcap_core.specs.Run.{IsRest, rest_after}
 use Rattle.pcap_core.proofs.Formats.{lacks_no_text, fault_no_text}
 
 -- where an item is refused, that is what is said of the rest, and no item begins it
-pub record Stops {S V : Type 0} (f : Format S V) (q : S) (left : List ℕ) (e : PcapError) : Type 0 where
+pub record StopsAt {S V : Type 0} (f : Format S V) (q : S) (left : List ℕ) (e : PcapError) : Type 0 where
   pub rest : IsRest (f.says q) left (rest_after e)
   pub longest : (v : V) (after : List ℕ) → f.says q left (whole v after) → ⊥
 
 pub stops : {S V : Type 0} (f : Format S V) → IsLawful f → (q : S) (left : List ℕ) (e : PcapError) → 0 < length left
-    → Refuses ⊥ (λ n. f.says q left (lacks n)) (λ fault. f.says q left (faulty fault)) e → Stops f q left e
+    → Refuses ⊥ (λ n. f.says q left (lacks n)) (λ fault. f.says q left (faulty fault)) e → StopsAt f q left e
 stops f laws q left (errors.IncompleteBuffer n) some h = record { rest = (h, some); longest = lacks_no_text f laws q n left h }
 stops f laws q left (errors.InvalidField text) some h = record { rest = h; longest = fault_no_text f laws q (Invalid h.0) left h.2 }
 stops f laws q left (errors.IoError e) some h = record { rest = h; longest = fault_no_text f laws q Io left h }

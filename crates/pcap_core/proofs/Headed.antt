@@ -6,7 +6,7 @@ use Rattle.pcap_core.specs.Faults.{Fault}
 use Rattle.pcap_core.specs.Answer.{Verdict, whole, lacks, faulty}
 use Rattle.pcap_core.specs.Laws.{ExactlyOne}
 use Rattle.pcap_core.specs.Format.{IsLawful}
-use Rattle.pcap_core.specs.Headed.{Piece, Reading, good, bad, Headed, HasHead, HasBody, ShortSays, BadSays, BehindSays, HeadedSays, headed, IsHeaded}
+use Rattle.pcap_core.specs.Headed.{Piece, HeadReading, good, bad, Headed, HasHead, HasBody, ShortSays, BadSays, BehindSays, HeadedSays, headed, IsHeaded}
 use Rattle.pcap_core.proofs.Texts.{split_same}
 
 pub piece_there : (n : ℕ) (s : List ℕ) → n ≤ length s → (bytes : List ℕ) × (rest : List ℕ) × (s ≡ bytes ++ rest) × (length bytes ≡ n)
@@ -30,16 +30,16 @@ good_same : {X : Type 0} (x y : X) → good x ≡ good y → x ≡ y
 good_same x y e = cc
 
 module _ {S X V : Type 0} (g : Headed S X V) (laws : IsHeaded g) (q : S) where
-  head_same : (h k : Reading X) (s a c : List ℕ) → HasHead g q h s a → HasHead g q k s c → (h ≡ k) × (a ≡ c)
+  head_same : (h k : HeadReading X) (s a c : List ℕ) → HasHead g q h s a → HasHead g q k s c → (h ≡ k) × (a ≡ c)
   head_same h k s a c = piece_same g.head (g.reads q) (laws.heads q) h k s a c
 
-  body_same : (x : X) (m l : Reading V) (s a c : List ℕ) → HasBody g q x m s a → HasBody g q x l s c → (m ≡ l) × (a ≡ c)
+  body_same : (x : X) (m l : HeadReading V) (s a c : List ℕ) → HasBody g q x m s a → HasBody g q x l s c → (m ≡ l) × (a ≡ c)
   body_same x m l s a c = piece_same (g.size x) (g.means q x) (laws.bodies q x) m l s a c
 
-  head_length : (h : Reading X) (s a : List ℕ) → HasHead g q h s a → length s ≡ g.head + length a
+  head_length : (h : HeadReading X) (s a : List ℕ) → HasHead g q h s a → length s ≡ g.head + length a
   head_length h s a p = piece_length g.head (λ b. g.reads q b h) s a p
 
-  body_length : (x : X) (m : Reading V) (s a : List ℕ) → HasBody g q x m s a → length s ≡ g.size x + length a
+  body_length : (x : X) (m : HeadReading V) (s a : List ℕ) → HasBody g q x m s a → length s ≡ g.size x + length a
   body_length x m s a p = piece_length (g.size x) (λ b. g.means q x b m) s a p
 
   -- ---- behind a good head
@@ -54,7 +54,7 @@ module _ {S X V : Type 0} (g : Headed S X V) (laws : IsHeaded g) (q : S) where
   behind_only x s (faulty f) (lacks m) p r = absurd (omega (arith, r.0, r.1, body_length x (bad f) s p.0 p.1))
   behind_only x s (faulty f) (faulty h) p r = let e = body_same x (bad f) (bad h) s p.0 r.0 p.1 r.1 in let no : bad f ≡ bad h = e.0 in let is : f ≡ h = cc in rw is refl
 
-  body_read : (x : X) (s bytes rest : List ℕ) → s ≡ bytes ++ rest → length bytes ≡ g.size x → (m : Reading V) → g.means q x bytes m → (v : Verdict V) × BehindSays g q x s v
+  body_read : (x : X) (s bytes rest : List ℕ) → s ≡ bytes ++ rest → length bytes ≡ g.size x → (m : HeadReading V) → g.means q x bytes m → (v : Verdict V) × BehindSays g q x s v
   body_read x s bytes rest text count (good v) means = (whole v rest, record { bytes = bytes; text = text; length_is = count; holds = means })
   body_read x s bytes rest text count (bad f) means = (faulty f, (rest, record { bytes = bytes; text = text; length_is = count; holds = means }))
 
@@ -121,7 +121,7 @@ module _ {S X V : Type 0} (g : Headed S X V) (laws : IsHeaded g) (q : S) where
       let two : BehindSays g q r.0 r.1 v = subst (λ (t : List ℕ). BehindSays g q r.0 t v) e.1 one in
       behind_only r.0 r.1 v w two r.3
 
-  head_read : (s bytes rest : List ℕ) → s ≡ bytes ++ rest → length bytes ≡ g.head → (h : Reading X) → g.reads q bytes h → (v : Verdict V) × HeadedSays g q s v
+  head_read : (s bytes rest : List ℕ) → s ≡ bytes ++ rest → length bytes ≡ g.head → (h : HeadReading X) → g.reads q bytes h → (v : Verdict V) × HeadedSays g q s v
   head_read s bytes rest text count (bad f) reads = (faulty f, inr (inl (rest, record { bytes = bytes; text = text; length_is = count; holds = reads })))
   head_read s bytes rest text count (good x) reads =
       let more = behind_there x rest in
@@ -140,10 +140,10 @@ module _ {S X V : Type 0} (g : Headed S X V) (laws : IsHeaded g) (q : S) where
   headed_one : (s : List ℕ) → ExactlyOne (HeadedSays g q s)
   headed_one s = let v = headed_there s in record { value = v.0; holds = v.1; only = λ w h. headed_only s w v.0 h v.1 }
 
-  head_more : (h : Reading X) (s a more : List ℕ) → HasHead g q h s a → HasHead g q h (s ++ more) (a ++ more)
+  head_more : (h : HeadReading X) (s a more : List ℕ) → HasHead g q h s a → HasHead g q h (s ++ more) (a ++ more)
   head_more h s a more p = piece_more g.head (λ b. g.reads q b h) s a more p
 
-  body_more : (x : X) (m : Reading V) (s a more : List ℕ) → HasBody g q x m s a → HasBody g q x m (s ++ more) (a ++ more)
+  body_more : (x : X) (m : HeadReading V) (s a more : List ℕ) → HasBody g q x m s a → HasBody g q x m (s ++ more) (a ++ more)
   body_more x m s a more p = piece_more (g.size x) (λ b. g.means q x b m) s a more p
 
   text_more : (s more rest : List ℕ) (v : V) → HeadedSays g q s (whole v rest) → HeadedSays g q (s ++ more) (whole v (rest ++ more))

@@ -112,42 +112,42 @@ one_then First Next one next = then_cases First Next one.value one.holds one.onl
 
 -- Items, and then what stops them, which may look back at them.
 abbrev pub Stopped : {V W : Type 0} → (V → List ℕ → List ℕ → Type 0) → (List V → List ℕ → Verdict W → Type 0) → List ℕ → Verdict W → Type 0
-Stopped {V = V} IsItem Stops s w = (good : List V) × (bad : List ℕ) × Chain IsItem good s bad × Stops good bad w
+Stopped {V = V} IsItem Closes s w = (good : List V) × (bad : List ℕ) × Chain IsItem good s bad × Closes good bad w
 
 -- what is known of items and of what stops them
-pub record IsMany {V W : Type 0} (IsItem : V → List ℕ → List ℕ → Type 0) (Stops : List V → List ℕ → Verdict W → Type 0) : Type 0 where
+pub record IsMany {V W : Type 0} (IsItem : V → List ℕ → List ℕ → Type 0) (Closes : List V → List ℕ → Verdict W → Type 0) : Type 0 where
   pub item_same : (v w : V) (s a b : List ℕ) → IsItem v s a → IsItem w s b → (v ≡ w) × (a ≡ b)
   pub item_shorter : (v : V) (s a : List ℕ) → IsItem v s a → length a < length s
-  pub stop_same : (good : List V) (s : List ℕ) (w w' : Verdict W) → Stops good s w → Stops good s w' → w' ≡ w
-  pub stop_no_item : (good : List V) (s : List ℕ) (w : Verdict W) (v : V) (a : List ℕ) → Stops good s w → IsItem v s a → ⊥
-  pub one_of_both : (good : List V) (s : List ℕ) → ((w : Verdict W) × Stops good s w) ⊎ ((v : V) × (a : List ℕ) × IsItem v s a)
+  pub stop_same : (good : List V) (s : List ℕ) (w w' : Verdict W) → Closes good s w → Closes good s w' → w' ≡ w
+  pub stop_no_item : (good : List V) (s : List ℕ) (w : Verdict W) (v : V) (a : List ℕ) → Closes good s w → IsItem v s a → ⊥
+  pub one_of_both : (good : List V) (s : List ℕ) → ((w : Verdict W) × Closes good s w) ⊎ ((v : V) × (a : List ℕ) × IsItem v s a)
 
-stopped_same : {V W : Type 0} (IsItem : V → List ℕ → List ℕ → Type 0) (Stops : List V → List ℕ → Verdict W → Type 0) → IsMany IsItem Stops → (before xs ys : List V) (s m n : List ℕ) (w w' : Verdict W)
-    → Chain IsItem xs s m → Chain IsItem ys s n → Stops (before ++ xs) m w → Stops (before ++ ys) n w' → w' ≡ w
-stopped_same IsItem Stops many before [] [] s m n w w' c d x y =
-    many.stop_same (before ++ []) s w w' (subst (λ (t : List ℕ). Stops (before ++ []) t w) (sym c) x) (subst (λ (t : List ℕ). Stops (before ++ []) t w') (sym d) y)
-stopped_same IsItem Stops many before [] (q ∷ ys) s m n w w' c d x y =
-    absurd (many.stop_no_item (before ++ []) s w q d.0 (subst (λ (t : List ℕ). Stops (before ++ []) t w) (sym c) x) d.1)
-stopped_same IsItem Stops many before (p ∷ xs) [] s m n w w' c d x y =
-    absurd (many.stop_no_item (before ++ []) s w' p c.0 (subst (λ (t : List ℕ). Stops (before ++ []) t w') (sym d) y) c.1)
-stopped_same {V = V} IsItem Stops many before (p ∷ xs) (q ∷ ys) s m n w w' c d x y =
+stopped_same : {V W : Type 0} (IsItem : V → List ℕ → List ℕ → Type 0) (Closes : List V → List ℕ → Verdict W → Type 0) → IsMany IsItem Closes → (before xs ys : List V) (s m n : List ℕ) (w w' : Verdict W)
+    → Chain IsItem xs s m → Chain IsItem ys s n → Closes (before ++ xs) m w → Closes (before ++ ys) n w' → w' ≡ w
+stopped_same IsItem Closes many before [] [] s m n w w' c d x y =
+    many.stop_same (before ++ []) s w w' (subst (λ (t : List ℕ). Closes (before ++ []) t w) (sym c) x) (subst (λ (t : List ℕ). Closes (before ++ []) t w') (sym d) y)
+stopped_same IsItem Closes many before [] (q ∷ ys) s m n w w' c d x y =
+    absurd (many.stop_no_item (before ++ []) s w q d.0 (subst (λ (t : List ℕ). Closes (before ++ []) t w) (sym c) x) d.1)
+stopped_same IsItem Closes many before (p ∷ xs) [] s m n w w' c d x y =
+    absurd (many.stop_no_item (before ++ []) s w' p c.0 (subst (λ (t : List ℕ). Closes (before ++ []) t w') (sym d) y) c.1)
+stopped_same {V = V} IsItem Closes many before (p ∷ xs) (q ∷ ys) s m n w w' c d x y =
     let e = many.item_same p q s c.0 d.0 c.1 d.1 in
-    let x' : Stops ((before ++ p ∷ []) ++ xs) m w = subst (λ (g : List V). Stops g m w) (sym (append_assoc before (p ∷ []) xs)) x in
-    let y1 : Stops ((before ++ q ∷ []) ++ ys) n w' = subst (λ (g : List V). Stops g n w') (sym (append_assoc before (q ∷ []) ys)) y in
-    let y' : Stops ((before ++ p ∷ []) ++ ys) n w' = subst (λ (v : V). Stops ((before ++ v ∷ []) ++ ys) n w') (sym e.0) y1 in
-    stopped_same IsItem Stops many (before ++ p ∷ []) xs ys d.0 m n w w' (subst (λ (t : List ℕ). Chain IsItem xs t m) e.1 c.2) d.2 x' y'
+    let x' : Closes ((before ++ p ∷ []) ++ xs) m w = subst (λ (g : List V). Closes g m w) (sym (append_assoc before (p ∷ []) xs)) x in
+    let y1 : Closes ((before ++ q ∷ []) ++ ys) n w' = subst (λ (g : List V). Closes g n w') (sym (append_assoc before (q ∷ []) ys)) y in
+    let y' : Closes ((before ++ p ∷ []) ++ ys) n w' = subst (λ (v : V). Closes ((before ++ v ∷ []) ++ ys) n w') (sym e.0) y1 in
+    stopped_same IsItem Closes many (before ++ p ∷ []) xs ys d.0 m n w w' (subst (λ (t : List ℕ). Chain IsItem xs t m) e.1 c.2) d.2 x' y'
 
-stopped_there : {V W : Type 0} (IsItem : V → List ℕ → List ℕ → Type 0) (Stops : List V → List ℕ → Verdict W → Type 0) → IsMany IsItem Stops → (fuel : ℕ) (good : List V) (s bad : List ℕ) → length bad < fuel → Chain IsItem good s bad → (w : Verdict W) × Stopped IsItem Stops s w
-stopped_there IsItem Stops many zero good s bad lt are = absurd (omega arith)
-stopped_there IsItem Stops many (suc fuel) good s bad lt are =
+stopped_there : {V W : Type 0} (IsItem : V → List ℕ → List ℕ → Type 0) (Closes : List V → List ℕ → Verdict W → Type 0) → IsMany IsItem Closes → (fuel : ℕ) (good : List V) (s bad : List ℕ) → length bad < fuel → Chain IsItem good s bad → (w : Verdict W) × Stopped IsItem Closes s w
+stopped_there IsItem Closes many zero good s bad lt are = absurd (omega arith)
+stopped_there IsItem Closes many (suc fuel) good s bad lt are =
     elim (many.one_of_both good bad) [
       | inl stop ↦ (stop.0, (good, bad, are, stop.1))
       | inr item ↦
           let less = many.item_shorter item.0 bad item.1 item.2 in
-          stopped_there IsItem Stops many fuel (good ++ item.0 ∷ []) s item.1 (omega arith) (chain_more IsItem good s bad item.1 item.0 are item.2)
+          stopped_there IsItem Closes many fuel (good ++ item.0 ∷ []) s item.1 (omega arith) (chain_more IsItem good s bad item.1 item.0 are item.2)
     ]
 
-pub one_stopped : {V W : Type 0} (IsItem : V → List ℕ → List ℕ → Type 0) (Stops : List V → List ℕ → Verdict W → Type 0) → IsMany IsItem Stops → (s : List ℕ) → ExactlyOne (Stopped IsItem Stops s)
-one_stopped IsItem Stops many s =
-    let v = stopped_there IsItem Stops many (suc (length s)) [] s s (omega arith) refl in
-    record { value = v.0; holds = v.1; only = λ w h. stopped_same IsItem Stops many [] v.1.0 h.0 s v.1.1 h.1 v.0 w v.1.2 h.2 v.1.3 h.3 }
+pub one_stopped : {V W : Type 0} (IsItem : V → List ℕ → List ℕ → Type 0) (Closes : List V → List ℕ → Verdict W → Type 0) → IsMany IsItem Closes → (s : List ℕ) → ExactlyOne (Stopped IsItem Closes s)
+one_stopped IsItem Closes many s =
+    let v = stopped_there IsItem Closes many (suc (length s)) [] s s (omega arith) refl in
+    record { value = v.0; holds = v.1; only = λ w h. stopped_same IsItem Closes many [] v.1.0 h.0 s v.1.1 h.1 v.0 w v.1.2 h.2 v.1.3 h.3 }

@@ -3,7 +3,6 @@ use Rattle.std.specs.Prelude.{ℕ, List, Bool}
 use Rattle.pcap_core.specs.declared.stream.fill.Fill.{Fill}
 use Rattle.pcap_core.specs.declared.stream.told.Told.{Told}
 use Rattle.pcap_core.specs.Held.{held_bytes}
-use Rattle.pcap_core.specs.Told.{stream_of, is_failed}
 
 -- the stream behind it, with what it remembers
 abbrev pub told_of : {T : Type 0} → Fill T → Told T
@@ -13,10 +12,10 @@ told_of f = f.told
 abbrev pub held_of : {T : Type 0} → Fill T → List ℕ
 held_of f = held_bytes f.held
 
--- the stream behind it
-abbrev pub source_of : {T : Type 0} → Fill T → T
-source_of f = stream_of f.told
+-- the stream that it is filled from
+abbrev pub stream_of : {T : Type 0} → Fill T → T
+stream_of f = f.told.inner
 
--- a read of the stream behind it failed
+-- a read of the stream failed
 abbrev pub has_failed : {T : Type 0} → Fill T → Bool
-has_failed f = is_failed f.told
+has_failed f = f.told.has_failed

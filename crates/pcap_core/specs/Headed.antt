@@ -13,24 +13,24 @@ pub record Piece (n : ℕ) (P : List ℕ → Type 0) (s rest : List ℕ) : Type 
   pub holds : P bytes
 
 -- what is said of bytes whose length is known: a value, or a fault
-pub data Reading (X : Type 0) : Type 0 where
-  good : X → Reading X
-  bad : Fault → Reading X
+pub data HeadReading (X : Type 0) : Type 0 where
+  good : X → HeadReading X
+  bad : Fault → HeadReading X
 
 -- a format whose items have a head that states how many bytes follow it
 pub record Headed (S X V : Type 0) : Type 1 where
   pub head : ℕ
   -- what is said of a head, how many bytes follow one, what is said of these, and where the item leads
-  pub reads : S → List ℕ → Reading X → Type 0
+  pub reads : S → List ℕ → HeadReading X → Type 0
   pub size : X → ℕ
-  pub means : S → X → List ℕ → Reading V → Type 0
+  pub means : S → X → List ℕ → HeadReading V → Type 0
   pub goes : S → V → S
 
 module _ {S X V : Type 0} (g : Headed S X V) where
-  abbrev pub HasHead : S → Reading X → List ℕ → List ℕ → Type 0
+  abbrev pub HasHead : S → HeadReading X → List ℕ → List ℕ → Type 0
   HasHead q h s after = Piece g.head (λ b. g.reads q b h) s after
 
-  abbrev pub HasBody : S → X → Reading V → List ℕ → List ℕ → Type 0
+  abbrev pub HasBody : S → X → HeadReading V → List ℕ → List ℕ → Type 0
   HasBody q x m s rest = Piece (g.size x) (λ b. g.means q x b m) s rest
 
   -- of bytes that are shorter than a head

@@ -7,5 +7,5 @@ abbrev pub stream_of : {T : Type 0} → Told T → T
 stream_of t = t.inner
 
 -- whether a call of it failed
-abbrev pub is_failed : {T : Type 0} → Told T → Bool
-is_failed t = t.has_failed
+abbrev pub has_failed : {T : Type 0} → Told T → Bool
+has_failed t = t.has_failed

@@ -10,14 +10,14 @@ ghost use Rattle.pcap_core.specs.Errors.{IsMemory};
 ghost use Rattle.pcap_core.specs.Reading.{Reads, ReadsWhere};
 ghost use Rattle.pcap_core.specs.Writing.{WritesAll};
 ghost use Rattle.pcap_classic.specs.Written.{fraction_of, packet_header_bytes};
-ghost use Rattle.pcap_classic.specs.PacketText.{packet_limit, Head, IsGood, IsHeadFault, spelled_header, captured, PacketHeaderSays, PacketSays};
+ghost use Rattle.pcap_classic.specs.PacketText.{packet_limit, Head, IsGood, IsHeadFault, spelled_header, content_of, PacketHeaderSays, PacketSays};
 
 use crate::pcap::PcapHeader;
+use byteorder::{BigEndian, ByteOrder, LittleEndian};
 use pcap_core::fields::split_u32;
 use pcap_core::rules::Rule;
 use pcap_core::stream::{fill_array, put, take_bytes};
 use pcap_core::{CowBytes, Endianness, PcapError, ResultParsing, TsResolution};
-use byteorder::{BigEndian, ByteOrder, LittleEndian};
 use std::alloc::Global;
 use std::io::{Read, Write};
 use std::time::Duration;
@@ -183,7 +183,7 @@ impl<'a> Packet<'a> {
         reader: &mut R,
         ts_resolution: TsResolution,
     ) -> ResultParsing<Packet<'static>>
-        ensures packet { ReadsWhere ⊤ (PacketSays packet_limit B.number_of ts_resolution) captured (R.remaining reader.old) (R.remaining reader.new) result }
+        ensures packet { ReadsWhere ⊤ (PacketSays packet_limit B.number_of ts_resolution) content_of (R.remaining reader.old) (R.remaining reader.new) result }
         ensures owned { IfOk result (λ packet. IsOwned packet.data_) }
     {
         let header = PacketHeader::from_reader::<R, B>(reader, ts_resolution)?;
@@ -202,7 +202,7 @@ impl<'a> Packet<'a> {
         slice: &'a [u8],
         ts_resolution: TsResolution,
     ) -> ResultParsing<(&'a [u8], Packet<'a>)>
-        ensures tells { Tells (PacketSays packet_limit B.number_of ts_resolution slice.now) captured result }
+        ensures tells { Tells (PacketSays packet_limit B.number_of ts_resolution slice.now) content_of result }
         ensures borrowed { IfOk result (λ x. IsBorrowed x.1.data_) }
     {
         let (rest, header) = PacketHeader::from_slice::<B>(slice, ts_resolution)?;
@@ -224,7 +224,7 @@ impl<'a> Packet<'a> {
         requires { length bytes.now < 2 ^ 32 }
         ensures packet { let header : PacketHeader =
             record { ts_sec = ts_sec; ts_nsec = ts_nsec; incl_len = length bytes.now; orig_len = orig_len } in
-            captured result ≡ record { header = header; bytes = bytes.now } }
+            content_of result ≡ record { header = header; bytes = bytes.now } }
         ensures borrowed { IsBorrowed result.data_ }
     {
         let header = PacketHeader::new(ts_sec, ts_nsec, bytes.len() as u32, orig_len);
@@ -238,7 +238,7 @@ impl<'a> Packet<'a> {
         requires { length bytes.items < 2 ^ 32 }
         ensures packet { let header : PacketHeader =
             record { ts_sec = ts_sec; ts_nsec = ts_nsec; incl_len = length bytes.items; orig_len = orig_len } in
-            captured result ≡ record { header = header; bytes = bytes.items } }
+            content_of result ≡ record { header = header; bytes = bytes.items } }
         ensures owned { IsOwned result.data_ }
     {
         let header = PacketHeader::new(ts_sec, ts_nsec, bytes.len() as u32, orig_len);
@@ -248,7 +248,7 @@ impl<'a> Packet<'a> {
 
     /// The same packet with a copy of its bytes. `OutOfMemory` where they can't be copied.
     pub fn to_owned(&self, alloc: Global) -> ResultParsing<Packet<'static>>
-        ensures packet { IfOk result (λ own. captured own ≡ captured self.now) }
+        ensures packet { IfOk result (λ own. content_of own ≡ content_of self.now) }
         ensures owned { IfOk result (λ own. IsOwned own.data_) }
         ensures memory { IfErr result IsMemory }
     {
@@ -262,7 +262,7 @@ impl<'a> Packet<'a> {
     /// The same packet with its bytes owned. `OutOfMemory` where borrowed bytes can't be copied; owned ones are never
     /// copied.
     pub fn into_owned(self, alloc: Global) -> ResultParsing<Packet<'static>>
-        ensures packet { IfOk result (λ own. captured own ≡ captured self.entry) }
+        ensures packet { IfOk result (λ own. content_of own ≡ content_of self.entry) }
         ensures owned { IfOk result (λ own. IsOwned own.data_) }
         ensures memory { IfErr result IsMemory }
         ensures kept { IsOwned self.entry.data_ → IsOk result }
@@ -281,7 +281,7 @@ pub(crate) fn packet_under<'a>(
 ) -> ResultParsing<(&'a [u8], Packet<'a>)>
     requires { IsTrue (is_magic header.now.magic_number) }
     ensures tells { let magic = header.now.magic_number in
-        Tells (PacketSays packet_limit (number_in (order_of magic)) (resolution_of magic) slice.now) captured result }
+        Tells (PacketSays packet_limit (number_in (order_of magic)) (resolution_of magic) slice.now) content_of result }
     ensures borrowed { IfOk result (λ x. IsBorrowed x.1.data_) }
 {
     let ts_resolution = header.ts_resolution();

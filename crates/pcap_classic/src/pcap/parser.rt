@@ -4,9 +4,9 @@ ghost use Rattle.std.specs.Prelude.{◌≡◌, IfOk, IsTrue};
 ghost use Rattle.pcap_core.specs.Answer.{Tells, number_in};
 ghost use Rattle.pcap_classic.specs.Magic.{is_magic, order_of, resolution_of};
 
-use pcap_core::ResultParsing;
 use crate::pcap::packet::packet_under;
 use crate::pcap::{Packet, PcapHeader};
+use pcap_core::ResultParsing;
 
 /// Parser of a Pcap capture: it holds the header, and gives a packet for each slice that begins with one.
 #[derive(Debug, Drop)]
@@ -17,7 +17,7 @@ pub struct PcapParser {
 
 impl PcapParser {
     ghost use Rattle.pcap_core.specs.Bytes.{IsBorrowed};
-    ghost use Rattle.pcap_classic.specs.PacketText.{packet_limit, captured, PacketSays};
+    ghost use Rattle.pcap_classic.specs.PacketText.{packet_limit, content_of, PacketSays};
     ghost use Rattle.pcap_classic.specs.HeaderText.{HeaderSays};
     ghost use Rattle.pcap_classic.specs.Parser.{header_of};
 
@@ -44,7 +44,7 @@ impl PcapParser {
     /// that the packet's header breaks. The parser stays as it is.
     pub fn next_packet<'a>(&self, slice: &'a [u8]) -> ResultParsing<(&'a [u8], Packet<'a>)>
         ensures tells { let magic = (header_of self.now).magic_number in
-            Tells (PacketSays packet_limit (number_in (order_of magic)) (resolution_of magic) slice.now) captured result }
+            Tells (PacketSays packet_limit (number_in (order_of magic)) (resolution_of magic) slice.now) content_of result }
         ensures borrowed { IfOk result (λ x. IsBorrowed x.1.data_) }
     {
         packet_under(&self.header, slice)

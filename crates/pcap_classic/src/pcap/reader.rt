@@ -8,14 +8,14 @@ ghost use Rattle.pcap_core.specs.Held.{held_bytes};
 ghost use Rattle.pcap_classic.specs.HeaderText.{HeaderSays};
 ghost use Rattle.pcap_classic.specs.Magic.{is_magic};
 ghost use Rattle.pcap_classic.specs.Packets.{reader_format};
-ghost use Rattle.pcap_classic.specs.PacketText.{packet_limit, captured};
+ghost use Rattle.pcap_classic.specs.PacketText.{packet_limit, content_of};
 ghost use Rattle.pcap_core.specs.Reading.{NextGives, Pulls};
 
 use crate::pcap::packet::packet_under;
 use crate::pcap::stated::{PacketsUnder, packet_of};
 use crate::pcap::{Packet, PcapHeader};
-use pcap_core::stream::{Held, fill_item};
 use pcap_core::ResultParsing;
+use pcap_core::stream::{Held, fill_item};
 use std::alloc::Global;
 use std::io::Read;
 
@@ -55,7 +55,7 @@ pub(crate) fn fill_packet<T: Read>(
 // The packet that the bytes are, lent from them.
 pub(crate) fn whole_packet<'a>(header: &PcapHeader, bytes: &'a [u8]) -> Packet<'a>
     requires { HoldsItem ((reader_format packet_limit header.now).says tt bytes.now) }
-    ensures { (reader_format packet_limit header.now).says tt bytes.now (whole (captured result) []) }
+    ensures { (reader_format packet_limit header.now).says tt bytes.now (whole (content_of result) []) }
 {
     match packet_under(header, bytes) {
         Ok((_, packet)) => packet,
@@ -73,7 +73,7 @@ pub(crate) fn pull<T: Read>(
 ) -> ResultParsing<Option<Packet<'static>>>
     requires between { held_bytes held.old ≡ [] }
     requires unfailed { has_failed.old ≡ false }
-    ensures pulls { Pulls ((reader_format packet_limit header.now).says tt) captured (T.remaining stream.old) (T.remaining stream.new) has_failed.new result }
+    ensures pulls { Pulls ((reader_format packet_limit header.now).says tt) content_of (T.remaining stream.old) (T.remaining stream.new) has_failed.new result }
     ensures between { OnOk result (held_bytes held.new ≡ []) }
 {
     let Some(head) = fill_item(&PacketsUnder { header }, stream, has_failed, held)? else {
@@ -157,7 +157,7 @@ impl<T: Read + Drop> Iterator for PcapReader<T> {
     type Item = ResultParsing<Packet<'static>>;
 
     ghost next_gives = { λ s r t. (t.header ≡ s.header)
-        × NextGives ((reader_format packet_limit s.header).says tt) captured (T.remaining (stream_of s)) (T.remaining (stream_of t)) (is_done s) (is_done t) (has_failed s) (has_failed t) r };
+        × NextGives ((reader_format packet_limit s.header).says tt) content_of (T.remaining (stream_of s)) (T.remaining (stream_of t)) (is_done s) (is_done t) (has_failed s) (has_failed t) r };
 
     fn next(&mut self) -> Option<ResultParsing<Packet<'static>>> {
         if self.is_done {

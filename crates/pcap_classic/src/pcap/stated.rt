@@ -2,16 +2,16 @@
 
 ghost use Rattle.std.specs.Prelude.{◌≡◌, false, [], length, IsTrue, OnOk};
 ghost use Rattle.pcap_core.specs.Answer.{Tells, number_in, whole};
-ghost use Rattle.pcap_core.specs.Fill.{held_of, source_of, has_failed};
+ghost use Rattle.pcap_core.specs.Fill.{held_of, stream_of, has_failed};
 ghost use Rattle.pcap_classic.specs.Magic.{is_magic, order_of, resolution_of};
 ghost use Rattle.pcap_classic.specs.Packets.{reader_format};
-ghost use Rattle.pcap_classic.specs.PacketText.{packet_limit, captured, PacketHeaderSays};
+ghost use Rattle.pcap_classic.specs.PacketText.{packet_limit, content_of, PacketHeaderSays};
 ghost use Rattle.pcap_core.specs.Reading.{Pulls};
 ghost use Rattle.pcap_core.specs.Filling.{Stated};
 ghost use Rattle.pcap_classic.specs.StatedPackets.{KnowsHeader};
 
-use byteorder::{BigEndian, LittleEndian};
 use crate::pcap::{Packet, PacketHeader, PcapHeader};
+use byteorder::{BigEndian, LittleEndian};
 use pcap_core::rules::Rule;
 use pcap_core::stream::HasHead;
 use pcap_core::{CowBytes, Endianness, PcapError, ResultParsing};
@@ -23,10 +23,7 @@ pub(crate) struct PacketsUnder<'a> {
 }
 
 // The packet's header at the front of a slice, and what follows it.
-fn header_under<'a>(
-    header: &PcapHeader,
-    slice: &'a [u8],
-) -> ResultParsing<(&'a [u8], PacketHeader)>
+fn header_under<'a>(header: &PcapHeader, slice: &'a [u8]) -> ResultParsing<(&'a [u8], PacketHeader)>
     requires { IsTrue (is_magic header.now.magic_number) }
     ensures tells { let magic = header.now.magic_number in
         Tells (PacketHeaderSays packet_limit (number_in (order_of magic)) (resolution_of magic) slice.now) (λ head. head) result }
@@ -70,7 +67,7 @@ impl HasHead for PacketsUnder<'_> {
 // The packet of this header that the bytes are, lent from them.
 pub(crate) fn packet_of<'a>(header: &PcapHeader, head: PacketHeader, bytes: &'a [u8]) -> Packet<'a>
     requires { Stated (KnowsHeader header.now) (reader_format packet_limit header.now).head head bytes.now }
-    ensures { (reader_format packet_limit header.now).says tt bytes.now (whole (captured result) []) }
+    ensures { (reader_format packet_limit header.now).says tt bytes.now (whole (content_of result) []) }
 {
     let (_front, data) = bytes.split_at(16);
     Packet {

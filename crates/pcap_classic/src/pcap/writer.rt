@@ -6,16 +6,16 @@ ghost use Rattle.pcap_classic.specs.contracts.pcap.writer.PcapWriter.{the_row as
 ghost use Rattle.pcap_classic.specs.Defaults.{little_header};
 ghost use Rattle.pcap_classic.specs.LentStreams.{writer_with};
 ghost use Rattle.pcap_classic.specs.Magic.{is_magic, order_of, resolution_of};
-ghost use Rattle.pcap_classic.specs.PacketText.{captured};
-ghost use Rattle.pcap_classic.specs.Writing.{writer_of, has_failed, OpensWriter, WritesPacket};
+ghost use Rattle.pcap_classic.specs.PacketText.{content_of};
+ghost use Rattle.pcap_classic.specs.Writing.{stream_of, has_failed, OpensWriter, WritesPacket};
 ghost use Rattle.pcap_core.specs.Writing.{WritesAll};
-ghost use Rattle.pcap_classic.specs.Written.{written_header, written_under, packet_header_bytes, bytes_in};
+ghost use Rattle.pcap_classic.specs.Written.{written_header, written_under, packet_header_bytes, number_bytes};
 
 use crate::pcap::{Packet, PacketHeader, PcapHeader};
+use byteorder::{BigEndian, LittleEndian};
 use pcap_core::rules::Rule;
 use pcap_core::stream::put;
 use pcap_core::{Endianness, PcapError, ResultParsing};
-use byteorder::{BigEndian, LittleEndian};
 use std::io::Write;
 
 /// Writes a capture into a writer: its header, and then packets one by one.
@@ -30,21 +30,21 @@ pub struct PcapWriter<W> {
 impl<W> PcapWriter<W> {
     /// Gives the wrapped writer back.
     pub fn into_writer(self) -> W
-        ensures { result ≡ writer_of self }
+        ensures { result ≡ stream_of self }
     {
         self.inner
     }
 
     /// The wrapped writer.
     pub fn get_ref(&self) -> &W
-        ensures { result.now ≡ writer_of self.now }
+        ensures { result.now ≡ stream_of self.now }
     {
         &self.inner
     }
 
     /// The wrapped writer. What is written to it directly is no part of this writer's capture.
     pub fn get_mut(&mut self) -> &mut W
-        ensures value { result.now ≡ writer_of self.old }
+        ensures value { result.now ≡ stream_of self.old }
         ensures* writes_back { sem 𝓛 (Lends (writer-row W.row) W.row self.entry result (writer_with self.old)) }
     {
         &mut self.inner
@@ -116,7 +116,7 @@ impl<W: Write> PcapWriter<W> {
     /// the four: nothing is written then. `IoError` where a write failed: a beginning of the packet has gone out then.
     pub fn write_packet(&mut self, packet: &Packet<'_>) -> ResultParsing<()>
         ensures header { self.new.header ≡ self.old.header }
-        ensures packet { WritesPacket W.contents self.old self.new (captured packet.now) result }
+        ensures packet { WritesPacket W.contents self.old self.new (content_of packet.now) result }
     {
         if self.has_failed {
             return Err(PcapError::WriterFailed);
@@ -124,12 +124,7 @@ impl<W: Write> PcapWriter<W> {
         if !self.header.has_valid_magic() {
             return Err(PcapError::from(Rule::CaptureMagic));
         }
-        put_packet(
-            &mut self.inner,
-            &mut self.has_failed,
-            &self.header,
-            packet,
-        )
+        put_packet(&mut self.inner, &mut self.has_failed, &self.header, packet)
     }
 }
 
@@ -157,7 +152,7 @@ pub(crate) fn put_packet<W: Write>(
     packet: &Packet<'_>,
 ) -> ResultParsing<()>
     requires { IsTrue (is_magic header.now.magic_number) }
-    ensures out { WritesAll (W.contents writer.old) (W.contents writer.new) (written_under header.now (captured packet.now)) result }
+    ensures out { WritesAll (W.contents writer.old) (W.contents writer.new) (written_under header.now (content_of packet.now)) result }
     ensures told { MatchResult result (λ _. has_failed.new ≡ has_failed.old) (λ _. has_failed.new ≡ true) }
 {
     put(writer, has_failed, &bytes_under(header, &packet.header))?;
@@ -168,7 +163,7 @@ pub(crate) fn put_packet<W: Write>(
 fn bytes_under(header: &PcapHeader, packet: &PacketHeader) -> [u8; 16]
     requires { IsTrue (is_magic header.now.magic_number) }
     ensures { let magic = header.now.magic_number in
-        result ≡ packet_header_bytes (bytes_in (order_of magic)) (resolution_of magic) packet.now }
+        result ≡ packet_header_bytes (number_bytes (order_of magic)) (resolution_of magic) packet.now }
 {
     let ts_resolution = header.ts_resolution();
     match header.endianness() {

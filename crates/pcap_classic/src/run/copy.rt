@@ -2,7 +2,7 @@
 
 ghost use Rattle.std.specs.Prelude.{◌≡◌, ◌≤◌, ◌↔◌, true, IsTrue, IfSome, MatchResult};
 ghost use Rattle.pcap_core.specs.Asked.{HoldsItem};
-ghost use Rattle.pcap_classic.specs.Copies.{CanBeUnder, IsNew, ended, CopyRun, CopyFront, CopiesBehind, WritesHeld, header_under};
+ghost use Rattle.pcap_classic.specs.Copies.{CanBeUnder, IsNew, outcome_of, CopyRun, CopyFront, CopiesBehind, WritesHeld, header_under};
 ghost use Rattle.pcap_classic.specs.Magic.{is_magic};
 ghost use Rattle.pcap_classic.specs.Packets.{reader_format};
 ghost use Rattle.pcap_classic.specs.PacketText.{packet_limit};
@@ -110,7 +110,7 @@ fn copy_under<R: Read, W: Write>(
     copied: &mut Copied,
 ) -> ResultParsing<()>
     requires { IsNew copied.old }
-    ensures { CopyRun under (R.remaining reader.old) (R.remaining reader.new) (W.contents writer.old) (W.contents writer.new) most (ended copied.new result) }
+    ensures { CopyRun under (R.remaining reader.old) (R.remaining reader.new) (W.contents writer.old) (W.contents writer.new) most (outcome_of copied.new result) }
 {
     if !under.is_writable() {
         return Err(PcapError::from(Rule::CaptureMagic));
@@ -134,7 +134,7 @@ fn copy_packets<R: Read, W: Write>(
     requires new { IsNew copied.old }
     requires read { IsTrue (is_magic header.now.magic_number) }
     requires written { IsTrue (is_magic out.now.magic_number) }
-    ensures { CopiesBehind header.now out.now (R.remaining reader.old) (R.remaining reader.new) (W.contents writer.old) (W.contents writer.new) most (ended copied.new result) }
+    ensures { CopiesBehind header.now out.now (R.remaining reader.old) (R.remaining reader.new) (W.contents writer.old) (W.contents writer.new) most (outcome_of copied.new result) }
 {
     let mut held = Held::new(alloc);
     while copied.packets < most {

@@ -5,7 +5,7 @@ ghost use Rattle.std.specs.Borrow.{sem, Lends};
 ghost use Rattle.std.specs.Io.KnownBytes.{Keeps, Consumes, IsAtEnd};
 ghost use Rattle.pcap_core.specs.contracts.stream.fill.Fill.{the_row as fill-row};
 ghost use Rattle.pcap_core.specs.Errors.{IsMemory, IsIo};
-ghost use Rattle.pcap_core.specs.Fill.{told_of, held_of, source_of, has_failed};
+ghost use Rattle.pcap_core.specs.Fill.{told_of, held_of, stream_of, has_failed};
 ghost use Rattle.pcap_core.specs.Held.{held_bytes};
 ghost use Rattle.pcap_core.specs.Format.{IsLawful};
 ghost use Rattle.pcap_core.specs.Filling.{FillsHeaded};
@@ -64,14 +64,14 @@ impl<T> Fill<T> {
 
     /// The stream.
     pub fn get_ref(&self) -> &T
-        ensures { result.now ≡ source_of self.now }
+        ensures { result.now ≡ stream_of self.now }
     {
         self.told.get_ref()
     }
 
     /// The stream. What is read of it directly is lost to this buffer.
     pub fn get_mut(&mut self) -> &mut T
-        ensures value { result.now ≡ source_of self.old }
+        ensures value { result.now ≡ stream_of self.old }
         ensures* writes_back { sem 𝓛 (Lends (fill-row T.row) T.row self.entry result (fill_with self.old)) }
     {
         self.told.get_mut()
@@ -79,7 +79,7 @@ impl<T> Fill<T> {
 
     /// Gives the stream back. Held bytes are dropped.
     pub fn into_inner(self) -> T
-        ensures { result ≡ source_of self }
+        ensures { result ≡ stream_of self }
     {
         self.told.into_inner()
     }
@@ -91,12 +91,12 @@ impl<T: Read> Fill<T> {
     /// failed; what is held stays then.
     pub fn step(&mut self, n: usize) -> ResultParsing<usize>
         requires { 0 < n }
-        ensures added { IfOk result (Adds (held_of self.old) (held_of self.new) (T.remaining (source_of self.old)) (T.remaining (source_of self.new))) }
+        ensures added { IfOk result (Adds (held_of self.old) (held_of self.new) (T.remaining (stream_of self.old)) (T.remaining (stream_of self.new))) }
         ensures most { IfOk result (λ k. k ≤ min n 65536) }
-        ensures end { IfOk result (λ k. k ≡ 0 → IsAtEnd (T.remaining (source_of self.new))) }
+        ensures end { IfOk result (λ k. k ≡ 0 → IsAtEnd (T.remaining (stream_of self.new))) }
         ensures told { OnOk result (has_failed self.new ≡ has_failed self.old) }
         ensures held { OnErr result (held_of self.new ≡ held_of self.old) }
-        ensures kept { OnErr result (Keeps (T.remaining (source_of self.old)) (T.remaining (source_of self.new))) }
+        ensures kept { OnErr result (Keeps (T.remaining (stream_of self.old)) (T.remaining (stream_of self.new))) }
         ensures cause { IfErr result (TellsCause (has_failed self.old) (has_failed self.new)) }
     {
         step_of(
@@ -112,10 +112,10 @@ impl<T: Read> Fill<T> {
     /// before that is held too.
     pub fn more(&mut self, n: usize) -> ResultParsing<bool>
         requires { 0 < n }
-        ensures added { IfOk result (FillGives n (held_of self.old) (held_of self.new) (T.remaining (source_of self.old)) (T.remaining (source_of self.new))) }
+        ensures added { IfOk result (FillGives n (held_of self.old) (held_of self.new) (T.remaining (stream_of self.old)) (T.remaining (stream_of self.new))) }
         ensures told { OnOk result (has_failed self.new ≡ has_failed self.old) }
-        ensures part { OnErr result (AddsFewer n (held_of self.old) (held_of self.new) (T.remaining (source_of self.old)) (T.remaining (source_of self.new))) }
-        ensures cause { IfErr result (HasCauseToFill n (held_of self.old) (T.remaining (source_of self.old)) (has_failed self.old) (has_failed self.new)) }
+        ensures part { OnErr result (AddsFewer n (held_of self.old) (held_of self.new) (T.remaining (stream_of self.old)) (T.remaining (stream_of self.new))) }
+        ensures cause { IfErr result (HasCauseToFill n (held_of self.old) (T.remaining (stream_of self.old)) (has_failed self.old) (has_failed self.new)) }
     {
         more_of(
             &mut self.told.inner,
@@ -131,7 +131,7 @@ impl<T: Read> Fill<T> {
         requires lawful { IsLawful (H.format item.now) }
         requires between { held_of self.old ≡ [] }
         requires unfailed { has_failed self.old ≡ false }
-        ensures { FillsHeaded ((H.format item.now).says (H.state item.now)) (H.knows item.now) (H.format item.now).head (T.remaining (source_of self.old)) (T.remaining (source_of self.new)) (held_of self.new) (has_failed self.new) result }
+        ensures { FillsHeaded ((H.format item.now).says (H.state item.now)) (H.knows item.now) (H.format item.now).head (T.remaining (stream_of self.old)) (T.remaining (stream_of self.new)) (held_of self.new) (has_failed self.new) result }
     {
         fill_item(
             item,

@@ -5,7 +5,7 @@ ghost use Rattle.std.specs.Borrow.{sem, Lends};
 ghost use Rattle.std.specs.Io.{ReadsAtMost, WritesAtMost};
 ghost use Rattle.std.specs.Io.KnownBytes.{ReadConsumes, WriteAppends, Keeps};
 ghost use Rattle.pcap_core.specs.contracts.stream.told.Told.{the_row as told-row};
-ghost use Rattle.pcap_core.specs.Told.{stream_of, is_failed};
+ghost use Rattle.pcap_core.specs.Told.{stream_of, has_failed};
 ghost use Rattle.pcap_core.specs.LentStreams.{told_with};
 ghost use Rattle.pcap_core.specs.Writing.{WritesAll};
 
@@ -24,7 +24,7 @@ impl<T> Told<T> {
     /// Wraps a stream, of which no call has failed yet.
     pub fn new(inner: T) -> Told<T>
         ensures stream { stream_of result ≡ inner }
-        ensures unfailed { is_failed result ≡ false }
+        ensures unfailed { has_failed result ≡ false }
     {
         Told {
             inner,
@@ -34,7 +34,7 @@ impl<T> Told<T> {
 
     /// Whether a call answered an error, or a write took nothing of the bytes that it was offered.
     pub fn failed(&self) -> bool
-        ensures { result ≡ is_failed self.now }
+        ensures { result ≡ has_failed self.now }
     {
         self.has_failed
     }
@@ -69,7 +69,7 @@ impl<T: Read> Read for Told<T> {
         ensures bound { ReadsAtMost result buf.new }
         ensures bytes { ReadConsumes (T.remaining (stream_of self.old)) (T.remaining (stream_of self.new)) result buf.new }
         ensures told { MatchResult result
-            (λ _. is_failed self.new ≡ is_failed self.old) (λ _. is_failed self.new ≡ true) }
+            (λ _. has_failed self.new ≡ has_failed self.old) (λ _. has_failed self.new ≡ true) }
     {
         match self.inner.read(buf) {
             Ok(n) => Ok(n),
@@ -87,9 +87,9 @@ impl<T: Write> Write for Told<T> {
     fn write(&mut self, buf: &[u8]) -> io::Result<usize>
         ensures bound { WritesAtMost result buf.now }
         ensures bytes { WriteAppends (T.contents (stream_of self.old)) (T.contents (stream_of self.new)) result buf.now }
-        ensures err { OnErr result (is_failed self.new ≡ true) }
-        ensures took_none { IfOk result (λ n. n ≡ 0 → 0 < length buf.now → is_failed self.new ≡ true) }
-        ensures took_some { IfOk result (λ n. (0 < n) ⊎ (length buf.now ≡ 0) → is_failed self.new ≡ is_failed self.old) }
+        ensures err { OnErr result (has_failed self.new ≡ true) }
+        ensures took_none { IfOk result (λ n. n ≡ 0 → 0 < length buf.now → has_failed self.new ≡ true) }
+        ensures took_some { IfOk result (λ n. (0 < n) ⊎ (length buf.now ≡ 0) → has_failed self.new ≡ has_failed self.old) }
     {
         match self.inner.write(buf) {
             Ok(0) if !buf.is_empty() => {
@@ -107,7 +107,7 @@ impl<T: Write> Write for Told<T> {
     fn flush(&mut self) -> io::Result<()>
         ensures bytes { Keeps (T.contents (stream_of self.old)) (T.contents (stream_of self.new)) }
         ensures told { MatchResult result
-            (λ _. is_failed self.new ≡ is_failed self.old) (λ _. is_failed self.new ≡ true) }
+            (λ _. has_failed self.new ≡ has_failed self.old) (λ _. has_failed self.new ≡ true) }
     {
         match self.inner.flush() {
             Ok(()) => Ok(()),

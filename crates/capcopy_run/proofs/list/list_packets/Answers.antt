@@ -1,7 +1,7 @@
 use Rattle.std.proofs.Common.{◌∙◌, subst}
 use Rattle.std.proofs.lemmas.Result.{err_from_is_err_and}
 use Rattle.pcap_classic.specs.declared.pcap.header.PcapHeader.{PcapHeader}
-use Rattle.pcap_classic.specs.PacketText.{captured}
+use Rattle.pcap_classic.specs.PacketText.{content_of}
 use Rattle.pcap_classic.specs.Reader.{stream_of, has_failed}
 use Rattle.pcap_core.specs.Reading.{Takes, HasCause}
 use Rattle.capcopy_run.specs.Listing.{ReaderSays}
@@ -13,7 +13,7 @@ returns-in_err-write_line-in-Some-Ok g c =
     let header = c.args.reader.now.header in
     let left = g.T.Read.remaining (stream_of c.loop-turn.reader) in
     let now = g.T.Read.remaining (stream_of c.next.new.self) in
-    let packet = captured c.in-Some-Ok.packet in
+    let packet = content_of c.in-Some-Ok.packet in
     let steps = rw (c.loop-turn.invariant.ready, c.in-Some-Ok.field-0-is) at c.in-Some-Ok.ensures.steps in
     let took = subst (λ (h : PcapHeader). Takes (ReaderSays h) left now packet) c.loop-turn.invariant.same steps.1.2 in
     let p = err_from_is_err_and c.from_residual.result c.from_residual.ensures.1 in
@@ -45,7 +45,7 @@ loop-turn-preserved g c =
     let header = c.args.reader.now.header in
     let left = g.T.Read.remaining (stream_of c.loop-turn.reader) in
     let now = g.T.Read.remaining (stream_of c.next.new.self) in
-    let packet = captured c.in-Some-Ok.packet in
+    let packet = content_of c.in-Some-Ok.packet in
     let steps = rw (c.loop-turn.invariant.ready, c.in-Some-Ok.field-0-is) at c.in-Some-Ok.ensures.steps in
     let took = subst (λ (h : PcapHeader). Takes (ReaderSays h) left now packet) c.loop-turn.invariant.same steps.1.2 in
     record {

@@ -6,7 +6,7 @@ use Rattle.std.proofs.lemmas.List.{map_push}
 use Rattle.pcap_core.specs.Bytes.{IsBorrowed}
 use Rattle.pcap_core.specs.Answer.{number_in, whole}
 use Rattle.pcap_classic.specs.Magic.{order_of, resolution_of}
-use Rattle.pcap_classic.specs.PacketText.{packet_limit, captured}
+use Rattle.pcap_classic.specs.PacketText.{packet_limit, content_of}
 use Rattle.pcap_core.specs.Format.{state_after}
 use Rattle.pcap_classic.specs.Packets.{packet_format}
 use Rattle.pcap_classic.proofs.Texts.{packet_length, header_length}
@@ -22,9 +22,9 @@ loop-left-preserved c =
     let order = number_in (order_of magic) in
     let r = resolution_of magic in
     let f = packet_format packet_limit order r in
-    let packets = map captured c.loop-left.packets.items in
-    let packet = captured c.in-Ok.packet in
-    let e : map captured c.push.new.self.items ≡ packets ++ packet ∷ [] = rw c.in_ok-push-in-Ok.ensures.items (map_push captured c.loop-left.packets.items c.in-Ok.packet) in
+    let packets = map content_of c.loop-left.packets.items in
+    let packet = content_of c.in-Ok.packet in
+    let e : map content_of c.push.new.self.items ≡ packets ++ packet ∷ [] = rw c.in_ok-push-in-Ok.ensures.items (map_push content_of c.loop-left.packets.items c.in-Ok.packet) in
     let text = rw (← c.header-header.ensures) at c.in-Ok.ensures.tells in
     let says = packets_say packet_limit order r (state_after f tt packets) c.loop-left.left.now (whole packet c.in-Ok.after.now) text in
     record {

@@ -1,7 +1,7 @@
 use Rattle.std.proofs.Common.{List, ℕ, [], subst}
 use Rattle.pcap_core.specs.Answer.{number_in, whole}
 use Rattle.pcap_classic.specs.Magic.{order_of, resolution_of}
-use Rattle.pcap_classic.specs.PacketText.{packet_limit, captured}
+use Rattle.pcap_classic.specs.PacketText.{packet_limit, content_of}
 use Rattle.pcap_classic.specs.Packets.{reader_format, packet_format}
 use Rattle.pcap_core.proofs.Formats.{text_same}
 use Rattle.pcap_core.proofs.Fronts.{whole_not_refused}
@@ -26,7 +26,7 @@ returns c =
     let header = c.args.header.now in
     let bytes = c.args.bytes.now in
     let f = reader_format packet_limit header in
-    let packet = captured c.in-Ok.packet in
+    let packet = content_of c.in-Ok.packet in
     let rest = c.in-Ok.field-0-0.now in
     let valid = (reader_whole packet_limit header bytes [] c.requires.0 c.requires.1).0 in
     let text : f.says tt bytes (whole packet rest) = reader_says packet_limit header bytes (whole packet rest) valid c.in-Ok.ensures.tells in

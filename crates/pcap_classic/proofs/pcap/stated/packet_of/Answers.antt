@@ -1,4 +1,4 @@
-use Rattle.std.proofs.Common.{◌≡◌, List, ℕ, [], drop, sym, subst}
+use Rattle.std.proofs.Common.{List, ℕ, [], sym, subst}
 use Rattle.pcap_core.specs.Answer.{whole}
 use Rattle.pcap_classic.specs.PacketText.{packet_limit}
 use Rattle.pcap_classic.specs.Packets.{reader_format}

@@ -1,8 +1,8 @@
-use Rattle.std.proofs.Common.{◌≡◌, ◌<◌, ◌∙◌, ℕ, List, [], true, false, length, rules, arith, refl, subst, append-nil, sym, inl, inr}
+use Rattle.std.proofs.Common.{◌≡◌, ◌<◌, ◌∙◌, ℕ, List, [], true, false, length, arith, refl, subst, append-nil, sym, inl}
 use Rattle.std.proofs.lemmas.Grind.{common_steps}
 use Rattle.std.proofs.lemmas.Result.{err_from_is_err_and}
 use Rattle.pcap_core.specs.declared.rules.Rule.TheVariants.{CaptureMagic}
-use Rattle.pcap_core.specs.Answer.{number_in, whole, faulty}
+use Rattle.pcap_core.specs.Answer.{number_in, faulty}
 use Rattle.pcap_classic.specs.Magic.{is_magic, order_of, resolution_of}
 use Rattle.pcap_classic.specs.PacketText.{packet_limit, PacketHeaderText}
 use Rattle.pcap_classic.specs.Packets.{reader_format}
