@@ -1,9 +1,10 @@
 //! Runs over a capture that is shown exactly as the parser asks for it.
 
-ghost use Rattle.std.specs.Prelude.{◌≡◌, ◌+◌, ◌<◌, ◌^◌, ⊤, All, IfOk, IfErr, drop};
+ghost use Rattle.std.specs.Prelude.{◌≡◌, ◌≤◌, ◌+◌, ◌<◌, ◌^◌, ⊤, All, IfOk, IfErr, map, drop};
 ghost use Rattle.pcap_core.specs.Answer.{Refuses};
 ghost use Rattle.pcap_core.specs.Bytes.{IsBorrowed};
 ghost use Rattle.pcap_core.specs.Errors.{IsMemory};
+ghost use Rattle.pcap_core.specs.Exact.{ExactItems};
 ghost use Rattle.pcap_core.specs.Found.{FoundBefore, IfItem};
 ghost use Rattle.pcap_core.specs.Requested.{AsksItem};
 ghost use Rattle.pcap_core.specs.Window.{bytes_of, shown_of, requests_made};
@@ -14,8 +15,9 @@ ghost use Rattle.pcap_classic.specs.Packets.{format_under};
 ghost use Rattle.pcap_classic.specs.Parser.{header_of};
 
 use crate::pcap::{Packet, PcapParser};
+use crate::run::find::find_packet;
 use crate::run::{PcapRun, Rest, Window};
-use pcap_core::run::{Found, found_in};
+use pcap_core::run::Found;
 use pcap_core::{PcapError, ResultParsing};
 use std::alloc::Global;
 
@@ -43,35 +45,43 @@ pub fn exact_pcap<'a>(alloc: Global, window: &mut Window<'a>) -> ResultParsing<(
         return Err(PcapError::IncompleteBuffer(HEADER_BYTES - shown));
     }
     let (_, parser) = PcapParser::new(window.seen())?;
-    let header = *parser.header();
-    let mut packets = Vec::new(alloc);
     let mut requests = 1;
-    let mut rest = Rest::Clean;
-    let mut used = HEADER_BYTES;
-    'showing: loop {
-        used = window.seen().len();
-        if window.is_done() {
-            break 'showing;
-        }
-        match show_packet(&parser, window, &mut requests)? {
-            Found::Item(packet) => packets.push(packet)?,
-            Found::Needs(n) => {
-                rest = Rest::Needs(n);
-                break 'showing;
-            }
-            Found::Refused(e) => {
-                rest = Rest::Refused(e);
-                break 'showing;
-            }
-        }
-    }
+    let (packets, used, rest) = show_packets(alloc, &parser, window, &mut requests)?;
     let run = PcapRun {
-        header,
+        header: *parser.header(),
         packets,
         used,
         rest,
     };
     Ok((run, requests))
+}
+
+// Shows what the parser asks for of all packets, and of the rest after them: the packets, where the last one ends, and
+// what is said of the rest.
+fn show_packets<'a>(
+    alloc: Global,
+    parser: &PcapParser,
+    window: &mut Window<'a>,
+    requests: &mut u64,
+) -> ResultParsing<(Vec<Packet<'a>>, usize, Rest)>
+    requires first { requests.old ≡ 1 }
+    requires header { 24 ≤ shown_of window.old }
+    ensures bytes { bytes_of window.new ≡ bytes_of window.old }
+    ensures items { IfOk result (λ x. ExactItems (format_under packet_limit (header_of parser.now)) tt (map content_of x.0.items) (bytes_of window.old) (shown_of window.old) x.1 x.2
+        (requests_made window.old) (requests_made window.new) requests.old requests.new) }
+    ensures borrowed { IfOk result (λ x. All (λ packet. IsBorrowed packet.data_) x.0.items) }
+    ensures memory { IfErr result IsMemory }
+{
+    let mut packets = Vec::new(alloc);
+    while !window.is_done() {
+        let used = window.seen().len();
+        match show_packet(parser, window, requests)? {
+            Found::Item(packet) => packets.push(packet)?,
+            Found::Needs(n) => return Ok((packets, used, Rest::Needs(n))),
+            Found::Refused(e) => return Ok((packets, used, Rest::Refused(e))),
+        }
+    }
+    Ok((packets, window.seen().len(), Rest::Clean))
 }
 
 // Shows what the parser asks for of the next packet, and counts the requests.
@@ -91,7 +101,7 @@ fn show_packet<'a>(
 {
     let start = window.seen().len();
     'asking: loop {
-        match found_in(parser.next_packet(window.seen_after(start)))? {
+        match find_packet(parser, window.seen_after(start))? {
             Found::Item((_, packet)) => return Ok(Found::Item(packet)),
             Found::Needs(n) => {
                 let shown = window.ask(n);
