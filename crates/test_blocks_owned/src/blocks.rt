@@ -1,6 +1,6 @@
 //! Block bodies by themselves.
 
-use crate::rows::{Owned, mismatch, text_with_clone};
+use crate::rows::{HasTexts, Owned, mismatch, mismatch_or_loan, text_with_clone};
 use crate::texts::record_owns_texts;
 use byteorder::{BigEndian, LittleEndian};
 use pcap_blocks::{
@@ -18,7 +18,9 @@ impl Owned for SectionHeaderBlock<'static> {
         let (_rest, block) = SectionHeaderBlock::from_slice(alloc, body.as_slice())?;
         Ok(block.into_owned(alloc)?)
     }
+}
 
+impl HasTexts for SectionHeaderBlock<'static> {
     fn owns_texts(&self) -> bool {
         self.options.owns_texts()
     }
@@ -33,7 +35,9 @@ impl Owned for InterfaceDescriptionBlock<'static> {
         )?;
         Ok(block.into_owned(alloc)?)
     }
+}
 
+impl HasTexts for InterfaceDescriptionBlock<'static> {
     fn owns_texts(&self) -> bool {
         self.options.owns_texts()
     }
@@ -45,7 +49,9 @@ impl Owned for EnhancedPacketBlock<'static> {
         let (_rest, block) = EnhancedPacketBlock::from_slice::<BigEndian>(alloc, body.as_slice())?;
         Ok(block.into_owned(alloc)?)
     }
+}
 
+impl HasTexts for EnhancedPacketBlock<'static> {
     fn owns_texts(&self) -> bool {
         self.options.owns_texts()
     }
@@ -57,7 +63,9 @@ impl Owned for PacketBlock<'static> {
         let (_rest, block) = PacketBlock::from_slice::<LittleEndian>(alloc, body.as_slice())?;
         Ok(block.into_owned(alloc)?)
     }
+}
 
+impl HasTexts for PacketBlock<'static> {
     fn owns_texts(&self) -> bool {
         self.options.owns_texts()
     }
@@ -69,10 +77,6 @@ impl Owned for SimplePacketBlock<'static> {
         let (_rest, block) = SimplePacketBlock::from_slice::<BigEndian>(body.as_slice())?;
         Ok(block.into_owned(alloc)?)
     }
-
-    fn owns_texts(&self) -> bool {
-        true
-    }
 }
 
 impl Owned for NameResolutionBlock<'static> {
@@ -81,7 +85,9 @@ impl Owned for NameResolutionBlock<'static> {
         let (_rest, block) = NameResolutionBlock::from_slice::<BigEndian>(alloc, body.as_slice())?;
         Ok(block.into_owned(alloc)?)
     }
+}
 
+impl HasTexts for NameResolutionBlock<'static> {
     fn owns_texts(&self) -> bool {
         self.records.iter().all(record_owns_texts) && self.options.owns_texts()
     }
@@ -96,7 +102,9 @@ impl Owned for InterfaceStatisticsBlock<'static> {
         )?;
         Ok(block.into_owned(alloc)?)
     }
+}
 
+impl HasTexts for InterfaceStatisticsBlock<'static> {
     fn owns_texts(&self) -> bool {
         self.options.owns_texts()
     }
@@ -107,10 +115,6 @@ impl Owned for SystemdJournalExportBlock<'static> {
         let body = bytes(alloc, digits)?;
         let (_rest, block) = SystemdJournalExportBlock::from_slice::<BigEndian>(body.as_slice())?;
         Ok(block.into_owned(alloc)?)
-    }
-
-    fn owns_texts(&self) -> bool {
-        true
     }
 }
 
@@ -201,15 +205,15 @@ const JOURNALS: [(&str, &str); 1] = [(
 #[test]
 fn sections_and_interfaces(rt: HostRuntime) -> Result<(), Fail> {
     assert_eq!(rt;
-        mismatch::<SectionHeaderBlock>(rt.alloc(), &SECTIONS)?.as_str(),
+        mismatch_or_loan::<SectionHeaderBlock>(rt.alloc(), &SECTIONS)?.as_str(),
         ""
     );
     assert_eq!(rt;
-        mismatch::<InterfaceDescriptionBlock>(rt.alloc(), &INTERFACES)?.as_str(),
+        mismatch_or_loan::<InterfaceDescriptionBlock>(rt.alloc(), &INTERFACES)?.as_str(),
         ""
     );
     assert_eq!(rt;
-        mismatch::<InterfaceStatisticsBlock>(rt.alloc(), &STATISTICS)?.as_str(),
+        mismatch_or_loan::<InterfaceStatisticsBlock>(rt.alloc(), &STATISTICS)?.as_str(),
         ""
     );
     Ok(())
@@ -218,10 +222,13 @@ fn sections_and_interfaces(rt: HostRuntime) -> Result<(), Fail> {
 #[test]
 fn packets(rt: HostRuntime) -> Result<(), Fail> {
     assert_eq!(rt;
-        mismatch::<EnhancedPacketBlock>(rt.alloc(), &ENHANCED_PACKETS)?.as_str(),
+        mismatch_or_loan::<EnhancedPacketBlock>(rt.alloc(), &ENHANCED_PACKETS)?.as_str(),
         ""
     );
-    assert_eq!(rt; mismatch::<PacketBlock>(rt.alloc(), &PACKETS)?.as_str(), "");
+    assert_eq!(rt;
+        mismatch_or_loan::<PacketBlock>(rt.alloc(), &PACKETS)?.as_str(),
+        ""
+    );
     assert_eq!(rt;
         mismatch::<SimplePacketBlock>(rt.alloc(), &SIMPLE_PACKETS)?.as_str(),
         ""
@@ -232,7 +239,7 @@ fn packets(rt: HostRuntime) -> Result<(), Fail> {
 #[test]
 fn names_and_journals(rt: HostRuntime) -> Result<(), Fail> {
     assert_eq!(rt;
-        mismatch::<NameResolutionBlock>(rt.alloc(), &NAMES)?.as_str(),
+        mismatch_or_loan::<NameResolutionBlock>(rt.alloc(), &NAMES)?.as_str(),
         ""
     );
     assert_eq!(rt;

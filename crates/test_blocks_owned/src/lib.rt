@@ -4,6 +4,8 @@
 #[cfg(test)]
 mod blocks;
 #[cfg(test)]
+mod large;
+#[cfg(test)]
 mod option_lists;
 #[cfg(test)]
 mod parsed_blocks;

@@ -1,6 +1,6 @@
 //! Options by themselves, of each kind of block.
 
-use crate::rows::{Owned, bytes_behind, mismatch};
+use crate::rows::{HasTexts, Owned, bytes_behind, mismatch_or_loan};
 use crate::texts::{
     enhanced_owns_text, interface_owns_text, name_owns_text, packet_owns_text, section_owns_text,
     statistics_own_text,
@@ -27,7 +27,9 @@ impl Owned for Vec<SectionHeaderOption<'static>> {
         }
         Ok(options)
     }
+}
 
+impl HasTexts for Vec<SectionHeaderOption<'static>> {
     fn owns_texts(&self) -> bool {
         self.iter().all(section_owns_text)
     }
@@ -46,7 +48,9 @@ impl Owned for Vec<InterfaceDescriptionOption<'static>> {
         }
         Ok(options)
     }
+}
 
+impl HasTexts for Vec<InterfaceDescriptionOption<'static>> {
     fn owns_texts(&self) -> bool {
         self.iter().all(interface_owns_text)
     }
@@ -62,7 +66,9 @@ impl Owned for Vec<EnhancedPacketOption<'static>> {
         }
         Ok(options)
     }
+}
 
+impl HasTexts for Vec<EnhancedPacketOption<'static>> {
     fn owns_texts(&self) -> bool {
         self.iter().all(enhanced_owns_text)
     }
@@ -78,7 +84,9 @@ impl Owned for Vec<PacketOption<'static>> {
         }
         Ok(options)
     }
+}
 
+impl HasTexts for Vec<PacketOption<'static>> {
     fn owns_texts(&self) -> bool {
         self.iter().all(packet_owns_text)
     }
@@ -97,7 +105,9 @@ impl Owned for Vec<InterfaceStatisticsOption<'static>> {
         }
         Ok(options)
     }
+}
 
+impl HasTexts for Vec<InterfaceStatisticsOption<'static>> {
     fn owns_texts(&self) -> bool {
         self.iter().all(statistics_own_text)
     }
@@ -113,7 +123,9 @@ impl Owned for Vec<NameResolutionOption<'static>> {
         }
         Ok(options)
     }
+}
 
+impl HasTexts for Vec<NameResolutionOption<'static>> {
     fn owns_texts(&self) -> bool {
         self.iter().all(name_owns_text)
     }
@@ -286,15 +298,15 @@ const OF_NAMES: [(&str, &str); 6] = [
 #[test]
 fn options_of_sections_and_interfaces(rt: HostRuntime) -> Result<(), Fail> {
     assert_eq!(rt;
-        mismatch::<Vec<SectionHeaderOption>>(rt.alloc(), &OF_SECTION)?.as_str(),
+        mismatch_or_loan::<Vec<SectionHeaderOption>>(rt.alloc(), &OF_SECTION)?.as_str(),
         ""
     );
     assert_eq!(rt;
-        mismatch::<Vec<InterfaceDescriptionOption>>(rt.alloc(), &OF_INTERFACE)?.as_str(),
+        mismatch_or_loan::<Vec<InterfaceDescriptionOption>>(rt.alloc(), &OF_INTERFACE)?.as_str(),
         ""
     );
     assert_eq!(rt;
-        mismatch::<Vec<InterfaceStatisticsOption>>(rt.alloc(), &OF_STATISTICS)?.as_str(),
+        mismatch_or_loan::<Vec<InterfaceStatisticsOption>>(rt.alloc(), &OF_STATISTICS)?.as_str(),
         ""
     );
     Ok(())
@@ -303,15 +315,15 @@ fn options_of_sections_and_interfaces(rt: HostRuntime) -> Result<(), Fail> {
 #[test]
 fn options_of_packets_and_names(rt: HostRuntime) -> Result<(), Fail> {
     assert_eq!(rt;
-        mismatch::<Vec<EnhancedPacketOption>>(rt.alloc(), &OF_ENHANCED_PACKET)?.as_str(),
+        mismatch_or_loan::<Vec<EnhancedPacketOption>>(rt.alloc(), &OF_ENHANCED_PACKET)?.as_str(),
         ""
     );
     assert_eq!(rt;
-        mismatch::<Vec<PacketOption>>(rt.alloc(), &OF_PACKET)?.as_str(),
+        mismatch_or_loan::<Vec<PacketOption>>(rt.alloc(), &OF_PACKET)?.as_str(),
         ""
     );
     assert_eq!(rt;
-        mismatch::<Vec<NameResolutionOption>>(rt.alloc(), &OF_NAMES)?.as_str(),
+        mismatch_or_loan::<Vec<NameResolutionOption>>(rt.alloc(), &OF_NAMES)?.as_str(),
         ""
     );
     Ok(())

@@ -14,11 +14,6 @@ impl Owned for CustomUtf8Option<'static> {
         let option = CustomUtf8Option::from_slice::<BigEndian>(2988, value.as_slice())?;
         Ok(option.into_owned(alloc)?)
     }
-
-    // Nothing shows how it holds its text, but that it outlives the bytes.
-    fn owns_texts(&self) -> bool {
-        true
-    }
 }
 
 impl Owned for CustomBinaryOption<'static> {
@@ -27,10 +22,6 @@ impl Owned for CustomBinaryOption<'static> {
         let option = CustomBinaryOption::from_slice::<BigEndian>(2989, value.as_slice())?;
         Ok(option.into_owned(alloc)?)
     }
-
-    fn owns_texts(&self) -> bool {
-        true
-    }
 }
 
 impl Owned for UnknownOption<'static> {
@@ -38,20 +29,12 @@ impl Owned for UnknownOption<'static> {
         let value = bytes(alloc, digits)?;
         Ok(UnknownOption::new(99, 2, value.as_slice()).into_owned(alloc)?)
     }
-
-    fn owns_texts(&self) -> bool {
-        true
-    }
 }
 
 impl Owned for CowBytes<'static> {
     fn owned(alloc: Global, digits: &str) -> Result<Self, Fail> {
         let value = bytes(alloc, digits)?;
         Ok(CowBytes::Borrowed(value.as_slice()).into_owned(alloc)?)
-    }
-
-    fn owns_texts(&self) -> bool {
-        !self.is_borrowed()
     }
 }
 

@@ -9,15 +9,19 @@ use test_support::rows::bytes;
 pub(crate) trait Owned: Clone + Debug {
     // The value of these digits, by its own `into_owned`. The bytes that it was read from are dropped before the end.
     fn owned(alloc: Global, digits: &str) -> Result<Self, Fail>;
+}
 
-    // Whether its texts are owned, as far as a look at them shows it. Bytes show it in the value's text.
+// Such a value, some of whose texts can be looked at. Its own text shows how bytes are held, and not how texts are.
+pub(crate) trait HasTexts: Owned {
+    // Whether these texts are owned.
     fn owns_texts(&self) -> bool;
 }
 
-// The first row whose value, or its clone, has another text or borrows one; the empty text where there is none.
+// The first row whose value, or its clone, has another text; the empty text where there is none.
 pub(crate) fn mismatch<T: Owned>(alloc: Global, rows: &[(&str, &str)]) -> Result<String, Fail> {
     for (digits, text) in rows {
-        let shown = owned_text::<T>(alloc, digits)?;
+        let value = T::owned(alloc, digits)?;
+        let shown = text_with_clone(alloc, &value)?;
         if shown.as_str() != *text {
             return Ok(shown);
         }
@@ -25,15 +29,17 @@ pub(crate) fn mismatch<T: Owned>(alloc: Global, rows: &[(&str, &str)]) -> Result
     Ok(String::new(alloc))
 }
 
-// The text of the value of these digits. Its clone has to have the same one.
-fn owned_text<T: Owned>(alloc: Global, digits: &str) -> Result<String, Fail> {
-    let value = T::owned(alloc, digits)?;
-    let text = text_with_clone(alloc, &value)?;
-    if value.owns_texts() {
-        Ok(text)
-    } else {
-        Ok(format!(in alloc; "{text} borrows a text")?)
+// The same, or the first row whose value borrows a text.
+pub(crate) fn mismatch_or_loan<T: HasTexts>(
+    alloc: Global,
+    rows: &[(&str, &str)],
+) -> Result<String, Fail> {
+    for (digits, text) in rows {
+        if !T::owned(alloc, digits)?.owns_texts() {
+            return Ok(format!(in alloc; "{text} borrows a text")?);
+        }
     }
+    mismatch::<T>(alloc, rows)
 }
 
 // The text of a value, and that of its clone where it is another one. It tells owned bytes from borrowed ones, but not

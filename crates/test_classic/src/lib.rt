@@ -4,4 +4,6 @@
 #[cfg(test)]
 mod errors;
 #[cfg(test)]
+mod runs;
+#[cfg(test)]
 mod slices;

@@ -7,7 +7,7 @@ use pcap_classic::{CowBytes, DataLink, Endianness, PcapError, ResultParsing, TsR
 use std::alloc::Global;
 use std::test::Fail;
 use std::time::Duration;
-use test_support::captures::{back, big, front, little};
+use test_support::captures::{back, big, front, little, pattern};
 
 #[test]
 fn requests(rt: HostRuntime) -> Result<(), Fail> {
@@ -176,9 +176,39 @@ fn empty_packets(rt: HostRuntime) -> Result<(), Fail> {
     Ok(())
 }
 
-// A packet over bytes of its own, as its clone has to be.
+#[test]
+fn owned_packets(rt: HostRuntime) -> Result<(), Fail> {
+    let pattern = pattern(rt.alloc(), 262_144)?;
+    // the stated length, and that of the data
+    for (incl_len, len) in [
+        (9, 2),
+        (0, 5),
+        (u32::MAX, 0),
+        (65_535, 65_535),
+        (65_537, 65_537),
+        (262_144, 262_144),
+    ] {
+        let bytes = front(pattern.as_slice(), len);
+        let packet = Packet {
+            header: PacketHeader::new(1, 2, incl_len, 3),
+            data_: CowBytes::Borrowed(bytes),
+        };
+        for own in [packet.to_owned(rt.alloc())?, packet.into_owned(rt.alloc())?] {
+            assert_eq!(rt; own.header, PacketHeader::new(1, 2, incl_len, 3));
+            assert!(rt;
+                !own.data_.is_borrowed() && own.data_.as_slice() == bytes,
+                "{len} bytes"
+            );
+        }
+    }
+    Ok(())
+}
+
+// Whether these are the same header and bytes, held in the same way.
 fn is_copy(packet: &Packet, clone: &Packet) -> bool {
-    packet.header == clone.header && packet.data_.as_slice() == clone.data_.as_slice()
+    packet.header == clone.header
+        && packet.data_.as_slice() == clone.data_.as_slice()
+        && packet.data_.is_borrowed() == clone.data_.is_borrowed()
 }
 
 #[test]
@@ -191,7 +221,7 @@ fn clones(rt: HostRuntime) -> Result<(), Fail> {
         header: PacketHeader::new(1, 2, 3, 4),
         data_: CowBytes::Borrowed(&[5, 6]),
     };
-    assert!(rt; is_copy(&owned, &owned.clone()?) && !owned.data_.is_borrowed());
+    assert!(rt; is_copy(&owned, &owned.clone()?));
     assert!(rt; is_copy(&borrowed, &borrowed.clone()?));
     Ok(())
 }

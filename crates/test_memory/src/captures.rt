@@ -3,10 +3,10 @@
 use crate::bytes::CAPTURE;
 use crate::tell;
 use byteorder::BigEndian;
-use pcap_classic::pcap::{Packet, PcapHeader};
-use pcap_classic::run::{PcapRead, parse_pcap, read_pcap};
+use pcap_classic::pcap::{Packet, PcapHeader, PcapReader};
+use pcap_classic::run::{Copied, PcapRead, Under, copy_pcap, parse_pcap, read_pcap};
 use pcap_classic::stream::{Fill, Told};
-use pcap_classic::{CowBytes, ResultParsing, TsResolution};
+use pcap_classic::{CowBytes, PcapError, ResultParsing, TsResolution};
 use std::alloc::Global;
 use std::io::{self, Cursor};
 
@@ -14,6 +14,8 @@ pub(crate) fn make_calls(rt: &HostRuntime) -> io::Result<()> {
     let alloc = rt.alloc();
     tell(rt, "parse_pcap", parse(alloc))?;
     tell(rt, "read_pcap", read(alloc))?;
+    tell(rt, "PcapReader::next", next(alloc))?;
+    tell(rt, "copy_pcap", copy(alloc))?;
     tell(rt, "PcapHeader::to_array", header_to_array(alloc))?;
     tell(rt, "Packet::from_reader", packet_from_reader(alloc))?;
     tell(rt, "Packet::to_owned", packet_to_owned(alloc))?;
@@ -34,6 +36,24 @@ fn read(alloc: Global) -> ResultParsing<()> {
         fault,
         ..
     } = read_pcap(alloc, Cursor::new(CAPTURE), 9)?;
+    match fault {
+        None => Ok(()),
+        Some(error) => Err(error),
+    }
+}
+
+fn next(alloc: Global) -> ResultParsing<()> {
+    let mut reader = PcapReader::new(alloc, Cursor::new(CAPTURE))?;
+    match reader.next() {
+        None => Err(PcapError::InvalidField("no packet came")),
+        Some(Ok(_packet)) => Ok(()),
+        Some(Err(error)) => Err(error),
+    }
+}
+
+fn copy(alloc: Global) -> ResultParsing<()> {
+    let mut capture = Cursor::new(CAPTURE);
+    let Copied { fault, .. } = copy_pcap(alloc, &mut capture, &mut io::sink(), Under::Same, 9);
     match fault {
         None => Ok(()),
         Some(error) => Err(error),

@@ -90,10 +90,11 @@ fn fractions_are_cut(rt: HostRuntime) -> Result<(), Fail> {
 #[test]
 fn every_room(rt: HostRuntime) -> Result<(), Fail> {
     let whole = big(rt.alloc())?;
-    for step in [1, 50] {
+    // the most bytes of one read, and whether the writer fails where it has no room, or takes nothing
+    for (step, fails) in [(1, false), (50, false), (50, true)] {
         for room in 0..138usize {
             let mut stream = Halting::new(rt.alloc(), whole.as_slice(), step)?;
-            let mut output = Narrow::new(rt.alloc(), room, true);
+            let mut output = Narrow::new(rt.alloc(), room, fails);
             let copied = copy_pcap(rt.alloc(), &mut stream, &mut output, Under::Same, 9);
             assert!(rt; is_io(&copied) && copied.write_failed, "at {room}");
             assert!(rt; copied.packets == 0 && !copied.read_failed);

@@ -1,5 +1,6 @@
 //! What comes off streams.
 
+use crate::kinds::kind_of;
 use byteorder::BigEndian;
 use pcap_classic::pcap::{Packet, PacketHeader, PcapHeader, PcapReader};
 use pcap_classic::run::{PcapRead, read_pcap};
@@ -94,12 +95,7 @@ fn wrong_headers(rt: HostRuntime) -> Result<(), Fail> {
             _ => assert!(rt; false, "no fault"),
         }
         let short = PcapReader::new(rt.alloc(), Halting::new(rt.alloc(), &[0xff; 10], step)?);
-        assert!(rt;
-            matches!(
-                short,
-                Err(PcapError::InvalidField(_) | PcapError::IoError(_))
-            )
-        );
+        assert_eq!(rt; kind_of(short.err()), Some(ErrorKind::UnexpectedEof));
     }
     Ok(())
 }
@@ -130,6 +126,25 @@ fn every_beginning(rt: HostRuntime) -> Result<(), Fail> {
         let read = read_pcap(rt.alloc(), &mut stream, 9);
         assert!(rt; is_read_of(&read, end), "at {end}");
         assert!(rt; stream.most_room <= 98);
+    }
+    Ok(())
+}
+
+#[test]
+fn three_packets(rt: HostRuntime) -> Result<(), Fail> {
+    let whole = big(rt.alloc())?;
+    let mut bytes = big(rt.alloc())?;
+    for _turn in 0..2 {
+        bytes.extend_from_slice(back(whole.as_slice(), 24))?;
+    }
+    for step in [1, 9, 500] {
+        let stream = Halting::new(rt.alloc(), bytes.as_slice(), step)?;
+        let read = read_pcap(rt.alloc(), stream, 9)?;
+        assert!(rt; read.fault.is_none() && !read.failed);
+        assert_eq!(rt; read.packets.len(), 3);
+        for packet in read.packets {
+            assert!(rt; is_packet(&Some(Ok(packet)), back(whole.as_slice(), 40)));
+        }
     }
     Ok(())
 }
@@ -267,7 +282,7 @@ fn wrong_magics(rt: HostRuntime) -> Result<(), Fail> {
         assert!(rt; names(&reader.next(), "PcapHeader wrong magic number"));
         assert!(rt; reader.next().is_none() && reader.next().is_none());
         assert!(rt; reader.header.magic_number == 0 && !reader.failed());
-        assert!(rt; reader.into_reader().taken <= 138 + 16);
+        assert_eq!(rt; reader.into_reader().taken, 138 + 1);
     }
     Ok(())
 }
@@ -279,7 +294,7 @@ fn wrong_magic_at_once(rt: HostRuntime) -> Result<(), Fail> {
     reader.header.magic_number = 0;
     assert!(rt; names(&reader.next(), "PcapHeader wrong magic number"));
     assert!(rt; reader.next().is_none() && reader.header.magic_number == 0);
-    assert!(rt; reader.into_reader().len() >= 4);
+    assert_eq!(rt; reader.into_reader().len(), 29 - 24 - 1);
     Ok(())
 }
 

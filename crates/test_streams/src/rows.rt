@@ -1,12 +1,13 @@
 //! What goes out.
 
 use crate::sample::packet;
-use byteorder::BigEndian;
+use byteorder::{BigEndian, LittleEndian};
 use pcap_classic::pcap::{Packet, PacketHeader, PcapHeader, PcapWriter};
 use pcap_classic::run::{Rest, parse_pcap};
 use pcap_classic::{CowBytes, DataLink, Endianness, PcapError, TsResolution};
 use std::test::Fail;
 use test_support::captures::{BIG_HEAD, back, big, contents, front};
+use test_support::rows::bytes;
 
 #[test]
 fn setters(rt: HostRuntime) {
@@ -131,6 +132,74 @@ fn parts_by_themselves(rt: HostRuntime) -> Result<(), Fail> {
     assert!(rt; !empty.data_.is_borrowed());
     let owned = Packet::new_owned(1, 2, Vec::from_slice(alloc, &[7])?, 3);
     assert_eq!(rt; owned.header, PacketHeader::new(1, 2, 1, 3));
+    Ok(())
+}
+
+#[test]
+fn headers_that_no_capture_has(rt: HostRuntime) -> Result<(), Fail> {
+    let alloc = rt.alloc();
+    let header = PcapHeader {
+        magic_number: 0,
+        ts_correction: -2,
+        datalink: DataLink::Unknown(2),
+        ..PcapHeader::default()
+    };
+    let big = bytes(
+        alloc,
+        "00000000 0002 0004 fffffffe 00000000 0000ffff 00000002",
+    )?;
+    let little = bytes(
+        alloc,
+        "00000000 0200 0400 feffffff 00000000 ffff0000 02000000",
+    )?;
+    let mut out = Vec::new(alloc);
+    header.write_to::<_, BigEndian>(&mut out)?;
+    assert_eq!(rt; out.as_slice(), big.as_slice());
+    out.clear();
+    header.write_to::<_, LittleEndian>(&mut out)?;
+    assert_eq!(rt; out.as_slice(), little.as_slice());
+    let array = header.to_array::<BigEndian>(alloc)?;
+    assert_eq!(rt; array.as_slice(), big.as_slice());
+    let array = header.to_array::<LittleEndian>(alloc)?;
+    assert_eq!(rt; array.as_slice(), little.as_slice());
+    Ok(())
+}
+
+#[test]
+fn lengths_that_no_capture_has(rt: HostRuntime) -> Result<(), Fail> {
+    let alloc = rt.alloc();
+    let rows = [
+        (
+            PacketHeader::new(1, 2000, 9, 3),
+            "00000001 00000002 00000009 00000003",
+        ),
+        (
+            PacketHeader::new(1, 2000, 262_145, 262_145),
+            "00000001 00000002 00040001 00040001",
+        ),
+        (
+            PacketHeader::new(1, 2000, u32::MAX, 0),
+            "00000001 00000002 ffffffff 00000000",
+        ),
+        (
+            PacketHeader::new(u32::MAX, u32::MAX, u32::MAX, u32::MAX),
+            "ffffffff 00418937 ffffffff ffffffff",
+        ),
+    ];
+    for (header, digits) in rows {
+        let wanted = bytes(alloc, digits)?;
+        let mut out = Vec::new(alloc);
+        header.write_to::<_, BigEndian>(&mut out, TsResolution::MicroSecond)?;
+        assert_eq!(rt; out.as_slice(), wanted.as_slice());
+        let mut writer = PcapWriter::with_header(PcapHeader::default(), Vec::new(alloc))?;
+        writer.write_packet(&Packet {
+            header,
+            data_: CowBytes::Borrowed(&[0xaa]),
+        })?;
+        let out = writer.into_writer();
+        assert_eq!(rt; front(back(out.as_slice(), 24), 16), wanted.as_slice());
+        assert_eq!(rt; back(out.as_slice(), 40), [0xaa].as_slice());
+    }
     Ok(())
 }
 

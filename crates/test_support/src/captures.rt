@@ -28,6 +28,15 @@ pub fn contents(alloc: Global) -> Result<Vec<u8>, AllocError> {
     capture(alloc, &[], 98)
 }
 
+/// So many bytes: 0, 1, 2 and so on up to 250, and then again from 0.
+pub fn pattern(alloc: Global, len: u32) -> Result<Vec<u8>, AllocError> {
+    let mut bytes = Vec::new(alloc);
+    for k in 0..len {
+        bytes.push((k % 251) as u8)?;
+    }
+    Ok(bytes)
+}
+
 /// The big-endian capture, 138 bytes.
 pub fn big(alloc: Global) -> Result<Vec<u8>, AllocError> {
     capture(alloc, &BIG_HEAD, 98)

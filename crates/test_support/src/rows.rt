@@ -6,6 +6,7 @@
 use pcap_core::{PcapError, ResultParsing};
 use std::alloc::Global;
 use std::fmt::Debug;
+use std::io::ErrorKind;
 use std::test::Fail;
 
 /// The rows of a table: the digits, and what a call gives.
@@ -65,11 +66,12 @@ pub fn told_alone<T: Debug + Drop>(
     }
 }
 
-// Why a call gives no value: the text of an `InvalidField`, or the kind of the error.
+// Why a call gives no value: the text of an `InvalidField`, or the kind of the error. Bytes that are too few are an early
+// end.
 fn refusal(error: &PcapError) -> &'static str {
     match error {
         PcapError::InvalidField(text) => *text,
-        PcapError::IoError(_) => "IoError",
+        PcapError::IoError(error) if error.kind() == ErrorKind::UnexpectedEof => "IoError",
         PcapError::Utf8Error(_) => "Utf8Error",
         PcapError::OutOfMemory(_) => "OutOfMemory",
         _ => "another",
