@@ -1,5 +1,6 @@
 pub mod Refusals
 pub mod Texts
+pub mod Growth
 pub mod Options
 pub mod Bodies
 pub mod OneOption

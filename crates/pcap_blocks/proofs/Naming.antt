@@ -6,8 +6,8 @@ use Rattle.pcap_core.specs.Faults.{Fault}
 use Rattle.pcap_core.specs.Padded.{Chain}
 use Rattle.pcap_blocks.specs.Values.{text_at}
 use Rattle.pcap_core.specs.declared.rules.Rule.{Rule}
-use Rattle.pcap_blocks.specs.Records.{AddressFault, in_names}
-use Rattle.pcap_blocks.specs.Names.{NameText, HasNoZero, NameFault, no_text, NamesFault}
+use Rattle.pcap_blocks.specs.Records.{AddressFault, in_names, AddressMayGrow}
+use Rattle.pcap_blocks.specs.Names.{NameText, HasNoZero, NameFault, no_text, NamesFault, NamesMayGrow}
 
 pub name_shorter : (n s rest : List ℕ) → NameText n s rest → length rest < length s
 name_shorter n s rest is =
@@ -30,3 +30,7 @@ split_parts n s a b front back = rw (front, back) (sym (take-append-drop n s))
 
 pub address_fails : (width : ℕ) (too_short : Rule) (s bytes after : List ℕ) → width + 2 ≤ length s → s ≡ bytes ++ after → length bytes ≡ width → (f : Fault) → NamesFault after f → AddressFault width too_short s f
 address_fails width too_short s bytes after long parts wide f fault = in_names f after long (record { bytes = bytes; text = parts; length_is = wide }) fault
+
+pub address_grows : (width : ℕ) (s bytes after : List ℕ) → width + 2 ≤ length s → s ≡ bytes ++ after → length bytes ≡ width → NamesMayGrow after → AddressMayGrow width s
+address_grows width s bytes after long parts wide grows =
+    record { long = long; grows = record { after = after; behind = record { bytes = bytes; text = parts; length_is = wide }; holds = grows } }

@@ -11,7 +11,8 @@ use Rattle.pcap_blocks.specs.declared.enhanced_packet.EnhancedPacketOption.TheVa
 use Rattle.pcap_core.specs.Padded.{Behind}
 use Rattle.pcap_blocks.specs.Values.{Entry, Text, Bytes, Integer, Kind, text, bytes, number, custom}
 use Rattle.pcap_blocks.specs.CommonOptions.{unknown_entry, custom_bytes_entry, custom_text_entry, UnknownIsBorrowed, UnknownIsOwned, CustomBytesIsBorrowed, CustomBytesIsOwned, CustomTextIsBorrowed, CustomTextIsOwned}
-use Rattle.pcap_blocks.specs.StoredPacket.{Stored, StoredText, StoredFault}
+use Rattle.pcap_blocks.specs.Growth.{HoldsAfter}
+use Rattle.pcap_blocks.specs.StoredPacket.{Stored, StoredText, StoredFault, StoredMayGrow}
 
 -- comment, flags, hash, drop count
 abbrev pub enhanced_packet : Kind
@@ -36,6 +37,10 @@ pub data EnhancedFault (order : Order) (s : List ℕ) : Fault → Type 0 where
 -- what is said of bytes where the body of an enhanced packet is asked for
 abbrev pub EnhancedSays : Order → List ℕ → Verdict Enhanced → Type 0
 EnhancedSays order s = Says (λ enhanced rest. EnhancedText order enhanced s rest) (λ n. ⊥) (EnhancedFault order s)
+
+-- an enhanced packet has an option
+abbrev pub EnhancedMayGrow : Order → List ℕ → Type 0
+EnhancedMayGrow order = HoldsAfter 4 (StoredMayGrow order enhanced_packet)
 
 -- an option of the code
 abbrev pub enhanced_entry : EnhancedPacketOption → Entry

@@ -12,7 +12,8 @@ use Rattle.pcap_blocks.specs.declared.interface_description.InterfaceDescription
 use Rattle.pcap_blocks.specs.declared.interface_description.InterfaceDescriptionOption.TheVariants as option_of
 use Rattle.pcap_core.specs.Padded.{Behind}
 use Rattle.pcap_blocks.specs.Values.{Entry, Text, Bytes, Integer, Kind, text, some_bytes, fixed_bytes, byte, number, custom}
-use Rattle.pcap_blocks.specs.Options.{may_end_with_body, OptionList, ListFault}
+use Rattle.pcap_blocks.specs.Growth.{HoldsAfter}
+use Rattle.pcap_blocks.specs.Options.{may_end_with_body, OptionList, ListFault, OptionsMayGrow}
 use Rattle.pcap_blocks.specs.CommonOptions.{unknown_entry, custom_bytes_entry, custom_text_entry, UnknownIsBorrowed, UnknownIsOwned, CustomBytesIsBorrowed, CustomBytesIsOwned, CustomTextIsBorrowed, CustomTextIsOwned}
 
 -- comment, name, description, addresses, speed, time, filter, system, check sequence, hardware
@@ -66,6 +67,10 @@ pub data InterfaceFault (order : Order) (s : List ℕ) : Fault → Type 0 where
 -- what is said of bytes where the body of an interface is asked for
 abbrev pub InterfaceSays : Order → List ℕ → Verdict Interface → Type 0
 InterfaceSays order s = Says (λ interface rest. InterfaceText order interface s rest) (λ n. ⊥) (InterfaceFault order s)
+
+-- an interface has an option
+abbrev pub InterfaceMayGrow : Order → List ℕ → Type 0
+InterfaceMayGrow order = HoldsAfter 8 (OptionsMayGrow order interface_description)
 
 -- an option of the code
 abbrev pub interface_entry : InterfaceDescriptionOption → Entry

@@ -9,7 +9,8 @@ use Rattle.pcap_blocks.specs.declared.interface_statistics.InterfaceStatisticsOp
 use Rattle.pcap_blocks.specs.declared.interface_statistics.InterfaceStatisticsOption.TheVariants as option_of
 use Rattle.pcap_core.specs.Padded.{Behind}
 use Rattle.pcap_blocks.specs.Values.{Entry, Text, Integer, Kind, text, first_number, first_time, custom}
-use Rattle.pcap_blocks.specs.Options.{may_end_with_body, OptionList, ListFault}
+use Rattle.pcap_blocks.specs.Growth.{HoldsAfter}
+use Rattle.pcap_blocks.specs.Options.{may_end_with_body, OptionList, ListFault, OptionsMayGrow}
 use Rattle.pcap_blocks.specs.CommonOptions.{unknown_entry, custom_bytes_entry, custom_text_entry, UnknownIsBorrowed, UnknownIsOwned, CustomBytesIsBorrowed, CustomBytesIsOwned, CustomTextIsBorrowed, CustomTextIsOwned}
 use Rattle.pcap_blocks.specs.StoredPacket.{TimeText}
 
@@ -48,6 +49,10 @@ pub data StatisticsFault (order : Order) (s : List ℕ) : Fault → Type 0 where
 -- what is said of bytes where the body of statistics is asked for
 abbrev pub StatisticsSays : Order → List ℕ → Verdict Statistics → Type 0
 StatisticsSays order s = Says (λ statistics rest. StatisticsText order statistics s rest) (λ n. ⊥) (StatisticsFault order s)
+
+-- statistics have an option
+abbrev pub StatisticsMayGrow : Order → List ℕ → Type 0
+StatisticsMayGrow order = HoldsAfter 12 (OptionsMayGrow order interface_statistics)
 
 -- an option of the code
 abbrev pub statistics_entry : InterfaceStatisticsOption → Entry

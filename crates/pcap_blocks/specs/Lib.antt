@@ -1,4 +1,5 @@
 pub mod Refusals
+pub mod Growth
 pub mod Values
 pub mod Options
 pub mod CommonOptions

@@ -10,9 +10,10 @@ use Rattle.pcap_blocks.specs.declared.name_resolution.NameResolutionOption.{Name
 use Rattle.pcap_blocks.specs.declared.name_resolution.NameResolutionOption.TheVariants as option_of
 use Rattle.pcap_core.specs.Padded.{Chain}
 use Rattle.pcap_blocks.specs.Values.{Entry, Text, Bytes, Kind, text, fixed_bytes, custom}
-use Rattle.pcap_blocks.specs.Options.{may_end_with_body, OptionList, ListFault}
+use Rattle.pcap_blocks.specs.Growth.{BeginsWith}
+use Rattle.pcap_blocks.specs.Options.{may_end_with_body, OptionList, ListFault, OptionsMayGrow}
 use Rattle.pcap_blocks.specs.CommonOptions.{unknown_entry, custom_bytes_entry, custom_text_entry, UnknownIsBorrowed, UnknownIsOwned, CustomBytesIsBorrowed, CustomBytesIsOwned, CustomTextIsBorrowed, CustomTextIsOwned}
-use Rattle.pcap_blocks.specs.Records.{NameRecord, End, RecordText, RecordFault, name_record_of, RecordIsBorrowed, RecordIsOwned}
+use Rattle.pcap_blocks.specs.Records.{NameRecord, End, RecordText, RecordFault, RecordMayGrow, name_record_of, RecordIsBorrowed, RecordIsOwned}
 
 -- comment, and the name and addresses of the server that resolved the names
 abbrev pub name_resolution : Kind
@@ -45,6 +46,11 @@ pub record RecordsFault (order : Order) (s : List ℕ) (fault : Fault) : Type 0 
 abbrev pub RecordsSay : Order → List ℕ → Verdict (List NameRecord) → Type 0
 RecordsSay order s = Says (λ records rest. RecordsText order records s rest) (λ n. ⊥) (RecordsFault order s)
 
+-- a record that is kept begins the records, or one that has a name
+pub data RecordsMayGrow (order : Order) (s : List ℕ) : Type 0 where
+  kept : BeginsWith (KeptText order) s → RecordsMayGrow order s
+  named : RecordMayGrow order s → RecordsMayGrow order s
+
 -- s is the body of a name resolution block, and then rest
 pub record ResolutionText (order : Order) (b : Resolution) (s rest : List ℕ) : Type 0 where
   pub after : List ℕ
@@ -59,6 +65,11 @@ pub data ResolutionFault (order : Order) (s : List ℕ) (fault : Fault) : Type 0
 -- what is said of bytes where the body of a name resolution block is asked for
 abbrev pub ResolutionSays : Order → List ℕ → Verdict Resolution → Type 0
 ResolutionSays order s = Says (λ b rest. ResolutionText order b s rest) (λ n. ⊥) (ResolutionFault order s)
+
+-- a body has a record that is kept or has a name, or an option
+pub data ResolutionMayGrow (order : Order) (s : List ℕ) : Type 0 where
+  with_record : RecordsMayGrow order s → ResolutionMayGrow order s
+  with_option : (records : List NameRecord) (after : List ℕ) → RecordsText order records s after → OptionsMayGrow order name_resolution after → ResolutionMayGrow order s
 
 -- an option of the code
 abbrev pub name_entry : NameResolutionOption → Entry

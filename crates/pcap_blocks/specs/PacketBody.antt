@@ -11,7 +11,8 @@ use Rattle.pcap_blocks.specs.declared.packet.PacketOption.TheVariants as option_
 use Rattle.pcap_core.specs.Padded.{Behind}
 use Rattle.pcap_blocks.specs.Values.{Entry, Text, Bytes, Integer, Kind, text, bytes, number, custom}
 use Rattle.pcap_blocks.specs.CommonOptions.{unknown_entry, custom_bytes_entry, custom_text_entry, UnknownIsBorrowed, UnknownIsOwned, CustomBytesIsBorrowed, CustomBytesIsOwned, CustomTextIsBorrowed, CustomTextIsOwned}
-use Rattle.pcap_blocks.specs.StoredPacket.{Stored, StoredText, StoredFault}
+use Rattle.pcap_blocks.specs.Growth.{HoldsAfter}
+use Rattle.pcap_blocks.specs.StoredPacket.{Stored, StoredText, StoredFault, StoredMayGrow}
 
 -- comment, flags, hash
 abbrev pub packet_kind : Kind
@@ -39,6 +40,10 @@ pub data PacketBodyFault (order : Order) (s : List ℕ) : Fault → Type 0 where
 -- what is said of bytes where the body of a packet block is asked for
 abbrev pub PacketBodySays : Order → List ℕ → Verdict PacketBody → Type 0
 PacketBodySays order s = Says (λ body rest. PacketBodyText order body s rest) (λ n. ⊥) (PacketBodyFault order s)
+
+-- a packet block has an option
+abbrev pub PacketBodyMayGrow : Order → List ℕ → Type 0
+PacketBodyMayGrow order = HoldsAfter 4 (StoredMayGrow order packet_kind)
 
 -- an option of the code
 abbrev pub packet_entry : PacketOption → Entry

@@ -1,7 +1,7 @@
 -- The records of a name resolution body ('Name Resolution Block').
 use Rattle.std.specs.Prelude.{◌≡◌, ◌≢◌, ℕ, ◌+◌, ◌<◌, ◌≤◌, List, [], ◌++◌, length, ◌==◌, if◌then◌else◌, map, All}
 use Rattle.std.specs.Cow.{cow_str_bytes, IsBorrowedStr, IsOwnedStr}
-use Rattle.pcap_core.specs.Answer.{Order, Verdict, whole, lacks, faulty, Says, Made}
+use Rattle.pcap_core.specs.Answer.{Order, Verdict, whole, faulty, Says, Made}
 use Rattle.pcap_core.specs.Bytes.{cow_bytes, IsBorrowed, IsOwned}
 use Rattle.pcap_core.specs.Faults.{Fault, Invalid, Io}
 use Rattle.pcap_core.specs.declared.rules.Rule.{Rule}
@@ -13,7 +13,8 @@ use Rattle.pcap_blocks.specs.declared.record.Record.{Record}
 use Rattle.pcap_blocks.specs.declared.record.Record.TheVariants as record_of
 use Rattle.pcap_core.specs.Padded.{Padded, up_to_4, Behind}
 use Rattle.pcap_blocks.specs.Options.{CodeLengthText}
-use Rattle.pcap_blocks.specs.Names.{NamesText, NamesFault}
+use Rattle.pcap_blocks.specs.Names.{NamesText, NamesFault, NamesMayGrow}
+use Rattle.pcap_blocks.specs.Growth.{HoldsAfter}
 
 -- an address and its names
 pub record Address : Type 0 where
@@ -36,6 +37,11 @@ pub data AddressFault (width : ℕ) (too_short : Rule) (s : List ℕ) : Fault �
 -- what is said of bytes where an address of this width and its names are asked for
 abbrev pub AddressSays : ℕ → Rule → List ℕ → Verdict Address → Type 0
 AddressSays width too_short s = Says (λ address rest. AddressText width address s rest) (λ n. ⊥) (AddressFault width too_short s)
+
+-- an address has a name, and the 2 bytes that it needs at least
+pub record AddressMayGrow (width : ℕ) (s : List ℕ) : Type 0 where
+  pub long : width + 2 ≤ length s
+  pub grows : HoldsAfter width NamesMayGrow s
 
 -- a record, wherever its bytes lie
 pub data NameRecord : Type 0 where
@@ -85,6 +91,22 @@ pub data RecordFault (order : Order) (s : List ℕ) : Fault → Type 0 where
 -- what is said of bytes where a record is asked for
 abbrev pub RecordSays : Order → List ℕ → Verdict NameRecord → Type 0
 RecordSays order s = Says (λ r rest. RecordText order r s rest) (λ n. ⊥) (RecordFault order s)
+
+-- a value of this form is an address with a name
+abbrev pub RecordValueMayGrow : Form → List ℕ → Type 0
+RecordValueMayGrow no_value v = ⊥
+RecordValueMayGrow (address width too_short make) v = AddressMayGrow width v
+RecordValueMayGrow (any_value type) v = ⊥
+
+-- a record is one of an address with a name, whatever follows the name
+pub record RecordMayGrow (order : Order) (s : List ℕ) : Type 0 where
+  pub type : ℕ
+  pub v : List ℕ
+  pub after : List ℕ
+  pub more : List ℕ
+  pub head : CodeLengthText order type (length v) s after
+  pub parts : after ≡ v ++ more
+  pub grows : RecordValueMayGrow (form_of type) v
 
 -- what a record of an address of four bytes says
 abbrev pub ipv4_of : Ipv4Record → Address

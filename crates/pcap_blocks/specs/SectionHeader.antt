@@ -13,7 +13,8 @@ use Rattle.pcap_blocks.specs.declared.section_header.SectionHeaderOption.{Sectio
 use Rattle.pcap_blocks.specs.declared.section_header.SectionHeaderOption.TheVariants as option_of
 use Rattle.pcap_core.specs.Padded.{Behind}
 use Rattle.pcap_blocks.specs.Values.{Entry, Text, Kind, text, custom}
-use Rattle.pcap_blocks.specs.Options.{may_end_with_body, OptionList, ListFault}
+use Rattle.pcap_blocks.specs.Growth.{HoldsAfter}
+use Rattle.pcap_blocks.specs.Options.{may_end_with_body, OptionList, ListFault, OptionsMayGrow}
 use Rattle.pcap_blocks.specs.CommonOptions.{unknown_entry, custom_bytes_entry, custom_text_entry, UnknownIsBorrowed, UnknownIsOwned, CustomBytesIsBorrowed, CustomBytesIsOwned, CustomTextIsBorrowed, CustomTextIsOwned}
 
 -- comment, hardware, operating system, application
@@ -76,6 +77,19 @@ SectionSays s = Says (λ section rest. SectionText section s rest) (λ n. ⊥) (
 -- what is said of the bytes behind this magic number, in this order
 abbrev pub AfterMagicSays : Order → ℕ → List ℕ → Verdict Section → Type 0
 AfterMagicSays order magic s = Says (λ section rest. (section.magic ≡ magic) × AfterMagic order section s rest) (λ n. ⊥) (AfterMagicFault order s)
+
+-- an option stands after the version
+abbrev pub AfterMagicMayGrow : Order → List ℕ → Type 0
+AfterMagicMayGrow order = HoldsAfter 12 (OptionsMayGrow order section_header)
+
+-- a section has an option, in the order that its magic number names
+pub record SectionMayGrow (s : List ℕ) : Type 0 where
+  pub magic : ℕ
+  pub after_magic : List ℕ
+  pub endianness : Endianness
+  pub magic_is : Number big_number 4 magic s after_magic
+  pub names : magic_order magic ≡ Some endianness
+  pub grows : AfterMagicMayGrow (number_in endianness) after_magic
 
 -- an option of the code
 abbrev pub section_entry : SectionHeaderOption → Entry

@@ -1,19 +1,19 @@
 //! The options that every kind of block has, and the list of them.
 
-ghost use Rattle.std.specs.Prelude.{⊤, ◌≡◌, length, map, All, IsOk, IfOk, IfSome, IfErr};
+ghost use Rattle.std.specs.Prelude.{◌≡◌, length, map, All, IsOk, IfOk, IfSome, IfErr};
 ghost use Rattle.std.specs.Option.{option_map};
 ghost use Rattle.pcap_core.specs.Answer.{TellsAll};
 ghost use Rattle.pcap_blocks.specs.Refusals.{Finds, FindsWhere, FindsAll};
 ghost use Rattle.pcap_blocks.specs.Values.{Entry, Kind, Unknown, shape_at, custom_text, custom_bytes, EntrySays, value_bytes, integer_in};
-ghost use Rattle.pcap_blocks.specs.Options.{may_end_with_body, OptionSays, ListSays};
+ghost use Rattle.pcap_blocks.specs.Options.{may_end_with_body, OptionSays, ListSays, OptionsMayGrow};
 ghost use Rattle.pcap_blocks.specs.CommonOptions.{unknown_entry, custom_bytes_entry, custom_text_entry, UnknownIsBorrowed, CustomBytesIsBorrowed, CustomTextIsBorrowed, UnknownIsOwned, CustomBytesIsOwned, CustomTextIsOwned};
 ghost use Rattle.pcap_core.specs.Errors.{IsMemory};
 
-use pcap_core::fields::{split_padded, split_u16};
 use crate::owned::KeepValue;
 use crate::refusal::Refusal;
 use crate::values::text_value;
 use byteorder::ByteOrder;
+use pcap_core::fields::{split_padded, split_u16};
 use pcap_core::rules::Rule;
 use pcap_core::{CowBytes, ResultParsing};
 use std::alloc::{AllocError, Global};
@@ -219,7 +219,7 @@ pub(crate) fn options_from_slice<'a, O: PcapNgOption<'a> + Drop, B: ByteOrder>(
     alloc: Global,
     slice: &'a [u8],
 ) -> Result<(&'a [u8], Vec<O>), Refusal>
-    ensures tells { FindsWhere ⊤ (ListSays may_end_with_body B.number_of O.kind slice.now) (λ options. map O.view options.items) result }
+    ensures tells { FindsWhere (OptionsMayGrow B.number_of O.kind slice.now) (ListSays may_end_with_body B.number_of O.kind slice.now) (λ options. map O.view options.items) result }
     ensures borrowed { IfOk result (λ x. All O.is_borrowed x.1.items) }
 {
     let mut options = Vec::new(alloc);

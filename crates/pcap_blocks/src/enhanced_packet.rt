@@ -1,21 +1,21 @@
 //! Enhanced packets.
 
-ghost use Rattle.std.specs.Prelude.{⊤, map, All, IsOk, IfOk, ◌≡◌, IfErr};
+ghost use Rattle.std.specs.Prelude.{map, All, IsOk, IfOk, ◌≡◌, IfErr};
 ghost use Rattle.pcap_core.specs.Answer.{TellsWhere};
 ghost use Rattle.pcap_blocks.specs.Refusals.{FindsWhere};
-ghost use Rattle.pcap_blocks.specs.Options.{may_end_with_body, ListSays};
-ghost use Rattle.pcap_blocks.specs.EnhancedPacket.{enhanced_packet, EnhancedSays, enhanced_entry, EnhancedOptionIsBorrowed, enhanced_of, EnhancedIsBorrowed, EnhancedOptionIsOwned, EnhancedIsOwned, EnhancedNeedsNoMemory};
+ghost use Rattle.pcap_blocks.specs.Options.{may_end_with_body, ListSays, OptionsMayGrow};
+ghost use Rattle.pcap_blocks.specs.EnhancedPacket.{enhanced_packet, EnhancedSays, enhanced_entry, EnhancedOptionIsBorrowed, enhanced_of, EnhancedIsBorrowed, EnhancedOptionIsOwned, EnhancedIsOwned, EnhancedNeedsNoMemory, EnhancedMayGrow};
 ghost use Rattle.pcap_core.specs.Errors.{IsMemory};
 
 use crate::common::{
     CustomBinaryOption, CustomUtf8Option, PcapNgOption, UnknownOption, options_from_slice,
 };
-use pcap_core::fields::split_u32;
 use crate::owned::{KeepValue, keep_all};
 use crate::refusal::Refusal;
 use crate::stored::stored_from_slice;
 use crate::values::{text_value, u32_value, u64_value};
 use byteorder::ByteOrder;
+use pcap_core::fields::split_u32;
 use pcap_core::rules::Rule;
 use pcap_core::{CowBytes, ResultParsing};
 use std::alloc::{AllocError, Global};
@@ -48,7 +48,7 @@ impl<'a> EnhancedPacketBlock<'a> {
         alloc: Global,
         slice: &'a [u8],
     ) -> ResultParsing<(&'a [u8], Self)>
-        ensures tells { TellsWhere ⊤ (EnhancedSays B.number_of slice.now) enhanced_of result }
+        ensures tells { TellsWhere (EnhancedMayGrow B.number_of slice.now) (EnhancedSays B.number_of slice.now) enhanced_of result }
         ensures borrowed { IfOk result (λ x. EnhancedIsBorrowed x.1) }
     {
         Ok(EnhancedPacketBlock::read::<B>(alloc, slice)?)
@@ -58,7 +58,7 @@ impl<'a> EnhancedPacketBlock<'a> {
         alloc: Global,
         slice: &'a [u8],
     ) -> Result<(&'a [u8], Self), Refusal>
-        ensures tells { FindsWhere ⊤ (EnhancedSays B.number_of slice.now) enhanced_of result }
+        ensures tells { FindsWhere (EnhancedMayGrow B.number_of slice.now) (EnhancedSays B.number_of slice.now) enhanced_of result }
         ensures borrowed { IfOk result (λ x. EnhancedIsBorrowed x.1) }
     {
         if slice.len() < 20 {
@@ -106,7 +106,7 @@ impl<'a> EnhancedPacketOption<'a> {
         alloc: Global,
         slice: &'a [u8],
     ) -> ResultParsing<(&'a [u8], Vec<Self>)>
-        ensures tells { TellsWhere ⊤ (ListSays may_end_with_body B.number_of enhanced_packet slice.now) (λ options. map enhanced_entry options.items) result }
+        ensures tells { TellsWhere (OptionsMayGrow B.number_of enhanced_packet slice.now) (ListSays may_end_with_body B.number_of enhanced_packet slice.now) (λ options. map enhanced_entry options.items) result }
         ensures borrowed { IfOk result (λ x. All EnhancedOptionIsBorrowed x.1.items) }
     {
         Ok(options_from_slice::<EnhancedPacketOption, B>(alloc, slice)?)

@@ -1,19 +1,19 @@
 //! Interface descriptions.
 
-ghost use Rattle.std.specs.Prelude.{⊤, ◌≡◌, IsOk, IfOk, IfErr};
+ghost use Rattle.std.specs.Prelude.{◌≡◌, IsOk, IfOk, IfErr};
 ghost use Rattle.pcap_core.specs.Answer.{TellsWhere};
 ghost use Rattle.pcap_blocks.specs.Refusals.{FindsWhere};
-ghost use Rattle.pcap_blocks.specs.InterfaceDescription.{interface_description, InterfaceSays, interface_entry, InterfaceOptionIsBorrowed, interface_of, InterfaceIsBorrowed, InterfaceOptionIsOwned, InterfaceIsOwned, InterfaceNeedsNoMemory};
+ghost use Rattle.pcap_blocks.specs.InterfaceDescription.{interface_description, InterfaceSays, interface_entry, InterfaceOptionIsBorrowed, interface_of, InterfaceIsBorrowed, InterfaceOptionIsOwned, InterfaceIsOwned, InterfaceNeedsNoMemory, InterfaceMayGrow};
 ghost use Rattle.pcap_core.specs.Errors.{IsMemory};
 
 use crate::common::{
     CustomBinaryOption, CustomUtf8Option, PcapNgOption, UnknownOption, options_from_slice,
 };
-use pcap_core::fields::{split_u16, split_u32};
 use crate::owned::{KeepValue, keep_all};
 use crate::refusal::Refusal;
 use crate::values::{fixed_value, some_value, text_value, u8_value, u32_value, u64_value};
 use byteorder::ByteOrder;
+use pcap_core::fields::{split_u16, split_u32};
 use pcap_core::rules::Rule;
 use pcap_core::{CowBytes, DataLink, ResultParsing};
 use std::alloc::{AllocError, Global};
@@ -41,7 +41,7 @@ impl<'a> InterfaceDescriptionBlock<'a> {
         alloc: Global,
         slice: &'a [u8],
     ) -> ResultParsing<(&'a [u8], Self)>
-        ensures tells { TellsWhere ⊤ (InterfaceSays B.number_of slice.now) interface_of result }
+        ensures tells { TellsWhere (InterfaceMayGrow B.number_of slice.now) (InterfaceSays B.number_of slice.now) interface_of result }
         ensures borrowed { IfOk result (λ x. InterfaceIsBorrowed x.1) }
     {
         Ok(InterfaceDescriptionBlock::read::<B>(alloc, slice)?)
@@ -51,7 +51,7 @@ impl<'a> InterfaceDescriptionBlock<'a> {
         alloc: Global,
         slice: &'a [u8],
     ) -> Result<(&'a [u8], Self), Refusal>
-        ensures tells { FindsWhere ⊤ (InterfaceSays B.number_of slice.now) interface_of result }
+        ensures tells { FindsWhere (InterfaceMayGrow B.number_of slice.now) (InterfaceSays B.number_of slice.now) interface_of result }
         ensures borrowed { IfOk result (λ x. InterfaceIsBorrowed x.1) }
     {
         if slice.len() < 8 {

@@ -1,21 +1,21 @@
 //! Interface statistics.
 
-ghost use Rattle.std.specs.Prelude.{⊤, IsOk, IfOk, ◌≡◌, IfErr};
+ghost use Rattle.std.specs.Prelude.{IsOk, IfOk, ◌≡◌, IfErr};
 ghost use Rattle.pcap_core.specs.Answer.{TellsWhere};
 ghost use Rattle.pcap_blocks.specs.Refusals.{FindsWhere};
-ghost use Rattle.pcap_blocks.specs.InterfaceStatistics.{interface_statistics, StatisticsSays, statistics_entry, StatisticsOptionIsBorrowed, statistics_of, StatisticsIsBorrowed, StatisticsOptionIsOwned, StatisticsIsOwned, StatisticsNeedsNoMemory};
+ghost use Rattle.pcap_blocks.specs.InterfaceStatistics.{interface_statistics, StatisticsSays, statistics_entry, StatisticsOptionIsBorrowed, statistics_of, StatisticsIsBorrowed, StatisticsOptionIsOwned, StatisticsIsOwned, StatisticsNeedsNoMemory, StatisticsMayGrow};
 ghost use Rattle.pcap_core.specs.Errors.{IsMemory};
 
 use crate::common::{
     CustomBinaryOption, CustomUtf8Option, PcapNgOption, UnknownOption, options_from_slice,
 };
 use crate::fields::split_time;
-use pcap_core::fields::split_u32;
 use crate::owned::{KeepValue, keep_all};
 use crate::refusal::Refusal;
 use crate::values::{first_number, first_time, text_value};
 use byteorder::ByteOrder;
 use pcap_core::ResultParsing;
+use pcap_core::fields::split_u32;
 use pcap_core::rules::Rule;
 use std::alloc::{AllocError, Global};
 use std::borrow::CowStr;
@@ -41,7 +41,7 @@ impl<'a> InterfaceStatisticsBlock<'a> {
         alloc: Global,
         slice: &'a [u8],
     ) -> ResultParsing<(&'a [u8], Self)>
-        ensures tells { TellsWhere ⊤ (StatisticsSays B.number_of slice.now) statistics_of result }
+        ensures tells { TellsWhere (StatisticsMayGrow B.number_of slice.now) (StatisticsSays B.number_of slice.now) statistics_of result }
         ensures borrowed { IfOk result (λ x. StatisticsIsBorrowed x.1) }
     {
         Ok(InterfaceStatisticsBlock::read::<B>(alloc, slice)?)
@@ -51,7 +51,7 @@ impl<'a> InterfaceStatisticsBlock<'a> {
         alloc: Global,
         slice: &'a [u8],
     ) -> Result<(&'a [u8], Self), Refusal>
-        ensures tells { FindsWhere ⊤ (StatisticsSays B.number_of slice.now) statistics_of result }
+        ensures tells { FindsWhere (StatisticsMayGrow B.number_of slice.now) (StatisticsSays B.number_of slice.now) statistics_of result }
         ensures borrowed { IfOk result (λ x. StatisticsIsBorrowed x.1) }
     {
         if slice.len() < 12 {

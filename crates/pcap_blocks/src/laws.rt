@@ -1,6 +1,7 @@
-//! Laws of the grammar and of `==`. Each contract is the law; only the function of `==` calls anything.
+//! Laws of the grammar, of `==` and of `clone`. Each contract is the law; only the functions of `==` and of `clone`
+//! call anything.
 
-ghost use Rattle.std.specs.Prelude.{◌≡◌, ◌↔◌, ℕ, List, IsTrue};
+ghost use Rattle.std.specs.Prelude.{◌≡◌, ◌↔◌, ℕ, List, IsTrue, IsOk, IfOk};
 ghost use Rattle.pcap_core.specs.Answer.{Order};
 ghost use Rattle.pcap_core.specs.Laws.{ExactlyOne};
 ghost use Rattle.pcap_blocks.specs.Values.{Entry, Kind, Shape, EntrySays};
@@ -19,6 +20,7 @@ ghost use Rattle.pcap_blocks.specs.ParsedBlock.{UnknownSays, BodySays};
 ghost use Rattle.pcap_blocks.specs.WholeBodies.{SimpleSays, JournalSays};
 
 use crate::BlockType;
+use std::alloc::AllocError;
 
 /// Of all bytes of a value exactly one thing is said, whatever its shape: the option that it is, or one fault. This
 /// holds of the custom options.
@@ -125,4 +127,12 @@ pub fn types_are_equal(left: BlockType, right: BlockType) -> bool
     ensures { IsTrue result ↔ (left ≡ right) }
 {
     left == right
+}
+
+/// A clone of a type of blocks is that type, and takes no memory.
+pub fn type_is_cloned(value: BlockType) -> Result<BlockType, AllocError>
+    ensures same { IfOk result (λ clone. clone ≡ value) }
+    ensures made { IsOk result }
+{
+    value.clone()
 }

@@ -1,10 +1,10 @@
 //! Name resolution.
 
-ghost use Rattle.std.specs.Prelude.{⊤, map, All, IsOk, IfOk, ◌≡◌, IfErr};
+ghost use Rattle.std.specs.Prelude.{map, All, IsOk, IfOk, ◌≡◌, IfErr};
 ghost use Rattle.pcap_core.specs.Answer.{TellsWhere};
 ghost use Rattle.pcap_blocks.specs.Refusals.{FindsWhere};
 ghost use Rattle.pcap_blocks.specs.Records.{name_record_of, RecordIsBorrowed};
-ghost use Rattle.pcap_blocks.specs.NameResolution.{name_resolution, RecordsSay, ResolutionSays, name_entry, NameOptionIsBorrowed, names_of, ResolutionIsBorrowed, NameOptionIsOwned, ResolutionIsOwned, ResolutionNeedsNoMemory};
+ghost use Rattle.pcap_blocks.specs.NameResolution.{name_resolution, RecordsSay, ResolutionSays, name_entry, NameOptionIsBorrowed, names_of, ResolutionIsBorrowed, NameOptionIsOwned, ResolutionIsOwned, ResolutionNeedsNoMemory, ResolutionMayGrow, RecordsMayGrow};
 ghost use Rattle.pcap_core.specs.Errors.{IsMemory};
 
 use crate::common::{
@@ -40,7 +40,7 @@ impl<'a> NameResolutionBlock<'a> {
         alloc: Global,
         slice: &'a [u8],
     ) -> ResultParsing<(&'a [u8], Self)>
-        ensures tells { TellsWhere ⊤ (ResolutionSays B.number_of slice.now) names_of result }
+        ensures tells { TellsWhere (ResolutionMayGrow B.number_of slice.now) (ResolutionSays B.number_of slice.now) names_of result }
         ensures borrowed { IfOk result (λ x. ResolutionIsBorrowed x.1) }
     {
         Ok(NameResolutionBlock::read::<B>(alloc, slice)?)
@@ -50,7 +50,7 @@ impl<'a> NameResolutionBlock<'a> {
         alloc: Global,
         slice: &'a [u8],
     ) -> Result<(&'a [u8], Self), Refusal>
-        ensures tells { FindsWhere ⊤ (ResolutionSays B.number_of slice.now) names_of result }
+        ensures tells { FindsWhere (ResolutionMayGrow B.number_of slice.now) (ResolutionSays B.number_of slice.now) names_of result }
         ensures borrowed { IfOk result (λ x. ResolutionIsBorrowed x.1) }
     {
         let (after, records) = records_from_slice::<B>(alloc, slice)?;
@@ -64,7 +64,7 @@ fn records_from_slice<'a, B: ByteOrder>(
     alloc: Global,
     slice: &'a [u8],
 ) -> Result<(&'a [u8], Vec<Record<'a>>), Refusal>
-    ensures tells { FindsWhere ⊤ (RecordsSay B.number_of slice.now) (λ records. map name_record_of records.items) result }
+    ensures tells { FindsWhere (RecordsMayGrow B.number_of slice.now) (RecordsSay B.number_of slice.now) (λ records. map name_record_of records.items) result }
     ensures borrowed { IfOk result (λ x. All RecordIsBorrowed x.1.items) }
 {
     let mut records = Vec::new(alloc);

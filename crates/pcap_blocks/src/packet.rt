@@ -1,21 +1,21 @@
 //! Packet blocks, which enhanced packets have replaced.
 
-ghost use Rattle.std.specs.Prelude.{⊤, map, All, IsOk, IfOk, ◌≡◌, IfErr};
+ghost use Rattle.std.specs.Prelude.{map, All, IsOk, IfOk, ◌≡◌, IfErr};
 ghost use Rattle.pcap_core.specs.Answer.{TellsWhere};
 ghost use Rattle.pcap_blocks.specs.Refusals.{FindsWhere};
-ghost use Rattle.pcap_blocks.specs.Options.{may_end_with_body, ListSays};
-ghost use Rattle.pcap_blocks.specs.PacketBody.{packet_kind, PacketBodySays, packet_entry, PacketOptionIsBorrowed, packet_of, PacketIsBorrowed, PacketOptionIsOwned, PacketIsOwned, PacketNeedsNoMemory};
+ghost use Rattle.pcap_blocks.specs.Options.{may_end_with_body, ListSays, OptionsMayGrow};
+ghost use Rattle.pcap_blocks.specs.PacketBody.{packet_kind, PacketBodySays, packet_entry, PacketOptionIsBorrowed, packet_of, PacketIsBorrowed, PacketOptionIsOwned, PacketIsOwned, PacketNeedsNoMemory, PacketBodyMayGrow};
 ghost use Rattle.pcap_core.specs.Errors.{IsMemory};
 
 use crate::common::{
     CustomBinaryOption, CustomUtf8Option, PcapNgOption, UnknownOption, options_from_slice,
 };
-use pcap_core::fields::split_u16;
 use crate::owned::{KeepValue, keep_all};
 use crate::refusal::Refusal;
 use crate::stored::stored_from_slice;
 use crate::values::{text_value, u32_value};
 use byteorder::ByteOrder;
+use pcap_core::fields::split_u16;
 use pcap_core::rules::Rule;
 use pcap_core::{CowBytes, ResultParsing};
 use std::alloc::{AllocError, Global};
@@ -50,7 +50,7 @@ impl<'a> PacketBlock<'a> {
         alloc: Global,
         slice: &'a [u8],
     ) -> ResultParsing<(&'a [u8], Self)>
-        ensures tells { TellsWhere ⊤ (PacketBodySays B.number_of slice.now) packet_of result }
+        ensures tells { TellsWhere (PacketBodyMayGrow B.number_of slice.now) (PacketBodySays B.number_of slice.now) packet_of result }
         ensures borrowed { IfOk result (λ x. PacketIsBorrowed x.1) }
     {
         Ok(PacketBlock::read::<B>(alloc, slice)?)
@@ -60,7 +60,7 @@ impl<'a> PacketBlock<'a> {
         alloc: Global,
         slice: &'a [u8],
     ) -> Result<(&'a [u8], Self), Refusal>
-        ensures tells { FindsWhere ⊤ (PacketBodySays B.number_of slice.now) packet_of result }
+        ensures tells { FindsWhere (PacketBodyMayGrow B.number_of slice.now) (PacketBodySays B.number_of slice.now) packet_of result }
         ensures borrowed { IfOk result (λ x. PacketIsBorrowed x.1) }
     {
         if slice.len() < 20 {
@@ -108,7 +108,7 @@ impl<'a> PacketOption<'a> {
         alloc: Global,
         slice: &'a [u8],
     ) -> ResultParsing<(&'a [u8], Vec<Self>)>
-        ensures tells { TellsWhere ⊤ (ListSays may_end_with_body B.number_of packet_kind slice.now) (λ options. map packet_entry options.items) result }
+        ensures tells { TellsWhere (OptionsMayGrow B.number_of packet_kind slice.now) (ListSays may_end_with_body B.number_of packet_kind slice.now) (λ options. map packet_entry options.items) result }
         ensures borrowed { IfOk result (λ x. All PacketOptionIsBorrowed x.1.items) }
     {
         Ok(options_from_slice::<PacketOption, B>(alloc, slice)?)

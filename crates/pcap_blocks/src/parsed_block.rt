@@ -3,7 +3,7 @@
 ghost use Rattle.std.specs.Prelude.{◌≡◌, IsOk, IfOk, IfErr};
 ghost use Rattle.pcap_core.specs.Answer.{TellsWhere};
 ghost use Rattle.pcap_blocks.specs.Refusals.{FindsWhere};
-ghost use Rattle.pcap_blocks.specs.ParsedBlock.{BodySays, HasLists, body_of, ParsedIsBorrowed, section_in, interface_in, ParsedIsOwned, ParsedNeedsNoMemory};
+ghost use Rattle.pcap_blocks.specs.ParsedBlock.{BodySays, BodyMayGrow, body_of, ParsedIsBorrowed, section_in, interface_in, ParsedIsOwned, ParsedNeedsNoMemory};
 ghost use Rattle.pcap_core.specs.Errors.{IsMemory};
 
 use crate::block::{BlockType, UnknownBlock};
@@ -47,7 +47,7 @@ impl<'a> ParsedBlock<'a> {
         type_: BlockType,
         slice: &'a [u8],
     ) -> ResultParsing<(&'a [u8], Self)>
-        ensures tells { TellsWhere (HasLists type_) (BodySays B.number_of type_ slice.now) body_of result }
+        ensures tells { TellsWhere (BodyMayGrow B.number_of type_ slice.now) (BodySays B.number_of type_ slice.now) body_of result }
         ensures borrowed { IfOk result (λ x. ParsedIsBorrowed x.1) }
     {
         Ok(ParsedBlock::read::<B>(alloc, type_, slice)?)
@@ -58,7 +58,7 @@ impl<'a> ParsedBlock<'a> {
         type_: BlockType,
         slice: &'a [u8],
     ) -> Result<(&'a [u8], Self), Refusal>
-        ensures tells { FindsWhere (HasLists type_) (BodySays B.number_of type_ slice.now) body_of result }
+        ensures tells { FindsWhere (BodyMayGrow B.number_of type_ slice.now) (BodySays B.number_of type_ slice.now) body_of result }
         ensures borrowed { IfOk result (λ x. ParsedIsBorrowed x.1) }
     {
         match type_ {

@@ -1,17 +1,17 @@
 //! Records of a name resolution body.
 
-ghost use Rattle.std.specs.Prelude.{⊤, ◌≡◌, length, IsOk, IfOk, IfErr};
+ghost use Rattle.std.specs.Prelude.{◌≡◌, length, IsOk, IfOk, IfErr};
 ghost use Rattle.pcap_core.specs.Answer.{TellsWhere, TellsAllWhere};
 ghost use Rattle.pcap_core.specs.declared.rules.Rule.TheVariants.{Ipv4RecordTooShort, Ipv6RecordTooShort};
 ghost use Rattle.pcap_blocks.specs.Refusals.{FindsWhere, FindsAllWhere};
-ghost use Rattle.pcap_blocks.specs.Records.{AddressSays, form_of, RecordValueSays, RecordSays, ipv4_of, ipv6_of, name_record_of, Ipv4IsBorrowed, Ipv6IsBorrowed, RecordIsBorrowed, other_of, Ipv4IsOwned, Ipv4NeedsNoMemory, Ipv6IsOwned, Ipv6NeedsNoMemory, UnknownRecordIsOwned, RecordIsOwned, RecordNeedsNoMemory};
+ghost use Rattle.pcap_blocks.specs.Records.{AddressSays, form_of, RecordValueSays, RecordSays, ipv4_of, ipv6_of, name_record_of, Ipv4IsBorrowed, Ipv6IsBorrowed, RecordIsBorrowed, other_of, Ipv4IsOwned, Ipv4NeedsNoMemory, Ipv6IsOwned, Ipv6NeedsNoMemory, UnknownRecordIsOwned, RecordIsOwned, RecordNeedsNoMemory, AddressMayGrow, RecordValueMayGrow, RecordMayGrow};
 ghost use Rattle.pcap_core.specs.Errors.{IsMemory};
 
-use pcap_core::fields::{split_padded, split_u16};
 use crate::names::names_from_slice;
 use crate::owned::{KeepValue, keep_all};
 use crate::refusal::Refusal;
 use byteorder::ByteOrder;
+use pcap_core::fields::{split_padded, split_u16};
 use pcap_core::rules::Rule;
 use pcap_core::{CowBytes, ResultParsing};
 use std::alloc::{AllocError, Global};
@@ -32,14 +32,14 @@ impl<'a> Ipv4Record<'a> {
     /// `InvalidField` under 6 bytes, then where a name has no zero byte behind it, or `Utf8Error` where one isn't
     /// UTF-8. `OutOfMemory` where the list of names can't grow.
     pub fn from_slice(alloc: Global, slice: &'a [u8]) -> ResultParsing<Self>
-        ensures tells { TellsAllWhere ⊤ (AddressSays 4 Ipv4RecordTooShort slice.now) ipv4_of result }
+        ensures tells { TellsAllWhere (AddressMayGrow 4 slice.now) (AddressSays 4 Ipv4RecordTooShort slice.now) ipv4_of result }
         ensures borrowed { IfOk result Ipv4IsBorrowed }
     {
         Ok(Ipv4Record::read(alloc, slice)?)
     }
 
     fn read(alloc: Global, slice: &'a [u8]) -> Result<Self, Refusal>
-        ensures tells { FindsAllWhere ⊤ (AddressSays 4 Ipv4RecordTooShort slice.now) ipv4_of result }
+        ensures tells { FindsAllWhere (AddressMayGrow 4 slice.now) (AddressSays 4 Ipv4RecordTooShort slice.now) ipv4_of result }
         ensures borrowed { IfOk result Ipv4IsBorrowed }
     {
         if slice.len() < 6 {
@@ -68,14 +68,14 @@ impl<'a> Ipv6Record<'a> {
     /// `InvalidField` under 18 bytes, then where a name has no zero byte behind it, or `Utf8Error` where one isn't
     /// UTF-8. `OutOfMemory` where the list of names can't grow.
     pub fn from_slice(alloc: Global, slice: &'a [u8]) -> ResultParsing<Self>
-        ensures tells { TellsAllWhere ⊤ (AddressSays 16 Ipv6RecordTooShort slice.now) ipv6_of result }
+        ensures tells { TellsAllWhere (AddressMayGrow 16 slice.now) (AddressSays 16 Ipv6RecordTooShort slice.now) ipv6_of result }
         ensures borrowed { IfOk result Ipv6IsBorrowed }
     {
         Ok(Ipv6Record::read(alloc, slice)?)
     }
 
     fn read(alloc: Global, slice: &'a [u8]) -> Result<Self, Refusal>
-        ensures tells { FindsAllWhere ⊤ (AddressSays 16 Ipv6RecordTooShort slice.now) ipv6_of result }
+        ensures tells { FindsAllWhere (AddressMayGrow 16 slice.now) (AddressSays 16 Ipv6RecordTooShort slice.now) ipv6_of result }
         ensures borrowed { IfOk result Ipv6IsBorrowed }
     {
         if slice.len() < 18 {
@@ -123,7 +123,7 @@ impl<'a> Record<'a> {
         alloc: Global,
         slice: &'a [u8],
     ) -> ResultParsing<(&'a [u8], Self)>
-        ensures tells { TellsWhere ⊤ (RecordSays B.number_of slice.now) name_record_of result }
+        ensures tells { TellsWhere (RecordMayGrow B.number_of slice.now) (RecordSays B.number_of slice.now) name_record_of result }
         ensures borrowed { IfOk result (λ x. RecordIsBorrowed x.1) }
     {
         Ok(Record::read::<B>(alloc, slice)?)
@@ -133,7 +133,7 @@ impl<'a> Record<'a> {
         alloc: Global,
         slice: &'a [u8],
     ) -> Result<(&'a [u8], Self), Refusal>
-        ensures tells { FindsWhere ⊤ (RecordSays B.number_of slice.now) name_record_of result }
+        ensures tells { FindsWhere (RecordMayGrow B.number_of slice.now) (RecordSays B.number_of slice.now) name_record_of result }
         ensures borrowed { IfOk result (λ x. RecordIsBorrowed x.1) }
     {
         if slice.len() < 4 {
@@ -155,7 +155,7 @@ impl<'a> Record<'a> {
     // The record of this type whose value is all of a slice, of this length.
     fn from_value(alloc: Global, type_: u16, len: u16, value: &'a [u8]) -> Result<Self, Refusal>
         requires { len ≡ length value.now }
-        ensures tells { FindsAllWhere ⊤ (RecordValueSays (form_of type_) value.now) name_record_of result }
+        ensures tells { FindsAllWhere (RecordValueMayGrow (form_of type_) value.now) (RecordValueSays (form_of type_) value.now) name_record_of result }
         ensures borrowed { IfOk result RecordIsBorrowed }
     {
         match type_ {

@@ -1,19 +1,19 @@
 //! Section headers.
 
-ghost use Rattle.std.specs.Prelude.{⊤, ◌≡◌, ◌≤◌, ◌↔◌, length, IsOk, IfOk, IsTrue, IsSome, Some, IfErr};
+ghost use Rattle.std.specs.Prelude.{◌≡◌, ◌≤◌, ◌↔◌, length, IsOk, IfOk, IsTrue, IsSome, Some, IfErr};
 ghost use Rattle.pcap_core.specs.Answer.{TellsWhere};
 ghost use Rattle.pcap_blocks.specs.Refusals.{FindsWhere};
-ghost use Rattle.pcap_blocks.specs.SectionHeader.{section_header, magic_order, SectionSays, AfterMagicSays, section_entry, SectionOptionIsBorrowed, section_of, SectionIsBorrowed, SectionOptionIsOwned, SectionIsOwned, SectionNeedsNoMemory};
+ghost use Rattle.pcap_blocks.specs.SectionHeader.{section_header, magic_order, SectionSays, AfterMagicSays, section_entry, SectionOptionIsBorrowed, section_of, SectionIsBorrowed, SectionOptionIsOwned, SectionIsOwned, SectionNeedsNoMemory, SectionMayGrow, AfterMagicMayGrow};
 ghost use Rattle.pcap_core.specs.Errors.{IsMemory};
 
 use crate::common::{
     CustomBinaryOption, CustomUtf8Option, PcapNgOption, UnknownOption, options_from_slice,
 };
-use pcap_core::fields::{split_u16, split_u32, split_u64};
 use crate::owned::{KeepValue, keep_all};
 use crate::refusal::Refusal;
 use crate::values::text_value;
 use byteorder::{BigEndian, ByteOrder, LittleEndian};
+use pcap_core::fields::{split_u16, split_u32, split_u64};
 use pcap_core::rules::Rule;
 use pcap_core::{Endianness, ResultParsing};
 use std::alloc::{AllocError, Global};
@@ -41,14 +41,14 @@ impl<'a> SectionHeaderBlock<'a> {
     /// the options, or `Utf8Error` or `IoError` where that is a text that isn't UTF-8 or a custom value under 4 bytes.
     /// `OutOfMemory` where the list of options can't grow.
     pub fn from_slice(alloc: Global, slice: &'a [u8]) -> ResultParsing<(&'a [u8], Self)>
-        ensures tells { TellsWhere ⊤ (SectionSays slice.now) section_of result }
+        ensures tells { TellsWhere (SectionMayGrow slice.now) (SectionSays slice.now) section_of result }
         ensures borrowed { IfOk result (λ x. SectionIsBorrowed x.1) }
     {
         Ok(SectionHeaderBlock::read(alloc, slice)?)
     }
 
     pub(crate) fn read(alloc: Global, slice: &'a [u8]) -> Result<(&'a [u8], Self), Refusal>
-        ensures tells { FindsWhere ⊤ (SectionSays slice.now) section_of result }
+        ensures tells { FindsWhere (SectionMayGrow slice.now) (SectionSays slice.now) section_of result }
         ensures borrowed { IfOk result (λ x. SectionIsBorrowed x.1) }
     {
         if slice.len() < 16 {
@@ -69,7 +69,7 @@ impl<'a> SectionHeaderBlock<'a> {
         slice: &'a [u8],
     ) -> Result<(&'a [u8], Self), Refusal>
         requires { 12 ≤ length slice.now }
-        ensures tells { FindsWhere ⊤ (AfterMagicSays B.number_of magic slice.now) section_of result }
+        ensures tells { FindsWhere (AfterMagicMayGrow B.number_of slice.now) (AfterMagicSays B.number_of magic slice.now) section_of result }
         ensures borrowed { IfOk result (λ x. SectionIsBorrowed x.1) }
     {
         let (major_version, rest) = split_u16::<B>(slice);

@@ -6,10 +6,10 @@ ghost use Rattle.pcap_blocks.specs.Refusals.{Finds};
 ghost use Rattle.pcap_blocks.specs.WholeBodies.{SimpleSays, simple_of, SimpleIsBorrowed, SimpleIsOwned};
 ghost use Rattle.pcap_core.specs.Errors.{IsMemory};
 
-use pcap_core::fields::split_u32;
 use crate::owned::KeepValue;
 use crate::refusal::Refusal;
 use byteorder::ByteOrder;
+use pcap_core::fields::split_u32;
 use pcap_core::rules::Rule;
 use pcap_core::{CowBytes, ResultParsing};
 use std::alloc::{AllocError, Global};

@@ -1,15 +1,15 @@
 //! What both kinds of packet body hold behind their interface.
 
-ghost use Rattle.std.specs.Prelude.{⊤, ◌≤◌, length, IfOk};
+ghost use Rattle.std.specs.Prelude.{◌≤◌, length, IfOk};
 ghost use Rattle.pcap_blocks.specs.Refusals.{FindsWhere};
-ghost use Rattle.pcap_blocks.specs.StoredPacket.{StoredSays, stored_of, StoredIsBorrowed};
+ghost use Rattle.pcap_blocks.specs.StoredPacket.{StoredSays, stored_of, StoredIsBorrowed, StoredMayGrow};
 
 use crate::common::{PcapNgOption, options_from_slice};
 use crate::fields::split_time;
-use pcap_core::fields::{split_padded, split_u32};
 use crate::refusal::Refusal;
 use byteorder::ByteOrder;
 use pcap_core::CowBytes;
+use pcap_core::fields::{split_padded, split_u32};
 use pcap_core::rules::Rule;
 use std::alloc::Global;
 
@@ -29,7 +29,7 @@ pub(crate) fn stored_from_slice<'a, O: PcapNgOption<'a> + Drop, B: ByteOrder>(
     slice: &'a [u8],
 ) -> Result<(&'a [u8], StoredPacket<'a, O>), Refusal>
     requires { 16 ≤ length slice.now }
-    ensures tells { FindsWhere ⊤ (StoredSays B.number_of O.kind slice.now) (stored_of O.view) result }
+    ensures tells { FindsWhere (StoredMayGrow B.number_of O.kind slice.now) (StoredSays B.number_of O.kind slice.now) (stored_of O.view) result }
     ensures borrowed { IfOk result (λ x. StoredIsBorrowed O.is_borrowed x.1) }
 {
     let (timestamp, rest) = split_time::<B>(slice);

@@ -1,9 +1,8 @@
 use Rattle.std.proofs.Common.{arith, ◌≤◌, ◌≡◌, length}
-use Rattle.std.specs.Prelude.{⊤}
 use Rattle.std.proofs.lemmas.Result.{err_from_is_err_and}
 use Rattle.pcap_blocks.specs.Records.{short}
-use Rattle.pcap_blocks.proofs.Naming.{split_parts, address_fails}
-use Rattle.pcap_blocks.proofs.Refusals.{Denies-weaker}
+use Rattle.pcap_blocks.proofs.Naming.{split_parts, address_fails, address_grows}
+use Rattle.pcap_blocks.proofs.Refusals.{denies_more}
 use Rattle.pcap_blocks.proofs.record.Ipv6Record.read.Goals as goal
 
 pub returns-then-slice-lt18-clause-tells : goal.returns-then-slice-lt18-clause-tells
@@ -15,4 +14,4 @@ returns-in_err-names_from_slice-clause-tells c =
     let long : 18 ≤ length c.args.slice.now = omega (arith, c.if-slice-lt18.false) in
     let wide : length c.split_at.result.0.now ≡ 16 = c.split_at.ensures.front_len in
     let parts = split_parts 16 _ _ _ c.split_at.ensures.front c.split_at.ensures.back in
-    rw (p.1, p.2) (Denies-weaker ⊤ c.in_err-names_from_slice.field-0.0 (address_fails 16 _ _ _ _ long parts wide) c.in_err-names_from_slice.ensures.tells)
+    rw (p.1, p.2) (denies_more c.in_err-names_from_slice.field-0.0 (address_grows 16 _ _ _ long parts wide) (address_fails 16 _ _ _ _ long parts wide) c.in_err-names_from_slice.ensures.tells)
