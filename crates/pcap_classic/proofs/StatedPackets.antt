@@ -9,8 +9,6 @@ use Rattle.pcap_core.specs.Faults.{Fault, Shows}
 use Rattle.pcap_core.specs.Format.{Format}
 use Rattle.pcap_classic.specs.Magic.{is_magic, order_of, resolution_of}
 use Rattle.pcap_classic.specs.PacketText.{packet_limit, Captured, PacketHeaderText, PacketText, LacksHead, HasHeadFault}
-use Rattle.std.specs.Prelude.{is_some}
-use Rattle.pcap_core.specs.Asked.{FillsItem}
 use Rattle.pcap_core.specs.Reading.{Pulls}
 use Rattle.pcap_classic.specs.Packets.{packet_format, choice, reader_format}
 use Rattle.pcap_classic.proofs.Packets.{reader_says}
@@ -77,10 +75,3 @@ pub pulls_headed : (header : PcapHeader) (before after : Option (List ℕ)) (hel
 pulls_headed header before after held failed (Ok (Some head)) x = (x.0, (held, shown_stands header head held x.1, x.4))
 pulls_headed header before after held failed (Ok None) x = (x.0, x.2, x.3)
 pulls_headed header before after held failed (Err e) x = x
-
--- what was filled with is an item
-pub fills_item : (header : PcapHeader) (before after : Option (List ℕ)) (held : List ℕ) (failed : Bool) (known : Option PacketHeader)
-    → FillsHeaded ((reader_format packet_limit header).says tt) (KnowsHeader header) (reader_format packet_limit header).head before after held failed (Ok known)
-    → FillsItem ((reader_format packet_limit header).says tt) before after held failed (Ok (is_some known))
-fills_item header before after held failed (Some head) x = (x.0, (shown_in held head, shown_stands header head held x.1), x.4)
-fills_item header before after held failed None x = x

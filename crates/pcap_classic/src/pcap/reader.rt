@@ -3,7 +3,6 @@
 ghost use Rattle.std.specs.Prelude.{◌≡◌, ◌<◌, ⊤, false, [], length, IsTrue, OnOk, IfOk, IfErr};
 ghost use Rattle.std.specs.Borrow.{sem, Lends};
 ghost use Rattle.pcap_core.specs.Answer.{whole};
-ghost use Rattle.pcap_core.specs.Asked.{FillsItem, HoldsItem};
 ghost use Rattle.pcap_core.specs.Held.{held_bytes};
 ghost use Rattle.pcap_classic.specs.HeaderText.{HeaderSays};
 ghost use Rattle.pcap_classic.specs.Magic.{is_magic};
@@ -11,7 +10,6 @@ ghost use Rattle.pcap_classic.specs.Packets.{reader_format};
 ghost use Rattle.pcap_classic.specs.PacketText.{packet_limit, content_of};
 ghost use Rattle.pcap_core.specs.Reading.{NextGives, Pulls};
 
-use crate::pcap::packet::packet_under;
 use crate::pcap::stated::{PacketsUnder, packet_of};
 use crate::pcap::{Packet, PcapHeader};
 use pcap_core::ResultParsing;
@@ -35,32 +33,6 @@ pub struct PcapReader<T> {
     is_done: bool,
     ghost between: { is_done ≡ false → held_bytes held ≡ [] },
     ghost unfailed: { is_done ≡ false → has_failed ≡ false },
-}
-
-// Fills what is held with the next packet. Nothing is held before it, nor where it answers false.
-pub(crate) fn fill_packet<T: Read>(
-    header: &PcapHeader,
-    stream: &mut T,
-    has_failed: &mut bool,
-    held: &mut Held,
-) -> ResultParsing<bool>
-    requires between { held_bytes held.old ≡ [] }
-    requires unfailed { has_failed.old ≡ false }
-    ensures { FillsItem ((reader_format packet_limit header.now).says tt) (T.remaining stream.old) (T.remaining stream.new) (held_bytes held.new) has_failed.new result }
-{
-    let head = fill_item(&PacketsUnder { header }, stream, has_failed, held)?;
-    Ok(head.is_some())
-}
-
-// The packet that the bytes are, lent from them.
-pub(crate) fn whole_packet<'a>(header: &PcapHeader, bytes: &'a [u8]) -> Packet<'a>
-    requires { HoldsItem ((reader_format packet_limit header.now).says tt bytes.now) }
-    ensures { (reader_format packet_limit header.now).says tt bytes.now (whole (content_of result) []) }
-{
-    match packet_under(header, bytes) {
-        Ok((_, packet)) => packet,
-        Err(_) => unreachable!(),
-    }
 }
 
 // Takes the next packet. Nothing is held before it, nor after an `Ok`.
