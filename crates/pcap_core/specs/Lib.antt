@@ -18,3 +18,7 @@ pub mod Writing
 pub mod Errors
 pub mod Filling
 pub mod Padded
+pub mod Requests
+pub mod Window
+pub mod Requested
+pub mod Found
