@@ -16,3 +16,4 @@ pub mod Verdicts
 pub mod Numbers
 pub mod OnePadded
 pub mod Kept
+pub mod EachRule
