@@ -18,3 +18,4 @@ pub mod OnePadded
 pub mod Kept
 pub mod Requested
 pub mod Showing
+pub mod EachRule

@@ -1,5 +1,6 @@
 pub mod Bytes
 pub mod Faults
+pub mod Rules
 pub mod Answer
 pub mod Link
 pub mod Run
