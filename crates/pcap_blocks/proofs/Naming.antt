@@ -6,7 +6,7 @@ use Rattle.pcap_core.specs.Faults.{Fault}
 use Rattle.pcap_core.specs.Padded.{Chain}
 use Rattle.pcap_blocks.specs.Values.{text_at}
 use Rattle.pcap_core.specs.declared.rules.Rule.{Rule}
-use Rattle.pcap_blocks.specs.Records.{AddressFault, in_names, AddressMayGrow}
+use Rattle.pcap_blocks.specs.Record.{AddressFault, in_names, AddressMayGrow}
 use Rattle.pcap_blocks.specs.Names.{NameText, HasNoZero, NameFault, no_text, NamesFault, NamesMayGrow}
 
 pub name_shorter : (n s rest : List ℕ) → NameText n s rest → length rest < length s

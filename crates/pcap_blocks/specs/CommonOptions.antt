@@ -2,9 +2,9 @@
 use Rattle.std.specs.Cow.{cow_str_bytes, IsBorrowedStr, IsOwnedStr}
 use Rattle.pcap_core.specs.Bytes.{cow_bytes, IsBorrowed, IsOwned}
 use Rattle.pcap_blocks.specs.Values.{Entry, CustomText, CustomBytes, Unknown}
-use Rattle.pcap_blocks.specs.declared.common.UnknownOption.{UnknownOption}
-use Rattle.pcap_blocks.specs.declared.common.CustomBinaryOption.{CustomBinaryOption}
-use Rattle.pcap_blocks.specs.declared.common.CustomUtf8Option.{CustomUtf8Option}
+use Rattle.pcap_blocks.specs.declared.options.UnknownOption.{UnknownOption}
+use Rattle.pcap_blocks.specs.declared.options.CustomBinaryOption.{CustomBinaryOption}
+use Rattle.pcap_blocks.specs.declared.options.CustomUtf8Option.{CustomUtf8Option}
 
 -- what an option of an unknown code says
 abbrev pub unknown_entry : UnknownOption → Entry

@@ -12,7 +12,7 @@ use Rattle.pcap_blocks.specs.Values.{Entry, Text, Integer, Kind, text, first_num
 use Rattle.pcap_blocks.specs.Growth.{HoldsAfter}
 use Rattle.pcap_blocks.specs.Options.{may_end_with_body, OptionList, ListFault, OptionsMayGrow}
 use Rattle.pcap_blocks.specs.CommonOptions.{unknown_entry, custom_bytes_entry, custom_text_entry, UnknownIsBorrowed, UnknownIsOwned, CustomBytesIsBorrowed, CustomBytesIsOwned, CustomTextIsBorrowed, CustomTextIsOwned}
-use Rattle.pcap_blocks.specs.StoredPacket.{TimeText}
+use Rattle.pcap_blocks.specs.Time.{TimeText}
 
 -- comment, start and end time, and the numbers of packets
 abbrev pub interface_statistics : Kind

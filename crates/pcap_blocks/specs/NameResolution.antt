@@ -13,7 +13,7 @@ use Rattle.pcap_blocks.specs.Values.{Entry, Text, Bytes, Kind, text, fixed_bytes
 use Rattle.pcap_blocks.specs.Growth.{BeginsWith}
 use Rattle.pcap_blocks.specs.Options.{may_end_with_body, OptionList, ListFault, OptionsMayGrow}
 use Rattle.pcap_blocks.specs.CommonOptions.{unknown_entry, custom_bytes_entry, custom_text_entry, UnknownIsBorrowed, UnknownIsOwned, CustomBytesIsBorrowed, CustomBytesIsOwned, CustomTextIsBorrowed, CustomTextIsOwned}
-use Rattle.pcap_blocks.specs.Records.{NameRecord, End, RecordText, RecordFault, RecordMayGrow, name_record_of, RecordIsBorrowed, RecordIsOwned}
+use Rattle.pcap_blocks.specs.Record.{NameRecord, End, RecordText, RecordFault, RecordMayGrow, name_record_of, RecordIsBorrowed, RecordIsOwned}
 
 -- comment, and the name and addresses of the server that resolved the names
 abbrev pub name_resolution : Kind

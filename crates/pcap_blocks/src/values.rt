@@ -14,7 +14,7 @@ use std::borrow::CowStr;
 use std::str;
 
 // The text that all bytes of a name are.
-#[tactic(auto, using(crate::proofs::Texts::text_is, crate::proofs::Texts::no_text))]
+#[tactic(auto, using(crate::proofs::Utf8::text_is, crate::proofs::Utf8::no_text))]
 pub(crate) fn str_value(name: &[u8]) -> Result<&str, Refusal>
     ensures tells { FindsAll (AllSay (text_at name.now)) (λ text. text.now) result }
     ensures same { IfOk result (λ text. text.now ≡ name.now) }
@@ -26,7 +26,7 @@ pub(crate) fn str_value(name: &[u8]) -> Result<&str, Refusal>
 }
 
 // A text.
-#[tactic(auto, using(crate::proofs::Texts::text_is, crate::proofs::Texts::no_text))]
+#[tactic(auto, using(crate::proofs::Utf8::text_is, crate::proofs::Utf8::no_text))]
 pub(crate) fn text_value(value: &[u8]) -> Result<CowStr<'_>, Refusal>
     ensures tells { FindsAll (AllSay (text_at value.now)) cow_str_bytes result }
     ensures borrowed { IfOk result IsBorrowedStr }

@@ -1,6 +1,6 @@
 use Rattle.std.proofs.Common.{arith, ◌≤◌, ◌≡◌, length}
 use Rattle.std.proofs.lemmas.Result.{err_from_is_err_and}
-use Rattle.pcap_blocks.specs.Records.{short}
+use Rattle.pcap_blocks.specs.Record.{short}
 use Rattle.pcap_blocks.proofs.Naming.{split_parts, address_fails, address_grows}
 use Rattle.pcap_blocks.proofs.Refusals.{denies_more}
 use Rattle.pcap_blocks.proofs.record.Ipv6Record.read.Goals as goal
