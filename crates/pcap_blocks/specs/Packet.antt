@@ -10,7 +10,7 @@ use Rattle.pcap_blocks.specs.declared.packet.PacketOption.{PacketOption}
 use Rattle.pcap_blocks.specs.declared.packet.PacketOption.TheVariants as option_of
 use Rattle.pcap_core.specs.Padded.{Behind}
 use Rattle.pcap_blocks.specs.Values.{Entry, Text, Bytes, Integer, Kind, text, bytes, number, custom}
-use Rattle.pcap_blocks.specs.CommonOptions.{unknown_entry, custom_bytes_entry, custom_text_entry, UnknownIsBorrowed, UnknownIsOwned, CustomBytesIsBorrowed, CustomBytesIsOwned, CustomTextIsBorrowed, CustomTextIsOwned}
+use Rattle.pcap_blocks.specs.CommonOptions.{Carried, carries_text, carries_bytes, carries_number, carries_custom_bytes, carries_custom_text, carries_unknown}
 use Rattle.pcap_blocks.specs.Growth.{HoldsAfter}
 use Rattle.pcap_blocks.specs.StoredPacket.{Stored, StoredText, StoredFault, StoredMayGrow}
 
@@ -45,32 +45,26 @@ PacketBodySays order s = Says (λ body rest. PacketBodyText order body s rest) (
 abbrev pub PacketBodyMayGrow : Order → List ℕ → Type 0
 PacketBodyMayGrow order = HoldsAfter 4 (StoredMayGrow order packet_kind)
 
--- an option of the code
+-- what an option of the code carries
+abbrev pub packet_carries : PacketOption → Carried
+packet_carries (option_of.Comment t) = carries_text 1 t
+packet_carries (option_of.Flags n) = carries_number 2 n
+packet_carries (option_of.Hash b) = carries_bytes 3 b
+packet_carries (option_of.CustomBinary o) = carries_custom_bytes o
+packet_carries (option_of.CustomUtf8 o) = carries_custom_text o
+packet_carries (option_of.Unknown o) = carries_unknown o
+
+-- what an option of the code says
 abbrev pub packet_entry : PacketOption → Entry
-packet_entry (option_of.Comment t) = record { code = 1; value = Text (cow_str_bytes t) }
-packet_entry (option_of.Flags n) = record { code = 2; value = Integer n }
-packet_entry (option_of.Hash b) = record { code = 3; value = Bytes (cow_bytes b) }
-packet_entry (option_of.CustomBinary o) = custom_bytes_entry o
-packet_entry (option_of.CustomUtf8 o) = custom_text_entry o
-packet_entry (option_of.Unknown o) = unknown_entry o
+packet_entry o = (packet_carries o).entry
 
 -- its text or bytes are borrowed, where it has any
 abbrev pub PacketOptionIsBorrowed : PacketOption → Type 0
-PacketOptionIsBorrowed (option_of.Comment t) = IsBorrowedStr t
-PacketOptionIsBorrowed (option_of.Flags n) = Unit {0}
-PacketOptionIsBorrowed (option_of.Hash b) = IsBorrowed b
-PacketOptionIsBorrowed (option_of.CustomBinary o) = CustomBytesIsBorrowed o
-PacketOptionIsBorrowed (option_of.CustomUtf8 o) = CustomTextIsBorrowed o
-PacketOptionIsBorrowed (option_of.Unknown o) = UnknownIsBorrowed o
+PacketOptionIsBorrowed o = (packet_carries o).is_borrowed
 
 -- its text or bytes are owned, where it has any
 abbrev pub PacketOptionIsOwned : PacketOption → Type 0
-PacketOptionIsOwned (option_of.Comment t) = IsOwnedStr t
-PacketOptionIsOwned (option_of.Flags n) = Unit {0}
-PacketOptionIsOwned (option_of.Hash b) = IsOwned b
-PacketOptionIsOwned (option_of.CustomBinary o) = CustomBytesIsOwned o
-PacketOptionIsOwned (option_of.CustomUtf8 o) = CustomTextIsOwned o
-PacketOptionIsOwned (option_of.Unknown o) = UnknownIsOwned o
+PacketOptionIsOwned o = (packet_carries o).is_owned
 
 -- a block of the code
 abbrev pub packet_of : PacketBlock → PacketBody

@@ -1,7 +1,9 @@
 -- The records of a name resolution body ('Name Resolution Block').
 use Rattle.std.specs.Prelude.{◌≡◌, ◌≢◌, ℕ, ◌+◌, ◌<◌, ◌≤◌, List, [], ◌++◌, length, ◌==◌, if◌then◌else◌, map, All}
+use Rattle.std.specs.declared.borrow.CowStr.{CowStr}
 use Rattle.std.specs.Cow.{cow_str_bytes, IsBorrowedStr, IsOwnedStr}
 use Rattle.pcap_core.specs.Answer.{Order, Verdict, whole, faulty, Says, Made}
+use Rattle.pcap_core.specs.declared.common.CowBytes.{CowBytes}
 use Rattle.pcap_core.specs.Bytes.{cow_bytes, IsBorrowed, IsOwned}
 use Rattle.pcap_core.specs.Faults.{Fault, Invalid, Io}
 use Rattle.pcap_core.specs.declared.rules.Rule.{Rule}
@@ -108,13 +110,17 @@ pub record RecordMayGrow (order : Order) (s : List ℕ) : Type 0 where
   pub parts : after ≡ v ++ more
   pub grows : RecordValueMayGrow (form_of type) v
 
+-- what an address and its names of the code say
+abbrev pub address_of : {Z : Type 0} → CowBytes → List (CowStr Z) → Address
+address_of ip_addr names = record { bytes = cow_bytes ip_addr; names = map cow_str_bytes names }
+
 -- what a record of an address of four bytes says
 abbrev pub ipv4_of : Ipv4Record → Address
-ipv4_of r = record { bytes = cow_bytes r.ip_addr; names = map cow_str_bytes r.names.items }
+ipv4_of r = address_of r.ip_addr r.names.items
 
 -- what a record of an address of sixteen bytes says
 abbrev pub ipv6_of : Ipv6Record → Address
-ipv6_of r = record { bytes = cow_bytes r.ip_addr; names = map cow_str_bytes r.names.items }
+ipv6_of r = address_of r.ip_addr r.names.items
 
 -- what a record of an unknown type says
 abbrev pub other_of : UnknownRecord → NameRecord
@@ -127,25 +133,36 @@ name_record_of (record_of.Ipv4 r) = Ipv4 (ipv4_of r)
 name_record_of (record_of.Ipv6 r) = Ipv6 (ipv6_of r)
 name_record_of (record_of.Unknown r) = other_of r
 
--- the address and the names of a record are borrowed
-pub record Ipv4IsBorrowed (r : Ipv4Record) : Type 0 where
-  pub bytes : IsBorrowed r.ip_addr
-  pub names : All IsBorrowedStr r.names.items
+-- an address and its names are borrowed
+pub record AddressIsBorrowed {Z : Type 0} (ip_addr : CowBytes) (list : List (CowStr Z)) : Type 0 where
+  pub bytes : IsBorrowed ip_addr
+  pub names : All IsBorrowedStr list
 
--- the address and the names of a record are owned
-pub record Ipv4IsOwned (r : Ipv4Record) : Type 0 where
-  pub bytes : IsOwned r.ip_addr
-  pub names : All IsOwnedStr r.names.items
+-- an address and its names are owned
+pub record AddressIsOwned {Z : Type 0} (ip_addr : CowBytes) (list : List (CowStr Z)) : Type 0 where
+  pub bytes : IsOwned ip_addr
+  pub names : All IsOwnedStr list
 
--- the longer address and the names of a record are borrowed
-pub record Ipv6IsBorrowed (r : Ipv6Record) : Type 0 where
-  pub bytes : IsBorrowed r.ip_addr
-  pub names : All IsBorrowedStr r.names.items
+-- they are owned without memory being taken: the address is owned, and there are no names
+pub record AddressNeedsNoMemory {Z : Type 0} (ip_addr : CowBytes) (list : List (CowStr Z)) : Type 0 where
+  pub bytes : IsOwned ip_addr
+  pub names : list ≡ []
 
--- the longer address and the names of a record are owned
-pub record Ipv6IsOwned (r : Ipv6Record) : Type 0 where
-  pub bytes : IsOwned r.ip_addr
-  pub names : All IsOwnedStr r.names.items
+-- what a record of an address of four bytes holds is borrowed
+abbrev pub Ipv4IsBorrowed : Ipv4Record → Type 0
+Ipv4IsBorrowed r = AddressIsBorrowed r.ip_addr r.names.items
+
+-- what a record of an address of four bytes holds is owned
+abbrev pub Ipv4IsOwned : Ipv4Record → Type 0
+Ipv4IsOwned r = AddressIsOwned r.ip_addr r.names.items
+
+-- what a record of an address of sixteen bytes holds is borrowed
+abbrev pub Ipv6IsBorrowed : Ipv6Record → Type 0
+Ipv6IsBorrowed r = AddressIsBorrowed r.ip_addr r.names.items
+
+-- what a record of an address of sixteen bytes holds is owned
+abbrev pub Ipv6IsOwned : Ipv6Record → Type 0
+Ipv6IsOwned r = AddressIsOwned r.ip_addr r.names.items
 
 -- what a record of any type holds is borrowed
 abbrev pub RecordIsBorrowed : Record → Type 0
@@ -165,15 +182,13 @@ RecordIsOwned (record_of.Unknown r) = IsOwned r.value
 abbrev pub UnknownRecordIsOwned : UnknownRecord → Type 0
 UnknownRecordIsOwned r = IsOwned r.value
 
--- it is owned without memory being taken: its address is owned, and it has no names
-pub record Ipv4NeedsNoMemory (r : Ipv4Record) : Type 0 where
-  pub bytes : IsOwned r.ip_addr
-  pub names : r.names.items ≡ []
+-- a record of an address of four bytes is owned without memory being taken
+abbrev pub Ipv4NeedsNoMemory : Ipv4Record → Type 0
+Ipv4NeedsNoMemory r = AddressNeedsNoMemory r.ip_addr r.names.items
 
--- the same of a record of a longer address
-pub record Ipv6NeedsNoMemory (r : Ipv6Record) : Type 0 where
-  pub bytes : IsOwned r.ip_addr
-  pub names : r.names.items ≡ []
+-- the same of a record of an address of sixteen bytes
+abbrev pub Ipv6NeedsNoMemory : Ipv6Record → Type 0
+Ipv6NeedsNoMemory r = AddressNeedsNoMemory r.ip_addr r.names.items
 
 -- the same of a record of any type
 abbrev pub RecordNeedsNoMemory : Record → Type 0

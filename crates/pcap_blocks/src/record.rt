@@ -1,10 +1,10 @@
 //! Records of a name resolution body.
 
-ghost use Rattle.std.specs.Prelude.{◌≡◌, length, IsOk, IfOk, IfErr};
+ghost use Rattle.std.specs.Prelude.{◌≡◌, ◌≤◌, length, IsOk, IfOk, IfErr};
 ghost use Rattle.pcap_core.specs.Answer.{TellsWhere, TellsAllWhere};
 ghost use Rattle.pcap_core.specs.declared.rules.Rule.TheVariants.{Ipv4RecordTooShort, Ipv6RecordTooShort};
 ghost use Rattle.pcap_blocks.specs.Refusals.{FindsWhere, FindsAllWhere};
-ghost use Rattle.pcap_blocks.specs.Record.{AddressSays, form_of, RecordValueSays, RecordSays, ipv4_of, ipv6_of, name_record_of, Ipv4IsBorrowed, Ipv6IsBorrowed, RecordIsBorrowed, other_of, Ipv4IsOwned, Ipv4NeedsNoMemory, Ipv6IsOwned, Ipv6NeedsNoMemory, UnknownRecordIsOwned, RecordIsOwned, RecordNeedsNoMemory, AddressMayGrow, RecordValueMayGrow, RecordMayGrow};
+ghost use Rattle.pcap_blocks.specs.Record.{AddressSays, address_of, AddressIsBorrowed, form_of, RecordValueSays, RecordSays, ipv4_of, ipv6_of, name_record_of, Ipv4IsBorrowed, Ipv6IsBorrowed, RecordIsBorrowed, other_of, Ipv4IsOwned, Ipv4NeedsNoMemory, Ipv6IsOwned, Ipv6NeedsNoMemory, UnknownRecordIsOwned, RecordIsOwned, RecordNeedsNoMemory, AddressMayGrow, RecordValueMayGrow, RecordMayGrow};
 ghost use Rattle.pcap_core.specs.Errors.{IsMemory};
 
 use crate::names::names_from_slice;
@@ -42,14 +42,8 @@ impl<'a> Ipv4Record<'a> {
         ensures tells { FindsAllWhere (AddressMayGrow 4 slice.now) (AddressSays 4 Ipv4RecordTooShort slice.now) ipv4_of result }
         ensures borrowed { IfOk result Ipv4IsBorrowed }
     {
-        if slice.len() < 6 {
-            return Err(Refusal::Invalid(Rule::Ipv4RecordTooShort));
-        }
-        let (ip_addr, rest) = slice.split_at(4);
-        Ok(Ipv4Record {
-            ip_addr: CowBytes::Borrowed(ip_addr),
-            names: names_from_slice(alloc, rest)?,
-        })
+        let (ip_addr, names) = address_from_slice(alloc, slice, 4, Rule::Ipv4RecordTooShort)?;
+        Ok(Ipv4Record { ip_addr, names })
     }
 
     /// The same record, with bytes and texts of its own: borrowed ones are copied, owned ones kept.
@@ -90,14 +84,8 @@ impl<'a> Ipv6Record<'a> {
         ensures tells { FindsAllWhere (AddressMayGrow 16 slice.now) (AddressSays 16 Ipv6RecordTooShort slice.now) ipv6_of result }
         ensures borrowed { IfOk result Ipv6IsBorrowed }
     {
-        if slice.len() < 18 {
-            return Err(Refusal::Invalid(Rule::Ipv6RecordTooShort));
-        }
-        let (ip_addr, rest) = slice.split_at(16);
-        Ok(Ipv6Record {
-            ip_addr: CowBytes::Borrowed(ip_addr),
-            names: names_from_slice(alloc, rest)?,
-        })
+        let (ip_addr, names) = address_from_slice(alloc, slice, 16, Rule::Ipv6RecordTooShort)?;
+        Ok(Ipv6Record { ip_addr, names })
     }
 
     /// The same record, with bytes and texts of its own: borrowed ones are copied, owned ones kept.
@@ -111,6 +99,24 @@ impl<'a> Ipv6Record<'a> {
     {
         Ok(self.into_static(alloc)?)
     }
+}
+
+// The address of this width, and the names that follow it to the end of a slice.
+fn address_from_slice(
+    alloc: Global,
+    slice: &[u8],
+    width: usize,
+    too_short: Rule,
+) -> Result<(CowBytes<'_>, Vec<CowStr<'_>>), Refusal>
+    requires { width ≤ 16 }
+    ensures tells { FindsAllWhere (AddressMayGrow width slice.now) (AddressSays width too_short slice.now) (λ x. address_of x.0 x.1.items) result }
+    ensures borrowed { IfOk result (λ x. AddressIsBorrowed x.0 x.1.items) }
+{
+    if slice.len() < width + 2 {
+        return Err(Refusal::Invalid(too_short));
+    }
+    let (ip_addr, rest) = slice.split_at(width);
+    Ok((CowBytes::Borrowed(ip_addr), names_from_slice(alloc, rest)?))
 }
 
 /// A record whose type has no name here.
