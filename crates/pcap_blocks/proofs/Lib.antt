@@ -1,5 +1,5 @@
 pub mod Refusals
-pub mod Utf8
+pub mod Strings
 pub mod Growth
 pub mod ReadOptions
 pub mod Bodies

@@ -7,7 +7,7 @@ use Rattle.pcap_blocks.specs.Refusals.{Denies}
 -- where the whole may grow if the part does, and has the part's faults
 pub denies_more : {M N : Type 0} {P Q : Fault → Type 0} (e : Refusal) → (M → N) → ((f : Fault) → P f → Q f) → Denies M P e → Denies N Q e
 denies_more (refusals.Memory a) grows more h = grows h
-denies_more refusals.Short grows more h = more Io h
+denies_more refusals.Io grows more h = more Io h
 denies_more (refusals.Utf8 a) grows more h = more NoText h
 denies_more (refusals.Invalid rule) grows more h = more (Invalid rule) h
 

@@ -88,7 +88,7 @@ impl<'a> CustomBinaryOption<'a> {
         ensures borrowed { IfOk result CustomBytesIsBorrowed }
     {
         if src.len() < 4 {
-            return Err(Refusal::Short);
+            return Err(Refusal::Io);
         }
         let (pen, bytes) = src.split_at(4);
         Ok(CustomBinaryOption {
@@ -156,7 +156,7 @@ impl<'a> CustomUtf8Option<'a> {
         ensures borrowed { IfOk result CustomTextIsBorrowed }
     {
         if src.len() < 4 {
-            return Err(Refusal::Short);
+            return Err(Refusal::Io);
         }
         let (pen, value) = src.split_at(4);
         Ok(CustomUtf8Option {

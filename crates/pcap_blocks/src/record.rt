@@ -167,7 +167,7 @@ impl<'a> Record<'a> {
         ensures borrowed { IfOk result (λ x. RecordIsBorrowed x.1) }
     {
         if slice.len() < 4 {
-            return Err(Refusal::Short);
+            return Err(Refusal::Io);
         }
         let (type_, rest) = split_u16::<B>(slice);
         let (len, after) = split_u16::<B>(rest);
