@@ -6,7 +6,7 @@ use Rattle.pcap_core.specs.Faults.{Fault}
 use Rattle.pcap_core.specs.Padded.{Chain}
 use Rattle.pcap_blocks.specs.Values.{text_at}
 use Rattle.pcap_core.specs.declared.rules.Rule.{Rule}
-use Rattle.pcap_blocks.specs.Records.{AddressFault, in_names, AddressMayGrow}
+use Rattle.pcap_blocks.specs.Record.{AddressFault, in_names, AddressMayGrow}
 use Rattle.pcap_blocks.specs.Names.{NameText, HasNoZero, NameFault, no_text, NamesFault, NamesMayGrow}
 
 pub name_shorter : (n s rest : List ℕ) → NameText n s rest → length rest < length s
@@ -21,9 +21,6 @@ name_parts s i lt zero_at =
 
 pub name_text_fails : (s name rest : List ℕ) → s ≡ name ++ 0 ∷ rest → HasNoZero name → (f : Fault) → text_at name ≡ Err f → NameFault s f
 name_text_fails s name rest parts no_zero f fault = no_text f name rest parts no_zero fault
-
-pub names_fail : (good : List (List ℕ)) (s bad : List ℕ) → Chain NameText good s bad → bad ≢ [] → (f : Fault) → NameFault bad f → NamesFault s f
-names_fail good s bad are some f fault = record { good = good; bad = bad; are_good = are; some = some; fault_is = fault }
 
 pub split_parts : (n : ℕ) (s a b : List ℕ) → a ≡ take n s → b ≡ drop n s → s ≡ a ++ b
 split_parts n s a b front back = rw (front, back) (sym (take-append-drop n s))

@@ -6,11 +6,12 @@ use Rattle.pcap_core.specs.declared.rules.Rule.TheVariants.{EnhancedCut}
 use Rattle.pcap_core.specs.Padded.{up_to_4, Padded, Behind}
 use Rattle.pcap_blocks.specs.Values.{Entry, Kind}
 use Rattle.pcap_blocks.specs.Options.{may_end_with_body, ListFault, OptionsMayGrow}
-use Rattle.pcap_blocks.specs.StoredPacket.{TimeText, Stored, StoredHead, StoredFault, StoredMayGrow, cut, in_options}
+use Rattle.pcap_blocks.specs.StoredPacket.{Stored, StoredHead, StoredFault, StoredMayGrow, cut, in_options}
+use Rattle.pcap_blocks.specs.Time.{TimeText}
 use Rattle.pcap_blocks.specs.EnhancedPacket.{enhanced_packet, EnhancedFault}
 use Rattle.pcap_blocks.specs.EnhancedPacket as enhanced
-use Rattle.pcap_blocks.specs.PacketBody.{packet_kind, PacketBodyFault}
-use Rattle.pcap_blocks.specs.PacketBody as body
+use Rattle.pcap_blocks.specs.Packet.{packet_kind, PacketBodyFault}
+use Rattle.pcap_blocks.specs.Packet as body
 use Rattle.pcap_blocks.specs.InterfaceStatistics.{interface_statistics, StatisticsFault}
 use Rattle.pcap_blocks.specs.InterfaceStatistics as statistics
 use Rattle.pcap_core.proofs.Padded.{behind_number, behind_both}

@@ -9,15 +9,17 @@ ghost use Rattle.pcap_blocks.specs.Options.{Ending, wants_end, may_end_with_body
 ghost use Rattle.pcap_blocks.specs.SectionHeader.{SectionSays};
 ghost use Rattle.pcap_blocks.specs.InterfaceDescription.{InterfaceSays};
 ghost use Rattle.pcap_blocks.specs.EnhancedPacket.{EnhancedSays};
-ghost use Rattle.pcap_blocks.specs.PacketBody.{PacketBodySays};
+ghost use Rattle.pcap_blocks.specs.Packet.{PacketBodySays};
 ghost use Rattle.pcap_blocks.specs.InterfaceStatistics.{StatisticsSays};
 ghost use Rattle.pcap_core.specs.declared.rules.Rule.{Rule};
 ghost use Rattle.pcap_blocks.specs.Names.{NameSays, NamesSay};
-ghost use Rattle.pcap_blocks.specs.Records.{AddressSays, RecordSays};
+ghost use Rattle.pcap_blocks.specs.Record.{AddressSays, RecordSays};
 ghost use Rattle.pcap_blocks.specs.NameResolution.{RecordsSay, ResolutionSays};
-ghost use Rattle.pcap_blocks.specs.declared.block.BlockType.{BlockType};
-ghost use Rattle.pcap_blocks.specs.ParsedBlock.{UnknownSays, BodySays};
-ghost use Rattle.pcap_blocks.specs.WholeBodies.{SimpleSays, JournalSays};
+ghost use Rattle.pcap_blocks.specs.declared.block_type.BlockType.{BlockType};
+ghost use Rattle.pcap_blocks.specs.ParsedBlock.{BodySays};
+ghost use Rattle.pcap_blocks.specs.UnknownBlock.{UnknownSays};
+ghost use Rattle.pcap_blocks.specs.SimplePacket.{SimpleSays};
+ghost use Rattle.pcap_blocks.specs.SystemdJournalExport.{JournalSays};
 
 use crate::BlockType;
 use std::alloc::AllocError;

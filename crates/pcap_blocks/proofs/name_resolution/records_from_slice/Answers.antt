@@ -1,6 +1,6 @@
 use Rattle.std.proofs.lemmas.List.{map-append}
 use Rattle.std.proofs.lemmas.List.Elements.{All-push}
-use Rattle.pcap_blocks.specs.Records.{RecordIsBorrowed}
+use Rattle.pcap_blocks.specs.Record.{RecordIsBorrowed}
 use Rattle.std.proofs.lemmas.Result.{err_from_is_err_and}
 use Rattle.pcap_blocks.specs.NameResolution.{KeptText, kept}
 use Rattle.pcap_core.proofs.Padded.{chain_more}

@@ -1,6 +1,6 @@
 use Rattle.std.proofs.Common.{arith}
 use Rattle.std.proofs.lemmas.Result.{err_from_is_err_and}
-use Rattle.pcap_blocks.specs.PacketBody.{short}
+use Rattle.pcap_blocks.specs.Packet.{short}
 use Rattle.pcap_core.proofs.Padded.{behind_number, behind_both}
 use Rattle.pcap_blocks.proofs.StoredPackets.{packet_fails}
 use Rattle.pcap_blocks.proofs.Growth.{holds_after}

@@ -1,7 +1,7 @@
 use Rattle.std.proofs.Common.{arith}
 use Rattle.std.proofs.lemmas.Result.{err_from_is_err_and}
-use Rattle.pcap_blocks.specs.Records.{short, cut}
-use Rattle.pcap_blocks.proofs.Options.{head_is}
+use Rattle.pcap_blocks.specs.Record.{short, cut}
+use Rattle.pcap_blocks.proofs.ReadOptions.{head_is}
 use Rattle.pcap_blocks.proofs.Naming.{split_parts}
 use Rattle.pcap_blocks.proofs.NameRecords.{record_wrong, record_grows, record_unpadded, record_found}
 use Rattle.pcap_blocks.proofs.Refusals.{denies_more}
