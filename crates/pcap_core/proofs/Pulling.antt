@@ -11,7 +11,7 @@ use Rattle.pcap_core.specs.Laws.{IsStable}
 use Rattle.pcap_core.specs.Errors.{IsIo}
 use Rattle.pcap_core.specs.Streams.{EndsInside, EndsBefore, HasCauseToFill, TakesFewer}
 use Rattle.pcap_core.specs.Filling.{IsAskedFor}
-use Rattle.pcap_core.specs.Reading.{HasCause, read_failed, no_memory, torn, refused, IsShort, IsTorn, IsFaultOf, ReadsTold}
+use Rattle.pcap_core.specs.Reading.{HasCause, read_failed, no_memory, torn, refused, IsShort, IsTorn, IsFaultOf, ReadsTold, ReadsWhere}
 use Rattle.pcap_core.proofs.Refusals.{shows_more}
 
 module _ {V : Type 0} (IsSaid : List ℕ → Verdict V → Type 0) (stable : IsStable IsSaid) where
@@ -99,3 +99,9 @@ module _ {V : Type 0} (IsSaid : List ℕ → Verdict V → Type 0) (stable : IsS
     record { taken = bytes; from_stream = came; asked = array_asked (length bytes) short bytes (omega arith) },
     inr (inr (asked_shows e bytes (λ fault stands. some) bad before after came, unfailed)),
   )
+
+  -- a call that tells whether it failed refuses as one that does not tell it
+  pub told_refuses : {X : Type 0} (M : Type 0) (view : X → V) (e : PcapError) (before after : Option (List ℕ)) (failed : Bool) → ReadsTold IsSaid view before after failed (Err e)
+      → ReadsWhere M IsSaid view before after (Err e)
+  told_refuses M view e before after failed why =
+      (why.0, elim why.1 [ inl io ↦ inl io.0 | inr (inl short) ↦ inl short.0 | inr (inr bad) ↦ inr (inr bad.0) ])
