@@ -21,6 +21,7 @@ use Rattle.pcap_classic.proofs.Captures.{under_valid}
 use Rattle.pcap_classic.proofs.HeadedPackets.{packets_lawful}
 use Rattle.pcap_classic.proofs.Packets.{reader_lawful}
 use Rattle.pcap_classic.proofs.Stable.{header_stable}
+use Rattle.pcap_core.proofs.Pulling.{nothing_asked}
 use Rattle.pcap_core.proofs.Taking.{takes_more, run_reads}
 use Rattle.capcopy_run.specs.declared.exit.Exit.{Exit}
 use Rattle.capcopy_run.specs.declared.exit.Exit.TheVariants as exits
@@ -180,7 +181,7 @@ module _ (header : PcapHeader) (s rest : List ℕ) (text : HeaderText header s r
   lists_refused most n before mid after left e no_io no_memory_ so_far fewer stands kept =
       let few : length so_far.packets < most = omega (arith, so_far.count, fewer) in
       let stand = under_valid packet_limit header valid (λ (f : Format (Unit {0}) Captured). Shows (IsFaultOf (f.says tt) left) e) stands in
-      let read = reads so_far.packets left most (Some e) so_far.took (omega (arith, few)) (few, refused stand refl) in
+      let read = reads so_far.packets left most (Some e) so_far.took (omega (arith, few)) (few, refused stand refl, nothing_asked ((format_under packet_limit header).says tt) left) in
       elim read.ends.1 [
         | inl io ↦ absurd (no_io io.0)
         | inr (inl memory) ↦ absurd (no_memory_ memory.0)

@@ -9,7 +9,7 @@ mod rest;
 pub mod rules;
 pub mod stream;
 
-pub use common::{CowBytes, Endianness, TsResolution};
+pub use common::{CowBytes, Endianness};
 pub use errors::{PcapError, ResultParsing};
 pub use link::DataLink;
 pub use rest::Rest;

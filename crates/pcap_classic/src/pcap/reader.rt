@@ -60,23 +60,6 @@ fn pull<T: Read>(
 impl<T: Read + Drop> PcapReader<T> {
     ghost use Rattle.pcap_classic.specs.Reader.{stream_of, has_failed, is_done, OpensReader};
 
-    /// A reader of the packets of a stream whose header was read before: the stream stands after its 24 bytes.
-    pub fn with_header(alloc: Global, header: PcapHeader, stream: T) -> PcapReader<T>
-        ensures header { result.header ≡ header }
-        ensures stream { stream_of result ≡ stream }
-        ensures unfailed { has_failed result ≡ false }
-        ensures ready { is_done result ≡ false }
-    {
-        PcapReader {
-            header,
-            alloc,
-            inner: stream,
-            has_failed: false,
-            held: Held::new(alloc),
-            is_done: false,
-        }
-    }
-
     /// Reads the header of a capture off a stream, and makes a reader of the packets behind it. A refused call drops the
     /// stream.
     ///
@@ -93,6 +76,23 @@ impl<T> PcapReader<T> {
     ghost use Rattle.pcap_classic.specs.contracts.pcap.reader.PcapReader.{the_row as reader-row};
     ghost use Rattle.pcap_classic.specs.LentStreams.{reader_with};
     ghost use Rattle.pcap_classic.specs.Reader.{stream_of, has_failed, is_done};
+
+    /// A reader of the packets of a stream whose header was read before: the stream stands after its 24 bytes.
+    pub fn with_header(alloc: Global, header: PcapHeader, stream: T) -> PcapReader<T>
+        ensures header { result.header ≡ header }
+        ensures stream { stream_of result ≡ stream }
+        ensures unfailed { has_failed result ≡ false }
+        ensures ready { is_done result ≡ false }
+    {
+        PcapReader {
+            header,
+            alloc,
+            inner: stream,
+            has_failed: false,
+            held: Held::new(alloc),
+            is_done: false,
+        }
+    }
 
     /// Gives the wrapped stream back.
     pub fn into_reader(self) -> T
