@@ -11,6 +11,7 @@ use Rattle.pcap_core.specs.Format.{Format, Front, IsLawful, state_after}
 use Rattle.pcap_core.specs.Laws.{IsStable}
 use Rattle.pcap_core.specs.Reading.{IsFaultOf, Takes, HasCause, read_failed, no_memory, torn, refused}
 use Rattle.pcap_core.specs.Takes.{TakesTexts, ReadsFront, Stops}
+use Rattle.pcap_core.proofs.Pulling.{nothing_asked}
 use Rattle.pcap_core.proofs.Taking.{takes_more, run_reads}
 use Rattle.capcopy_run.specs.declared.exit.Exit.{Exit}
 use Rattle.capcopy_run.specs.declared.exit.Exit.TheVariants as exits
@@ -131,7 +132,7 @@ module _ {O S V : Type 0} (kind : Kind O S V) (opening : O) (laws : IsLawful (ki
       → Shows (IsFaultOf (f.says (state_after f q so_far.items)) left) e → Keeps mid after → ListsUntil kind most s before after (exits.Refused e)
   lists_refused most n mid after left e no_io no_memory_ so_far fewer stands kept =
       let few : length so_far.items < most = omega (arith, so_far.count, fewer) in
-      let read = reads so_far.items left most (Some e) so_far.took (omega (arith, few)) (few, refused stands refl) in
+      let read = reads so_far.items left most (Some e) so_far.took (omega (arith, few)) (few, refused stands refl, nothing_asked (f.says (state_after f q so_far.items)) left) in
       elim read.ends.1 [
         | inl io ↦ absurd (no_io io.0)
         | inr (inl memory) ↦ absurd (no_memory_ memory.0)

@@ -1,6 +1,6 @@
 //! One way to fill, for every format whose items have a head.
 
-ghost use Rattle.std.specs.Prelude.{◌≡◌, ◌≤◌, ◌+◌, max, ℕ, List, [], false, length};
+ghost use Rattle.std.specs.Prelude.{◌≡◌, ◌≤◌, ◌+◌, max, ℕ, List, [], false, length, OnOk};
 ghost use Rattle.pcap_core.specs.Held.{held_bytes, room_of};
 ghost use Rattle.pcap_core.specs.Format.{Format, IsLawful};
 ghost use Rattle.pcap_core.specs.Filling.{StatesRest, FillsHead, FillsHeaded, TakesHeaded};
@@ -61,9 +61,8 @@ pub fn fill_item<H: HasHead, T: Read>(
     Ok(Some(head))
 }
 
-/// Takes the next item: its head, which is held, and then as many bytes as this states, in a vector of their own, whose room
-/// grows with the bytes that come. `None` exactly at the end of the stream. Nothing is held before it, nor where it answers
-/// `None`.
+/// Takes the next item: its head, and as many bytes as this states, in a vector of their own, whose room grows with the bytes
+/// that come. `None` exactly at the end of the stream. Nothing is held before it, nor after an `Ok`.
 ///
 /// The head's refusal where its bytes are refused. `OutOfMemory` where there is no room, `IoError` where a read failed or the
 /// stream ended early.
@@ -78,11 +77,13 @@ pub fn take_item<H: HasHead, T: Read>(
     requires between { held_bytes held.old ≡ [] }
     requires unfailed { has_failed.old ≡ false }
     ensures takes { TakesHeaded ((H.format item.now).says (H.state item.now)) (H.knows item.now) (H.format item.now).head (λ body. body.items) (T.remaining stream.old) (T.remaining stream.new) has_failed.new result }
+    ensures between { OnOk result (held_bytes held.new ≡ []) }
     ensures room { room_of held.new ≤ max (room_of held.old) (H.format item.now).head }
 {
     let Some((head, rest)) = fill_head(item, stream, has_failed, held)? else {
         return Ok(None);
     };
+    held.clear();
     let body = take_bytes(alloc, stream, has_failed, rest)?;
     Ok(Some((head, body)))
 }

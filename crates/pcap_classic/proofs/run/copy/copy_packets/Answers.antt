@@ -15,7 +15,7 @@ pub loop-copied-init : goal.loop-copied-init
 loop-copied-init g c = record {
   so_far = subst (λ n. Copying c.args.header.now c.args.out.now (g.R.Read.remaining c.args.reader.now) (g.R.Read.remaining c.args.reader.now) (g.W.Write.contents c.args.writer.now) (g.W.Write.contents c.args.writer.now) n)
       (sym c.requires.new.none) (copying_none _ _ _ _);
-  between = c.new-held.ensures;
+  between = c.new-held.ensures.held;
   within = omega (arith, c.requires.new.none);
   read = c.requires.new.no_read_failed;
   wrote = c.requires.new.no_write_failed;
@@ -39,8 +39,8 @@ returns-in_err-head g c =
       so_far = c.loop-copied.invariant.so_far;
       ends = inr (inr (record {
         fewer = omega (arith, c.loop-copied-test.true);
-        refused = rw (p.1, p.2) (under_valid packet_limit c.args.header.now c.requires.read (λ (f : Format (Unit {0}) Captured). HasCause (f.says tt) (g.R.Read.remaining c.loop-copied.reader) c.fill_item.new.has_failed c.in_err-head.field-0.0) c.in_err-head.ensures.0);
-        part = under_valid packet_limit c.args.header.now c.requires.read (λ (f : Format (Unit {0}) Captured). TakesAsked (f.says tt) (g.R.Read.remaining c.loop-copied.reader) (g.R.Read.remaining c.fill_item.new.stream)) c.in_err-head.ensures.1;
+        refused = rw (p.1, p.2) (under_valid packet_limit c.args.header.now c.requires.read (λ (f : Format (Unit {0}) Captured). HasCause (f.says tt) (g.R.Read.remaining c.loop-copied.reader) c.fill_item.new.has_failed c.in_err-head.field-0.0) c.in_err-head.ensures.fills.0);
+        part = under_valid packet_limit c.args.header.now c.requires.read (λ (f : Format (Unit {0}) Captured). TakesAsked (f.says tt) (g.R.Read.remaining c.loop-copied.reader) (g.R.Read.remaining c.fill_item.new.stream)) c.in_err-head.ensures.fills.1;
         no_write_failed = c.loop-copied.invariant.wrote;
         out = Keeps-refl _;
       }));
@@ -48,7 +48,7 @@ returns-in_err-head g c =
 
 pub returns-in_default : goal.returns-in_default
 returns-in_default g c =
-    let filled = rw c.in_default.is at c.in_ok-head.ensures in
+    let filled = rw c.in_default.is at c.in_ok-head.ensures.fills in
     record {
       left = g.R.Read.remaining c.loop-copied.reader;
       mid = g.W.Write.contents c.loop-copied.writer;
@@ -66,7 +66,7 @@ returns-in_default g c =
 
 pub returns-in_err-put_held : goal.returns-in_err-put_held
 returns-in_err-put_held g c =
-    let filled = rw c.in-Some.is at c.in_ok-head.ensures in
+    let filled = rw c.in-Some.is at c.in_ok-head.ensures.fills in
     let wrote = c.in_err-put_held.ensures.out in
     let p = err_from_is_err_and c.from_residual-in_err-put_held.result c.from_residual-in_err-put_held.ensures.1 in
     let part = torn_write _ _ _ _ wrote.2 in
@@ -87,12 +87,12 @@ returns-in_err-put_held g c =
 
 pub loop-copied-preserved : goal.loop-copied-preserved
 loop-copied-preserved g c =
-    let filled = rw c.in-Some.is at c.in_ok-head.ensures in
+    let filled = rw c.in-Some.is at c.in_ok-head.ensures.fills in
     let wrote = c.in_ok-put_held.ensures.out in
     record {
       so_far = copying_more _ _ _ _ _ _ _ _ _ wrote.0 c.loop-copied.invariant.so_far
           (held_bytes c.fill_item.new.held, (reader_whole packet_limit c.args.header.now _ [] wrote.0 (rw c.as_slice.ensures at wrote.1)).1, filled.4) wrote.2;
-      between = c.clear.ensures;
+      between = c.clear.ensures.held;
       within = omega (arith, c.loop-copied-test.true);
       read = filled.0;
       wrote = c.in_ok-put_held.ensures.told ∙ c.loop-copied.invariant.wrote;
