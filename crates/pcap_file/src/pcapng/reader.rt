@@ -1,6 +1,6 @@
 //! A reader of the blocks of a stream.
 
-ghost use Rattle.std.specs.Prelude.{◌≡◌, ⊤, false, [], OnOk, map};
+ghost use Rattle.std.specs.Prelude.{◌≡◌, ⊤, false, [], OnOk, map, option_map, slice_get};
 ghost use Rattle.pcap_core.specs.declared.common.Endianness.TheVariants.{Big};
 ghost use Rattle.pcap_core.specs.Errors.{IsIo};
 ghost use Rattle.pcap_core.specs.Fill.{held_of, stream_of as source_of, has_failed as source_failed};
@@ -16,7 +16,7 @@ ghost use Rattle.pcap_file.specs.State.{state_in, StaysUnless};
 use crate::pcapng::block::Block;
 use crate::pcapng::framing::{FrameHead, FramesIn};
 use crate::pcapng::state::InForce;
-use pcap_blocks::{InterfaceDescriptionBlock, SectionHeaderBlock};
+use pcap_blocks::{EnhancedPacketBlock, InterfaceDescriptionBlock, SectionHeaderBlock};
 use pcap_core::stream::{Fill, Told};
 use pcap_core::{Endianness, PcapError, ResultParsing};
 use std::alloc::Global;
@@ -138,6 +138,16 @@ impl<T> PcapNgReader<T> {
         ensures { map interface_of result.now ≡ interfaces_in_force self.now }
     {
         self.in_force.interfaces()
+    }
+
+    /// The interface that a packet came by: that of its number among those of the section in force. None past their end.
+    pub fn packet_interface(
+        &self,
+        packet: &EnhancedPacketBlock,
+    ) -> Option<&InterfaceDescriptionBlock<'static>>
+        ensures { option_map (λ interface. interface_of interface.now) result ≡ slice_get (interfaces_in_force self.now) packet.now.interface_id }
+    {
+        self.in_force.interface(packet.interface_id)
     }
 
     /// The wrapped stream.
