@@ -5,7 +5,8 @@ ghost use Rattle.pcap_core.specs.Answer.{TellsWhere};
 ghost use Rattle.pcap_core.specs.Bytes.{IsBorrowed};
 ghost use Rattle.pcap_blocks.specs.InterfaceDescription.{interface_of};
 ghost use Rattle.pcap_blocks.specs.SectionHeader.{section_of};
-ghost use Rattle.pcap_file.specs.Blocks.{item_of, BlockSays, OpeningSays, MayGrow};
+ghost use Rattle.pcap_file.specs.Blocks.{item_of, BlockSays, MayGrow};
+ghost use Rattle.pcap_file.specs.Opening.{OpeningSays};
 ghost use Rattle.pcap_file.specs.Parser.{state_of, section_in_force, interfaces_in_force};
 ghost use Rattle.pcap_file.specs.State.{opening};
 
