@@ -14,12 +14,13 @@ use Rattle.pcap_core.proofs.Formats.{fault_some}
 use Rattle.pcap_core.proofs.Pulling.{asked_cause}
 use Rattle.pcap_core.specs.Early.{EarlyFault}
 use Rattle.pcap_core.specs.Faults.{Fault, Shows}
-use Rattle.pcap_core.specs.Reading.{IsShort, IsTorn, IsFaultOf, HasCause, read_failed, no_memory, torn, refused, TakesAsked, ReadsWhere}
+use Rattle.pcap_core.specs.Reading.{IsShort, IsTorn, IsFaultOf, HasCause, read_failed, no_memory, torn, refused, TakesAsked}
 use Rattle.pcap_core.proofs.Refusals.{shows_more}
 use Rattle.pcap_file.specs.declared.pcapng.state.InForce.{InForce}
 use Rattle.pcap_file.specs.Frames.{Framed, FrameSays, frame_format}
 use Rattle.pcap_file.specs.State.{State, opening, order_at, Means, CanGrow, OpensTells}
-use Rattle.pcap_file.specs.Blocks.{BlockSays, OpeningSays, OpensHeld, block_format}
+use Rattle.pcap_file.specs.Blocks.{BlockSays, block_format}
+use Rattle.pcap_file.specs.Opening.{OpeningSays, OpensHeld, RefusesOpening}
 use Rattle.pcap_file.proofs.HeadedFrames.{frames_lawful}
 use Rattle.pcap_file.proofs.BlockFormat.{blocks_lawful}
 use Rattle.pcap_file.proofs.Refusing.{refuses_wider, shows_refuses}
@@ -111,12 +112,12 @@ opening_fault None f x = record { bytes = x.bytes; stands = x.stands; some = x.s
 opening_fault (Some s) f x = record { bytes = x.bytes; stands = x.stands; some = x.some; shown = elim x.shown [ inl stands ↦ inl stands | inr early ↦ inr (record { n = early.n; lack = early.lack; certain = early.certain }) ] }
 
 -- why a reader was not made
-pub opening_refused : {X : Type 0} (view : X → State) (before after : Option (List ℕ)) (failed : Bool) (e : PcapError) → HasCause (block_format.says opening) before failed e → ReadsWhere ⊤ OpeningSays view before after (Err e)
+pub opening_refused : (before : Option (List ℕ)) (failed : Bool) (e : PcapError) → HasCause (block_format.says opening) before failed e → RefusesOpening before e
 unfolding block_format
-opening_refused view before after failed e (read_failed io is) = inl io
-opening_refused view before after failed e (no_memory memory is) = inr (inl (tt, memory))
-opening_refused view before after failed e (torn io is rest) = inl io
-opening_refused view before after failed e (refused shown is) = inr (inr (shows_more (opening_fault before) e shown))
+opening_refused before failed e (read_failed io is) = inl io
+opening_refused before failed e (no_memory memory is) = inr (inl memory)
+opening_refused before failed e (torn io is rest) = inl io
+opening_refused before failed e (refused shown is) = inr (inr (shows_more (opening_fault before) e shown))
 
 -- what is said of the first block, by the format of all blocks
 pub opening_says : (M : Type 0) (held : List ℕ) (e : PcapError) → Refuses M (λ n. ⊥) (λ f. OpeningSays held (faulty f)) e → Refuses M (λ n. ⊥) (λ f. block_format.says opening held (faulty f)) e

@@ -19,7 +19,7 @@ use Rattle.pcap_blocks.specs.declared.block.BlockType.{BlockType}
 use Rattle.pcap_blocks.specs.WholeBodies.{block_type}
 use Rattle.pcap_file.specs.Frames.{Framed, own_order, FrameHeadText, IsGoodLength, NoOrder, BreaksHead, no_order, unaligned, too_short, FrameTail, FrameText, LacksRest, FrameLacks, LengthsDiffer, FrameFault, in_head, unequal, FrameSays, frame_format}
 
--- a good head, and the four bytes behind its length
+-- a good head, and the four bytes after its length
 record Head : Type 0 where
   number : ℕ
   own : Endianness
@@ -268,7 +268,7 @@ framed_is : (b : Framed) (type : BlockType) (body : List ℕ) (trailer : ℕ) �
 unfolding make_framed
 framed_is b type body trailer x y z = let e : make_framed b.type_ b.initial_len b.body b.trailer_len b.endianness ≡ make_framed type b.initial_len body trailer b.endianness = rw (x, y, z) refl in e
 
--- body and length again, as bytes behind the first four
+-- body and length again, as bytes after the first four
 record Cut (third more body tail rest : List ℕ) : Type 0 where
   m : List ℕ
   text : more ≡ m ++ rest

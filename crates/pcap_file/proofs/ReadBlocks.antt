@@ -9,7 +9,8 @@ use Rattle.pcap_core.proofs.Taking.{run_reads}
 use Rattle.pcap_file.specs.declared.run.NgRead.{NgRead}
 use Rattle.pcap_file.specs.Frames.{framed_of}
 use Rattle.pcap_file.specs.State.{State, opening}
-use Rattle.pcap_file.specs.Blocks.{Item, BlockText, OpeningSays, block_format}
+use Rattle.pcap_file.specs.Blocks.{Item, BlockText, block_format}
+use Rattle.pcap_file.specs.Opening.{OpeningSays}
 use Rattle.pcap_file.specs.Reader.{state_of, stream_of, has_failed}
 use Rattle.pcap_file.specs.Reads.{TakesBlocks, TakesNg, ReadsNg}
 use Rattle.pcap_file.proofs.BlockFormat.{blocks_lawful}

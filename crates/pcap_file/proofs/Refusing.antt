@@ -9,7 +9,8 @@ use Rattle.pcap_core.specs.Faults.{Fault, Invalid, Io, NoText, Shows}
 use Rattle.pcap_core.specs.Headed.{bad}
 use Rattle.pcap_file.specs.Frames.{Framed, FrameText, FrameSays}
 use Rattle.pcap_file.specs.State.{State, opening, order_at, Means, CanGrow}
-use Rattle.pcap_file.specs.Blocks.{BlockSays, OpeningSays, MayGrow}
+use Rattle.pcap_file.specs.Blocks.{BlockSays, MayGrow}
+use Rattle.pcap_file.specs.Opening.{OpeningSays}
 
 pub memory_refuses : (M : Type 0) (L : ℕ → Type 0) (F : Fault → Type 0) (e : PcapError) → M → IsMemory e → Refuses M L F e
 memory_refuses M L F (errors.OutOfMemory a) m is = m

@@ -2,6 +2,7 @@ pub mod Frames
 pub mod Bodies
 pub mod State
 pub mod Blocks
+pub mod Opening
 pub mod Parser
 pub mod Front
 pub mod Run
