@@ -180,8 +180,8 @@ impl PcapHeader {
         }
     }
 
-    // The 24 bytes of the header, the magic number high byte first.
-    pub(crate) fn to_bytes<B: ByteOrder>(&self) -> [u8; 24]
+    /// The 24 bytes that `write_to` writes.
+    pub fn to_bytes<B: ByteOrder>(&self) -> [u8; 24]
         ensures { result ≡ header_bytes B.bytes_of self.now }
     {
         let mut bytes = [0; 24];
