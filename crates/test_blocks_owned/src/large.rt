@@ -27,7 +27,10 @@ fn are(held: &CowBytes, bytes: &[u8], is_borrowed: bool) -> bool {
 // Whether this is one hash, of these bytes.
 fn is_hash(options: &[EnhancedPacketOption], bytes: &[u8], is_borrowed: bool) -> bool {
     match options {
-        [EnhancedPacketOption::Hash(hash)] => are(hash, bytes, is_borrowed),
+        [option] => match option {
+            EnhancedPacketOption::Hash(hash) => are(hash, bytes, is_borrowed),
+            _ => false,
+        },
         _ => false,
     }
 }
