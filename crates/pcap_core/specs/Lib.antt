@@ -12,7 +12,6 @@ pub mod Held
 pub mod Fill
 pub mod Streams
 pub mod Reading
-pub mod Asked
 pub mod Takes
 pub mod LentStreams
 pub mod Writing

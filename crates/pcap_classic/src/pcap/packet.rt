@@ -187,7 +187,7 @@ impl<'a> Packet<'a> {
         ensures owned { IfOk result (λ packet. IsOwned packet.data_) }
     {
         let header = PacketHeader::from_reader::<R, B>(reader, ts_resolution)?;
-        let bytes = take_bytes(alloc, reader, header.incl_len as usize)?;
+        let bytes = take_bytes(alloc, reader, &mut false, header.incl_len as usize)?;
         Ok(Packet {
             header,
             data_: CowBytes::Owned(bytes),

@@ -1,6 +1,6 @@
 use Rattle.std.proofs.Common.{◌≡◌, ◌≤◌, ◌-◌, length, take}
 use Rattle.std.specs.Io.KnownBytes.{Consumes}
-use Rattle.pcap_core.proofs.stream.fill.fill_array.Given as goal
+use Rattle.pcap_core.proofs.stream.reading.fill_array.Given as goal
 
 abbrev pub invariant-loop-at : goal.invariant-loop-at
 invariant-loop-at g l = record {

@@ -1,6 +1,6 @@
 use Rattle.std.proofs.Common.{arith}
 use Rattle.pcap_core.proofs.StreamBytes.{came_more}
-use Rattle.pcap_core.proofs.stream.fill.fill_array.Goals as goal
+use Rattle.pcap_core.proofs.stream.reading.fill_array.Goals as goal
 
 pub loop-at-preserved : goal.loop-at-preserved
 loop-at-preserved g c = record {

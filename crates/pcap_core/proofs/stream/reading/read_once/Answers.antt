@@ -1,7 +1,7 @@
 use Rattle.std.proofs.Common.{◌≡◌, ◌≤◌, ◌+◌, ◌∙◌, ap, take, length, arith, List, ℕ, sym, vec_len}
 use Rattle.pcap_core.specs.Held.{held_bytes}
 use Rattle.pcap_core.proofs.StreamBytes.{adds_lent}
-use Rattle.pcap_core.proofs.stream.fill.step_of.Goals as goal
+use Rattle.pcap_core.proofs.stream.reading.read_once.Goals as goal
 
 pub returns-in-Ok-clause-added : goal.returns-in-Ok-clause-added
 returns-in-Ok-clause-added g c =

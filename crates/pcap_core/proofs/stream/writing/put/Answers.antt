@@ -1,6 +1,6 @@
 use Rattle.std.proofs.lemmas.List.{take_rest}
 use Rattle.pcap_core.proofs.Writing.{writes_more}
-use Rattle.pcap_core.proofs.stream.told.put.Goals as goal
+use Rattle.pcap_core.proofs.stream.writing.put.Goals as goal
 
 pub loop-rest-preserved : goal.loop-rest-preserved
 loop-rest-preserved g c = record {

@@ -1,7 +1,7 @@
 use Rattle.std.proofs.Common.{◌<◌, ◌-◌, arith}
 use Rattle.std.proofs.lemmas.Result.{err_from_is_err_and}
 use Rattle.pcap_core.proofs.StreamBytes.{adds_more, adds_kept}
-use Rattle.pcap_core.proofs.stream.fill.more_of.Goals as goal
+use Rattle.pcap_core.proofs.stream.reading.read_exactly.Goals as goal
 
 pub returns-in_err-taken-clause-part : goal.returns-in_err-taken-clause-part
 returns-in_err-taken-clause-part g c =
