@@ -11,7 +11,7 @@ use crate::options::{
 };
 use crate::owned::{IntoStatic, each_into_static};
 use crate::refusal::Refusal;
-use crate::values::{fixed_value, some_value, text_value, u8_value, u32_value, u64_value};
+use crate::values::{fixed_value, some_value, string_value, u8_value, u32_value, u64_value};
 use byteorder::ByteOrder;
 use pcap_core::fields::{split_u16, split_u32};
 use pcap_core::rules::Rule;
@@ -33,10 +33,10 @@ pub struct InterfaceDescriptionBlock<'a> {
 }
 
 impl<'a> InterfaceDescriptionBlock<'a> {
-    /// The interface that a block's body is, and what follows its options. Texts and bytes are borrowed from the slice.
+    /// The interface that a block's body is, and what follows its options. Strings and bytes are borrowed from the slice.
     ///
     /// `InvalidField` under 8 bytes, then for the first fault of the options, or `Utf8Error` or `IoError` where that
-    /// is a text that isn't UTF-8 or a custom value under 4 bytes. `OutOfMemory` where the list of options can't grow.
+    /// is a string that isn't UTF-8 or a custom value under 4 bytes. `OutOfMemory` where the list of options can't grow.
     pub fn from_slice<B: ByteOrder>(
         alloc: Global,
         slice: &'a [u8],
@@ -70,7 +70,7 @@ impl<'a> InterfaceDescriptionBlock<'a> {
         Ok((rest, block))
     }
 
-    /// The same interface, with bytes and texts of its own: borrowed ones are copied, owned ones kept.
+    /// The same interface, with bytes and strings of its own: borrowed ones are copied, owned ones kept.
     ///
     /// `OutOfMemory` where a copy can't be made; the value is then dropped.
     pub fn into_owned(self, alloc: Global) -> ResultParsing<InterfaceDescriptionBlock<'static>>
@@ -118,7 +118,7 @@ pub enum InterfaceDescriptionOption<'a> {
     IfHardware(CowStr<'a>),
     /// Bytes of an enterprise.
     CustomBinary(CustomBinaryOption<'a>),
-    /// A text of an enterprise.
+    /// A string of an enterprise.
     CustomUtf8(CustomUtf8Option<'a>),
     /// An option of another code.
     Unknown(UnknownOption<'a>),
@@ -133,9 +133,9 @@ impl<'a> PcapNgOption<'a> for InterfaceDescriptionOption<'a> {
 
     fn from_value<B: ByteOrder>(code: u16, len: u16, value: &'a [u8]) -> Result<Self, Refusal> {
         Ok(match code {
-            1 => Self::Comment(text_value(value)?),
-            2 => Self::IfName(text_value(value)?),
-            3 => Self::IfDescription(text_value(value)?),
+            1 => Self::Comment(string_value(value)?),
+            2 => Self::IfName(string_value(value)?),
+            3 => Self::IfDescription(string_value(value)?),
             4 => Self::IfIpv4Addr(fixed_value(value, 8, Rule::InterfaceIpv4Length)?),
             5 => Self::IfIpv6Addr(fixed_value(value, 17, Rule::InterfaceIpv6Length)?),
             6 => Self::IfMacAddr(fixed_value(value, 6, Rule::InterfaceMacLength)?),
@@ -144,10 +144,10 @@ impl<'a> PcapNgOption<'a> for InterfaceDescriptionOption<'a> {
             9 => Self::IfTsResol(u8_value(value, Rule::InterfaceResolutionLength)?),
             10 => Self::IfTzone(u32_value::<B>(value, Rule::InterfaceZoneLength)?),
             11 => Self::IfFilter(some_value(value, Rule::InterfaceFilterEmpty)?),
-            12 => Self::IfOs(text_value(value)?),
+            12 => Self::IfOs(string_value(value)?),
             13 => Self::IfFcsLen(u8_value(value, Rule::InterfaceFcsLength)?),
             14 => Self::IfTsOffset(u64_value::<B>(value, Rule::InterfaceOffsetLength)?),
-            15 => Self::IfHardware(text_value(value)?),
+            15 => Self::IfHardware(string_value(value)?),
             2988 | 19372 => Self::CustomUtf8(CustomUtf8Option::read::<B>(code, value)?),
             2989 | 19373 => Self::CustomBinary(CustomBinaryOption::read::<B>(code, value)?),
             _ => Self::Unknown(UnknownOption::new(code, len, value)),
@@ -156,7 +156,7 @@ impl<'a> PcapNgOption<'a> for InterfaceDescriptionOption<'a> {
 }
 
 impl<'a> InterfaceDescriptionOption<'a> {
-    /// The same option, with bytes and texts of its own: borrowed ones are copied, owned ones kept.
+    /// The same option, with bytes and strings of its own: borrowed ones are copied, owned ones kept.
     ///
     /// `OutOfMemory` where a copy can't be made; the value is then dropped.
     pub fn into_owned(self, alloc: Global) -> ResultParsing<InterfaceDescriptionOption<'static>>

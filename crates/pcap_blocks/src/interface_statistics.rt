@@ -12,7 +12,7 @@ use crate::options::{
 use crate::owned::{IntoStatic, each_into_static};
 use crate::refusal::Refusal;
 use crate::time::split_time;
-use crate::values::{first_number, first_time, text_value};
+use crate::values::{first_number, first_time, string_value};
 use byteorder::ByteOrder;
 use pcap_core::ResultParsing;
 use pcap_core::fields::split_u32;
@@ -32,9 +32,9 @@ pub struct InterfaceStatisticsBlock<'a> {
 }
 
 impl<'a> InterfaceStatisticsBlock<'a> {
-    /// The statistics that a block's body is, and what follows their options. Texts and bytes are borrowed from the slice.
+    /// The statistics that a block's body is, and what follows their options. Strings and bytes are borrowed from the slice.
     ///
-    /// `InvalidField` under 12 bytes, then for the first fault of the options, or `Utf8Error` where that is a text that
+    /// `InvalidField` under 12 bytes, then for the first fault of the options, or `Utf8Error` where that is a string that
     /// isn't UTF-8, or `IoError` where a number or time is under 8 bytes or a custom value under 4.
     /// `OutOfMemory` where the list of options can't grow.
     pub fn from_slice<B: ByteOrder>(
@@ -68,7 +68,7 @@ impl<'a> InterfaceStatisticsBlock<'a> {
         Ok((rest, block))
     }
 
-    /// The same statistics, with bytes and texts of its own: borrowed ones are copied, owned ones kept.
+    /// The same statistics, with bytes and strings of its own: borrowed ones are copied, owned ones kept.
     ///
     /// `OutOfMemory` where a copy can't be made; the value is then dropped.
     pub fn into_owned(self, alloc: Global) -> ResultParsing<InterfaceStatisticsBlock<'static>>
@@ -102,7 +102,7 @@ pub enum InterfaceStatisticsOption<'a> {
     IsbUsrDeliv(u64),
     /// Bytes of an enterprise.
     CustomBinary(CustomBinaryOption<'a>),
-    /// A text of an enterprise.
+    /// A string of an enterprise.
     CustomUtf8(CustomUtf8Option<'a>),
     /// An option of another code.
     Unknown(UnknownOption<'a>),
@@ -117,7 +117,7 @@ impl<'a> PcapNgOption<'a> for InterfaceStatisticsOption<'a> {
 
     fn from_value<B: ByteOrder>(code: u16, len: u16, value: &'a [u8]) -> Result<Self, Refusal> {
         Ok(match code {
-            1 => Self::Comment(text_value(value)?),
+            1 => Self::Comment(string_value(value)?),
             2 => Self::IsbStartTime(first_time::<B>(value)?),
             3 => Self::IsbEndTime(first_time::<B>(value)?),
             4 => Self::IsbIfRecv(first_number::<B>(value)?),
@@ -133,7 +133,7 @@ impl<'a> PcapNgOption<'a> for InterfaceStatisticsOption<'a> {
 }
 
 impl<'a> InterfaceStatisticsOption<'a> {
-    /// The same option, with bytes and texts of its own: borrowed ones are copied, owned ones kept.
+    /// The same option, with bytes and strings of its own: borrowed ones are copied, owned ones kept.
     ///
     /// `OutOfMemory` where a copy can't be made; the value is then dropped.
     pub fn into_owned(self, alloc: Global) -> ResultParsing<InterfaceStatisticsOption<'static>>

@@ -13,7 +13,7 @@ use crate::options::{
 use crate::owned::{IntoStatic, each_into_static};
 use crate::record::Record;
 use crate::refusal::Refusal;
-use crate::values::{fixed_value, text_value};
+use crate::values::{fixed_value, string_value};
 use byteorder::ByteOrder;
 use pcap_core::rules::Rule;
 use pcap_core::{CowBytes, ResultParsing};
@@ -30,11 +30,11 @@ pub struct NameResolutionBlock<'a> {
 }
 
 impl<'a> NameResolutionBlock<'a> {
-    /// The names that a block's body is, and what follows its options. Texts and bytes are borrowed from the slice.
+    /// The names that a block's body is, and what follows its options. Strings and bytes are borrowed from the slice.
     ///
     /// The fault of the first record that has one, as `Record::from_slice` gives it: so `IoError` where the slice ends
     /// and no record has ended the others. Then `InvalidField` for the first fault of the options, or `Utf8Error` or
-    /// `IoError` where that is a text that isn't UTF-8 or a custom value under 4 bytes. `OutOfMemory` where a list
+    /// `IoError` where that is a string that isn't UTF-8 or a custom value under 4 bytes. `OutOfMemory` where a list
     /// can't grow.
     pub fn from_slice<B: ByteOrder>(
         alloc: Global,
@@ -58,7 +58,7 @@ impl<'a> NameResolutionBlock<'a> {
         Ok((rest, NameResolutionBlock { records, options }))
     }
 
-    /// The same block, with bytes and texts of its own: borrowed ones are copied, owned ones kept.
+    /// The same block, with bytes and strings of its own: borrowed ones are copied, owned ones kept.
     ///
     /// `OutOfMemory` where a copy can't be made; the value is then dropped.
     pub fn into_owned(self, alloc: Global) -> ResultParsing<NameResolutionBlock<'static>>
@@ -104,7 +104,7 @@ pub enum NameResolutionOption<'a> {
     NsDnsIpv6Addr(CowBytes<'a>),
     /// Bytes of an enterprise.
     CustomBinary(CustomBinaryOption<'a>),
-    /// A text of an enterprise.
+    /// A string of an enterprise.
     CustomUtf8(CustomUtf8Option<'a>),
     /// An option of another code.
     Unknown(UnknownOption<'a>),
@@ -119,8 +119,8 @@ impl<'a> PcapNgOption<'a> for NameResolutionOption<'a> {
 
     fn from_value<B: ByteOrder>(code: u16, len: u16, value: &'a [u8]) -> Result<Self, Refusal> {
         Ok(match code {
-            1 => Self::Comment(text_value(value)?),
-            2 => Self::NsDnsName(text_value(value)?),
+            1 => Self::Comment(string_value(value)?),
+            2 => Self::NsDnsName(string_value(value)?),
             3 => Self::NsDnsIpv4Addr(fixed_value(value, 4, Rule::NameIpv4Length)?),
             4 => Self::NsDnsIpv6Addr(fixed_value(value, 16, Rule::NameIpv6Length)?),
             2988 | 19372 => Self::CustomUtf8(CustomUtf8Option::read::<B>(code, value)?),
@@ -131,7 +131,7 @@ impl<'a> PcapNgOption<'a> for NameResolutionOption<'a> {
 }
 
 impl<'a> NameResolutionOption<'a> {
-    /// The same option, with bytes and texts of its own: borrowed ones are copied, owned ones kept.
+    /// The same option, with bytes and strings of its own: borrowed ones are copied, owned ones kept.
     ///
     /// `OutOfMemory` where a copy can't be made; the value is then dropped.
     pub fn into_owned(self, alloc: Global) -> ResultParsing<NameResolutionOption<'static>>

@@ -13,7 +13,7 @@ use crate::options::{
 use crate::owned::{IntoStatic, each_into_static};
 use crate::refusal::Refusal;
 use crate::stored_packet::stored_from_slice;
-use crate::values::{text_value, u32_value};
+use crate::values::{string_value, u32_value};
 use byteorder::ByteOrder;
 use pcap_core::fields::split_u16;
 use pcap_core::rules::Rule;
@@ -41,10 +41,10 @@ pub struct PacketBlock<'a> {
 }
 
 impl<'a> PacketBlock<'a> {
-    /// The packet that a block's body is, and what follows its options. Texts and bytes are borrowed from the slice.
+    /// The packet that a block's body is, and what follows its options. Strings and bytes are borrowed from the slice.
     ///
     /// `InvalidField` under 20 bytes, then where the data and its padding pass the slice, then for the first fault of
-    /// the options, or `Utf8Error` or `IoError` where that is a text that isn't UTF-8 or a custom value under 4 bytes.
+    /// the options, or `Utf8Error` or `IoError` where that is a string that isn't UTF-8 or a custom value under 4 bytes.
     /// `OutOfMemory` where the list of options can't grow.
     pub fn from_slice<B: ByteOrder>(
         alloc: Global,
@@ -81,7 +81,7 @@ impl<'a> PacketBlock<'a> {
         Ok((rest, block))
     }
 
-    /// The same packet, with bytes and texts of its own: borrowed ones are copied, owned ones kept.
+    /// The same packet, with bytes and strings of its own: borrowed ones are copied, owned ones kept.
     ///
     /// `OutOfMemory` where a copy can't be made; the value is then dropped.
     pub fn into_owned(self, alloc: Global) -> ResultParsing<PacketBlock<'static>>
@@ -105,7 +105,7 @@ pub enum PacketOption<'a> {
     Hash(CowBytes<'a>),
     /// Bytes of an enterprise.
     CustomBinary(CustomBinaryOption<'a>),
-    /// A text of an enterprise.
+    /// A string of an enterprise.
     CustomUtf8(CustomUtf8Option<'a>),
     /// An option of another code.
     Unknown(UnknownOption<'a>),
@@ -114,7 +114,7 @@ pub enum PacketOption<'a> {
 impl<'a> PacketOption<'a> {
     /// The list of options at the front of a slice, and what follows it.
     ///
-    /// `InvalidField` for the first fault of the list, or `Utf8Error` or `IoError` where that is a text that isn't
+    /// `InvalidField` for the first fault of the list, or `Utf8Error` or `IoError` where that is a string that isn't
     /// UTF-8 or a custom value under 4 bytes. `OutOfMemory` where the list can't grow.
     pub fn from_slice<B: ByteOrder>(
         alloc: Global,
@@ -126,7 +126,7 @@ impl<'a> PacketOption<'a> {
         Ok(options_from_slice::<PacketOption, B>(alloc, slice)?)
     }
 
-    /// The same option, with bytes and texts of its own: borrowed ones are copied, owned ones kept.
+    /// The same option, with bytes and strings of its own: borrowed ones are copied, owned ones kept.
     ///
     /// `OutOfMemory` where a copy can't be made; the value is then dropped.
     pub fn into_owned(self, alloc: Global) -> ResultParsing<PacketOption<'static>>
@@ -148,7 +148,7 @@ impl<'a> PcapNgOption<'a> for PacketOption<'a> {
 
     fn from_value<B: ByteOrder>(code: u16, len: u16, value: &'a [u8]) -> Result<Self, Refusal> {
         Ok(match code {
-            1 => Self::Comment(text_value(value)?),
+            1 => Self::Comment(string_value(value)?),
             2 => Self::Flags(u32_value::<B>(value, Rule::PacketFlagsLength)?),
             3 => Self::Hash(CowBytes::Borrowed(value)),
             2988 | 19372 => Self::CustomUtf8(CustomUtf8Option::read::<B>(code, value)?),

@@ -38,7 +38,7 @@ pub enum ParsedBlock<'a> {
 }
 
 impl<'a> ParsedBlock<'a> {
-    /// The body of a block of this type, and what follows it. Texts and bytes are borrowed from the slice.
+    /// The body of a block of this type, and what follows it. Strings and bytes are borrowed from the slice.
     ///
     /// A section's numbers have the order that its own magic number names, whatever `B` is. Of an unknown type the
     /// whole slice is the value and is left as well: `InvalidField` where it has 2^32 bytes or more. The errors of
@@ -127,7 +127,7 @@ impl<'a> ParsedBlock<'a> {
         }
     }
 
-    /// The same block, with bytes and texts of its own: borrowed ones are copied, owned ones kept.
+    /// The same block, with bytes and strings of its own: borrowed ones are copied, owned ones kept.
     ///
     /// `OutOfMemory` where a copy can't be made; the value is then dropped.
     pub fn into_owned(self, alloc: Global) -> ResultParsing<ParsedBlock<'static>>

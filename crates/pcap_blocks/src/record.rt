@@ -46,7 +46,7 @@ impl<'a> Ipv4Record<'a> {
         Ok(Ipv4Record { ip_addr, names })
     }
 
-    /// The same record, with bytes and texts of its own: borrowed ones are copied, owned ones kept.
+    /// The same record, with bytes and strings of its own: borrowed ones are copied, owned ones kept.
     ///
     /// `OutOfMemory` where a copy can't be made; the value is then dropped.
     pub fn into_owned(self, alloc: Global) -> ResultParsing<Ipv4Record<'static>>
@@ -88,7 +88,7 @@ impl<'a> Ipv6Record<'a> {
         Ok(Ipv6Record { ip_addr, names })
     }
 
-    /// The same record, with bytes and texts of its own: borrowed ones are copied, owned ones kept.
+    /// The same record, with bytes and strings of its own: borrowed ones are copied, owned ones kept.
     ///
     /// `OutOfMemory` where a copy can't be made; the value is then dropped.
     pub fn into_owned(self, alloc: Global) -> ResultParsing<Ipv6Record<'static>>
@@ -144,7 +144,7 @@ pub enum Record<'a> {
 }
 
 impl<'a> Record<'a> {
-    /// The record at the front of a slice, and what follows its padding. Texts and bytes are borrowed from the slice.
+    /// The record at the front of a slice, and what follows its padding. Strings and bytes are borrowed from the slice.
     ///
     /// `IoError` under 4 bytes. `InvalidField` where its value passes the slice, then where its length doesn't fit its
     /// type, then where a name has no zero byte behind it, or `Utf8Error` where one isn't UTF-8; last `InvalidField`
@@ -206,7 +206,7 @@ impl<'a> Record<'a> {
         }
     }
 
-    /// The same record, with bytes and texts of its own: borrowed ones are copied, owned ones kept.
+    /// The same record, with bytes and strings of its own: borrowed ones are copied, owned ones kept.
     ///
     /// `OutOfMemory` where a copy can't be made; the value is then dropped.
     pub fn into_owned(self, alloc: Global) -> ResultParsing<Record<'static>>
@@ -256,7 +256,7 @@ impl<'a> IntoStatic for Ipv6Record<'a> {
 }
 
 impl<'a> UnknownRecord<'a> {
-    /// The same record, with bytes and texts of its own: borrowed ones are copied, owned ones kept.
+    /// The same record, with bytes and strings of its own: borrowed ones are copied, owned ones kept.
     ///
     /// `OutOfMemory` where a copy can't be made; the value is then dropped.
     pub fn into_owned(self, alloc: Global) -> ResultParsing<UnknownRecord<'static>>

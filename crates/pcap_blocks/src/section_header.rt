@@ -11,7 +11,7 @@ use crate::options::{
 };
 use crate::owned::{IntoStatic, each_into_static};
 use crate::refusal::Refusal;
-use crate::values::text_value;
+use crate::values::string_value;
 use byteorder::{BigEndian, ByteOrder, LittleEndian};
 use pcap_core::fields::{split_u16, split_u32, split_u64};
 use pcap_core::rules::Rule;
@@ -35,10 +35,10 @@ pub struct SectionHeaderBlock<'a> {
 }
 
 impl<'a> SectionHeaderBlock<'a> {
-    /// The section that a block's body is, and what follows its options. Texts and bytes are borrowed from the slice.
+    /// The section that a block's body is, and what follows its options. Strings and bytes are borrowed from the slice.
     ///
     /// `InvalidField` under 16 bytes, then where the magic number is neither of the two, then for the first fault of
-    /// the options, or `Utf8Error` or `IoError` where that is a text that isn't UTF-8 or a custom value under 4 bytes.
+    /// the options, or `Utf8Error` or `IoError` where that is a string that isn't UTF-8 or a custom value under 4 bytes.
     /// `OutOfMemory` where the list of options can't grow.
     pub fn from_slice(alloc: Global, slice: &'a [u8]) -> ResultParsing<(&'a [u8], Self)>
         ensures tells { TellsWhere (SectionMayGrow slice.now) (SectionSays slice.now) section_of result }
@@ -107,7 +107,7 @@ impl<'a> SectionHeaderBlock<'a> {
         }
     }
 
-    /// The same section, with bytes and texts of its own: borrowed ones are copied, owned ones kept.
+    /// The same section, with bytes and strings of its own: borrowed ones are copied, owned ones kept.
     ///
     /// `OutOfMemory` where a copy can't be made; the value is then dropped.
     pub fn into_owned(self, alloc: Global) -> ResultParsing<SectionHeaderBlock<'static>>
@@ -133,7 +133,7 @@ pub enum SectionHeaderOption<'a> {
     UserApplication(CowStr<'a>),
     /// Bytes of an enterprise.
     CustomBinary(CustomBinaryOption<'a>),
-    /// A text of an enterprise.
+    /// A string of an enterprise.
     CustomUtf8(CustomUtf8Option<'a>),
     /// An option of another code.
     Unknown(UnknownOption<'a>),
@@ -148,10 +148,10 @@ impl<'a> PcapNgOption<'a> for SectionHeaderOption<'a> {
 
     fn from_value<B: ByteOrder>(code: u16, len: u16, value: &'a [u8]) -> Result<Self, Refusal> {
         Ok(match code {
-            1 => Self::Comment(text_value(value)?),
-            2 => Self::Hardware(text_value(value)?),
-            3 => Self::OS(text_value(value)?),
-            4 => Self::UserApplication(text_value(value)?),
+            1 => Self::Comment(string_value(value)?),
+            2 => Self::Hardware(string_value(value)?),
+            3 => Self::OS(string_value(value)?),
+            4 => Self::UserApplication(string_value(value)?),
             2988 | 19372 => Self::CustomUtf8(CustomUtf8Option::read::<B>(code, value)?),
             2989 | 19373 => Self::CustomBinary(CustomBinaryOption::read::<B>(code, value)?),
             _ => Self::Unknown(UnknownOption::new(code, len, value)),
@@ -160,7 +160,7 @@ impl<'a> PcapNgOption<'a> for SectionHeaderOption<'a> {
 }
 
 impl<'a> SectionHeaderOption<'a> {
-    /// The same option, with bytes and texts of its own: borrowed ones are copied, owned ones kept.
+    /// The same option, with bytes and strings of its own: borrowed ones are copied, owned ones kept.
     ///
     /// `OutOfMemory` where a copy can't be made; the value is then dropped.
     pub fn into_owned(self, alloc: Global) -> ResultParsing<SectionHeaderOption<'static>>

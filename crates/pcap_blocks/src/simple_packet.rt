@@ -49,7 +49,7 @@ impl<'a> SimplePacketBlock<'a> {
         Ok((&slice[slice.len()..], block))
     }
 
-    /// The same packet, with bytes and texts of its own: borrowed ones are copied, owned ones kept.
+    /// The same packet, with bytes and strings of its own: borrowed ones are copied, owned ones kept.
     ///
     /// `OutOfMemory` where a copy can't be made; the value is then dropped.
     pub fn into_owned(self, alloc: Global) -> ResultParsing<SimplePacketBlock<'static>>

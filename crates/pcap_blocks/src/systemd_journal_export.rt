@@ -36,7 +36,7 @@ impl<'a> SystemdJournalExportBlock<'a> {
         (&slice[slice.len()..], block)
     }
 
-    /// The same entry, with bytes and texts of its own: borrowed ones are copied, owned ones kept.
+    /// The same entry, with bytes and strings of its own: borrowed ones are copied, owned ones kept.
     ///
     /// `OutOfMemory` where a copy can't be made; the value is then dropped.
     pub fn into_owned(self, alloc: Global) -> ResultParsing<SystemdJournalExportBlock<'static>>

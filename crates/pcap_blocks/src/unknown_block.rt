@@ -33,7 +33,7 @@ impl<'a> UnknownBlock<'a> {
         }
     }
 
-    /// The same block, with bytes and texts of its own: borrowed ones are copied, owned ones kept.
+    /// The same block, with bytes and strings of its own: borrowed ones are copied, owned ones kept.
     ///
     /// `OutOfMemory` where a copy can't be made; the value is then dropped.
     pub fn into_owned(self, alloc: Global) -> ResultParsing<UnknownBlock<'static>>
