@@ -1,17 +1,15 @@
 -- The body of an interface description ('Interface Description Block').
 use Rattle.std.specs.Prelude.{◌≡◌, ◌<◌, ℕ, List, [], ◌∷◌, length, map, All}
-use Rattle.std.specs.Cow.{cow_str_bytes, IsBorrowedStr, IsOwnedStr}
 use Rattle.pcap_core.specs.declared.link.DataLink.{DataLink}
 use Rattle.pcap_core.specs.declared.rules.Rule.TheVariants as rules
 use Rattle.pcap_core.specs.Answer.{Order, Number, Verdict, Says}
-use Rattle.pcap_core.specs.Bytes.{cow_bytes, IsBorrowed, IsOwned}
 use Rattle.pcap_core.specs.Faults.{Fault, Invalid}
 use Rattle.pcap_core.specs.Link.{Link}
 use Rattle.pcap_blocks.specs.declared.interface_description.InterfaceDescriptionBlock.{InterfaceDescriptionBlock}
 use Rattle.pcap_blocks.specs.declared.interface_description.InterfaceDescriptionOption.{InterfaceDescriptionOption}
 use Rattle.pcap_blocks.specs.declared.interface_description.InterfaceDescriptionOption.TheVariants as option_of
 use Rattle.pcap_core.specs.Padded.{Behind}
-use Rattle.pcap_blocks.specs.Values.{Entry, Str, Bytes, Integer, Kind, string, some_bytes, fixed_bytes, byte, number, custom}
+use Rattle.pcap_blocks.specs.Values.{Entry, Kind, string, some_bytes, fixed_bytes, byte, number, custom}
 use Rattle.pcap_blocks.specs.Growth.{HoldsAfter}
 use Rattle.pcap_blocks.specs.Options.{may_end_with_body, OptionList, ListFault, OptionsMayGrow}
 use Rattle.pcap_blocks.specs.CommonOptions.{Carried, carries_string, carries_bytes, carries_number, carries_custom_bytes, carries_custom_string, carries_unknown}

@@ -1,6 +1,5 @@
 -- The body of interface statistics ('Interface Statistics Block').
 use Rattle.std.specs.Prelude.{◌≡◌, ◌<◌, ℕ, List, [], ◌∷◌, length, map, All}
-use Rattle.std.specs.Cow.{cow_str_bytes, IsBorrowedStr, IsOwnedStr}
 use Rattle.pcap_core.specs.Answer.{Order, Number, Verdict, Says}
 use Rattle.pcap_core.specs.Faults.{Fault, Invalid}
 use Rattle.pcap_core.specs.declared.rules.Rule.TheVariants.{StatisticsTooShort}
@@ -8,7 +7,7 @@ use Rattle.pcap_blocks.specs.declared.interface_statistics.InterfaceStatisticsBl
 use Rattle.pcap_blocks.specs.declared.interface_statistics.InterfaceStatisticsOption.{InterfaceStatisticsOption}
 use Rattle.pcap_blocks.specs.declared.interface_statistics.InterfaceStatisticsOption.TheVariants as option_of
 use Rattle.pcap_core.specs.Padded.{Behind}
-use Rattle.pcap_blocks.specs.Values.{Entry, Str, Integer, Kind, string, first_number, first_time, custom}
+use Rattle.pcap_blocks.specs.Values.{Entry, Kind, string, first_number, first_time, custom}
 use Rattle.pcap_blocks.specs.Growth.{HoldsAfter}
 use Rattle.pcap_blocks.specs.Options.{may_end_with_body, OptionList, ListFault, OptionsMayGrow}
 use Rattle.pcap_blocks.specs.CommonOptions.{Carried, carries_string, carries_number, carries_custom_bytes, carries_custom_string, carries_unknown}

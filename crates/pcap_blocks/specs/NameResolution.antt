@@ -1,15 +1,13 @@
 -- The body of a name resolution block ('Name Resolution Block').
 use Rattle.std.specs.Prelude.{◌≡◌, ◌≢◌, ℕ, List, [], ◌∷◌, map, All}
-use Rattle.std.specs.Cow.{cow_str_bytes, IsBorrowedStr, IsOwnedStr}
 use Rattle.pcap_core.specs.Answer.{Order, Verdict, Says}
-use Rattle.pcap_core.specs.Bytes.{cow_bytes, IsBorrowed, IsOwned}
 use Rattle.pcap_core.specs.Faults.{Fault}
 use Rattle.pcap_core.specs.declared.rules.Rule.TheVariants.{NameIpv4Length, NameIpv6Length}
 use Rattle.pcap_blocks.specs.declared.name_resolution.NameResolutionBlock.{NameResolutionBlock}
 use Rattle.pcap_blocks.specs.declared.name_resolution.NameResolutionOption.{NameResolutionOption}
 use Rattle.pcap_blocks.specs.declared.name_resolution.NameResolutionOption.TheVariants as option_of
 use Rattle.pcap_core.specs.Padded.{Chain}
-use Rattle.pcap_blocks.specs.Values.{Entry, Str, Bytes, Kind, string, fixed_bytes, custom}
+use Rattle.pcap_blocks.specs.Values.{Entry, Kind, string, fixed_bytes, custom}
 use Rattle.pcap_blocks.specs.Growth.{BeginsWith}
 use Rattle.pcap_blocks.specs.Options.{may_end_with_body, OptionList, ListFault, OptionsMayGrow}
 use Rattle.pcap_blocks.specs.CommonOptions.{Carried, carries_string, carries_bytes, carries_custom_bytes, carries_custom_string, carries_unknown}
@@ -35,7 +33,7 @@ pub record RecordsText (order : Order) (records : List NameRecord) (s rest : Lis
   pub are : Chain (KeptText order) records s end
   pub ends : RecordText order End end rest
 
--- the fault of records: some good ones that are no end, and behind them the fault of what is left
+-- the fault of records: some good ones that are no end, and after them the fault of what is left
 pub record RecordsFault (order : Order) (s : List ℕ) (fault : Fault) : Type 0 where
   pub good : List NameRecord
   pub bad : List ℕ

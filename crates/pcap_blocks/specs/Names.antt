@@ -26,12 +26,12 @@ pub data NameFault (s : List ℕ) : Fault → Type 0 where
 abbrev pub NameSays : List ℕ → Verdict (List ℕ) → Type 0
 NameSays s = Says (λ name rest. NameText name s rest) (λ n. ⊥) (NameFault s)
 
--- s is these names, one behind the other, to its end
+-- s is these names, one after the other, to its end
 pub record NamesText (names : List (List ℕ)) (s rest : List ℕ) : Type 0 where
   pub are : Chain NameText names s []
   pub nothing_left : rest ≡ []
 
--- the fault of names: some good ones, and behind them the fault of what is left
+-- the fault of names: some good ones, and after them the fault of what is left
 pub record NamesFault (s : List ℕ) (fault : Fault) : Type 0 where
   pub good : List (List ℕ)
   pub bad : List ℕ

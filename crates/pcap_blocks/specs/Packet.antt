@@ -1,6 +1,5 @@
 -- The body of an obsolete packet block ('Packet Block').
 use Rattle.std.specs.Prelude.{◌≡◌, ◌<◌, ℕ, List, [], ◌∷◌, length, map, All}
-use Rattle.std.specs.Cow.{cow_str_bytes, IsBorrowedStr, IsOwnedStr}
 use Rattle.pcap_core.specs.Answer.{Order, Number, Verdict, Says}
 use Rattle.pcap_core.specs.Bytes.{cow_bytes, IsBorrowed, IsOwned}
 use Rattle.pcap_core.specs.Faults.{Fault, Invalid}
@@ -9,7 +8,7 @@ use Rattle.pcap_blocks.specs.declared.packet.PacketBlock.{PacketBlock}
 use Rattle.pcap_blocks.specs.declared.packet.PacketOption.{PacketOption}
 use Rattle.pcap_blocks.specs.declared.packet.PacketOption.TheVariants as option_of
 use Rattle.pcap_core.specs.Padded.{Behind}
-use Rattle.pcap_blocks.specs.Values.{Entry, Str, Bytes, Integer, Kind, string, bytes, number, custom}
+use Rattle.pcap_blocks.specs.Values.{Entry, Kind, string, bytes, number, custom}
 use Rattle.pcap_blocks.specs.CommonOptions.{Carried, carries_string, carries_bytes, carries_number, carries_custom_bytes, carries_custom_string, carries_unknown}
 use Rattle.pcap_blocks.specs.Growth.{HoldsAfter}
 use Rattle.pcap_blocks.specs.StoredPacket.{Stored, StoredText, StoredFault, StoredMayGrow}

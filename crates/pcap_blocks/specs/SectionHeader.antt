@@ -1,7 +1,6 @@
 -- The body of a section header ('Section Header Block').
 use Rattle.std.specs.Prelude.{◌≡◌, ◌≤◌, ◌<◌, ◌==◌, if◌then◌else◌, ℕ, ℤ, List, [], ◌∷◌, length, map, All, Option, Some, None}
 use Rattle.std.specs.Int.{w64, cast_signed}
-use Rattle.std.specs.Cow.{cow_str_bytes, IsBorrowedStr, IsOwnedStr}
 use Rattle.byteorder.specs.Endian.{big_number}
 use Rattle.pcap_core.specs.declared.common.Endianness.{Endianness}
 use Rattle.pcap_core.specs.declared.common.Endianness.TheVariants.{Big, Little}
@@ -12,7 +11,7 @@ use Rattle.pcap_blocks.specs.declared.section_header.SectionHeaderBlock.{Section
 use Rattle.pcap_blocks.specs.declared.section_header.SectionHeaderOption.{SectionHeaderOption}
 use Rattle.pcap_blocks.specs.declared.section_header.SectionHeaderOption.TheVariants as option_of
 use Rattle.pcap_core.specs.Padded.{Behind}
-use Rattle.pcap_blocks.specs.Values.{Entry, Str, Kind, string, custom}
+use Rattle.pcap_blocks.specs.Values.{Entry, Kind, string, custom}
 use Rattle.pcap_blocks.specs.Growth.{HoldsAfter}
 use Rattle.pcap_blocks.specs.Options.{may_end_with_body, OptionList, ListFault, OptionsMayGrow}
 use Rattle.pcap_blocks.specs.CommonOptions.{Carried, carries_string, carries_custom_bytes, carries_custom_string, carries_unknown}
@@ -74,7 +73,7 @@ pub data SectionFault (s : List ℕ) : Fault → Type 0 where
 abbrev pub SectionSays : List ℕ → Verdict Section → Type 0
 SectionSays s = Says (λ section rest. SectionText section s rest) (λ n. ⊥) (SectionFault s)
 
--- what is said of the bytes behind this magic number, in this order
+-- what is said of the bytes after this magic number, in this order
 abbrev pub AfterMagicSays : Order → ℕ → List ℕ → Verdict Section → Type 0
 AfterMagicSays order magic s = Says (λ section rest. (section.magic ≡ magic) × AfterMagic order section s rest) (λ n. ⊥) (AfterMagicFault order s)
 

@@ -37,7 +37,7 @@ fn name_from_slice(src: &[u8]) -> Result<(&[u8], &str), Refusal>
     Ok((rest, string))
 }
 
-/// What follows the first zero byte, and the string before it.
+/// What follows the first zero byte, and the string before it ('Name Resolution Block').
 ///
 /// `InvalidField` where there is no zero byte, and `Utf8Error` where the string isn't UTF-8.
 pub fn str_from_u8_null_terminated(src: &[u8]) -> ResultParsing<(&[u8], &str)>

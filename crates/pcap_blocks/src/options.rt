@@ -19,7 +19,7 @@ use pcap_core::{CowBytes, ResultParsing};
 use std::alloc::{AllocError, Global};
 use std::borrow::CowStr;
 
-/// An option whose code has no meaning in its kind of block.
+/// An option whose code has no meaning in its kind of block ('Options').
 #[derive(Clone, Debug, Drop)]
 pub struct UnknownOption<'a> {
     code: u16,
@@ -63,7 +63,7 @@ impl<'a> UnknownOption<'a> {
 
     /// The same option, with bytes and strings of its own: borrowed ones are copied, owned ones kept.
     ///
-    /// `OutOfMemory` where a copy can't be made; the value is then dropped.
+    /// `OutOfMemory` where an allocation failed; the value is then dropped.
     pub fn into_owned(self, alloc: Global) -> ResultParsing<UnknownOption<'static>>
         ensures same { IfOk result (λ kept. unknown_entry kept ≡ unknown_entry self.entry) }
         ensures owned { IfOk result UnknownIsOwned }
@@ -74,7 +74,7 @@ impl<'a> UnknownOption<'a> {
     }
 }
 
-/// An option of an enterprise, which holds bytes.
+/// An option of an enterprise, which holds bytes ('Custom Options', codes 2989 and 19373).
 #[derive(Clone, Debug, Drop)]
 pub struct CustomBinaryOption<'a> {
     code: u16,
@@ -115,14 +115,14 @@ impl<'a> CustomBinaryOption<'a> {
         self.code
     }
 
-    /// The number of the enterprise.
+    /// The number of the enterprise, as IANA gives them out.
     pub fn pen(&self) -> u32
         ensures { result ≡ integer_in (custom_bytes_entry self.now).value }
     {
         self.pen
     }
 
-    /// Its value, behind the number of the enterprise.
+    /// Its value, after the number of the enterprise.
     pub fn value(&self) -> &[u8]
         ensures { result.now ≡ value_bytes (custom_bytes_entry self.now).value }
     {
@@ -131,7 +131,7 @@ impl<'a> CustomBinaryOption<'a> {
 
     /// The same option, with bytes and strings of its own: borrowed ones are copied, owned ones kept.
     ///
-    /// `OutOfMemory` where a copy can't be made; the value is then dropped.
+    /// `OutOfMemory` where an allocation failed; the value is then dropped.
     pub fn into_owned(self, alloc: Global) -> ResultParsing<CustomBinaryOption<'static>>
         ensures same { IfOk result (λ kept. custom_bytes_entry kept ≡ custom_bytes_entry self.entry) }
         ensures owned { IfOk result CustomBytesIsOwned }
@@ -142,7 +142,7 @@ impl<'a> CustomBinaryOption<'a> {
     }
 }
 
-/// An option of an enterprise, which holds a string.
+/// An option of an enterprise, which holds a string ('Custom Options', codes 2988 and 19372).
 #[derive(Clone, Debug, Drop)]
 pub struct CustomUtf8Option<'a> {
     code: u16,
@@ -168,7 +168,7 @@ impl<'a> CustomUtf8Option<'a> {
 
     /// The option of this code whose value is all of a slice.
     ///
-    /// `IoError` under 4 bytes, and `Utf8Error` where the string behind them isn't UTF-8.
+    /// `IoError` under 4 bytes, and `Utf8Error` where the string after them isn't UTF-8.
     pub fn from_slice<B: ByteOrder>(code: u16, src: &'a [u8]) -> ResultParsing<Self>
         ensures tells { TellsAll (EntrySays B.number_of custom_string code src.now) custom_string_entry result }
         ensures borrowed { IfOk result CustomStringIsBorrowed }
@@ -183,14 +183,14 @@ impl<'a> CustomUtf8Option<'a> {
         self.code
     }
 
-    /// The number of the enterprise.
+    /// The number of the enterprise, as IANA gives them out.
     pub fn pen(&self) -> u32
         ensures { result ≡ integer_in (custom_string_entry self.now).value }
     {
         self.pen
     }
 
-    /// Its string, behind the number of the enterprise.
+    /// Its string, after the number of the enterprise.
     pub fn value(&self) -> &str
         ensures { result.now ≡ value_bytes (custom_string_entry self.now).value }
     {
@@ -199,7 +199,7 @@ impl<'a> CustomUtf8Option<'a> {
 
     /// The same option, with bytes and strings of its own: borrowed ones are copied, owned ones kept.
     ///
-    /// `OutOfMemory` where a copy can't be made; the value is then dropped.
+    /// `OutOfMemory` where an allocation failed; the value is then dropped.
     pub fn into_owned(self, alloc: Global) -> ResultParsing<CustomUtf8Option<'static>>
         ensures same { IfOk result (λ kept. custom_string_entry kept ≡ custom_string_entry self.entry) }
         ensures owned { IfOk result CustomStringIsOwned }
