@@ -51,3 +51,13 @@ refuses_shows L F (errors.IncompleteBuffer n) none refuses = absurd (none n refu
 refuses_shows L F (errors.FromUtf8Error e) none refuses = refuses
 refuses_shows L F (errors.OutOfMemory e) none refuses = refuses
 refuses_shows L F errors.WriterFailed none refuses = refuses
+
+-- an error that shows a fault shows one that stands
+pub shown_some : {P : Fault → Type 0} → (e : PcapError) → Shows P e → (fault : Fault) × P fault
+shown_some (errors.InvalidField text) shown = (Invalid shown.0, shown.2)
+shown_some (errors.IoError e) shown = (Io, shown)
+shown_some (errors.Utf8Error e) shown = (Utf8, shown)
+shown_some (errors.IncompleteBuffer n) shown = absurd shown
+shown_some (errors.FromUtf8Error e) shown = absurd shown
+shown_some (errors.OutOfMemory e) shown = absurd shown
+shown_some errors.WriterFailed shown = absurd shown

@@ -1,21 +1,16 @@
 //! Packets of a stream.
 
-ghost use Rattle.std.specs.Prelude.{◌≡◌, ◌<◌, ⊤, false, [], length, IsTrue, OnOk, IfOk, IfErr};
+ghost use Rattle.std.specs.Prelude.{◌≡◌, ◌≤◌, max, false, [], OnOk};
 ghost use Rattle.std.specs.Borrow.{sem, Lends};
-ghost use Rattle.pcap_core.specs.Answer.{whole};
-ghost use Rattle.pcap_core.specs.Asked.{FillsItem, HoldsItem};
-ghost use Rattle.pcap_core.specs.Held.{held_bytes};
-ghost use Rattle.pcap_classic.specs.HeaderText.{HeaderSays};
-ghost use Rattle.pcap_classic.specs.Magic.{is_magic};
+ghost use Rattle.pcap_core.specs.Held.{held_bytes, room_of};
 ghost use Rattle.pcap_classic.specs.Packets.{reader_format};
 ghost use Rattle.pcap_classic.specs.PacketText.{packet_limit, content_of};
 ghost use Rattle.pcap_core.specs.Reading.{NextGives, Pulls};
 
-use crate::pcap::packet::packet_under;
-use crate::pcap::stated::{PacketsUnder, packet_of};
+use crate::pcap::stated::PacketsUnder;
 use crate::pcap::{Packet, PcapHeader};
-use pcap_core::ResultParsing;
-use pcap_core::stream::{Held, fill_item};
+use pcap_core::stream::{Held, take_item};
+use pcap_core::{CowBytes, ResultParsing};
 use std::alloc::Global;
 use std::io::Read;
 
@@ -35,36 +30,11 @@ pub struct PcapReader<T> {
     is_done: bool,
     ghost between: { is_done ≡ false → held_bytes held ≡ [] },
     ghost unfailed: { is_done ≡ false → has_failed ≡ false },
-}
-
-// Fills what is held with the next packet. Nothing is held before it, nor where it answers false.
-pub(crate) fn fill_packet<T: Read>(
-    header: &PcapHeader,
-    stream: &mut T,
-    has_failed: &mut bool,
-    held: &mut Held,
-) -> ResultParsing<bool>
-    requires between { held_bytes held.old ≡ [] }
-    requires unfailed { has_failed.old ≡ false }
-    ensures { FillsItem ((reader_format packet_limit header.now).says tt) (T.remaining stream.old) (T.remaining stream.new) (held_bytes held.new) has_failed.new result }
-{
-    let head = fill_item(&PacketsUnder { header }, stream, has_failed, held)?;
-    Ok(head.is_some())
-}
-
-// The packet that the bytes are, lent from them.
-pub(crate) fn whole_packet<'a>(header: &PcapHeader, bytes: &'a [u8]) -> Packet<'a>
-    requires { HoldsItem ((reader_format packet_limit header.now).says tt bytes.now) }
-    ensures { (reader_format packet_limit header.now).says tt bytes.now (whole (content_of result) []) }
-{
-    match packet_under(header, bytes) {
-        Ok((_, packet)) => packet,
-        Err(_) => unreachable!(),
-    }
+    ghost room: { room_of held ≤ 16 },
 }
 
 // Takes the next packet. Nothing is held before it, nor after an `Ok`.
-pub(crate) fn pull<T: Read>(
+fn pull<T: Read>(
     alloc: Global,
     header: &PcapHeader,
     stream: &mut T,
@@ -75,20 +45,40 @@ pub(crate) fn pull<T: Read>(
     requires unfailed { has_failed.old ≡ false }
     ensures pulls { Pulls ((reader_format packet_limit header.now).says tt) content_of (T.remaining stream.old) (T.remaining stream.new) has_failed.new result }
     ensures between { OnOk result (held_bytes held.new ≡ []) }
+    ensures room { room_of held.new ≤ max (room_of held.old) 16 }
 {
-    let Some(head) = fill_item(&PacketsUnder { header }, stream, has_failed, held)? else {
+    let packets = PacketsUnder { header };
+    let Some((head, bytes)) = take_item(alloc, &packets, stream, has_failed, held)? else {
         return Ok(None);
     };
-    let packet = packet_of(header, head, held.as_slice()).to_owned(alloc)?;
-    held.clear();
-    Ok(Some(packet))
+    Ok(Some(Packet {
+        header: head,
+        data_: CowBytes::Owned(bytes),
+    }))
 }
 
 impl<T: Read + Drop> PcapReader<T> {
     ghost use Rattle.pcap_classic.specs.Reader.{stream_of, has_failed, is_done, OpensReader};
 
-    // A reader of the packets that stand behind this header.
-    pub(crate) fn behind(alloc: Global, header: PcapHeader, stream: T) -> PcapReader<T>
+    /// Reads the header of a capture off a stream, and makes a reader of the packets behind it. A refused call drops the
+    /// stream.
+    ///
+    /// `InvalidField` where the magic number is none of the four. `IoError` where a read failed, or the stream ended early.
+    pub fn new(alloc: Global, mut reader: T) -> ResultParsing<PcapReader<T>>
+        ensures { OpensReader T.remaining reader result }
+    {
+        let header = PcapHeader::from_reader(&mut reader)?;
+        Ok(PcapReader::with_header(alloc, header, reader))
+    }
+}
+
+impl<T> PcapReader<T> {
+    ghost use Rattle.pcap_classic.specs.contracts.pcap.reader.PcapReader.{the_row as reader-row};
+    ghost use Rattle.pcap_classic.specs.LentStreams.{reader_with};
+    ghost use Rattle.pcap_classic.specs.Reader.{stream_of, has_failed, is_done};
+
+    /// A reader of the packets of a stream whose header was read before: the stream stands after its 24 bytes.
+    pub fn with_header(alloc: Global, header: PcapHeader, stream: T) -> PcapReader<T>
         ensures header { result.header ≡ header }
         ensures stream { stream_of result ≡ stream }
         ensures unfailed { has_failed result ≡ false }
@@ -103,23 +93,6 @@ impl<T: Read + Drop> PcapReader<T> {
             is_done: false,
         }
     }
-
-    /// Reads the header of a capture off a stream, and makes a reader of the packets behind it. A refused call drops the
-    /// stream.
-    ///
-    /// `InvalidField` where the magic number is none of the four. `IoError` where a read failed, or the stream ended early.
-    pub fn new(alloc: Global, mut reader: T) -> ResultParsing<PcapReader<T>>
-        ensures { OpensReader T.remaining reader result }
-    {
-        let header = PcapHeader::from_reader(&mut reader)?;
-        Ok(PcapReader::behind(alloc, header, reader))
-    }
-}
-
-impl<T> PcapReader<T> {
-    ghost use Rattle.pcap_classic.specs.contracts.pcap.reader.PcapReader.{the_row as reader-row};
-    ghost use Rattle.pcap_classic.specs.LentStreams.{reader_with};
-    ghost use Rattle.pcap_classic.specs.Reader.{stream_of, has_failed, is_done};
 
     /// Gives the wrapped stream back.
     pub fn into_reader(self) -> T
