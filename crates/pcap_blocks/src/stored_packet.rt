@@ -1,4 +1,4 @@
-//! What both kinds of packet body hold behind their interface.
+//! What both kinds of packet body hold after their interface.
 
 ghost use Rattle.std.specs.Prelude.{◌≤◌, length, IfOk};
 ghost use Rattle.pcap_blocks.specs.Refusals.{FindsWhere};
