@@ -1,15 +1,15 @@
 //! Why a capture could not be read or written.
 
-ghost use Rattle.std.specs.Prelude.{◌≡◌, Some, alloc_error};
+ghost use Rattle.std.specs.Prelude.{◌≡◌, Some, IfSome, alloc_error};
 ghost use Rattle.pcap_core.specs.Errors.{error_message};
 ghost use Rattle.pcap_core.specs.Faults.{Names};
 ghost use Rattle.pcap_core.specs.declared.errors.PcapError.TheVariants as errors;
 
 use crate::rules::Rule;
 use std::alloc::{AllocError, AllocFailed};
-use std::{fmt, io};
 use std::str::Utf8Error;
 use std::string::FromUtf8Error;
+use std::{fmt, io};
 use thiserror::Error;
 
 /// A value, or why there is none.
@@ -45,6 +45,19 @@ impl fmt::Display for PcapError {
             PcapError::Utf8Error(_) | PcapError::FromUtf8Error(_) => f.write_str("UTF8 error"),
             PcapError::OutOfMemory(_) => f.write_str("Out of memory"),
             PcapError::WriterFailed => f.write_str("Writer failed earlier"),
+        }
+    }
+}
+
+impl PcapError {
+    /// The rule that the text of an `InvalidField` names. None for each other error.
+    pub fn rule(&self) -> Option<Rule>
+        ensures named { IfSome result (λ rule. Names rule self.now) }
+        ensures found { (rule : Rule) → Names rule self.now → result ≡ Some rule }
+    {
+        match self {
+            PcapError::InvalidField(text) => Rule::from_text(text),
+            _ => None,
         }
     }
 }

@@ -7,6 +7,7 @@ pub mod fields;
 mod link;
 mod rest;
 pub mod rules;
+pub mod run;
 pub mod stream;
 
 pub use common::{CowBytes, Endianness};

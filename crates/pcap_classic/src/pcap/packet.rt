@@ -152,8 +152,8 @@ impl PacketHeader {
         }
     }
 
-    // The 16 bytes of the header.
-    pub(crate) fn to_bytes<B: ByteOrder>(&self, ts_resolution: TsResolution) -> [u8; 16]
+    /// The 16 bytes that `write_to` writes.
+    pub fn to_bytes<B: ByteOrder>(&self, ts_resolution: TsResolution) -> [u8; 16]
         ensures { result ≡ packet_header_bytes B.bytes_of ts_resolution self.now }
     {
         let mut bytes = [0; 16];

@@ -5,6 +5,6 @@ use Rattle.pcap_classic.proofs.laws.header_is_asked_for_once.Goals as goal
 
 pub returns : goal.returns
 returns c = λ n s more ask count. (
-    λ m again. omega (arith, ask.missing, again.missing, again.some, count, length-append s more),
-    λ header rest text. nil_from_length rest (omega (arith, ask.missing, count, length-append s more, header_length header (s ++ more) rest text)),
+  λ m again. omega (arith, ask.missing, again.missing, again.some, count, length-append s more),
+  λ header rest text. nil_from_length rest (omega (arith, ask.missing, count, length-append s more, header_length header (s ++ more) rest text)),
 )
