@@ -56,7 +56,7 @@ refuses_shows L F errors.WriterFailed none refuses = refuses
 pub shown_some : {P : Fault → Type 0} → (e : PcapError) → Shows P e → (fault : Fault) × P fault
 shown_some (errors.InvalidField text) shown = (Invalid shown.0, shown.2)
 shown_some (errors.IoError e) shown = (Io, shown)
-shown_some (errors.Utf8Error e) shown = (NoText, shown)
+shown_some (errors.Utf8Error e) shown = (Utf8, shown)
 shown_some (errors.IncompleteBuffer n) shown = absurd shown
 shown_some (errors.FromUtf8Error e) shown = absurd shown
 shown_some (errors.OutOfMemory e) shown = absurd shown
