@@ -4,8 +4,8 @@ use Rattle.pcap_core.specs.declared.common.Endianness.{Endianness}
 use Rattle.pcap_core.specs.declared.common.Endianness.TheVariants.{Big}
 use Rattle.pcap_core.specs.declared.rules.Rule.TheVariants.{SectionMissing}
 use Rattle.pcap_core.specs.declared.errors.PcapError.{PcapError}
-use Rattle.pcap_core.specs.Answer.{Verdict, whole, faulty, Refuses}
-use Rattle.pcap_core.specs.Faults.{Fault, Invalid}
+use Rattle.pcap_core.specs.Answer.{whole, faulty, Refuses}
+use Rattle.pcap_core.specs.Faults.{Invalid}
 use Rattle.pcap_core.specs.Headed.{HeadReading, good, bad}
 use Rattle.pcap_blocks.specs.declared.block.BlockType.{BlockType}
 use Rattle.pcap_blocks.specs.declared.block.BlockType.TheVariants as types

@@ -87,13 +87,18 @@ impl InForce {
     {
         match block.type_ {
             BlockType::SectionHeader => {
-                let (_rest, section) =
-                    SectionHeaderBlock::from_slice(alloc, block.body.as_slice())?;
+                let (_rest, section) = SectionHeaderBlock::from_slice(
+                    alloc,
+                    block.body.as_slice(),
+                )?;
                 Ok(Kept::Section(section.into_owned(alloc)?))
             }
             BlockType::InterfaceDescription => {
-                let (_rest, interface) =
-                    interface_in(block.endianness(), alloc, block.body.as_slice())?;
+                let (_rest, interface) = interface_in(
+                    block.endianness(),
+                    alloc,
+                    block.body.as_slice(),
+                )?;
                 Ok(Kept::Interface(interface.into_owned(alloc)?))
             }
             _ => Ok(Kept::Nothing),

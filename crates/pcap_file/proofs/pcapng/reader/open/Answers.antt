@@ -3,7 +3,6 @@ use Rattle.std.specs.Prelude.{⊤}
 use Rattle.std.proofs.lemmas.Result.{err_from_is_err_and}
 use Rattle.pcap_core.specs.declared.common.Endianness.TheVariants.{Big}
 use Rattle.pcap_core.specs.Fill.{held_of, stream_of, has_failed}
-use Rattle.pcap_file.specs.Frames.{frame_format}
 use Rattle.pcap_file.specs.State.{opening, order_at}
 use Rattle.pcap_file.proofs.HeadedFrames.{frames_lawful}
 use Rattle.pcap_file.proofs.Refusing.{opening_order}
