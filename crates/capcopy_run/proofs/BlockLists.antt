@@ -1,11 +1,10 @@
 -- Blocks that are listed.
-use Rattle.std.proofs.Common.{◌≡◌, refl, ◌⊎◌, IfSome, ℕ, List, [], ◌∷◌, ◌++◌, Option, Result, Ok, Err, sym, subst, ◌∙◌}
-use Rattle.std.specs.Prelude.{⊤}
-use Rattle.std.specs.Io.KnownBytes.{Appends, Keeps}
+use Rattle.std.proofs.Common.{◌≡◌, refl, IfSome, ℕ, List, [], ◌++◌, Option, Result, Ok, Err, sym, subst, ◌∙◌}
+use Rattle.std.specs.Io.KnownBytes.{Appends}
 use Rattle.pcap_core.specs.Answer.{whole}
 use Rattle.pcap_core.specs.Reading.{Takes}
 use Rattle.pcap_blocks.specs.SectionHeader.{Section}
-use Rattle.pcap_file.specs.Blocks.{Item, BlockText, OpeningSays, block_format}
+use Rattle.pcap_file.specs.Blocks.{Item, OpeningSays, block_format}
 use Rattle.pcap_file.specs.State.{State, opening}
 use Rattle.pcap_file.proofs.BlockFormat.{blocks_lawful}
 use Rattle.capcopy_run.specs.declared.exit.Exit.{Exit}

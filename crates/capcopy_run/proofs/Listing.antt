@@ -142,7 +142,7 @@ module _ {O S V : Type 0} (kind : Kind O S V) (grows : kind.grows) (most : ℕ) 
 
 -- an opening whose line went out, and the run over the items after it
 module _ {O S V : Type 0} (kind : Kind O S V) (opening : O) (laws : IsLawful (kind.format opening)) (s rest : List ℕ) (opens : kind.opens s (whole opening rest))
-  (before start : Option (List ℕ)) (headed : Appends before start (kind.heading opening)) where
+    (before start : Option (List ℕ)) (headed : Appends before start (kind.heading opening)) where
   abbrev f : Format S V
   f = kind.format opening
 

@@ -1,5 +1,5 @@
 -- Packets that are listed.
-use Rattle.std.proofs.Common.{IfSome, ℕ, List, Option, Result}
+use Rattle.std.proofs.Common.{IfSome, ℕ, List, [], Option, Result}
 use Rattle.std.proofs.KnownBytes.{Appends-nil}
 use Rattle.pcap_classic.specs.declared.pcap.header.PcapHeader.{PcapHeader}
 use Rattle.pcap_core.specs.Answer.{number_in}

@@ -88,12 +88,7 @@ fn body_word(alloc: Global, block: &Block) -> Result<&'static str, Exit>
 }
 
 // Makes the line of the block at this index.
-fn push_block(
-    line: &mut String,
-    index: u64,
-    block: &Block,
-    word: &str,
-) -> Result<(), AllocError>
+fn push_block(line: &mut String, index: u64, block: &Block, word: &str) -> Result<(), AllocError>
     requires empty { string_bytes line.old ≡ [] }
     requires word { IsBodyWord (framed_of block.now) word.now }
     ensures { OnOk result (IsBlockLine index (framed_of block.now) (string_bytes line.new)) }
