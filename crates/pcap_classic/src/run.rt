@@ -1,6 +1,8 @@
 //! Whole runs over a capture.
 
 mod copy;
+mod exact;
+mod find;
 
 ghost use Rattle.std.specs.Prelude.{◌≡◌, ◌⊎◌, ⊤, false, All, IfOk, IfErr, IfSome, map};
 ghost use Rattle.pcap_core.specs.Answer.{Refuses};
@@ -19,7 +21,9 @@ ghost use Rattle.pcap_core.specs.Run.{rest_after};
 
 use crate::pcap::{Packet, PcapHeader, PcapParser, PcapReader};
 pub use copy::{Copied, Under, copy_pcap};
+pub use exact::exact_pcap;
 pub use pcap_core::Rest;
+pub use pcap_core::run::Window;
 use pcap_core::{PcapError, ResultParsing};
 use std::alloc::Global;
 use std::io::Read;

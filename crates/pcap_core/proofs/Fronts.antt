@@ -1,10 +1,11 @@
 -- Where a run over a slice stops.
-use Rattle.std.proofs.Common.{◌≡◌, [], ◌∷◌, ◌++◌, subst, ◌<◌, length, ℕ, List}
+use Rattle.std.proofs.Common.{◌≡◌, [], ◌∷◌, ◌++◌, subst, ◌<◌, ◌∙◌, sym, length, ℕ, List}
 use Rattle.pcap_core.specs.Faults.{Invalid, Io, Utf8}
 use Rattle.pcap_core.specs.declared.errors.PcapError.{PcapError}
 use Rattle.pcap_core.specs.declared.errors.PcapError.TheVariants as errors
-use Rattle.pcap_core.specs.Answer.{whole, lacks, faulty, Refuses}
+use Rattle.pcap_core.specs.Answer.{Verdict, whole, lacks, faulty, Refuses}
 use Rattle.pcap_core.specs.Format.{Format, Texts, state_after, Front, IsLawful}
+use Rattle.pcap_core.specs.Laws.{ExactlyOne}
 use Rattle.pcap_core.specs.Run.{IsRest, rest_after}
 use Rattle.pcap_core.proofs.Formats.{lacks_no_text, fault_no_text, has_front, front_goes_on, texts_push}
 
@@ -22,6 +23,17 @@ stops f laws q left (errors.Utf8Error e) some h = record { rest = h; longest = f
 stops f laws q left (errors.FromUtf8Error e) some h = absurd h
 stops f laws q left (errors.OutOfMemory e) some h = absurd h
 stops f laws q left errors.WriterFailed some h = absurd h
+
+-- bytes of which a text is said are not refused
+pub said_not_refused : {V : Type 0} (IsSaid : Verdict V → Type 0) → ExactlyOne IsSaid → (v : V) (rest : List ℕ) → IsSaid (whole v rest)
+    → (e : PcapError) → Refuses ⊥ (λ n. IsSaid (lacks n)) (λ fault. IsSaid (faulty fault)) e → ⊥
+said_not_refused IsSaid one v rest text (errors.IncompleteBuffer n) h = let no : lacks n ≡ whole v rest = one.only (lacks n) h ∙ sym (one.only (whole v rest) text) in absurd cc
+said_not_refused IsSaid one v rest text (errors.InvalidField t) h = let no : faulty (Invalid h.0) ≡ whole v rest = one.only (faulty (Invalid h.0)) h.2 ∙ sym (one.only (whole v rest) text) in absurd cc
+said_not_refused IsSaid one v rest text (errors.IoError e) h = let no : faulty Io ≡ whole v rest = one.only (faulty Io) h ∙ sym (one.only (whole v rest) text) in absurd cc
+said_not_refused IsSaid one v rest text (errors.Utf8Error e) h = let no : faulty Utf8 ≡ whole v rest = one.only (faulty Utf8) h ∙ sym (one.only (whole v rest) text) in absurd cc
+said_not_refused IsSaid one v rest text (errors.FromUtf8Error e) h = h
+said_not_refused IsSaid one v rest text (errors.OutOfMemory e) h = h
+said_not_refused IsSaid one v rest text errors.WriterFailed h = h
 
 -- bytes that an item's text begins are not refused
 pub whole_not_refused : {S V : Type 0} (f : Format S V) → IsLawful f → (q : S) (s : List ℕ) (v : V) (rest : List ℕ) → f.says q s (whole v rest)
