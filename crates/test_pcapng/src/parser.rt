@@ -112,9 +112,10 @@ fn owned_blocks(rt: HostRuntime) -> Result<(), Fail> {
         let slice = bytes(rt.alloc(), digits)?;
         let (rest, block) = parser.next_block(slice.as_slice())?;
         assert!(rt; rest.is_empty() && block.endianness() == Endianness::Big);
-        let lent = format!(in rt.alloc(); "{block:?} {:?}", block.parsed(rt.alloc())?)?;
+        let body = block.parsed(rt.alloc())?;
+        let lent = format!(in rt.alloc(); "{block:?} {body:?}")?;
         assert_eq!(rt; lent.as_str(), told, "at {digits}");
-        let body = block.parsed(rt.alloc())?.into_owned(rt.alloc())?;
+        let body = body.into_owned(rt.alloc())?;
         let block = block.into_owned(rt.alloc())?;
         let kept = format!(in rt.alloc(); "{block:?} {body:?}")?;
         let owned = told.replace(rt.alloc(), "Borrowed(", "Owned(")?;
