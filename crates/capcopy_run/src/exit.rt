@@ -5,7 +5,7 @@ ghost use Rattle.capcopy_run.specs.declared.exit.Exit.TheVariants as exits;
 ghost use Rattle.pcap_core.specs.declared.errors.PcapError.TheVariants as errors;
 ghost use Rattle.capcopy_run.specs.Exits.{status_of, message_of, EndsAt};
 
-use pcap_classic::PcapError;
+use pcap_file::PcapError;
 use std::alloc::{AllocError, AllocFailed};
 use std::io::ErrorKind;
 use std::{fmt, io};
