@@ -89,6 +89,7 @@ pub fn take_item<H: HasHead, T: Read>(
 }
 
 // Fills what is held with the head of the next item, and says how many bytes follow it.
+#[inline(always)]
 fn fill_head<H: HasHead, T: Read>(
     item: &H,
     stream: &mut T,
