@@ -124,6 +124,7 @@ pub fn fill_array<T: Read>(
 }
 
 // One read into so many bytes from a place on.
+#[inline(always)]
 fn read_at<T: Read>(stream: &mut T, bytes: &mut [u8], at: usize, room: usize) -> io::Result<usize>
     requires some { 0 < room }
     requires within { at + room ≤ length bytes.old }
