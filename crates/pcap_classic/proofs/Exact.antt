@@ -15,7 +15,7 @@ use Rattle.pcap_classic.specs.HeaderText.{HeaderText, LacksHeader, HasHeaderFaul
 use Rattle.pcap_classic.specs.Magic.{order_of, resolution_of}
 use Rattle.pcap_classic.specs.Packets.{format_under, header_format, packet_format, packet_header_format}
 use Rattle.pcap_classic.specs.declared.pcap.packet.PacketHeader.{PacketHeader}
-use Rattle.pcap_core.specs.declared.common.TsResolution.{TsResolution}
+use Rattle.pcap_classic.specs.declared.common.TsResolution.{TsResolution}
 use Rattle.pcap_core.specs.Exact.{ExactItems}
 use Rattle.pcap_core.specs.Requested.{RequestsAt, HeadThenRest}
 use Rattle.pcap_classic.specs.PacketText.{Captured, PacketHeaderText, PacketText, packet_limit, content_of}
