@@ -14,7 +14,7 @@ use Rattle.pcap_blocks.specs.ParsedBlock.{SectionBody, InterfaceBody, BodySays, 
 use Rattle.pcap_file.specs.Frames.{Framed}
 use Rattle.pcap_file.specs.State.{State, within, is_kept, is_read, MeansIf, Means, CanGrow}
 
-read_means : (q : State) (b : Framed) (r : HeadReading State) → is_read q b.type_ ≡ true → MeansIf true q b r → Means q b r
+pub read_means : (q : State) (b : Framed) (r : HeadReading State) → is_read q b.type_ ≡ true → MeansIf true q b r → Means q b r
 read_means q b r is x = subst (λ (t : Bool). MeansIf t q b r) (sym is) x
 
 module _ (section : Section) (interfaces : List Interface) (b : Framed) where

@@ -1,5 +1,5 @@
 -- Blocks that a run takes off a stream.
-use Rattle.std.proofs.Common.{◌≡◌, ◌<◌, ℕ, List, [], ◌∷◌, ◌++◌, length, Bool, Some, sym, ap, subst, ◌∙◌, arith}
+use Rattle.std.proofs.Common.{◌≡◌, ◌<◌, ℕ, List, [], ◌∷◌, ◌++◌, length, map, Bool, Some, sym, ap, subst, ◌∙◌, arith}
 use Rattle.std.specs.Prelude.{Option}
 use Rattle.std.proofs.lemmas.List.{map-append, length-map}
 use Rattle.pcap_core.specs.declared.errors.PcapError.{PcapError}
@@ -7,11 +7,19 @@ use Rattle.pcap_core.specs.Format.{state_after}
 use Rattle.pcap_core.specs.Reading.{HasCause, Takes}
 use Rattle.pcap_core.proofs.Formats.{state_push}
 use Rattle.pcap_core.proofs.Taking.{takes_more}
+use Rattle.pcap_core.specs.Takes.{TakesTexts}
 use Rattle.pcap_file.specs.Frames.{Framed}
 use Rattle.pcap_file.specs.State.{State}
 use Rattle.pcap_file.specs.Blocks.{Item, block_format}
-use Rattle.pcap_file.specs.Reads.{TakenBlocks, TakesBlocks}
+use Rattle.pcap_file.specs.Reads.{TakesBlocks}
 use Rattle.pcap_file.proofs.BlockFormat.{blocks_lawful}
+
+-- these blocks were taken and no more, and this is in force after them
+pub record TakenBlocks (q reached : State) (before left : Option (List ℕ)) (blocks : List Framed) : Type 0 where
+  pub items : List Item
+  pub blocks_are : map (λ (item : Item). item.block) items ≡ blocks
+  pub in_force : state_after block_format q items ≡ reached
+  pub took : TakesTexts block_format q items before left
 
 pub taken_more : (q p : State) (before left after : Option (List ℕ)) (blocks : List Framed) (item : Item) → TakenBlocks q p before left blocks → Takes (block_format.says p) left after item
     → TakenBlocks q item.after before after (blocks ++ item.block ∷ [])

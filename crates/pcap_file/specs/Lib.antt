@@ -4,6 +4,7 @@ pub mod State
 pub mod Blocks
 pub mod Opening
 pub mod Sections
+pub mod MarkedLists
 pub mod Parser
 pub mod Front
 pub mod Run

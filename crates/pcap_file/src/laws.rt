@@ -1,6 +1,6 @@
 //! Laws of the grammar of blocks. Each contract is the law.
 
-ghost use Rattle.std.specs.Prelude.{◌≡◌, ◌≤◌, ℕ, List, [], ◌∷◌, length, map};
+ghost use Rattle.std.specs.Prelude.{◌≡◌, ◌≤◌, ℕ, List, [], ◌∷◌, ◌++◌, length, map};
 ghost use Rattle.pcap_core.specs.declared.common.Endianness.{Endianness};
 ghost use Rattle.pcap_core.specs.Answer.{whole};
 ghost use Rattle.pcap_core.specs.Format.{Front, Texts, Asks, IsLawful, state_after};
@@ -8,6 +8,7 @@ ghost use Rattle.pcap_core.specs.Laws.{ExactlyOne, IsStable};
 ghost use Rattle.pcap_file.specs.Blocks.{Item, BlockText, BlockSays, block_format};
 ghost use Rattle.pcap_file.specs.Frames.{Framed, FrameSays};
 ghost use Rattle.pcap_file.specs.Front.{NgFront};
+ghost use Rattle.pcap_file.specs.MarkedLists.{marked_format};
 ghost use Rattle.pcap_file.specs.Opening.{OpeningSays};
 ghost use Rattle.pcap_file.specs.Sections.{Leaves};
 ghost use Rattle.pcap_file.specs.State.{State, opening};
@@ -66,4 +67,10 @@ pub fn capture_has_one_front()
 pub fn blocks_leave_their_section_in_force()
     ensures { (first : Item) (items : List Item) (s rest : List ℕ) → Texts block_format opening (first ∷ items) s rest →
         Leaves (map (λ (item : Item). item.block) (first ∷ items)) (state_after block_format opening (first ∷ items)) }
+{}
+
+/// Where each list of options has to end with its mark, the blocks of a front are a beginning of those of the front.
+pub fn unmarked_lists_keep_blocks()
+    ensures { (q : State) (items others : List Item) (s a b : List ℕ) → Front marked_format q items s a → Front block_format q others s b →
+        (more : List Item) × (others ≡ items ++ more) }
 {}
