@@ -1,5 +1,5 @@
 -- What refuses a block's frame off a stream refuses the block.
-use Rattle.std.proofs.Common.{◌≡◌, ◌<◌, ℕ, List, [], length, take, Bool, false, Some, None, Ok, Err, sym, subst, inl, inr, ◌⊎◌}
+use Rattle.std.proofs.Common.{◌≡◌, ℕ, List, [], take, Bool, false, Some, None, Ok, Err, subst, inl, inr, ◌⊎◌}
 use Rattle.std.specs.Prelude.{Option, IfSome, Result, ⊤}
 use Rattle.std.specs.Io.KnownBytes.{Consumes}
 use Rattle.pcap_core.specs.declared.errors.PcapError.{PcapError}
@@ -14,13 +14,13 @@ use Rattle.pcap_core.proofs.Formats.{fault_some}
 use Rattle.pcap_core.proofs.Pulling.{asked_cause}
 use Rattle.pcap_core.specs.Early.{EarlyFault}
 use Rattle.pcap_core.specs.Faults.{Fault, Shows}
-use Rattle.pcap_core.specs.Reading.{IsShort, IsTorn, IsFaultOf, HasCause, read_failed, no_memory, torn, refused, TakesAsked, ReadsWhere}
+use Rattle.pcap_core.specs.Reading.{IsShort, IsTorn, IsFaultOf, HasCause, read_failed, no_memory, torn, refused, TakesAsked}
 use Rattle.pcap_core.proofs.Refusals.{shows_more}
 use Rattle.pcap_file.specs.declared.pcapng.state.InForce.{InForce}
 use Rattle.pcap_file.specs.Frames.{Framed, FrameSays, frame_format}
 use Rattle.pcap_file.specs.State.{State, opening, order_at, Means, CanGrow, OpensTells}
-use Rattle.pcap_file.specs.Blocks.{BlockSays, OpeningSays, OpensHeld, block_format}
-use Rattle.pcap_file.proofs.HeadedFrames.{frames_lawful}
+use Rattle.pcap_file.specs.Blocks.{BlockSays, block_format}
+use Rattle.pcap_file.specs.Opening.{OpeningSays, OpensHeld, RefusesOpening}
 use Rattle.pcap_file.proofs.BlockFormat.{blocks_lawful}
 use Rattle.pcap_file.proofs.Refusing.{refuses_wider, shows_refuses}
 
@@ -89,9 +89,9 @@ module _ (q : State) (order : Endianness) (is : order ≡ order_at q) (held : Li
       elim (memory_or_shows M (λ f. block_format.says q held (faulty f)) e x) [
         | inl memory ↦ pull_room e memory
         | inr shown ↦ (
-            asked_cause (block_format.says q) (blocks_lawful.stable q) e held (λ f stands. fault_some block_format blocks_lawful q held f stands) shown before after failed unfailed came,
-            frame_asked,
-          )
+          asked_cause (block_format.says q) (blocks_lawful.stable q) e held (λ f stands. fault_some block_format blocks_lawful q held f stands) shown before after failed unfailed came,
+          frame_asked,
+        )
       ]
 
 module _ (q : State) (order : Endianness) (is : order ≡ order_at q) (b : Framed) (held : List ℕ) (text : frame_format.says order held (whole b [])) where
@@ -111,12 +111,12 @@ opening_fault None f x = record { bytes = x.bytes; stands = x.stands; some = x.s
 opening_fault (Some s) f x = record { bytes = x.bytes; stands = x.stands; some = x.some; shown = elim x.shown [ inl stands ↦ inl stands | inr early ↦ inr (record { n = early.n; lack = early.lack; certain = early.certain }) ] }
 
 -- why a reader was not made
-pub opening_refused : {X : Type 0} (view : X → State) (before after : Option (List ℕ)) (failed : Bool) (e : PcapError) → HasCause (block_format.says opening) before failed e → ReadsWhere ⊤ OpeningSays view before after (Err e)
+pub opening_refused : (before : Option (List ℕ)) (failed : Bool) (e : PcapError) → HasCause (block_format.says opening) before failed e → RefusesOpening before e
 unfolding block_format
-opening_refused view before after failed e (read_failed io is) = inl io
-opening_refused view before after failed e (no_memory memory is) = inr (inl (tt, memory))
-opening_refused view before after failed e (torn io is rest) = inl io
-opening_refused view before after failed e (refused shown is) = inr (inr (shows_more (opening_fault before) e shown))
+opening_refused before failed e (read_failed io is) = inl io
+opening_refused before failed e (no_memory memory is) = inr (inl memory)
+opening_refused before failed e (torn io is rest) = inl io
+opening_refused before failed e (refused shown is) = inr (inr (shows_more (opening_fault before) e shown))
 
 -- what is said of the first block, by the format of all blocks
 pub opening_says : (M : Type 0) (held : List ℕ) (e : PcapError) → Refuses M (λ n. ⊥) (λ f. OpeningSays held (faulty f)) e → Refuses M (λ n. ⊥) (λ f. block_format.says opening held (faulty f)) e

@@ -1,5 +1,5 @@
 -- What refuses a frame, or what a block means, refuses the block.
-use Rattle.std.proofs.Common.{◌≡◌, ℕ, List, refl, inl, inr, ◌⊎◌}
+use Rattle.std.proofs.Common.{◌≡◌, ℕ, List, refl, inl, inr}
 use Rattle.pcap_core.specs.declared.common.Endianness.TheVariants.{Big}
 use Rattle.pcap_core.specs.declared.errors.PcapError.{PcapError}
 use Rattle.pcap_core.specs.declared.errors.PcapError.TheVariants as errors
@@ -9,7 +9,7 @@ use Rattle.pcap_core.specs.Faults.{Fault, Invalid, Io, NoText, Shows}
 use Rattle.pcap_core.specs.Headed.{bad}
 use Rattle.pcap_file.specs.Frames.{Framed, FrameText, FrameSays}
 use Rattle.pcap_file.specs.State.{State, opening, order_at, Means, CanGrow}
-use Rattle.pcap_file.specs.Blocks.{BlockSays, OpeningSays, MayGrow}
+use Rattle.pcap_file.specs.Blocks.{BlockSays, MayGrow}
 
 pub memory_refuses : (M : Type 0) (L : ℕ → Type 0) (F : Fault → Type 0) (e : PcapError) → M → IsMemory e → Refuses M L F e
 memory_refuses M L F (errors.OutOfMemory a) m is = m

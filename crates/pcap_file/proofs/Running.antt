@@ -11,7 +11,8 @@ use Rattle.pcap_core.proofs.Formats.{texts_push, state_push, shorter}
 use Rattle.pcap_core.proofs.Fronts.{StopsAt, stops}
 use Rattle.pcap_file.specs.Frames.{Framed}
 use Rattle.pcap_file.specs.State.{State, opening}
-use Rattle.pcap_file.specs.Blocks.{Item, BlockText, BlockSays, OpeningSays, block_format}
+use Rattle.pcap_file.specs.Blocks.{Item, BlockText, BlockSays, block_format}
+use Rattle.pcap_file.specs.Opening.{OpeningSays}
 use Rattle.pcap_file.specs.Front.{NgFront}
 use Rattle.pcap_file.proofs.BlockFormat.{blocks_lawful}
 

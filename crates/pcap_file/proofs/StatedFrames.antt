@@ -1,15 +1,14 @@
 -- What a frame's head states.
-use Rattle.std.proofs.Common.{◌≡◌, ◌<◌, ◌≤◌, ◌+◌, ℕ, List, [], ◌∷◌, ◌++◌, length, drop, refl, sym, ap, subst, ◌∙◌, arith, append-nil, append_assoc, length-append, inl, inr, Result, Ok, Err}
+use Rattle.std.proofs.Common.{◌≡◌, ◌<◌, ◌+◌, ℕ, List, [], ◌∷◌, ◌++◌, length, drop, refl, sym, ap, subst, ◌∙◌, arith, append-nil, append_assoc, length-append, inl, inr, Result, Ok, Err}
 use Rattle.std.proofs.lemmas.Bool.{cases_eq}
 use Rattle.std.proofs.lemmas.List.{drop_at}
-use Rattle.std.specs.Prelude.{◌≢◌, ◌%◌}
 use Rattle.std.specs.Result.{IsErrAnd}
 use Rattle.byteorder.specs.Endian.{big_number}
 use Rattle.pcap_core.specs.declared.common.Endianness.{Endianness}
 use Rattle.pcap_core.specs.declared.rules.Rule.{Rule}
 use Rattle.pcap_core.specs.declared.rules.Rule.TheVariants.{BlockLengthsDiffer}
 use Rattle.pcap_core.specs.declared.errors.PcapError.{PcapError}
-use Rattle.pcap_core.specs.Answer.{Number, number_in, Verdict, whole, lacks, faulty}
+use Rattle.pcap_core.specs.Answer.{Number, number_in, Verdict, lacks, faulty}
 use Rattle.pcap_core.specs.Faults.{Invalid, Names}
 use Rattle.pcap_core.proofs.Refusals.{named_shows}
 use Rattle.pcap_blocks.specs.WholeBodies.{block_type}
@@ -41,7 +40,7 @@ head_more e number len own s after more t = record {
   own_is = t.own_is;
 }
 
--- what stands behind a length is what stands behind eight bytes
+-- what follows a length is what follows eight bytes
 head_drop : (e : Endianness) (number len : ℕ) (own : Endianness) (s after : List ℕ) → FrameHeadText e number own len s after → drop 8 s ≡ after
 head_drop e number len own s after t =
     let a = t.number_is.bytes in

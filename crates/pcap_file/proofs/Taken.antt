@@ -1,5 +1,5 @@
 -- Blocks that a run takes off a stream.
-use Rattle.std.proofs.Common.{◌≡◌, ◌<◌, ◌≤◌, ℕ, List, [], ◌∷◌, ◌++◌, length, map, Bool, Some, sym, ap, subst, ◌∙◌, arith}
+use Rattle.std.proofs.Common.{◌≡◌, ◌<◌, ℕ, List, [], ◌∷◌, ◌++◌, length, Bool, Some, sym, ap, subst, ◌∙◌, arith}
 use Rattle.std.specs.Prelude.{Option}
 use Rattle.std.proofs.lemmas.List.{map-append, length-map}
 use Rattle.pcap_core.specs.declared.errors.PcapError.{PcapError}
@@ -12,7 +12,6 @@ use Rattle.pcap_file.specs.State.{State}
 use Rattle.pcap_file.specs.Blocks.{Item, block_format}
 use Rattle.pcap_file.specs.Reads.{TakenBlocks, TakesBlocks}
 use Rattle.pcap_file.proofs.BlockFormat.{blocks_lawful}
-
 
 pub taken_more : (q p : State) (before left after : Option (List ℕ)) (blocks : List Framed) (item : Item) → TakenBlocks q p before left blocks → Takes (block_format.says p) left after item
     → TakenBlocks q item.after before after (blocks ++ item.block ∷ [])

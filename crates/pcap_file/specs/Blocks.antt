@@ -1,17 +1,15 @@
 -- Blocks under the section and interfaces in force.
-use Rattle.std.specs.Prelude.{◌≡◌, ◌⊎◌, ℕ, List, [], true, ⊤, Result, Ok, Err}
-use Rattle.pcap_core.specs.declared.errors.PcapError.{PcapError}
-use Rattle.pcap_file.specs.declared.pcapng.state.InForce.{InForce}
-use Rattle.pcap_core.specs.Answer.{Verdict, Says, whole, faulty, Refuses}
+use Rattle.std.specs.Prelude.{◌≡◌, ◌⊎◌, ℕ, List, true}
+use Rattle.pcap_core.specs.Answer.{Verdict, Says}
 use Rattle.pcap_core.specs.Faults.{Fault}
 use Rattle.pcap_core.specs.Format.{Format}
 use Rattle.pcap_core.specs.Headed.{good, bad}
 use Rattle.pcap_blocks.specs.ParsedBlock.{HasLists}
 use Rattle.pcap_file.specs.declared.pcapng.block.Block.{Block}
 use Rattle.pcap_file.specs.Frames.{Framed, framed_of, FrameText, FrameLacks, FrameFault}
-use Rattle.pcap_file.specs.State.{State, opening, order_at, is_read, Means, state_in}
+use Rattle.pcap_file.specs.State.{State, order_at, is_read, Means}
 
--- a block, and the section and interfaces behind it
+-- a block, and the section and interfaces in force after it
 pub record Item : Type 0 where
   pub block : Framed
   pub after : State
@@ -36,10 +34,6 @@ pub record BodyFault (q : State) (s : List ℕ) (fault : Fault) : Type 0 where
 abbrev pub BlockSays : State → List ℕ → Verdict Item → Type 0
 BlockSays q s = Says (λ item rest. BlockText q item s rest) (FrameLacks (order_at q) s) (λ fault. FrameFault (order_at q) s fault ⊎ BodyFault q s fault)
 
--- what is said where the first block is asked for, which is a section header and gives the state behind it
-abbrev pub OpeningSays : List ℕ → Verdict State → Type 0
-OpeningSays s = Says (λ q rest. (block : Framed) × BlockText opening (record { block = block; after = q }) s rest) (FrameLacks (order_at opening) s) (λ fault. FrameFault (order_at opening) s fault ⊎ BodyFault opening s fault)
-
 -- a whole block stands there whose body is read and has lists
 pub record MayGrow (q : State) (s : List ℕ) : Type 0 where
   pub block : Framed
@@ -51,8 +45,3 @@ pub record MayGrow (q : State) (s : List ℕ) : Type 0 where
 -- blocks, the first of which is a section header
 unfoldable pub block_format : Format State Item
 block_format = record { says = BlockSays; goes = λ q item. item.after; head = 12 }
-
--- what is in force after the first block that these bytes are, or their refusal
-abbrev pub OpensHeld : List ℕ → Result InForce PcapError → Type 0
-OpensHeld s (Ok in_force) = OpeningSays s (whole (state_in in_force) [])
-OpensHeld s (Err e) = Refuses ⊤ (λ n. ⊥) (λ fault. OpeningSays s (faulty fault)) e

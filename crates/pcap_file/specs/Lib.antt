@@ -2,6 +2,8 @@ pub mod Frames
 pub mod Bodies
 pub mod State
 pub mod Blocks
+pub mod Opening
+pub mod Sections
 pub mod Parser
 pub mod Front
 pub mod Run

@@ -1,13 +1,13 @@
 -- What a reader of blocks shows.
-use Rattle.std.specs.Prelude.{◌≡◌, ℕ, List, map, Bool, false, ⊤, Option, Some, None, Result, Ok, Err}
+use Rattle.std.specs.Prelude.{◌≡◌, ℕ, List, map, Bool, false, Option, Some, Result, Ok, Err}
 use Rattle.pcap_core.specs.declared.errors.PcapError.{PcapError}
 use Rattle.pcap_core.specs.Fill as fill
-use Rattle.pcap_core.specs.Reading.{ReadsWhere}
+use Rattle.pcap_core.specs.Reading.{Takes}
 use Rattle.pcap_blocks.specs.SectionHeader.{Section, section_of}
 use Rattle.pcap_blocks.specs.InterfaceDescription.{Interface, interface_of}
 use Rattle.pcap_file.specs.declared.pcapng.reader.PcapNgReader.{PcapNgReader}
 use Rattle.pcap_file.specs.State.{State, within}
-use Rattle.pcap_file.specs.Blocks.{OpeningSays}
+use Rattle.pcap_file.specs.Opening.{OpeningSays, RefusesOpening}
 
 -- the section in force
 abbrev pub section_in_force : {T : Type 0} → PcapNgReader T → Section
@@ -35,11 +35,11 @@ is_done reader = reader.is_done
 
 -- one call that makes a reader: the first block's text was taken and no more, and nothing failed; or the call is refused
 abbrev pub OpensReader : {T : Type 0} → (T → Option (List ℕ)) → T → Result (PcapNgReader T) PcapError → Type 0
-OpensReader {T = T} remaining stream (Ok reader) =
-    (is_done reader ≡ false) × (has_failed reader ≡ false) × ReadsWhere {X = PcapNgReader T} ⊤ OpeningSays state_of (remaining stream) (remaining (stream_of reader)) (Ok reader)
-OpensReader {T = T} remaining stream (Err e) = ReadsWhere {X = PcapNgReader T} ⊤ OpeningSays state_of (remaining stream) (remaining stream) (Err e)
+OpensReader remaining stream (Ok reader) =
+    (is_done reader ≡ false) × (has_failed reader ≡ false) × Takes OpeningSays (remaining stream) (remaining (stream_of reader)) (state_of reader)
+OpensReader remaining stream (Err e) = RefusesOpening (remaining stream) e
 
 -- what is in force stays, unless a block came
-abbrev pub StaysBehind : {X : Type 0} → State → State → Option (Result X PcapError) → Type 0
-StaysBehind old new (Some (Ok x)) = Unit {0}
-StaysBehind old new _ = new ≡ old
+abbrev pub StaysUnlessGiven : {X : Type 0} → State → State → Option (Result X PcapError) → Type 0
+StaysUnlessGiven old new (Some (Ok x)) = Unit {0}
+StaysUnlessGiven old new _ = new ≡ old

@@ -4,8 +4,8 @@ use Rattle.pcap_core.specs.declared.common.Endianness.{Endianness}
 use Rattle.pcap_core.specs.declared.common.Endianness.TheVariants.{Big}
 use Rattle.pcap_core.specs.declared.rules.Rule.TheVariants.{SectionMissing}
 use Rattle.pcap_core.specs.declared.errors.PcapError.{PcapError}
-use Rattle.pcap_core.specs.Answer.{Verdict, whole, faulty, Refuses}
-use Rattle.pcap_core.specs.Faults.{Fault, Invalid}
+use Rattle.pcap_core.specs.Answer.{whole, faulty, Refuses}
+use Rattle.pcap_core.specs.Faults.{Invalid}
 use Rattle.pcap_core.specs.Headed.{HeadReading, good, bad}
 use Rattle.pcap_blocks.specs.declared.block.BlockType.{BlockType}
 use Rattle.pcap_blocks.specs.declared.block.BlockType.TheVariants as types
@@ -51,7 +51,7 @@ leads opening _ = bad (Invalid SectionMissing)
 leads (within section interfaces) (InterfaceBody interface) = good (within section (interfaces ++ interface ∷ []))
 leads (within section interfaces) _ = good (within section interfaces)
 
--- what is said of a block in its frame whose body is read, or is not: the state behind it, or its fault
+-- what is said of a block in its frame whose body is read, or is not: the state after it, or its fault
 abbrev pub MeansIf : Bool → State → Framed → HeadReading State → Type 0
 MeansIf true q b (good next) = (body : Body) × (rest : List ℕ) × SaysOfBody b (whole body rest) × (leads q body ≡ good next)
 MeansIf true q b (bad fault) =
@@ -69,7 +69,7 @@ abbrev pub good_or : State → HeadReading State → State
 good_or q (good next) = next
 good_or q (bad fault) = q
 
--- the state behind a body, if one was read
+-- the state after a body, if one was read
 abbrev pub led : State → Option Body → State
 led q None = q
 led q (Some body) = good_or q (leads q body)
@@ -99,12 +99,12 @@ abbrev pub KeptTells : State → Framed → Result Kept PcapError → Type 0
 KeptTells q b (Ok k) = Means q b (good (led q (kept_of k))) × NamesOrder k × ((k ≡ kept.Nothing) ⊎ CanGrow q b)
 KeptTells q b (Err e) = Refuses (CanGrow q b) (λ n. ⊥) (λ fault. Means q b (bad fault)) e
 
--- what is in force behind a first block
+-- what is in force after a first block
 abbrev pub OpensTells : Framed → Result InForce PcapError → Type 0
 OpensTells b (Ok f) = Means opening b (good (state_in f))
 OpensTells b (Err e) = Refuses (CanGrow opening b) (λ n. ⊥) (λ fault. Means opening b (bad fault)) e
 
 -- what is in force stays, unless a block came
-abbrev pub StaysUnless : {X : Type 0} → State → State → Result (Option X) PcapError → Type 0
-StaysUnless old new (Ok (Some x)) = Unit {0}
-StaysUnless old new _ = new ≡ old
+abbrev pub StaysUnlessTaken : {X : Type 0} → State → State → Result (Option X) PcapError → Type 0
+StaysUnlessTaken old new (Ok (Some x)) = Unit {0}
+StaysUnlessTaken old new _ = new ≡ old

@@ -1,15 +1,12 @@
 //! Whole runs over a capture.
 
-ghost use Rattle.std.specs.Prelude.{◌≡◌, ◌⊎◌, ⊤, false, All, IfOk, IfErr, IfSome, map};
+ghost use Rattle.std.specs.Prelude.{◌≡◌, ⊤, false, All, IfOk, IfErr, IfSome, map};
 ghost use Rattle.pcap_file.specs.Frames.{framed_of};
 ghost use Rattle.pcap_file.specs.Reader.{state_of, stream_of, has_failed, is_done};
 ghost use Rattle.pcap_file.specs.Reads.{TakesBlocks, TakesNg, ReadsNg};
 ghost use Rattle.pcap_core.specs.Answer.{Refuses, lacks, faulty};
 ghost use Rattle.pcap_core.specs.Bytes.{IsBorrowed};
-ghost use Rattle.pcap_core.specs.Errors.{IsIo, IsMemory};
-ghost use Rattle.pcap_core.specs.Faults.{Shows};
-ghost use Rattle.pcap_core.specs.Reading.{IsFaultOf};
-ghost use Rattle.pcap_file.specs.Blocks.{OpeningSays};
+ghost use Rattle.pcap_file.specs.Opening.{OpeningSays, RefusesOpening};
 ghost use Rattle.pcap_file.specs.Run.{IsRun, RestTells};
 
 use crate::pcapng::{Block, PcapNgParser, PcapNgReader};
@@ -104,7 +101,7 @@ pub struct NgRead<R> {
 pub fn read_pcapng<R: Read + Drop>(alloc: Global, reader: R, most: u64) -> ResultParsing<NgRead<R>>
     ensures taken { IfOk result (λ read. TakesNg R.remaining (R.remaining reader) most read) }
     ensures front { IfOk result (λ read. IfSome (R.remaining reader) (λ bytes. ReadsNg bytes most read)) }
-    ensures refused { IfErr result (λ e. IsIo e ⊎ (⊤ × IsMemory e) ⊎ Shows (IsFaultOf OpeningSays (R.remaining reader)) e) }
+    ensures refused { IfErr result (RefusesOpening (R.remaining reader)) }
 {
     let mut reader = PcapNgReader::new(alloc, reader)?;
     let (blocks, fault) = take_blocks(alloc, &mut reader, most);

@@ -97,10 +97,7 @@ impl<'a> Block<'a> {
     }
 
     // The block of this head, from what follows its first length, and what follows the block.
-    pub(crate) fn of_head(
-        head: FrameHead,
-        after: &'a [u8],
-    ) -> Result<(&'a [u8], Block<'a>), Rule>
+    pub(crate) fn of_head(head: FrameHead, after: &'a [u8]) -> Result<(&'a [u8], Block<'a>), Rule>
         requires long { 12 ≤ head.len }
         requires whole { head.len ≤ 8 + length after.now }
         ensures tells { TailTells head after.now result }

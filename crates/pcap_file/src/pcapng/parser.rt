@@ -1,17 +1,18 @@
 //! A parser of a capture that comes in slices.
 
-ghost use Rattle.std.specs.Prelude.{◌≡◌, IfOk, OnErr, map};
+ghost use Rattle.std.specs.Prelude.{◌≡◌, IfOk, OnErr, map, option_map, slice_get};
 ghost use Rattle.pcap_core.specs.Answer.{TellsWhere};
 ghost use Rattle.pcap_core.specs.Bytes.{IsBorrowed};
 ghost use Rattle.pcap_blocks.specs.InterfaceDescription.{interface_of};
 ghost use Rattle.pcap_blocks.specs.SectionHeader.{section_of};
-ghost use Rattle.pcap_file.specs.Blocks.{item_of, BlockSays, OpeningSays, MayGrow};
+ghost use Rattle.pcap_file.specs.Blocks.{item_of, BlockSays, MayGrow};
+ghost use Rattle.pcap_file.specs.Opening.{OpeningSays};
 ghost use Rattle.pcap_file.specs.Parser.{state_of, section_in_force, interfaces_in_force};
 ghost use Rattle.pcap_file.specs.State.{opening};
 
 use crate::pcapng::block::Block;
 use crate::pcapng::state::InForce;
-use pcap_blocks::{InterfaceDescriptionBlock, SectionHeaderBlock};
+use pcap_blocks::{EnhancedPacketBlock, InterfaceDescriptionBlock, SectionHeaderBlock};
 use pcap_core::{Endianness, ResultParsing};
 use std::alloc::Global;
 
@@ -68,5 +69,15 @@ impl PcapNgParser {
         ensures { map interface_of result.now ≡ interfaces_in_force self.now }
     {
         self.in_force.interfaces()
+    }
+
+    /// The interface that a packet came by: that of its number among those of the section in force. None past their end.
+    pub fn packet_interface(
+        &self,
+        packet: &EnhancedPacketBlock,
+    ) -> Option<&InterfaceDescriptionBlock<'static>>
+        ensures { option_map (λ interface. interface_of interface.now) result ≡ slice_get (interfaces_in_force self.now) packet.now.interface_id }
+    {
+        self.in_force.interface(packet.interface_id)
     }
 }

@@ -1,22 +1,23 @@
 //! A reader of the blocks of a stream.
 
-ghost use Rattle.std.specs.Prelude.{◌≡◌, ⊤, false, [], OnOk, map};
+ghost use Rattle.std.specs.Prelude.{◌≡◌, false, [], IfOk, IfErr, OnOk, map, option_map, slice_get};
 ghost use Rattle.pcap_core.specs.declared.common.Endianness.TheVariants.{Big};
 ghost use Rattle.pcap_core.specs.Errors.{IsIo};
 ghost use Rattle.pcap_core.specs.Fill.{held_of, stream_of as source_of, has_failed as source_failed};
 ghost use Rattle.pcap_core.specs.Filling.{Stated};
-ghost use Rattle.pcap_core.specs.Reading.{NextGives, Pulls, ReadsWhere};
+ghost use Rattle.pcap_core.specs.Reading.{NextGives, Pulls, Takes};
 ghost use Rattle.pcap_blocks.specs.InterfaceDescription.{interface_of};
 ghost use Rattle.pcap_blocks.specs.SectionHeader.{section_of};
-ghost use Rattle.pcap_file.specs.Blocks.{item_of, OpeningSays, OpensHeld, block_format};
+ghost use Rattle.pcap_file.specs.Blocks.{item_of, block_format};
+ghost use Rattle.pcap_file.specs.Opening.{OpeningSays, OpensHeld, RefusesOpening};
 ghost use Rattle.pcap_file.specs.Frames.{frame_format};
 ghost use Rattle.pcap_file.specs.StatedFrames.{KnowsFrame};
-ghost use Rattle.pcap_file.specs.State.{state_in, StaysUnless};
+ghost use Rattle.pcap_file.specs.State.{state_in, StaysUnlessTaken};
 
 use crate::pcapng::block::Block;
 use crate::pcapng::framing::{FrameHead, FramesIn};
 use crate::pcapng::state::InForce;
-use pcap_blocks::{InterfaceDescriptionBlock, SectionHeaderBlock};
+use pcap_blocks::{EnhancedPacketBlock, InterfaceDescriptionBlock, SectionHeaderBlock};
 use pcap_core::stream::{Fill, Told};
 use pcap_core::{Endianness, PcapError, ResultParsing};
 use std::alloc::Global;
@@ -48,7 +49,7 @@ fn pull<T: Read>(
     requires between { held_of fill.old ≡ [] }
     requires unfailed { source_failed fill.old ≡ false }
     ensures pulls { Pulls (block_format.says (state_in in_force.old)) (item_of (state_in in_force.new)) (T.remaining (source_of fill.old)) (T.remaining (source_of fill.new)) (source_failed fill.new) result }
-    ensures stays { StaysUnless (state_in in_force.old) (state_in in_force.new) result }
+    ensures stays { StaysUnlessTaken (state_in in_force.old) (state_in in_force.new) result }
     ensures between { OnOk result (held_of fill.new ≡ []) }
 {
     let order = in_force.order();
@@ -80,7 +81,8 @@ fn opened(alloc: Global, head: FrameHead, bytes: &[u8]) -> ResultParsing<InForce
 fn open<T: Read>(alloc: Global, fill: &mut Fill<T>) -> ResultParsing<InForce>
     requires between { held_of fill.old ≡ [] }
     requires unfailed { source_failed fill.old ≡ false }
-    ensures reads { ReadsWhere ⊤ OpeningSays state_in (T.remaining (source_of fill.old)) (T.remaining (source_of fill.new)) result }
+    ensures takes { IfOk result (λ in_force. Takes OpeningSays (T.remaining (source_of fill.old)) (T.remaining (source_of fill.new)) (state_in in_force)) }
+    ensures refused { IfErr result (RefusesOpening (T.remaining (source_of fill.old))) }
     ensures between { OnOk result (held_of fill.new ≡ []) }
     ensures unfailed { OnOk result (source_failed fill.new ≡ false) }
 {
@@ -140,6 +142,16 @@ impl<T> PcapNgReader<T> {
         self.in_force.interfaces()
     }
 
+    /// The interface that a packet came by: that of its number among those of the section in force. None past their end.
+    pub fn packet_interface(
+        &self,
+        packet: &EnhancedPacketBlock,
+    ) -> Option<&InterfaceDescriptionBlock<'static>>
+        ensures { option_map (λ interface. interface_of interface.now) result ≡ slice_get (interfaces_in_force self.now) packet.now.interface_id }
+    {
+        self.in_force.interface(packet.interface_id)
+    }
+
     /// The wrapped stream.
     pub fn get_ref(&self) -> &T
         ensures { result.now ≡ stream_of self.now }
@@ -156,11 +168,11 @@ impl<T> PcapNgReader<T> {
 }
 
 impl<T: Read + Drop> Iterator for PcapNgReader<T> {
-    ghost use Rattle.pcap_file.specs.Reader.{state_of, stream_of, has_failed, is_done, StaysBehind};
+    ghost use Rattle.pcap_file.specs.Reader.{state_of, stream_of, has_failed, is_done, StaysUnlessGiven};
 
     type Item = ResultParsing<Block<'static>>;
 
-    ghost next_gives = { λ s r t. StaysBehind (state_of s) (state_of t) r
+    ghost next_gives = { λ s r t. StaysUnlessGiven (state_of s) (state_of t) r
         × NextGives (block_format.says (state_of s)) (item_of (state_of t)) (T.remaining (stream_of s)) (T.remaining (stream_of t)) (is_done s) (is_done t) (has_failed s) (has_failed t) r };
 
     fn next(&mut self) -> Option<ResultParsing<Block<'static>>> {

@@ -7,9 +7,7 @@ ghost use Rattle.pcap_blocks.specs.SectionHeader.{magic_order};
 
 use crate::pcapng::block::Block;
 use byteorder::{BigEndian, LittleEndian};
-use pcap_blocks::{
-    BlockType, EnhancedPacketBlock, InterfaceDescriptionBlock, ParsedBlock, SectionHeaderBlock,
-};
+use pcap_blocks::{BlockType, InterfaceDescriptionBlock, ParsedBlock, SectionHeaderBlock};
 use pcap_core::rules::Rule;
 use pcap_core::{Endianness, PcapError, ResultParsing};
 use std::alloc::Global;
@@ -76,19 +74,31 @@ impl InForce {
         self.interfaces.as_slice()
     }
 
+    // The interface of this number, which counts from 0 in the order of their blocks.
+    pub(crate) fn interface(&self, number: u32) -> Option<&InterfaceDescriptionBlock<'static>>
+        ensures { option_map (λ interface. interface_of interface.now) result ≡ slice_get (map interface_of self.now.interfaces.items) number }
+    {
+        self.interfaces.get(number as usize)
+    }
+
     // What a block puts in force, kept beyond its bytes.
     pub(crate) fn kept(&self, alloc: Global, block: &Block) -> ResultParsing<Kept>
         ensures { KeptTells (state_in self.now) (framed_of block.now) result }
     {
         match block.type_ {
             BlockType::SectionHeader => {
-                let (_rest, section) =
-                    SectionHeaderBlock::from_slice(alloc, block.body.as_slice())?;
+                let (_rest, section) = SectionHeaderBlock::from_slice(
+                    alloc,
+                    block.body.as_slice(),
+                )?;
                 Ok(Kept::Section(section.into_owned(alloc)?))
             }
             BlockType::InterfaceDescription => {
-                let (_rest, interface) =
-                    interface_in(block.endianness(), alloc, block.body.as_slice())?;
+                let (_rest, interface) = interface_in(
+                    block.endianness(),
+                    alloc,
+                    block.body.as_slice(),
+                )?;
                 Ok(Kept::Interface(interface.into_owned(alloc)?))
             }
             _ => Ok(Kept::Nothing),

@@ -1,6 +1,5 @@
-use Rattle.std.proofs.Common.{◌≡◌, sym}
 use Rattle.std.proofs.lemmas.Result.{err_from_is_err_and}
-use Rattle.pcap_core.specs.Fill.{held_of, has_failed}
+use Rattle.pcap_core.specs.Fill.{held_of}
 use Rattle.pcap_core.proofs.Filled.{held_refused}
 use Rattle.pcap_file.specs.Frames.{framed_of, frame_format}
 use Rattle.pcap_file.specs.State.{state_in, led, kept_of, CanGrow}
