@@ -9,22 +9,21 @@ use Rattle.pcap_classic.specs.declared.pcap.header.PcapHeader.{PcapHeader}
 use Rattle.pcap_classic.specs.declared.run.PcapRun.{PcapRun}
 use Rattle.pcap_core.specs.Answer.{Order, number_in, whole, Refuses}
 use Rattle.pcap_classic.specs.Exact.{IsExact}
-use Rattle.pcap_core.specs.Faults.{Fault, Invalid, Io, NoText}
-use Rattle.pcap_core.specs.Format.{Asks, IsLawful}
+use Rattle.pcap_core.specs.Faults.{Fault, Invalid, Io, Utf8}
+use Rattle.pcap_core.specs.Format.{IsLawful}
 use Rattle.pcap_classic.specs.HeaderText.{HeaderText, LacksHeader, HasHeaderFault}
 use Rattle.pcap_classic.specs.Magic.{order_of, resolution_of}
-use Rattle.pcap_classic.specs.Packets.{format_under, header_format, packet_format, packet_header_format}
-use Rattle.pcap_classic.specs.declared.pcap.packet.PacketHeader.{PacketHeader}
-use Rattle.pcap_core.specs.declared.common.TsResolution.{TsResolution}
+use Rattle.pcap_classic.specs.Packets.{format_under, packet_format}
+use Rattle.pcap_classic.specs.declared.common.TsResolution.{TsResolution}
 use Rattle.pcap_core.specs.Exact.{ExactItems}
 use Rattle.pcap_core.specs.Requested.{RequestsAt, HeadThenRest}
-use Rattle.pcap_classic.specs.PacketText.{Captured, PacketHeaderText, PacketText, packet_limit, content_of}
+use Rattle.pcap_classic.specs.PacketText.{Captured, PacketText, packet_limit, content_of}
 use Rattle.pcap_core.proofs.Formats.{nil_of_length}
 use Rattle.pcap_classic.proofs.HeadedPackets.{packets_lawful}
 use Rattle.pcap_core.proofs.Requested.{item_asks}
 use Rattle.pcap_core.proofs.Showing.{exact_front, exact_few}
 use Rattle.pcap_classic.proofs.Stable.{header_stable}
-use Rattle.pcap_classic.proofs.Texts.{head_length, header_length, packet_length}
+use Rattle.pcap_classic.proofs.Texts.{header_length, packet_length}
 
 pub under_lawful : (limit : ℕ) (header : PcapHeader) → IsLawful (format_under limit header)
 under_lawful limit header = packets_lawful limit (number_in (order_of header.magic_number)) (resolution_of header.magic_number)
@@ -45,7 +44,7 @@ pub header_refuses : (bytes : List ℕ) → 24 ≤ length bytes → (e : PcapErr
 header_refuses bytes long (errors.IncompleteBuffer n) x = absurd (omega (arith, x.some, x.missing, length-take-le 24 bytes long))
 header_refuses bytes long (errors.InvalidField text) x = (x.0, x.1, fault_all bytes (Invalid x.0) x.2)
 header_refuses bytes long (errors.IoError e) x = fault_all bytes Io x
-header_refuses bytes long (errors.Utf8Error e) x = fault_all bytes NoText x
+header_refuses bytes long (errors.Utf8Error e) x = fault_all bytes Utf8 x
 header_refuses bytes long (errors.FromUtf8Error e) x = absurd x
 header_refuses bytes long (errors.OutOfMemory e) x = absurd x
 header_refuses bytes long errors.WriterFailed x = absurd x
@@ -74,11 +73,6 @@ exact_is run bytes earlier now count text x = record {
   few = omega (arith, exact_few x, length-map run.packets.items content_of);
 }
 
--- a header is asked for once
-pub header_asked : (n : ℕ) (ns s t : List ℕ) → Asks header_format tt (n ∷ ns) s t → (ns ≡ []) × ((header : PcapHeader) (rest : List ℕ) → HeaderText header t rest → rest ≡ [])
-header_asked n [] s t asked = (refl, λ header rest text. nil_of_length rest (omega (arith, header_length header t rest text, (asked.1).missing, asked.2, ap length asked.3, length-append s asked.0)))
-header_asked n (m ∷ ns) s t asked = absurd (omega (arith, (asked.1).missing, asked.2, length-append s asked.0, (asked.3.1).missing, (asked.3.1).some))
-
 -- a packet is asked for by its head and its data
 pub packet_asks : (limit : ℕ) (order : Order) (r : TsResolution) (packet : Captured) (s rest ns : List ℕ) → PacketText limit order r packet s rest
     → RequestsAt (packet_format limit order r) tt s ns → HeadThenRest 16 (16 + length packet.bytes) ns
@@ -89,10 +83,3 @@ packet_asks limit order r packet s rest ns text asked =
     let o = laws.own tt s rest packet text in
     let count : length o.0 ≡ 16 + length packet.bytes = omega (arith, packet_length order limit r packet o.0 [] o.2) in
     subst (λ (n : ℕ). HeadThenRest 16 n ns) count (item_asks f laws tt s ns packet o.0 rest o.1 o.2 asked)
-
--- and so is a packet's header
-pub packet_header_asked : (limit : ℕ) (order : Order) (r : TsResolution) (n : ℕ) (ns s t : List ℕ) → Asks (packet_header_format limit order r) tt (n ∷ ns) s t
-    → (ns ≡ []) × ((header : PacketHeader) (rest : List ℕ) → PacketHeaderText limit order r header t rest → rest ≡ [])
-packet_header_asked limit order r n [] s t asked =
-    (refl, λ header rest text. nil_of_length rest (omega (arith, head_length order text.head t rest text.text, (asked.1).missing, asked.2, ap length asked.3, length-append s asked.0)))
-packet_header_asked limit order r n (m ∷ ns) s t asked = absurd (omega (arith, (asked.1).missing, asked.2, length-append s asked.0, (asked.3.1).missing, (asked.3.1).some))

@@ -13,7 +13,7 @@ use Rattle.pcap_core.specs.declared.rest.Rest.TheVariants.{Clean, Needs, Refused
 use Rattle.pcap_core.specs.declared.run.pieces.Progress.{Progress}
 use Rattle.pcap_core.specs.declared.run.pieces.Progress.TheVariants.{Before, Within}
 use Rattle.pcap_core.specs.Answer.{Verdict, whole, lacks, faulty, Refuses}
-use Rattle.pcap_core.specs.Faults.{Fault, Invalid, Io, NoText}
+use Rattle.pcap_core.specs.Faults.{Fault, Invalid, Io, Utf8}
 use Rattle.pcap_core.specs.Format.{Format, Front, Texts, IsLawful, state_after}
 use Rattle.pcap_core.specs.Laws.{ExactlyOne, IsStable}
 use Rattle.pcap_core.specs.Pieces.{AfterEach, HoldsItems, IsFed, IsOpening, OpensNone, Reaches, TakesPart, joined_pieces}
@@ -69,7 +69,7 @@ module _ {V : Type 0} (Of : List ℕ → Verdict V → Type 0) (stable : IsStabl
       subst (λ (error : PcapError). Refuses ⊥ (λ n. Of (s ++ more) (lacks n)) (λ fault. Of (s ++ more) (faulty fault)) error) same (stable.fault s more Io x)
   refused_still (errors.Utf8Error utf) next e x =
       let same : errors.Utf8Error utf ≡ next = cc in
-      subst (λ (error : PcapError). Refuses ⊥ (λ n. Of (s ++ more) (lacks n)) (λ fault. Of (s ++ more) (faulty fault)) error) same (stable.fault s more NoText x)
+      subst (λ (error : PcapError). Refuses ⊥ (λ n. Of (s ++ more) (lacks n)) (λ fault. Of (s ++ more) (faulty fault)) error) same (stable.fault s more Utf8 x)
   refused_still (errors.FromUtf8Error utf) next e x = absurd x
   refused_still (errors.OutOfMemory memory) next e x = absurd x
   refused_still errors.WriterFailed next e x = absurd x
