@@ -4,7 +4,7 @@ use Rattle.pcap_core.specs.declared.common.Endianness.TheVariants.{Big}
 use Rattle.pcap_core.specs.declared.errors.PcapError.{PcapError}
 use Rattle.pcap_core.specs.declared.errors.PcapError.TheVariants as errors
 use Rattle.pcap_core.specs.Answer.{lacks, faulty, Refuses}
-use Rattle.pcap_core.specs.Faults.{Fault, Invalid, Io, NoText, Shows}
+use Rattle.pcap_core.specs.Faults.{Fault, Invalid, Io, Utf8, Shows}
 use Rattle.pcap_core.specs.Headed.{bad}
 use Rattle.pcap_file.specs.Frames.{Framed, FrameText, FrameSays}
 use Rattle.pcap_file.specs.State.{State, opening, order_at, Means, CanGrow}
@@ -15,7 +15,7 @@ pub refuses_wider : (M N : Type 0) (P Q : Fault → Type 0) → (M → N) → ((
 refuses_wider M N P Q grow step (errors.IncompleteBuffer n) x = x
 refuses_wider M N P Q grow step (errors.InvalidField text) x = (x.0, x.1, step (Invalid x.0) x.2)
 refuses_wider M N P Q grow step (errors.IoError a) x = step Io x
-refuses_wider M N P Q grow step (errors.Utf8Error a) x = step NoText x
+refuses_wider M N P Q grow step (errors.Utf8Error a) x = step Utf8 x
 refuses_wider M N P Q grow step (errors.FromUtf8Error a) x = x
 refuses_wider M N P Q grow step (errors.OutOfMemory a) x = grow x
 refuses_wider M N P Q grow step errors.WriterFailed x = x
