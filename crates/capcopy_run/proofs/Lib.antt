@@ -1,3 +1,4 @@
+mod BlockLists
 mod Digits
 mod Lines
 mod Listing

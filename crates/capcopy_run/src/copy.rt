@@ -5,7 +5,7 @@ ghost use Rattle.capcopy_run.specs.Copying.{CopiesUntil};
 ghost use Rattle.capcopy_run.specs.Exits.{exit_of, IsOfKnownWord};
 
 use crate::Exit;
-use pcap_classic::run::{Copied, Under, copy_pcap};
+use pcap_file::run::{Copied, Under, copy_pcap};
 use std::alloc::Global;
 use std::io::{Read, Write};
 

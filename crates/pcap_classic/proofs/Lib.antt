@@ -14,3 +14,4 @@ pub mod Captures
 pub mod Copied
 pub mod Accepted
 pub mod StatedPackets
+pub mod Exact

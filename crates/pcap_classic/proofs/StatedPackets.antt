@@ -9,13 +9,13 @@ use Rattle.pcap_core.specs.Faults.{Fault, Shows}
 use Rattle.pcap_core.specs.Format.{Format}
 use Rattle.pcap_classic.specs.Magic.{is_magic, order_of, resolution_of}
 use Rattle.pcap_classic.specs.PacketText.{packet_limit, Captured, PacketHeaderText, PacketText, LacksHead, HasHeadFault}
-use Rattle.pcap_core.specs.Reading.{Takes}
+use Rattle.pcap_core.specs.Reading.{Takes, Pulls}
 use Rattle.pcap_classic.specs.Packets.{packet_format, refusing_format, choice, reader_format}
 use Rattle.pcap_classic.proofs.Packets.{reader_says}
 use Rattle.pcap_core.proofs.Refusals.{refuses_shows, shows_more}
 use Rattle.pcap_classic.proofs.Stable.{packet_header_more}
-use Rattle.pcap_core.specs.Filling.{Stated, TakesStated}
-use Rattle.pcap_classic.specs.StatedPackets.{KnowsHeader}
+use Rattle.pcap_core.specs.Filling.{Stated, FillsHeaded, TakesStated}
+use Rattle.pcap_classic.specs.StatedPackets.{KnowsHeader, held_packet}
 
 chosen_head : (b : Bool) (f g : Format (Unit {0}) Captured) → b ≡ true → (choice b f g).head ≡ f.head
 chosen_head true f g e = refl
@@ -67,6 +67,14 @@ shown_stands header head s t =
     let back : drop 16 s ≡ t.body = ap (drop 16) t.split ∙ drop_at t.front t.body 16 long in
     subst (λ (l : List ℕ). (reader_format packet_limit header).says tt s (whole (record { header = head; bytes = l }) [])) (sym back)
     (packet_stands header head (length t.body) t.front t.body s t.knows t.split refl)
+
+-- what was filled with was taken
+pub packet_held : (header : PcapHeader) (before after : Option (List ℕ)) (held : List ℕ) (failed : Bool) (result : Result (Option PacketHeader) PcapError)
+    → FillsHeaded ((reader_format packet_limit header).says tt) (KnowsHeader header) (reader_format packet_limit header).head before after held failed result
+    → Pulls ((reader_format packet_limit header).says tt) (held_packet held) before after failed result
+packet_held header before after held failed (Ok (Some head)) x = (x.0, (held, shown_stands header head held x.1, x.4))
+packet_held header before after held failed (Ok None) x = (x.0, x.2, x.3)
+packet_held header before after held failed (Err e) x = x
 
 -- a header that was taken, and the data that it states, are a packet
 pub packet_taken : (header : PcapHeader) (head : PacketHeader) (body : List ℕ) (before after : Option (List ℕ))

@@ -14,3 +14,4 @@ pub mod Writing
 pub mod Defaults
 pub mod Copies
 pub mod StatedPackets
+pub mod Exact

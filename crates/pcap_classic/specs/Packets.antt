@@ -6,7 +6,9 @@ use Rattle.pcap_core.specs.declared.rules.Rule.TheVariants.{CaptureMagic}
 use Rattle.pcap_core.specs.Answer.{Order, number_in, Verdict, whole, lacks, faulty}
 use Rattle.pcap_core.specs.Faults.{Invalid}
 use Rattle.pcap_classic.specs.Magic.{is_magic, order_of, resolution_of}
-use Rattle.pcap_classic.specs.PacketText.{Captured, PacketSays}
+use Rattle.pcap_classic.specs.PacketText.{Captured, PacketHeaderSays, PacketSays}
+use Rattle.pcap_classic.specs.declared.pcap.packet.PacketHeader.{PacketHeader}
+use Rattle.pcap_classic.specs.HeaderText.{HeaderSays}
 use Rattle.pcap_core.specs.Format.{Format}
 
 -- packets of at most limit bytes, in this order and resolution: no state
@@ -35,3 +37,15 @@ choice false f g = g
 -- what a reader reads under its header as it stands
 unfoldable pub reader_format : ℕ → PcapHeader → Format (Unit {0}) Captured
 reader_format limit header = choice (is_magic header.magic_number) (format_under limit header) refusing_format
+
+-- a capture's header as a format, for what is said of requests: each item is one ('File Header')
+abbrev pub header_format : Format (Unit {0}) PcapHeader
+header_format = record { says = λ q. HeaderSays; goes = λ q header. q; head = 24 }
+
+-- a packet's header alone as a format, in the same way ('Packet Record')
+abbrev pub packet_header_format : ℕ → Order → TsResolution → Format (Unit {0}) PacketHeader
+packet_header_format limit order r = record { says = λ q. PacketHeaderSays limit order r; goes = λ q header. q; head = 16 }
+
+-- packets after any header, which is the state
+abbrev pub capture_format : ℕ → Format PcapHeader Captured
+capture_format limit = record { says = λ header. (format_under limit header).says tt; goes = λ header packet. header; head = 16 }

@@ -11,3 +11,7 @@ pub record KnowsHeader (header : PcapHeader) (head : PacketHeader) (n : ℕ) (by
   pub valid : is_magic header.magic_number ≡ true
   pub text : PacketHeaderText packet_limit (number_in (order_of header.magic_number)) (resolution_of header.magic_number) head bytes []
   pub follows : head.incl_len ≡ n
+
+-- the packet of this header whose header and data these bytes are
+abbrev pub held_packet : List ℕ → PacketHeader → Captured
+held_packet bytes head = record { header = head; bytes = drop 16 bytes }

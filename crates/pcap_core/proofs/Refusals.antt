@@ -6,6 +6,7 @@ use Rattle.pcap_core.specs.declared.errors.PcapError.{PcapError}
 use Rattle.pcap_core.specs.declared.errors.PcapError.TheVariants as errors
 use Rattle.pcap_core.specs.declared.rules.Rule.{Rule}
 use Rattle.pcap_core.specs.Answer.{Verdict, lacks, faulty, Refuses, TellsWhere}
+use Rattle.pcap_core.specs.Found.{found_of, FindsWhere}
 use Rattle.pcap_core.specs.Faults.{Fault, Invalid, Io, Utf8, Names, Shows}
 
 pub named_refuses : (M : Type 0) (L : ℕ → Type 0) (F : Fault → Type 0) (rule : Rule) (e : PcapError) → F (Invalid rule) → Names rule e → Refuses M L F e
@@ -61,3 +62,14 @@ shown_some (errors.IncompleteBuffer n) shown = absurd shown
 shown_some (errors.FromUtf8Error e) shown = absurd shown
 shown_some (errors.OutOfMemory e) shown = absurd shown
 shown_some errors.WriterFailed shown = absurd shown
+
+-- what a parser tells, and what is found in its answer
+pub found_tells : {X V : Type 0} (M : Type 0) (IsSaid : Verdict V → Type 0) (view : X → V) (answer : Result (Bor (List ℕ) × X) PcapError) → TellsWhere M IsSaid view answer → FindsWhere IsSaid view (found_of answer)
+found_tells M IsSaid view (Ok x) tells = tells
+found_tells M IsSaid view (Err (errors.IncompleteBuffer n)) tells = tells
+found_tells M IsSaid view (Err (errors.InvalidField text)) tells = tells
+found_tells M IsSaid view (Err (errors.IoError e)) tells = tells
+found_tells M IsSaid view (Err (errors.Utf8Error e)) tells = tells
+found_tells M IsSaid view (Err (errors.FromUtf8Error e)) tells = tells
+found_tells M IsSaid view (Err (errors.OutOfMemory e)) tells = tt
+found_tells M IsSaid view (Err errors.WriterFailed) tells = tells

@@ -23,3 +23,4 @@ pub mod Requests
 pub mod Window
 pub mod Requested
 pub mod Found
+pub mod Exact

@@ -7,5 +7,6 @@ pub mod run;
 
 pub use pcap_classic::pcap;
 pub use pcap_classic::pcap::{PcapParser, PcapReader, PcapWriter};
-pub use pcap_core::{CowBytes, DataLink, Endianness, PcapError, ResultParsing, TsResolution};
+pub use pcap_classic::TsResolution;
+pub use pcap_core::{CowBytes, DataLink, Endianness, PcapError, ResultParsing};
 pub use pcapng::{PcapNgParser, PcapNgReader};

@@ -276,6 +276,7 @@ impl<'a> Packet<'a> {
 }
 
 // The packet at the front of a slice under this header, and what follows it.
+#[inline(always)]
 pub(crate) fn packet_under<'a>(
     header: &PcapHeader,
     slice: &'a [u8],

@@ -23,6 +23,7 @@ pub(crate) struct PacketsUnder<'a> {
 }
 
 // The packet's header at the front of a slice, and what follows it.
+#[inline(always)]
 fn header_under<'a>(header: &PcapHeader, slice: &'a [u8]) -> ResultParsing<(&'a [u8], PacketHeader)>
     requires { IsTrue (is_magic header.now.magic_number) }
     ensures tells { let magic = header.now.magic_number in

@@ -66,6 +66,7 @@ pub fn fill_item<H: HasHead, T: Read>(
 ///
 /// The head's refusal where its bytes are refused. `OutOfMemory` where there is no room, `IoError` where a read failed or the
 /// stream ended early.
+#[inline(always)]
 pub fn take_item<H: HasHead, T: Read>(
     alloc: Global,
     item: &H,
@@ -89,6 +90,7 @@ pub fn take_item<H: HasHead, T: Read>(
 }
 
 // Fills what is held with the head of the next item, and says how many bytes follow it.
+#[inline(always)]
 fn fill_head<H: HasHead, T: Read>(
     item: &H,
     stream: &mut T,

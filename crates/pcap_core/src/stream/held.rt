@@ -53,6 +53,7 @@ impl Held {
     }
 
     // Makes room for so many bytes behind those that are held.
+    #[inline(always)]
     pub(crate) fn make_room(&mut self, n: usize) -> ResultParsing<()>
         requires { n ≤ 65536 }
         ensures room { OnOk result (self.new.len + n ≤ room_of self.new) }

@@ -16,6 +16,7 @@ use std::io::{ErrorKind, Read};
 const MOST_AT_ONCE: usize = 65536;
 
 // Holds what one read gives. It works over the parts of a `Fill`: so a stream that is only borrowed is filled from too.
+#[inline(always)]
 pub(crate) fn read_once<T: Read>(
     stream: &mut T,
     has_failed: &mut bool,
@@ -47,6 +48,7 @@ pub(crate) fn read_once<T: Read>(
 }
 
 // Holds n bytes more.
+#[inline(always)]
 pub(crate) fn read_exactly<T: Read>(
     stream: &mut T,
     has_failed: &mut bool,
@@ -78,6 +80,7 @@ pub(crate) fn read_exactly<T: Read>(
 /// Takes so many bytes off a stream, in a vector of their own, whose room grows with the bytes that come.
 ///
 /// `OutOfMemory` where they can't be kept, `IoError` where a read failed or the stream ended early.
+#[inline(always)]
 pub fn take_bytes<T: Read>(
     alloc: Global,
     stream: &mut T,
@@ -121,6 +124,7 @@ pub fn fill_array<T: Read>(
 }
 
 // One read into so many bytes from a place on.
+#[inline(always)]
 fn read_at<T: Read>(stream: &mut T, bytes: &mut [u8], at: usize, room: usize) -> io::Result<usize>
     requires some { 0 < room }
     requires within { at + room ≤ length bytes.old }

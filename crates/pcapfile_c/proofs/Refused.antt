@@ -1,0 +1,35 @@
+-- A refusal that is told by status and struct.
+use Rattle.std.proofs.Common.{◌≡◌, ℕ, ℤ, List, Err, refl, sym, ap, subst, inl, inr, pos, w32, to_z, of_z}
+use Rattle.pcap_core.specs.declared.errors.PcapError.{PcapError}
+use Rattle.pcap_core.specs.declared.errors.PcapError.TheVariants as errors
+use Rattle.pcap_core.specs.declared.rules.Rule.TheVariants.{CaptureMagic}
+use Rattle.pcap_core.specs.Answer.{Verdict, lacks, faulty, Refuses}
+use Rattle.pcap_classic.specs.declared.pcap.header.PcapHeader.{PcapHeader}
+use Rattle.pcap_classic.specs.Parser.{OpensParser}
+use Rattle.pcapfile_c.specs.declared.errors.PcapfileError.{PcapfileError}
+use Rattle.pcapfile_c.specs.Refusals.{ShowsError, ShowsRule, TellsRefusal}
+
+-- a status as it is returned
+abbrev kept : ℤ → ℤ
+kept z = to_z w32 (of_z w32 z)
+
+pub tells_refusal : {V : Type 0} (IsSaid : Verdict V → Type 0) (e : PcapError) (told : PcapfileError) (z : ℤ)
+    → Refuses ⊥ (λ n. IsSaid (lacks n)) (λ fault. IsSaid (faulty fault)) e → ShowsError e told z → TellsRefusal IsSaid told (to_z w32 (of_z w32 z))
+tells_refusal IsSaid (errors.IncompleteBuffer n) told z said shows = inl (ap kept shows.0, shows.1, subst (λ m. IsSaid (lacks m)) (sym shows.2) said)
+tells_refusal IsSaid (errors.InvalidField text) told z said shows = inr (inl (ap kept shows.0, said.0, (shows.1 said.0 said.1, shows.2), said.2))
+tells_refusal IsSaid (errors.IoError e) told z said shows = inr (inr (inl (ap kept shows.0, shows.1, said)))
+tells_refusal IsSaid (errors.Utf8Error e) told z said shows = inr (inr (inr (ap kept shows.0, shows.1, said)))
+tells_refusal IsSaid (errors.FromUtf8Error e) told z said shows = absurd said
+tells_refusal IsSaid (errors.OutOfMemory e) told z said shows = absurd said
+tells_refusal IsSaid errors.WriterFailed told z said shows = absurd said
+
+-- the error of a parser that its header does not give
+pub tells_magic : (header : PcapHeader) (e : PcapError) (told : PcapfileError) (z : ℤ)
+    → OpensParser header (Err e) → ShowsError e told z → (to_z w32 (of_z w32 z) ≡ pos 3) × ShowsRule CaptureMagic told
+tells_magic header (errors.InvalidField text) told z opens shows = (ap kept shows.0, (shows.1 CaptureMagic opens.1, shows.2))
+tells_magic header (errors.IncompleteBuffer n) told z opens shows = absurd opens
+tells_magic header (errors.IoError e) told z opens shows = absurd opens
+tells_magic header (errors.Utf8Error e) told z opens shows = absurd opens
+tells_magic header (errors.FromUtf8Error e) told z opens shows = absurd opens
+tells_magic header (errors.OutOfMemory e) told z opens shows = absurd opens
+tells_magic header errors.WriterFailed told z opens shows = absurd opens
