@@ -1,4 +1,5 @@
 mod Digits
 mod Lines
 mod Listing
+mod PacketLists
 mod Exits

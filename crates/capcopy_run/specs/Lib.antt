@@ -3,4 +3,5 @@ pub mod Copying
 pub mod Exits
 pub mod Lines
 pub mod Listing
+pub mod PacketLines
 pub mod Words

@@ -8,6 +8,7 @@ ghost use Rattle.capcopy_run.specs.Commands.{AsksFor};
 ghost use Rattle.capcopy_run.specs.Copying.{CopiesUntil};
 ghost use Rattle.capcopy_run.specs.Exits.{IsOfKnownWord, exit_of};
 ghost use Rattle.capcopy_run.specs.Listing.{ListsUntil};
+ghost use Rattle.capcopy_run.specs.PacketLines.{packet_lines};
 ghost use Rattle.capcopy_run.specs.Words.{AskForList, AskForCopy, AskForNothing};
 
 use crate::Exit;
@@ -54,7 +55,7 @@ pub fn run<R: Read, W: Write>(
     most: u64,
 ) -> Exit
     ensures listed { AskForList words.now → IfSome (R.remaining input.old) (λ s.
-        ListsUntil most s (W.contents output.old) (W.contents output.new) result) }
+        ListsUntil packet_lines most s (W.contents output.old) (W.contents output.new) result) }
     ensures copied { (under : Under) → AskForCopy under words.now →
         CopiesUntil under (R.remaining input.old) (R.remaining input.new) (W.contents output.old) (W.contents output.new) most result }
     ensures known { (AskForNothing words.now → ⊥) → IsOfKnownWord result }

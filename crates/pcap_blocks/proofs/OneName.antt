@@ -4,7 +4,7 @@ use Rattle.std.specs.Prelude.{◌⊎◌}
 use Rattle.std.specs.Str.{is_utf8}
 use Rattle.std.proofs.lemmas.List.Elements.{All-cons, All-nil}
 use Rattle.pcap_core.specs.Answer.{Verdict, whole, lacks, faulty}
-use Rattle.pcap_core.specs.Faults.{Fault, Invalid, NoText}
+use Rattle.pcap_core.specs.Faults.{Fault, Invalid, Utf8}
 use Rattle.pcap_core.specs.Laws.{ExactlyOne}
 use Rattle.pcap_core.specs.declared.rules.Rule.TheVariants.{NameUnended}
 use Rattle.pcap_core.specs.Padded.{Chain}
@@ -79,7 +79,7 @@ zero_one s =
       | inr none ↦ record { value = faulty (Invalid NameUnended); holds = (refl, none); only = λ w k. zero_only s (faulty (Invalid NameUnended)) w (refl, none) k }
     ]
 
-text_cases : (name : List ℕ) (b : Bool) → is_utf8 name ≡ b → (text_at name ≡ Ok name) ⊎ (text_at name ≡ Err NoText)
+text_cases : (name : List ℕ) (b : Bool) → is_utf8 name ≡ b → (text_at name ≡ Ok name) ⊎ (text_at name ≡ Err Utf8)
 text_cases name true e = inl (rw e refl)
 text_cases name false e = inr (rw e refl)
 
@@ -98,7 +98,7 @@ unfolding TextSays
 text_one name rest =
     elim (text_cases name (is_utf8 name) refl) [
       | inl ok ↦ record { value = whole name rest; holds = (ok, refl, refl); only = λ w k. text_only name rest (whole name rest) w (ok, refl, refl) k }
-      | inr err ↦ record { value = faulty NoText; holds = err; only = λ w k. text_only name rest (faulty NoText) w err k }
+      | inr err ↦ record { value = faulty Utf8; holds = err; only = λ w k. text_only name rest (faulty Utf8) w err k }
     ]
 
 NameThen : List ℕ → Verdict (List ℕ) → Type 0

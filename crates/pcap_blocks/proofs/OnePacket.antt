@@ -6,7 +6,7 @@ use Rattle.pcap_core.specs.Laws.{ExactlyOne}
 use Rattle.pcap_core.specs.declared.rules.Rule.TheVariants.{EnhancedTooShort}
 use Rattle.pcap_blocks.specs.StoredPacket.{Stored, StoredSays}
 use Rattle.pcap_blocks.specs.StoredPacket as stored
-use Rattle.pcap_blocks.specs.PacketBody.{packet_kind, PacketBody, PacketBodyText, short, in_packet, PacketBodySays}
+use Rattle.pcap_blocks.specs.Packet.{packet_kind, PacketBody, PacketBodyText, short, in_packet, PacketBodySays}
 use Rattle.pcap_core.proofs.Verdicts.{one_moved, Then, one_then, one_made}
 use Rattle.pcap_core.proofs.Numbers.{Values, NumbersSay, numbers_one, numbers_behind, numbers_at, numbers_length}
 use Rattle.pcap_blocks.proofs.OneStored.{stored_one}

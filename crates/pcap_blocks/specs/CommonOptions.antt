@@ -1,10 +1,13 @@
--- The options of the code that every kind of block has.
+-- What options of the code carry, and those that every kind of block has.
+use Rattle.std.specs.Prelude.{ℕ}
+use Rattle.std.specs.declared.borrow.CowStr.{CowStr}
 use Rattle.std.specs.Cow.{cow_str_bytes, IsBorrowedStr, IsOwnedStr}
+use Rattle.pcap_core.specs.declared.common.CowBytes.{CowBytes}
 use Rattle.pcap_core.specs.Bytes.{cow_bytes, IsBorrowed, IsOwned}
-use Rattle.pcap_blocks.specs.Values.{Entry, CustomText, CustomBytes, Unknown}
-use Rattle.pcap_blocks.specs.declared.common.UnknownOption.{UnknownOption}
-use Rattle.pcap_blocks.specs.declared.common.CustomBinaryOption.{CustomBinaryOption}
-use Rattle.pcap_blocks.specs.declared.common.CustomUtf8Option.{CustomUtf8Option}
+use Rattle.pcap_blocks.specs.Values.{Entry, Text, Bytes, Integer, CustomText, CustomBytes, Unknown}
+use Rattle.pcap_blocks.specs.declared.options.UnknownOption.{UnknownOption}
+use Rattle.pcap_blocks.specs.declared.options.CustomBinaryOption.{CustomBinaryOption}
+use Rattle.pcap_blocks.specs.declared.options.CustomUtf8Option.{CustomUtf8Option}
 
 -- what an option of an unknown code says
 abbrev pub unknown_entry : UnknownOption → Entry
@@ -41,3 +44,33 @@ CustomTextIsBorrowed o = IsBorrowedStr o.value
 -- its text is owned
 abbrev pub CustomTextIsOwned : CustomUtf8Option → Type 0
 CustomTextIsOwned o = IsOwnedStr o.value
+
+-- what an option carries: what it says, and what it is that its text or bytes are borrowed, or owned
+pub record Carried : Type 1 where
+  pub entry : Entry
+  pub is_borrowed : Type 0
+  pub is_owned : Type 0
+
+-- a text under this code
+abbrev pub carries_text : {Z : Type 0} → ℕ → CowStr Z → Carried
+carries_text code t = record { entry = record { code = code; value = Text (cow_str_bytes t) }; is_borrowed = IsBorrowedStr t; is_owned = IsOwnedStr t }
+
+-- bytes under this code
+abbrev pub carries_bytes : ℕ → CowBytes → Carried
+carries_bytes code b = record { entry = record { code = code; value = Bytes (cow_bytes b) }; is_borrowed = IsBorrowed b; is_owned = IsOwned b }
+
+-- a number under this code, which lies nowhere else
+abbrev pub carries_number : ℕ → ℕ → Carried
+carries_number code n = record { entry = record { code = code; value = Integer n }; is_borrowed = Unit {0}; is_owned = Unit {0} }
+
+-- an option of an enterprise's bytes
+abbrev pub carries_custom_bytes : CustomBinaryOption → Carried
+carries_custom_bytes o = record { entry = custom_bytes_entry o; is_borrowed = CustomBytesIsBorrowed o; is_owned = CustomBytesIsOwned o }
+
+-- an option of an enterprise's text
+abbrev pub carries_custom_text : CustomUtf8Option → Carried
+carries_custom_text o = record { entry = custom_text_entry o; is_borrowed = CustomTextIsBorrowed o; is_owned = CustomTextIsOwned o }
+
+-- an option of an unknown code
+abbrev pub carries_unknown : UnknownOption → Carried
+carries_unknown o = record { entry = unknown_entry o; is_borrowed = UnknownIsBorrowed o; is_owned = UnknownIsOwned o }

@@ -10,9 +10,10 @@ use Rattle.pcap_blocks.specs.declared.name_resolution.NameResolutionOption.{Name
 use Rattle.pcap_blocks.specs.declared.name_resolution.NameResolutionOption.TheVariants as option_of
 use Rattle.pcap_core.specs.Padded.{Chain}
 use Rattle.pcap_blocks.specs.Values.{Entry, Text, Bytes, Kind, text, fixed_bytes, custom}
-use Rattle.pcap_blocks.specs.Options.{may_end_with_body, OptionList, ListFault}
-use Rattle.pcap_blocks.specs.CommonOptions.{unknown_entry, custom_bytes_entry, custom_text_entry, UnknownIsBorrowed, UnknownIsOwned, CustomBytesIsBorrowed, CustomBytesIsOwned, CustomTextIsBorrowed, CustomTextIsOwned}
-use Rattle.pcap_blocks.specs.Records.{NameRecord, End, RecordText, RecordFault, name_record_of, RecordIsBorrowed, RecordIsOwned}
+use Rattle.pcap_blocks.specs.Growth.{BeginsWith}
+use Rattle.pcap_blocks.specs.Options.{may_end_with_body, OptionList, ListFault, OptionsMayGrow}
+use Rattle.pcap_blocks.specs.CommonOptions.{Carried, carries_text, carries_bytes, carries_custom_bytes, carries_custom_text, carries_unknown}
+use Rattle.pcap_blocks.specs.Record.{NameRecord, End, RecordText, RecordFault, RecordMayGrow, name_record_of, RecordIsBorrowed, RecordIsOwned}
 
 -- comment, and the name and addresses of the server that resolved the names
 abbrev pub name_resolution : Kind
@@ -45,6 +46,11 @@ pub record RecordsFault (order : Order) (s : List ℕ) (fault : Fault) : Type 0 
 abbrev pub RecordsSay : Order → List ℕ → Verdict (List NameRecord) → Type 0
 RecordsSay order s = Says (λ records rest. RecordsText order records s rest) (λ n. ⊥) (RecordsFault order s)
 
+-- a record that is kept begins the records, or one that has a name
+pub data RecordsMayGrow (order : Order) (s : List ℕ) : Type 0 where
+  kept : BeginsWith (KeptText order) s → RecordsMayGrow order s
+  named : RecordMayGrow order s → RecordsMayGrow order s
+
 -- s is the body of a name resolution block, and then rest
 pub record ResolutionText (order : Order) (b : Resolution) (s rest : List ℕ) : Type 0 where
   pub after : List ℕ
@@ -60,35 +66,32 @@ pub data ResolutionFault (order : Order) (s : List ℕ) (fault : Fault) : Type 0
 abbrev pub ResolutionSays : Order → List ℕ → Verdict Resolution → Type 0
 ResolutionSays order s = Says (λ b rest. ResolutionText order b s rest) (λ n. ⊥) (ResolutionFault order s)
 
--- an option of the code
+-- a body has a record that is kept or has a name, or an option
+pub data ResolutionMayGrow (order : Order) (s : List ℕ) : Type 0 where
+  with_record : RecordsMayGrow order s → ResolutionMayGrow order s
+  with_option : (records : List NameRecord) (after : List ℕ) → RecordsText order records s after → OptionsMayGrow order name_resolution after → ResolutionMayGrow order s
+
+-- what an option of the code carries
+abbrev pub name_carries : NameResolutionOption → Carried
+name_carries (option_of.Comment t) = carries_text 1 t
+name_carries (option_of.NsDnsName t) = carries_text 2 t
+name_carries (option_of.NsDnsIpv4Addr b) = carries_bytes 3 b
+name_carries (option_of.NsDnsIpv6Addr b) = carries_bytes 4 b
+name_carries (option_of.CustomBinary o) = carries_custom_bytes o
+name_carries (option_of.CustomUtf8 o) = carries_custom_text o
+name_carries (option_of.Unknown o) = carries_unknown o
+
+-- what an option of the code says
 abbrev pub name_entry : NameResolutionOption → Entry
-name_entry (option_of.Comment t) = record { code = 1; value = Text (cow_str_bytes t) }
-name_entry (option_of.NsDnsName t) = record { code = 2; value = Text (cow_str_bytes t) }
-name_entry (option_of.NsDnsIpv4Addr b) = record { code = 3; value = Bytes (cow_bytes b) }
-name_entry (option_of.NsDnsIpv6Addr b) = record { code = 4; value = Bytes (cow_bytes b) }
-name_entry (option_of.CustomBinary o) = custom_bytes_entry o
-name_entry (option_of.CustomUtf8 o) = custom_text_entry o
-name_entry (option_of.Unknown o) = unknown_entry o
+name_entry o = (name_carries o).entry
 
--- its text or bytes are borrowed
+-- its text or bytes are borrowed, where it has any
 abbrev pub NameOptionIsBorrowed : NameResolutionOption → Type 0
-NameOptionIsBorrowed (option_of.Comment t) = IsBorrowedStr t
-NameOptionIsBorrowed (option_of.NsDnsName t) = IsBorrowedStr t
-NameOptionIsBorrowed (option_of.NsDnsIpv4Addr b) = IsBorrowed b
-NameOptionIsBorrowed (option_of.NsDnsIpv6Addr b) = IsBorrowed b
-NameOptionIsBorrowed (option_of.CustomBinary o) = CustomBytesIsBorrowed o
-NameOptionIsBorrowed (option_of.CustomUtf8 o) = CustomTextIsBorrowed o
-NameOptionIsBorrowed (option_of.Unknown o) = UnknownIsBorrowed o
+NameOptionIsBorrowed o = (name_carries o).is_borrowed
 
--- its text or bytes are owned
+-- its text or bytes are owned, where it has any
 abbrev pub NameOptionIsOwned : NameResolutionOption → Type 0
-NameOptionIsOwned (option_of.Comment t) = IsOwnedStr t
-NameOptionIsOwned (option_of.NsDnsName t) = IsOwnedStr t
-NameOptionIsOwned (option_of.NsDnsIpv4Addr b) = IsOwned b
-NameOptionIsOwned (option_of.NsDnsIpv6Addr b) = IsOwned b
-NameOptionIsOwned (option_of.CustomBinary o) = CustomBytesIsOwned o
-NameOptionIsOwned (option_of.CustomUtf8 o) = CustomTextIsOwned o
-NameOptionIsOwned (option_of.Unknown o) = UnknownIsOwned o
+NameOptionIsOwned o = (name_carries o).is_owned
 
 -- a block of the code
 abbrev pub names_of : NameResolutionBlock → Resolution

@@ -5,6 +5,7 @@ use Rattle.pcap_core.specs.Faults.{Fault, Invalid}
 use Rattle.pcap_core.specs.declared.rules.Rule.TheVariants.{NameUnended}
 use Rattle.pcap_core.specs.Padded.{Chain}
 use Rattle.pcap_blocks.specs.Values.{text_at}
+use Rattle.pcap_blocks.specs.Growth.{BeginsWith}
 
 -- no byte is zero
 abbrev pub HasNoZero : List ℕ → Type 0
@@ -41,3 +42,7 @@ pub record NamesFault (s : List ℕ) (fault : Fault) : Type 0 where
 -- what is said of bytes where names to their end are asked for
 abbrev pub NamesSay : List ℕ → Verdict (List (List ℕ)) → Type 0
 NamesSay s = Says (λ names rest. NamesText names s rest) (λ n. ⊥) (NamesFault s)
+
+-- a list of names grows where a name begins it
+abbrev pub NamesMayGrow : List ℕ → Type 0
+NamesMayGrow = BeginsWith NameText

@@ -5,6 +5,7 @@ use Rattle.pcap_core.specs.Faults.{Fault, Invalid}
 use Rattle.pcap_core.specs.declared.rules.Rule.TheVariants.{OptionTooShort, OptionCut}
 use Rattle.pcap_core.specs.Padded.{up_to_4, Padded, Chain}
 use Rattle.pcap_blocks.specs.Values.{Entry, Kind, shape_at, value_of}
+use Rattle.pcap_blocks.specs.Growth.{BeginsWith}
 
 -- s is a code, or the type of a record, and a length, and then rest
 pub record CodeLengthText (order : Order) (code len : ℕ) (s rest : List ℕ) : Type 0 where
@@ -67,3 +68,7 @@ pub record ListFault (ending : Ending) (order : Order) (kind : Kind) (s : List �
 -- what is said of bytes where a list of options is asked for
 abbrev pub ListSays : Ending → Order → Kind → List ℕ → Verdict (List Entry) → Type 0
 ListSays ending order kind s = Says (λ options rest. OptionList ending order kind options s rest) (λ n. ⊥) (ListFault ending order kind s)
+
+-- a list of options grows where an option begins it
+abbrev pub OptionsMayGrow : Order → Kind → List ℕ → Type 0
+OptionsMayGrow order kind = BeginsWith (OptionText order kind)

@@ -4,15 +4,15 @@ use Rattle.std.specs.Borrow.{Bor}
 use Rattle.pcap_core.specs.declared.errors.PcapError.{PcapError}
 use Rattle.pcap_core.specs.declared.errors.PcapError.TheVariants as errors
 use Rattle.pcap_core.specs.Answer.{Verdict, whole, faulty}
-use Rattle.pcap_core.specs.Faults.{Fault, Invalid, Io, NoText, text_of}
+use Rattle.pcap_core.specs.Faults.{Fault, Invalid, Io, Utf8, text_of}
 use Rattle.pcap_blocks.specs.declared.refusal.Refusal.{Refusal}
 use Rattle.pcap_blocks.specs.declared.refusal.Refusal.TheVariants as refusals
 
 -- the refusal names a fault that stands, or memory ran out where it may
 abbrev pub Denies : Type 0 → (Fault → Type 0) → Refusal → Type 0
 Denies MayGrow HasFault (refusals.Memory e) = MayGrow
-Denies MayGrow HasFault refusals.Short = HasFault Io
-Denies MayGrow HasFault (refusals.Utf8 e) = HasFault NoText
+Denies MayGrow HasFault refusals.Io = HasFault Io
+Denies MayGrow HasFault (refusals.Utf8 e) = HasFault Utf8
 Denies MayGrow HasFault (refusals.Invalid rule) = HasFault (Invalid rule)
 
 -- the result of a call that may grow something only under this condition tells one verdict: its value, seen by view, with what follows it, or a fault
@@ -36,7 +36,7 @@ FindsAll = FindsAllWhere ⊥
 -- the error that shows a refusal
 abbrev pub IsShownAs : Refusal → PcapError → Type 0
 IsShownAs (refusals.Memory a) (errors.OutOfMemory b) = Unit {0}
-IsShownAs refusals.Short (errors.IoError e) = Unit {0}
+IsShownAs refusals.Io (errors.IoError e) = Unit {0}
 IsShownAs (refusals.Utf8 a) (errors.Utf8Error b) = a ≡ b
 IsShownAs (refusals.Invalid rule) (errors.InvalidField text) = text.now ≡ text_of rule
 IsShownAs refusal error = ⊥

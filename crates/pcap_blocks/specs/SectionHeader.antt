@@ -13,8 +13,9 @@ use Rattle.pcap_blocks.specs.declared.section_header.SectionHeaderOption.{Sectio
 use Rattle.pcap_blocks.specs.declared.section_header.SectionHeaderOption.TheVariants as option_of
 use Rattle.pcap_core.specs.Padded.{Behind}
 use Rattle.pcap_blocks.specs.Values.{Entry, Text, Kind, text, custom}
-use Rattle.pcap_blocks.specs.Options.{may_end_with_body, OptionList, ListFault}
-use Rattle.pcap_blocks.specs.CommonOptions.{unknown_entry, custom_bytes_entry, custom_text_entry, UnknownIsBorrowed, UnknownIsOwned, CustomBytesIsBorrowed, CustomBytesIsOwned, CustomTextIsBorrowed, CustomTextIsOwned}
+use Rattle.pcap_blocks.specs.Growth.{HoldsAfter}
+use Rattle.pcap_blocks.specs.Options.{may_end_with_body, OptionList, ListFault, OptionsMayGrow}
+use Rattle.pcap_blocks.specs.CommonOptions.{Carried, carries_text, carries_custom_bytes, carries_custom_text, carries_unknown}
 
 -- comment, hardware, operating system, application
 abbrev pub section_header : Kind
@@ -77,35 +78,40 @@ SectionSays s = Says (λ section rest. SectionText section s rest) (λ n. ⊥) (
 abbrev pub AfterMagicSays : Order → ℕ → List ℕ → Verdict Section → Type 0
 AfterMagicSays order magic s = Says (λ section rest. (section.magic ≡ magic) × AfterMagic order section s rest) (λ n. ⊥) (AfterMagicFault order s)
 
--- an option of the code
+-- an option stands after the version
+abbrev pub AfterMagicMayGrow : Order → List ℕ → Type 0
+AfterMagicMayGrow order = HoldsAfter 12 (OptionsMayGrow order section_header)
+
+-- a section has an option, in the order that its magic number names
+pub record SectionMayGrow (s : List ℕ) : Type 0 where
+  pub magic : ℕ
+  pub after_magic : List ℕ
+  pub endianness : Endianness
+  pub magic_is : Number big_number 4 magic s after_magic
+  pub names : magic_order magic ≡ Some endianness
+  pub grows : AfterMagicMayGrow (number_in endianness) after_magic
+
+-- what an option of the code carries
+abbrev pub section_carries : SectionHeaderOption → Carried
+section_carries (option_of.Comment t) = carries_text 1 t
+section_carries (option_of.Hardware t) = carries_text 2 t
+section_carries (option_of.OS t) = carries_text 3 t
+section_carries (option_of.UserApplication t) = carries_text 4 t
+section_carries (option_of.CustomBinary o) = carries_custom_bytes o
+section_carries (option_of.CustomUtf8 o) = carries_custom_text o
+section_carries (option_of.Unknown o) = carries_unknown o
+
+-- what an option of the code says
 abbrev pub section_entry : SectionHeaderOption → Entry
-section_entry (option_of.Comment t) = record { code = 1; value = Text (cow_str_bytes t) }
-section_entry (option_of.Hardware t) = record { code = 2; value = Text (cow_str_bytes t) }
-section_entry (option_of.OS t) = record { code = 3; value = Text (cow_str_bytes t) }
-section_entry (option_of.UserApplication t) = record { code = 4; value = Text (cow_str_bytes t) }
-section_entry (option_of.CustomBinary o) = custom_bytes_entry o
-section_entry (option_of.CustomUtf8 o) = custom_text_entry o
-section_entry (option_of.Unknown o) = unknown_entry o
+section_entry o = (section_carries o).entry
 
--- its text or bytes are borrowed
+-- its text or bytes are borrowed, where it has any
 abbrev pub SectionOptionIsBorrowed : SectionHeaderOption → Type 0
-SectionOptionIsBorrowed (option_of.Comment t) = IsBorrowedStr t
-SectionOptionIsBorrowed (option_of.Hardware t) = IsBorrowedStr t
-SectionOptionIsBorrowed (option_of.OS t) = IsBorrowedStr t
-SectionOptionIsBorrowed (option_of.UserApplication t) = IsBorrowedStr t
-SectionOptionIsBorrowed (option_of.CustomBinary o) = CustomBytesIsBorrowed o
-SectionOptionIsBorrowed (option_of.CustomUtf8 o) = CustomTextIsBorrowed o
-SectionOptionIsBorrowed (option_of.Unknown o) = UnknownIsBorrowed o
+SectionOptionIsBorrowed o = (section_carries o).is_borrowed
 
--- its text or bytes are owned
+-- its text or bytes are owned, where it has any
 abbrev pub SectionOptionIsOwned : SectionHeaderOption → Type 0
-SectionOptionIsOwned (option_of.Comment t) = IsOwnedStr t
-SectionOptionIsOwned (option_of.Hardware t) = IsOwnedStr t
-SectionOptionIsOwned (option_of.OS t) = IsOwnedStr t
-SectionOptionIsOwned (option_of.UserApplication t) = IsOwnedStr t
-SectionOptionIsOwned (option_of.CustomBinary o) = CustomBytesIsOwned o
-SectionOptionIsOwned (option_of.CustomUtf8 o) = CustomTextIsOwned o
-SectionOptionIsOwned (option_of.Unknown o) = UnknownIsOwned o
+SectionOptionIsOwned o = (section_carries o).is_owned
 
 -- a block of the code
 abbrev pub section_of : SectionHeaderBlock → Section

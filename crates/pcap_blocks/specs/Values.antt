@@ -2,7 +2,7 @@
 use Rattle.std.specs.Prelude.{◌≡◌, ◌+◌, ◌*◌, ◌^◌, ℕ, List, [], ◌∷◌, length, take, drop, slice_index, Result, Ok, Err, ◌==◌, nat_lt, if◌then◌else◌}
 use Rattle.std.specs.Str.{is_utf8}
 use Rattle.pcap_core.specs.Answer.{Order, Verdict, Says}
-use Rattle.pcap_core.specs.Faults.{Fault, Invalid, Io, NoText}
+use Rattle.pcap_core.specs.Faults.{Fault, Invalid, Io, Utf8}
 use Rattle.pcap_core.specs.declared.rules.Rule.{Rule}
 
 -- what an option holds; a custom option the number of an enterprise before its text or bytes, an unknown one its length
@@ -53,7 +53,7 @@ pub data Shape : Type 0 where
 
 -- the text that bytes are, or the fault that they are none
 abbrev pub text_at : List ℕ → Result (List ℕ) Fault
-text_at v = if is_utf8 v then Ok v else Err NoText
+text_at v = if is_utf8 v then Ok v else Err Utf8
 
 -- a value made of what was read, or the same fault
 abbrev pub with_value : (List ℕ → Value) → Result (List ℕ) Fault → Result Value Fault

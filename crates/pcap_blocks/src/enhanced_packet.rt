@@ -1,21 +1,21 @@
 //! Enhanced packets.
 
-ghost use Rattle.std.specs.Prelude.{⊤, map, All, IsOk, IfOk, ◌≡◌, IfErr};
+ghost use Rattle.std.specs.Prelude.{map, All, IsOk, IfOk, ◌≡◌, IfErr};
 ghost use Rattle.pcap_core.specs.Answer.{TellsWhere};
 ghost use Rattle.pcap_blocks.specs.Refusals.{FindsWhere};
-ghost use Rattle.pcap_blocks.specs.Options.{may_end_with_body, ListSays};
-ghost use Rattle.pcap_blocks.specs.EnhancedPacket.{enhanced_packet, EnhancedSays, enhanced_entry, EnhancedOptionIsBorrowed, enhanced_of, EnhancedIsBorrowed, EnhancedOptionIsOwned, EnhancedIsOwned, EnhancedNeedsNoMemory};
+ghost use Rattle.pcap_blocks.specs.Options.{may_end_with_body, ListSays, OptionsMayGrow};
+ghost use Rattle.pcap_blocks.specs.EnhancedPacket.{enhanced_packet, EnhancedSays, enhanced_entry, EnhancedOptionIsBorrowed, enhanced_of, EnhancedIsBorrowed, EnhancedOptionIsOwned, EnhancedIsOwned, EnhancedNeedsNoMemory, EnhancedMayGrow};
 ghost use Rattle.pcap_core.specs.Errors.{IsMemory};
 
-use crate::common::{
+use crate::options::{
     CustomBinaryOption, CustomUtf8Option, PcapNgOption, UnknownOption, options_from_slice,
 };
-use pcap_core::fields::split_u32;
-use crate::owned::{KeepValue, keep_all};
+use crate::owned::{IntoStatic, each_into_static};
 use crate::refusal::Refusal;
-use crate::stored::stored_from_slice;
+use crate::stored_packet::stored_from_slice;
 use crate::values::{text_value, u32_value, u64_value};
 use byteorder::ByteOrder;
+use pcap_core::fields::split_u32;
 use pcap_core::rules::Rule;
 use pcap_core::{CowBytes, ResultParsing};
 use std::alloc::{AllocError, Global};
@@ -48,7 +48,7 @@ impl<'a> EnhancedPacketBlock<'a> {
         alloc: Global,
         slice: &'a [u8],
     ) -> ResultParsing<(&'a [u8], Self)>
-        ensures tells { TellsWhere ⊤ (EnhancedSays B.number_of slice.now) enhanced_of result }
+        ensures tells { TellsWhere (EnhancedMayGrow B.number_of slice.now) (EnhancedSays B.number_of slice.now) enhanced_of result }
         ensures borrowed { IfOk result (λ x. EnhancedIsBorrowed x.1) }
     {
         Ok(EnhancedPacketBlock::read::<B>(alloc, slice)?)
@@ -58,7 +58,7 @@ impl<'a> EnhancedPacketBlock<'a> {
         alloc: Global,
         slice: &'a [u8],
     ) -> Result<(&'a [u8], Self), Refusal>
-        ensures tells { FindsWhere ⊤ (EnhancedSays B.number_of slice.now) enhanced_of result }
+        ensures tells { FindsWhere (EnhancedMayGrow B.number_of slice.now) (EnhancedSays B.number_of slice.now) enhanced_of result }
         ensures borrowed { IfOk result (λ x. EnhancedIsBorrowed x.1) }
     {
         if slice.len() < 20 {
@@ -75,6 +75,18 @@ impl<'a> EnhancedPacketBlock<'a> {
             options: packet.options,
         };
         Ok((rest, block))
+    }
+
+    /// The same packet, with bytes and texts of its own: borrowed ones are copied, owned ones kept.
+    ///
+    /// `OutOfMemory` where a copy can't be made; the value is then dropped.
+    pub fn into_owned(self, alloc: Global) -> ResultParsing<EnhancedPacketBlock<'static>>
+        ensures same { IfOk result (λ kept. enhanced_of kept ≡ enhanced_of self.entry) }
+        ensures owned { IfOk result EnhancedIsOwned }
+        ensures memory { IfErr result IsMemory }
+        ensures kept { EnhancedNeedsNoMemory self.entry → IsOk result }
+    {
+        Ok(self.into_static(alloc)?)
     }
 }
 
@@ -106,10 +118,22 @@ impl<'a> EnhancedPacketOption<'a> {
         alloc: Global,
         slice: &'a [u8],
     ) -> ResultParsing<(&'a [u8], Vec<Self>)>
-        ensures tells { TellsWhere ⊤ (ListSays may_end_with_body B.number_of enhanced_packet slice.now) (λ options. map enhanced_entry options.items) result }
+        ensures tells { TellsWhere (OptionsMayGrow B.number_of enhanced_packet slice.now) (ListSays may_end_with_body B.number_of enhanced_packet slice.now) (λ options. map enhanced_entry options.items) result }
         ensures borrowed { IfOk result (λ x. All EnhancedOptionIsBorrowed x.1.items) }
     {
         Ok(options_from_slice::<EnhancedPacketOption, B>(alloc, slice)?)
+    }
+
+    /// The same option, with bytes and texts of its own: borrowed ones are copied, owned ones kept.
+    ///
+    /// `OutOfMemory` where a copy can't be made; the value is then dropped.
+    pub fn into_owned(self, alloc: Global) -> ResultParsing<EnhancedPacketOption<'static>>
+        ensures same { IfOk result (λ kept. enhanced_entry kept ≡ enhanced_entry self.entry) }
+        ensures owned { IfOk result EnhancedOptionIsOwned }
+        ensures memory { IfErr result IsMemory }
+        ensures kept { EnhancedOptionIsOwned self.entry → IsOk result }
+    {
+        Ok(self.into_static(alloc)?)
     }
 }
 
@@ -133,21 +157,7 @@ impl<'a> PcapNgOption<'a> for EnhancedPacketOption<'a> {
     }
 }
 
-impl<'a> EnhancedPacketOption<'a> {
-    /// The same option, with bytes and texts of its own: borrowed ones are copied, owned ones kept.
-    ///
-    /// `OutOfMemory` where a copy can't be made; the value is then dropped.
-    pub fn into_owned(self, alloc: Global) -> ResultParsing<EnhancedPacketOption<'static>>
-        ensures same { IfOk result (λ kept. enhanced_entry kept ≡ enhanced_entry self.entry) }
-        ensures owned { IfOk result EnhancedOptionIsOwned }
-        ensures memory { IfErr result IsMemory }
-        ensures kept { EnhancedOptionIsOwned self.entry → IsOk result }
-    {
-        Ok(self.keep(alloc)?)
-    }
-}
-
-impl<'a> KeepValue for EnhancedPacketOption<'a> {
+impl<'a> IntoStatic for EnhancedPacketOption<'a> {
     type Owned = EnhancedPacketOption<'static>;
 
     ghost is_same = { λ value kept. enhanced_entry kept ≡ enhanced_entry value };
@@ -156,38 +166,30 @@ impl<'a> KeepValue for EnhancedPacketOption<'a> {
 
     ghost needs_no_memory = { EnhancedOptionIsOwned };
 
-    fn keep(self, alloc: Global) -> Result<EnhancedPacketOption<'static>, AllocError> {
+    fn into_static(self, alloc: Global) -> Result<EnhancedPacketOption<'static>, AllocError> {
         Ok(match self {
-            EnhancedPacketOption::Comment(held) => EnhancedPacketOption::Comment(held.keep(alloc)?),
-            EnhancedPacketOption::Flags(n) => EnhancedPacketOption::Flags(n),
-            EnhancedPacketOption::Hash(held) => EnhancedPacketOption::Hash(held.keep(alloc)?),
-            EnhancedPacketOption::DropCount(n) => EnhancedPacketOption::DropCount(n),
-            EnhancedPacketOption::CustomBinary(held) => EnhancedPacketOption::CustomBinary(
-                held.keep(alloc)?,
-            ),
-            EnhancedPacketOption::CustomUtf8(held) => EnhancedPacketOption::CustomUtf8(held.keep(
+            EnhancedPacketOption::Comment(held) => EnhancedPacketOption::Comment(held.into_static(
                 alloc,
             )?),
-            EnhancedPacketOption::Unknown(held) => EnhancedPacketOption::Unknown(held.keep(alloc)?),
+            EnhancedPacketOption::Flags(n) => EnhancedPacketOption::Flags(n),
+            EnhancedPacketOption::Hash(held) => EnhancedPacketOption::Hash(held.into_static(
+                alloc,
+            )?),
+            EnhancedPacketOption::DropCount(n) => EnhancedPacketOption::DropCount(n),
+            EnhancedPacketOption::CustomBinary(held) => EnhancedPacketOption::CustomBinary(
+                held.into_static(alloc)?,
+            ),
+            EnhancedPacketOption::CustomUtf8(held) => EnhancedPacketOption::CustomUtf8(
+                held.into_static(alloc)?,
+            ),
+            EnhancedPacketOption::Unknown(held) => EnhancedPacketOption::Unknown(held.into_static(
+                alloc,
+            )?),
         })
     }
 }
 
-impl<'a> EnhancedPacketBlock<'a> {
-    /// The same packet, with bytes and texts of its own: borrowed ones are copied, owned ones kept.
-    ///
-    /// `OutOfMemory` where a copy can't be made; the value is then dropped.
-    pub fn into_owned(self, alloc: Global) -> ResultParsing<EnhancedPacketBlock<'static>>
-        ensures same { IfOk result (λ kept. enhanced_of kept ≡ enhanced_of self.entry) }
-        ensures owned { IfOk result EnhancedIsOwned }
-        ensures memory { IfErr result IsMemory }
-        ensures kept { EnhancedNeedsNoMemory self.entry → IsOk result }
-    {
-        Ok(self.keep(alloc)?)
-    }
-}
-
-impl<'a> KeepValue for EnhancedPacketBlock<'a> {
+impl<'a> IntoStatic for EnhancedPacketBlock<'a> {
     type Owned = EnhancedPacketBlock<'static>;
 
     ghost is_same = { λ value kept. enhanced_of kept ≡ enhanced_of value };
@@ -196,7 +198,7 @@ impl<'a> KeepValue for EnhancedPacketBlock<'a> {
 
     ghost needs_no_memory = { EnhancedNeedsNoMemory };
 
-    fn keep(self, alloc: Global) -> Result<EnhancedPacketBlock<'static>, AllocError> {
+    fn into_static(self, alloc: Global) -> Result<EnhancedPacketBlock<'static>, AllocError> {
         let EnhancedPacketBlock {
             interface_id,
             timestamp,
@@ -210,8 +212,8 @@ impl<'a> KeepValue for EnhancedPacketBlock<'a> {
             timestamp,
             captured_len,
             original_len,
-            data_: data_.keep(alloc)?,
-            options: keep_all(alloc, options)?,
+            data_: data_.into_static(alloc)?,
+            options: each_into_static(alloc, options)?,
         })
     }
 }

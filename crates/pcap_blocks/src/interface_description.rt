@@ -1,19 +1,19 @@
 //! Interface descriptions.
 
-ghost use Rattle.std.specs.Prelude.{⊤, ◌≡◌, IsOk, IfOk, IfErr};
+ghost use Rattle.std.specs.Prelude.{◌≡◌, IsOk, IfOk, IfErr};
 ghost use Rattle.pcap_core.specs.Answer.{TellsWhere};
 ghost use Rattle.pcap_blocks.specs.Refusals.{FindsWhere};
-ghost use Rattle.pcap_blocks.specs.InterfaceDescription.{interface_description, InterfaceSays, interface_entry, InterfaceOptionIsBorrowed, interface_of, InterfaceIsBorrowed, InterfaceOptionIsOwned, InterfaceIsOwned, InterfaceNeedsNoMemory};
+ghost use Rattle.pcap_blocks.specs.InterfaceDescription.{interface_description, InterfaceSays, interface_entry, InterfaceOptionIsBorrowed, interface_of, InterfaceIsBorrowed, InterfaceOptionIsOwned, InterfaceIsOwned, InterfaceNeedsNoMemory, InterfaceMayGrow};
 ghost use Rattle.pcap_core.specs.Errors.{IsMemory};
 
-use crate::common::{
+use crate::options::{
     CustomBinaryOption, CustomUtf8Option, PcapNgOption, UnknownOption, options_from_slice,
 };
-use pcap_core::fields::{split_u16, split_u32};
-use crate::owned::{KeepValue, keep_all};
+use crate::owned::{IntoStatic, each_into_static};
 use crate::refusal::Refusal;
 use crate::values::{fixed_value, some_value, text_value, u8_value, u32_value, u64_value};
 use byteorder::ByteOrder;
+use pcap_core::fields::{split_u16, split_u32};
 use pcap_core::rules::Rule;
 use pcap_core::{CowBytes, DataLink, ResultParsing};
 use std::alloc::{AllocError, Global};
@@ -41,7 +41,7 @@ impl<'a> InterfaceDescriptionBlock<'a> {
         alloc: Global,
         slice: &'a [u8],
     ) -> ResultParsing<(&'a [u8], Self)>
-        ensures tells { TellsWhere ⊤ (InterfaceSays B.number_of slice.now) interface_of result }
+        ensures tells { TellsWhere (InterfaceMayGrow B.number_of slice.now) (InterfaceSays B.number_of slice.now) interface_of result }
         ensures borrowed { IfOk result (λ x. InterfaceIsBorrowed x.1) }
     {
         Ok(InterfaceDescriptionBlock::read::<B>(alloc, slice)?)
@@ -51,7 +51,7 @@ impl<'a> InterfaceDescriptionBlock<'a> {
         alloc: Global,
         slice: &'a [u8],
     ) -> Result<(&'a [u8], Self), Refusal>
-        ensures tells { FindsWhere ⊤ (InterfaceSays B.number_of slice.now) interface_of result }
+        ensures tells { FindsWhere (InterfaceMayGrow B.number_of slice.now) (InterfaceSays B.number_of slice.now) interface_of result }
         ensures borrowed { IfOk result (λ x. InterfaceIsBorrowed x.1) }
     {
         if slice.len() < 8 {
@@ -68,6 +68,18 @@ impl<'a> InterfaceDescriptionBlock<'a> {
             options,
         };
         Ok((rest, block))
+    }
+
+    /// The same interface, with bytes and texts of its own: borrowed ones are copied, owned ones kept.
+    ///
+    /// `OutOfMemory` where a copy can't be made; the value is then dropped.
+    pub fn into_owned(self, alloc: Global) -> ResultParsing<InterfaceDescriptionBlock<'static>>
+        ensures same { IfOk result (λ kept. interface_of kept ≡ interface_of self.entry) }
+        ensures owned { IfOk result InterfaceIsOwned }
+        ensures memory { IfErr result IsMemory }
+        ensures kept { InterfaceNeedsNoMemory self.entry → IsOk result }
+    {
+        Ok(self.into_static(alloc)?)
     }
 }
 
@@ -153,11 +165,11 @@ impl<'a> InterfaceDescriptionOption<'a> {
         ensures memory { IfErr result IsMemory }
         ensures kept { InterfaceOptionIsOwned self.entry → IsOk result }
     {
-        Ok(self.keep(alloc)?)
+        Ok(self.into_static(alloc)?)
     }
 }
 
-impl<'a> KeepValue for InterfaceDescriptionOption<'a> {
+impl<'a> IntoStatic for InterfaceDescriptionOption<'a> {
     type Owned = InterfaceDescriptionOption<'static>;
 
     ghost is_same = { λ value kept. interface_entry kept ≡ interface_entry value };
@@ -166,67 +178,53 @@ impl<'a> KeepValue for InterfaceDescriptionOption<'a> {
 
     ghost needs_no_memory = { InterfaceOptionIsOwned };
 
-    fn keep(self, alloc: Global) -> Result<InterfaceDescriptionOption<'static>, AllocError> {
+    fn into_static(self, alloc: Global) -> Result<InterfaceDescriptionOption<'static>, AllocError> {
         Ok(match self {
             InterfaceDescriptionOption::Comment(held) => InterfaceDescriptionOption::Comment(
-                held.keep(alloc)?,
+                held.into_static(alloc)?,
             ),
             InterfaceDescriptionOption::IfName(held) => InterfaceDescriptionOption::IfName(
-                held.keep(alloc)?,
+                held.into_static(alloc)?,
             ),
             InterfaceDescriptionOption::IfDescription(held) =>
-                InterfaceDescriptionOption::IfDescription(held.keep(alloc)?),
+                InterfaceDescriptionOption::IfDescription(held.into_static(alloc)?),
             InterfaceDescriptionOption::IfIpv4Addr(held) => InterfaceDescriptionOption::IfIpv4Addr(
-                held.keep(alloc)?,
+                held.into_static(alloc)?,
             ),
             InterfaceDescriptionOption::IfIpv6Addr(held) => InterfaceDescriptionOption::IfIpv6Addr(
-                held.keep(alloc)?,
+                held.into_static(alloc)?,
             ),
             InterfaceDescriptionOption::IfMacAddr(held) => InterfaceDescriptionOption::IfMacAddr(
-                held.keep(alloc)?,
+                held.into_static(alloc)?,
             ),
             InterfaceDescriptionOption::IfEuIAddr(n) => InterfaceDescriptionOption::IfEuIAddr(n),
             InterfaceDescriptionOption::IfSpeed(n) => InterfaceDescriptionOption::IfSpeed(n),
             InterfaceDescriptionOption::IfTsResol(n) => InterfaceDescriptionOption::IfTsResol(n),
             InterfaceDescriptionOption::IfTzone(n) => InterfaceDescriptionOption::IfTzone(n),
             InterfaceDescriptionOption::IfFilter(held) => InterfaceDescriptionOption::IfFilter(
-                held.keep(alloc)?,
+                held.into_static(alloc)?,
             ),
-            InterfaceDescriptionOption::IfOs(held) => InterfaceDescriptionOption::IfOs(held.keep(
-                alloc,
-            )?),
+            InterfaceDescriptionOption::IfOs(held) => InterfaceDescriptionOption::IfOs(
+                held.into_static(alloc)?,
+            ),
             InterfaceDescriptionOption::IfFcsLen(n) => InterfaceDescriptionOption::IfFcsLen(n),
             InterfaceDescriptionOption::IfTsOffset(n) => InterfaceDescriptionOption::IfTsOffset(n),
             InterfaceDescriptionOption::IfHardware(held) => InterfaceDescriptionOption::IfHardware(
-                held.keep(alloc)?,
+                held.into_static(alloc)?,
             ),
             InterfaceDescriptionOption::CustomBinary(held) =>
-                InterfaceDescriptionOption::CustomBinary(held.keep(alloc)?),
+                InterfaceDescriptionOption::CustomBinary(held.into_static(alloc)?),
             InterfaceDescriptionOption::CustomUtf8(held) => InterfaceDescriptionOption::CustomUtf8(
-                held.keep(alloc)?,
+                held.into_static(alloc)?,
             ),
             InterfaceDescriptionOption::Unknown(held) => InterfaceDescriptionOption::Unknown(
-                held.keep(alloc)?,
+                held.into_static(alloc)?,
             ),
         })
     }
 }
 
-impl<'a> InterfaceDescriptionBlock<'a> {
-    /// The same interface, with bytes and texts of its own: borrowed ones are copied, owned ones kept.
-    ///
-    /// `OutOfMemory` where a copy can't be made; the value is then dropped.
-    pub fn into_owned(self, alloc: Global) -> ResultParsing<InterfaceDescriptionBlock<'static>>
-        ensures same { IfOk result (λ kept. interface_of kept ≡ interface_of self.entry) }
-        ensures owned { IfOk result InterfaceIsOwned }
-        ensures memory { IfErr result IsMemory }
-        ensures kept { InterfaceNeedsNoMemory self.entry → IsOk result }
-    {
-        Ok(self.keep(alloc)?)
-    }
-}
-
-impl<'a> KeepValue for InterfaceDescriptionBlock<'a> {
+impl<'a> IntoStatic for InterfaceDescriptionBlock<'a> {
     type Owned = InterfaceDescriptionBlock<'static>;
 
     ghost is_same = { λ value kept. interface_of kept ≡ interface_of value };
@@ -235,7 +233,7 @@ impl<'a> KeepValue for InterfaceDescriptionBlock<'a> {
 
     ghost needs_no_memory = { InterfaceNeedsNoMemory };
 
-    fn keep(self, alloc: Global) -> Result<InterfaceDescriptionBlock<'static>, AllocError> {
+    fn into_static(self, alloc: Global) -> Result<InterfaceDescriptionBlock<'static>, AllocError> {
         let InterfaceDescriptionBlock {
             linktype,
             reserved,
@@ -246,7 +244,7 @@ impl<'a> KeepValue for InterfaceDescriptionBlock<'a> {
             linktype,
             reserved,
             snaplen,
-            options: keep_all(alloc, options)?,
+            options: each_into_static(alloc, options)?,
         })
     }
 }

@@ -1,21 +1,21 @@
 //! Interface statistics.
 
-ghost use Rattle.std.specs.Prelude.{⊤, IsOk, IfOk, ◌≡◌, IfErr};
+ghost use Rattle.std.specs.Prelude.{IsOk, IfOk, ◌≡◌, IfErr};
 ghost use Rattle.pcap_core.specs.Answer.{TellsWhere};
 ghost use Rattle.pcap_blocks.specs.Refusals.{FindsWhere};
-ghost use Rattle.pcap_blocks.specs.InterfaceStatistics.{interface_statistics, StatisticsSays, statistics_entry, StatisticsOptionIsBorrowed, statistics_of, StatisticsIsBorrowed, StatisticsOptionIsOwned, StatisticsIsOwned, StatisticsNeedsNoMemory};
+ghost use Rattle.pcap_blocks.specs.InterfaceStatistics.{interface_statistics, StatisticsSays, statistics_entry, StatisticsOptionIsBorrowed, statistics_of, StatisticsIsBorrowed, StatisticsOptionIsOwned, StatisticsIsOwned, StatisticsNeedsNoMemory, StatisticsMayGrow};
 ghost use Rattle.pcap_core.specs.Errors.{IsMemory};
 
-use crate::common::{
+use crate::options::{
     CustomBinaryOption, CustomUtf8Option, PcapNgOption, UnknownOption, options_from_slice,
 };
-use crate::fields::split_time;
-use pcap_core::fields::split_u32;
-use crate::owned::{KeepValue, keep_all};
+use crate::owned::{IntoStatic, each_into_static};
 use crate::refusal::Refusal;
+use crate::time::split_time;
 use crate::values::{first_number, first_time, text_value};
 use byteorder::ByteOrder;
 use pcap_core::ResultParsing;
+use pcap_core::fields::split_u32;
 use pcap_core::rules::Rule;
 use std::alloc::{AllocError, Global};
 use std::borrow::CowStr;
@@ -41,7 +41,7 @@ impl<'a> InterfaceStatisticsBlock<'a> {
         alloc: Global,
         slice: &'a [u8],
     ) -> ResultParsing<(&'a [u8], Self)>
-        ensures tells { TellsWhere ⊤ (StatisticsSays B.number_of slice.now) statistics_of result }
+        ensures tells { TellsWhere (StatisticsMayGrow B.number_of slice.now) (StatisticsSays B.number_of slice.now) statistics_of result }
         ensures borrowed { IfOk result (λ x. StatisticsIsBorrowed x.1) }
     {
         Ok(InterfaceStatisticsBlock::read::<B>(alloc, slice)?)
@@ -51,7 +51,7 @@ impl<'a> InterfaceStatisticsBlock<'a> {
         alloc: Global,
         slice: &'a [u8],
     ) -> Result<(&'a [u8], Self), Refusal>
-        ensures tells { FindsWhere ⊤ (StatisticsSays B.number_of slice.now) statistics_of result }
+        ensures tells { FindsWhere (StatisticsMayGrow B.number_of slice.now) (StatisticsSays B.number_of slice.now) statistics_of result }
         ensures borrowed { IfOk result (λ x. StatisticsIsBorrowed x.1) }
     {
         if slice.len() < 12 {
@@ -66,6 +66,18 @@ impl<'a> InterfaceStatisticsBlock<'a> {
             options,
         };
         Ok((rest, block))
+    }
+
+    /// The same statistics, with bytes and texts of its own: borrowed ones are copied, owned ones kept.
+    ///
+    /// `OutOfMemory` where a copy can't be made; the value is then dropped.
+    pub fn into_owned(self, alloc: Global) -> ResultParsing<InterfaceStatisticsBlock<'static>>
+        ensures same { IfOk result (λ kept. statistics_of kept ≡ statistics_of self.entry) }
+        ensures owned { IfOk result StatisticsIsOwned }
+        ensures memory { IfErr result IsMemory }
+        ensures kept { StatisticsNeedsNoMemory self.entry → IsOk result }
+    {
+        Ok(self.into_static(alloc)?)
     }
 }
 
@@ -130,11 +142,11 @@ impl<'a> InterfaceStatisticsOption<'a> {
         ensures memory { IfErr result IsMemory }
         ensures kept { StatisticsOptionIsOwned self.entry → IsOk result }
     {
-        Ok(self.keep(alloc)?)
+        Ok(self.into_static(alloc)?)
     }
 }
 
-impl<'a> KeepValue for InterfaceStatisticsOption<'a> {
+impl<'a> IntoStatic for InterfaceStatisticsOption<'a> {
     type Owned = InterfaceStatisticsOption<'static>;
 
     ghost is_same = { λ value kept. statistics_entry kept ≡ statistics_entry value };
@@ -143,10 +155,10 @@ impl<'a> KeepValue for InterfaceStatisticsOption<'a> {
 
     ghost needs_no_memory = { StatisticsOptionIsOwned };
 
-    fn keep(self, alloc: Global) -> Result<InterfaceStatisticsOption<'static>, AllocError> {
+    fn into_static(self, alloc: Global) -> Result<InterfaceStatisticsOption<'static>, AllocError> {
         Ok(match self {
             InterfaceStatisticsOption::Comment(held) => InterfaceStatisticsOption::Comment(
-                held.keep(alloc)?,
+                held.into_static(alloc)?,
             ),
             InterfaceStatisticsOption::IsbStartTime(n) => InterfaceStatisticsOption::IsbStartTime(
                 n,
@@ -159,32 +171,18 @@ impl<'a> KeepValue for InterfaceStatisticsOption<'a> {
             InterfaceStatisticsOption::IsbOsDrop(n) => InterfaceStatisticsOption::IsbOsDrop(n),
             InterfaceStatisticsOption::IsbUsrDeliv(n) => InterfaceStatisticsOption::IsbUsrDeliv(n),
             InterfaceStatisticsOption::CustomBinary(held) =>
-                InterfaceStatisticsOption::CustomBinary(held.keep(alloc)?),
+                InterfaceStatisticsOption::CustomBinary(held.into_static(alloc)?),
             InterfaceStatisticsOption::CustomUtf8(held) => InterfaceStatisticsOption::CustomUtf8(
-                held.keep(alloc)?,
+                held.into_static(alloc)?,
             ),
             InterfaceStatisticsOption::Unknown(held) => InterfaceStatisticsOption::Unknown(
-                held.keep(alloc)?,
+                held.into_static(alloc)?,
             ),
         })
     }
 }
 
-impl<'a> InterfaceStatisticsBlock<'a> {
-    /// The same statistics, with bytes and texts of its own: borrowed ones are copied, owned ones kept.
-    ///
-    /// `OutOfMemory` where a copy can't be made; the value is then dropped.
-    pub fn into_owned(self, alloc: Global) -> ResultParsing<InterfaceStatisticsBlock<'static>>
-        ensures same { IfOk result (λ kept. statistics_of kept ≡ statistics_of self.entry) }
-        ensures owned { IfOk result StatisticsIsOwned }
-        ensures memory { IfErr result IsMemory }
-        ensures kept { StatisticsNeedsNoMemory self.entry → IsOk result }
-    {
-        Ok(self.keep(alloc)?)
-    }
-}
-
-impl<'a> KeepValue for InterfaceStatisticsBlock<'a> {
+impl<'a> IntoStatic for InterfaceStatisticsBlock<'a> {
     type Owned = InterfaceStatisticsBlock<'static>;
 
     ghost is_same = { λ value kept. statistics_of kept ≡ statistics_of value };
@@ -193,7 +191,7 @@ impl<'a> KeepValue for InterfaceStatisticsBlock<'a> {
 
     ghost needs_no_memory = { StatisticsNeedsNoMemory };
 
-    fn keep(self, alloc: Global) -> Result<InterfaceStatisticsBlock<'static>, AllocError> {
+    fn into_static(self, alloc: Global) -> Result<InterfaceStatisticsBlock<'static>, AllocError> {
         let InterfaceStatisticsBlock {
             interface_id,
             timestamp,
@@ -202,7 +200,7 @@ impl<'a> KeepValue for InterfaceStatisticsBlock<'a> {
         Ok(InterfaceStatisticsBlock {
             interface_id,
             timestamp,
-            options: keep_all(alloc, options)?,
+            options: each_into_static(alloc, options)?,
         })
     }
 }

@@ -1,16 +1,16 @@
 //! Name resolution.
 
-ghost use Rattle.std.specs.Prelude.{⊤, map, All, IsOk, IfOk, ◌≡◌, IfErr};
+ghost use Rattle.std.specs.Prelude.{map, All, IsOk, IfOk, ◌≡◌, IfErr};
 ghost use Rattle.pcap_core.specs.Answer.{TellsWhere};
 ghost use Rattle.pcap_blocks.specs.Refusals.{FindsWhere};
-ghost use Rattle.pcap_blocks.specs.Records.{name_record_of, RecordIsBorrowed};
-ghost use Rattle.pcap_blocks.specs.NameResolution.{name_resolution, RecordsSay, ResolutionSays, name_entry, NameOptionIsBorrowed, names_of, ResolutionIsBorrowed, NameOptionIsOwned, ResolutionIsOwned, ResolutionNeedsNoMemory};
+ghost use Rattle.pcap_blocks.specs.Record.{name_record_of, RecordIsBorrowed};
+ghost use Rattle.pcap_blocks.specs.NameResolution.{name_resolution, RecordsSay, ResolutionSays, name_entry, NameOptionIsBorrowed, names_of, ResolutionIsBorrowed, NameOptionIsOwned, ResolutionIsOwned, ResolutionNeedsNoMemory, ResolutionMayGrow, RecordsMayGrow};
 ghost use Rattle.pcap_core.specs.Errors.{IsMemory};
 
-use crate::common::{
+use crate::options::{
     CustomBinaryOption, CustomUtf8Option, PcapNgOption, UnknownOption, options_from_slice,
 };
-use crate::owned::{KeepValue, keep_all};
+use crate::owned::{IntoStatic, each_into_static};
 use crate::record::Record;
 use crate::refusal::Refusal;
 use crate::values::{fixed_value, text_value};
@@ -40,7 +40,7 @@ impl<'a> NameResolutionBlock<'a> {
         alloc: Global,
         slice: &'a [u8],
     ) -> ResultParsing<(&'a [u8], Self)>
-        ensures tells { TellsWhere ⊤ (ResolutionSays B.number_of slice.now) names_of result }
+        ensures tells { TellsWhere (ResolutionMayGrow B.number_of slice.now) (ResolutionSays B.number_of slice.now) names_of result }
         ensures borrowed { IfOk result (λ x. ResolutionIsBorrowed x.1) }
     {
         Ok(NameResolutionBlock::read::<B>(alloc, slice)?)
@@ -50,12 +50,24 @@ impl<'a> NameResolutionBlock<'a> {
         alloc: Global,
         slice: &'a [u8],
     ) -> Result<(&'a [u8], Self), Refusal>
-        ensures tells { FindsWhere ⊤ (ResolutionSays B.number_of slice.now) names_of result }
+        ensures tells { FindsWhere (ResolutionMayGrow B.number_of slice.now) (ResolutionSays B.number_of slice.now) names_of result }
         ensures borrowed { IfOk result (λ x. ResolutionIsBorrowed x.1) }
     {
         let (after, records) = records_from_slice::<B>(alloc, slice)?;
         let (rest, options) = options_from_slice::<NameResolutionOption, B>(alloc, after)?;
         Ok((rest, NameResolutionBlock { records, options }))
+    }
+
+    /// The same block, with bytes and texts of its own: borrowed ones are copied, owned ones kept.
+    ///
+    /// `OutOfMemory` where a copy can't be made; the value is then dropped.
+    pub fn into_owned(self, alloc: Global) -> ResultParsing<NameResolutionBlock<'static>>
+        ensures same { IfOk result (λ kept. names_of kept ≡ names_of self.entry) }
+        ensures owned { IfOk result ResolutionIsOwned }
+        ensures memory { IfErr result IsMemory }
+        ensures kept { ResolutionNeedsNoMemory self.entry → IsOk result }
+    {
+        Ok(self.into_static(alloc)?)
     }
 }
 
@@ -64,7 +76,7 @@ fn records_from_slice<'a, B: ByteOrder>(
     alloc: Global,
     slice: &'a [u8],
 ) -> Result<(&'a [u8], Vec<Record<'a>>), Refusal>
-    ensures tells { FindsWhere ⊤ (RecordsSay B.number_of slice.now) (λ records. map name_record_of records.items) result }
+    ensures tells { FindsWhere (RecordsMayGrow B.number_of slice.now) (RecordsSay B.number_of slice.now) (λ records. map name_record_of records.items) result }
     ensures borrowed { IfOk result (λ x. All RecordIsBorrowed x.1.items) }
 {
     let mut records = Vec::new(alloc);
@@ -128,11 +140,11 @@ impl<'a> NameResolutionOption<'a> {
         ensures memory { IfErr result IsMemory }
         ensures kept { NameOptionIsOwned self.entry → IsOk result }
     {
-        Ok(self.keep(alloc)?)
+        Ok(self.into_static(alloc)?)
     }
 }
 
-impl<'a> KeepValue for NameResolutionOption<'a> {
+impl<'a> IntoStatic for NameResolutionOption<'a> {
     type Owned = NameResolutionOption<'static>;
 
     ghost is_same = { λ value kept. name_entry kept ≡ name_entry value };
@@ -141,44 +153,34 @@ impl<'a> KeepValue for NameResolutionOption<'a> {
 
     ghost needs_no_memory = { NameOptionIsOwned };
 
-    fn keep(self, alloc: Global) -> Result<NameResolutionOption<'static>, AllocError> {
+    fn into_static(self, alloc: Global) -> Result<NameResolutionOption<'static>, AllocError> {
         Ok(match self {
-            NameResolutionOption::Comment(held) => NameResolutionOption::Comment(held.keep(alloc)?),
-            NameResolutionOption::NsDnsName(held) => NameResolutionOption::NsDnsName(held.keep(
+            NameResolutionOption::Comment(held) => NameResolutionOption::Comment(held.into_static(
                 alloc,
             )?),
+            NameResolutionOption::NsDnsName(held) => NameResolutionOption::NsDnsName(
+                held.into_static(alloc)?,
+            ),
             NameResolutionOption::NsDnsIpv4Addr(held) => NameResolutionOption::NsDnsIpv4Addr(
-                held.keep(alloc)?,
+                held.into_static(alloc)?,
             ),
             NameResolutionOption::NsDnsIpv6Addr(held) => NameResolutionOption::NsDnsIpv6Addr(
-                held.keep(alloc)?,
+                held.into_static(alloc)?,
             ),
             NameResolutionOption::CustomBinary(held) => NameResolutionOption::CustomBinary(
-                held.keep(alloc)?,
+                held.into_static(alloc)?,
             ),
-            NameResolutionOption::CustomUtf8(held) => NameResolutionOption::CustomUtf8(held.keep(
+            NameResolutionOption::CustomUtf8(held) => NameResolutionOption::CustomUtf8(
+                held.into_static(alloc)?,
+            ),
+            NameResolutionOption::Unknown(held) => NameResolutionOption::Unknown(held.into_static(
                 alloc,
             )?),
-            NameResolutionOption::Unknown(held) => NameResolutionOption::Unknown(held.keep(alloc)?),
         })
     }
 }
 
-impl<'a> NameResolutionBlock<'a> {
-    /// The same block, with bytes and texts of its own: borrowed ones are copied, owned ones kept.
-    ///
-    /// `OutOfMemory` where a copy can't be made; the value is then dropped.
-    pub fn into_owned(self, alloc: Global) -> ResultParsing<NameResolutionBlock<'static>>
-        ensures same { IfOk result (λ kept. names_of kept ≡ names_of self.entry) }
-        ensures owned { IfOk result ResolutionIsOwned }
-        ensures memory { IfErr result IsMemory }
-        ensures kept { ResolutionNeedsNoMemory self.entry → IsOk result }
-    {
-        Ok(self.keep(alloc)?)
-    }
-}
-
-impl<'a> KeepValue for NameResolutionBlock<'a> {
+impl<'a> IntoStatic for NameResolutionBlock<'a> {
     type Owned = NameResolutionBlock<'static>;
 
     ghost is_same = { λ value kept. names_of kept ≡ names_of value };
@@ -187,11 +189,11 @@ impl<'a> KeepValue for NameResolutionBlock<'a> {
 
     ghost needs_no_memory = { ResolutionNeedsNoMemory };
 
-    fn keep(self, alloc: Global) -> Result<NameResolutionBlock<'static>, AllocError> {
+    fn into_static(self, alloc: Global) -> Result<NameResolutionBlock<'static>, AllocError> {
         let NameResolutionBlock { records, options } = self;
         Ok(NameResolutionBlock {
-            records: keep_all(alloc, records)?,
-            options: keep_all(alloc, options)?,
+            records: each_into_static(alloc, records)?,
+            options: each_into_static(alloc, options)?,
         })
     }
 }

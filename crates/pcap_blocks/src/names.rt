@@ -1,10 +1,10 @@
 //! Names, each ended by a zero byte.
 
-ghost use Rattle.std.specs.Prelude.{⊤, ◌≡◌, ◌<◌, length, map, take, slice_index, All, IfOk, MatchOption};
+ghost use Rattle.std.specs.Prelude.{◌≡◌, ◌<◌, length, map, take, slice_index, All, IfOk, MatchOption};
 ghost use Rattle.std.specs.Cow.{cow_str_bytes, IsBorrowedStr};
 ghost use Rattle.pcap_core.specs.Answer.{Tells};
 ghost use Rattle.pcap_blocks.specs.Refusals.{Finds, FindsAllWhere};
-ghost use Rattle.pcap_blocks.specs.Names.{HasNoZero, NameSays, NamesSay};
+ghost use Rattle.pcap_blocks.specs.Names.{HasNoZero, NameSays, NamesSay, NamesMayGrow};
 
 use crate::refusal::Refusal;
 use crate::values::str_value;
@@ -48,7 +48,7 @@ pub fn str_from_u8_null_terminated(src: &[u8]) -> ResultParsing<(&[u8], &str)>
 
 // The names that all of a slice is.
 pub(crate) fn names_from_slice(alloc: Global, slice: &[u8]) -> Result<Vec<CowStr<'_>>, Refusal>
-    ensures tells { FindsAllWhere ⊤ (NamesSay slice.now) (λ names. map cow_str_bytes names.items) result }
+    ensures tells { FindsAllWhere (NamesMayGrow slice.now) (NamesSay slice.now) (λ names. map cow_str_bytes names.items) result }
     ensures borrowed { IfOk result (λ names. All IsBorrowedStr names.items) }
 {
     let mut names = Vec::new(alloc);

@@ -1,21 +1,21 @@
 //! Packet blocks, which enhanced packets have replaced.
 
-ghost use Rattle.std.specs.Prelude.{⊤, map, All, IsOk, IfOk, ◌≡◌, IfErr};
+ghost use Rattle.std.specs.Prelude.{map, All, IsOk, IfOk, ◌≡◌, IfErr};
 ghost use Rattle.pcap_core.specs.Answer.{TellsWhere};
 ghost use Rattle.pcap_blocks.specs.Refusals.{FindsWhere};
-ghost use Rattle.pcap_blocks.specs.Options.{may_end_with_body, ListSays};
-ghost use Rattle.pcap_blocks.specs.PacketBody.{packet_kind, PacketBodySays, packet_entry, PacketOptionIsBorrowed, packet_of, PacketIsBorrowed, PacketOptionIsOwned, PacketIsOwned, PacketNeedsNoMemory};
+ghost use Rattle.pcap_blocks.specs.Options.{may_end_with_body, ListSays, OptionsMayGrow};
+ghost use Rattle.pcap_blocks.specs.Packet.{packet_kind, PacketBodySays, packet_entry, PacketOptionIsBorrowed, packet_of, PacketIsBorrowed, PacketOptionIsOwned, PacketIsOwned, PacketNeedsNoMemory, PacketBodyMayGrow};
 ghost use Rattle.pcap_core.specs.Errors.{IsMemory};
 
-use crate::common::{
+use crate::options::{
     CustomBinaryOption, CustomUtf8Option, PcapNgOption, UnknownOption, options_from_slice,
 };
-use pcap_core::fields::split_u16;
-use crate::owned::{KeepValue, keep_all};
+use crate::owned::{IntoStatic, each_into_static};
 use crate::refusal::Refusal;
-use crate::stored::stored_from_slice;
+use crate::stored_packet::stored_from_slice;
 use crate::values::{text_value, u32_value};
 use byteorder::ByteOrder;
+use pcap_core::fields::split_u16;
 use pcap_core::rules::Rule;
 use pcap_core::{CowBytes, ResultParsing};
 use std::alloc::{AllocError, Global};
@@ -50,7 +50,7 @@ impl<'a> PacketBlock<'a> {
         alloc: Global,
         slice: &'a [u8],
     ) -> ResultParsing<(&'a [u8], Self)>
-        ensures tells { TellsWhere ⊤ (PacketBodySays B.number_of slice.now) packet_of result }
+        ensures tells { TellsWhere (PacketBodyMayGrow B.number_of slice.now) (PacketBodySays B.number_of slice.now) packet_of result }
         ensures borrowed { IfOk result (λ x. PacketIsBorrowed x.1) }
     {
         Ok(PacketBlock::read::<B>(alloc, slice)?)
@@ -60,7 +60,7 @@ impl<'a> PacketBlock<'a> {
         alloc: Global,
         slice: &'a [u8],
     ) -> Result<(&'a [u8], Self), Refusal>
-        ensures tells { FindsWhere ⊤ (PacketBodySays B.number_of slice.now) packet_of result }
+        ensures tells { FindsWhere (PacketBodyMayGrow B.number_of slice.now) (PacketBodySays B.number_of slice.now) packet_of result }
         ensures borrowed { IfOk result (λ x. PacketIsBorrowed x.1) }
     {
         if slice.len() < 20 {
@@ -79,6 +79,18 @@ impl<'a> PacketBlock<'a> {
             options: packet.options,
         };
         Ok((rest, block))
+    }
+
+    /// The same packet, with bytes and texts of its own: borrowed ones are copied, owned ones kept.
+    ///
+    /// `OutOfMemory` where a copy can't be made; the value is then dropped.
+    pub fn into_owned(self, alloc: Global) -> ResultParsing<PacketBlock<'static>>
+        ensures same { IfOk result (λ kept. packet_of kept ≡ packet_of self.entry) }
+        ensures owned { IfOk result PacketIsOwned }
+        ensures memory { IfErr result IsMemory }
+        ensures kept { PacketNeedsNoMemory self.entry → IsOk result }
+    {
+        Ok(self.into_static(alloc)?)
     }
 }
 
@@ -108,10 +120,22 @@ impl<'a> PacketOption<'a> {
         alloc: Global,
         slice: &'a [u8],
     ) -> ResultParsing<(&'a [u8], Vec<Self>)>
-        ensures tells { TellsWhere ⊤ (ListSays may_end_with_body B.number_of packet_kind slice.now) (λ options. map packet_entry options.items) result }
+        ensures tells { TellsWhere (OptionsMayGrow B.number_of packet_kind slice.now) (ListSays may_end_with_body B.number_of packet_kind slice.now) (λ options. map packet_entry options.items) result }
         ensures borrowed { IfOk result (λ x. All PacketOptionIsBorrowed x.1.items) }
     {
         Ok(options_from_slice::<PacketOption, B>(alloc, slice)?)
+    }
+
+    /// The same option, with bytes and texts of its own: borrowed ones are copied, owned ones kept.
+    ///
+    /// `OutOfMemory` where a copy can't be made; the value is then dropped.
+    pub fn into_owned(self, alloc: Global) -> ResultParsing<PacketOption<'static>>
+        ensures same { IfOk result (λ kept. packet_entry kept ≡ packet_entry self.entry) }
+        ensures owned { IfOk result PacketOptionIsOwned }
+        ensures memory { IfErr result IsMemory }
+        ensures kept { PacketOptionIsOwned self.entry → IsOk result }
+    {
+        Ok(self.into_static(alloc)?)
     }
 }
 
@@ -134,21 +158,7 @@ impl<'a> PcapNgOption<'a> for PacketOption<'a> {
     }
 }
 
-impl<'a> PacketOption<'a> {
-    /// The same option, with bytes and texts of its own: borrowed ones are copied, owned ones kept.
-    ///
-    /// `OutOfMemory` where a copy can't be made; the value is then dropped.
-    pub fn into_owned(self, alloc: Global) -> ResultParsing<PacketOption<'static>>
-        ensures same { IfOk result (λ kept. packet_entry kept ≡ packet_entry self.entry) }
-        ensures owned { IfOk result PacketOptionIsOwned }
-        ensures memory { IfErr result IsMemory }
-        ensures kept { PacketOptionIsOwned self.entry → IsOk result }
-    {
-        Ok(self.keep(alloc)?)
-    }
-}
-
-impl<'a> KeepValue for PacketOption<'a> {
+impl<'a> IntoStatic for PacketOption<'a> {
     type Owned = PacketOption<'static>;
 
     ghost is_same = { λ value kept. packet_entry kept ≡ packet_entry value };
@@ -157,33 +167,21 @@ impl<'a> KeepValue for PacketOption<'a> {
 
     ghost needs_no_memory = { PacketOptionIsOwned };
 
-    fn keep(self, alloc: Global) -> Result<PacketOption<'static>, AllocError> {
+    fn into_static(self, alloc: Global) -> Result<PacketOption<'static>, AllocError> {
         Ok(match self {
-            PacketOption::Comment(held) => PacketOption::Comment(held.keep(alloc)?),
+            PacketOption::Comment(held) => PacketOption::Comment(held.into_static(alloc)?),
             PacketOption::Flags(n) => PacketOption::Flags(n),
-            PacketOption::Hash(held) => PacketOption::Hash(held.keep(alloc)?),
-            PacketOption::CustomBinary(held) => PacketOption::CustomBinary(held.keep(alloc)?),
-            PacketOption::CustomUtf8(held) => PacketOption::CustomUtf8(held.keep(alloc)?),
-            PacketOption::Unknown(held) => PacketOption::Unknown(held.keep(alloc)?),
+            PacketOption::Hash(held) => PacketOption::Hash(held.into_static(alloc)?),
+            PacketOption::CustomBinary(held) => PacketOption::CustomBinary(held.into_static(
+                alloc,
+            )?),
+            PacketOption::CustomUtf8(held) => PacketOption::CustomUtf8(held.into_static(alloc)?),
+            PacketOption::Unknown(held) => PacketOption::Unknown(held.into_static(alloc)?),
         })
     }
 }
 
-impl<'a> PacketBlock<'a> {
-    /// The same packet, with bytes and texts of its own: borrowed ones are copied, owned ones kept.
-    ///
-    /// `OutOfMemory` where a copy can't be made; the value is then dropped.
-    pub fn into_owned(self, alloc: Global) -> ResultParsing<PacketBlock<'static>>
-        ensures same { IfOk result (λ kept. packet_of kept ≡ packet_of self.entry) }
-        ensures owned { IfOk result PacketIsOwned }
-        ensures memory { IfErr result IsMemory }
-        ensures kept { PacketNeedsNoMemory self.entry → IsOk result }
-    {
-        Ok(self.keep(alloc)?)
-    }
-}
-
-impl<'a> KeepValue for PacketBlock<'a> {
+impl<'a> IntoStatic for PacketBlock<'a> {
     type Owned = PacketBlock<'static>;
 
     ghost is_same = { λ value kept. packet_of kept ≡ packet_of value };
@@ -192,7 +190,7 @@ impl<'a> KeepValue for PacketBlock<'a> {
 
     ghost needs_no_memory = { PacketNeedsNoMemory };
 
-    fn keep(self, alloc: Global) -> Result<PacketBlock<'static>, AllocError> {
+    fn into_static(self, alloc: Global) -> Result<PacketBlock<'static>, AllocError> {
         let PacketBlock {
             interface_id,
             drop_count,
@@ -208,8 +206,8 @@ impl<'a> KeepValue for PacketBlock<'a> {
             timestamp,
             captured_len,
             original_len,
-            data_: data_.keep(alloc)?,
-            options: keep_all(alloc, options)?,
+            data_: data_.into_static(alloc)?,
+            options: each_into_static(alloc, options)?,
         })
     }
 }

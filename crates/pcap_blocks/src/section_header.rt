@@ -1,19 +1,19 @@
 //! Section headers.
 
-ghost use Rattle.std.specs.Prelude.{⊤, ◌≡◌, ◌≤◌, ◌↔◌, length, IsOk, IfOk, IsTrue, IsSome, Some, IfErr};
+ghost use Rattle.std.specs.Prelude.{◌≡◌, ◌≤◌, ◌↔◌, length, IsOk, IfOk, IsTrue, IsSome, Some, IfErr};
 ghost use Rattle.pcap_core.specs.Answer.{TellsWhere};
 ghost use Rattle.pcap_blocks.specs.Refusals.{FindsWhere};
-ghost use Rattle.pcap_blocks.specs.SectionHeader.{section_header, magic_order, SectionSays, AfterMagicSays, section_entry, SectionOptionIsBorrowed, section_of, SectionIsBorrowed, SectionOptionIsOwned, SectionIsOwned, SectionNeedsNoMemory};
+ghost use Rattle.pcap_blocks.specs.SectionHeader.{section_header, magic_order, SectionSays, AfterMagicSays, section_entry, SectionOptionIsBorrowed, section_of, SectionIsBorrowed, SectionOptionIsOwned, SectionIsOwned, SectionNeedsNoMemory, SectionMayGrow, AfterMagicMayGrow};
 ghost use Rattle.pcap_core.specs.Errors.{IsMemory};
 
-use crate::common::{
+use crate::options::{
     CustomBinaryOption, CustomUtf8Option, PcapNgOption, UnknownOption, options_from_slice,
 };
-use pcap_core::fields::{split_u16, split_u32, split_u64};
-use crate::owned::{KeepValue, keep_all};
+use crate::owned::{IntoStatic, each_into_static};
 use crate::refusal::Refusal;
 use crate::values::text_value;
 use byteorder::{BigEndian, ByteOrder, LittleEndian};
+use pcap_core::fields::{split_u16, split_u32, split_u64};
 use pcap_core::rules::Rule;
 use pcap_core::{Endianness, ResultParsing};
 use std::alloc::{AllocError, Global};
@@ -41,14 +41,14 @@ impl<'a> SectionHeaderBlock<'a> {
     /// the options, or `Utf8Error` or `IoError` where that is a text that isn't UTF-8 or a custom value under 4 bytes.
     /// `OutOfMemory` where the list of options can't grow.
     pub fn from_slice(alloc: Global, slice: &'a [u8]) -> ResultParsing<(&'a [u8], Self)>
-        ensures tells { TellsWhere ⊤ (SectionSays slice.now) section_of result }
+        ensures tells { TellsWhere (SectionMayGrow slice.now) (SectionSays slice.now) section_of result }
         ensures borrowed { IfOk result (λ x. SectionIsBorrowed x.1) }
     {
         Ok(SectionHeaderBlock::read(alloc, slice)?)
     }
 
     pub(crate) fn read(alloc: Global, slice: &'a [u8]) -> Result<(&'a [u8], Self), Refusal>
-        ensures tells { FindsWhere ⊤ (SectionSays slice.now) section_of result }
+        ensures tells { FindsWhere (SectionMayGrow slice.now) (SectionSays slice.now) section_of result }
         ensures borrowed { IfOk result (λ x. SectionIsBorrowed x.1) }
     {
         if slice.len() < 16 {
@@ -69,7 +69,7 @@ impl<'a> SectionHeaderBlock<'a> {
         slice: &'a [u8],
     ) -> Result<(&'a [u8], Self), Refusal>
         requires { 12 ≤ length slice.now }
-        ensures tells { FindsWhere ⊤ (AfterMagicSays B.number_of magic slice.now) section_of result }
+        ensures tells { FindsWhere (AfterMagicMayGrow B.number_of slice.now) (AfterMagicSays B.number_of magic slice.now) section_of result }
         ensures borrowed { IfOk result (λ x. SectionIsBorrowed x.1) }
     {
         let (major_version, rest) = split_u16::<B>(slice);
@@ -105,6 +105,18 @@ impl<'a> SectionHeaderBlock<'a> {
         } else {
             Endianness::Little
         }
+    }
+
+    /// The same section, with bytes and texts of its own: borrowed ones are copied, owned ones kept.
+    ///
+    /// `OutOfMemory` where a copy can't be made; the value is then dropped.
+    pub fn into_owned(self, alloc: Global) -> ResultParsing<SectionHeaderBlock<'static>>
+        ensures same { IfOk result (λ kept. section_of kept ≡ section_of self.entry) }
+        ensures owned { IfOk result SectionIsOwned }
+        ensures memory { IfErr result IsMemory }
+        ensures kept { SectionNeedsNoMemory self.entry → IsOk result }
+    {
+        Ok(self.into_static(alloc)?)
     }
 }
 
@@ -157,11 +169,11 @@ impl<'a> SectionHeaderOption<'a> {
         ensures memory { IfErr result IsMemory }
         ensures kept { SectionOptionIsOwned self.entry → IsOk result }
     {
-        Ok(self.keep(alloc)?)
+        Ok(self.into_static(alloc)?)
     }
 }
 
-impl<'a> KeepValue for SectionHeaderOption<'a> {
+impl<'a> IntoStatic for SectionHeaderOption<'a> {
     type Owned = SectionHeaderOption<'static>;
 
     ghost is_same = { λ value kept. section_entry kept ≡ section_entry value };
@@ -170,40 +182,32 @@ impl<'a> KeepValue for SectionHeaderOption<'a> {
 
     ghost needs_no_memory = { SectionOptionIsOwned };
 
-    fn keep(self, alloc: Global) -> Result<SectionHeaderOption<'static>, AllocError> {
+    fn into_static(self, alloc: Global) -> Result<SectionHeaderOption<'static>, AllocError> {
         Ok(match self {
-            SectionHeaderOption::Comment(held) => SectionHeaderOption::Comment(held.keep(alloc)?),
-            SectionHeaderOption::Hardware(held) => SectionHeaderOption::Hardware(held.keep(alloc)?),
-            SectionHeaderOption::OS(held) => SectionHeaderOption::OS(held.keep(alloc)?),
+            SectionHeaderOption::Comment(held) => SectionHeaderOption::Comment(held.into_static(
+                alloc,
+            )?),
+            SectionHeaderOption::Hardware(held) => SectionHeaderOption::Hardware(held.into_static(
+                alloc,
+            )?),
+            SectionHeaderOption::OS(held) => SectionHeaderOption::OS(held.into_static(alloc)?),
             SectionHeaderOption::UserApplication(held) => SectionHeaderOption::UserApplication(
-                held.keep(alloc)?,
+                held.into_static(alloc)?,
             ),
-            SectionHeaderOption::CustomBinary(held) => SectionHeaderOption::CustomBinary(held.keep(
+            SectionHeaderOption::CustomBinary(held) => SectionHeaderOption::CustomBinary(
+                held.into_static(alloc)?,
+            ),
+            SectionHeaderOption::CustomUtf8(held) => SectionHeaderOption::CustomUtf8(
+                held.into_static(alloc)?,
+            ),
+            SectionHeaderOption::Unknown(held) => SectionHeaderOption::Unknown(held.into_static(
                 alloc,
             )?),
-            SectionHeaderOption::CustomUtf8(held) => SectionHeaderOption::CustomUtf8(held.keep(
-                alloc,
-            )?),
-            SectionHeaderOption::Unknown(held) => SectionHeaderOption::Unknown(held.keep(alloc)?),
         })
     }
 }
 
-impl<'a> SectionHeaderBlock<'a> {
-    /// The same section, with bytes and texts of its own: borrowed ones are copied, owned ones kept.
-    ///
-    /// `OutOfMemory` where a copy can't be made; the value is then dropped.
-    pub fn into_owned(self, alloc: Global) -> ResultParsing<SectionHeaderBlock<'static>>
-        ensures same { IfOk result (λ kept. section_of kept ≡ section_of self.entry) }
-        ensures owned { IfOk result SectionIsOwned }
-        ensures memory { IfErr result IsMemory }
-        ensures kept { SectionNeedsNoMemory self.entry → IsOk result }
-    {
-        Ok(self.keep(alloc)?)
-    }
-}
-
-impl<'a> KeepValue for SectionHeaderBlock<'a> {
+impl<'a> IntoStatic for SectionHeaderBlock<'a> {
     type Owned = SectionHeaderBlock<'static>;
 
     ghost is_same = { λ value kept. section_of kept ≡ section_of value };
@@ -212,7 +216,7 @@ impl<'a> KeepValue for SectionHeaderBlock<'a> {
 
     ghost needs_no_memory = { SectionNeedsNoMemory };
 
-    fn keep(self, alloc: Global) -> Result<SectionHeaderBlock<'static>, AllocError> {
+    fn into_static(self, alloc: Global) -> Result<SectionHeaderBlock<'static>, AllocError> {
         let SectionHeaderBlock {
             magic,
             major_version,
@@ -225,7 +229,7 @@ impl<'a> KeepValue for SectionHeaderBlock<'a> {
             major_version,
             minor_version,
             section_length,
-            options: keep_all(alloc, options)?,
+            options: each_into_static(alloc, options)?,
         })
     }
 }

@@ -3,13 +3,13 @@
 ghost use Rattle.std.specs.Prelude.{IsOk, IfOk, ◌≡◌, IfErr};
 ghost use Rattle.pcap_core.specs.Answer.{Tells};
 ghost use Rattle.pcap_blocks.specs.Refusals.{Finds};
-ghost use Rattle.pcap_blocks.specs.WholeBodies.{SimpleSays, simple_of, SimpleIsBorrowed, SimpleIsOwned};
+ghost use Rattle.pcap_blocks.specs.SimplePacket.{SimpleSays, simple_of, SimpleIsBorrowed, SimpleIsOwned};
 ghost use Rattle.pcap_core.specs.Errors.{IsMemory};
 
-use pcap_core::fields::split_u32;
-use crate::owned::KeepValue;
+use crate::owned::IntoStatic;
 use crate::refusal::Refusal;
 use byteorder::ByteOrder;
+use pcap_core::fields::split_u32;
 use pcap_core::rules::Rule;
 use pcap_core::{CowBytes, ResultParsing};
 use std::alloc::{AllocError, Global};
@@ -48,9 +48,7 @@ impl<'a> SimplePacketBlock<'a> {
         };
         Ok((&slice[slice.len()..], block))
     }
-}
 
-impl<'a> SimplePacketBlock<'a> {
     /// The same packet, with bytes and texts of its own: borrowed ones are copied, owned ones kept.
     ///
     /// `OutOfMemory` where a copy can't be made; the value is then dropped.
@@ -60,11 +58,11 @@ impl<'a> SimplePacketBlock<'a> {
         ensures memory { IfErr result IsMemory }
         ensures kept { SimpleIsOwned self.entry → IsOk result }
     {
-        Ok(self.keep(alloc)?)
+        Ok(self.into_static(alloc)?)
     }
 }
 
-impl<'a> KeepValue for SimplePacketBlock<'a> {
+impl<'a> IntoStatic for SimplePacketBlock<'a> {
     type Owned = SimplePacketBlock<'static>;
 
     ghost is_same = { λ value kept. simple_of kept ≡ simple_of value };
@@ -73,14 +71,14 @@ impl<'a> KeepValue for SimplePacketBlock<'a> {
 
     ghost needs_no_memory = { SimpleIsOwned };
 
-    fn keep(self, alloc: Global) -> Result<SimplePacketBlock<'static>, AllocError> {
+    fn into_static(self, alloc: Global) -> Result<SimplePacketBlock<'static>, AllocError> {
         let SimplePacketBlock {
             original_len,
             data_,
         } = self;
         Ok(SimplePacketBlock {
             original_len,
-            data_: data_.keep(alloc)?,
+            data_: data_.into_static(alloc)?,
         })
     }
 }

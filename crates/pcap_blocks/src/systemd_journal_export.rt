@@ -2,10 +2,10 @@
 
 ghost use Rattle.std.specs.Prelude.{IsOk, IfOk, ◌≡◌, IfErr};
 ghost use Rattle.pcap_core.specs.Answer.{Tells, whole};
-ghost use Rattle.pcap_blocks.specs.WholeBodies.{JournalSays, journal_of, JournalIsBorrowed, JournalIsOwned};
+ghost use Rattle.pcap_blocks.specs.SystemdJournalExport.{JournalSays, journal_of, JournalIsBorrowed, JournalIsOwned};
 ghost use Rattle.pcap_core.specs.Errors.{IsMemory};
 
-use crate::owned::KeepValue;
+use crate::owned::IntoStatic;
 use byteorder::ByteOrder;
 use pcap_core::{CowBytes, ResultParsing};
 use std::alloc::{AllocError, Global};
@@ -35,9 +35,7 @@ impl<'a> SystemdJournalExportBlock<'a> {
         };
         (&slice[slice.len()..], block)
     }
-}
 
-impl<'a> SystemdJournalExportBlock<'a> {
     /// The same entry, with bytes and texts of its own: borrowed ones are copied, owned ones kept.
     ///
     /// `OutOfMemory` where a copy can't be made; the value is then dropped.
@@ -47,11 +45,11 @@ impl<'a> SystemdJournalExportBlock<'a> {
         ensures memory { IfErr result IsMemory }
         ensures kept { JournalIsOwned self.entry → IsOk result }
     {
-        Ok(self.keep(alloc)?)
+        Ok(self.into_static(alloc)?)
     }
 }
 
-impl<'a> KeepValue for SystemdJournalExportBlock<'a> {
+impl<'a> IntoStatic for SystemdJournalExportBlock<'a> {
     type Owned = SystemdJournalExportBlock<'static>;
 
     ghost is_same = { λ value kept. journal_of kept ≡ journal_of value };
@@ -60,10 +58,10 @@ impl<'a> KeepValue for SystemdJournalExportBlock<'a> {
 
     ghost needs_no_memory = { JournalIsOwned };
 
-    fn keep(self, alloc: Global) -> Result<SystemdJournalExportBlock<'static>, AllocError> {
+    fn into_static(self, alloc: Global) -> Result<SystemdJournalExportBlock<'static>, AllocError> {
         let SystemdJournalExportBlock { journal_entry } = self;
         Ok(SystemdJournalExportBlock {
-            journal_entry: journal_entry.keep(alloc)?,
+            journal_entry: journal_entry.into_static(alloc)?,
         })
     }
 }

@@ -14,7 +14,7 @@ use std::borrow::CowStr;
 use std::str;
 
 // The text that all bytes of a name are.
-#[tactic(auto, using(crate::proofs::Texts::text_is, crate::proofs::Texts::no_text))]
+#[tactic(auto, using(crate::proofs::Strings::text_is, crate::proofs::Strings::no_text))]
 pub(crate) fn str_value(name: &[u8]) -> Result<&str, Refusal>
     ensures tells { FindsAll (AllSay (text_at name.now)) (λ text. text.now) result }
     ensures same { IfOk result (λ text. text.now ≡ name.now) }
@@ -26,7 +26,7 @@ pub(crate) fn str_value(name: &[u8]) -> Result<&str, Refusal>
 }
 
 // A text.
-#[tactic(auto, using(crate::proofs::Texts::text_is, crate::proofs::Texts::no_text))]
+#[tactic(auto, using(crate::proofs::Strings::text_is, crate::proofs::Strings::no_text))]
 pub(crate) fn text_value(value: &[u8]) -> Result<CowStr<'_>, Refusal>
     ensures tells { FindsAll (AllSay (text_at value.now)) cow_str_bytes result }
     ensures borrowed { IfOk result IsBorrowedStr }
@@ -94,7 +94,7 @@ pub(crate) fn first_number<B: ByteOrder>(value: &[u8]) -> Result<u64, Refusal>
     ensures tells { FindsAll (AllSay (first_number_at B.number_of value.now)) Integer result }
 {
     if value.len() < 8 {
-        return Err(Refusal::Short);
+        return Err(Refusal::Io);
     }
     let (number, _ignored) = value.split_at(8);
     Ok(B::read_u64(number))
@@ -105,7 +105,7 @@ pub(crate) fn first_time<B: ByteOrder>(value: &[u8]) -> Result<u64, Refusal>
     ensures tells { FindsAll (AllSay (first_time_at B.number_of value.now)) Integer result }
 {
     if value.len() < 8 {
-        return Err(Refusal::Short);
+        return Err(Refusal::Io);
     }
     let (high, rest) = value.split_at(4);
     let (low, _ignored) = rest.split_at(4);

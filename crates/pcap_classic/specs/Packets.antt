@@ -1,6 +1,6 @@
 -- The format of packets.
 use Rattle.std.specs.Prelude.{◌≡◌, ◌<◌, ℕ, List, [], length, Bool, true, false}
-use Rattle.pcap_core.specs.declared.common.TsResolution.{TsResolution}
+use Rattle.pcap_classic.specs.declared.common.TsResolution.{TsResolution}
 use Rattle.pcap_classic.specs.declared.pcap.header.PcapHeader.{PcapHeader}
 use Rattle.pcap_core.specs.declared.rules.Rule.TheVariants.{CaptureMagic}
 use Rattle.pcap_core.specs.Answer.{Order, number_in, Verdict, whole, lacks, faulty}

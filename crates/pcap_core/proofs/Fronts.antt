@@ -1,6 +1,6 @@
 -- Where a run over a slice stops.
 use Rattle.std.proofs.Common.{◌<◌, length, ℕ, List}
-use Rattle.pcap_core.specs.Faults.{Invalid, Io, NoText}
+use Rattle.pcap_core.specs.Faults.{Invalid, Io, Utf8}
 use Rattle.pcap_core.specs.declared.errors.PcapError.{PcapError}
 use Rattle.pcap_core.specs.declared.errors.PcapError.TheVariants as errors
 use Rattle.pcap_core.specs.Answer.{whole, lacks, faulty, Refuses}
@@ -18,7 +18,7 @@ pub stops : {S V : Type 0} (f : Format S V) → IsLawful f → (q : S) (left : L
 stops f laws q left (errors.IncompleteBuffer n) some h = record { rest = (h, some); longest = lacks_no_text f laws q n left h }
 stops f laws q left (errors.InvalidField text) some h = record { rest = h; longest = fault_no_text f laws q (Invalid h.0) left h.2 }
 stops f laws q left (errors.IoError e) some h = record { rest = h; longest = fault_no_text f laws q Io left h }
-stops f laws q left (errors.Utf8Error e) some h = record { rest = h; longest = fault_no_text f laws q NoText left h }
+stops f laws q left (errors.Utf8Error e) some h = record { rest = h; longest = fault_no_text f laws q Utf8 left h }
 stops f laws q left (errors.FromUtf8Error e) some h = absurd h
 stops f laws q left (errors.OutOfMemory e) some h = absurd h
 stops f laws q left errors.WriterFailed some h = absurd h
@@ -29,7 +29,7 @@ pub whole_not_refused : {S V : Type 0} (f : Format S V) → IsLawful f → (q : 
 whole_not_refused f laws q s v rest text (errors.IncompleteBuffer n) h = lacks_no_text f laws q n s h v rest text
 whole_not_refused f laws q s v rest text (errors.InvalidField t) h = fault_no_text f laws q (Invalid h.0) s h.2 v rest text
 whole_not_refused f laws q s v rest text (errors.IoError e) h = fault_no_text f laws q Io s h v rest text
-whole_not_refused f laws q s v rest text (errors.Utf8Error e) h = fault_no_text f laws q NoText s h v rest text
+whole_not_refused f laws q s v rest text (errors.Utf8Error e) h = fault_no_text f laws q Utf8 s h v rest text
 whole_not_refused f laws q s v rest text (errors.FromUtf8Error e) h = h
 whole_not_refused f laws q s v rest text (errors.OutOfMemory e) h = h
 whole_not_refused f laws q s v rest text errors.WriterFailed h = h

@@ -16,3 +16,6 @@ pub mod Verdicts
 pub mod Numbers
 pub mod OnePadded
 pub mod Kept
+pub mod Requested
+pub mod Showing
+pub mod EachRule

@@ -1,7 +1,8 @@
 -- Why a call that takes a text off a stream is refused, of any grammar whose verdicts are stable.
-use Rattle.std.proofs.Common.{◌≡◌, ℕ, List, ◌++◌, ◌-◌, ◌<◌, ◌≤◌, length, take, sym, ap, ◌∙◌, subst, arith, length-append, true, false, Bool, Some, None, Err, ◌+◌, ◌⊎◌, inl, inr}
+use Rattle.std.proofs.Common.{◌≡◌, ℕ, List, [], ◌++◌, ◌-◌, ◌<◌, ◌≤◌, length, take, sym, ap, ◌∙◌, subst, arith, length-append, true, false, Bool, Some, None, Err, ◌+◌, ◌⊎◌, inl, inr}
 use Rattle.std.specs.Prelude.{Option, IfSome}
 use Rattle.std.specs.Io.KnownBytes.{Consumes}
+use Rattle.std.proofs.KnownBytes.{Consumes-nil}
 use Rattle.std.proofs.lemmas.List.{length-take-le}
 use Rattle.pcap_core.specs.declared.errors.PcapError.{PcapError}
 use Rattle.pcap_core.specs.Answer.{Verdict, lacks, faulty}
@@ -11,8 +12,12 @@ use Rattle.pcap_core.specs.Laws.{IsStable}
 use Rattle.pcap_core.specs.Errors.{IsIo}
 use Rattle.pcap_core.specs.Streams.{EndsInside, EndsBefore, HasCauseToFill, TakesFewer}
 use Rattle.pcap_core.specs.Filling.{IsAskedFor}
-use Rattle.pcap_core.specs.Reading.{HasCause, read_failed, no_memory, torn, refused, IsShort, IsTorn, IsFaultOf, ReadsTold, ReadsWhere}
+use Rattle.pcap_core.specs.Reading.{HasCause, read_failed, no_memory, torn, refused, IsShort, IsTorn, IsFaultOf, TakesAsked, ReadsTold, ReadsWhere}
 use Rattle.pcap_core.proofs.Refusals.{shows_more}
+
+-- nothing was taken
+pub nothing_asked : {V : Type 0} (IsSaid : List ℕ → Verdict V → Type 0) (known : Option (List ℕ)) → TakesAsked IsSaid known known
+nothing_asked IsSaid known = record { taken = []; from_stream = Consumes-nil known; asked = λ n less. absurd (omega (arith, less)) }
 
 module _ {V : Type 0} (IsSaid : List ℕ → Verdict V → Type 0) (stable : IsStable IsSaid) where
   -- the stream ended inside the text that was asked for

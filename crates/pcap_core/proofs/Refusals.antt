@@ -6,7 +6,7 @@ use Rattle.pcap_core.specs.declared.errors.PcapError.{PcapError}
 use Rattle.pcap_core.specs.declared.errors.PcapError.TheVariants as errors
 use Rattle.pcap_core.specs.declared.rules.Rule.{Rule}
 use Rattle.pcap_core.specs.Answer.{Verdict, lacks, faulty, Refuses, TellsWhere}
-use Rattle.pcap_core.specs.Faults.{Fault, Invalid, Io, NoText, Names, Shows}
+use Rattle.pcap_core.specs.Faults.{Fault, Invalid, Io, Utf8, Names, Shows}
 
 pub named_refuses : (M : Type 0) (L : ℕ → Type 0) (F : Fault → Type 0) (rule : Rule) (e : PcapError) → F (Invalid rule) → Names rule e → Refuses M L F e
 named_refuses M L F rule (errors.InvalidField text) stands named = (rule, named, stands)
@@ -27,7 +27,7 @@ named_tells M IsSaid view rule (Ok x) stands named = absurd named
 pub shows_more : {P Q : Fault → Type 0} → ((fault : Fault) → P fault → Q fault) → (e : PcapError) → Shows P e → Shows Q e
 shows_more step (errors.InvalidField text) shown = (shown.0, shown.1, step (Invalid shown.0) shown.2)
 shows_more step (errors.IoError e) shown = step Io shown
-shows_more step (errors.Utf8Error e) shown = step NoText shown
+shows_more step (errors.Utf8Error e) shown = step Utf8 shown
 shows_more step (errors.IncompleteBuffer n) shown = absurd shown
 shows_more step (errors.FromUtf8Error e) shown = absurd shown
 shows_more step (errors.OutOfMemory e) shown = absurd shown
@@ -51,3 +51,13 @@ refuses_shows L F (errors.IncompleteBuffer n) none refuses = absurd (none n refu
 refuses_shows L F (errors.FromUtf8Error e) none refuses = refuses
 refuses_shows L F (errors.OutOfMemory e) none refuses = refuses
 refuses_shows L F errors.WriterFailed none refuses = refuses
+
+-- an error that shows a fault shows one that stands
+pub shown_some : {P : Fault → Type 0} → (e : PcapError) → Shows P e → (fault : Fault) × P fault
+shown_some (errors.InvalidField text) shown = (Invalid shown.0, shown.2)
+shown_some (errors.IoError e) shown = (Io, shown)
+shown_some (errors.Utf8Error e) shown = (Utf8, shown)
+shown_some (errors.IncompleteBuffer n) shown = absurd shown
+shown_some (errors.FromUtf8Error e) shown = absurd shown
+shown_some (errors.OutOfMemory e) shown = absurd shown
+shown_some errors.WriterFailed shown = absurd shown

@@ -1,5 +1,6 @@
 pub mod Bytes
 pub mod Faults
+pub mod Rules
 pub mod Answer
 pub mod Link
 pub mod Run
@@ -18,3 +19,7 @@ pub mod Writing
 pub mod Errors
 pub mod Filling
 pub mod Padded
+pub mod Requests
+pub mod Window
+pub mod Requested
+pub mod Found

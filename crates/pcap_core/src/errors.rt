@@ -1,6 +1,6 @@
 //! Why a capture could not be read or written.
 
-ghost use Rattle.std.specs.Prelude.{◌≡◌, alloc_error};
+ghost use Rattle.std.specs.Prelude.{◌≡◌, Some, IfSome, alloc_error};
 ghost use Rattle.pcap_core.specs.Faults.{Names};
 ghost use Rattle.pcap_core.specs.declared.errors.PcapError.TheVariants as errors;
 
@@ -38,6 +38,19 @@ pub enum PcapError {
     /// An earlier write of this writer failed.
     #[error("Writer failed earlier")]
     WriterFailed,
+}
+
+impl PcapError {
+    /// The rule that the text of an `InvalidField` names. None for each other error.
+    pub fn rule(&self) -> Option<Rule>
+        ensures named { IfSome result (λ rule. Names rule self.now) }
+        ensures found { (rule : Rule) → Names rule self.now → result ≡ Some rule }
+    {
+        match self {
+            PcapError::InvalidField(text) => Rule::from_text(text),
+            _ => None,
+        }
+    }
 }
 
 impl From<io::Error> for PcapError {

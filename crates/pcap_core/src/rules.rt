@@ -1,7 +1,8 @@
 //! The rules of the formats, one for each text of an `InvalidField`.
 
-ghost use Rattle.std.specs.Prelude.{◌≡◌};
+ghost use Rattle.std.specs.Prelude.{◌≡◌, Some, IfSome};
 ghost use Rattle.pcap_core.specs.Faults.{text_of};
+ghost use Rattle.pcap_core.specs.Rules.{number_of, name_of};
 
 /// A rule of the formats that bytes break. Its number is that of the table of refusals.
 #[derive(Clone, Copy, Debug, PartialEq, Eq)]
@@ -42,35 +43,35 @@ pub enum Rule {
     OptionTooShort,
     /// V18: an option's value and padding pass the body.
     OptionCut,
-    /// V19: an interface's IPv4 address and mask are not 8 bytes.
+    /// V19.1: an interface's IPv4 address and mask are not 8 bytes.
     InterfaceIpv4Length,
-    /// V19: an interface's IPv6 address and prefix are not 17 bytes.
+    /// V19.2: an interface's IPv6 address and prefix are not 17 bytes.
     InterfaceIpv6Length,
-    /// V19: an interface's MAC address is not 6 bytes.
+    /// V19.3: an interface's MAC address is not 6 bytes.
     InterfaceMacLength,
-    /// V19: an interface's EUI address is not 8 bytes.
+    /// V19.4: an interface's EUI address is not 8 bytes.
     InterfaceEuiLength,
-    /// V19: an interface's speed is not 8 bytes.
+    /// V19.5: an interface's speed is not 8 bytes.
     InterfaceSpeedLength,
-    /// V19: an interface's time resolution is not 1 byte.
+    /// V19.6: an interface's time resolution is not 1 byte.
     InterfaceResolutionLength,
-    /// V19: an interface's time zone is not 4 bytes.
+    /// V19.7: an interface's time zone is not 4 bytes.
     InterfaceZoneLength,
-    /// V19: an interface's filter is empty.
+    /// V19.8: an interface's filter is empty.
     InterfaceFilterEmpty,
-    /// V19: an interface's length of the frame check sequence is not 1 byte.
+    /// V19.9: an interface's length of the frame check sequence is not 1 byte.
     InterfaceFcsLength,
-    /// V19: an interface's time offset is not 8 bytes.
+    /// V19.10: an interface's time offset is not 8 bytes.
     InterfaceOffsetLength,
-    /// V19: an enhanced packet's flags are not 4 bytes.
+    /// V19.11: an enhanced packet's flags are not 4 bytes.
     EnhancedFlagsLength,
-    /// V19: an enhanced packet's drop count is not 8 bytes.
+    /// V19.12: an enhanced packet's drop count is not 8 bytes.
     EnhancedDropCountLength,
-    /// V19: a packet's flags are not 4 bytes.
+    /// V19.13: a packet's flags are not 4 bytes.
     PacketFlagsLength,
-    /// V19: a name server's IPv4 address is not 4 bytes.
+    /// V19.14: a name server's IPv4 address is not 4 bytes.
     NameIpv4Length,
-    /// V19: a name server's IPv6 address is not 16 bytes.
+    /// V19.15: a name server's IPv6 address is not 16 bytes.
     NameIpv6Length,
     /// V20: a name record's value passes the body.
     RecordCut,
@@ -88,7 +89,173 @@ pub enum Rule {
     UnknownTooLong,
 }
 
+/// Every rule, by number.
+const RULES: [Rule; 40] = [
+    Rule::CaptureMagic,
+    Rule::FractionTooLarge,
+    Rule::IncludedTooLong,
+    Rule::OriginalTooLong,
+    Rule::IncludedPastOriginal,
+    Rule::SectionMagic,
+    Rule::BlockUnaligned,
+    Rule::BlockTooShort,
+    Rule::BlockLengthsDiffer,
+    Rule::SectionMissing,
+    Rule::SectionTooShort,
+    Rule::InterfaceTooShort,
+    Rule::EnhancedTooShort,
+    Rule::EnhancedCut,
+    Rule::SimpleTooShort,
+    Rule::StatisticsTooShort,
+    Rule::OptionTooShort,
+    Rule::OptionCut,
+    Rule::InterfaceIpv4Length,
+    Rule::InterfaceIpv6Length,
+    Rule::InterfaceMacLength,
+    Rule::InterfaceEuiLength,
+    Rule::InterfaceSpeedLength,
+    Rule::InterfaceResolutionLength,
+    Rule::InterfaceZoneLength,
+    Rule::InterfaceFilterEmpty,
+    Rule::InterfaceFcsLength,
+    Rule::InterfaceOffsetLength,
+    Rule::EnhancedFlagsLength,
+    Rule::EnhancedDropCountLength,
+    Rule::PacketFlagsLength,
+    Rule::NameIpv4Length,
+    Rule::NameIpv6Length,
+    Rule::RecordCut,
+    Rule::EndNotEmpty,
+    Rule::Ipv4RecordTooShort,
+    Rule::Ipv6RecordTooShort,
+    Rule::NameUnended,
+    Rule::RecordUnpadded,
+    Rule::UnknownTooLong,
+];
+
 impl Rule {
+    /// The number of this rule in the table of refusals: n for Vn, and 1900 + n for V19.n. No two rules share one.
+    pub fn number(self) -> u32
+        ensures { result ≡ number_of self }
+    {
+        match self {
+            Rule::CaptureMagic => 1,
+            Rule::FractionTooLarge => 2,
+            Rule::IncludedTooLong => 3,
+            Rule::OriginalTooLong => 4,
+            Rule::IncludedPastOriginal => 5,
+            Rule::SectionMagic => 6,
+            Rule::BlockUnaligned => 7,
+            Rule::BlockTooShort => 8,
+            Rule::BlockLengthsDiffer => 9,
+            Rule::SectionMissing => 10,
+            Rule::SectionTooShort => 11,
+            Rule::InterfaceTooShort => 12,
+            Rule::EnhancedTooShort => 13,
+            Rule::EnhancedCut => 14,
+            Rule::SimpleTooShort => 15,
+            Rule::StatisticsTooShort => 16,
+            Rule::OptionTooShort => 17,
+            Rule::OptionCut => 18,
+            Rule::InterfaceIpv4Length => 1901,
+            Rule::InterfaceIpv6Length => 1902,
+            Rule::InterfaceMacLength => 1903,
+            Rule::InterfaceEuiLength => 1904,
+            Rule::InterfaceSpeedLength => 1905,
+            Rule::InterfaceResolutionLength => 1906,
+            Rule::InterfaceZoneLength => 1907,
+            Rule::InterfaceFilterEmpty => 1908,
+            Rule::InterfaceFcsLength => 1909,
+            Rule::InterfaceOffsetLength => 1910,
+            Rule::EnhancedFlagsLength => 1911,
+            Rule::EnhancedDropCountLength => 1912,
+            Rule::PacketFlagsLength => 1913,
+            Rule::NameIpv4Length => 1914,
+            Rule::NameIpv6Length => 1915,
+            Rule::RecordCut => 20,
+            Rule::EndNotEmpty => 21,
+            Rule::Ipv4RecordTooShort => 22,
+            Rule::Ipv6RecordTooShort => 23,
+            Rule::NameUnended => 24,
+            Rule::RecordUnpadded => 25,
+            Rule::UnknownTooLong => 26,
+        }
+    }
+
+    /// The name of this rule, as the variant is spelled.
+    pub fn name(self) -> &'static str
+        ensures { result.now ≡ name_of self }
+    {
+        match self {
+            Rule::CaptureMagic => "CaptureMagic",
+            Rule::FractionTooLarge => "FractionTooLarge",
+            Rule::IncludedTooLong => "IncludedTooLong",
+            Rule::OriginalTooLong => "OriginalTooLong",
+            Rule::IncludedPastOriginal => "IncludedPastOriginal",
+            Rule::SectionMagic => "SectionMagic",
+            Rule::BlockUnaligned => "BlockUnaligned",
+            Rule::BlockTooShort => "BlockTooShort",
+            Rule::BlockLengthsDiffer => "BlockLengthsDiffer",
+            Rule::SectionMissing => "SectionMissing",
+            Rule::SectionTooShort => "SectionTooShort",
+            Rule::InterfaceTooShort => "InterfaceTooShort",
+            Rule::EnhancedTooShort => "EnhancedTooShort",
+            Rule::EnhancedCut => "EnhancedCut",
+            Rule::SimpleTooShort => "SimpleTooShort",
+            Rule::StatisticsTooShort => "StatisticsTooShort",
+            Rule::OptionTooShort => "OptionTooShort",
+            Rule::OptionCut => "OptionCut",
+            Rule::InterfaceIpv4Length => "InterfaceIpv4Length",
+            Rule::InterfaceIpv6Length => "InterfaceIpv6Length",
+            Rule::InterfaceMacLength => "InterfaceMacLength",
+            Rule::InterfaceEuiLength => "InterfaceEuiLength",
+            Rule::InterfaceSpeedLength => "InterfaceSpeedLength",
+            Rule::InterfaceResolutionLength => "InterfaceResolutionLength",
+            Rule::InterfaceZoneLength => "InterfaceZoneLength",
+            Rule::InterfaceFilterEmpty => "InterfaceFilterEmpty",
+            Rule::InterfaceFcsLength => "InterfaceFcsLength",
+            Rule::InterfaceOffsetLength => "InterfaceOffsetLength",
+            Rule::EnhancedFlagsLength => "EnhancedFlagsLength",
+            Rule::EnhancedDropCountLength => "EnhancedDropCountLength",
+            Rule::PacketFlagsLength => "PacketFlagsLength",
+            Rule::NameIpv4Length => "NameIpv4Length",
+            Rule::NameIpv6Length => "NameIpv6Length",
+            Rule::RecordCut => "RecordCut",
+            Rule::EndNotEmpty => "EndNotEmpty",
+            Rule::Ipv4RecordTooShort => "Ipv4RecordTooShort",
+            Rule::Ipv6RecordTooShort => "Ipv6RecordTooShort",
+            Rule::NameUnended => "NameUnended",
+            Rule::RecordUnpadded => "RecordUnpadded",
+            Rule::UnknownTooLong => "UnknownTooLong",
+        }
+    }
+
+    /// The rule of this number. None where no rule has it.
+    pub fn from_number(number: u32) -> Option<Rule>
+        ensures numbered { IfSome result (λ rule. number_of rule ≡ number) }
+        ensures found { (rule : Rule) → number_of rule ≡ number → result ≡ Some rule }
+    {
+        for rule in &RULES {
+            if rule.number() == number {
+                return Some(*rule);
+            }
+        }
+        None
+    }
+
+    /// The rule of this text. None where no rule has it.
+    pub(crate) fn from_text(text: &str) -> Option<Rule>
+        ensures named { IfSome result (λ rule. text_of rule ≡ text.now) }
+        ensures found { (rule : Rule) → text_of rule ≡ text.now → result ≡ Some rule }
+    {
+        for rule in &RULES {
+            if rule.text() == text {
+                return Some(*rule);
+            }
+        }
+        None
+    }
+
     /// The text of the `InvalidField` that names this rule.
     pub fn text(self) -> &'static str
         ensures { result.now ≡ text_of self }

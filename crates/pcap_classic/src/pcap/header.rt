@@ -12,10 +12,11 @@ ghost use Rattle.pcap_core.specs.Writing.{WritesAll};
 ghost use Rattle.pcap_classic.specs.Written.{header_bytes};
 
 use byteorder::{BigEndian, ByteOrder, LittleEndian};
+use crate::common::TsResolution;
 use pcap_core::fields::{split_u16, split_u32};
 use pcap_core::rules::Rule;
 use pcap_core::stream::{fill_array, put};
-use pcap_core::{DataLink, Endianness, PcapError, ResultParsing, TsResolution};
+use pcap_core::{DataLink, Endianness, PcapError, ResultParsing};
 use std::alloc::Global;
 use std::io::{Read, Write};
 
@@ -179,8 +180,8 @@ impl PcapHeader {
         }
     }
 
-    // The 24 bytes of the header, the magic number high byte first.
-    pub(crate) fn to_bytes<B: ByteOrder>(&self) -> [u8; 24]
+    /// The 24 bytes that `write_to` writes.
+    pub fn to_bytes<B: ByteOrder>(&self) -> [u8; 24]
         ensures { result ≡ header_bytes B.bytes_of self.now }
     {
         let mut bytes = [0; 24];

@@ -12,18 +12,19 @@ ghost use Rattle.pcap_core.specs.Writing.{WritesAll};
 ghost use Rattle.pcap_classic.specs.Written.{fraction_of, packet_header_bytes};
 ghost use Rattle.pcap_classic.specs.PacketText.{packet_limit, Head, IsGood, IsHeadFault, spelled_header, content_of, PacketHeaderSays, PacketSays};
 
+use crate::common::TsResolution;
 use crate::pcap::PcapHeader;
 use byteorder::{BigEndian, ByteOrder, LittleEndian};
 use pcap_core::fields::split_u32;
 use pcap_core::rules::Rule;
 use pcap_core::stream::{fill_array, put, take_bytes};
-use pcap_core::{CowBytes, Endianness, PcapError, ResultParsing, TsResolution};
+use pcap_core::{CowBytes, Endianness, PcapError, ResultParsing};
 use std::alloc::Global;
 use std::io::{Read, Write};
 use std::time::Duration;
 
 /// The most bytes that a packet's stored or original length may say.
-const MOST_BYTES: u32 = 0x40000;
+const PACKET_LIMIT: u32 = 262144;
 
 /// The header of a packet, 16 bytes in a capture.
 #[derive(Clone, Copy, Debug, Default, PartialEq, Eq)]
@@ -60,10 +61,10 @@ fn header_of(
             1000 * fraction
         }
     };
-    if incl_len > MOST_BYTES {
+    if incl_len > PACKET_LIMIT {
         return Err(Rule::IncludedTooLong);
     }
-    if orig_len > MOST_BYTES {
+    if orig_len > PACKET_LIMIT {
         return Err(Rule::OriginalTooLong);
     }
     if incl_len > orig_len {
@@ -151,8 +152,8 @@ impl PacketHeader {
         }
     }
 
-    // The 16 bytes of the header.
-    pub(crate) fn to_bytes<B: ByteOrder>(&self, ts_resolution: TsResolution) -> [u8; 16]
+    /// The 16 bytes that `write_to` writes.
+    pub fn to_bytes<B: ByteOrder>(&self, ts_resolution: TsResolution) -> [u8; 16]
         ensures { result ≡ packet_header_bytes B.bytes_of ts_resolution self.now }
     {
         let mut bytes = [0; 16];

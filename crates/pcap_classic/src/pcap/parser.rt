@@ -6,7 +6,8 @@ ghost use Rattle.pcap_classic.specs.Magic.{is_magic, order_of, resolution_of};
 
 use crate::pcap::packet::packet_under;
 use crate::pcap::{Packet, PcapHeader};
-use pcap_core::ResultParsing;
+use pcap_core::rules::Rule;
+use pcap_core::{PcapError, ResultParsing};
 
 /// Parser of a Pcap capture: it holds the header, and gives a packet for each slice that begins with one.
 #[derive(Debug, Drop)]
@@ -19,7 +20,7 @@ impl PcapParser {
     ghost use Rattle.pcap_core.specs.Bytes.{IsBorrowed};
     ghost use Rattle.pcap_classic.specs.PacketText.{packet_limit, content_of, PacketSays};
     ghost use Rattle.pcap_classic.specs.HeaderText.{HeaderSays};
-    ghost use Rattle.pcap_classic.specs.Parser.{header_of};
+    ghost use Rattle.pcap_classic.specs.Parser.{header_of, OpensParser};
 
     /// The parser that the header at the front of a slice gives, and what follows it.
     ///
@@ -29,6 +30,18 @@ impl PcapParser {
     {
         let (rest, header) = PcapHeader::from_slice(slice)?;
         Ok((rest, PcapParser { header }))
+    }
+
+    /// The parser of the packets behind this header.
+    ///
+    /// `InvalidField` where the magic number is none of the four.
+    pub fn with_header(header: PcapHeader) -> ResultParsing<PcapParser>
+        ensures { OpensParser header result }
+    {
+        if !header.has_valid_magic() {
+            return Err(PcapError::from(Rule::CaptureMagic));
+        }
+        Ok(PcapParser { header })
     }
 
     /// The header of the capture.

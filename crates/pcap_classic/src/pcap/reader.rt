@@ -80,24 +80,6 @@ fn hold<T: Read>(
 impl<T: Read + Drop> PcapReader<T> {
     ghost use Rattle.pcap_classic.specs.Reader.{stream_of, has_failed, is_done, data_of, lent_packet, LetsGo, OpensReader};
 
-    /// A reader of the packets of a stream whose header was read before: the stream stands after its 24 bytes.
-    pub fn with_header(alloc: Global, header: PcapHeader, stream: T) -> PcapReader<T>
-        ensures header { result.header ≡ header }
-        ensures stream { stream_of result ≡ stream }
-        ensures unfailed { has_failed result ≡ false }
-        ensures ready { is_done result ≡ false }
-    {
-        PcapReader {
-            header,
-            alloc,
-            inner: stream,
-            has_failed: false,
-            held: Held::new(alloc),
-            lent: Held::new(alloc),
-            is_done: false,
-        }
-    }
-
     /// Reads the header of a capture off a stream, and makes a reader of the packets behind it. A refused call drops the
     /// stream.
     ///
@@ -162,6 +144,24 @@ impl<T> PcapReader<T> {
         Packet {
             header,
             data_: CowBytes::Borrowed(self.data()),
+        }
+    }
+
+    /// A reader of the packets of a stream whose header was read before: the stream stands after its 24 bytes.
+    pub fn with_header(alloc: Global, header: PcapHeader, stream: T) -> PcapReader<T>
+        ensures header { result.header ≡ header }
+        ensures stream { stream_of result ≡ stream }
+        ensures unfailed { has_failed result ≡ false }
+        ensures ready { is_done result ≡ false }
+    {
+        PcapReader {
+            header,
+            alloc,
+            inner: stream,
+            has_failed: false,
+            held: Held::new(alloc),
+            lent: Held::new(alloc),
+            is_done: false,
         }
     }
 

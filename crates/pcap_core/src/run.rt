@@ -1,0 +1,9 @@
+//! What runs over bytes that are shown, or come, a few at a time share.
+
+mod found;
+mod requests;
+mod window;
+
+pub use found::{Found, found_in};
+pub use requests::{Request, Requests};
+pub use window::Window;

@@ -1,0 +1,11 @@
+pub mod Frames
+pub mod Bodies
+pub mod State
+pub mod Blocks
+pub mod Opening
+pub mod Parser
+pub mod Front
+pub mod Run
+pub mod Reader
+pub mod Reads
+pub mod StatedFrames

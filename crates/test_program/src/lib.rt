@@ -1,0 +1,7 @@
+//! The program over inputs and outputs in memory.
+#![tactic(auto)]
+
+#[cfg(test)]
+mod failing;
+#[cfg(test)]
+mod words;
