@@ -1,10 +1,10 @@
 -- What is known of a packet once its header is read.
-use Rattle.std.specs.Prelude.{◌≡◌, ℕ, List, [], true}
+use Rattle.std.specs.Prelude.{◌≡◌, ℕ, List, [], drop, true}
 use Rattle.pcap_classic.specs.declared.pcap.header.PcapHeader.{PcapHeader}
 use Rattle.pcap_classic.specs.declared.pcap.packet.PacketHeader.{PacketHeader}
 use Rattle.pcap_core.specs.Answer.{number_in}
 use Rattle.pcap_classic.specs.Magic.{is_magic, order_of, resolution_of}
-use Rattle.pcap_classic.specs.PacketText.{packet_limit, PacketHeaderText}
+use Rattle.pcap_classic.specs.PacketText.{packet_limit, Captured, PacketHeaderText}
 
 -- the bytes are this header's text, which says that n bytes follow it
 pub record KnowsHeader (header : PcapHeader) (head : PacketHeader) (n : ℕ) (bytes : List ℕ) : Type 0 where
