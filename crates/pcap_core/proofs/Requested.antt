@@ -1,7 +1,7 @@
 -- What is asked for, by whoever adds exactly what was asked for.
 use Rattle.std.proofs.Common.{◌≡◌, ◌<◌, ◌≤◌, ◌+◌, ◌-◌, ◌*◌, ℕ, List, [], ◌∷◌, ◌++◌, length, take, drop, refl, sym, ap, subst, ◌∙◌, arith, append_assoc, append-nil, length-append, length-drop, inl, inr}
 use Rattle.std.proofs.lemmas.Bool.{cases_lt}
-use Rattle.std.proofs.lemmas.List.{length-take-le, take-append-drop, drop-take}
+use Rattle.std.proofs.lemmas.List.{length-take-le, take-append-drop}
 use Rattle.std.proofs.Math.Seq.{take-add}
 use Rattle.pcap_core.specs.Faults.{Fault}
 use Rattle.pcap_core.specs.Answer.{whole, lacks, faulty}

@@ -4,15 +4,15 @@ use Rattle.std.specs.Prelude.{IsSome}
 use Rattle.pcap_core.specs.declared.common.Endianness.{Endianness}
 use Rattle.pcap_core.specs.Answer.{number_in, whole}
 use Rattle.pcap_core.specs.Headed.{HeadReading, good}
-use Rattle.pcap_blocks.specs.declared.block.BlockType.{BlockType}
-use Rattle.pcap_blocks.specs.declared.block.BlockType.TheVariants as types
+use Rattle.pcap_blocks.specs.declared.block_type.BlockType.{BlockType}
+use Rattle.pcap_blocks.specs.declared.block_type.BlockType.TheVariants as types
 use Rattle.pcap_blocks.specs.declared.section_header.SectionHeaderBlock.{SectionHeaderBlock}
 use Rattle.pcap_blocks.specs.declared.interface_description.InterfaceDescriptionBlock.{InterfaceDescriptionBlock}
 use Rattle.pcap_blocks.specs.SectionHeader.{Section, SectionSays, section_of, magic_order}
 use Rattle.pcap_blocks.specs.InterfaceDescription.{Interface, InterfaceSays, interface_of}
-use Rattle.pcap_blocks.specs.ParsedBlock.{SectionBody, InterfaceBody, BodySays, HasLists}
+use Rattle.pcap_blocks.specs.ParsedBlock.{SectionBody, InterfaceBody, BodySays}
 use Rattle.pcap_file.specs.Frames.{Framed}
-use Rattle.pcap_file.specs.State.{State, within, is_kept, is_read, MeansIf, Means, CanGrow}
+use Rattle.pcap_file.specs.State.{State, within, is_kept, is_read, HasLists, MeansIf, Means, CanGrow}
 
 pub read_means : (q : State) (b : Framed) (r : HeadReading State) → is_read q b.type_ ≡ true → MeansIf true q b r → Means q b r
 read_means q b r is x = subst (λ (t : Bool). MeansIf t q b r) (sym is) x

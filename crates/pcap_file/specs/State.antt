@@ -7,11 +7,11 @@ use Rattle.pcap_core.specs.declared.errors.PcapError.{PcapError}
 use Rattle.pcap_core.specs.Answer.{whole, faulty, Refuses}
 use Rattle.pcap_core.specs.Faults.{Invalid}
 use Rattle.pcap_core.specs.Headed.{HeadReading, good, bad}
-use Rattle.pcap_blocks.specs.declared.block.BlockType.{BlockType}
-use Rattle.pcap_blocks.specs.declared.block.BlockType.TheVariants as types
+use Rattle.pcap_blocks.specs.declared.block_type.BlockType.{BlockType}
+use Rattle.pcap_blocks.specs.declared.block_type.BlockType.TheVariants as types
 use Rattle.pcap_blocks.specs.SectionHeader.{Section, section_of, magic_order}
 use Rattle.pcap_blocks.specs.InterfaceDescription.{Interface, interface_of}
-use Rattle.pcap_blocks.specs.ParsedBlock.{Body, SectionBody, InterfaceBody, HasLists}
+use Rattle.pcap_blocks.specs.ParsedBlock.{Body, SectionBody, InterfaceBody}
 use Rattle.pcap_file.specs.declared.pcapng.state.InForce.{InForce}
 use Rattle.pcap_file.specs.declared.pcapng.state.Kept.{Kept}
 use Rattle.pcap_file.specs.declared.pcapng.state.Kept.TheVariants as kept
@@ -77,6 +77,13 @@ led q (Some body) = good_or q (leads q body)
 -- what is in force
 abbrev pub state_in : InForce → State
 state_in f = within (section_of f.section) (map interface_of f.interfaces.items)
+
+-- bodies of this type have lists
+abbrev pub HasLists : BlockType → Type 0
+HasLists types.SimplePacket = ⊥
+HasLists types.SystemdJournalExport = ⊥
+HasLists (types.Unknown n) = ⊥
+HasLists _ = Unit {0}
 
 -- the body of a block is read, and has lists
 abbrev pub CanGrow : State → Framed → Type 0

@@ -1,7 +1,7 @@
-use Rattle.std.proofs.Common.{◌≡◌, [], refl, sym, ◌∙◌}
+use Rattle.std.proofs.Common.{[]}
 use Rattle.pcap_core.specs.Pieces.{HoldsItems, joined_pieces}
 use Rattle.pcap_core.proofs.Pieces.{after_each_more}
-use Rattle.pcap_classic.specs.HeaderText.{HeaderSays, LacksHeader, HasHeaderFault}
+use Rattle.pcap_classic.specs.HeaderText.{HeaderSays}
 use Rattle.pcap_classic.specs.PacketText.{packet_limit}
 use Rattle.pcap_classic.specs.Packets.{capture_format}
 use Rattle.pcap_classic.specs.Pieces.{HoldsPackets}
