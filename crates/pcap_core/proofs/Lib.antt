@@ -18,10 +18,5 @@ pub mod OnePadded
 pub mod Kept
 pub mod Requested
 pub mod Showing
-<<<<<<< HEAD
-pub mod Pieces
-pub mod EachRule
-=======
 pub mod EachRule
 pub mod Pieces
->>>>>>> core
