@@ -6,8 +6,8 @@ use Rattle.pcap_core.specs.Headed.{HeadReading, good, bad}
 use Rattle.pcap_core.specs.Laws.{ExactlyOne}
 use Rattle.pcap_core.specs.Format.{IsLawful}
 use Rattle.pcap_core.proofs.Formats.{text_same, lacks_no_text, fault_no_text, only}
-use Rattle.pcap_blocks.specs.declared.block.BlockType.{BlockType}
-use Rattle.pcap_blocks.specs.declared.block.BlockType.TheVariants as types
+use Rattle.pcap_blocks.specs.declared.block_type.BlockType.{BlockType}
+use Rattle.pcap_blocks.specs.declared.block_type.BlockType.TheVariants as types
 use Rattle.pcap_blocks.specs.ParsedBlock.{Body, BodySays}
 use Rattle.pcap_blocks.proofs.OneBody.{body_one}
 use Rattle.pcap_file.specs.Frames.{Framed, FrameText, FrameSays, frame_format}

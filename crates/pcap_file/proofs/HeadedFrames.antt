@@ -14,8 +14,8 @@ use Rattle.pcap_core.specs.Headed.{Piece, HeadReading, good, bad, Headed, Headed
 use Rattle.pcap_core.proofs.Formats.{lawful_moved}
 use Rattle.pcap_core.proofs.Headed.{headed_lawful}
 use Rattle.pcap_core.proofs.Texts.{split_same}
-use Rattle.pcap_blocks.specs.declared.block.BlockType.{BlockType}
-use Rattle.pcap_blocks.specs.WholeBodies.{block_type}
+use Rattle.pcap_blocks.specs.declared.block_type.BlockType.{BlockType}
+use Rattle.pcap_blocks.specs.BlockType.{block_type}
 use Rattle.pcap_file.specs.Frames.{Framed, own_order, FrameHeadText, NoOrder, no_order, unaligned, too_short, FrameTail, FrameText, LengthsDiffer, FrameFault, in_head, unequal, FrameSays, frame_format}
 
 -- a good head, and the four bytes after its length

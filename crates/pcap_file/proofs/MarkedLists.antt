@@ -4,8 +4,8 @@ use Rattle.pcap_core.specs.Answer.{number_in, whole}
 use Rattle.pcap_core.specs.Format.{Extends, Front}
 use Rattle.pcap_core.specs.Headed.{good}
 use Rattle.pcap_core.proofs.Formats.{front_extends}
-use Rattle.pcap_blocks.specs.declared.block.BlockType.{BlockType}
-use Rattle.pcap_blocks.specs.declared.block.BlockType.TheVariants as types
+use Rattle.pcap_blocks.specs.declared.block_type.BlockType.{BlockType}
+use Rattle.pcap_blocks.specs.declared.block_type.BlockType.TheVariants as types
 use Rattle.pcap_blocks.specs.InterfaceDescription.{Interface, InterfaceText, interface_description}
 use Rattle.pcap_blocks.specs.ParsedBlock.{SectionBody, InterfaceBody, BodySays}
 use Rattle.pcap_blocks.specs.SectionHeader.{Section, SectionText, section_header}

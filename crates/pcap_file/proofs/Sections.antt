@@ -7,8 +7,8 @@ use Rattle.pcap_core.specs.Answer.{whole, number_in}
 use Rattle.pcap_core.specs.Faults.{Fault}
 use Rattle.pcap_core.specs.Format.{Texts, state_after}
 use Rattle.pcap_core.specs.Headed.{good, bad}
-use Rattle.pcap_blocks.specs.declared.block.BlockType.{BlockType}
-use Rattle.pcap_blocks.specs.declared.block.BlockType.TheVariants as types
+use Rattle.pcap_blocks.specs.declared.block_type.BlockType.{BlockType}
+use Rattle.pcap_blocks.specs.declared.block_type.BlockType.TheVariants as types
 use Rattle.pcap_blocks.specs.SectionHeader.{Section}
 use Rattle.pcap_blocks.specs.InterfaceDescription.{Interface}
 use Rattle.pcap_blocks.specs.ParsedBlock.{Body, SectionBody, InterfaceBody, BodySays}

@@ -11,7 +11,7 @@ use Rattle.pcap_core.specs.declared.errors.PcapError.{PcapError}
 use Rattle.pcap_core.specs.Answer.{Number, number_in, Verdict, lacks, faulty}
 use Rattle.pcap_core.specs.Faults.{Invalid, Names}
 use Rattle.pcap_core.proofs.Refusals.{named_shows}
-use Rattle.pcap_blocks.specs.WholeBodies.{block_type}
+use Rattle.pcap_blocks.specs.BlockType.{block_type}
 use Rattle.pcap_core.specs.Filling.{IsSettled, Stated, StatesRest, TellsSettled}
 use Rattle.pcap_file.specs.declared.pcapng.framing.FrameHead.{FrameHead}
 use Rattle.pcap_file.specs.Frames.{Framed, FrameHeadText, IsGoodLength, BreaksHead, FrameTail, FrameText, LengthsDiffer, in_head, unequal, frame_format}

@@ -9,9 +9,9 @@ use Rattle.pcap_core.specs.Bytes.{cow_bytes}
 use Rattle.pcap_core.specs.Faults.{Fault, Invalid}
 use Rattle.pcap_core.specs.Format.{Format}
 use Rattle.pcap_core.specs.Padded.{Behind}
-use Rattle.pcap_blocks.specs.declared.block.BlockType.{BlockType}
+use Rattle.pcap_blocks.specs.declared.block_type.BlockType.{BlockType}
 use Rattle.pcap_blocks.specs.SectionHeader.{magic_order}
-use Rattle.pcap_blocks.specs.WholeBodies.{block_type}
+use Rattle.pcap_blocks.specs.BlockType.{block_type}
 use Rattle.pcap_file.specs.declared.pcapng.block.Block.{Block}
 
 -- a block, wherever its body lies: its type, its length before and after the body, the body, and the order of its numbers

@@ -4,7 +4,7 @@ use Rattle.byteorder.specs.Endian.{big_number}
 use Rattle.pcap_core.specs.declared.common.Endianness.{Endianness}
 use Rattle.pcap_core.specs.Answer.{Order, Number, number_in, Says}
 use Rattle.pcap_core.specs.Format.{Format}
-use Rattle.pcap_blocks.specs.declared.block.BlockType.TheVariants as types
+use Rattle.pcap_blocks.specs.declared.block_type.BlockType.TheVariants as types
 use Rattle.pcap_blocks.specs.InterfaceDescription.{Interface, InterfaceHead, interface_description}
 use Rattle.pcap_blocks.specs.Options.{wants_end, OptionList}
 use Rattle.pcap_blocks.specs.SectionHeader.{Section, VersionText, section_header, magic_order}
