@@ -4,7 +4,6 @@ use Rattle.pcap_core.specs.declared.common.Endianness.TheVariants.{Big}
 use Rattle.pcap_core.specs.declared.errors.PcapError.{PcapError}
 use Rattle.pcap_core.specs.declared.errors.PcapError.TheVariants as errors
 use Rattle.pcap_core.specs.Answer.{lacks, faulty, Refuses}
-use Rattle.pcap_core.specs.Errors.{IsMemory}
 use Rattle.pcap_core.specs.Faults.{Fault, Invalid, Io, Utf8, Shows}
 use Rattle.pcap_core.specs.Headed.{bad}
 use Rattle.pcap_file.specs.Frames.{Framed, FrameText, FrameSays}
