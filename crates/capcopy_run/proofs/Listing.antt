@@ -8,6 +8,7 @@ use Rattle.pcap_core.specs.Answer.{Verdict, whole}
 use Rattle.pcap_core.specs.Errors.{IsIo, IsMemory}
 use Rattle.pcap_core.specs.Faults.{Shows}
 use Rattle.pcap_core.specs.Format.{Format, Front, IsLawful, state_after}
+use Rattle.pcap_core.specs.Laws.{IsStable}
 use Rattle.pcap_core.specs.Reading.{IsFaultOf, Takes, HasCause, read_failed, no_memory, torn, refused}
 use Rattle.pcap_core.specs.Takes.{TakesTexts, ReadsFront, Stops}
 use Rattle.pcap_core.proofs.Pulling.{nothing_asked}
@@ -116,12 +117,12 @@ module _ {O S V : Type 0} (kind : Kind O S V) (most : ℕ) (s : List ℕ) (befor
 
 -- a capture whose opening is refused
 pub lists_none : {O S V : Type 0} (kind : Kind O S V) (most : ℕ) (known before after : Option (List ℕ)) → Keeps before after → (e : PcapError)
-    → IsIo e ⊎ (kind.grows × IsMemory e) ⊎ Shows (IsFaultOf kind.opens known) e → (exit : Exit) → EndsAt e exit → IfSome known (λ s. ListsUntil kind most s before after exit)
-lists_none kind most None before after kept e cause exit ends = tt
-lists_none kind most (Some s) before after kept e cause exit ends =
+    → (IsMemory e → kind.grows) → IsIo e ⊎ IsMemory e ⊎ Shows (IsFaultOf kind.opens known) e → (exit : Exit) → EndsAt e exit → IfSome known (λ s. ListsUntil kind most s before after exit)
+lists_none kind most None before after kept e grows cause exit ends = tt
+lists_none kind most (Some s) before after kept e grows cause exit ends =
     elim cause [
       | inl io ↦ opening_io kind most s before after kept e io exit ends
-      | inr (inl memory) ↦ opening_memory kind most s before after kept e memory.0 memory.1 exit ends
+      | inr (inl memory) ↦ opening_memory kind most s before after kept e (grows memory) memory exit ends
       | inr (inr stands) ↦ opening_shown kind most s before after kept e stands exit ends
     ]
 
@@ -260,9 +261,9 @@ module _ {O S V : Type 0} (kind : Kind O S V) (opening : O) (laws : IsLawful (ki
   lists_from most after (Err exits.Usage) run = absurd run.ends
 
 -- a capture whose opening was taken
-module _ {O S V : Type 0} (kind : Kind O S V) (opening : O) (goes_on : (t rest : List ℕ) → kind.opens t (whole opening []) → kind.opens (t ++ rest) (whole opening rest)) where
+module _ {O S V : Type 0} (kind : Kind O S V) (stable : IsStable kind.opens) (opening : O) where
   opens_there : (s rest : List ℕ) → Takes kind.opens (Some s) (Some rest) opening → kind.opens s (whole opening rest)
-  opens_there s rest took = subst (λ (l : List ℕ). kind.opens l (whole opening rest)) (sym took.2) (goes_on took.0 rest took.1)
+  opens_there s rest took = subst (λ (l : List ℕ). kind.opens l (whole opening rest)) (sym took.2) (stable.text took.0 rest [] opening took.1)
 
   -- and whose line did not go out
   pub lists_heading : kind.grows → (most : ℕ) (bytes known before after : Option (List ℕ)) → Takes kind.opens bytes known opening → (exit : Exit)

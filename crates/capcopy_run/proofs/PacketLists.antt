@@ -1,5 +1,5 @@
 -- Packets that are listed.
-use Rattle.std.proofs.Common.{IfSome, ℕ, List, [], Option, Result}
+use Rattle.std.proofs.Common.{IfSome, ℕ, List, Option, Result}
 use Rattle.std.proofs.KnownBytes.{Appends-nil}
 use Rattle.pcap_classic.specs.declared.pcap.header.PcapHeader.{PcapHeader}
 use Rattle.pcap_core.specs.Answer.{number_in}
@@ -24,4 +24,4 @@ pub packets_known : (header : PcapHeader) (bytes known before : Option (List ℕ
 packets_known header bytes known before took most after result run =
     let laws = packets_lawful packet_limit (number_in (order_of header.magic_number)) (resolution_of header.magic_number) in
     let under = under_valid packet_limit header (took.1).valid (λ (f : Format (Unit {0}) Captured). ListsItems IsPacketLine f tt known before after most result) run in
-    lists_known packet_lines header (λ t rest. header_stable.text t rest [] header) laws bytes known before before took (Appends-nil before) most after result under
+    lists_known packet_lines header_stable header laws bytes known before before took (Appends-nil before) most after result under

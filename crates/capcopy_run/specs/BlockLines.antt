@@ -4,13 +4,14 @@ use Rattle.std.specs.Fmt.{decimal}
 use Rattle.pcap_core.specs.declared.common.Endianness.{Endianness}
 use Rattle.pcap_core.specs.Answer.{whole, faulty}
 use Rattle.pcap_core.specs.Faults.{Fault}
-use Rattle.pcap_blocks.specs.declared.block.BlockType.{BlockType}
-use Rattle.pcap_blocks.specs.declared.block.BlockType.TheVariants as types
+use Rattle.pcap_blocks.specs.declared.block_type.BlockType.{BlockType}
+use Rattle.pcap_blocks.specs.declared.block_type.BlockType.TheVariants as types
 use Rattle.pcap_blocks.specs.ParsedBlock.{Body}
 use Rattle.pcap_blocks.specs.SectionHeader.{Section, magic_order}
-use Rattle.pcap_file.specs.Blocks.{Item, OpeningSays, block_format}
+use Rattle.pcap_file.specs.Blocks.{Item, block_format}
 use Rattle.pcap_file.specs.Bodies.{SaysOfBody}
 use Rattle.pcap_file.specs.Frames.{Framed}
+use Rattle.pcap_file.specs.Opening.{OpeningSays}
 use Rattle.pcap_file.specs.State.{State, opening, within, or_big}
 use Rattle.capcopy_run.specs.Listing.{Kind}
 use Rattle.capcopy_run.specs.Words.{order_word}

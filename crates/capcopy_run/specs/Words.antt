@@ -30,7 +30,7 @@ AskForList words = texts_of words ≡ codes "list" ∷ []
 abbrev pub AskForBlocks : List (Bor (List ℕ)) → Type 0
 AskForBlocks words = texts_of words ≡ codes "blocks" ∷ []
 
--- the words ask for a copy under this: the word copy, and for an order and a resolution the words of both behind it
+-- the words ask for a copy under this: the word copy, and for an order and a resolution the words of both after it
 abbrev pub AskForCopy : Under → List (Bor (List ℕ)) → Type 0
 AskForCopy Same words = texts_of words ≡ codes "copy" ∷ []
 AskForCopy (Order e r) words = texts_of words ≡ codes "copy" ∷ order_word e ∷ resolution_word r ∷ []

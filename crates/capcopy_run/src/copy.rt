@@ -11,7 +11,7 @@ use std::io::{Read, Write};
 
 /// Writes the capture that the input holds, and `most` packets of it at most.
 ///
-/// What refuses the rest is told behind the packets before it.
+/// What refuses the rest is told after the packets before it.
 pub(crate) fn copy<R: Read, W: Write>(
     alloc: Global,
     input: &mut R,

@@ -15,6 +15,7 @@ pub(crate) fn passes_of(
     match call {
         "next_packet" => Some(next_packet(passes, bytes)),
         "next" => Some(next(alloc, passes, bytes)),
+        "next_header" => Some(next_header(alloc, passes, bytes)),
         "write_packet" => Some(write_packet(alloc, passes, bytes)),
         "copy" => Some(copy(alloc, passes, bytes)),
         "memcpy" => Some(memcpy(alloc, passes, bytes)),
@@ -65,6 +66,35 @@ fn next(alloc: Global, passes: u64, bytes: &[u8]) -> ResultParsing<u64> {
     let mut sum = 0u64;
     for _ in 0..passes {
         sum = sum.wrapping_add(read_all(alloc, bytes)?);
+    }
+    Ok(sum)
+}
+
+// The length of the next packet, which is lent.
+fn lend_one(reader: &mut PcapReader<&[u8]>) -> ResultParsing<Option<u64>> {
+    match reader.next_header() {
+        None => Ok(None),
+        Some(Err(error)) => Err(error),
+        Some(Ok(_header)) => Ok(Some(reader.data().len() as u64)),
+    }
+}
+
+fn lend_all(alloc: Global, bytes: &[u8]) -> ResultParsing<u64> {
+    let mut sum = 0u64;
+    let mut reader = PcapReader::new(alloc, bytes)?;
+    for _ in 0..u64::MAX {
+        match lend_one(&mut reader)? {
+            None => break,
+            Some(n) => sum = sum.wrapping_add(n),
+        }
+    }
+    Ok(sum)
+}
+
+fn next_header(alloc: Global, passes: u64, bytes: &[u8]) -> ResultParsing<u64> {
+    let mut sum = 0u64;
+    for _ in 0..passes {
+        sum = sum.wrapping_add(lend_all(alloc, bytes)?);
     }
     Ok(sum)
 }

@@ -10,7 +10,7 @@ use Rattle.pcap_core.specs.Answer.{Order, Number, number_in}
 use Rattle.pcap_core.specs.Faults.{Fault}
 use Rattle.pcap_blocks.specs.declared.refusal.Refusal.{Refusal}
 use Rattle.pcap_blocks.specs.declared.section_header.SectionHeaderBlock.{SectionHeaderBlock}
-use Rattle.pcap_blocks.specs.Refusals.{FindsWhere}
+use Rattle.pcap_blocks.specs.Refusal.{FindsWhere}
 use Rattle.pcap_core.specs.Padded.{Behind}
 use Rattle.pcap_blocks.specs.Options.{may_end_with_body, ListFault}
 use Rattle.pcap_blocks.specs.InterfaceDescription.{interface_description, InterfaceFault, in_options}

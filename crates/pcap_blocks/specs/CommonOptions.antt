@@ -45,7 +45,7 @@ CustomStringIsBorrowed o = IsBorrowedStr o.value
 abbrev pub CustomStringIsOwned : CustomUtf8Option → Type 0
 CustomStringIsOwned o = IsOwnedStr o.value
 
--- what an option carries: what it says, and what it is that its string or bytes are borrowed, or owned
+-- what an option carries: what it says, and when its string or bytes are borrowed, and when owned
 pub record Carried : Type 1 where
   pub entry : Entry
   pub is_borrowed : Type 0
@@ -59,7 +59,7 @@ carries_string code t = record { entry = record { code = code; value = Str (cow_
 abbrev pub carries_bytes : ℕ → CowBytes → Carried
 carries_bytes code b = record { entry = record { code = code; value = Bytes (cow_bytes b) }; is_borrowed = IsBorrowed b; is_owned = IsOwned b }
 
--- a number under this code, which lies nowhere else
+-- a number under this code, which borrows nothing and owns nothing
 abbrev pub carries_number : ℕ → ℕ → Carried
 carries_number code n = record { entry = record { code = code; value = Integer n }; is_borrowed = Unit {0}; is_owned = Unit {0} }
 

@@ -2,7 +2,7 @@
 
 ghost use Rattle.std.specs.Prelude.{map, All, IsOk, IfOk, ◌≡◌, IfErr};
 ghost use Rattle.pcap_core.specs.Answer.{TellsWhere};
-ghost use Rattle.pcap_blocks.specs.Refusals.{FindsWhere};
+ghost use Rattle.pcap_blocks.specs.Refusal.{FindsWhere};
 ghost use Rattle.pcap_blocks.specs.Record.{name_record_of, RecordIsBorrowed};
 ghost use Rattle.pcap_blocks.specs.NameResolution.{name_resolution, RecordsSay, ResolutionSays, name_entry, NameOptionIsBorrowed, names_of, ResolutionIsBorrowed, NameOptionIsOwned, ResolutionIsOwned, ResolutionNeedsNoMemory, ResolutionMayGrow, RecordsMayGrow};
 ghost use Rattle.pcap_core.specs.Errors.{IsMemory};

@@ -3,7 +3,7 @@
 ghost use Rattle.std.specs.Prelude.{◌≡◌, ◌<◌, length, map, take, slice_index, All, IfOk, MatchOption};
 ghost use Rattle.std.specs.Cow.{cow_str_bytes, IsBorrowedStr};
 ghost use Rattle.pcap_core.specs.Answer.{Tells};
-ghost use Rattle.pcap_blocks.specs.Refusals.{Finds, FindsAllWhere};
+ghost use Rattle.pcap_blocks.specs.Refusal.{Finds, FindsAllWhere};
 ghost use Rattle.pcap_blocks.specs.Names.{HasNoZero, NameSays, NamesSay, NamesMayGrow};
 
 use crate::refusal::Refusal;

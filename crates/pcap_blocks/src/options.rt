@@ -3,7 +3,7 @@
 ghost use Rattle.std.specs.Prelude.{◌≡◌, length, map, All, IsOk, IfOk, IfSome, IfErr};
 ghost use Rattle.std.specs.Option.{option_map};
 ghost use Rattle.pcap_core.specs.Answer.{TellsAll};
-ghost use Rattle.pcap_blocks.specs.Refusals.{Finds, FindsWhere, FindsAll};
+ghost use Rattle.pcap_blocks.specs.Refusal.{Finds, FindsWhere, FindsAll};
 ghost use Rattle.pcap_blocks.specs.Values.{Entry, Kind, Unknown, shape_at, custom_string, custom_bytes, EntrySays, value_bytes, integer_in};
 ghost use Rattle.pcap_blocks.specs.Options.{may_end_with_body, OptionSays, ListSays, OptionsMayGrow};
 ghost use Rattle.pcap_blocks.specs.CommonOptions.{unknown_entry, custom_bytes_entry, custom_string_entry, UnknownIsBorrowed, CustomBytesIsBorrowed, CustomStringIsBorrowed, UnknownIsOwned, CustomBytesIsOwned, CustomStringIsOwned};

@@ -2,7 +2,7 @@
 
 ghost use Rattle.std.specs.Prelude.{map, All, IsOk, IfOk, ◌≡◌, IfErr};
 ghost use Rattle.pcap_core.specs.Answer.{TellsWhere};
-ghost use Rattle.pcap_blocks.specs.Refusals.{FindsWhere};
+ghost use Rattle.pcap_blocks.specs.Refusal.{FindsWhere};
 ghost use Rattle.pcap_blocks.specs.Options.{may_end_with_body, ListSays, OptionsMayGrow};
 ghost use Rattle.pcap_blocks.specs.Packet.{packet_kind, PacketBodySays, packet_entry, PacketOptionIsBorrowed, packet_of, PacketIsBorrowed, PacketOptionIsOwned, PacketIsOwned, PacketNeedsNoMemory, PacketBodyMayGrow};
 ghost use Rattle.pcap_core.specs.Errors.{IsMemory};

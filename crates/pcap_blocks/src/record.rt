@@ -3,7 +3,7 @@
 ghost use Rattle.std.specs.Prelude.{◌≡◌, ◌≤◌, length, IsOk, IfOk, IfErr};
 ghost use Rattle.pcap_core.specs.Answer.{TellsWhere, TellsAllWhere};
 ghost use Rattle.pcap_core.specs.declared.rules.Rule.TheVariants.{Ipv4RecordTooShort, Ipv6RecordTooShort};
-ghost use Rattle.pcap_blocks.specs.Refusals.{FindsWhere, FindsAllWhere};
+ghost use Rattle.pcap_blocks.specs.Refusal.{FindsWhere, FindsAllWhere};
 ghost use Rattle.pcap_blocks.specs.Record.{AddressSays, address_of, AddressIsBorrowed, form_of, RecordValueSays, RecordSays, ipv4_of, ipv6_of, name_record_of, Ipv4IsBorrowed, Ipv6IsBorrowed, RecordIsBorrowed, other_of, Ipv4IsOwned, Ipv4NeedsNoMemory, Ipv6IsOwned, Ipv6NeedsNoMemory, UnknownRecordIsOwned, RecordIsOwned, RecordNeedsNoMemory, AddressMayGrow, RecordValueMayGrow, RecordMayGrow};
 ghost use Rattle.pcap_core.specs.Errors.{IsMemory};
 

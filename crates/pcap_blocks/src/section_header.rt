@@ -2,7 +2,7 @@
 
 ghost use Rattle.std.specs.Prelude.{◌≡◌, ◌≤◌, ◌↔◌, length, IsOk, IfOk, IsTrue, IsSome, Some, IfErr};
 ghost use Rattle.pcap_core.specs.Answer.{TellsWhere};
-ghost use Rattle.pcap_blocks.specs.Refusals.{FindsWhere};
+ghost use Rattle.pcap_blocks.specs.Refusal.{FindsWhere};
 ghost use Rattle.pcap_blocks.specs.SectionHeader.{section_header, magic_order, SectionSays, AfterMagicSays, section_entry, SectionOptionIsBorrowed, section_of, SectionIsBorrowed, SectionOptionIsOwned, SectionIsOwned, SectionNeedsNoMemory, SectionMayGrow, AfterMagicMayGrow};
 ghost use Rattle.pcap_core.specs.Errors.{IsMemory};
 

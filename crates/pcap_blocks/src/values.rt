@@ -3,7 +3,7 @@
 ghost use Rattle.std.specs.Prelude.{◌≡◌, IfOk};
 ghost use Rattle.std.specs.Cow.{cow_str_bytes, IsBorrowedStr};
 ghost use Rattle.pcap_core.specs.Bytes.{cow_bytes, IsBorrowed};
-ghost use Rattle.pcap_blocks.specs.Refusals.{FindsAll};
+ghost use Rattle.pcap_blocks.specs.Refusal.{FindsAll};
 ghost use Rattle.pcap_blocks.specs.Values.{Bytes, Integer, AllSay, string_at, fixed_at, some_at, byte_at, number_at, first_number_at, first_time_at};
 
 use crate::refusal::Refusal;

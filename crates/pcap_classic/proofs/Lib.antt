@@ -15,3 +15,4 @@ pub mod Copied
 pub mod Accepted
 pub mod StatedPackets
 pub mod Exact
+pub mod Pieces

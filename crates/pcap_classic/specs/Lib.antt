@@ -15,3 +15,4 @@ pub mod Defaults
 pub mod Copies
 pub mod StatedPackets
 pub mod Exact
+pub mod Pieces

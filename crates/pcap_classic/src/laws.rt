@@ -1,9 +1,10 @@
 //! Laws of the grammar and of `==`. Each contract is the law; only the functions of `==` call anything.
 
-ghost use Rattle.std.specs.Prelude.{IfOk, IsOk, ◌≡◌, ◌≤◌, ◌++◌, ◌↔◌, ℕ, List, [], ◌∷◌, length, map, All, IsTrue, Option, false};
+ghost use Rattle.std.specs.Prelude.{IfOk, IsOk, ◌≡◌, ◌≤◌, ◌+◌, ◌++◌, ◌↔◌, ℕ, List, [], ◌∷◌, length, map, All, IsTrue, Option, false};
 ghost use Rattle.std.specs.Io.KnownBytes.{Appends};
 ghost use Rattle.std.specs.List.{flat_map};
 ghost use Rattle.pcap_classic.specs.declared.pcap.header.PcapHeader.{PcapHeader};
+ghost use Rattle.pcap_classic.specs.declared.pcap.packet.PacketHeader.{PacketHeader};
 ghost use Rattle.pcap_classic.specs.declared.run.copy.Copied.{Copied};
 ghost use Rattle.pcap_classic.specs.declared.run.copy.Under.{Under};
 ghost use Rattle.pcap_classic.specs.declared.run.copy.Under.TheVariants.{Same};
@@ -16,9 +17,11 @@ ghost use Rattle.pcap_classic.specs.HeaderText.{HeaderSays, HeaderText};
 ghost use Rattle.pcap_core.specs.Laws.{ExactlyOne, IsStable};
 ghost use Rattle.pcap_core.specs.Link.{Link, IsPlain, link_number};
 ghost use Rattle.pcap_classic.specs.Magic.{is_magic, resolution_of};
-ghost use Rattle.pcap_classic.specs.Packets.{packet_format, reader_format};
-ghost use Rattle.pcap_classic.specs.PacketText.{packet_limit, PacketSays, PacketHeaderSays, Captured, PacketText};
+ghost use Rattle.pcap_classic.specs.Packets.{header_format, packet_format, packet_header_format, reader_format};
+ghost use Rattle.pcap_classic.specs.PacketText.{packet_limit, PacketSays, PacketHeaderSays, PacketHeaderText, Captured, PacketText};
+ghost use Rattle.pcap_classic.specs.Pieces.{HoldsPackets};
 ghost use Rattle.pcap_core.specs.Reading.{TakesAsked, TakesAtMost};
+ghost use Rattle.pcap_core.specs.Requested.{HeadThenRest, RequestsAt, RunRequests};
 ghost use Rattle.pcap_classic.specs.Written.{IsWhole, IsWholeHeader, number_bytes, capture, cut, record_bytes};
 
 use crate::common::{DataLink, Endianness, TsResolution};
@@ -69,17 +72,16 @@ pub fn packets_are_asked_for_twice()
         (length (n ∷ ns) ≤ 2) × ((packet : Captured) (rest : List ℕ) → PacketText limit order r packet t rest → rest ≡ []) }
 {}
 
-/// Who adds exactly what is asked for of a capture's header is asked once, and has nothing after the header that comes.
+/// A capture's header is asked for once, and who adds exactly what is asked for has nothing after it.
 pub fn header_is_asked_for_once()
-    ensures { (n : ℕ) (s more : List ℕ) → HeaderSays s (lacks n) → length more ≡ n →
-        ((m : ℕ) → HeaderSays (s ++ more) (lacks m) → ⊥) × ((header : PcapHeader) (rest : List ℕ) → HeaderSays (s ++ more) (whole header rest) → rest ≡ []) }
+    ensures { (n : ℕ) (ns s t : List ℕ) → Asks header_format tt (n ∷ ns) s t →
+        (ns ≡ []) × ((header : PcapHeader) (rest : List ℕ) → HeaderText header t rest → rest ≡ []) }
 {}
 
 /// The same of a packet's header.
 pub fn packet_header_is_asked_for_once()
-    ensures { (limit : ℕ) (order : Order) (r : TsResolution) (n : ℕ) (s more : List ℕ) → PacketHeaderSays limit order r s (lacks n) → length more ≡ n →
-        ((m : ℕ) → PacketHeaderSays limit order r (s ++ more) (lacks m) → ⊥)
-        × ((header : PacketHeader) (rest : List ℕ) → PacketHeaderSays limit order r (s ++ more) (whole header rest) → rest ≡ []) }
+    ensures { (limit : ℕ) (order : Order) (r : TsResolution) (n : ℕ) (ns s t : List ℕ) → Asks (packet_header_format limit order r) tt (n ∷ ns) s t →
+        (ns ≡ []) × ((header : PacketHeader) (rest : List ℕ) → PacketHeaderText limit order r header t rest → rest ≡ []) }
 {}
 
 /// Under a magic number that is none of the four a refused call of `PcapReader::next` has taken one byte at most.
@@ -237,4 +239,28 @@ pub fn copy_is_read_under_its_header()
     ensures { (header under : PcapHeader) (packets : List Captured) (s rest : List ℕ) → IsBytes s →
         CaptureFront packet_limit header packets s rest → IsWholeHeader under →
         CaptureFront packet_limit under (map (cut (resolution_of under.magic_number)) packets) (capture under packets) [] }
+{}
+
+/// The requests of a run over packets are these and no others.
+pub fn requests_are_one()
+    ensures { (limit : ℕ) (order : Order) (r : TsResolution) (packets : List Captured) (s rest ns others : List ℕ) →
+        RunRequests (packet_format limit order r) tt packets s rest ns → RunRequests (packet_format limit order r) tt packets s rest others → ns ≡ others }
+{}
+
+/// Where a packet stands, what is asked for are the 16 bytes of its header, and then those of its data, where it has some.
+pub fn packet_requests_are()
+    ensures { (limit : ℕ) (order : Order) (r : TsResolution) (packet : Captured) (s rest ns : List ℕ) →
+        PacketText limit order r packet s rest → RequestsAt (packet_format limit order r) tt s ns → HeadThenRest 16 (16 + length packet.bytes) ns }
+{}
+
+/// And these requests are what asking gives: each of them met exactly, the packet's text is there, and no more.
+pub fn packet_requests_are_asked()
+    ensures { (limit : ℕ) (order : Order) (r : TsResolution) (packet : Captured) (s rest ns : List ℕ) →
+        PacketText limit order r packet s rest → RequestsAt (packet_format limit order r) tt s ns →
+        (t : List ℕ) × (s ≡ t ++ rest) × Asks (packet_format limit order r) tt ns [] t }
+{}
+
+/// The number of packets that bytes hold is one.
+pub fn packets_held_are_one()
+    ensures { (s : List ℕ) (n m : ℕ) → HoldsPackets s n → HoldsPackets s m → n ≡ m }
 {}

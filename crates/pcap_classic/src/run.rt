@@ -3,6 +3,7 @@
 mod copy;
 mod exact;
 mod find;
+mod pieces;
 
 ghost use Rattle.std.specs.Prelude.{◌≡◌, ◌⊎◌, ⊤, false, All, IfOk, IfErr, IfSome, map};
 ghost use Rattle.pcap_core.specs.Answer.{Refuses};
@@ -23,7 +24,8 @@ use crate::pcap::{Packet, PcapHeader, PcapParser, PcapReader};
 pub use copy::{Copied, Under, copy_pcap};
 pub use exact::exact_pcap;
 pub use pcap_core::Rest;
-pub use pcap_core::run::Window;
+pub use pcap_core::run::{Window, pieces_fit};
+pub use pieces::pieces_pcap;
 use pcap_core::{PcapError, ResultParsing};
 use std::alloc::Global;
 use std::io::Read;

@@ -38,3 +38,8 @@ abbrev pub IfItem : {X : Type 0} → (X → Type 0) → Found X → Type 0
 IfItem P (Item x) = P x
 IfItem P (Needs n) = Unit {0}
 IfItem P (Refused error) = Unit {0}
+
+-- unless an item was found, this holds
+abbrev pub UnlessItem : {X : Type 0} → Type 0 → Result (Found X) PcapError → Type 0
+UnlessItem P (Ok (Item x)) = Unit {0}
+UnlessItem P _ = P

@@ -24,3 +24,5 @@ pub mod Window
 pub mod Requested
 pub mod Found
 pub mod Exact
+pub mod Pieces
+pub mod Waiting

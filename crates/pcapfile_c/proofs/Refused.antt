@@ -1,12 +1,14 @@
 -- A refusal that is told by status and struct.
-use Rattle.std.proofs.Common.{◌≡◌, ℕ, ℤ, List, Err, refl, sym, ap, subst, inl, inr, pos, w32, to_z, of_z}
+use Rattle.std.proofs.Common.{◌≡◌, ℕ, ℤ, List, Err, sym, ap, ◌∙◌, subst, arith, inl, inr, pos, w32, to_z, of_z}
 use Rattle.pcap_core.specs.declared.errors.PcapError.{PcapError}
 use Rattle.pcap_core.specs.declared.errors.PcapError.TheVariants as errors
 use Rattle.pcap_core.specs.declared.rules.Rule.TheVariants.{CaptureMagic}
-use Rattle.pcap_core.specs.Answer.{Verdict, lacks, faulty, Refuses}
+use Rattle.pcap_core.specs.Answer.{Verdict, whole, lacks, faulty, Refuses}
 use Rattle.pcap_classic.specs.declared.pcap.header.PcapHeader.{PcapHeader}
 use Rattle.pcap_classic.specs.Parser.{OpensParser}
 use Rattle.pcapfile_c.specs.declared.errors.PcapfileError.{PcapfileError}
+use Rattle.pcapfile_c.specs.declared.shown.PcapfileBytes.{PcapfileBytes}
+use Rattle.pcapfile_c.specs.Calls.{Takes}
 use Rattle.pcapfile_c.specs.Refusals.{ShowsError, ShowsRule, TellsRefusal}
 
 -- a status as it is returned
@@ -33,3 +35,16 @@ tells_magic header (errors.Utf8Error e) told z opens shows = absurd opens
 tells_magic header (errors.FromUtf8Error e) told z opens shows = absurd opens
 tells_magic header (errors.OutOfMemory e) told z opens shows = absurd opens
 tells_magic header errors.WriterFailed told z opens shows = absurd opens
+
+-- a refusal's status is not 0
+pub refusal_not_0 : {V : Type 0} (IsSaid : Verdict V → Type 0) (told : PcapfileError) (z : ℤ) → TellsRefusal IsSaid told z → of_z w32 z ≡ 0 → ⊥
+refusal_not_0 IsSaid told z (inl x) e = omega (arith, sym (ap (of_z w32) x.0) ∙ e)
+refusal_not_0 IsSaid told z (inr (inl x)) e = omega (arith, sym (ap (of_z w32) x.0) ∙ e)
+refusal_not_0 IsSaid told z (inr (inr (inl x))) e = omega (arith, sym (ap (of_z w32) x.0) ∙ e)
+refusal_not_0 IsSaid told z (inr (inr (inr x))) e = omega (arith, sym (ap (of_z w32) x.0) ∙ e)
+
+-- what status 0 says
+pub took : {V S : Type 0} (IsSaid : List ℕ → Verdict V → Type 0) (Shows : V → S → Type 0) (left now : PcapfileBytes) (before after : S) (error told : PcapfileError) (z : ℤ)
+    → Takes IsSaid Shows left now before after error told z → of_z w32 z ≡ 0 → (told ≡ error) × (v : V) × Shows v after × IsSaid left.bytes.now (whole v now.bytes.now)
+took IsSaid Shows left now before after error told z (inl x) e = (x.1, x.2, x.3, x.4)
+took IsSaid Shows left now before after error told z (inr x) e = absurd (refusal_not_0 (IsSaid left.bytes.now) told z x.2 e)

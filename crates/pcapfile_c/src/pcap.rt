@@ -1,10 +1,10 @@
 //! Classic captures that lie in memory.
 
-ghost use Rattle.std.specs.Prelude.{◌≡◌, ◌<◌, false, length, IsTrue};
+ghost use Rattle.std.specs.Prelude.{◌≡◌, false, IsTrue};
 ghost use Rattle.pcap_classic.specs.Defaults.{default_header};
 ghost use Rattle.pcap_classic.specs.HeaderText.{HeaderSays};
 ghost use Rattle.pcap_classic.specs.Magic.{is_magic};
-ghost use Rattle.pcap_classic.specs.Parser.{OpensParser};
+ghost use Rattle.pcap_classic.specs.Parser.{header_of, OpensParser};
 ghost use Rattle.pcapfile_c.specs.Calls.{Takes, TakesMany, RefusesMagic, PacketsSaid};
 ghost use Rattle.pcapfile_c.specs.Shown.{shown_header, captured};
 
@@ -44,16 +44,8 @@ pub extern "C" fn pcapfile_take_packet<'a>(
         Takes (PacketsSaid header.now.magic_number) (λ found shown. captured shown ≡ found) left.old left.new packet.old packet.new error.old error.new result }
     ensures refused { is_magic header.now.magic_number ≡ false → RefusesMagic left.old left.new packet.old packet.new error.new result }
 {
-    let parser = match parser_under(header) {
-        Ok(parser) => parser,
-        Err(e) => return tell(&e, error),
-    };
-    match parser.next_packet(left.bytes) {
-        Ok((rest, found)) => {
-            *packet = PcapfilePacket::new(found);
-            left.bytes = rest;
-            0
-        }
+    match parser_under(header) {
+        Ok(parser) => next_packet(&parser, left, packet, error),
         Err(e) => tell(&e, error),
     }
 }
@@ -70,18 +62,41 @@ pub extern "C" fn pcapfile_take_packets<'a>(
 ) -> i32
     ensures taken { IsTrue (is_magic header.now.magic_number) →
         TakesMany header.now.magic_number left.old left.new packets.old packets.new taken.new error.old error.new result }
-    ensures refused { is_magic header.now.magic_number ≡ false → 0 < length left.old.bytes.now → 0 < length packets.old →
-        RefusesMagic left.old left.new packets.old packets.new error.new result × (taken.new ≡ 0) }
+    ensures refused { is_magic header.now.magic_number ≡ false →
+        (taken.new ≡ 0) × RefusesMagic left.old left.new packets.old packets.new error.new result }
 {
     *taken = 0;
+    let parser = match parser_under(header) {
+        Ok(parser) => parser,
+        Err(e) => return tell(&e, error),
+    };
     while *taken < packets.len() && !left.bytes.is_empty() {
-        let status = pcapfile_take_packet(header, left, &mut packets[*taken], error);
+        let status = next_packet(&parser, left, &mut packets[*taken], error);
         if status != 0 {
             return status;
         }
         *taken += 1;
     }
     0
+}
+
+// Takes the packet at the front of `left`.
+fn next_packet<'a>(
+    parser: &PcapParser,
+    left: &mut PcapfileBytes<'a>,
+    packet: &mut PcapfilePacket<'a>,
+    error: &mut PcapfileError,
+) -> i32
+    ensures { Takes (PacketsSaid (header_of parser.now).magic_number) (λ found shown. captured shown ≡ found) left.old left.new packet.old packet.new error.old error.new result }
+{
+    match parser.next_packet(left.bytes) {
+        Ok((rest, found)) => {
+            *packet = PcapfilePacket::new(found);
+            left.bytes = rest;
+            0
+        }
+        Err(e) => tell(&e, error),
+    }
 }
 
 // The parser of the packets behind this header: only the magic number matters to them.

@@ -54,6 +54,9 @@ fn changed() -> PcapError {
 fn next(alloc: Global) -> ResultParsing<()> {
     let mut reader = PcapNgReader::new(alloc, Cursor::new(BLOCKS))?;
     for count in 0..2 {
+        if !is_in_force(reader.section(), reader.interfaces(), count) {
+            return Err(PcapError::InvalidField("another state is in force"));
+        }
         match reader.next() {
             None => return Err(PcapError::InvalidField("no block came")),
             Some(Ok(_block)) => {}

@@ -70,17 +70,20 @@ fn push_number(bytes: &mut Vec<u8>, order: Endianness, number: u32) -> ResultPar
 // What the body gives in a block of this type, after a section header in this order.
 fn in_block(alloc: Global, order: Endianness, number: u32, body: &[u8]) -> ResultParsing<String> {
     let len = u32::try_from(body.len()).unwrap_or(0).saturating_add(12);
-    let section = if order.is_big() {
-        &SECTION
-    } else {
-        &LITTLE_SECTION
+    let mut capture = match order {
+        Endianness::Big => Vec::from_slice(alloc, &SECTION)?,
+        Endianness::Little => Vec::from_slice(alloc, &LITTLE_SECTION)?,
     };
-    let mut capture = Vec::from_slice(alloc, section)?;
     push_number(&mut capture, order, number)?;
     push_number(&mut capture, order, len)?;
     capture.extend_from_slice(body)?;
     push_number(&mut capture, order, len)?;
-    let (rest, mut parser) = PcapNgParser::new(alloc, capture.as_slice())?;
+    after_section(alloc, capture.as_slice())
+}
+
+// What the body of the first block after a capture's section header gives.
+fn after_section(alloc: Global, capture: &[u8]) -> ResultParsing<String> {
+    let (rest, mut parser) = PcapNgParser::new(alloc, capture)?;
     let (_rest, block) = parser.next_block(rest)?;
     let parsed = block.parsed(alloc)?;
     Ok(format!(in alloc; "{parsed:?}")?)

@@ -40,6 +40,7 @@ pub struct PacketHeader {
 }
 
 // The header that four numbers spell, or the first rule that they break.
+#[inline(always)]
 fn header_of(
     ts_resolution: TsResolution,
     ts_sec: u32,

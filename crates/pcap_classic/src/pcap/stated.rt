@@ -56,6 +56,7 @@ impl HasHead for PacketsUnder<'_> {
         if self.header.has_valid_magic() { 16 } else { 1 }
     }
 
+    #[inline(always)]
     fn stated(&self, bytes: &[u8]) -> ResultParsing<(PacketHeader, usize)> {
         if !self.header.has_valid_magic() {
             return Err(PcapError::from(Rule::CaptureMagic));

@@ -29,7 +29,7 @@ const HEADER_BYTES: usize = 24;
 ///
 /// The requests are those that the format states: 24 bytes for the capture's header ('File Header'), and for each packet
 /// 16 bytes and then its data, where it has some ('Packet Record'). Where fewer bytes are left than are asked for, the
-/// parser isn't asked again, and the rest is `Needs` of the difference. Behind the last packet nothing is asked for.
+/// parser isn't asked again, and the rest is `Needs` of the difference. After the last packet nothing is asked for.
 ///
 /// Where the header is refused, that refusal, and `IncompleteBuffer` where it isn't whole. `OutOfMemory` where the list
 /// of packets can't grow. How many bytes were shown then is open.

@@ -40,6 +40,7 @@ pub trait HasHead {
 ///
 /// The head's refusal where its bytes are refused. `OutOfMemory` where there is no room, `IoError` where a read failed or the
 /// stream ended early.
+#[inline(always)]
 pub fn fill_item<H: HasHead, T: Read>(
     item: &H,
     stream: &mut T,

@@ -11,7 +11,7 @@ use Rattle.capcopy_run.proofs.blocks.blocks.Goals as goal
 pub returns-in_err-reader-clause-lists : goal.returns-in_err-reader-clause-lists
 returns-in_err-reader-clause-lists g c =
     let p = err_from_is_err_and c.from_residual.result c.from_residual.ensures.1 in
-    rw p.1 (lists_none block_lines c.args.most (g.R.Read.remaining c.args.input.now) _ _ (Keeps-refl _) _ c.in_err-reader.ensures p.0 p.2)
+    rw p.1 (lists_none block_lines c.args.most (g.R.Read.remaining c.args.input.now) _ _ (Keeps-refl _) _ (λ memory. tt) c.in_err-reader.ensures p.0 p.2)
 
 pub returns-in_err-write_section-clause-lists : goal.returns-in_err-write_section-clause-lists
 returns-in_err-write_section-clause-lists g c =

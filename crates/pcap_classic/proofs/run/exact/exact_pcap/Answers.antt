@@ -1,4 +1,4 @@
-use Rattle.std.proofs.Common.{◌≡◌, length, take, drop, arith}
+use Rattle.std.proofs.Common.{◌≡◌, length, take, arith}
 use Rattle.std.proofs.lemmas.Result.{err_from_is_err_and}
 use Rattle.pcap_core.specs.Window.{bytes_of, shown_of}
 use Rattle.pcap_classic.proofs.Exact.{first_shown, header_refuses, header_all, exact_is}

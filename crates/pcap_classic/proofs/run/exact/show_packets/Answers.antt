@@ -2,11 +2,10 @@ use Rattle.std.proofs.Common.{◌≡◌, ◌≤◌, ◌<◌, ◌∷◌, [], ◌+
 use Rattle.std.proofs.lemmas.Grind.{common_steps}
 use Rattle.std.proofs.lemmas.List.{map_push, length-take-le}
 use Rattle.std.proofs.lemmas.List.Elements.{All-push}
-use Rattle.std.proofs.Math.ListN.{drop_of_length-le}
 use Rattle.pcap_core.specs.Bytes.{IsBorrowed}
 use Rattle.pcap_core.specs.Window.{bytes_of, shown_of}
 use Rattle.pcap_core.proofs.Formats.{shorter}
-use Rattle.pcap_core.proofs.Showing.{exacting_none, exacting_item, exacting_rest, exacting_end, exacting_few, exacting_long}
+use Rattle.pcap_core.proofs.Showing.{exacting_item, exacting_rest, exacting_few, exacting_long}
 use Rattle.pcap_classic.specs.PacketText.{packet_limit, content_of}
 use Rattle.pcap_classic.specs.Packets.{format_under}
 use Rattle.pcap_classic.specs.Parser.{header_of}
