@@ -13,7 +13,7 @@ LIBDIR = $(DESTDIR)$(PREFIX)/lib
 MANDIR = $(DESTDIR)$(PREFIX)/share/man/man1
 DOCDIR = $(DESTDIR)$(PREFIX)/share/doc/pcapfile
 
-VERSION = 1.1.1
+VERSION = 0.1.0
 ABI = 0
 OUT = out
 KIT = $(shell dirname "$$(dirname "$$(readlink -f "$$(command -v rt)")")")
@@ -23,16 +23,18 @@ SOURCES = $(shell find crates.txt crates/*/src crates/*/specs crates/*/proofs -t
 
 .PHONY: all check install clean
 
-all: $(PROGRAM) $(OUT)/libpcapfile.a $(OUT)/libpcapfile.so $(OUT)/pcapfile.pc
+all: $(PROGRAM) $(OUT)/libpcapfile.a $(OUT)/libpcapfile.so.$(ABI)
 
 $(PROGRAM): $(SOURCES)
 	cd crates/capcopy && rt run -- list < stdin > /dev/null
+	touch $@
 
 $(PROVED): $(SOURCES)
 	cd crates/pcapfile_c && rt lib
+	touch $@
 
 # One object of all that the library needs, in which every other name than the header's is local.
-$(OUT)/libpcapfile.o: $(PROVED) include/names
+$(OUT)/libpcapfile.o: $(PROVED)
 	mkdir -p $(OUT)
 	$(LD) -r --whole-archive $(PROVED) --no-whole-archive $(KIT)/c/liblibc_c.a -o $@
 	objcopy --wildcard --keep-global-symbol='pcapfile_*' $@
@@ -41,14 +43,9 @@ $(OUT)/libpcapfile.a: $(OUT)/libpcapfile.o
 	rm -f $@
 	$(AR) rcs $@ $<
 
-$(OUT)/libpcapfile.so: $(OUT)/libpcapfile.o include/names
+$(OUT)/libpcapfile.so.$(ABI): $(OUT)/libpcapfile.o include/names
 	$(CC) -shared -Wl,-soname,libpcapfile.so.$(ABI) -Wl,--version-script,include/names -Wl,-z,noexecstack $(LDFLAGS) $< -o $@
-
-$(OUT)/pcapfile.pc: Makefile
-	mkdir -p $(OUT)
-	printf '%s\n' 'prefix=$(PREFIX)' 'includedir=$${prefix}/include' 'libdir=$${prefix}/lib' '' 'Name: pcapfile' \
-	    'Description: Reads packet captures by a proved parser' 'Version: $(VERSION)' \
-	    'Cflags: -I$${includedir}' 'Libs: -L$${libdir} -lpcapfile' > $@
+	ln -sf libpcapfile.so.$(ABI) $(OUT)/libpcapfile.so
 
 check: all
 	tests/c/run
@@ -59,9 +56,12 @@ install: all
 	strip $(BINDIR)/capcopy
 	install -m 644 include/pcapfile.h $(INCDIR)/pcapfile.h
 	install -m 644 $(OUT)/libpcapfile.a $(LIBDIR)/libpcapfile.a
-	install -m 755 $(OUT)/libpcapfile.so $(LIBDIR)/libpcapfile.so.$(ABI)
+	install -m 755 $(OUT)/libpcapfile.so.$(ABI) $(LIBDIR)/libpcapfile.so.$(ABI)
 	ln -sf libpcapfile.so.$(ABI) $(LIBDIR)/libpcapfile.so
-	install -m 644 $(OUT)/pcapfile.pc $(LIBDIR)/pkgconfig/pcapfile.pc
+	printf '%s\n' 'prefix=$(PREFIX)' 'includedir=$${prefix}/include' 'libdir=$${prefix}/lib' '' 'Name: pcapfile' \
+	    'Description: Reads and writes packet captures by a proved parser' 'Version: $(VERSION)' \
+	    'Cflags: -I$${includedir}' 'Libs: -L$${libdir} -lpcapfile' > $(LIBDIR)/pkgconfig/pcapfile.pc
+	chmod 644 $(LIBDIR)/pkgconfig/pcapfile.pc
 	install -m 644 capcopy.1 $(MANDIR)/capcopy.1
 	install -m 644 LICENSE $(DOCDIR)/LICENSE
 

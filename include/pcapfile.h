@@ -1,4 +1,4 @@
-/* pcapfile.h: reads packet captures that lie in memory, by a proved parser. MIT licence.
+/* pcapfile.h: reads packet captures that lie in memory, by a proved parser, and writes them there. MIT licence.
  *
  * For all bytes the calls return, and read and write nothing but what they are given. They allocate nothing, keep nothing
  * between calls, and may be called from any thread. docs/PROMISES.md says what is proved of them.
@@ -104,6 +104,20 @@ int32_t pcapfile_take_packet(const pcapfile_header *header, pcapfile_bytes *left
  * the refusal, and then `left` begins with what is refused: the packets before it have been taken. */
 int32_t pcapfile_take_packets(const pcapfile_header *header, pcapfile_bytes *left, pcapfile_packet *packets, size_t room,
                               size_t *taken, pcapfile_error *error);
+
+/* Writes the 24 bytes of a capture's header into the front of `room`: the magic number high byte first, and all else in the
+ * order that it tells. `*written` is 24 then.
+ * PCAPFILE_INCOMPLETE where error.missing bytes of room are missing: with `room_len` 0 it says how many are needed.
+ * PCAPFILE_INVALID where the magic number is none of the four. Then `room` and `written` are unchanged. */
+int32_t pcapfile_write_header(const pcapfile_header *header, uint8_t *room, size_t room_len, size_t *written,
+                              pcapfile_error *error);
+
+/* Writes a packet into the front of `room`, in the order and resolution that header->magic_number tells: 16 bytes of its
+ * header, whose stored length is packet->bytes.len, and then its bytes. `*written` is how many they are. Under
+ * microseconds the rest of the nanoseconds is lost. Lengths and times that pcapfile_take_packet refuses are written too.
+ * As pcapfile_write_header otherwise, and PCAPFILE_INVALID with rule 3 where there are 2^32 bytes or more. */
+int32_t pcapfile_write_packet(const pcapfile_header *header, const pcapfile_packet *packet, uint8_t *room,
+                              size_t room_len, size_t *written, pcapfile_error *error);
 
 /* The name of the rule of this number, as CaptureMagic, and its text: ASCII, with no zero byte after it. No bytes where no
  * rule has the number. They are valid for ever. */

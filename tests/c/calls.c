@@ -78,6 +78,34 @@ static void batches(void) {
     EXPECT(taken == 0 && error.rule == PCAPFILE_RULE_CAPTURE_MAGIC && left.len == 18);
 }
 
+static void writes(void) {
+    uint8_t room[64], before[64];
+    pcapfile_header header = { 0xd4c3b2a1, 2, 4, -2, 0, 65535, PCAPFILE_LINK_ETHERNET };
+    pcapfile_packet packet = { 7, 8999, 5, { (const uint8_t *)"abc", 3 } };
+    pcapfile_error error = PCAPFILE_ERROR_INIT;
+    size_t written = 99;
+    memset(room, 0xee, sizeof room);
+    memcpy(before, room, sizeof room);
+    EXPECT(pcapfile_write_header(&header, room, 0, &written, &error) == PCAPFILE_INCOMPLETE && error.missing == 24);
+    EXPECT(pcapfile_write_header(&header, room, 20, &written, &error) == PCAPFILE_INCOMPLETE && error.missing == 4);
+    EXPECT(pcapfile_write_packet(&header, &packet, room, 18, &written, &error) == PCAPFILE_INCOMPLETE && error.missing == 1);
+    EXPECT(written == 99 && !memcmp(room, before, sizeof room));
+    EXPECT(pcapfile_write_header(&header, room, sizeof room, &written, &error) == PCAPFILE_OK && written == 24);
+    EXPECT(pcapfile_write_packet(&header, &packet, room + 24, sizeof room - 24, &written, &error) == PCAPFILE_OK);
+    EXPECT(written == 19 && !memcmp(room, capture, sizeof capture));
+    EXPECT(!memcmp(room + 43, before + 43, sizeof room - 43));
+    header.magic_number = 0xa1b23c4d;
+    EXPECT(pcapfile_write_packet(&header, &packet, room, sizeof room, &written, &error) == PCAPFILE_OK && written == 19);
+    EXPECT(!memcmp(room, "\0\0\0\7\0\0\x23\x27\0\0\0\3\0\0\0\5abc", 19));
+    header.magic_number = 7;
+    written = 99;
+    memcpy(room, before, sizeof room);
+    EXPECT(pcapfile_write_header(&header, room, sizeof room, &written, &error) == PCAPFILE_INVALID);
+    EXPECT(error.rule == PCAPFILE_RULE_CAPTURE_MAGIC);
+    EXPECT(pcapfile_write_packet(&header, &packet, room, sizeof room, &written, &error) == PCAPFILE_INVALID);
+    EXPECT(written == 99 && !memcmp(room, before, sizeof room));
+}
+
 static int is_text(pcapfile_bytes bytes, const char *text) {
     return bytes.len == strlen(text) && !memcmp(bytes.ptr, text, bytes.len);
 }
@@ -103,6 +131,7 @@ int main(void) {
     headers();
     packets();
     batches();
+    writes();
     rules();
     return failures > 0;
 }

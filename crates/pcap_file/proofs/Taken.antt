@@ -38,10 +38,10 @@ pub taken_stops : (q p there : State) (before left now : Option (List ℕ)) (fai
 taken_stops q p there before left now failed most blocks e taken few same cause asked =
     let count : length taken.items ≡ length blocks = sym (length-map taken.items (λ (i : Item). i.block)) ∙ ap length taken.blocks_are in
     let here : HasCause (block_format.says (state_after block_format q taken.items)) left failed e = subst (λ (s : State). HasCause (block_format.says s) left failed e) (sym taken.in_force) cause in
-    let asked_here : TakesAsked (block_format.says (state_after block_format q taken.items)) left now = subst (λ (s : State). TakesAsked (block_format.says s) left now) (sym taken.in_force) asked in
+    let no_more : TakesAsked (block_format.says (state_after block_format q taken.items)) left now = subst (λ (s : State). TakesAsked (block_format.says s) left now) (sym taken.in_force) asked in
     record {
       items = taken.items;
       blocks_are = taken.blocks_are;
       in_force = taken.in_force ∙ sym same;
-      run = record { left = left; took = taken.took; within = omega (arith, count, few); stops = (omega (arith, count, few), here, asked_here) };
+      run = record { left = left; took = taken.took; within = omega (arith, count, few); stops = (omega (arith, count, few), here, no_more) };
     }

@@ -9,9 +9,9 @@ use Rattle.pcap_file.specs.Frames.{Framed}
 abbrev pub SaysOfBody : Framed → Verdict Body → Type 0
 SaysOfBody b = BodySays (number_in b.endianness) b.type_ b.body
 
--- a block's body has something that is kept in a list
-abbrev pub GrowsOfBody : Framed → Type 0
-GrowsOfBody b = BodyMayGrow (number_in b.endianness) b.type_ b.body
+-- the body of a block has something that is kept in a list
+abbrev pub GrowsInBody : Framed → Type 0
+GrowsInBody b = BodyMayGrow (number_in b.endianness) b.type_ b.body
 
 -- the result of a call that leaves out what follows its value tells one verdict
 abbrev pub ParsesWhere : {X V : Type 0} → Type 0 → (Verdict V → Type 0) → (X → V) → Result X PcapError → Type 0

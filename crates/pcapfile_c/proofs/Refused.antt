@@ -2,8 +2,10 @@
 use Rattle.std.proofs.Common.{◌≡◌, ℕ, ℤ, List, Err, sym, ap, ◌∙◌, subst, arith, inl, inr, pos, w32, to_z, of_z}
 use Rattle.pcap_core.specs.declared.errors.PcapError.{PcapError}
 use Rattle.pcap_core.specs.declared.errors.PcapError.TheVariants as errors
+use Rattle.pcap_core.specs.declared.rules.Rule.{Rule}
 use Rattle.pcap_core.specs.declared.rules.Rule.TheVariants.{CaptureMagic}
 use Rattle.pcap_core.specs.Answer.{Verdict, whole, lacks, faulty, Refuses}
+use Rattle.pcap_core.specs.Faults.{Names}
 use Rattle.pcap_classic.specs.declared.pcap.header.PcapHeader.{PcapHeader}
 use Rattle.pcap_classic.specs.Parser.{OpensParser}
 use Rattle.pcapfile_c.specs.declared.errors.PcapfileError.{PcapfileError}
@@ -48,3 +50,14 @@ pub took : {V S : Type 0} (IsSaid : List ℕ → Verdict V → Type 0) (Shows : 
     → Takes IsSaid Shows left now before after error told z → of_z w32 z ≡ 0 → (told ≡ error) × (v : V) × Shows v after × IsSaid left.bytes.now (whole v now.bytes.now)
 took IsSaid Shows left now before after error told z (inl x) e = (x.1, x.2, x.3, x.4)
 took IsSaid Shows left now before after error told z (inr x) e = absurd (refusal_not_0 (IsSaid left.bytes.now) told z x.2 e)
+
+-- the error that names a rule
+pub tells_named : (rule : Rule) (e : PcapError) (told : PcapfileError) (z : ℤ)
+    → Names rule e → ShowsError e told z → (to_z w32 (of_z w32 z) ≡ pos 3) × ShowsRule rule told
+tells_named rule (errors.InvalidField text) told z named shows = (ap kept shows.0, (shows.1 rule named, shows.2))
+tells_named rule (errors.IncompleteBuffer n) told z named shows = absurd named
+tells_named rule (errors.IoError e) told z named shows = absurd named
+tells_named rule (errors.Utf8Error e) told z named shows = absurd named
+tells_named rule (errors.FromUtf8Error e) told z named shows = absurd named
+tells_named rule (errors.OutOfMemory e) told z named shows = absurd named
+tells_named rule errors.WriterFailed told z named shows = absurd named

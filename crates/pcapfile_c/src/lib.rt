@@ -8,3 +8,4 @@ mod errors;
 mod pcap;
 mod rule_texts;
 mod shown;
+mod writing;

@@ -6,7 +6,7 @@ ghost use Rattle.pcap_classic.specs.PacketText.{content_of};
 ghost use Rattle.pcapfile_c.specs.Shown.{shown_header, captured};
 
 use pcap_classic::pcap::{Packet, PcapHeader};
-use pcap_core::CowBytes;
+use pcap_core::{CowBytes, DataLink};
 
 /// Bytes that lie elsewhere. In C: `pcapfile_bytes`, a pointer and a length.
 #[repr(C)]
@@ -50,6 +50,21 @@ impl PcapfileHeader {
             ts_accuracy: header.ts_accuracy,
             snaplen: header.snaplen,
             link: u32::from(header.datalink),
+        }
+    }
+
+    // The header that C shows.
+    pub(crate) fn header(&self) -> PcapHeader
+        ensures { shown_header result ≡ self.now }
+    {
+        PcapHeader {
+            magic_number: self.magic_number,
+            version_major: self.version_major,
+            version_minor: self.version_minor,
+            ts_correction: self.ts_correction,
+            ts_accuracy: self.ts_accuracy,
+            snaplen: self.snaplen,
+            datalink: DataLink::from(self.link),
         }
     }
 }

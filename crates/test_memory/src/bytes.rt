@@ -25,7 +25,7 @@ pub(crate) const PACKET: [u8; 32] = [
     0, 0,
 ];
 
-/// Two names for an address, an unknown record, and the comment "hi" behind the records.
+/// Two names for an address, an unknown record, and the comment "hi" after the records.
 pub(crate) const NAMES: [u8; 32] = [
     0, 1, 0, 8, 10, 0, 0, 1, 0x61, 0, 0x62, 0, 0, 7, 0, 1, 9, 0, 0, 0, 0, 0, 0, 0, 0, 1, 0, 2,
     0x68, 0x69, 0, 0,

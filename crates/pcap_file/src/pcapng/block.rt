@@ -5,7 +5,7 @@ ghost use Rattle.pcap_core.specs.Answer.{Tells, TellsWhere, number_in};
 ghost use Rattle.pcap_core.specs.Bytes.{IsBorrowed, IsOwned};
 ghost use Rattle.pcap_core.specs.Errors.{IsMemory};
 ghost use Rattle.pcap_blocks.specs.ParsedBlock.{BodySays, BodyMayGrow, body_of, ParsedIsBorrowed};
-ghost use Rattle.pcap_file.specs.Bodies.{GrowsOfBody, ParsesWhere, SaysOfBody};
+ghost use Rattle.pcap_file.specs.Bodies.{GrowsInBody, ParsesWhere, SaysOfBody};
 ghost use Rattle.pcap_file.specs.Frames.{framed_of, FrameSays};
 ghost use Rattle.pcap_file.specs.StatedFrames.{TailTells};
 
@@ -67,10 +67,10 @@ impl<'a> Block<'a> {
     /// The body, read as the block's type says, in the block's own order. What follows it is left out.
     ///
     /// The errors are those of `from_slice` of this type's body: `InvalidField` for the first rule that it breaks,
-    /// `Utf8Error` for a text that isn't UTF-8, `IoError` for a value that is too short. `OutOfMemory` where a list of its
-    /// options or records can't grow.
+    /// `Utf8Error` for a string that isn't UTF-8, `IoError` for a value that is too short. `OutOfMemory` where it has options
+    /// or records, and their list can't grow.
     pub fn parsed(&self, alloc: Global) -> ResultParsing<ParsedBlock<'_>>
-        ensures tells { ParsesWhere (GrowsOfBody (framed_of self.now)) (SaysOfBody (framed_of self.now)) body_of result }
+        ensures tells { ParsesWhere (GrowsInBody (framed_of self.now)) (SaysOfBody (framed_of self.now)) body_of result }
         ensures borrowed { IfOk result ParsedIsBorrowed }
     {
         let (_rest, parsed) = parsed_in(self.endianness, alloc, self.type_, self.body.as_slice())?;

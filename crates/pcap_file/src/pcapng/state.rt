@@ -1,6 +1,6 @@
 //! The section in force and its interfaces.
 
-ghost use Rattle.std.specs.Prelude.{⊤, IsSome};
+ghost use Rattle.std.specs.Prelude.{IsSome};
 ghost use Rattle.pcap_core.specs.Answer.{TellsWhere, number_in};
 ghost use Rattle.pcap_blocks.specs.InterfaceDescription.{InterfaceSays, InterfaceMayGrow, interface_of};
 ghost use Rattle.pcap_blocks.specs.SectionHeader.{magic_order};
