@@ -71,16 +71,17 @@ pub fn packets_are_asked_for_twice()
         (length (n ∷ ns) ≤ 2) × ((packet : Captured) (rest : List ℕ) → PacketText limit order r packet t rest → rest ≡ []) }
 {}
 
-/// A capture's header is asked for once, and who adds exactly what is asked for has nothing after it.
+/// Who adds exactly what is asked for of a capture's header is asked once, and has nothing after the header that comes.
 pub fn header_is_asked_for_once()
-    ensures { (n : ℕ) (ns s t : List ℕ) → Asks header_format tt (n ∷ ns) s t →
-        (ns ≡ []) × ((header : PcapHeader) (rest : List ℕ) → HeaderText header t rest → rest ≡ []) }
+    ensures { (n : ℕ) (s more : List ℕ) → HeaderSays s (lacks n) → length more ≡ n →
+        ((m : ℕ) → HeaderSays (s ++ more) (lacks m) → ⊥) × ((header : PcapHeader) (rest : List ℕ) → HeaderSays (s ++ more) (whole header rest) → rest ≡ []) }
 {}
 
 /// The same of a packet's header.
 pub fn packet_header_is_asked_for_once()
-    ensures { (limit : ℕ) (order : Order) (r : TsResolution) (n : ℕ) (ns s t : List ℕ) → Asks (packet_header_format limit order r) tt (n ∷ ns) s t →
-        (ns ≡ []) × ((header : PacketHeader) (rest : List ℕ) → PacketHeaderText limit order r header t rest → rest ≡ []) }
+    ensures { (limit : ℕ) (order : Order) (r : TsResolution) (n : ℕ) (s more : List ℕ) → PacketHeaderSays limit order r s (lacks n) → length more ≡ n →
+        ((m : ℕ) → PacketHeaderSays limit order r (s ++ more) (lacks m) → ⊥)
+        × ((header : PacketHeader) (rest : List ℕ) → PacketHeaderSays limit order r (s ++ more) (whole header rest) → rest ≡ []) }
 {}
 
 /// Under a magic number that is none of the four a refused call of `PcapReader::next` has taken one byte at most.
