@@ -2,7 +2,7 @@
 use Rattle.std.proofs.Common.{arith, ap, sym, ◌∙◌, ◌≡◌, ℕ, ◌^◌, ◌-◌, false, [], ◌++◌, length, replicate}
 use Rattle.std.specs.Fmt.{decimal, padded_integral, format_spec, char_count}
 use Rattle.std.proofs.lemmas.List.{append-nil}
-use Rattle.capcopy_run.specs.Lines.{nine_digits}
+use Rattle.capcopy_run.specs.PacketLines.{nine_digits}
 
 -- what `{:09}` writes
 pub nine_digits-padded : (n : ℕ) → nine_digits n ≡ padded_integral (format_spec 32 0 4 9 (2 ^ 64 - 1)) false [] (decimal n)

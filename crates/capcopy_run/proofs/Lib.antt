@@ -1,4 +1,6 @@
+mod BlockLists
 mod Digits
 mod Lines
 mod Listing
+mod PacketLists
 mod Exits

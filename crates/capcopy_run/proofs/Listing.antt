@@ -1,54 +1,26 @@
--- Packets that are listed, one after another.
-use Rattle.std.proofs.Common.{◌≡◌, ◌<◌, ◌≤◌, ◌+◌, IfSome, ◌⊎◌, ℕ, suc, List, [], ◌∷◌, ◌++◌, length, Bool, true, false, Option, Some, None, Result, Ok, Err, inl, inr, refl, sym, ap, ◌∙◌, subst, arith, length-append, append_assoc}
-use Rattle.std.specs.Prelude.{IfErr}
+-- Items that are listed, one after another, over any lawful format.
+use Rattle.std.proofs.Common.{◌≡◌, ◌<◌, ◌≤◌, ◌+◌, IfSome, ◌⊎◌, ℕ, suc, List, [], ◌∷◌, ◌++◌, length, Bool, false, Option, Some, None, Result, Ok, Err, inl, inr, refl, sym, ap, ◌∙◌, subst, arith, length-append, append_assoc}
 use Rattle.std.specs.Io.KnownBytes.{Appends, Keeps, IsAtEnd}
 use Rattle.std.proofs.KnownBytes.{Appends-nil, Appends-trans, Consumes-nil, Keeps-refl}
 use Rattle.pcap_core.specs.declared.errors.PcapError.{PcapError}
 use Rattle.pcap_core.specs.declared.errors.PcapError.TheVariants as errors
-use Rattle.pcap_classic.specs.declared.pcap.header.PcapHeader.{PcapHeader}
-use Rattle.pcap_core.specs.Answer.{Verdict, number_in}
+use Rattle.pcap_core.specs.Answer.{Verdict, whole}
 use Rattle.pcap_core.specs.Errors.{IsIo, IsMemory}
 use Rattle.pcap_core.specs.Faults.{Shows}
-use Rattle.pcap_core.specs.Format.{Format, Front, IsLawful}
-use Rattle.pcap_classic.specs.HeaderText.{HeaderSays, HeaderText}
-use Rattle.pcap_classic.specs.Magic.{is_magic, order_of, resolution_of}
-use Rattle.pcap_classic.specs.PacketText.{packet_limit, Captured}
-use Rattle.pcap_classic.specs.Packets.{format_under, reader_format}
+use Rattle.pcap_core.specs.Format.{Format, Front, IsLawful, state_after}
+use Rattle.pcap_core.specs.Laws.{IsStable}
 use Rattle.pcap_core.specs.Reading.{IsFaultOf, Takes, HasCause, read_failed, no_memory, torn, refused}
 use Rattle.pcap_core.specs.Takes.{TakesTexts, ReadsFront, Stops}
+use Rattle.pcap_core.proofs.Pulling.{nothing_asked}
 use Rattle.pcap_core.specs.Writing.{AppendsPart}
-use Rattle.pcap_classic.proofs.Captures.{under_valid}
-use Rattle.pcap_classic.proofs.HeadedPackets.{packets_lawful}
-use Rattle.pcap_classic.proofs.Packets.{reader_lawful}
-use Rattle.pcap_classic.proofs.Stable.{header_stable}
+use Rattle.pcap_core.proofs.Formats.{state_push}
 use Rattle.pcap_core.proofs.Taking.{takes_more, run_reads}
 use Rattle.capcopy_run.specs.declared.exit.Exit.{Exit}
 use Rattle.capcopy_run.specs.declared.exit.Exit.TheVariants as exits
-use Rattle.capcopy_run.specs.Exits.{EndsAt, IsOfKnownWord, exit_of}
-use Rattle.capcopy_run.specs.Lines.{packet_line, lines_from, WritesLine}
-use Rattle.capcopy_run.specs.Listing.{ReaderSays, Listing, TearsNext, LinesEnd, ListsBehind, Listed, TearsLine, ListsUntil}
+use Rattle.capcopy_run.specs.Exits.{EndsAt, exit_of}
+use Rattle.capcopy_run.specs.Lines.{WritesLine}
+use Rattle.capcopy_run.specs.Listing.{Kind, Listing, TearsNext, LinesEnd, ListsItems, Listed, TearsLine, ListsUntil}
 use Rattle.capcopy_run.proofs.Lines.{lines_push}
-
-pub listing_none : (header : PcapHeader) (before out : Option (List ℕ)) → Listing header before before out out 0
-listing_none header before out = record {
-  packets = [];
-  count = refl;
-  took = record { bytes = []; texts = refl; took = Consumes-nil before };
-  out = Appends-nil out;
-}
-
-pub listing_more : (header : PcapHeader) (a b c p q r : Option (List ℕ)) (n : ℕ) (packet : Captured) → Listing header a b p q n
-    → Takes (ReaderSays header) b c packet → Appends q r (packet_line (n + 1) packet.header) → Listing header a c p r (n + 1)
-listing_more header a b c p q r n packet so_far took out =
-    let index : n + 1 ≡ 1 + length so_far.packets = omega (arith, so_far.count) in
-    let goes : lines_from 1 (so_far.packets ++ packet ∷ []) ≡ lines_from 1 so_far.packets ++ packet_line (n + 1) packet.header =
-    lines_push 1 so_far.packets packet ∙ ap (λ k. lines_from 1 so_far.packets ++ packet_line k packet.header) (sym index) in
-    record {
-      packets = so_far.packets ++ packet ∷ [];
-      count = length-append so_far.packets (packet ∷ []) ∙ omega (arith, so_far.count);
-      took = takes_more (reader_format packet_limit header) (reader_lawful packet_limit header) tt so_far.packets packet a b c so_far.took took;
-      out = subst (λ l. Appends p r l) (sym goes) (Appends-trans p q r (lines_from 1 so_far.packets) (packet_line (n + 1) packet.header) so_far.out out);
-    }
 
 -- a refusal that is neither of a read nor for want of memory shows a fault
 shows : {V : Type 0} (IsSaid : List ℕ → Verdict V → Type 0) (left : Option (List ℕ)) (failed : Bool) (e : PcapError) → (IsIo e → ⊥) → (IsMemory e → ⊥)
@@ -56,199 +28,254 @@ shows : {V : Type 0} (IsSaid : List ℕ → Verdict V → Type 0) (left : Option
 shows IsSaid left failed e no_io no_memory_ cause =
     elim cause [ read_failed io is ↦ absurd (no_io io) | no_memory memory is ↦ absurd (no_memory_ memory) | torn io is short ↦ absurd (no_io io) | refused stands is ↦ stands ]
 
-module _ (header : PcapHeader) (left mid : Option (List ℕ)) (n most : ℕ) (fewer : n < most) where
+module _ {V : Type 0} (IsLine : ℕ → V → List ℕ → Type 0) (IsSaid : List ℕ → Verdict V → Type 0) (left mid : Option (List ℕ)) (n most : ℕ) (fewer : n < most) where
   -- the reader's refusal ends the lines
-  pub ends_refused : (failed : Bool) (e : PcapError) (exit : Exit) → HasCause (ReaderSays header) left failed e → EndsAt e exit → LinesEnd header left mid mid n most (Err exit)
+  pub ends_refused : (failed : Bool) (e : PcapError) (exit : Exit) → HasCause IsSaid left failed e → EndsAt e exit → LinesEnd IsLine IsSaid left mid mid n most (Err exit)
   ends_refused failed (errors.IoError x) exit cause ends = rw ends (fewer, inl (Keeps-refl mid))
   ends_refused failed (errors.OutOfMemory x) exit cause ends = rw ends (fewer, Keeps-refl mid)
-  ends_refused failed (errors.InvalidField t) exit cause ends =
-      rw ends (fewer, shows (ReaderSays header) left failed (errors.InvalidField t) (λ x. x) (λ x. x) cause, Keeps-refl mid)
-  ends_refused failed (errors.Utf8Error x) exit cause ends =
-      rw ends (fewer, shows (ReaderSays header) left failed (errors.Utf8Error x) (λ x. x) (λ x. x) cause, Keeps-refl mid)
-  ends_refused failed (errors.IncompleteBuffer k) exit cause ends = absurd (shows (ReaderSays header) left failed (errors.IncompleteBuffer k) (λ x. x) (λ x. x) cause)
-  ends_refused failed (errors.FromUtf8Error x) exit cause ends = absurd (shows (ReaderSays header) left failed (errors.FromUtf8Error x) (λ x. x) (λ x. x) cause)
-  ends_refused failed errors.WriterFailed exit cause ends = absurd (shows (ReaderSays header) left failed errors.WriterFailed (λ x. x) (λ x. x) cause)
+  ends_refused failed (errors.InvalidField t) exit cause ends = rw ends (fewer, shows IsSaid left failed (errors.InvalidField t) (λ x. x) (λ x. x) cause, Keeps-refl mid)
+  ends_refused failed (errors.Utf8Error x) exit cause ends = rw ends (fewer, shows IsSaid left failed (errors.Utf8Error x) (λ x. x) (λ x. x) cause, Keeps-refl mid)
+  ends_refused failed (errors.IncompleteBuffer k) exit cause ends = absurd (shows IsSaid left failed (errors.IncompleteBuffer k) (λ x. x) (λ x. x) cause)
+  ends_refused failed (errors.FromUtf8Error x) exit cause ends = absurd (shows IsSaid left failed (errors.FromUtf8Error x) (λ x. x) (λ x. x) cause)
+  ends_refused failed errors.WriterFailed exit cause ends = absurd (shows IsSaid left failed errors.WriterFailed (λ x. x) (λ x. x) cause)
 
   -- a line that was not written ends them
-  pub ends_torn : (now out_now : Option (List ℕ)) (packet : Captured) (exit : Exit) → Takes (ReaderSays header) left now packet
-      → WritesLine mid out_now (packet_line (n + 1) packet.header) (Err exit) → LinesEnd header left mid out_now n most (Err exit)
-  ends_torn now out_now packet (exits.Io (errors.IoError x)) took part =
+  pub ends_torn : (now out_now : Option (List ℕ)) (item : V) (exit : Exit) → Takes IsSaid left now item
+      → WritesLine (IsLine (n + 1) item) mid out_now (Err exit) → LinesEnd IsLine IsSaid left mid out_now n most (Err exit)
+  ends_torn now out_now item (exits.Io (errors.IoError x)) took part =
       let next : n + 1 ≡ suc n = omega arith in
-      (fewer, inr (record { packet = packet; now = now; took = took; out = subst (λ k. AppendsPart mid out_now (packet_line k packet.header)) next part }))
-  ends_torn now out_now packet (exits.Io (errors.IncompleteBuffer k)) took part = absurd part
-  ends_torn now out_now packet (exits.Io (errors.InvalidField t)) took part = absurd part
-  ends_torn now out_now packet (exits.Io (errors.Utf8Error x)) took part = absurd part
-  ends_torn now out_now packet (exits.Io (errors.FromUtf8Error x)) took part = absurd part
-  ends_torn now out_now packet (exits.Io (errors.OutOfMemory x)) took part = absurd part
-  ends_torn now out_now packet (exits.Io errors.WriterFailed) took part = absurd part
-  ends_torn now out_now packet exits.Memory took part = (fewer, part)
-  ends_torn now out_now packet exits.Done took part = absurd part
-  ends_torn now out_now packet (exits.Refused e) took part = absurd part
-  ends_torn now out_now packet exits.Most took part = absurd part
-  ends_torn now out_now packet exits.Usage took part = absurd part
+      (fewer, inr (record { item = item; now = now; took = took; line = part.0; is_line = subst (λ k. IsLine k item part.0) next part.1; out = part.2 }))
+  ends_torn now out_now item (exits.Io (errors.IncompleteBuffer k)) took part = absurd part
+  ends_torn now out_now item (exits.Io (errors.InvalidField t)) took part = absurd part
+  ends_torn now out_now item (exits.Io (errors.Utf8Error x)) took part = absurd part
+  ends_torn now out_now item (exits.Io (errors.FromUtf8Error x)) took part = absurd part
+  ends_torn now out_now item (exits.Io (errors.OutOfMemory x)) took part = absurd part
+  ends_torn now out_now item (exits.Io errors.WriterFailed) took part = absurd part
+  ends_torn now out_now item exits.Memory took part = (fewer, part)
+  ends_torn now out_now item exits.Done took part = absurd part
+  ends_torn now out_now item (exits.Refused e) took part = absurd part
+  ends_torn now out_now item exits.Most took part = absurd part
+  ends_torn now out_now item exits.Usage took part = absurd part
 
--- the result is one of a known word
-pub known_end : (header : PcapHeader) (before out_before out_now : Option (List ℕ)) (most : ℕ) (result : Result (Unit {0}) Exit) → ListsBehind header before out_before out_now most result → IfErr result IsOfKnownWord
-known_end header before out_before out_now most (Ok done) run = tt
-known_end header before out_before out_now most (Err exits.Done) run = tt
-known_end header before out_before out_now most (Err (exits.Refused e)) run = tt
-known_end header before out_before out_now most (Err exits.Most) run = tt
-known_end header before out_before out_now most (Err exits.Usage) run = absurd run.ends
-known_end header before out_before out_now most (Err (exits.Io (errors.IoError x))) run = tt
-known_end header before out_before out_now most (Err (exits.Io (errors.IncompleteBuffer k))) run = absurd run.ends
-known_end header before out_before out_now most (Err (exits.Io (errors.InvalidField t))) run = absurd run.ends
-known_end header before out_before out_now most (Err (exits.Io (errors.Utf8Error x))) run = absurd run.ends
-known_end header before out_before out_now most (Err (exits.Io (errors.FromUtf8Error x))) run = absurd run.ends
-known_end header before out_before out_now most (Err (exits.Io (errors.OutOfMemory x))) run = absurd run.ends
-known_end header before out_before out_now most (Err (exits.Io errors.WriterFailed)) run = absurd run.ends
-known_end header before out_before out_now most (Err exits.Memory) run = tt
-
--- the exit where the header is refused
-module _ (most : ℕ) (s : List ℕ) (before after : Option (List ℕ)) (kept : Keeps before after) where
-  header_shown : (e : PcapError) → Shows (IsFaultOf HeaderSays (Some s)) e → (exit : Exit) → EndsAt e exit → ListsUntil most s before after exit
-  header_shown (errors.IoError x) stands exit ends = rw ends (inl kept)
-  header_shown (errors.InvalidField t) stands exit ends = rw ends (inl (stands, kept))
-  header_shown (errors.Utf8Error x) stands exit ends = rw ends (inl (stands, kept))
-  header_shown (errors.IncompleteBuffer k) stands exit ends = absurd stands
-  header_shown (errors.FromUtf8Error x) stands exit ends = absurd stands
-  header_shown (errors.OutOfMemory x) stands exit ends = absurd stands
-  header_shown errors.WriterFailed stands exit ends = absurd stands
-
-  header_io : (e : PcapError) → IsIo e → (exit : Exit) → EndsAt e exit → ListsUntil most s before after exit
-  header_io (errors.IoError x) io exit ends = rw ends (inl kept)
-  header_io (errors.InvalidField t) io exit ends = absurd io
-  header_io (errors.Utf8Error x) io exit ends = absurd io
-  header_io (errors.IncompleteBuffer k) io exit ends = absurd io
-  header_io (errors.FromUtf8Error x) io exit ends = absurd io
-  header_io (errors.OutOfMemory x) io exit ends = absurd io
-  header_io errors.WriterFailed io exit ends = absurd io
-
-pub lists_none : (most : ℕ) (known before after : Option (List ℕ)) → Keeps before after → (e : PcapError) → IsIo e ⊎ Shows (IsFaultOf HeaderSays known) e
-    → (exit : Exit) → EndsAt e exit → IfSome known (λ s. ListsUntil most s before after exit)
-lists_none most None before after kept e cause exit ends = tt
-lists_none most (Some s) before after kept e cause exit ends =
-    elim cause [ inl io ↦ header_io most s before after kept e io exit ends | inr stands ↦ header_shown most s before after kept e stands exit ends ]
-
-module _ (header : PcapHeader) (s rest : List ℕ) (text : HeaderText header s rest) (valid : is_magic header.magic_number ≡ true) where
-  laws : IsLawful (format_under packet_limit header)
-  laws = packets_lawful packet_limit (number_in (order_of header.magic_number)) (resolution_of header.magic_number)
-
-  taken : (packets : List Captured) (left : Option (List ℕ)) → TakesTexts (reader_format packet_limit header) tt packets (Some rest) left → TakesTexts (format_under packet_limit header) tt packets (Some rest) left
-  taken packets left took = under_valid packet_limit header valid (λ (f : Format (Unit {0}) Captured). TakesTexts f tt packets (Some rest) left) took
-
-  -- the packets that were taken are a beginning of the front's, up to why the run stopped
-  reads : (packets : List Captured) (left : Option (List ℕ)) (most : ℕ) (fault : Option PcapError) → TakesTexts (reader_format packet_limit header) tt packets (Some rest) left → length packets ≤ most
-      → Stops ((format_under packet_limit header).says tt) left left false (length packets) most fault → ReadsFront (format_under packet_limit header) tt rest most packets fault false
-  reads packets left most fault took within stops = run_reads (format_under packet_limit header) laws tt rest left false most packets fault (record {
-    left = left;
-    took = taken packets left took;
-    within = within;
-    stops = stops;
-  })
-
-  abbrev listed_from : (packets : List Captured) (before mid : Option (List ℕ)) (most : ℕ) (fault : Option PcapError) → Appends before mid (lines_from 1 packets)
-      → ReadsFront (format_under packet_limit header) tt rest most packets fault false → Listed s before
-  listed_from packets before mid most fault lines read = record {
-    header = header;
-    packets = packets;
-    more = read.more;
-    left = read.rest;
-    front = record { after = rest; header_text = text; front = read.front };
-    mid = mid;
-    lines = lines;
+module _ {S V : Type 0} (IsLine : ℕ → V → List ℕ → Type 0) (f : Format S V) (q : S) where
+  -- nothing is listed yet
+  pub listing_none : (before out : Option (List ℕ)) → Listing IsLine f q q before before out out 0
+  listing_none before out = record {
+    items = [];
+    count = refl;
+    leads = refl;
+    took = record { bytes = []; texts = refl; took = Consumes-nil before };
+    lines = [];
+    are_lines = refl;
+    out = Appends-nil out;
   }
 
-  -- some first packets of the front, whatever ended the run
-  some_reads : (packets : List Captured) (left : Option (List ℕ)) → TakesTexts (reader_format packet_limit header) tt packets (Some rest) left → ReadsFront (format_under packet_limit header) tt rest (length packets) packets None false
-  some_reads packets left took = reads packets left (length packets) None took (omega arith) (refl, Keeps-refl left, inr refl)
+  -- one item more, which leads there
+  pub listing_more : IsLawful f → (here there : S) (a b c p r t : Option (List ℕ)) (n : ℕ) (item : V) → Listing IsLine f q here a b p r n
+      → Takes (f.says here) b c item → f.goes here item ≡ there → WritesLine (IsLine (n + 1) item) r t (Ok tt) → Listing IsLine f q there a c p t (n + 1)
+  listing_more laws here there a b c p r t n item so_far took goes out =
+      let index : n + 1 ≡ 1 + length so_far.items = omega (arith, so_far.count) in
+      let next : Takes (f.says (state_after f q so_far.items)) b c item = subst (λ (s : S). Takes (f.says s) b c item) (sym so_far.leads) took in
+      record {
+        items = so_far.items ++ item ∷ [];
+        count = length-append so_far.items (item ∷ []) ∙ omega (arith, so_far.count);
+        leads = state_push f q so_far.items item ∙ ap (λ (s : S). f.goes s item) so_far.leads ∙ goes;
+        took = takes_more f laws q so_far.items item a b c so_far.took next;
+        lines = so_far.lines ++ out.0;
+        are_lines = lines_push IsLine 1 so_far.items item so_far.lines out.0 so_far.are_lines (subst (λ k. IsLine k item out.0) index out.1);
+        out = Appends-trans p r t so_far.lines out.0 so_far.out out.2;
+      }
 
-  lists_clean : (most n : ℕ) (before mid after left : Option (List ℕ)) → Listing header (Some rest) left before mid n → n < most → IsAtEnd left → Keeps mid after → ListsUntil most s before after exits.Done
-  lists_clean most n before mid after left so_far fewer end kept =
-      let few : length so_far.packets < most = omega (arith, so_far.count, fewer) in
-      let read = reads so_far.packets left most None so_far.took (omega (arith, few)) (refl, Keeps-refl left, inl end) in
+-- the exit where the opening is refused
+module _ {O S V : Type 0} (kind : Kind O S V) (most : ℕ) (s : List ℕ) (before after : Option (List ℕ)) (kept : Keeps before after) where
+  opening_shown : (e : PcapError) → Shows (IsFaultOf kind.opens (Some s)) e → (exit : Exit) → EndsAt e exit → ListsUntil kind most s before after exit
+  opening_shown (errors.IoError x) stands exit ends = rw ends (inl kept)
+  opening_shown (errors.InvalidField t) stands exit ends = rw ends (inl (stands, kept))
+  opening_shown (errors.Utf8Error x) stands exit ends = rw ends (inl (stands, kept))
+  opening_shown (errors.IncompleteBuffer k) stands exit ends = absurd stands
+  opening_shown (errors.FromUtf8Error x) stands exit ends = absurd stands
+  opening_shown (errors.OutOfMemory x) stands exit ends = absurd stands
+  opening_shown errors.WriterFailed stands exit ends = absurd stands
+
+  opening_io : (e : PcapError) → IsIo e → (exit : Exit) → EndsAt e exit → ListsUntil kind most s before after exit
+  opening_io (errors.IoError x) io exit ends = rw ends (inl kept)
+  opening_io (errors.InvalidField t) io exit ends = absurd io
+  opening_io (errors.Utf8Error x) io exit ends = absurd io
+  opening_io (errors.IncompleteBuffer k) io exit ends = absurd io
+  opening_io (errors.FromUtf8Error x) io exit ends = absurd io
+  opening_io (errors.OutOfMemory x) io exit ends = absurd io
+  opening_io errors.WriterFailed io exit ends = absurd io
+
+  opening_memory : (e : PcapError) → kind.grows → IsMemory e → (exit : Exit) → EndsAt e exit → ListsUntil kind most s before after exit
+  opening_memory (errors.IoError x) grows memory exit ends = absurd memory
+  opening_memory (errors.InvalidField t) grows memory exit ends = absurd memory
+  opening_memory (errors.Utf8Error x) grows memory exit ends = absurd memory
+  opening_memory (errors.IncompleteBuffer k) grows memory exit ends = absurd memory
+  opening_memory (errors.FromUtf8Error x) grows memory exit ends = absurd memory
+  opening_memory (errors.OutOfMemory x) grows memory exit ends = rw ends (inl (grows, kept))
+  opening_memory errors.WriterFailed grows memory exit ends = absurd memory
+
+-- a capture whose opening is refused
+pub lists_none : {O S V : Type 0} (kind : Kind O S V) (most : ℕ) (known before after : Option (List ℕ)) → Keeps before after → (e : PcapError)
+    → (IsMemory e → kind.grows) → IsIo e ⊎ IsMemory e ⊎ Shows (IsFaultOf kind.opens known) e → (exit : Exit) → EndsAt e exit → IfSome known (λ s. ListsUntil kind most s before after exit)
+lists_none kind most None before after kept e grows cause exit ends = tt
+lists_none kind most (Some s) before after kept e grows cause exit ends =
+    elim cause [
+      | inl io ↦ opening_io kind most s before after kept e io exit ends
+      | inr (inl memory) ↦ opening_memory kind most s before after kept e (grows memory) memory exit ends
+      | inr (inr stands) ↦ opening_shown kind most s before after kept e stands exit ends
+    ]
+
+-- an opening that was taken, and a line of it that did not go out
+module _ {O S V : Type 0} (kind : Kind O S V) (grows : kind.grows) (most : ℕ) (s : List ℕ) (before after : Option (List ℕ)) (opening : O) (rest : List ℕ) (opens : kind.opens s (whole opening rest)) where
+  heading_torn : (exit : Exit) → WritesLine (λ line. line ≡ kind.heading opening) before after (Err exit) → ListsUntil kind most s before after exit
+  heading_torn (exits.Io (errors.IoError x)) part = inr (inl (record { opening = opening; rest = rest; opens = opens; out = subst (λ line. AppendsPart before after line) part.1 part.2 }))
+  heading_torn (exits.Io (errors.IncompleteBuffer k)) part = absurd part
+  heading_torn (exits.Io (errors.InvalidField t)) part = absurd part
+  heading_torn (exits.Io (errors.Utf8Error x)) part = absurd part
+  heading_torn (exits.Io (errors.FromUtf8Error x)) part = absurd part
+  heading_torn (exits.Io (errors.OutOfMemory x)) part = absurd part
+  heading_torn (exits.Io errors.WriterFailed) part = absurd part
+  heading_torn exits.Memory part = inl (grows, part)
+  heading_torn exits.Done part = absurd part
+  heading_torn (exits.Refused e) part = absurd part
+  heading_torn exits.Most part = absurd part
+  heading_torn exits.Usage part = absurd part
+
+-- an opening whose line went out, and the run over the items after it
+module _ {O S V : Type 0} (kind : Kind O S V) (opening : O) (laws : IsLawful (kind.format opening)) (s rest : List ℕ) (opens : kind.opens s (whole opening rest))
+    (before start : Option (List ℕ)) (headed : Appends before start (kind.heading opening)) where
+  abbrev f : Format S V
+  f = kind.format opening
+
+  abbrev q : S
+  q = kind.start opening
+
+  -- the items that were listed
+  abbrev ListingTo : S → Option (List ℕ) → Option (List ℕ) → ℕ → Type 0
+  ListingTo here left mid n = Listing kind.IsLine f q here (Some rest) left start mid n
+
+  -- the items that were taken are a beginning of the front's, up to why the run stopped
+  reads : (items : List V) (left : Option (List ℕ)) (most : ℕ) (fault : Option PcapError) → TakesTexts f q items (Some rest) left → length items ≤ most
+      → Stops (f.says (state_after f q items)) left left false (length items) most fault → ReadsFront f q rest most items fault false
+  reads items left most fault took within stops = run_reads f laws q rest left false most items fault (record { left = left; took = took; within = within; stops = stops })
+
+  -- some first items of the front, whatever ended the run
+  some_reads : (items : List V) (left : Option (List ℕ)) → TakesTexts f q items (Some rest) left → ReadsFront f q rest (length items) items None false
+  some_reads items left took = reads items left (length items) None took (omega arith) (refl, Keeps-refl left, inr refl)
+
+  abbrev listed_from : (most n : ℕ) (here : S) (mid left : Option (List ℕ)) (fault : Option PcapError) (so_far : ListingTo here left mid n) → ReadsFront f q rest most so_far.items fault false → Listed kind s before
+  listed_from most n here mid left fault so_far read = record {
+    opening = opening;
+    after = rest;
+    opens = opens;
+    items = so_far.items;
+    more = read.more;
+    left = read.rest;
+    front = read.front;
+    lines = so_far.lines;
+    are_lines = so_far.are_lines;
+    mid = mid;
+    out = Appends-trans before start mid (kind.heading opening) so_far.lines headed so_far.out;
+  }
+
+  lists_clean : (most n : ℕ) (here : S) (mid after left : Option (List ℕ)) → ListingTo here left mid n → n < most → IsAtEnd left → Keeps mid after → ListsUntil kind most s before after exits.Done
+  lists_clean most n here mid after left so_far fewer end kept =
+      let few : length so_far.items < most = omega (arith, so_far.count, fewer) in
+      let read = reads so_far.items left most None so_far.took (omega (arith, few)) (refl, Keeps-refl left, inl end) in
       elim read.ends.1 [
-        | inl all ↦ (listed_from so_far.packets before mid most None so_far.out read, record { fewer = few; all = all.0; nothing = all.1; out = kept })
+        | inl all ↦ (listed_from most n here mid left None so_far read, record { fewer = few; all = all.0; nothing = all.1; out = kept })
         | inr full ↦ absurd (omega (arith, few, full))
       ]
 
-  lists_most : (most n : ℕ) (before mid after left : Option (List ℕ)) → Listing header (Some rest) left before mid n → n ≡ most → Keeps mid after → ListsUntil most s before after exits.Most
-  lists_most most n before mid after left so_far full kept =
-      (listed_from so_far.packets before mid _ None so_far.out (some_reads so_far.packets left so_far.took), so_far.count ∙ full, kept)
+  lists_most : (most n : ℕ) (here : S) (mid after left : Option (List ℕ)) → ListingTo here left mid n → n ≡ most → Keeps mid after → ListsUntil kind most s before after exits.Most
+  lists_most most n here mid after left so_far full kept =
+      (listed_from _ n here mid left None so_far (some_reads so_far.items left so_far.took), so_far.count ∙ full, kept)
 
-  lists_refused : (most n : ℕ) (before mid after left : Option (List ℕ)) (e : PcapError) → (IsIo e → ⊥) → (IsMemory e → ⊥) → Listing header (Some rest) left before mid n → n < most
-      → Shows (IsFaultOf (ReaderSays header) left) e → Keeps mid after → ListsUntil most s before after (exits.Refused e)
-  lists_refused most n before mid after left e no_io no_memory_ so_far fewer stands kept =
-      let few : length so_far.packets < most = omega (arith, so_far.count, fewer) in
-      let stand = under_valid packet_limit header valid (λ (f : Format (Unit {0}) Captured). Shows (IsFaultOf (f.says tt) left) e) stands in
-      let read = reads so_far.packets left most (Some e) so_far.took (omega (arith, few)) (few, refused stand refl) in
+  lists_refused : (most n : ℕ) (here : S) (mid after left : Option (List ℕ)) (e : PcapError) → (IsIo e → ⊥) → (IsMemory e → ⊥) → ListingTo here left mid n → n < most
+      → Shows (IsFaultOf (f.says here) left) e → Keeps mid after → ListsUntil kind most s before after (exits.Refused e)
+  lists_refused most n here mid after left e no_io no_memory_ so_far fewer stands kept =
+      let few : length so_far.items < most = omega (arith, so_far.count, fewer) in
+      let there = subst (λ (p : S). Shows (IsFaultOf (f.says p) left) e) (sym so_far.leads) stands in
+      let read = reads so_far.items left most (Some e) so_far.took (omega (arith, few)) (few, refused there refl, nothing_asked (f.says (state_after f q so_far.items)) left) in
       elim read.ends.1 [
         | inl io ↦ absurd (no_io io.0)
         | inr (inl memory) ↦ absurd (no_memory_ memory.0)
         | inr (inr all) ↦ inr (
-          listed_from so_far.packets before mid most (Some e) so_far.out read,
-          record { fewer = few; all = all.0; refused = shows ((format_under packet_limit header).says tt) (Some read.rest) false e no_io no_memory_ all.1; out = kept },
+          listed_from most n here mid left (Some e) so_far read,
+          record { fewer = few; all = all.0; refused = shows (f.says (state_after f q so_far.items)) (Some read.rest) false e no_io no_memory_ all.1; out = kept },
         )
       ]
 
-  lists_some : (most n : ℕ) (before mid left : Option (List ℕ)) → Listing header (Some rest) left before mid n → n < most → (listed : Listed s before) × (length listed.packets < most) × (listed.mid ≡ mid)
-  lists_some most n before mid left so_far fewer =
-      (listed_from so_far.packets before mid _ None so_far.out (some_reads so_far.packets left so_far.took), omega (arith, so_far.count, fewer), refl)
+  lists_some : (most n : ℕ) (here : S) (mid left : Option (List ℕ)) → ListingTo here left mid n → n < most → (listed : Listed kind s before) × (length listed.items < most) × (listed.mid ≡ mid)
+  lists_some most n here mid left so_far fewer = (listed_from _ n here mid left None so_far (some_reads so_far.items left so_far.took), omega (arith, so_far.count, fewer), refl)
 
-  lists_torn : (most n : ℕ) (before mid after left : Option (List ℕ)) → Listing header (Some rest) left before mid n → n < most → TearsNext header left mid after n
-      → (listed : Listed s before) × (length listed.packets < most) × (Keeps listed.mid after ⊎ TearsLine after listed)
-  lists_torn most n before mid after left so_far fewer torn_ =
-      let packets = so_far.packets in
-      let longer = takes_more (reader_format packet_limit header) (reader_lawful packet_limit header) tt packets torn_.packet (Some rest) left torn_.now so_far.took torn_.took in
-      let read = some_reads (packets ++ torn_.packet ∷ []) torn_.now longer in
-      let front = subst (λ (l : List Captured). Front (format_under packet_limit header) tt l rest read.rest) (append_assoc packets (torn_.packet ∷ []) read.more) read.front in
-      let listed : Listed s before = record {
-        header = header;
-        packets = packets;
-        more = torn_.packet ∷ read.more;
+  lists_torn : (most n : ℕ) (here : S) (mid after left : Option (List ℕ)) → ListingTo here left mid n → n < most → TearsNext kind.IsLine (f.says here) left mid after n
+      → (listed : Listed kind s before) × (length listed.items < most) × (Keeps listed.mid after ⊎ TearsLine kind after listed)
+  lists_torn most n here mid after left so_far fewer torn_ =
+      let items = so_far.items in
+      let took = subst (λ (p : S). Takes (f.says p) left torn_.now torn_.item) (sym so_far.leads) torn_.took in
+      let longer = takes_more f laws q items torn_.item (Some rest) left torn_.now so_far.took took in
+      let read = some_reads (items ++ torn_.item ∷ []) torn_.now longer in
+      let listed : Listed kind s before = record {
+        opening = opening;
+        after = rest;
+        opens = opens;
+        items = items;
+        more = torn_.item ∷ read.more;
         left = read.rest;
-        front = record { after = rest; header_text = text; front = front };
+        front = subst (λ (l : List V). Front f q l rest read.rest) (append_assoc items (torn_.item ∷ []) read.more) read.front;
+        lines = so_far.lines;
+        are_lines = so_far.are_lines;
         mid = mid;
-        lines = so_far.out;
+        out = Appends-trans before start mid (kind.heading opening) so_far.lines headed so_far.out;
       } in
-      let part = subst (λ k. AppendsPart mid after (packet_line (suc k) torn_.packet.header)) (sym so_far.count) torn_.out in
-      (listed, omega (arith, so_far.count, fewer), inr (record { next = torn_.packet; others = read.more; more = refl; out = part }))
+      let is_line = subst (λ k. kind.IsLine (suc k) torn_.item torn_.line) (sym so_far.count) torn_.is_line in
+      (listed, omega (arith, so_far.count, fewer), inr (record { next = torn_.item; others = read.more; more = refl; line = torn_.line; is_line = is_line; out = torn_.out }))
 
-  lists_from : (most : ℕ) (before after : Option (List ℕ)) (result : Result (Unit {0}) Exit) → ListsBehind header (Some rest) before after most result → ListsUntil most s before after (exit_of result)
-  lists_from most before after (Ok done) run = lists_clean most run.n before run.mid after run.left run.so_far run.ends.0 run.ends.1 run.ends.2
-  lists_from most before after (Err exits.Most) run = lists_most most run.n before run.mid after run.left run.so_far run.ends.0 run.ends.1
-  lists_from most before after (Err (exits.Refused (errors.InvalidField t))) run =
-      lists_refused most run.n before run.mid after run.left (errors.InvalidField t) (λ x. x) (λ x. x) run.so_far run.ends.0 run.ends.1 run.ends.2
-  lists_from most before after (Err (exits.Refused (errors.Utf8Error x))) run =
-      lists_refused most run.n before run.mid after run.left (errors.Utf8Error x) (λ x. x) (λ x. x) run.so_far run.ends.0 run.ends.1 run.ends.2
-  lists_from most before after (Err (exits.Refused (errors.IoError x))) run = absurd run.ends
-  lists_from most before after (Err (exits.Refused (errors.IncompleteBuffer k))) run = absurd run.ends.1
-  lists_from most before after (Err (exits.Refused (errors.FromUtf8Error x))) run = absurd run.ends.1
-  lists_from most before after (Err (exits.Refused (errors.OutOfMemory x))) run = absurd run.ends.1
-  lists_from most before after (Err (exits.Refused errors.WriterFailed)) run = absurd run.ends.1
-  lists_from most before after (Err (exits.Io (errors.IoError x))) run =
+  lists_from : (most : ℕ) (after : Option (List ℕ)) (result : Result (Unit {0}) Exit) → ListsItems kind.IsLine f q (Some rest) start after most result → ListsUntil kind most s before after (exit_of result)
+  lists_from most after (Ok done) run = lists_clean most run.n run.here run.mid after run.left run.so_far run.ends.0 run.ends.1 run.ends.2
+  lists_from most after (Err exits.Most) run = lists_most most run.n run.here run.mid after run.left run.so_far run.ends.0 run.ends.1
+  lists_from most after (Err (exits.Refused (errors.InvalidField t))) run =
+      lists_refused most run.n run.here run.mid after run.left (errors.InvalidField t) (λ x. x) (λ x. x) run.so_far run.ends.0 run.ends.1 run.ends.2
+  lists_from most after (Err (exits.Refused (errors.Utf8Error x))) run =
+      lists_refused most run.n run.here run.mid after run.left (errors.Utf8Error x) (λ x. x) (λ x. x) run.so_far run.ends.0 run.ends.1 run.ends.2
+  lists_from most after (Err (exits.Refused (errors.IoError x))) run = absurd run.ends
+  lists_from most after (Err (exits.Refused (errors.IncompleteBuffer k))) run = absurd run.ends.1
+  lists_from most after (Err (exits.Refused (errors.FromUtf8Error x))) run = absurd run.ends.1
+  lists_from most after (Err (exits.Refused (errors.OutOfMemory x))) run = absurd run.ends.1
+  lists_from most after (Err (exits.Refused errors.WriterFailed)) run = absurd run.ends.1
+  lists_from most after (Err (exits.Io (errors.IoError x))) run =
       elim run.ends.1 [
-        | inl kept ↦ let some = lists_some most run.n before run.mid run.left run.so_far run.ends.0 in inr (some.0, some.1, inl (rw some.2 kept))
-        | inr part ↦ inr (lists_torn most run.n before run.mid after run.left run.so_far run.ends.0 part)
+        | inl kept ↦ let some = lists_some most run.n run.here run.mid run.left run.so_far run.ends.0 in inr (inr (some.0, some.1, inl (rw some.2 kept)))
+        | inr part ↦ inr (inr (lists_torn most run.n run.here run.mid after run.left run.so_far run.ends.0 part))
       ]
-  lists_from most before after (Err (exits.Io (errors.IncompleteBuffer k))) run = absurd run.ends
-  lists_from most before after (Err (exits.Io (errors.InvalidField t))) run = absurd run.ends
-  lists_from most before after (Err (exits.Io (errors.Utf8Error x))) run = absurd run.ends
-  lists_from most before after (Err (exits.Io (errors.FromUtf8Error x))) run = absurd run.ends
-  lists_from most before after (Err (exits.Io (errors.OutOfMemory x))) run = absurd run.ends
-  lists_from most before after (Err (exits.Io errors.WriterFailed)) run = absurd run.ends
-  lists_from most before after (Err exits.Memory) run =
-      let some = lists_some most run.n before run.mid run.left run.so_far run.ends.0 in (some.0, some.1, rw some.2 run.ends.1)
-  lists_from most before after (Err exits.Done) run = absurd run.ends
-  lists_from most before after (Err exits.Usage) run = absurd run.ends
+  lists_from most after (Err (exits.Io (errors.IncompleteBuffer k))) run = absurd run.ends
+  lists_from most after (Err (exits.Io (errors.InvalidField t))) run = absurd run.ends
+  lists_from most after (Err (exits.Io (errors.Utf8Error x))) run = absurd run.ends
+  lists_from most after (Err (exits.Io (errors.FromUtf8Error x))) run = absurd run.ends
+  lists_from most after (Err (exits.Io (errors.OutOfMemory x))) run = absurd run.ends
+  lists_from most after (Err (exits.Io errors.WriterFailed)) run = absurd run.ends
+  lists_from most after (Err exits.Memory) run = let some = lists_some most run.n run.here run.mid run.left run.so_far run.ends.0 in inr (some.0, some.1, rw some.2 run.ends.1)
+  lists_from most after (Err exits.Done) run = absurd run.ends
+  lists_from most after (Err exits.Usage) run = absurd run.ends
 
-lists_behind : (header : PcapHeader) (s : List ℕ) (known : Option (List ℕ)) → Takes HeaderSays (Some s) known header → (most : ℕ) (before after : Option (List ℕ)) (result : Result (Unit {0}) Exit)
-    → ListsBehind header known before after most result → ListsUntil most s before after (exit_of result)
-lists_behind header s None took most before after result run = absurd took.2
-lists_behind header s (Some rest) took most before after result run =
-    let text = subst (λ (l : List ℕ). HeaderText header l rest) (sym took.2) (header_stable.text took.0 rest [] header took.1) in
-    lists_from header s rest text (took.1).valid most before after result run
+-- a capture whose opening was taken
+module _ {O S V : Type 0} (kind : Kind O S V) (stable : IsStable kind.opens) (opening : O) where
+  opens_there : (s rest : List ℕ) → Takes kind.opens (Some s) (Some rest) opening → kind.opens s (whole opening rest)
+  opens_there s rest took = subst (λ (l : List ℕ). kind.opens l (whole opening rest)) (sym took.2) (stable.text took.0 rest [] opening took.1)
 
-pub lists_known : (header : PcapHeader) (bytes known : Option (List ℕ)) → Takes HeaderSays bytes known header → (most : ℕ) (before after : Option (List ℕ)) (result : Result (Unit {0}) Exit)
-    → ListsBehind header known before after most result → IfSome bytes (λ s. ListsUntil most s before after (exit_of result))
-lists_known header None known took most before after result run = tt
-lists_known header (Some s) known took most before after result run = lists_behind header s known took most before after result run
+  -- and whose line did not go out
+  pub lists_heading : kind.grows → (most : ℕ) (bytes known before after : Option (List ℕ)) → Takes kind.opens bytes known opening → (exit : Exit)
+      → WritesLine (λ line. line ≡ kind.heading opening) before after (Err exit) → IfSome bytes (λ s. ListsUntil kind most s before after exit)
+  lists_heading grows most None known before after took exit part = tt
+  lists_heading grows most (Some s) None before after took exit part = absurd took.2
+  lists_heading grows most (Some s) (Some rest) before after took exit part = heading_torn kind grows most s before after opening rest (opens_there s rest took) exit part
+
+  -- and whose items were listed
+  pub lists_known : IsLawful (kind.format opening) → (bytes known before start : Option (List ℕ)) → Takes kind.opens bytes known opening → Appends before start (kind.heading opening) → (most : ℕ) (after : Option (List ℕ))
+      (result : Result (Unit {0}) Exit) → ListsItems kind.IsLine (kind.format opening) (kind.start opening) known start after most result → IfSome bytes (λ s. ListsUntil kind most s before after (exit_of result))
+  lists_known laws None known before start took headed most after result run = tt
+  lists_known laws (Some s) None before start took headed most after result run = absurd took.2
+  lists_known laws (Some s) (Some rest) before start took headed most after result run =
+      lists_from kind opening laws s rest (opens_there s rest took) before start headed most after result run

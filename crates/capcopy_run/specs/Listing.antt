@@ -1,96 +1,128 @@
--- What the word list takes and writes.
-use Rattle.std.specs.Prelude.{◌≡◌, ◌<◌, ◌⊎◌, ℕ, suc, List, [], ◌∷◌, ◌++◌, Option, Some, Result, Ok, Err, length}
+-- What the program takes and writes where it lists a capture, one line for each item.
+use Rattle.std.specs.Prelude.{◌≡◌, ◌<◌, ◌⊎◌, ℕ, suc, List, ◌∷◌, [], ◌++◌, Option, Some, Result, Ok, Err, length}
 use Rattle.std.specs.Io.KnownBytes.{Keeps, Appends, IsAtEnd}
 use Rattle.pcap_core.specs.declared.errors.PcapError.{PcapError}
 use Rattle.pcap_core.specs.declared.errors.PcapError.TheVariants.{IoError}
-use Rattle.pcap_classic.specs.declared.pcap.header.PcapHeader.{PcapHeader}
-use Rattle.pcap_core.specs.Answer.{Verdict}
+use Rattle.pcap_core.specs.Answer.{Verdict, whole}
 use Rattle.pcap_core.specs.Faults.{Shows}
-use Rattle.pcap_classic.specs.HeaderText.{HeaderSays}
-use Rattle.pcap_classic.specs.PacketText.{packet_limit, Captured}
-use Rattle.pcap_classic.specs.Packets.{format_under, reader_format}
-use Rattle.pcap_classic.specs.Front.{CaptureFront}
+use Rattle.pcap_core.specs.Format.{Format, Front, state_after}
 use Rattle.pcap_core.specs.Reading.{IsFaultOf, Takes}
 use Rattle.pcap_core.specs.Takes.{TakesTexts}
 use Rattle.pcap_core.specs.Writing.{AppendsPart}
 use Rattle.capcopy_run.specs.declared.exit.Exit.{Exit}
 use Rattle.capcopy_run.specs.declared.exit.Exit.TheVariants.{Done, Refused, Most, Usage, Io, Memory}
-use Rattle.capcopy_run.specs.Lines.{packet_line, lines_from}
+use Rattle.capcopy_run.specs.Lines.{AreLines}
 
--- what is said of packets behind this header, valid or not
-abbrev pub ReaderSays : PcapHeader → List ℕ → Verdict Captured → Type 0
-ReaderSays header = (reader_format packet_limit header).says tt
+-- a kind of capture that is listed: what opens it, the items after that, and their lines
+pub record Kind (O S V : Type 0) : Type 1 where
+  -- what is said of bytes where its opening is asked for
+  pub opens : List ℕ → Verdict O → Type 0
+  -- where reading the opening may take memory
+  pub grows : Type 0
+  -- the line of the opening, if it has one
+  pub heading : O → List ℕ
+  -- the format of the items after it
+  pub format : O → Format S V
+  -- the state that it leads to
+  pub start : O → S
+  -- the line of the item at an index
+  pub IsLine : ℕ → V → List ℕ → Type 0
 
--- so many packets behind a header were taken, and their lines went out
-pub record Listing (header : PcapHeader) (before now out_before out_now : Option (List ℕ)) (n : ℕ) : Type 0 where
-  pub packets : List Captured
-  pub count : length packets ≡ n
-  pub took : TakesTexts (reader_format packet_limit header) tt packets before now
-  pub out : Appends out_before out_now (lines_from 1 packets)
+module _ {V : Type 0} (IsLine : ℕ → V → List ℕ → Type 0) (IsSaid : List ℕ → Verdict V → Type 0) where
+  -- after so many lines the next item was taken, and a write failed in its line
+  pub record TearsNext (left mid out_now : Option (List ℕ)) (n : ℕ) : Type 0 where
+    pub item : V
+    pub now : Option (List ℕ)
+    pub took : Takes IsSaid left now item
+    pub line : List ℕ
+    pub is_line : IsLine (suc n) item line
+    pub out : AppendsPart mid out_now line
 
--- behind so many lines the next packet was taken, and a write failed in its line
-pub record TearsNext (header : PcapHeader) (left mid out_now : Option (List ℕ)) (n : ℕ) : Type 0 where
-  pub packet : Captured
-  pub now : Option (List ℕ)
-  pub took : Takes (ReaderSays header) left now packet
-  pub out : AppendsPart mid out_now (packet_line (suc n) packet.header)
+  -- how the lines end after so many of them: at the end of the stream, at the most lines, or before both by this exit
+  abbrev pub LinesEnd : Option (List ℕ) → Option (List ℕ) → Option (List ℕ) → ℕ → ℕ → Result (Unit {0}) Exit → Type 0
+  LinesEnd left mid out_now n most (Ok done) = (n < most) × IsAtEnd left × Keeps mid out_now
+  LinesEnd left mid out_now n most (Err Most) = (n ≡ most) × Keeps mid out_now
+  LinesEnd left mid out_now n most (Err (Refused (IoError e))) = ⊥
+  LinesEnd left mid out_now n most (Err (Refused error)) = (n < most) × Shows (IsFaultOf IsSaid left) error × Keeps mid out_now
+  LinesEnd left mid out_now n most (Err (Io (IoError e))) = (n < most) × (Keeps mid out_now ⊎ TearsNext left mid out_now n)
+  LinesEnd left mid out_now n most (Err Memory) = (n < most) × Keeps mid out_now
+  LinesEnd left mid out_now n most (Err exit) = ⊥
 
--- how the lines end behind so many of them: at the end of the stream, at the most lines, or before both by this exit
-abbrev pub LinesEnd : PcapHeader → Option (List ℕ) → Option (List ℕ) → Option (List ℕ) → ℕ → ℕ → Result (Unit {0}) Exit → Type 0
-LinesEnd header left mid out_now n most (Ok done) = (n < most) × IsAtEnd left × Keeps mid out_now
-LinesEnd header left mid out_now n most (Err Most) = (n ≡ most) × Keeps mid out_now
-LinesEnd header left mid out_now n most (Err (Refused (IoError e))) = ⊥
-LinesEnd header left mid out_now n most (Err (Refused error)) = (n < most) × Shows (IsFaultOf (ReaderSays header) left) error × Keeps mid out_now
-LinesEnd header left mid out_now n most (Err (Io (IoError e))) = (n < most) × (Keeps mid out_now ⊎ TearsNext header left mid out_now n)
-LinesEnd header left mid out_now n most (Err Memory) = (n < most) × Keeps mid out_now
-LinesEnd header left mid out_now n most (Err exit) = ⊥
+module _ {S V : Type 0} (IsLine : ℕ → V → List ℕ → Type 0) (f : Format S V) (q : S) where
+  -- so many items were taken, which lead to this state, and their lines went out
+  pub record Listing (here : S) (before now out_before out_now : Option (List ℕ)) (n : ℕ) : Type 0 where
+    pub items : List V
+    pub count : length items ≡ n
+    pub leads : state_after f q items ≡ here
+    pub took : TakesTexts f q items before now
+    pub lines : List ℕ
+    pub are_lines : AreLines IsLine 1 items lines
+    pub out : Appends out_before out_now lines
 
--- packets behind a header were taken and listed, until the run ended
-pub record ListsBehind (header : PcapHeader) (before out_before out_now : Option (List ℕ)) (most : ℕ) (result : Result (Unit {0}) Exit) : Type 0 where
-  pub n : ℕ
-  pub left : Option (List ℕ)
-  pub mid : Option (List ℕ)
-  pub so_far : Listing header before left out_before mid n
-  pub ends : LinesEnd header left mid out_now n most result
+  -- items were taken and listed, until the run ended
+  pub record ListsItems (before out_before out_now : Option (List ℕ)) (most : ℕ) (result : Result (Unit {0}) Exit) : Type 0 where
+    pub n : ℕ
+    pub here : S
+    pub left : Option (List ℕ)
+    pub mid : Option (List ℕ)
+    pub so_far : Listing here before left out_before mid n
+    pub ends : LinesEnd IsLine (f.says here) left mid out_now n most result
 
--- s is a header, packets, more packets and a rest that no packet begins, and the lines of the first packets went out
-pub record Listed (s : List ℕ) (before : Option (List ℕ)) : Type 0 where
-  pub header : PcapHeader
-  pub packets : List Captured
-  pub more : List Captured
-  pub left : List ℕ
-  pub front : CaptureFront packet_limit header (packets ++ more) s left
-  pub mid : Option (List ℕ)
-  pub lines : Appends before mid (lines_from 1 packets)
+module _ {O S V : Type 0} (kind : Kind O S V) where
+  -- s is an opening, items, more items and a rest that no item begins, and the lines of the opening and of the first items went out
+  pub record Listed (s : List ℕ) (before : Option (List ℕ)) : Type 0 where
+    pub opening : O
+    pub after : List ℕ
+    pub opens : kind.opens s (whole opening after)
+    pub items : List V
+    pub more : List V
+    pub left : List ℕ
+    pub front : Front (kind.format opening) (kind.start opening) (items ++ more) after left
+    pub lines : List ℕ
+    pub are_lines : AreLines kind.IsLine 1 items lines
+    pub mid : Option (List ℕ)
+    pub out : Appends before mid (kind.heading opening ++ lines)
 
--- all packets, fewer than `most`, and nothing is behind them
-pub record EndsClean (most : ℕ) (after : Option (List ℕ)) {s : List ℕ} {before : Option (List ℕ)} (listed : Listed s before) : Type 0 where
-  pub fewer : length listed.packets < most
-  pub all : listed.more ≡ []
-  pub nothing : listed.left ≡ []
-  pub out : Keeps listed.mid after
+  -- s is an opening and more, and a write failed in the opening's line
+  pub record TearsHeading (s : List ℕ) (before after : Option (List ℕ)) : Type 0 where
+    pub opening : O
+    pub rest : List ℕ
+    pub opens : kind.opens s (whole opening rest)
+    pub out : AppendsPart before after (kind.heading opening)
 
--- all packets, fewer than `most`, and behind them a rest that shows this error
-pub record ListEndsRefused (most : ℕ) (error : PcapError) (after : Option (List ℕ)) {s : List ℕ} {before : Option (List ℕ)} (listed : Listed s before) : Type 0 where
-  pub fewer : length listed.packets < most
-  pub all : listed.more ≡ []
-  pub refused : Shows (IsFaultOf ((format_under packet_limit listed.header).says tt) (Some listed.left)) error
-  pub out : Keeps listed.mid after
+  -- all items, fewer than `most`, and nothing is after them
+  pub record EndsClean (most : ℕ) (after : Option (List ℕ)) {s : List ℕ} {before : Option (List ℕ)} (listed : Listed s before) : Type 0 where
+    pub fewer : length listed.items < most
+    pub all : listed.more ≡ []
+    pub nothing : listed.left ≡ []
+    pub out : Keeps listed.mid after
 
--- a write failed in the line of the next packet
-pub record TearsLine (after : Option (List ℕ)) {s : List ℕ} {before : Option (List ℕ)} (listed : Listed s before) : Type 0 where
-  pub next : Captured
-  pub others : List Captured
-  pub more : listed.more ≡ next ∷ others
-  pub out : AppendsPart listed.mid after (packet_line (suc (length listed.packets)) next.header)
+  -- all items, fewer than `most`, and after them a rest that shows this error
+  pub record ListEndsRefused (most : ℕ) (error : PcapError) (after : Option (List ℕ)) {s : List ℕ} {before : Option (List ℕ)} (listed : Listed s before) : Type 0 where
+    pub fewer : length listed.items < most
+    pub all : listed.more ≡ []
+    pub refused : Shows (IsFaultOf ((kind.format listed.opening).says (state_after (kind.format listed.opening) (kind.start listed.opening) listed.items)) (Some listed.left)) error
+    pub out : Keeps listed.mid after
 
--- what a run that ended so has written of the capture s; nothing tells which stream failed
-abbrev pub ListsUntil : ℕ → List ℕ → Option (List ℕ) → Option (List ℕ) → Exit → Type 0
-ListsUntil most s before after Done = (listed : Listed s before) × EndsClean most after listed
-ListsUntil most s before after Most = (listed : Listed s before) × (length listed.packets ≡ most) × Keeps listed.mid after
-ListsUntil most s before after (Refused error) =
-    (Shows (IsFaultOf HeaderSays (Some s)) error × Keeps before after) ⊎ ((listed : Listed s before) × ListEndsRefused most error after listed)
-ListsUntil most s before after (Io error) =
-    Keeps before after ⊎ ((listed : Listed s before) × (length listed.packets < most) × (Keeps listed.mid after ⊎ TearsLine after listed))
-ListsUntil most s before after Memory = (listed : Listed s before) × (length listed.packets < most) × Keeps listed.mid after
-ListsUntil most s before after Usage = ⊥
+  -- a write failed in the line of the next item
+  pub record TearsLine (after : Option (List ℕ)) {s : List ℕ} {before : Option (List ℕ)} (listed : Listed s before) : Type 0 where
+    pub next : V
+    pub others : List V
+    pub more : listed.more ≡ next ∷ others
+    pub line : List ℕ
+    pub is_line : kind.IsLine (suc (length listed.items)) next line
+    pub out : AppendsPart listed.mid after line
+
+  -- what a run that ended so has written of the capture s; nothing tells which stream failed
+  abbrev pub ListsUntil : ℕ → List ℕ → Option (List ℕ) → Option (List ℕ) → Exit → Type 0
+  ListsUntil most s before after Done = (listed : Listed s before) × EndsClean most after listed
+  ListsUntil most s before after Most = (listed : Listed s before) × (length listed.items ≡ most) × Keeps listed.mid after
+  ListsUntil most s before after (Refused error) =
+      (Shows (IsFaultOf kind.opens (Some s)) error × Keeps before after) ⊎ ((listed : Listed s before) × ListEndsRefused most error after listed)
+  ListsUntil most s before after (Io error) =
+      Keeps before after
+      ⊎ TearsHeading s before after
+      ⊎ ((listed : Listed s before) × (length listed.items < most) × (Keeps listed.mid after ⊎ TearsLine after listed))
+  ListsUntil most s before after Memory =
+      (kind.grows × Keeps before after) ⊎ ((listed : Listed s before) × (length listed.items < most) × Keeps listed.mid after)
+  ListsUntil most s before after Usage = ⊥

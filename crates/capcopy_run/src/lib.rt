@@ -1,10 +1,12 @@
 //! What the program `capcopy` does, over any input and output.
 #![tactic(auto)]
 
+mod blocks;
 mod commands;
 mod copy;
 mod exit;
 mod list;
+mod output;
 
 pub use commands::run;
 pub use exit::Exit;

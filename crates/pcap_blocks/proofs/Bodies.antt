@@ -1,6 +1,6 @@
 -- What the calls that read bodies give together.
 use Rattle.std.proofs.Common.{◌≡◌, ◌≢◌, ℕ, List, refl, false, Ok, Err, Some, None, Result}
-use Rattle.std.specs.Prelude.{⊤, ◌==◌}
+use Rattle.std.specs.Prelude.{◌==◌}
 use Rattle.std.specs.Borrow.{Bor}
 use Rattle.std.proofs.lemmas.Bool.{ne_eqb}
 use Rattle.byteorder.specs.Endian.{big_number}
@@ -10,12 +10,12 @@ use Rattle.pcap_core.specs.Answer.{Order, Number, number_in}
 use Rattle.pcap_core.specs.Faults.{Fault}
 use Rattle.pcap_blocks.specs.declared.refusal.Refusal.{Refusal}
 use Rattle.pcap_blocks.specs.declared.section_header.SectionHeaderBlock.{SectionHeaderBlock}
-use Rattle.pcap_blocks.specs.Refusals.{FindsWhere}
+use Rattle.pcap_blocks.specs.Refusal.{FindsWhere}
 use Rattle.pcap_core.specs.Padded.{Behind}
 use Rattle.pcap_blocks.specs.Options.{may_end_with_body, ListFault}
 use Rattle.pcap_blocks.specs.InterfaceDescription.{interface_description, InterfaceFault, in_options}
-use Rattle.pcap_blocks.specs.SectionHeader.{section_header, magic_order, AfterMagicFault, AfterMagicSays, SectionFault, after_magic, SectionSays, section_of}
-use Rattle.pcap_blocks.proofs.Refusals.{Denies-weaker}
+use Rattle.pcap_blocks.specs.SectionHeader.{section_header, magic_order, AfterMagicFault, AfterMagicSays, AfterMagicMayGrow, SectionFault, after_magic, SectionSays, SectionMayGrow, section_of}
+use Rattle.pcap_blocks.proofs.Refusals.{denies_more}
 
 pub interface_fails : (order : Order) (s after : List ℕ) → Behind 8 s after → (f : Fault) → ListFault may_end_with_body order interface_description after f → InterfaceFault order s f
 interface_fails order s after behind f fault = in_options f after behind fault
@@ -26,12 +26,15 @@ after_magic_fails order s after behind f fault = record { after_version = after;
 section_fails : (magic : ℕ) (endianness : Endianness) (s after : List ℕ) → Number big_number 4 magic s after → magic_order magic ≡ Some endianness → (f : Fault) → AfterMagicFault (number_in endianness) after f → SectionFault s f
 section_fails magic endianness s after is names f fault = after_magic f magic after endianness is names fault
 
--- what is told behind the magic number is told of the body
+section_grows : (magic : ℕ) (endianness : Endianness) (s after : List ℕ) → Number big_number 4 magic s after → magic_order magic ≡ Some endianness → AfterMagicMayGrow (number_in endianness) after → SectionMayGrow s
+section_grows magic endianness s after is names grows = record { magic = magic; after_magic = after; endianness = endianness; magic_is = is; names = names; grows = grows }
+
+-- what is told after the magic number is told of the body
 pub section_tells : (magic : ℕ) (endianness : Endianness) (s after : List ℕ) → Number big_number 4 magic s after → magic_order magic ≡ Some endianness → (r : Result (Bor (List ℕ) × SectionHeaderBlock) Refusal)
-    → FindsWhere ⊤ (AfterMagicSays (number_in endianness) magic after) section_of r → FindsWhere ⊤ (SectionSays s) section_of r
+    → FindsWhere (AfterMagicMayGrow (number_in endianness) after) (AfterMagicSays (number_in endianness) magic after) section_of r → FindsWhere (SectionMayGrow s) (SectionSays s) section_of r
 section_tells magic endianness s after is names (Ok x) tells =
     record { after_magic = after; endianness = endianness; magic_is = rw tells.0 is; names = rw tells.0 names; after = tells.1 }
-section_tells magic endianness s after is names (Err e) tells = Denies-weaker ⊤ e (section_fails magic endianness s after is names) tells
+section_tells magic endianness s after is names (Err e) tells = denies_more e (section_grows magic endianness s after is names) (section_fails magic endianness s after is names) tells
 
 pub big_magic : (magic : ℕ) → magic ≡ 0x1A2B3C4D → magic_order magic ≡ Some Big
 unfolding magic_order

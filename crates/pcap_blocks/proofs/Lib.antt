@@ -1,6 +1,7 @@
 pub mod Refusals
-pub mod Texts
-pub mod Options
+pub mod Strings
+pub mod Growth
+pub mod ReadOptions
 pub mod Bodies
 pub mod OneOption
 pub mod OneList

@@ -1,19 +1,22 @@
 -- What the calls that read records give together.
-use Rattle.std.proofs.Common.{◌≡◌, ◌≢◌, ℕ, ◌<◌, List, [], ◌++◌, length, refl, sym, subst, ◌∙◌, append_assoc}
+use Rattle.std.proofs.Common.{◌≡◌, ◌≢◌, ℕ, ◌<◌, List, [], ◌∷◌, ◌++◌, length, refl, sym, subst, ◌∙◌, append_assoc}
 use Rattle.pcap_core.specs.Answer.{Order, whole, faulty}
 use Rattle.pcap_core.specs.Faults.{Fault, Invalid}
 use Rattle.pcap_core.specs.declared.rules.Rule.TheVariants.{RecordUnpadded}
 use Rattle.pcap_core.proofs.Texts.{split_same}
 use Rattle.pcap_blocks.specs.declared.record.Record.{Record}
 use Rattle.pcap_blocks.specs.declared.record.Record.TheVariants as record_of
-use Rattle.pcap_core.specs.Padded.{Padded, up_to_4}
+use Rattle.pcap_core.specs.Padded.{Padded, up_to_4, Chain}
 use Rattle.pcap_blocks.specs.Options.{CodeLengthText, may_end_with_body, ListFault}
-use Rattle.pcap_blocks.specs.Records.{NameRecord, End, form_of, RecordValueSays, RecordText, RecordFault, wrong, unpadded, name_record_of}
-use Rattle.pcap_blocks.specs.NameResolution.{name_resolution, KeptText, RecordsText, ResolutionFault, in_options}
-use Rattle.pcap_blocks.proofs.Options.{head_with}
+use Rattle.pcap_blocks.specs.Record.{NameRecord, End, form_of, RecordValueSays, RecordText, RecordFault, RecordValueMayGrow, RecordMayGrow, wrong, unpadded, name_record_of}
+use Rattle.pcap_blocks.specs.NameResolution.{name_resolution, KeptText, RecordsText, RecordsFault, RecordsMayGrow, kept, named, ResolutionFault, in_options}
+use Rattle.pcap_blocks.proofs.ReadOptions.{head_with}
 
 pub record_wrong : (order : Order) (type len : ℕ) (s after v more : List ℕ) → CodeLengthText order type len s after → length v ≡ len → after ≡ v ++ more → (f : Fault) → RecordValueSays (form_of type) v (faulty f) → RecordFault order s f
 record_wrong order type len s after v more h is parts f fault = wrong f type v after more (head_with order type len v s after h is) parts fault
+
+pub record_grows : (order : Order) (type len : ℕ) (s after v more : List ℕ) → CodeLengthText order type len s after → length v ≡ len → after ≡ v ++ more → RecordValueMayGrow (form_of type) v → RecordMayGrow order s
+record_grows order type len s after v more h is parts grows = record { type = type; v = v; after = after; more = more; head = head_with order type len v s after h is; parts = parts; grows = grows }
 
 pub record_unpadded : (order : Order) (r : NameRecord) (type len : ℕ) (s after v more : List ℕ) → CodeLengthText order type len s after → length v ≡ len → after ≡ v ++ more → RecordValueSays (form_of type) v (whole r [])
     → length after < up_to_4 len → RecordFault order s (Invalid RecordUnpadded)
@@ -49,3 +52,12 @@ kept_of order r s rest is apart = record { record_is = is; no_end = no_end_of r 
 
 pub resolution_options : (order : Order) (s : List ℕ) (records : List NameRecord) (after : List ℕ) → RecordsText order records s after → (f : Fault) → ListFault may_end_with_body order name_resolution after f → ResolutionFault order s f
 resolution_options order s records after are f fault = in_options records after are fault
+
+-- a record with a name, after kept ones or at the front
+pub records_grow : (order : Order) (good : List NameRecord) (s rest : List ℕ) → Chain (KeptText order) good s rest → RecordMayGrow order rest → RecordsMayGrow order s
+records_grow order [] s rest are grows = named (subst (λ (x : List ℕ). RecordMayGrow order x) (sym are) grows)
+records_grow order (first ∷ good) s rest are grows = kept (record { value = first; rest = are.0; text = are.1 })
+
+-- the fault of a record after kept ones
+pub records_fail : (order : Order) (good : List NameRecord) (s bad : List ℕ) → Chain (KeptText order) good s bad → (f : Fault) → RecordFault order bad f → RecordsFault order s f
+records_fail order good s bad are f fault = record { good = good; bad = bad; are_good = are; fault_is = fault }

@@ -5,16 +5,19 @@ use Rattle.pcap_core.specs.Answer.{Order, Verdict, whole, lacks, faulty}
 use Rattle.pcap_core.specs.Faults.{Invalid}
 use Rattle.pcap_core.specs.Laws.{ExactlyOne}
 use Rattle.pcap_core.specs.declared.rules.Rule.TheVariants.{UnknownTooLong}
-use Rattle.pcap_blocks.specs.declared.block.BlockType.{BlockType}
-use Rattle.pcap_blocks.specs.declared.block.BlockType.TheVariants as types
+use Rattle.pcap_blocks.specs.declared.block_type.BlockType.{BlockType}
+use Rattle.pcap_blocks.specs.declared.block_type.BlockType.TheVariants as types
 use Rattle.pcap_blocks.specs.SectionHeader.{SectionSays}
 use Rattle.pcap_blocks.specs.InterfaceDescription.{InterfaceSays}
-use Rattle.pcap_blocks.specs.PacketBody.{PacketBodySays}
+use Rattle.pcap_blocks.specs.Packet.{PacketBodySays}
 use Rattle.pcap_blocks.specs.NameResolution.{ResolutionSays}
 use Rattle.pcap_blocks.specs.InterfaceStatistics.{StatisticsSays}
 use Rattle.pcap_blocks.specs.EnhancedPacket.{EnhancedSays}
-use Rattle.pcap_blocks.specs.WholeBodies.{SimpleSays, JournalSays, UnknownBody}
-use Rattle.pcap_blocks.specs.ParsedBlock.{SectionBody, InterfaceBody, OldPacketBody, SimpleBody, NamesBody, StatisticsBody, EnhancedBody, JournalBody, OtherBody, UnknownSays, BodySays}
+use Rattle.pcap_blocks.specs.SimplePacket.{SimpleSays}
+use Rattle.pcap_blocks.specs.SystemdJournalExport.{JournalSays}
+use Rattle.pcap_blocks.specs.UnknownBlock.{UnknownBody}
+use Rattle.pcap_blocks.specs.ParsedBlock.{SectionBody, InterfaceBody, OldPacketBody, SimpleBody, NamesBody, StatisticsBody, EnhancedBody, JournalBody, OtherBody, BodySays}
+use Rattle.pcap_blocks.specs.UnknownBlock.{UnknownSays}
 use Rattle.pcap_core.proofs.Verdicts.{one_made}
 use Rattle.pcap_blocks.proofs.OneSection.{section_one}
 use Rattle.pcap_blocks.proofs.OneInterface.{interface_one}

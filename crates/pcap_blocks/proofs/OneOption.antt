@@ -7,7 +7,7 @@ use Rattle.pcap_core.specs.declared.rules.Rule.TheVariants.{OptionTooShort, Opti
 use Rattle.pcap_core.specs.Padded.{Padded, up_to_4}
 use Rattle.pcap_blocks.specs.Values.{Kind, Entry, Value, Shape, shape_at, value_of, EntrySays}
 use Rattle.pcap_blocks.specs.Options.{CodeLengthText, OptionText, OptionFault, short, cut, wrong, OptionSays}
-use Rattle.pcap_blocks.proofs.Options.{head_with}
+use Rattle.pcap_blocks.proofs.ReadOptions.{head_with}
 use Rattle.pcap_core.proofs.Verdicts.{one_moved, Then, one_then, same_whole}
 use Rattle.pcap_core.proofs.Numbers.{Values, Numbers, NumbersSay, numbers_one}
 use Rattle.pcap_core.proofs.OnePadded.{PaddedSays, padded_one}

@@ -11,8 +11,8 @@ use Rattle.pcap_core.proofs.Texts.{split_same}
 use Rattle.pcap_core.specs.Padded.{Padded, up_to_4}
 use Rattle.pcap_blocks.specs.Options.{CodeLengthText}
 use Rattle.pcap_blocks.specs.Names.{NamesSay}
-use Rattle.pcap_blocks.specs.Records.{Address, AddressText, short, in_names, AddressSays, NameRecord, End, Other, Form, no_value, address, any_value, form_of, RecordValueSays, RecordFault, cut, wrong, unpadded, RecordSays}
-use Rattle.pcap_blocks.proofs.Options.{head_with}
+use Rattle.pcap_blocks.specs.Record.{Address, AddressText, short, in_names, AddressSays, NameRecord, End, Other, Form, no_value, address, any_value, form_of, RecordValueSays, RecordFault, cut, wrong, unpadded, RecordSays}
+use Rattle.pcap_blocks.proofs.ReadOptions.{head_with}
 use Rattle.pcap_core.proofs.Verdicts.{one_moved, Then, one_then, one_made}
 use Rattle.pcap_core.proofs.Numbers.{NumbersSay, numbers_one}
 use Rattle.pcap_blocks.proofs.OneName.{names_one}
@@ -137,7 +137,7 @@ value_ends (any_value type) v r rest h = h.1
 
 -- ---- a record
 
--- the padding behind a value
+-- the padding after a value
 PadSays : NameRecord → List ℕ → List ℕ → Verdict NameRecord → Type 0
 PadSays r v s (whole q rest) = (q ≡ r) × Padded v s rest
 PadSays r v s (lacks n) = ⊥

@@ -7,7 +7,7 @@ use Rattle.pcap_core.specs.Laws.{ExactlyOne}
 use Rattle.pcap_core.specs.Padded.{Chain}
 use Rattle.pcap_blocks.specs.Values.{Entry}
 use Rattle.pcap_blocks.specs.Options.{may_end_with_body, ListSays}
-use Rattle.pcap_blocks.specs.Records.{NameRecord, End, Ipv4, Ipv6, Other, RecordText, RecordFault, RecordSays}
+use Rattle.pcap_blocks.specs.Record.{NameRecord, End, Ipv4, Ipv6, Other, RecordText, RecordFault, RecordSays}
 use Rattle.pcap_blocks.specs.NameResolution.{name_resolution, Resolution, KeptText, RecordsSay, ResolutionText, in_records, in_options, ResolutionSays}
 use Rattle.pcap_core.proofs.Verdicts.{one_moved, Then, one_then, one_made, Stopped, IsMany, one_stopped, same_whole, whole_no_fault}
 use Rattle.pcap_core.proofs.OnePadded.{padded_length}

@@ -4,7 +4,8 @@ use Rattle.pcap_core.specs.Answer.{Order, Number, Verdict, whole, lacks, faulty}
 use Rattle.pcap_core.specs.Faults.{Invalid}
 use Rattle.pcap_core.specs.Laws.{ExactlyOne}
 use Rattle.pcap_core.specs.declared.rules.Rule.TheVariants.{SimpleTooShort}
-use Rattle.pcap_blocks.specs.WholeBodies.{Simple, SimpleText, short, SimpleSays, JournalSays}
+use Rattle.pcap_blocks.specs.SimplePacket.{Simple, SimpleText, short, SimpleSays}
+use Rattle.pcap_blocks.specs.SystemdJournalExport.{JournalSays}
 use Rattle.pcap_core.proofs.Verdicts.{one_moved, Then, one_then}
 use Rattle.pcap_core.proofs.Numbers.{NumbersSay, numbers_one}
 

@@ -5,12 +5,13 @@ use Rattle.pcap_core.specs.Faults.{Fault, Invalid}
 use Rattle.pcap_core.specs.declared.rules.Rule.TheVariants.{EnhancedCut}
 use Rattle.pcap_core.specs.Padded.{up_to_4, Padded, Behind}
 use Rattle.pcap_blocks.specs.Values.{Entry, Kind}
-use Rattle.pcap_blocks.specs.Options.{may_end_with_body, ListFault}
-use Rattle.pcap_blocks.specs.StoredPacket.{TimeText, Stored, StoredHead, StoredFault, cut, in_options}
+use Rattle.pcap_blocks.specs.Options.{may_end_with_body, ListFault, OptionsMayGrow}
+use Rattle.pcap_blocks.specs.StoredPacket.{Stored, StoredHead, StoredFault, StoredMayGrow, cut, in_options}
+use Rattle.pcap_blocks.specs.Time.{TimeText}
 use Rattle.pcap_blocks.specs.EnhancedPacket.{enhanced_packet, EnhancedFault}
 use Rattle.pcap_blocks.specs.EnhancedPacket as enhanced
-use Rattle.pcap_blocks.specs.PacketBody.{packet_kind, PacketBodyFault}
-use Rattle.pcap_blocks.specs.PacketBody as body
+use Rattle.pcap_blocks.specs.Packet.{packet_kind, PacketBodyFault}
+use Rattle.pcap_blocks.specs.Packet as body
 use Rattle.pcap_blocks.specs.InterfaceStatistics.{interface_statistics, StatisticsFault}
 use Rattle.pcap_blocks.specs.InterfaceStatistics as statistics
 use Rattle.pcap_core.proofs.Padded.{behind_number, behind_both}
@@ -26,6 +27,9 @@ stored_cut order kind t n o s rest head lt = cut (stored t n o [] []) rest head 
 
 pub stored_fails : (order : Order) (kind : Kind) (t n o : ℕ) (v s rest after : List ℕ) → StoredHead order (stored t n o v []) s rest → length v ≡ n → Padded v rest after → (f : Fault) → ListFault may_end_with_body order kind after f → StoredFault order kind s f
 stored_fails order kind t n o v s rest after head is padded f fault = in_options f (stored t n o v []) rest after head is padded fault
+
+pub stored_grows : (order : Order) (kind : Kind) (t n o : ℕ) (v s rest after : List ℕ) → StoredHead order (stored t n o v []) s rest → length v ≡ n → Padded v rest after → OptionsMayGrow order kind after → StoredMayGrow order kind s
+stored_grows order kind t n o v s rest after head is padded grows = record { packet = stored t n o v []; after_head = rest; after_bytes = after; head = head; captured = is; padded = padded; grows = grows }
 
 pub behind_time : {order : Order} {t : ℕ} {s rest : List ℕ} → TimeText order t s rest → Behind 8 s rest
 behind_time t = behind_both (behind_number t.high_is) (behind_number t.low_is)

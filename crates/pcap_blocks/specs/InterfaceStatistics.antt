@@ -1,6 +1,5 @@
 -- The body of interface statistics ('Interface Statistics Block').
 use Rattle.std.specs.Prelude.{◌≡◌, ◌<◌, ℕ, List, [], ◌∷◌, length, map, All}
-use Rattle.std.specs.Cow.{cow_str_bytes, IsBorrowedStr, IsOwnedStr}
 use Rattle.pcap_core.specs.Answer.{Order, Number, Verdict, Says}
 use Rattle.pcap_core.specs.Faults.{Fault, Invalid}
 use Rattle.pcap_core.specs.declared.rules.Rule.TheVariants.{StatisticsTooShort}
@@ -8,15 +7,16 @@ use Rattle.pcap_blocks.specs.declared.interface_statistics.InterfaceStatisticsBl
 use Rattle.pcap_blocks.specs.declared.interface_statistics.InterfaceStatisticsOption.{InterfaceStatisticsOption}
 use Rattle.pcap_blocks.specs.declared.interface_statistics.InterfaceStatisticsOption.TheVariants as option_of
 use Rattle.pcap_core.specs.Padded.{Behind}
-use Rattle.pcap_blocks.specs.Values.{Entry, Text, Integer, Kind, text, first_number, first_time, custom}
-use Rattle.pcap_blocks.specs.Options.{may_end_with_body, OptionList, ListFault}
-use Rattle.pcap_blocks.specs.CommonOptions.{unknown_entry, custom_bytes_entry, custom_text_entry, UnknownIsBorrowed, UnknownIsOwned, CustomBytesIsBorrowed, CustomBytesIsOwned, CustomTextIsBorrowed, CustomTextIsOwned}
-use Rattle.pcap_blocks.specs.StoredPacket.{TimeText}
+use Rattle.pcap_blocks.specs.Values.{Entry, Kind, string, first_number, first_time, custom}
+use Rattle.pcap_blocks.specs.Growth.{HoldsAfter}
+use Rattle.pcap_blocks.specs.Options.{may_end_with_body, OptionList, ListFault, OptionsMayGrow}
+use Rattle.pcap_blocks.specs.CommonOptions.{Carried, carries_string, carries_number, carries_custom_bytes, carries_custom_string, carries_unknown}
+use Rattle.pcap_blocks.specs.Time.{TimeText}
 
 -- comment, start and end time, and the numbers of packets
 abbrev pub interface_statistics : Kind
 interface_statistics =
-    (1, text)
+    (1, string)
     ∷ (2, first_time)
     ∷ (3, first_time)
     ∷ (4, first_number)
@@ -49,47 +49,35 @@ pub data StatisticsFault (order : Order) (s : List ℕ) : Fault → Type 0 where
 abbrev pub StatisticsSays : Order → List ℕ → Verdict Statistics → Type 0
 StatisticsSays order s = Says (λ statistics rest. StatisticsText order statistics s rest) (λ n. ⊥) (StatisticsFault order s)
 
--- an option of the code
+-- statistics have an option
+abbrev pub StatisticsMayGrow : Order → List ℕ → Type 0
+StatisticsMayGrow order = HoldsAfter 12 (OptionsMayGrow order interface_statistics)
+
+-- what an option of the code carries
+abbrev pub statistics_carries : InterfaceStatisticsOption → Carried
+statistics_carries (option_of.Comment t) = carries_string 1 t
+statistics_carries (option_of.IsbStartTime n) = carries_number 2 n
+statistics_carries (option_of.IsbEndTime n) = carries_number 3 n
+statistics_carries (option_of.IsbIfRecv n) = carries_number 4 n
+statistics_carries (option_of.IsbIfDrop n) = carries_number 5 n
+statistics_carries (option_of.IsbFilterAccept n) = carries_number 6 n
+statistics_carries (option_of.IsbOsDrop n) = carries_number 7 n
+statistics_carries (option_of.IsbUsrDeliv n) = carries_number 8 n
+statistics_carries (option_of.CustomBinary o) = carries_custom_bytes o
+statistics_carries (option_of.CustomUtf8 o) = carries_custom_string o
+statistics_carries (option_of.Unknown o) = carries_unknown o
+
+-- what an option of the code says
 abbrev pub statistics_entry : InterfaceStatisticsOption → Entry
-statistics_entry (option_of.Comment t) = record { code = 1; value = Text (cow_str_bytes t) }
-statistics_entry (option_of.IsbStartTime n) = record { code = 2; value = Integer n }
-statistics_entry (option_of.IsbEndTime n) = record { code = 3; value = Integer n }
-statistics_entry (option_of.IsbIfRecv n) = record { code = 4; value = Integer n }
-statistics_entry (option_of.IsbIfDrop n) = record { code = 5; value = Integer n }
-statistics_entry (option_of.IsbFilterAccept n) = record { code = 6; value = Integer n }
-statistics_entry (option_of.IsbOsDrop n) = record { code = 7; value = Integer n }
-statistics_entry (option_of.IsbUsrDeliv n) = record { code = 8; value = Integer n }
-statistics_entry (option_of.CustomBinary o) = custom_bytes_entry o
-statistics_entry (option_of.CustomUtf8 o) = custom_text_entry o
-statistics_entry (option_of.Unknown o) = unknown_entry o
+statistics_entry o = (statistics_carries o).entry
 
--- its text or bytes are borrowed, where it has any
+-- its string or bytes are borrowed, where it has any
 abbrev pub StatisticsOptionIsBorrowed : InterfaceStatisticsOption → Type 0
-StatisticsOptionIsBorrowed (option_of.Comment t) = IsBorrowedStr t
-StatisticsOptionIsBorrowed (option_of.IsbStartTime n) = Unit {0}
-StatisticsOptionIsBorrowed (option_of.IsbEndTime n) = Unit {0}
-StatisticsOptionIsBorrowed (option_of.IsbIfRecv n) = Unit {0}
-StatisticsOptionIsBorrowed (option_of.IsbIfDrop n) = Unit {0}
-StatisticsOptionIsBorrowed (option_of.IsbFilterAccept n) = Unit {0}
-StatisticsOptionIsBorrowed (option_of.IsbOsDrop n) = Unit {0}
-StatisticsOptionIsBorrowed (option_of.IsbUsrDeliv n) = Unit {0}
-StatisticsOptionIsBorrowed (option_of.CustomBinary o) = CustomBytesIsBorrowed o
-StatisticsOptionIsBorrowed (option_of.CustomUtf8 o) = CustomTextIsBorrowed o
-StatisticsOptionIsBorrowed (option_of.Unknown o) = UnknownIsBorrowed o
+StatisticsOptionIsBorrowed o = (statistics_carries o).is_borrowed
 
--- its text or bytes are owned, where it has any
+-- its string or bytes are owned, where it has any
 abbrev pub StatisticsOptionIsOwned : InterfaceStatisticsOption → Type 0
-StatisticsOptionIsOwned (option_of.Comment t) = IsOwnedStr t
-StatisticsOptionIsOwned (option_of.IsbStartTime n) = Unit {0}
-StatisticsOptionIsOwned (option_of.IsbEndTime n) = Unit {0}
-StatisticsOptionIsOwned (option_of.IsbIfRecv n) = Unit {0}
-StatisticsOptionIsOwned (option_of.IsbIfDrop n) = Unit {0}
-StatisticsOptionIsOwned (option_of.IsbFilterAccept n) = Unit {0}
-StatisticsOptionIsOwned (option_of.IsbOsDrop n) = Unit {0}
-StatisticsOptionIsOwned (option_of.IsbUsrDeliv n) = Unit {0}
-StatisticsOptionIsOwned (option_of.CustomBinary o) = CustomBytesIsOwned o
-StatisticsOptionIsOwned (option_of.CustomUtf8 o) = CustomTextIsOwned o
-StatisticsOptionIsOwned (option_of.Unknown o) = UnknownIsOwned o
+StatisticsOptionIsOwned o = (statistics_carries o).is_owned
 
 -- a block of the code
 abbrev pub statistics_of : InterfaceStatisticsBlock → Statistics

@@ -1,22 +1,21 @@
 -- The body of a name resolution block ('Name Resolution Block').
 use Rattle.std.specs.Prelude.{◌≡◌, ◌≢◌, ℕ, List, [], ◌∷◌, map, All}
-use Rattle.std.specs.Cow.{cow_str_bytes, IsBorrowedStr, IsOwnedStr}
 use Rattle.pcap_core.specs.Answer.{Order, Verdict, Says}
-use Rattle.pcap_core.specs.Bytes.{cow_bytes, IsBorrowed, IsOwned}
 use Rattle.pcap_core.specs.Faults.{Fault}
 use Rattle.pcap_core.specs.declared.rules.Rule.TheVariants.{NameIpv4Length, NameIpv6Length}
 use Rattle.pcap_blocks.specs.declared.name_resolution.NameResolutionBlock.{NameResolutionBlock}
 use Rattle.pcap_blocks.specs.declared.name_resolution.NameResolutionOption.{NameResolutionOption}
 use Rattle.pcap_blocks.specs.declared.name_resolution.NameResolutionOption.TheVariants as option_of
 use Rattle.pcap_core.specs.Padded.{Chain}
-use Rattle.pcap_blocks.specs.Values.{Entry, Text, Bytes, Kind, text, fixed_bytes, custom}
-use Rattle.pcap_blocks.specs.Options.{may_end_with_body, OptionList, ListFault}
-use Rattle.pcap_blocks.specs.CommonOptions.{unknown_entry, custom_bytes_entry, custom_text_entry, UnknownIsBorrowed, UnknownIsOwned, CustomBytesIsBorrowed, CustomBytesIsOwned, CustomTextIsBorrowed, CustomTextIsOwned}
-use Rattle.pcap_blocks.specs.Records.{NameRecord, End, RecordText, RecordFault, name_record_of, RecordIsBorrowed, RecordIsOwned}
+use Rattle.pcap_blocks.specs.Values.{Entry, Kind, string, fixed_bytes, custom}
+use Rattle.pcap_blocks.specs.Growth.{BeginsWith}
+use Rattle.pcap_blocks.specs.Options.{may_end_with_body, OptionList, ListFault, OptionsMayGrow}
+use Rattle.pcap_blocks.specs.CommonOptions.{Carried, carries_string, carries_bytes, carries_custom_bytes, carries_custom_string, carries_unknown}
+use Rattle.pcap_blocks.specs.Record.{NameRecord, End, RecordText, RecordFault, RecordMayGrow, name_record_of, RecordIsBorrowed, RecordIsOwned}
 
 -- comment, and the name and addresses of the server that resolved the names
 abbrev pub name_resolution : Kind
-name_resolution = (1, text) ∷ (2, text) ∷ (3, fixed_bytes 4 NameIpv4Length) ∷ (4, fixed_bytes 16 NameIpv6Length) ∷ custom
+name_resolution = (1, string) ∷ (2, string) ∷ (3, fixed_bytes 4 NameIpv4Length) ∷ (4, fixed_bytes 16 NameIpv6Length) ∷ custom
 
 -- names, wherever their bytes lie
 pub record Resolution : Type 0 where
@@ -34,7 +33,7 @@ pub record RecordsText (order : Order) (records : List NameRecord) (s rest : Lis
   pub are : Chain (KeptText order) records s end
   pub ends : RecordText order End end rest
 
--- the fault of records: some good ones that are no end, and behind them the fault of what is left
+-- the fault of records: some good ones that are no end, and after them the fault of what is left
 pub record RecordsFault (order : Order) (s : List ℕ) (fault : Fault) : Type 0 where
   pub good : List NameRecord
   pub bad : List ℕ
@@ -44,6 +43,11 @@ pub record RecordsFault (order : Order) (s : List ℕ) (fault : Fault) : Type 0 
 -- what is said of bytes where records up to their end are asked for
 abbrev pub RecordsSay : Order → List ℕ → Verdict (List NameRecord) → Type 0
 RecordsSay order s = Says (λ records rest. RecordsText order records s rest) (λ n. ⊥) (RecordsFault order s)
+
+-- a record that is kept begins the records, or one that has a name
+pub data RecordsMayGrow (order : Order) (s : List ℕ) : Type 0 where
+  kept : BeginsWith (KeptText order) s → RecordsMayGrow order s
+  named : RecordMayGrow order s → RecordsMayGrow order s
 
 -- s is the body of a name resolution block, and then rest
 pub record ResolutionText (order : Order) (b : Resolution) (s rest : List ℕ) : Type 0 where
@@ -60,35 +64,32 @@ pub data ResolutionFault (order : Order) (s : List ℕ) (fault : Fault) : Type 0
 abbrev pub ResolutionSays : Order → List ℕ → Verdict Resolution → Type 0
 ResolutionSays order s = Says (λ b rest. ResolutionText order b s rest) (λ n. ⊥) (ResolutionFault order s)
 
--- an option of the code
+-- a body has a record that is kept or has a name, or an option
+pub data ResolutionMayGrow (order : Order) (s : List ℕ) : Type 0 where
+  with_record : RecordsMayGrow order s → ResolutionMayGrow order s
+  with_option : (records : List NameRecord) (after : List ℕ) → RecordsText order records s after → OptionsMayGrow order name_resolution after → ResolutionMayGrow order s
+
+-- what an option of the code carries
+abbrev pub name_carries : NameResolutionOption → Carried
+name_carries (option_of.Comment t) = carries_string 1 t
+name_carries (option_of.NsDnsName t) = carries_string 2 t
+name_carries (option_of.NsDnsIpv4Addr b) = carries_bytes 3 b
+name_carries (option_of.NsDnsIpv6Addr b) = carries_bytes 4 b
+name_carries (option_of.CustomBinary o) = carries_custom_bytes o
+name_carries (option_of.CustomUtf8 o) = carries_custom_string o
+name_carries (option_of.Unknown o) = carries_unknown o
+
+-- what an option of the code says
 abbrev pub name_entry : NameResolutionOption → Entry
-name_entry (option_of.Comment t) = record { code = 1; value = Text (cow_str_bytes t) }
-name_entry (option_of.NsDnsName t) = record { code = 2; value = Text (cow_str_bytes t) }
-name_entry (option_of.NsDnsIpv4Addr b) = record { code = 3; value = Bytes (cow_bytes b) }
-name_entry (option_of.NsDnsIpv6Addr b) = record { code = 4; value = Bytes (cow_bytes b) }
-name_entry (option_of.CustomBinary o) = custom_bytes_entry o
-name_entry (option_of.CustomUtf8 o) = custom_text_entry o
-name_entry (option_of.Unknown o) = unknown_entry o
+name_entry o = (name_carries o).entry
 
--- its text or bytes are borrowed
+-- its string or bytes are borrowed, where it has any
 abbrev pub NameOptionIsBorrowed : NameResolutionOption → Type 0
-NameOptionIsBorrowed (option_of.Comment t) = IsBorrowedStr t
-NameOptionIsBorrowed (option_of.NsDnsName t) = IsBorrowedStr t
-NameOptionIsBorrowed (option_of.NsDnsIpv4Addr b) = IsBorrowed b
-NameOptionIsBorrowed (option_of.NsDnsIpv6Addr b) = IsBorrowed b
-NameOptionIsBorrowed (option_of.CustomBinary o) = CustomBytesIsBorrowed o
-NameOptionIsBorrowed (option_of.CustomUtf8 o) = CustomTextIsBorrowed o
-NameOptionIsBorrowed (option_of.Unknown o) = UnknownIsBorrowed o
+NameOptionIsBorrowed o = (name_carries o).is_borrowed
 
--- its text or bytes are owned
+-- its string or bytes are owned, where it has any
 abbrev pub NameOptionIsOwned : NameResolutionOption → Type 0
-NameOptionIsOwned (option_of.Comment t) = IsOwnedStr t
-NameOptionIsOwned (option_of.NsDnsName t) = IsOwnedStr t
-NameOptionIsOwned (option_of.NsDnsIpv4Addr b) = IsOwned b
-NameOptionIsOwned (option_of.NsDnsIpv6Addr b) = IsOwned b
-NameOptionIsOwned (option_of.CustomBinary o) = CustomBytesIsOwned o
-NameOptionIsOwned (option_of.CustomUtf8 o) = CustomTextIsOwned o
-NameOptionIsOwned (option_of.Unknown o) = UnknownIsOwned o
+NameOptionIsOwned o = (name_carries o).is_owned
 
 -- a block of the code
 abbrev pub names_of : NameResolutionBlock → Resolution

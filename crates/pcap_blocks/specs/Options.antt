@@ -5,6 +5,7 @@ use Rattle.pcap_core.specs.Faults.{Fault, Invalid}
 use Rattle.pcap_core.specs.declared.rules.Rule.TheVariants.{OptionTooShort, OptionCut}
 use Rattle.pcap_core.specs.Padded.{up_to_4, Padded, Chain}
 use Rattle.pcap_blocks.specs.Values.{Entry, Kind, shape_at, value_of}
+use Rattle.pcap_blocks.specs.Growth.{BeginsWith}
 
 -- s is a code, or the type of a record, and a length, and then rest
 pub record CodeLengthText (order : Order) (code len : ℕ) (s rest : List ℕ) : Type 0 where
@@ -51,12 +52,12 @@ abbrev pub IsOver : Ending → List Entry → Type 0
 IsOver wants_end options = options ≡ []
 IsOver may_end_with_body options = Unit {0}
 
--- s is a list of options, and then rest: the options, and behind them the mark, or no byte where the list is over then
+-- s is a list of options, and then rest: the options, and after them the mark, or no byte where the list is over then
 pub data OptionList (ending : Ending) (order : Order) (kind : Kind) (options : List Entry) (s rest : List ℕ) : Type 0 where
   marked : (end : List ℕ) → Chain (OptionText order kind) options s end → EndMark order end rest → OptionList ending order kind options s rest
   with_body : Chain (OptionText order kind) options s [] → IsOver ending options → rest ≡ [] → OptionList ending order kind options s rest
 
--- the fault of a list: some good options, and behind them the fault of what is left, unless the list is over there
+-- the fault of a list: some good options, and after them the fault of what is left, unless the list is over there
 pub record ListFault (ending : Ending) (order : Order) (kind : Kind) (s : List ℕ) (fault : Fault) : Type 0 where
   pub good : List Entry
   pub bad : List ℕ
@@ -67,3 +68,7 @@ pub record ListFault (ending : Ending) (order : Order) (kind : Kind) (s : List �
 -- what is said of bytes where a list of options is asked for
 abbrev pub ListSays : Ending → Order → Kind → List ℕ → Verdict (List Entry) → Type 0
 ListSays ending order kind s = Says (λ options rest. OptionList ending order kind options s rest) (λ n. ⊥) (ListFault ending order kind s)
+
+-- a list of options grows where an option begins it
+abbrev pub OptionsMayGrow : Order → Kind → List ℕ → Type 0
+OptionsMayGrow order kind = BeginsWith (OptionText order kind)

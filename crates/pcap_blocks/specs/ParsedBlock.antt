@@ -1,21 +1,21 @@
 -- The body of a block of any type.
-use Rattle.std.specs.Prelude.{◌≡◌, ◌<◌, ◌≤◌, ◌^◌, ℕ, List, length, Option, Some, None, ⊤}
-use Rattle.pcap_core.specs.Answer.{Order, Verdict, Says, Made}
-use Rattle.pcap_core.specs.Faults.{Invalid}
-use Rattle.pcap_core.specs.declared.rules.Rule.TheVariants.{UnknownTooLong}
-use Rattle.pcap_blocks.specs.declared.block.BlockType.{BlockType}
-use Rattle.pcap_blocks.specs.declared.block.BlockType.TheVariants as types
+use Rattle.std.specs.Prelude.{ℕ, List, Option, Some, None}
+use Rattle.pcap_core.specs.Answer.{Order, Verdict, Made}
+use Rattle.pcap_blocks.specs.declared.block_type.BlockType.{BlockType}
+use Rattle.pcap_blocks.specs.declared.block_type.BlockType.TheVariants as types
 use Rattle.pcap_blocks.specs.declared.parsed_block.ParsedBlock.{ParsedBlock}
 use Rattle.pcap_blocks.specs.declared.parsed_block.ParsedBlock.TheVariants as block_of
 use Rattle.pcap_blocks.specs.declared.section_header.SectionHeaderBlock.{SectionHeaderBlock}
 use Rattle.pcap_blocks.specs.declared.interface_description.InterfaceDescriptionBlock.{InterfaceDescriptionBlock}
-use Rattle.pcap_blocks.specs.SectionHeader.{Section, SectionSays, section_of, SectionIsBorrowed, SectionIsOwned, SectionNeedsNoMemory}
-use Rattle.pcap_blocks.specs.InterfaceDescription.{Interface, InterfaceSays, interface_of, InterfaceIsBorrowed, InterfaceIsOwned, InterfaceNeedsNoMemory}
-use Rattle.pcap_blocks.specs.PacketBody.{PacketBody, PacketBodySays, packet_of, PacketIsBorrowed, PacketIsOwned, PacketNeedsNoMemory}
-use Rattle.pcap_blocks.specs.NameResolution.{Resolution, ResolutionSays, names_of, ResolutionIsBorrowed, ResolutionIsOwned, ResolutionNeedsNoMemory}
-use Rattle.pcap_blocks.specs.InterfaceStatistics.{Statistics, StatisticsSays, statistics_of, StatisticsIsBorrowed, StatisticsIsOwned, StatisticsNeedsNoMemory}
-use Rattle.pcap_blocks.specs.EnhancedPacket.{Enhanced, EnhancedSays, enhanced_of, EnhancedIsBorrowed, EnhancedIsOwned, EnhancedNeedsNoMemory}
-use Rattle.pcap_blocks.specs.WholeBodies.{Simple, SimpleSays, simple_of, SimpleIsBorrowed, SimpleIsOwned, JournalSays, journal_of, JournalIsBorrowed, JournalIsOwned, UnknownBody, unknown_of, UnknownBlockIsBorrowed, UnknownBlockIsOwned}
+use Rattle.pcap_blocks.specs.SectionHeader.{Section, SectionSays, SectionMayGrow, section_of, SectionIsBorrowed, SectionIsOwned, SectionNeedsNoMemory}
+use Rattle.pcap_blocks.specs.InterfaceDescription.{Interface, InterfaceSays, InterfaceMayGrow, interface_of, InterfaceIsBorrowed, InterfaceIsOwned, InterfaceNeedsNoMemory}
+use Rattle.pcap_blocks.specs.Packet.{PacketBody, PacketBodySays, PacketBodyMayGrow, packet_of, PacketIsBorrowed, PacketIsOwned, PacketNeedsNoMemory}
+use Rattle.pcap_blocks.specs.NameResolution.{Resolution, ResolutionSays, ResolutionMayGrow, names_of, ResolutionIsBorrowed, ResolutionIsOwned, ResolutionNeedsNoMemory}
+use Rattle.pcap_blocks.specs.InterfaceStatistics.{Statistics, StatisticsSays, StatisticsMayGrow, statistics_of, StatisticsIsBorrowed, StatisticsIsOwned, StatisticsNeedsNoMemory}
+use Rattle.pcap_blocks.specs.EnhancedPacket.{Enhanced, EnhancedSays, EnhancedMayGrow, enhanced_of, EnhancedIsBorrowed, EnhancedIsOwned, EnhancedNeedsNoMemory}
+use Rattle.pcap_blocks.specs.SimplePacket.{Simple, SimpleSays, simple_of, SimpleIsBorrowed, SimpleIsOwned}
+use Rattle.pcap_blocks.specs.SystemdJournalExport.{JournalSays, journal_of, JournalIsBorrowed, JournalIsOwned}
+use Rattle.pcap_blocks.specs.UnknownBlock.{UnknownBody, UnknownSays, unknown_of, UnknownBlockIsBorrowed, UnknownBlockIsOwned}
 
 -- a body, wherever its bytes lie
 pub data Body : Type 0 where
@@ -29,14 +29,6 @@ pub data Body : Type 0 where
   JournalBody : List ℕ → Body
   OtherBody : UnknownBody → Body
 
--- what is said of the body of an unknown block: all of it is the value, and stays as well
-abbrev pub UnknownSays : BlockType → List ℕ → Verdict UnknownBody → Type 0
-UnknownSays type s =
-    Says
-    (λ body rest. (body ≡ record { type_ = type; len = length s; bytes = s }) × (rest ≡ s) × (length s < 2 ^ 32))
-    (λ n. ⊥)
-    (λ fault. (fault ≡ Invalid UnknownTooLong) × (2 ^ 32 ≤ length s))
-
 -- what is said of bytes where the body of a block of this type is asked for; a section has its own order
 abbrev pub BodySays : Order → BlockType → List ℕ → Verdict Body → Type 0
 BodySays order types.SectionHeader s = Made SectionBody (SectionSays s)
@@ -49,17 +41,17 @@ BodySays order types.EnhancedPacket s = Made EnhancedBody (EnhancedSays order s)
 BodySays order types.SystemdJournalExport s = Made JournalBody (JournalSays s)
 BodySays order (types.Unknown n) s = Made OtherBody (UnknownSays (types.Unknown n) s)
 
--- bodies of this type have lists, which grow
-abbrev pub HasLists : BlockType → Type 0
-HasLists types.SectionHeader = ⊤
-HasLists types.InterfaceDescription = ⊤
-HasLists types.Packet = ⊤
-HasLists types.SimplePacket = ⊥
-HasLists types.NameResolution = ⊤
-HasLists types.InterfaceStatistics = ⊤
-HasLists types.EnhancedPacket = ⊤
-HasLists types.SystemdJournalExport = ⊥
-HasLists (types.Unknown n) = ⊥
+-- the body of a block of this type has something that is kept in a list
+abbrev pub BodyMayGrow : Order → BlockType → List ℕ → Type 0
+BodyMayGrow order types.SectionHeader s = SectionMayGrow s
+BodyMayGrow order types.InterfaceDescription s = InterfaceMayGrow order s
+BodyMayGrow order types.Packet s = PacketBodyMayGrow order s
+BodyMayGrow order types.SimplePacket s = ⊥
+BodyMayGrow order types.NameResolution s = ResolutionMayGrow order s
+BodyMayGrow order types.InterfaceStatistics s = StatisticsMayGrow order s
+BodyMayGrow order types.EnhancedPacket s = EnhancedMayGrow order s
+BodyMayGrow order types.SystemdJournalExport s = ⊥
+BodyMayGrow order (types.Unknown n) s = ⊥
 
 -- a block of the code
 abbrev pub body_of : ParsedBlock → Body

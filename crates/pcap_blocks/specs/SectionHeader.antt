@@ -1,7 +1,6 @@
 -- The body of a section header ('Section Header Block').
 use Rattle.std.specs.Prelude.{◌≡◌, ◌≤◌, ◌<◌, ◌==◌, if◌then◌else◌, ℕ, ℤ, List, [], ◌∷◌, length, map, All, Option, Some, None}
 use Rattle.std.specs.Int.{w64, cast_signed}
-use Rattle.std.specs.Cow.{cow_str_bytes, IsBorrowedStr, IsOwnedStr}
 use Rattle.byteorder.specs.Endian.{big_number}
 use Rattle.pcap_core.specs.declared.common.Endianness.{Endianness}
 use Rattle.pcap_core.specs.declared.common.Endianness.TheVariants.{Big, Little}
@@ -12,13 +11,14 @@ use Rattle.pcap_blocks.specs.declared.section_header.SectionHeaderBlock.{Section
 use Rattle.pcap_blocks.specs.declared.section_header.SectionHeaderOption.{SectionHeaderOption}
 use Rattle.pcap_blocks.specs.declared.section_header.SectionHeaderOption.TheVariants as option_of
 use Rattle.pcap_core.specs.Padded.{Behind}
-use Rattle.pcap_blocks.specs.Values.{Entry, Text, Kind, text, custom}
-use Rattle.pcap_blocks.specs.Options.{may_end_with_body, OptionList, ListFault}
-use Rattle.pcap_blocks.specs.CommonOptions.{unknown_entry, custom_bytes_entry, custom_text_entry, UnknownIsBorrowed, UnknownIsOwned, CustomBytesIsBorrowed, CustomBytesIsOwned, CustomTextIsBorrowed, CustomTextIsOwned}
+use Rattle.pcap_blocks.specs.Values.{Entry, Kind, string, custom}
+use Rattle.pcap_blocks.specs.Growth.{HoldsAfter}
+use Rattle.pcap_blocks.specs.Options.{may_end_with_body, OptionList, ListFault, OptionsMayGrow}
+use Rattle.pcap_blocks.specs.CommonOptions.{Carried, carries_string, carries_custom_bytes, carries_custom_string, carries_unknown}
 
 -- comment, hardware, operating system, application
 abbrev pub section_header : Kind
-section_header = (1, text) ∷ (2, text) ∷ (3, text) ∷ (4, text) ∷ custom
+section_header = (1, string) ∷ (2, string) ∷ (3, string) ∷ (4, string) ∷ custom
 
 -- the order that a section's magic number names
 unfoldable pub magic_order : ℕ → Option Endianness
@@ -73,39 +73,44 @@ pub data SectionFault (s : List ℕ) : Fault → Type 0 where
 abbrev pub SectionSays : List ℕ → Verdict Section → Type 0
 SectionSays s = Says (λ section rest. SectionText section s rest) (λ n. ⊥) (SectionFault s)
 
--- what is said of the bytes behind this magic number, in this order
+-- what is said of the bytes after this magic number, in this order
 abbrev pub AfterMagicSays : Order → ℕ → List ℕ → Verdict Section → Type 0
 AfterMagicSays order magic s = Says (λ section rest. (section.magic ≡ magic) × AfterMagic order section s rest) (λ n. ⊥) (AfterMagicFault order s)
 
--- an option of the code
+-- an option stands after the version
+abbrev pub AfterMagicMayGrow : Order → List ℕ → Type 0
+AfterMagicMayGrow order = HoldsAfter 12 (OptionsMayGrow order section_header)
+
+-- a section has an option, in the order that its magic number names
+pub record SectionMayGrow (s : List ℕ) : Type 0 where
+  pub magic : ℕ
+  pub after_magic : List ℕ
+  pub endianness : Endianness
+  pub magic_is : Number big_number 4 magic s after_magic
+  pub names : magic_order magic ≡ Some endianness
+  pub grows : AfterMagicMayGrow (number_in endianness) after_magic
+
+-- what an option of the code carries
+abbrev pub section_carries : SectionHeaderOption → Carried
+section_carries (option_of.Comment t) = carries_string 1 t
+section_carries (option_of.Hardware t) = carries_string 2 t
+section_carries (option_of.OS t) = carries_string 3 t
+section_carries (option_of.UserApplication t) = carries_string 4 t
+section_carries (option_of.CustomBinary o) = carries_custom_bytes o
+section_carries (option_of.CustomUtf8 o) = carries_custom_string o
+section_carries (option_of.Unknown o) = carries_unknown o
+
+-- what an option of the code says
 abbrev pub section_entry : SectionHeaderOption → Entry
-section_entry (option_of.Comment t) = record { code = 1; value = Text (cow_str_bytes t) }
-section_entry (option_of.Hardware t) = record { code = 2; value = Text (cow_str_bytes t) }
-section_entry (option_of.OS t) = record { code = 3; value = Text (cow_str_bytes t) }
-section_entry (option_of.UserApplication t) = record { code = 4; value = Text (cow_str_bytes t) }
-section_entry (option_of.CustomBinary o) = custom_bytes_entry o
-section_entry (option_of.CustomUtf8 o) = custom_text_entry o
-section_entry (option_of.Unknown o) = unknown_entry o
+section_entry o = (section_carries o).entry
 
--- its text or bytes are borrowed
+-- its string or bytes are borrowed, where it has any
 abbrev pub SectionOptionIsBorrowed : SectionHeaderOption → Type 0
-SectionOptionIsBorrowed (option_of.Comment t) = IsBorrowedStr t
-SectionOptionIsBorrowed (option_of.Hardware t) = IsBorrowedStr t
-SectionOptionIsBorrowed (option_of.OS t) = IsBorrowedStr t
-SectionOptionIsBorrowed (option_of.UserApplication t) = IsBorrowedStr t
-SectionOptionIsBorrowed (option_of.CustomBinary o) = CustomBytesIsBorrowed o
-SectionOptionIsBorrowed (option_of.CustomUtf8 o) = CustomTextIsBorrowed o
-SectionOptionIsBorrowed (option_of.Unknown o) = UnknownIsBorrowed o
+SectionOptionIsBorrowed o = (section_carries o).is_borrowed
 
--- its text or bytes are owned
+-- its string or bytes are owned, where it has any
 abbrev pub SectionOptionIsOwned : SectionHeaderOption → Type 0
-SectionOptionIsOwned (option_of.Comment t) = IsOwnedStr t
-SectionOptionIsOwned (option_of.Hardware t) = IsOwnedStr t
-SectionOptionIsOwned (option_of.OS t) = IsOwnedStr t
-SectionOptionIsOwned (option_of.UserApplication t) = IsOwnedStr t
-SectionOptionIsOwned (option_of.CustomBinary o) = CustomBytesIsOwned o
-SectionOptionIsOwned (option_of.CustomUtf8 o) = CustomTextIsOwned o
-SectionOptionIsOwned (option_of.Unknown o) = UnknownIsOwned o
+SectionOptionIsOwned o = (section_carries o).is_owned
 
 -- a block of the code
 abbrev pub section_of : SectionHeaderBlock → Section

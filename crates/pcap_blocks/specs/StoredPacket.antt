@@ -1,22 +1,14 @@
--- What both kinds of packet body hold behind their interface ('Enhanced Packet Block', 'Packet Block').
-use Rattle.std.specs.Prelude.{◌≡◌, ◌<◌, ◌+◌, ◌*◌, ◌^◌, ℕ, List, length, map, All}
+-- What both kinds of packet body hold after their interface ('Enhanced Packet Block', 'Packet Block').
+use Rattle.std.specs.Prelude.{◌≡◌, ◌<◌, ℕ, List, length, map, All}
 use Rattle.pcap_core.specs.Answer.{Order, Number, Verdict, Says}
 use Rattle.pcap_core.specs.Bytes.{cow_bytes, IsBorrowed}
 use Rattle.pcap_core.specs.Faults.{Fault, Invalid}
 use Rattle.pcap_core.specs.declared.rules.Rule.TheVariants.{EnhancedTooShort, EnhancedCut}
-use Rattle.pcap_blocks.specs.declared.stored.StoredPacket.{StoredPacket}
+use Rattle.pcap_blocks.specs.declared.stored_packet.StoredPacket.{StoredPacket}
 use Rattle.pcap_core.specs.Padded.{up_to_4, Padded}
 use Rattle.pcap_blocks.specs.Values.{Entry, Kind}
-use Rattle.pcap_blocks.specs.Options.{may_end_with_body, OptionList, ListFault}
-
--- s is a time, its high 4 bytes before its low 4, and then rest
-pub record TimeText (order : Order) (time : ℕ) (s rest : List ℕ) : Type 0 where
-  pub high : ℕ
-  pub low : ℕ
-  pub after_high : List ℕ
-  pub high_is : Number order 4 high s after_high
-  pub low_is : Number order 4 low after_high rest
-  pub both : time ≡ high * 2 ^ 32 + low
+use Rattle.pcap_blocks.specs.Time.{TimeText}
+use Rattle.pcap_blocks.specs.Options.{may_end_with_body, OptionList, ListFault, OptionsMayGrow}
 
 -- a packet that is stored, wherever its bytes lie
 pub record Stored : Type 0 where
@@ -53,6 +45,16 @@ pub data StoredFault (order : Order) (kind : Kind) (s : List ℕ) : Fault → Ty
 -- what is said of bytes where a stored packet is asked for
 abbrev pub StoredSays : Order → Kind → List ℕ → Verdict Stored → Type 0
 StoredSays order kind s = Says (λ packet rest. StoredText order kind packet s rest) (λ n. ⊥) (StoredFault order kind s)
+
+-- a stored packet has an option after its bytes and their padding
+pub record StoredMayGrow (order : Order) (kind : Kind) (s : List ℕ) : Type 0 where
+  pub packet : Stored
+  pub after_head : List ℕ
+  pub after_bytes : List ℕ
+  pub head : StoredHead order packet s after_head
+  pub captured : length packet.bytes ≡ packet.captured_len
+  pub padded : Padded packet.bytes after_head after_bytes
+  pub grows : OptionsMayGrow order kind after_bytes
 
 -- a stored packet of the code
 abbrev pub stored_of : {O : Type 0} → (O → Entry) → StoredPacket O → Stored

@@ -1,32 +1,33 @@
 //! Enhanced packets.
 
-ghost use Rattle.std.specs.Prelude.{⊤, map, All, IsOk, IfOk, ◌≡◌, IfErr};
+ghost use Rattle.std.specs.Prelude.{map, All, IsOk, IfOk, ◌≡◌, IfErr};
 ghost use Rattle.pcap_core.specs.Answer.{TellsWhere};
-ghost use Rattle.pcap_blocks.specs.Refusals.{FindsWhere};
-ghost use Rattle.pcap_blocks.specs.Options.{may_end_with_body, ListSays};
-ghost use Rattle.pcap_blocks.specs.EnhancedPacket.{enhanced_packet, EnhancedSays, enhanced_entry, EnhancedOptionIsBorrowed, enhanced_of, EnhancedIsBorrowed, EnhancedOptionIsOwned, EnhancedIsOwned, EnhancedNeedsNoMemory};
+ghost use Rattle.pcap_blocks.specs.Refusal.{FindsWhere};
+ghost use Rattle.pcap_blocks.specs.Options.{may_end_with_body, ListSays, OptionsMayGrow};
+ghost use Rattle.pcap_blocks.specs.EnhancedPacket.{enhanced_packet, EnhancedSays, enhanced_entry, EnhancedOptionIsBorrowed, enhanced_of, EnhancedIsBorrowed, EnhancedOptionIsOwned, EnhancedIsOwned, EnhancedNeedsNoMemory, EnhancedMayGrow};
 ghost use Rattle.pcap_core.specs.Errors.{IsMemory};
 
-use crate::common::{
+use crate::options::{
     CustomBinaryOption, CustomUtf8Option, PcapNgOption, UnknownOption, options_from_slice,
 };
-use pcap_core::fields::split_u32;
-use crate::owned::{KeepValue, keep_all};
+use crate::owned::{IntoStatic, each_into_static};
 use crate::refusal::Refusal;
-use crate::stored::stored_from_slice;
-use crate::values::{text_value, u32_value, u64_value};
+use crate::stored_packet::stored_from_slice;
+use crate::values::{string_value, u32_value, u64_value};
 use byteorder::ByteOrder;
+use pcap_core::fields::split_u32;
 use pcap_core::rules::Rule;
 use pcap_core::{CowBytes, ResultParsing};
 use std::alloc::{AllocError, Global};
 use std::borrow::CowStr;
 
-/// The body of an enhanced packet: a packet of an interface.
+/// The body of an enhanced packet ('Enhanced Packet Block'): a packet of an interface.
 #[derive(Clone, Debug, Drop)]
 pub struct EnhancedPacketBlock<'a> {
-    /// The number of the interface among those of the section, from 0.
+    /// The number of the interface, counted from 0 in the order of the section's interface descriptions.
     pub interface_id: u32,
-    /// Units of time since 1970-01-01 00:00:00 UTC; the interface's options tell the unit.
+    /// Units of time since 1970-01-01 00:00:00 UTC. The interface's `IfTsResol` tells the unit, 10^-6 s where it has
+    /// none.
     pub timestamp: u64,
     /// How many bytes of the packet are stored.
     pub captured_len: u32,
@@ -39,16 +40,17 @@ pub struct EnhancedPacketBlock<'a> {
 }
 
 impl<'a> EnhancedPacketBlock<'a> {
-    /// The packet that a block's body is, and what follows its options. Texts and bytes are borrowed from the slice.
+    /// The packet that a block's body is, and what follows its options, which end at their mark or with the slice.
+    /// Strings and bytes are borrowed from the slice.
     ///
     /// `InvalidField` under 20 bytes, then where the data and its padding pass the slice, then for the first fault of
-    /// the options, or `Utf8Error` or `IoError` where that is a text that isn't UTF-8 or a custom value under 4 bytes.
-    /// `OutOfMemory` where the list of options can't grow.
+    /// the options, or `Utf8Error` or `IoError` where that is a string that isn't UTF-8 or a custom value under 4
+    /// bytes. `OutOfMemory` where an allocation failed, and only where an option stands.
     pub fn from_slice<B: ByteOrder>(
         alloc: Global,
         slice: &'a [u8],
     ) -> ResultParsing<(&'a [u8], Self)>
-        ensures tells { TellsWhere ⊤ (EnhancedSays B.number_of slice.now) enhanced_of result }
+        ensures tells { TellsWhere (EnhancedMayGrow B.number_of slice.now) (EnhancedSays B.number_of slice.now) enhanced_of result }
         ensures borrowed { IfOk result (λ x. EnhancedIsBorrowed x.1) }
     {
         Ok(EnhancedPacketBlock::read::<B>(alloc, slice)?)
@@ -58,7 +60,7 @@ impl<'a> EnhancedPacketBlock<'a> {
         alloc: Global,
         slice: &'a [u8],
     ) -> Result<(&'a [u8], Self), Refusal>
-        ensures tells { FindsWhere ⊤ (EnhancedSays B.number_of slice.now) enhanced_of result }
+        ensures tells { FindsWhere (EnhancedMayGrow B.number_of slice.now) (EnhancedSays B.number_of slice.now) enhanced_of result }
         ensures borrowed { IfOk result (λ x. EnhancedIsBorrowed x.1) }
     {
         if slice.len() < 20 {
@@ -76,40 +78,68 @@ impl<'a> EnhancedPacketBlock<'a> {
         };
         Ok((rest, block))
     }
+
+    /// The same packet, with bytes and strings of its own: borrowed ones are copied, owned ones kept.
+    ///
+    /// `OutOfMemory` where an allocation failed; the value is then dropped.
+    pub fn into_owned(self, alloc: Global) -> ResultParsing<EnhancedPacketBlock<'static>>
+        ensures same { IfOk result (λ kept. enhanced_of kept ≡ enhanced_of self.entry) }
+        ensures owned { IfOk result EnhancedIsOwned }
+        ensures memory { IfErr result IsMemory }
+        ensures kept { EnhancedNeedsNoMemory self.entry → IsOk result }
+    {
+        Ok(self.into_static(alloc)?)
+    }
 }
 
-/// An option of an enhanced packet.
+/// An option of an enhanced packet ('Enhanced Packet Block').
 #[derive(Clone, Debug, Drop)]
 pub enum EnhancedPacketOption<'a> {
-    /// A comment on the packet.
+    /// A comment on the packet (opt_comment, code 1).
     Comment(CowStr<'a>),
-    /// What the link layer says of the packet.
+    /// What the link layer says of the packet (epb_flags, code 2). Bit 0 is the lowest: bits 0 and 1 are the direction
+    /// (1 in, 2 out), bits 2 to 4 how it was received (1 unicast, 2 multicast, 3 broadcast, 4 promiscuous), bits 5 to 8
+    /// the length of its frame check sequence in bytes, bits 16 to 31 errors of the link layer. 0 is not known.
     Flags(u32),
-    /// A hash of the packet, behind a byte that names its algorithm.
+    /// A hash of the packet (epb_hash, code 3), after a byte that names its algorithm: 0 for the 2s complement, 1 for
+    /// XOR, 2 for CRC32, 3 for MD5, 4 for SHA-1.
     Hash(CowBytes<'a>),
-    /// How many packets were lost between this one and the one before it.
+    /// How many packets of the interface were lost between this one and the one before it (epb_dropcount, code 4).
     DropCount(u64),
-    /// Bytes of an enterprise.
+    /// Bytes of an enterprise, code 2989 or 19373.
     CustomBinary(CustomBinaryOption<'a>),
-    /// A text of an enterprise.
+    /// A string of an enterprise, code 2988 or 19372.
     CustomUtf8(CustomUtf8Option<'a>),
     /// An option of another code.
     Unknown(UnknownOption<'a>),
 }
 
 impl<'a> EnhancedPacketOption<'a> {
-    /// The list of options at the front of a slice, and what follows it.
+    /// The list of options at the front of a slice, and what follows it. It ends at its mark or with the slice.
     ///
-    /// `InvalidField` for the first fault of the list, or `Utf8Error` or `IoError` where that is a text that isn't
-    /// UTF-8 or a custom value under 4 bytes. `OutOfMemory` where the list can't grow.
+    /// `InvalidField` for the first fault of the list, or `Utf8Error` or `IoError` where that is a string that isn't
+    /// UTF-8 or a custom value under 4 bytes. `OutOfMemory` where an allocation failed, and only where an option
+    /// stands.
     pub fn from_slice<B: ByteOrder>(
         alloc: Global,
         slice: &'a [u8],
     ) -> ResultParsing<(&'a [u8], Vec<Self>)>
-        ensures tells { TellsWhere ⊤ (ListSays may_end_with_body B.number_of enhanced_packet slice.now) (λ options. map enhanced_entry options.items) result }
+        ensures tells { TellsWhere (OptionsMayGrow B.number_of enhanced_packet slice.now) (ListSays may_end_with_body B.number_of enhanced_packet slice.now) (λ options. map enhanced_entry options.items) result }
         ensures borrowed { IfOk result (λ x. All EnhancedOptionIsBorrowed x.1.items) }
     {
         Ok(options_from_slice::<EnhancedPacketOption, B>(alloc, slice)?)
+    }
+
+    /// The same option, with bytes and strings of its own: borrowed ones are copied, owned ones kept.
+    ///
+    /// `OutOfMemory` where an allocation failed; the value is then dropped.
+    pub fn into_owned(self, alloc: Global) -> ResultParsing<EnhancedPacketOption<'static>>
+        ensures same { IfOk result (λ kept. enhanced_entry kept ≡ enhanced_entry self.entry) }
+        ensures owned { IfOk result EnhancedOptionIsOwned }
+        ensures memory { IfErr result IsMemory }
+        ensures kept { EnhancedOptionIsOwned self.entry → IsOk result }
+    {
+        Ok(self.into_static(alloc)?)
     }
 }
 
@@ -122,7 +152,7 @@ impl<'a> PcapNgOption<'a> for EnhancedPacketOption<'a> {
 
     fn from_value<B: ByteOrder>(code: u16, len: u16, value: &'a [u8]) -> Result<Self, Refusal> {
         Ok(match code {
-            1 => Self::Comment(text_value(value)?),
+            1 => Self::Comment(string_value(value)?),
             2 => Self::Flags(u32_value::<B>(value, Rule::EnhancedFlagsLength)?),
             3 => Self::Hash(CowBytes::Borrowed(value)),
             4 => Self::DropCount(u64_value::<B>(value, Rule::EnhancedDropCountLength)?),
@@ -133,21 +163,7 @@ impl<'a> PcapNgOption<'a> for EnhancedPacketOption<'a> {
     }
 }
 
-impl<'a> EnhancedPacketOption<'a> {
-    /// The same option, with bytes and texts of its own: borrowed ones are copied, owned ones kept.
-    ///
-    /// `OutOfMemory` where a copy can't be made; the value is then dropped.
-    pub fn into_owned(self, alloc: Global) -> ResultParsing<EnhancedPacketOption<'static>>
-        ensures same { IfOk result (λ kept. enhanced_entry kept ≡ enhanced_entry self.entry) }
-        ensures owned { IfOk result EnhancedOptionIsOwned }
-        ensures memory { IfErr result IsMemory }
-        ensures kept { EnhancedOptionIsOwned self.entry → IsOk result }
-    {
-        Ok(self.keep(alloc)?)
-    }
-}
-
-impl<'a> KeepValue for EnhancedPacketOption<'a> {
+impl<'a> IntoStatic for EnhancedPacketOption<'a> {
     type Owned = EnhancedPacketOption<'static>;
 
     ghost is_same = { λ value kept. enhanced_entry kept ≡ enhanced_entry value };
@@ -156,38 +172,30 @@ impl<'a> KeepValue for EnhancedPacketOption<'a> {
 
     ghost needs_no_memory = { EnhancedOptionIsOwned };
 
-    fn keep(self, alloc: Global) -> Result<EnhancedPacketOption<'static>, AllocError> {
+    fn into_static(self, alloc: Global) -> Result<EnhancedPacketOption<'static>, AllocError> {
         Ok(match self {
-            EnhancedPacketOption::Comment(held) => EnhancedPacketOption::Comment(held.keep(alloc)?),
-            EnhancedPacketOption::Flags(n) => EnhancedPacketOption::Flags(n),
-            EnhancedPacketOption::Hash(held) => EnhancedPacketOption::Hash(held.keep(alloc)?),
-            EnhancedPacketOption::DropCount(n) => EnhancedPacketOption::DropCount(n),
-            EnhancedPacketOption::CustomBinary(held) => EnhancedPacketOption::CustomBinary(
-                held.keep(alloc)?,
-            ),
-            EnhancedPacketOption::CustomUtf8(held) => EnhancedPacketOption::CustomUtf8(held.keep(
+            EnhancedPacketOption::Comment(held) => EnhancedPacketOption::Comment(held.into_static(
                 alloc,
             )?),
-            EnhancedPacketOption::Unknown(held) => EnhancedPacketOption::Unknown(held.keep(alloc)?),
+            EnhancedPacketOption::Flags(n) => EnhancedPacketOption::Flags(n),
+            EnhancedPacketOption::Hash(held) => EnhancedPacketOption::Hash(held.into_static(
+                alloc,
+            )?),
+            EnhancedPacketOption::DropCount(n) => EnhancedPacketOption::DropCount(n),
+            EnhancedPacketOption::CustomBinary(held) => EnhancedPacketOption::CustomBinary(
+                held.into_static(alloc)?,
+            ),
+            EnhancedPacketOption::CustomUtf8(held) => EnhancedPacketOption::CustomUtf8(
+                held.into_static(alloc)?,
+            ),
+            EnhancedPacketOption::Unknown(held) => EnhancedPacketOption::Unknown(held.into_static(
+                alloc,
+            )?),
         })
     }
 }
 
-impl<'a> EnhancedPacketBlock<'a> {
-    /// The same packet, with bytes and texts of its own: borrowed ones are copied, owned ones kept.
-    ///
-    /// `OutOfMemory` where a copy can't be made; the value is then dropped.
-    pub fn into_owned(self, alloc: Global) -> ResultParsing<EnhancedPacketBlock<'static>>
-        ensures same { IfOk result (λ kept. enhanced_of kept ≡ enhanced_of self.entry) }
-        ensures owned { IfOk result EnhancedIsOwned }
-        ensures memory { IfErr result IsMemory }
-        ensures kept { EnhancedNeedsNoMemory self.entry → IsOk result }
-    {
-        Ok(self.keep(alloc)?)
-    }
-}
-
-impl<'a> KeepValue for EnhancedPacketBlock<'a> {
+impl<'a> IntoStatic for EnhancedPacketBlock<'a> {
     type Owned = EnhancedPacketBlock<'static>;
 
     ghost is_same = { λ value kept. enhanced_of kept ≡ enhanced_of value };
@@ -196,7 +204,7 @@ impl<'a> KeepValue for EnhancedPacketBlock<'a> {
 
     ghost needs_no_memory = { EnhancedNeedsNoMemory };
 
-    fn keep(self, alloc: Global) -> Result<EnhancedPacketBlock<'static>, AllocError> {
+    fn into_static(self, alloc: Global) -> Result<EnhancedPacketBlock<'static>, AllocError> {
         let EnhancedPacketBlock {
             interface_id,
             timestamp,
@@ -210,8 +218,8 @@ impl<'a> KeepValue for EnhancedPacketBlock<'a> {
             timestamp,
             captured_len,
             original_len,
-            data_: data_.keep(alloc)?,
-            options: keep_all(alloc, options)?,
+            data_: data_.into_static(alloc)?,
+            options: each_into_static(alloc, options)?,
         })
     }
 }

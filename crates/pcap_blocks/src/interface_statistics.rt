@@ -1,47 +1,49 @@
 //! Interface statistics.
 
-ghost use Rattle.std.specs.Prelude.{⊤, IsOk, IfOk, ◌≡◌, IfErr};
+ghost use Rattle.std.specs.Prelude.{IsOk, IfOk, ◌≡◌, IfErr};
 ghost use Rattle.pcap_core.specs.Answer.{TellsWhere};
-ghost use Rattle.pcap_blocks.specs.Refusals.{FindsWhere};
-ghost use Rattle.pcap_blocks.specs.InterfaceStatistics.{interface_statistics, StatisticsSays, statistics_entry, StatisticsOptionIsBorrowed, statistics_of, StatisticsIsBorrowed, StatisticsOptionIsOwned, StatisticsIsOwned, StatisticsNeedsNoMemory};
+ghost use Rattle.pcap_blocks.specs.Refusal.{FindsWhere};
+ghost use Rattle.pcap_blocks.specs.InterfaceStatistics.{interface_statistics, StatisticsSays, statistics_entry, StatisticsOptionIsBorrowed, statistics_of, StatisticsIsBorrowed, StatisticsOptionIsOwned, StatisticsIsOwned, StatisticsNeedsNoMemory, StatisticsMayGrow};
 ghost use Rattle.pcap_core.specs.Errors.{IsMemory};
 
-use crate::common::{
+use crate::options::{
     CustomBinaryOption, CustomUtf8Option, PcapNgOption, UnknownOption, options_from_slice,
 };
-use crate::fields::split_time;
-use pcap_core::fields::split_u32;
-use crate::owned::{KeepValue, keep_all};
+use crate::owned::{IntoStatic, each_into_static};
 use crate::refusal::Refusal;
-use crate::values::{first_number, first_time, text_value};
+use crate::time::split_time;
+use crate::values::{first_number, first_time, string_value};
 use byteorder::ByteOrder;
 use pcap_core::ResultParsing;
+use pcap_core::fields::split_u32;
 use pcap_core::rules::Rule;
 use std::alloc::{AllocError, Global};
 use std::borrow::CowStr;
 
-/// The body of interface statistics: what an interface counted.
+/// The body of interface statistics ('Interface Statistics Block'): what an interface counted.
 #[derive(Clone, Debug, Drop)]
 pub struct InterfaceStatisticsBlock<'a> {
-    /// The number of the interface among those of the section, from 0.
+    /// The number of the interface, counted from 0 in the order of the section's interface descriptions.
     pub interface_id: u32,
-    /// When it was counted: units of time since 1970-01-01 00:00:00 UTC; the interface's options tell the unit.
+    /// When it was counted: units of time since 1970-01-01 00:00:00 UTC. The interface's `IfTsResol` tells the unit,
+    /// 10^-6 s where it has none.
     pub timestamp: u64,
     /// What was counted.
     pub options: Vec<InterfaceStatisticsOption<'a>>,
 }
 
 impl<'a> InterfaceStatisticsBlock<'a> {
-    /// The statistics that a block's body is, and what follows their options. Texts and bytes are borrowed from the slice.
+    /// The statistics that a block's body is, and what follows their options, which end at their mark or with the
+    /// slice. Strings and bytes are borrowed from the slice.
     ///
-    /// `InvalidField` under 12 bytes, then for the first fault of the options, or `Utf8Error` where that is a text that
-    /// isn't UTF-8, or `IoError` where a number or time is under 8 bytes or a custom value under 4.
-    /// `OutOfMemory` where the list of options can't grow.
+    /// `InvalidField` under 12 bytes, then for the first fault of the options, or `Utf8Error` where that is a string
+    /// that isn't UTF-8, or `IoError` where a number or time is under 8 bytes or a custom value under 4. `OutOfMemory`
+    /// where an allocation failed, and only where an option stands.
     pub fn from_slice<B: ByteOrder>(
         alloc: Global,
         slice: &'a [u8],
     ) -> ResultParsing<(&'a [u8], Self)>
-        ensures tells { TellsWhere ⊤ (StatisticsSays B.number_of slice.now) statistics_of result }
+        ensures tells { TellsWhere (StatisticsMayGrow B.number_of slice.now) (StatisticsSays B.number_of slice.now) statistics_of result }
         ensures borrowed { IfOk result (λ x. StatisticsIsBorrowed x.1) }
     {
         Ok(InterfaceStatisticsBlock::read::<B>(alloc, slice)?)
@@ -51,7 +53,7 @@ impl<'a> InterfaceStatisticsBlock<'a> {
         alloc: Global,
         slice: &'a [u8],
     ) -> Result<(&'a [u8], Self), Refusal>
-        ensures tells { FindsWhere ⊤ (StatisticsSays B.number_of slice.now) statistics_of result }
+        ensures tells { FindsWhere (StatisticsMayGrow B.number_of slice.now) (StatisticsSays B.number_of slice.now) statistics_of result }
         ensures borrowed { IfOk result (λ x. StatisticsIsBorrowed x.1) }
     {
         if slice.len() < 12 {
@@ -67,30 +69,42 @@ impl<'a> InterfaceStatisticsBlock<'a> {
         };
         Ok((rest, block))
     }
+
+    /// The same statistics, with bytes and strings of its own: borrowed ones are copied, owned ones kept.
+    ///
+    /// `OutOfMemory` where an allocation failed; the value is then dropped.
+    pub fn into_owned(self, alloc: Global) -> ResultParsing<InterfaceStatisticsBlock<'static>>
+        ensures same { IfOk result (λ kept. statistics_of kept ≡ statistics_of self.entry) }
+        ensures owned { IfOk result StatisticsIsOwned }
+        ensures memory { IfErr result IsMemory }
+        ensures kept { StatisticsNeedsNoMemory self.entry → IsOk result }
+    {
+        Ok(self.into_static(alloc)?)
+    }
 }
 
-/// An option of interface statistics.
+/// An option of interface statistics ('Interface Statistics Block'). Times are in the unit of the block's own.
 #[derive(Clone, Debug, Drop)]
 pub enum InterfaceStatisticsOption<'a> {
-    /// A comment on the statistics.
+    /// A comment on the statistics (opt_comment, code 1).
     Comment(CowStr<'a>),
-    /// When the capture began.
+    /// When the capture began (isb_starttime, code 2).
     IsbStartTime(u64),
-    /// When the capture ended.
+    /// When the capture ended (isb_endtime, code 3).
     IsbEndTime(u64),
-    /// How many packets the interface received.
+    /// How many packets the interface received (isb_ifrecv, code 4).
     IsbIfRecv(u64),
-    /// How many packets the interface dropped.
+    /// How many packets the interface dropped (isb_ifdrop, code 5).
     IsbIfDrop(u64),
-    /// How many packets the filter accepted.
+    /// How many packets the filter accepted (isb_filteraccept, code 6).
     IsbFilterAccept(u64),
-    /// How many packets the operating system dropped.
+    /// How many packets the operating system dropped (isb_osdrop, code 7).
     IsbOsDrop(u64),
-    /// How many packets the user was given.
+    /// How many packets the user was given (isb_usrdeliv, code 8).
     IsbUsrDeliv(u64),
-    /// Bytes of an enterprise.
+    /// Bytes of an enterprise, code 2989 or 19373.
     CustomBinary(CustomBinaryOption<'a>),
-    /// A text of an enterprise.
+    /// A string of an enterprise, code 2988 or 19372.
     CustomUtf8(CustomUtf8Option<'a>),
     /// An option of another code.
     Unknown(UnknownOption<'a>),
@@ -105,7 +119,7 @@ impl<'a> PcapNgOption<'a> for InterfaceStatisticsOption<'a> {
 
     fn from_value<B: ByteOrder>(code: u16, len: u16, value: &'a [u8]) -> Result<Self, Refusal> {
         Ok(match code {
-            1 => Self::Comment(text_value(value)?),
+            1 => Self::Comment(string_value(value)?),
             2 => Self::IsbStartTime(first_time::<B>(value)?),
             3 => Self::IsbEndTime(first_time::<B>(value)?),
             4 => Self::IsbIfRecv(first_number::<B>(value)?),
@@ -121,20 +135,20 @@ impl<'a> PcapNgOption<'a> for InterfaceStatisticsOption<'a> {
 }
 
 impl<'a> InterfaceStatisticsOption<'a> {
-    /// The same option, with bytes and texts of its own: borrowed ones are copied, owned ones kept.
+    /// The same option, with bytes and strings of its own: borrowed ones are copied, owned ones kept.
     ///
-    /// `OutOfMemory` where a copy can't be made; the value is then dropped.
+    /// `OutOfMemory` where an allocation failed; the value is then dropped.
     pub fn into_owned(self, alloc: Global) -> ResultParsing<InterfaceStatisticsOption<'static>>
         ensures same { IfOk result (λ kept. statistics_entry kept ≡ statistics_entry self.entry) }
         ensures owned { IfOk result StatisticsOptionIsOwned }
         ensures memory { IfErr result IsMemory }
         ensures kept { StatisticsOptionIsOwned self.entry → IsOk result }
     {
-        Ok(self.keep(alloc)?)
+        Ok(self.into_static(alloc)?)
     }
 }
 
-impl<'a> KeepValue for InterfaceStatisticsOption<'a> {
+impl<'a> IntoStatic for InterfaceStatisticsOption<'a> {
     type Owned = InterfaceStatisticsOption<'static>;
 
     ghost is_same = { λ value kept. statistics_entry kept ≡ statistics_entry value };
@@ -143,10 +157,10 @@ impl<'a> KeepValue for InterfaceStatisticsOption<'a> {
 
     ghost needs_no_memory = { StatisticsOptionIsOwned };
 
-    fn keep(self, alloc: Global) -> Result<InterfaceStatisticsOption<'static>, AllocError> {
+    fn into_static(self, alloc: Global) -> Result<InterfaceStatisticsOption<'static>, AllocError> {
         Ok(match self {
             InterfaceStatisticsOption::Comment(held) => InterfaceStatisticsOption::Comment(
-                held.keep(alloc)?,
+                held.into_static(alloc)?,
             ),
             InterfaceStatisticsOption::IsbStartTime(n) => InterfaceStatisticsOption::IsbStartTime(
                 n,
@@ -159,32 +173,18 @@ impl<'a> KeepValue for InterfaceStatisticsOption<'a> {
             InterfaceStatisticsOption::IsbOsDrop(n) => InterfaceStatisticsOption::IsbOsDrop(n),
             InterfaceStatisticsOption::IsbUsrDeliv(n) => InterfaceStatisticsOption::IsbUsrDeliv(n),
             InterfaceStatisticsOption::CustomBinary(held) =>
-                InterfaceStatisticsOption::CustomBinary(held.keep(alloc)?),
+                InterfaceStatisticsOption::CustomBinary(held.into_static(alloc)?),
             InterfaceStatisticsOption::CustomUtf8(held) => InterfaceStatisticsOption::CustomUtf8(
-                held.keep(alloc)?,
+                held.into_static(alloc)?,
             ),
             InterfaceStatisticsOption::Unknown(held) => InterfaceStatisticsOption::Unknown(
-                held.keep(alloc)?,
+                held.into_static(alloc)?,
             ),
         })
     }
 }
 
-impl<'a> InterfaceStatisticsBlock<'a> {
-    /// The same statistics, with bytes and texts of its own: borrowed ones are copied, owned ones kept.
-    ///
-    /// `OutOfMemory` where a copy can't be made; the value is then dropped.
-    pub fn into_owned(self, alloc: Global) -> ResultParsing<InterfaceStatisticsBlock<'static>>
-        ensures same { IfOk result (λ kept. statistics_of kept ≡ statistics_of self.entry) }
-        ensures owned { IfOk result StatisticsIsOwned }
-        ensures memory { IfErr result IsMemory }
-        ensures kept { StatisticsNeedsNoMemory self.entry → IsOk result }
-    {
-        Ok(self.keep(alloc)?)
-    }
-}
-
-impl<'a> KeepValue for InterfaceStatisticsBlock<'a> {
+impl<'a> IntoStatic for InterfaceStatisticsBlock<'a> {
     type Owned = InterfaceStatisticsBlock<'static>;
 
     ghost is_same = { λ value kept. statistics_of kept ≡ statistics_of value };
@@ -193,7 +193,7 @@ impl<'a> KeepValue for InterfaceStatisticsBlock<'a> {
 
     ghost needs_no_memory = { StatisticsNeedsNoMemory };
 
-    fn keep(self, alloc: Global) -> Result<InterfaceStatisticsBlock<'static>, AllocError> {
+    fn into_static(self, alloc: Global) -> Result<InterfaceStatisticsBlock<'static>, AllocError> {
         let InterfaceStatisticsBlock {
             interface_id,
             timestamp,
@@ -202,7 +202,7 @@ impl<'a> KeepValue for InterfaceStatisticsBlock<'a> {
         Ok(InterfaceStatisticsBlock {
             interface_id,
             timestamp,
-            options: keep_all(alloc, options)?,
+            options: each_into_static(alloc, options)?,
         })
     }
 }

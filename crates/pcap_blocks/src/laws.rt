@@ -1,6 +1,7 @@
-//! Laws of the grammar and of `==`. Each contract is the law; only the function of `==` calls anything.
+//! Laws of the grammar, of `==` and of `clone`. Each contract is the law; only the functions of `==` and of `clone`
+//! call anything.
 
-ghost use Rattle.std.specs.Prelude.{◌≡◌, ◌↔◌, ℕ, List, IsTrue};
+ghost use Rattle.std.specs.Prelude.{◌≡◌, ◌↔◌, ℕ, List, IsTrue, IsOk, IfOk};
 ghost use Rattle.pcap_core.specs.Answer.{Order};
 ghost use Rattle.pcap_core.specs.Laws.{ExactlyOne};
 ghost use Rattle.pcap_blocks.specs.Values.{Entry, Kind, Shape, EntrySays};
@@ -8,17 +9,20 @@ ghost use Rattle.pcap_blocks.specs.Options.{Ending, wants_end, may_end_with_body
 ghost use Rattle.pcap_blocks.specs.SectionHeader.{SectionSays};
 ghost use Rattle.pcap_blocks.specs.InterfaceDescription.{InterfaceSays};
 ghost use Rattle.pcap_blocks.specs.EnhancedPacket.{EnhancedSays};
-ghost use Rattle.pcap_blocks.specs.PacketBody.{PacketBodySays};
+ghost use Rattle.pcap_blocks.specs.Packet.{PacketBodySays};
 ghost use Rattle.pcap_blocks.specs.InterfaceStatistics.{StatisticsSays};
 ghost use Rattle.pcap_core.specs.declared.rules.Rule.{Rule};
 ghost use Rattle.pcap_blocks.specs.Names.{NameSays, NamesSay};
-ghost use Rattle.pcap_blocks.specs.Records.{AddressSays, RecordSays};
+ghost use Rattle.pcap_blocks.specs.Record.{AddressSays, RecordSays};
 ghost use Rattle.pcap_blocks.specs.NameResolution.{RecordsSay, ResolutionSays};
-ghost use Rattle.pcap_blocks.specs.declared.block.BlockType.{BlockType};
-ghost use Rattle.pcap_blocks.specs.ParsedBlock.{UnknownSays, BodySays};
-ghost use Rattle.pcap_blocks.specs.WholeBodies.{SimpleSays, JournalSays};
+ghost use Rattle.pcap_blocks.specs.declared.block_type.BlockType.{BlockType};
+ghost use Rattle.pcap_blocks.specs.ParsedBlock.{BodySays};
+ghost use Rattle.pcap_blocks.specs.UnknownBlock.{UnknownSays};
+ghost use Rattle.pcap_blocks.specs.SimplePacket.{SimpleSays};
+ghost use Rattle.pcap_blocks.specs.SystemdJournalExport.{JournalSays};
 
 use crate::BlockType;
+use std::alloc::AllocError;
 
 /// Of all bytes of a value exactly one thing is said, whatever its shape: the option that it is, or one fault. This
 /// holds of the custom options.
@@ -111,8 +115,8 @@ pub fn body_is_one()
     ensures { (order : Order) (type : BlockType) (s : List ℕ) → ExactlyOne (BodySays order type s) }
 {}
 
-/// Where bytes are a list of options that wants its mark, they are that list, and no other, where a list may end
-/// with its body.
+/// Where bytes are a list of options that wants its mark, they are that list, and no other, where a list may end with
+/// its body.
 pub fn list_is_kept()
     ensures kept { (order : Order) (kind : Kind) (options : List Entry) (s rest : List ℕ) →
         OptionList wants_end order kind options s rest → OptionList may_end_with_body order kind options s rest }
@@ -125,4 +129,12 @@ pub fn types_are_equal(left: BlockType, right: BlockType) -> bool
     ensures { IsTrue result ↔ (left ≡ right) }
 {
     left == right
+}
+
+/// A clone of a type of blocks is that type, and takes no memory.
+pub fn type_is_cloned(value: BlockType) -> Result<BlockType, AllocError>
+    ensures same { IfOk result (λ clone. clone ≡ value) }
+    ensures made { IsOk result }
+{
+    value.clone()
 }

@@ -1,15 +1,17 @@
 //! Blocks of PcapNg captures: their bodies and options, read from slices.
+//!
+//! The format is that of the IETF draft draft-ietf-opsawg-pcapng; names in quotes are sections of it. A list of options
+//! ends at its mark, the code 0, or without one where no byte is left ('Options'). Lengths are in bytes.
 #![tactic(auto)]
 
-mod block;
-mod common;
+mod block_type;
 mod enhanced_packet;
-mod fields;
 mod interface_description;
 mod interface_statistics;
 pub mod laws;
 mod name_resolution;
 mod names;
+mod options;
 mod owned;
 mod packet;
 mod parsed_block;
@@ -17,20 +19,23 @@ mod record;
 mod refusal;
 mod section_header;
 mod simple_packet;
-mod stored;
+mod stored_packet;
 mod systemd_journal_export;
+mod time;
+mod unknown_block;
 mod values;
 
-pub use block::{BlockType, UnknownBlock};
-pub use common::{CustomBinaryOption, CustomUtf8Option, UnknownOption};
+pub use block_type::BlockType;
 pub use enhanced_packet::{EnhancedPacketBlock, EnhancedPacketOption};
 pub use interface_description::{InterfaceDescriptionBlock, InterfaceDescriptionOption};
 pub use interface_statistics::{InterfaceStatisticsBlock, InterfaceStatisticsOption};
 pub use name_resolution::{NameResolutionBlock, NameResolutionOption};
 pub use names::str_from_u8_null_terminated;
+pub use options::{CustomBinaryOption, CustomUtf8Option, UnknownOption};
 pub use packet::{PacketBlock, PacketOption};
 pub use parsed_block::ParsedBlock;
 pub use record::{Ipv4Record, Ipv6Record, Record, UnknownRecord};
 pub use section_header::{SectionHeaderBlock, SectionHeaderOption};
 pub use simple_packet::SimplePacketBlock;
 pub use systemd_journal_export::SystemdJournalExportBlock;
+pub use unknown_block::UnknownBlock;

@@ -9,28 +9,28 @@ use pcap_core::CowBytes;
 use std::alloc::{AllocError, Global};
 use std::borrow::CowStr;
 
-/// What can be made to own its bytes and texts.
-pub(crate) trait KeepValue: Sized {
+/// What can be made to own its bytes and strings.
+pub(crate) trait IntoStatic: Sized {
     type Owned;
 
     // The owned value says the same.
     ghost is_same: { Self → Self.Owned → Type 0 };
 
-    // Each text and all bytes of it are owned.
+    // Each string and all bytes of it are owned.
     ghost is_owned: { Self.Owned → Type 0 };
 
     // All of it is owned already, and it has no list to make anew.
     ghost needs_no_memory: { Self → Type 0 };
 
-    // The value with borrowed bytes and texts copied; owned ones are kept.
-    fn keep(self, alloc: Global) -> Result<Self::Owned, AllocError>
+    // The value with borrowed bytes and strings copied; owned ones are kept.
+    fn into_static(self, alloc: Global) -> Result<Self::Owned, AllocError>
         ensures same { IfOk result (is_same self) }
         ensures owned { IfOk result is_owned }
         ensures kept { needs_no_memory self → IsOk result };
 }
 
 // Each value of a list, kept.
-pub(crate) fn keep_all<T: KeepValue<Owned: Drop> + Drop>(
+pub(crate) fn each_into_static<T: IntoStatic<Owned: Drop> + Drop>(
     alloc: Global,
     items: Vec<T>,
 ) -> Result<Vec<T::Owned>, AllocError>
@@ -40,26 +40,26 @@ pub(crate) fn keep_all<T: KeepValue<Owned: Drop> + Drop>(
 {
     let mut kept = Vec::with_capacity(alloc, items.len())?;
     for item in items {
-        kept.push(item.keep(alloc)?)?;
+        kept.push(item.into_static(alloc)?)?;
     }
     Ok(kept)
 }
 
-impl<'a> KeepValue for CowStr<'a> {
+impl<'a> IntoStatic for CowStr<'a> {
     type Owned = CowStr<'static>;
 
-    ghost is_same = { λ text kept. cow_str_bytes kept ≡ cow_str_bytes text };
+    ghost is_same = { λ string kept. cow_str_bytes kept ≡ cow_str_bytes string };
 
     ghost is_owned = { IsOwnedStr };
 
     ghost needs_no_memory = { IsOwnedStr };
 
-    fn keep(self, alloc: Global) -> Result<CowStr<'static>, AllocError> {
+    fn into_static(self, alloc: Global) -> Result<CowStr<'static>, AllocError> {
         Ok(CowStr::Owned(self.into_owned(alloc)?))
     }
 }
 
-impl<'a> KeepValue for CowBytes<'a> {
+impl<'a> IntoStatic for CowBytes<'a> {
     type Owned = CowBytes<'static>;
 
     ghost is_same = { λ bytes kept. cow_bytes kept ≡ cow_bytes bytes };
@@ -68,7 +68,7 @@ impl<'a> KeepValue for CowBytes<'a> {
 
     ghost needs_no_memory = { IsOwned };
 
-    fn keep(self, alloc: Global) -> Result<CowBytes<'static>, AllocError> {
+    fn into_static(self, alloc: Global) -> Result<CowBytes<'static>, AllocError> {
         match self {
             CowBytes::Borrowed(bytes) => Ok(CowBytes::Owned(Vec::from_slice(alloc, bytes)?)),
             CowBytes::Owned(bytes) => Ok(CowBytes::Owned(bytes)),

@@ -2,27 +2,28 @@
 
 ghost use Rattle.std.specs.Prelude.{◌≡◌, IsOk, IfOk, IfErr};
 ghost use Rattle.pcap_core.specs.Answer.{TellsWhere};
-ghost use Rattle.pcap_blocks.specs.Refusals.{FindsWhere};
-ghost use Rattle.pcap_blocks.specs.ParsedBlock.{BodySays, HasLists, body_of, ParsedIsBorrowed, section_in, interface_in, ParsedIsOwned, ParsedNeedsNoMemory};
+ghost use Rattle.pcap_blocks.specs.Refusal.{FindsWhere};
+ghost use Rattle.pcap_blocks.specs.ParsedBlock.{BodySays, BodyMayGrow, body_of, ParsedIsBorrowed, section_in, interface_in, ParsedIsOwned, ParsedNeedsNoMemory};
 ghost use Rattle.pcap_core.specs.Errors.{IsMemory};
 
-use crate::block::{BlockType, UnknownBlock};
+use crate::block_type::BlockType;
 use crate::enhanced_packet::EnhancedPacketBlock;
 use crate::interface_description::InterfaceDescriptionBlock;
 use crate::interface_statistics::InterfaceStatisticsBlock;
 use crate::name_resolution::NameResolutionBlock;
-use crate::owned::KeepValue;
+use crate::owned::IntoStatic;
 use crate::packet::PacketBlock;
 use crate::refusal::Refusal;
 use crate::section_header::SectionHeaderBlock;
 use crate::simple_packet::SimplePacketBlock;
 use crate::systemd_journal_export::SystemdJournalExportBlock;
+use crate::unknown_block::UnknownBlock;
 use byteorder::ByteOrder;
 use pcap_core::ResultParsing;
 use pcap_core::rules::Rule;
 use std::alloc::{AllocError, Global};
 
-/// The body of a block, by its type.
+/// The body of a block, by its type ('Block Types').
 #[derive(Clone, Debug, Drop)]
 pub enum ParsedBlock<'a> {
     SectionHeader(SectionHeaderBlock<'a>),
@@ -37,17 +38,18 @@ pub enum ParsedBlock<'a> {
 }
 
 impl<'a> ParsedBlock<'a> {
-    /// The body of a block of this type, and what follows it. Texts and bytes are borrowed from the slice.
+    /// The body of a block of this type, and what follows it. Strings and bytes are borrowed from the slice.
     ///
     /// A section's numbers have the order that its own magic number names, whatever `B` is. Of an unknown type the
-    /// whole slice is the value and is left as well: `InvalidField` where it has 2^32 bytes or more. The errors of
-    /// the other types are those of their own `from_slice`.
+    /// whole slice is the value and is left as well: `InvalidField` where it has 2^32 bytes or more. The errors of the
+    /// other types are those of their own `from_slice`, so simple packets, journal entries and unknown types never give
+    /// `OutOfMemory`.
     pub fn from_slice<B: ByteOrder>(
         alloc: Global,
         type_: BlockType,
         slice: &'a [u8],
     ) -> ResultParsing<(&'a [u8], Self)>
-        ensures tells { TellsWhere (HasLists type_) (BodySays B.number_of type_ slice.now) body_of result }
+        ensures tells { TellsWhere (BodyMayGrow B.number_of type_ slice.now) (BodySays B.number_of type_ slice.now) body_of result }
         ensures borrowed { IfOk result (λ x. ParsedIsBorrowed x.1) }
     {
         Ok(ParsedBlock::read::<B>(alloc, type_, slice)?)
@@ -58,7 +60,7 @@ impl<'a> ParsedBlock<'a> {
         type_: BlockType,
         slice: &'a [u8],
     ) -> Result<(&'a [u8], Self), Refusal>
-        ensures tells { FindsWhere (HasLists type_) (BodySays B.number_of type_ slice.now) body_of result }
+        ensures tells { FindsWhere (BodyMayGrow B.number_of type_ slice.now) (BodySays B.number_of type_ slice.now) body_of result }
         ensures borrowed { IfOk result (λ x. ParsedIsBorrowed x.1) }
     {
         match type_ {
@@ -125,23 +127,21 @@ impl<'a> ParsedBlock<'a> {
             _ => None,
         }
     }
-}
 
-impl<'a> ParsedBlock<'a> {
-    /// The same block, with bytes and texts of its own: borrowed ones are copied, owned ones kept.
+    /// The same block, with bytes and strings of its own: borrowed ones are copied, owned ones kept.
     ///
-    /// `OutOfMemory` where a copy can't be made; the value is then dropped.
+    /// `OutOfMemory` where an allocation failed; the value is then dropped.
     pub fn into_owned(self, alloc: Global) -> ResultParsing<ParsedBlock<'static>>
         ensures same { IfOk result (λ kept. body_of kept ≡ body_of self.entry) }
         ensures owned { IfOk result ParsedIsOwned }
         ensures memory { IfErr result IsMemory }
         ensures kept { ParsedNeedsNoMemory self.entry → IsOk result }
     {
-        Ok(self.keep(alloc)?)
+        Ok(self.into_static(alloc)?)
     }
 }
 
-impl<'a> KeepValue for ParsedBlock<'a> {
+impl<'a> IntoStatic for ParsedBlock<'a> {
     type Owned = ParsedBlock<'static>;
 
     ghost is_same = { λ value kept. body_of kept ≡ body_of value };
@@ -150,23 +150,29 @@ impl<'a> KeepValue for ParsedBlock<'a> {
 
     ghost needs_no_memory = { ParsedNeedsNoMemory };
 
-    fn keep(self, alloc: Global) -> Result<ParsedBlock<'static>, AllocError> {
+    fn into_static(self, alloc: Global) -> Result<ParsedBlock<'static>, AllocError> {
         Ok(match self {
-            ParsedBlock::SectionHeader(held) => ParsedBlock::SectionHeader(held.keep(alloc)?),
-            ParsedBlock::InterfaceDescription(held) => ParsedBlock::InterfaceDescription(held.keep(
+            ParsedBlock::SectionHeader(held) => ParsedBlock::SectionHeader(held.into_static(
                 alloc,
             )?),
-            ParsedBlock::Packet(held) => ParsedBlock::Packet(held.keep(alloc)?),
-            ParsedBlock::SimplePacket(held) => ParsedBlock::SimplePacket(held.keep(alloc)?),
-            ParsedBlock::NameResolution(held) => ParsedBlock::NameResolution(held.keep(alloc)?),
-            ParsedBlock::InterfaceStatistics(held) => ParsedBlock::InterfaceStatistics(held.keep(
+            ParsedBlock::InterfaceDescription(held) => ParsedBlock::InterfaceDescription(
+                held.into_static(alloc)?,
+            ),
+            ParsedBlock::Packet(held) => ParsedBlock::Packet(held.into_static(alloc)?),
+            ParsedBlock::SimplePacket(held) => ParsedBlock::SimplePacket(held.into_static(alloc)?),
+            ParsedBlock::NameResolution(held) => ParsedBlock::NameResolution(held.into_static(
                 alloc,
             )?),
-            ParsedBlock::EnhancedPacket(held) => ParsedBlock::EnhancedPacket(held.keep(alloc)?),
-            ParsedBlock::SystemdJournalExport(held) => ParsedBlock::SystemdJournalExport(held.keep(
+            ParsedBlock::InterfaceStatistics(held) => ParsedBlock::InterfaceStatistics(
+                held.into_static(alloc)?,
+            ),
+            ParsedBlock::EnhancedPacket(held) => ParsedBlock::EnhancedPacket(held.into_static(
                 alloc,
             )?),
-            ParsedBlock::Unknown(held) => ParsedBlock::Unknown(held.keep(alloc)?),
+            ParsedBlock::SystemdJournalExport(held) => ParsedBlock::SystemdJournalExport(
+                held.into_static(alloc)?,
+            ),
+            ParsedBlock::Unknown(held) => ParsedBlock::Unknown(held.into_static(alloc)?),
         })
     }
 }

@@ -1,23 +1,23 @@
 //! Records of a name resolution body.
 
-ghost use Rattle.std.specs.Prelude.{⊤, ◌≡◌, length, IsOk, IfOk, IfErr};
+ghost use Rattle.std.specs.Prelude.{◌≡◌, ◌≤◌, length, IsOk, IfOk, IfErr};
 ghost use Rattle.pcap_core.specs.Answer.{TellsWhere, TellsAllWhere};
 ghost use Rattle.pcap_core.specs.declared.rules.Rule.TheVariants.{Ipv4RecordTooShort, Ipv6RecordTooShort};
-ghost use Rattle.pcap_blocks.specs.Refusals.{FindsWhere, FindsAllWhere};
-ghost use Rattle.pcap_blocks.specs.Records.{AddressSays, form_of, RecordValueSays, RecordSays, ipv4_of, ipv6_of, name_record_of, Ipv4IsBorrowed, Ipv6IsBorrowed, RecordIsBorrowed, other_of, Ipv4IsOwned, Ipv4NeedsNoMemory, Ipv6IsOwned, Ipv6NeedsNoMemory, UnknownRecordIsOwned, RecordIsOwned, RecordNeedsNoMemory};
+ghost use Rattle.pcap_blocks.specs.Refusal.{FindsWhere, FindsAllWhere};
+ghost use Rattle.pcap_blocks.specs.Record.{AddressSays, address_of, AddressIsBorrowed, form_of, RecordValueSays, RecordSays, ipv4_of, ipv6_of, name_record_of, Ipv4IsBorrowed, Ipv6IsBorrowed, RecordIsBorrowed, other_of, Ipv4IsOwned, Ipv4NeedsNoMemory, Ipv6IsOwned, Ipv6NeedsNoMemory, UnknownRecordIsOwned, RecordIsOwned, RecordNeedsNoMemory, AddressMayGrow, RecordValueMayGrow, RecordMayGrow};
 ghost use Rattle.pcap_core.specs.Errors.{IsMemory};
 
-use pcap_core::fields::{split_padded, split_u16};
 use crate::names::names_from_slice;
-use crate::owned::{KeepValue, keep_all};
+use crate::owned::{IntoStatic, each_into_static};
 use crate::refusal::Refusal;
 use byteorder::ByteOrder;
+use pcap_core::fields::{split_padded, split_u16};
 use pcap_core::rules::Rule;
 use pcap_core::{CowBytes, ResultParsing};
 use std::alloc::{AllocError, Global};
 use std::borrow::CowStr;
 
-/// The names of an IPv4 address.
+/// The names of an IPv4 address (nrb_record_ipv4 of 'Name Resolution Block').
 #[derive(Clone, Debug, Drop)]
 pub struct Ipv4Record<'a> {
     /// The address, 4 bytes.
@@ -29,31 +29,37 @@ pub struct Ipv4Record<'a> {
 impl<'a> Ipv4Record<'a> {
     /// The address and the names that all of a record's value is. They are borrowed from the slice.
     ///
-    /// `InvalidField` under 6 bytes, then where a name has no zero byte behind it, or `Utf8Error` where one isn't
-    /// UTF-8. `OutOfMemory` where the list of names can't grow.
+    /// `InvalidField` under 6 bytes, then where a name has no zero byte after it, or `Utf8Error` where one isn't UTF-8.
+    /// `OutOfMemory` where an allocation failed, and only where a name stands.
     pub fn from_slice(alloc: Global, slice: &'a [u8]) -> ResultParsing<Self>
-        ensures tells { TellsAllWhere ⊤ (AddressSays 4 Ipv4RecordTooShort slice.now) ipv4_of result }
+        ensures tells { TellsAllWhere (AddressMayGrow 4 slice.now) (AddressSays 4 Ipv4RecordTooShort slice.now) ipv4_of result }
         ensures borrowed { IfOk result Ipv4IsBorrowed }
     {
         Ok(Ipv4Record::read(alloc, slice)?)
     }
 
     fn read(alloc: Global, slice: &'a [u8]) -> Result<Self, Refusal>
-        ensures tells { FindsAllWhere ⊤ (AddressSays 4 Ipv4RecordTooShort slice.now) ipv4_of result }
+        ensures tells { FindsAllWhere (AddressMayGrow 4 slice.now) (AddressSays 4 Ipv4RecordTooShort slice.now) ipv4_of result }
         ensures borrowed { IfOk result Ipv4IsBorrowed }
     {
-        if slice.len() < 6 {
-            return Err(Refusal::Invalid(Rule::Ipv4RecordTooShort));
-        }
-        let (ip_addr, rest) = slice.split_at(4);
-        Ok(Ipv4Record {
-            ip_addr: CowBytes::Borrowed(ip_addr),
-            names: names_from_slice(alloc, rest)?,
-        })
+        let (ip_addr, names) = address_from_slice(alloc, slice, 4, Rule::Ipv4RecordTooShort)?;
+        Ok(Ipv4Record { ip_addr, names })
+    }
+
+    /// The same record, with bytes and strings of its own: borrowed ones are copied, owned ones kept.
+    ///
+    /// `OutOfMemory` where an allocation failed; the value is then dropped.
+    pub fn into_owned(self, alloc: Global) -> ResultParsing<Ipv4Record<'static>>
+        ensures same { IfOk result (λ kept. ipv4_of kept ≡ ipv4_of self.entry) }
+        ensures owned { IfOk result Ipv4IsOwned }
+        ensures memory { IfErr result IsMemory }
+        ensures kept { Ipv4NeedsNoMemory self.entry → IsOk result }
+    {
+        Ok(self.into_static(alloc)?)
     }
 }
 
-/// The names of an IPv6 address.
+/// The names of an IPv6 address (nrb_record_ipv6 of 'Name Resolution Block').
 #[derive(Clone, Debug, Drop)]
 pub struct Ipv6Record<'a> {
     /// The address, 16 bytes.
@@ -65,31 +71,55 @@ pub struct Ipv6Record<'a> {
 impl<'a> Ipv6Record<'a> {
     /// The address and the names that all of a record's value is. They are borrowed from the slice.
     ///
-    /// `InvalidField` under 18 bytes, then where a name has no zero byte behind it, or `Utf8Error` where one isn't
-    /// UTF-8. `OutOfMemory` where the list of names can't grow.
+    /// `InvalidField` under 18 bytes, then where a name has no zero byte after it, or `Utf8Error` where one isn't
+    /// UTF-8. `OutOfMemory` where an allocation failed, and only where a name stands.
     pub fn from_slice(alloc: Global, slice: &'a [u8]) -> ResultParsing<Self>
-        ensures tells { TellsAllWhere ⊤ (AddressSays 16 Ipv6RecordTooShort slice.now) ipv6_of result }
+        ensures tells { TellsAllWhere (AddressMayGrow 16 slice.now) (AddressSays 16 Ipv6RecordTooShort slice.now) ipv6_of result }
         ensures borrowed { IfOk result Ipv6IsBorrowed }
     {
         Ok(Ipv6Record::read(alloc, slice)?)
     }
 
     fn read(alloc: Global, slice: &'a [u8]) -> Result<Self, Refusal>
-        ensures tells { FindsAllWhere ⊤ (AddressSays 16 Ipv6RecordTooShort slice.now) ipv6_of result }
+        ensures tells { FindsAllWhere (AddressMayGrow 16 slice.now) (AddressSays 16 Ipv6RecordTooShort slice.now) ipv6_of result }
         ensures borrowed { IfOk result Ipv6IsBorrowed }
     {
-        if slice.len() < 18 {
-            return Err(Refusal::Invalid(Rule::Ipv6RecordTooShort));
-        }
-        let (ip_addr, rest) = slice.split_at(16);
-        Ok(Ipv6Record {
-            ip_addr: CowBytes::Borrowed(ip_addr),
-            names: names_from_slice(alloc, rest)?,
-        })
+        let (ip_addr, names) = address_from_slice(alloc, slice, 16, Rule::Ipv6RecordTooShort)?;
+        Ok(Ipv6Record { ip_addr, names })
+    }
+
+    /// The same record, with bytes and strings of its own: borrowed ones are copied, owned ones kept.
+    ///
+    /// `OutOfMemory` where an allocation failed; the value is then dropped.
+    pub fn into_owned(self, alloc: Global) -> ResultParsing<Ipv6Record<'static>>
+        ensures same { IfOk result (λ kept. ipv6_of kept ≡ ipv6_of self.entry) }
+        ensures owned { IfOk result Ipv6IsOwned }
+        ensures memory { IfErr result IsMemory }
+        ensures kept { Ipv6NeedsNoMemory self.entry → IsOk result }
+    {
+        Ok(self.into_static(alloc)?)
     }
 }
 
-/// A record whose type has no name here.
+// The address of this width, and the names that follow it to the end of a slice.
+fn address_from_slice(
+    alloc: Global,
+    slice: &[u8],
+    width: usize,
+    too_short: Rule,
+) -> Result<(CowBytes<'_>, Vec<CowStr<'_>>), Refusal>
+    requires { width ≤ 16 }
+    ensures tells { FindsAllWhere (AddressMayGrow width slice.now) (AddressSays width too_short slice.now) (λ x. address_of x.0 x.1.items) result }
+    ensures borrowed { IfOk result (λ x. AddressIsBorrowed x.0 x.1.items) }
+{
+    if slice.len() < width + 2 {
+        return Err(Refusal::Invalid(too_short));
+    }
+    let (ip_addr, rest) = slice.split_at(width);
+    Ok((CowBytes::Borrowed(ip_addr), names_from_slice(alloc, rest)?))
+}
+
+/// A record of another type ('Name Resolution Block').
 #[derive(Clone, Debug, Drop)]
 pub struct UnknownRecord<'a> {
     /// Its type.
@@ -100,30 +130,30 @@ pub struct UnknownRecord<'a> {
     pub value: CowBytes<'a>,
 }
 
-/// A record of a name resolution body.
+/// A record of a name resolution body ('Name Resolution Block').
 #[derive(Clone, Debug, Drop)]
 pub enum Record<'a> {
-    /// The end of the records.
+    /// The end of the records (nrb_record_end, type 0).
     End,
-    /// An IPv4 address and its names.
+    /// An IPv4 address and its names (type 1).
     Ipv4(Ipv4Record<'a>),
-    /// An IPv6 address and its names.
+    /// An IPv6 address and its names (type 2).
     Ipv6(Ipv6Record<'a>),
     /// A record of another type.
     Unknown(UnknownRecord<'a>),
 }
 
 impl<'a> Record<'a> {
-    /// The record at the front of a slice, and what follows its padding. Texts and bytes are borrowed from the slice.
+    /// The record at the front of a slice, and what follows its padding. Strings and bytes are borrowed from the slice.
     ///
     /// `IoError` under 4 bytes. `InvalidField` where its value passes the slice, then where its length doesn't fit its
-    /// type, then where a name has no zero byte behind it, or `Utf8Error` where one isn't UTF-8; last `InvalidField`
-    /// where its padding passes the slice. `OutOfMemory` where the list of names can't grow.
+    /// type, then where a name has no zero byte after it, or `Utf8Error` where one isn't UTF-8; last `InvalidField`
+    /// where its padding passes the slice. `OutOfMemory` where an allocation failed, and only where a name stands.
     pub fn from_slice<B: ByteOrder>(
         alloc: Global,
         slice: &'a [u8],
     ) -> ResultParsing<(&'a [u8], Self)>
-        ensures tells { TellsWhere ⊤ (RecordSays B.number_of slice.now) name_record_of result }
+        ensures tells { TellsWhere (RecordMayGrow B.number_of slice.now) (RecordSays B.number_of slice.now) name_record_of result }
         ensures borrowed { IfOk result (λ x. RecordIsBorrowed x.1) }
     {
         Ok(Record::read::<B>(alloc, slice)?)
@@ -133,11 +163,11 @@ impl<'a> Record<'a> {
         alloc: Global,
         slice: &'a [u8],
     ) -> Result<(&'a [u8], Self), Refusal>
-        ensures tells { FindsWhere ⊤ (RecordSays B.number_of slice.now) name_record_of result }
+        ensures tells { FindsWhere (RecordMayGrow B.number_of slice.now) (RecordSays B.number_of slice.now) name_record_of result }
         ensures borrowed { IfOk result (λ x. RecordIsBorrowed x.1) }
     {
         if slice.len() < 4 {
-            return Err(Refusal::Short);
+            return Err(Refusal::Io);
         }
         let (type_, rest) = split_u16::<B>(slice);
         let (len, after) = split_u16::<B>(rest);
@@ -155,7 +185,7 @@ impl<'a> Record<'a> {
     // The record of this type whose value is all of a slice, of this length.
     fn from_value(alloc: Global, type_: u16, len: u16, value: &'a [u8]) -> Result<Self, Refusal>
         requires { len ≡ length value.now }
-        ensures tells { FindsAllWhere ⊤ (RecordValueSays (form_of type_) value.now) name_record_of result }
+        ensures tells { FindsAllWhere (RecordValueMayGrow (form_of type_) value.now) (RecordValueSays (form_of type_) value.now) name_record_of result }
         ensures borrowed { IfOk result RecordIsBorrowed }
     {
         match type_ {
@@ -175,23 +205,21 @@ impl<'a> Record<'a> {
             })),
         }
     }
-}
 
-impl<'a> Ipv4Record<'a> {
-    /// The same record, with bytes and texts of its own: borrowed ones are copied, owned ones kept.
+    /// The same record, with bytes and strings of its own: borrowed ones are copied, owned ones kept.
     ///
-    /// `OutOfMemory` where a copy can't be made; the value is then dropped.
-    pub fn into_owned(self, alloc: Global) -> ResultParsing<Ipv4Record<'static>>
-        ensures same { IfOk result (λ kept. ipv4_of kept ≡ ipv4_of self.entry) }
-        ensures owned { IfOk result Ipv4IsOwned }
+    /// `OutOfMemory` where an allocation failed; the value is then dropped.
+    pub fn into_owned(self, alloc: Global) -> ResultParsing<Record<'static>>
+        ensures same { IfOk result (λ kept. name_record_of kept ≡ name_record_of self.entry) }
+        ensures owned { IfOk result RecordIsOwned }
         ensures memory { IfErr result IsMemory }
-        ensures kept { Ipv4NeedsNoMemory self.entry → IsOk result }
+        ensures kept { RecordNeedsNoMemory self.entry → IsOk result }
     {
-        Ok(self.keep(alloc)?)
+        Ok(self.into_static(alloc)?)
     }
 }
 
-impl<'a> KeepValue for Ipv4Record<'a> {
+impl<'a> IntoStatic for Ipv4Record<'a> {
     type Owned = Ipv4Record<'static>;
 
     ghost is_same = { λ value kept. ipv4_of kept ≡ ipv4_of value };
@@ -200,30 +228,16 @@ impl<'a> KeepValue for Ipv4Record<'a> {
 
     ghost needs_no_memory = { Ipv4NeedsNoMemory };
 
-    fn keep(self, alloc: Global) -> Result<Ipv4Record<'static>, AllocError> {
+    fn into_static(self, alloc: Global) -> Result<Ipv4Record<'static>, AllocError> {
         let Ipv4Record { ip_addr, names } = self;
         Ok(Ipv4Record {
-            ip_addr: ip_addr.keep(alloc)?,
-            names: keep_all(alloc, names)?,
+            ip_addr: ip_addr.into_static(alloc)?,
+            names: each_into_static(alloc, names)?,
         })
     }
 }
 
-impl<'a> Ipv6Record<'a> {
-    /// The same record, with bytes and texts of its own: borrowed ones are copied, owned ones kept.
-    ///
-    /// `OutOfMemory` where a copy can't be made; the value is then dropped.
-    pub fn into_owned(self, alloc: Global) -> ResultParsing<Ipv6Record<'static>>
-        ensures same { IfOk result (λ kept. ipv6_of kept ≡ ipv6_of self.entry) }
-        ensures owned { IfOk result Ipv6IsOwned }
-        ensures memory { IfErr result IsMemory }
-        ensures kept { Ipv6NeedsNoMemory self.entry → IsOk result }
-    {
-        Ok(self.keep(alloc)?)
-    }
-}
-
-impl<'a> KeepValue for Ipv6Record<'a> {
+impl<'a> IntoStatic for Ipv6Record<'a> {
     type Owned = Ipv6Record<'static>;
 
     ghost is_same = { λ value kept. ipv6_of kept ≡ ipv6_of value };
@@ -232,30 +246,30 @@ impl<'a> KeepValue for Ipv6Record<'a> {
 
     ghost needs_no_memory = { Ipv6NeedsNoMemory };
 
-    fn keep(self, alloc: Global) -> Result<Ipv6Record<'static>, AllocError> {
+    fn into_static(self, alloc: Global) -> Result<Ipv6Record<'static>, AllocError> {
         let Ipv6Record { ip_addr, names } = self;
         Ok(Ipv6Record {
-            ip_addr: ip_addr.keep(alloc)?,
-            names: keep_all(alloc, names)?,
+            ip_addr: ip_addr.into_static(alloc)?,
+            names: each_into_static(alloc, names)?,
         })
     }
 }
 
 impl<'a> UnknownRecord<'a> {
-    /// The same record, with bytes and texts of its own: borrowed ones are copied, owned ones kept.
+    /// The same record, with bytes and strings of its own: borrowed ones are copied, owned ones kept.
     ///
-    /// `OutOfMemory` where a copy can't be made; the value is then dropped.
+    /// `OutOfMemory` where an allocation failed; the value is then dropped.
     pub fn into_owned(self, alloc: Global) -> ResultParsing<UnknownRecord<'static>>
         ensures same { IfOk result (λ kept. other_of kept ≡ other_of self.entry) }
         ensures owned { IfOk result UnknownRecordIsOwned }
         ensures memory { IfErr result IsMemory }
         ensures kept { UnknownRecordIsOwned self.entry → IsOk result }
     {
-        Ok(self.keep(alloc)?)
+        Ok(self.into_static(alloc)?)
     }
 }
 
-impl<'a> KeepValue for UnknownRecord<'a> {
+impl<'a> IntoStatic for UnknownRecord<'a> {
     type Owned = UnknownRecord<'static>;
 
     ghost is_same = { λ value kept. other_of kept ≡ other_of value };
@@ -264,7 +278,7 @@ impl<'a> KeepValue for UnknownRecord<'a> {
 
     ghost needs_no_memory = { UnknownRecordIsOwned };
 
-    fn keep(self, alloc: Global) -> Result<UnknownRecord<'static>, AllocError> {
+    fn into_static(self, alloc: Global) -> Result<UnknownRecord<'static>, AllocError> {
         let UnknownRecord {
             type_,
             length,
@@ -273,26 +287,12 @@ impl<'a> KeepValue for UnknownRecord<'a> {
         Ok(UnknownRecord {
             type_,
             length,
-            value: value.keep(alloc)?,
+            value: value.into_static(alloc)?,
         })
     }
 }
 
-impl<'a> Record<'a> {
-    /// The same record, with bytes and texts of its own: borrowed ones are copied, owned ones kept.
-    ///
-    /// `OutOfMemory` where a copy can't be made; the value is then dropped.
-    pub fn into_owned(self, alloc: Global) -> ResultParsing<Record<'static>>
-        ensures same { IfOk result (λ kept. name_record_of kept ≡ name_record_of self.entry) }
-        ensures owned { IfOk result RecordIsOwned }
-        ensures memory { IfErr result IsMemory }
-        ensures kept { RecordNeedsNoMemory self.entry → IsOk result }
-    {
-        Ok(self.keep(alloc)?)
-    }
-}
-
-impl<'a> KeepValue for Record<'a> {
+impl<'a> IntoStatic for Record<'a> {
     type Owned = Record<'static>;
 
     ghost is_same = { λ value kept. name_record_of kept ≡ name_record_of value };
@@ -301,12 +301,12 @@ impl<'a> KeepValue for Record<'a> {
 
     ghost needs_no_memory = { RecordNeedsNoMemory };
 
-    fn keep(self, alloc: Global) -> Result<Record<'static>, AllocError> {
+    fn into_static(self, alloc: Global) -> Result<Record<'static>, AllocError> {
         Ok(match self {
             Record::End => Record::End,
-            Record::Ipv4(held) => Record::Ipv4(held.keep(alloc)?),
-            Record::Ipv6(held) => Record::Ipv6(held.keep(alloc)?),
-            Record::Unknown(held) => Record::Unknown(held.keep(alloc)?),
+            Record::Ipv4(held) => Record::Ipv4(held.into_static(alloc)?),
+            Record::Ipv6(held) => Record::Ipv6(held.into_static(alloc)?),
+            Record::Unknown(held) => Record::Unknown(held.into_static(alloc)?),
         })
     }
 }

@@ -1,7 +1,7 @@
 //! Why bytes are not read, inside the crate.
 
 ghost use Rattle.std.specs.Prelude.{◌≡◌, alloc_error};
-ghost use Rattle.pcap_blocks.specs.Refusals.{IsShownAs};
+ghost use Rattle.pcap_blocks.specs.Refusal.{IsShownAs};
 ghost use Rattle.pcap_blocks.specs.declared.refusal.Refusal.TheVariants as refusals;
 
 use pcap_core::PcapError;
@@ -16,8 +16,8 @@ pub(crate) enum Refusal {
     /// A growth was refused.
     Memory(AllocError),
     /// A value is too short.
-    Short,
-    /// A text isn't UTF-8.
+    Io,
+    /// A string isn't UTF-8.
     Utf8(Utf8Error),
     /// A rule is broken.
     Invalid(Rule),
@@ -39,29 +39,13 @@ impl<T: Drop> From<AllocFailed<T>> for Refusal {
     }
 }
 
-impl From<Utf8Error> for Refusal {
-    ghost from_gives = { λ e r. r ≡ refusals.Utf8 e };
-
-    fn from(e: Utf8Error) -> Refusal {
-        Refusal::Utf8(e)
-    }
-}
-
-impl From<Rule> for Refusal {
-    ghost from_gives = { λ rule r. r ≡ refusals.Invalid rule };
-
-    fn from(rule: Rule) -> Refusal {
-        Refusal::Invalid(rule)
-    }
-}
-
 impl From<Refusal> for PcapError {
     ghost from_gives = { IsShownAs };
 
     fn from(refusal: Refusal) -> PcapError {
         match refusal {
             Refusal::Memory(e) => PcapError::OutOfMemory(e),
-            Refusal::Short => PcapError::IoError(io::Error::from(io::ErrorKind::UnexpectedEof)),
+            Refusal::Io => PcapError::IoError(io::Error::from(io::ErrorKind::UnexpectedEof)),
             Refusal::Utf8(e) => PcapError::Utf8Error(e),
             Refusal::Invalid(rule) => PcapError::from(rule),
         }

@@ -2,15 +2,15 @@
 
 ghost use Rattle.std.specs.Prelude.{IsOk, IfOk, ◌≡◌, IfErr};
 ghost use Rattle.pcap_core.specs.Answer.{Tells, whole};
-ghost use Rattle.pcap_blocks.specs.WholeBodies.{JournalSays, journal_of, JournalIsBorrowed, JournalIsOwned};
+ghost use Rattle.pcap_blocks.specs.SystemdJournalExport.{JournalSays, journal_of, JournalIsBorrowed, JournalIsOwned};
 ghost use Rattle.pcap_core.specs.Errors.{IsMemory};
 
-use crate::owned::KeepValue;
+use crate::owned::IntoStatic;
 use byteorder::ByteOrder;
 use pcap_core::{CowBytes, ResultParsing};
 use std::alloc::{AllocError, Global};
 
-/// The body of a systemd journal export.
+/// The body of a systemd journal export ('systemd Journal Export Block').
 #[derive(Clone, Debug, Drop)]
 pub struct SystemdJournalExportBlock<'a> {
     /// An entry in the journal export format.
@@ -18,7 +18,7 @@ pub struct SystemdJournalExportBlock<'a> {
 }
 
 impl<'a> SystemdJournalExportBlock<'a> {
-    /// The entry that a block's body is; nothing is left behind it. Its bytes are borrowed from the slice.
+    /// The entry that a block's body is; nothing is left. Its bytes are borrowed from the slice.
     pub fn from_slice<B: ByteOrder>(slice: &'a [u8]) -> ResultParsing<(&'a [u8], Self)>
         ensures tells { Tells (JournalSays slice.now) journal_of result }
         ensures borrowed { IfOk result (λ x. JournalIsBorrowed x.1) }
@@ -35,23 +35,21 @@ impl<'a> SystemdJournalExportBlock<'a> {
         };
         (&slice[slice.len()..], block)
     }
-}
 
-impl<'a> SystemdJournalExportBlock<'a> {
-    /// The same entry, with bytes and texts of its own: borrowed ones are copied, owned ones kept.
+    /// The same entry, with bytes and strings of its own: borrowed ones are copied, owned ones kept.
     ///
-    /// `OutOfMemory` where a copy can't be made; the value is then dropped.
+    /// `OutOfMemory` where an allocation failed; the value is then dropped.
     pub fn into_owned(self, alloc: Global) -> ResultParsing<SystemdJournalExportBlock<'static>>
         ensures same { IfOk result (λ kept. journal_of kept ≡ journal_of self.entry) }
         ensures owned { IfOk result JournalIsOwned }
         ensures memory { IfErr result IsMemory }
         ensures kept { JournalIsOwned self.entry → IsOk result }
     {
-        Ok(self.keep(alloc)?)
+        Ok(self.into_static(alloc)?)
     }
 }
 
-impl<'a> KeepValue for SystemdJournalExportBlock<'a> {
+impl<'a> IntoStatic for SystemdJournalExportBlock<'a> {
     type Owned = SystemdJournalExportBlock<'static>;
 
     ghost is_same = { λ value kept. journal_of kept ≡ journal_of value };
@@ -60,10 +58,10 @@ impl<'a> KeepValue for SystemdJournalExportBlock<'a> {
 
     ghost needs_no_memory = { JournalIsOwned };
 
-    fn keep(self, alloc: Global) -> Result<SystemdJournalExportBlock<'static>, AllocError> {
+    fn into_static(self, alloc: Global) -> Result<SystemdJournalExportBlock<'static>, AllocError> {
         let SystemdJournalExportBlock { journal_entry } = self;
         Ok(SystemdJournalExportBlock {
-            journal_entry: journal_entry.keep(alloc)?,
+            journal_entry: journal_entry.into_static(alloc)?,
         })
     }
 }

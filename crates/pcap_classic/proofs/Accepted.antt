@@ -6,8 +6,8 @@ use Rattle.std.specs.Io.KnownBytes.{Appends, Keeps}
 use Rattle.std.proofs.lemmas.List.Elements.{All-nil, All-cons}
 use Rattle.pcap_core.specs.declared.common.Endianness.{Endianness}
 use Rattle.pcap_core.specs.declared.common.Endianness.TheVariants.{Big, Little}
-use Rattle.pcap_core.specs.declared.common.TsResolution.{TsResolution}
-use Rattle.pcap_core.specs.declared.common.TsResolution.TheVariants.{MicroSecond, NanoSecond}
+use Rattle.pcap_classic.specs.declared.common.TsResolution.{TsResolution}
+use Rattle.pcap_classic.specs.declared.common.TsResolution.TheVariants.{MicroSecond, NanoSecond}
 use Rattle.pcap_core.specs.declared.errors.PcapError.{PcapError}
 use Rattle.pcap_classic.specs.declared.pcap.header.PcapHeader.{PcapHeader}
 use Rattle.pcap_classic.specs.declared.pcap.packet.PacketHeader.{PacketHeader}
@@ -120,7 +120,7 @@ no_header_refusal : (header : PcapHeader) (bytes after : List ℕ) (now : Option
 no_header_refusal header bytes after now failed None unfailed text refusal = refusal
 no_header_refusal header bytes after now failed (Some e) unfailed text refusal =
     let o = header_one bytes in
-    elim refusal [
+    elim refusal.1 [
       | inl io ↦ absurd (let x : true ≡ false = sym io.1 ∙ unfailed in cc)
       | inr other ↦ elim other [
         | inl short ↦ let x : whole header after ≡ lacks short.2.n = o.only (whole header after) text ∙ sym (o.only (lacks short.2.n) short.2.lack) in absurd cc

@@ -70,7 +70,7 @@ run_within under before now out_before out_now most copied run =
         | inr went ↦ elim went [
           | inl tear ↦ omega (arith, tear.none)
           | inr them ↦ elim them.packets.ends [
-            | inl outcome_of ↦ outcome_of.within
+            | inl ended ↦ ended.within
             | inr not ↦ elim not [ inl tear ↦ omega (arith, tear.fewer) | inr refused ↦ omega (arith, refused.fewer) ]
           ]
         ]
@@ -110,14 +110,14 @@ module _ (header : PcapHeader) (more : List Captured) (left rest : List ℕ) (fr
       (TakesAsked (PacketIsSaid header) (Some left) now) under (Some left) now mid out_now most copied
   ends_known under now mid out_now most copied ends =
       elim ends [
-        | inl outcome_of ↦ inl (record {
-          fine = outcome_of.fine;
-          within = outcome_of.within;
-          no_read_failed = outcome_of.no_read_failed;
-          no_write_failed = outcome_of.no_write_failed;
-          taken = outcome_of.taken;
-          out = outcome_of.out;
-          why = elim outcome_of.why [ inl end ↦ inl (all_of end) | inr full ↦ inr full ];
+        | inl ended ↦ inl (record {
+          fine = ended.fine;
+          within = ended.within;
+          no_read_failed = ended.no_read_failed;
+          no_write_failed = ended.no_write_failed;
+          taken = ended.taken;
+          out = ended.out;
+          why = elim ended.why [ inl end ↦ inl (all_of end) | inr full ↦ inr full ];
         })
         | inr not ↦ elim not [
           | inl tear ↦ inr (inl (record {
@@ -131,7 +131,7 @@ module _ (header : PcapHeader) (more : List Captured) (left rest : List ℕ) (fr
           }))
           | inr refused ↦ inr (inr (record {
             fewer = refused.fewer;
-            refused = some_more copied.fault (λ e cause. (ends_front (format_under packet_limit header) (lawful_under header) tt (Some e) left rest more now copied.read_failed copied.packets most front (refused.fewer, cause)).1) refused.refused;
+            refused = some_more copied.fault (λ e cause. (ends_front (format_under packet_limit header) (lawful_under header) tt (Some e) left rest more now copied.read_failed copied.packets most front (refused.fewer, cause, refused.part)).1) refused.refused;
             part = refused.part;
             no_write_failed = refused.no_write_failed;
             out = refused.out;

@@ -5,8 +5,8 @@ use Rattle.byteorder.specs.Numbers.{big_number-reads_back, little_number-reads_b
 use Rattle.byteorder.specs.Endian.{big_bytes, little_bytes, big_number, little_number}
 use Rattle.pcap_core.specs.declared.common.Endianness.{Endianness}
 use Rattle.pcap_core.specs.declared.common.Endianness.TheVariants.{Big, Little}
-use Rattle.pcap_core.specs.declared.common.TsResolution.{TsResolution}
-use Rattle.pcap_core.specs.declared.common.TsResolution.TheVariants.{MicroSecond, NanoSecond}
+use Rattle.pcap_classic.specs.declared.common.TsResolution.{TsResolution}
+use Rattle.pcap_classic.specs.declared.common.TsResolution.TheVariants.{MicroSecond, NanoSecond}
 use Rattle.pcap_core.specs.Answer.{Number, number_in}
 use Rattle.pcap_classic.specs.PacketText.{packet_limit, Head, RecordHeadText, IsGood, Captured, PacketText, nanoseconds}
 use Rattle.pcap_classic.specs.Written.{number_bytes, record_bytes, fraction_of, cut, IsWhole}

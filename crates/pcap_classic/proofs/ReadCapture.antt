@@ -8,7 +8,7 @@ use Rattle.std.proofs.lemmas.List.Elements.{All-tail}
 use Rattle.byteorder.specs.Endian.{big_bytes}
 use Rattle.pcap_core.specs.declared.common.Endianness.{Endianness}
 use Rattle.pcap_core.specs.declared.common.Endianness.TheVariants.{Big}
-use Rattle.pcap_core.specs.declared.common.TsResolution.{TsResolution}
+use Rattle.pcap_classic.specs.declared.common.TsResolution.{TsResolution}
 use Rattle.pcap_classic.specs.declared.pcap.header.PcapHeader.{PcapHeader}
 use Rattle.pcap_core.specs.Answer.{Number, number_in}
 use Rattle.pcap_classic.specs.Magic.{order_of, resolution_of}

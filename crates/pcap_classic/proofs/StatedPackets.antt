@@ -1,5 +1,5 @@
 -- What a packet's header states.
-use Rattle.std.proofs.Common.{◌≡◌, ◌<◌, ℕ, List, [], ◌∷◌, ◌++◌, length, drop, Bool, true, false, refl, sym, ap, subst, ◌∙◌, arith, append-nil, inr, Option, Some, None, Result, Ok, Err}
+use Rattle.std.proofs.Common.{◌≡◌, ◌<◌, ◌≤◌, ℕ, List, [], ◌∷◌, ◌++◌, length, drop, Bool, true, false, refl, sym, ap, subst, ◌∙◌, arith, append-nil, inr, Option, Result, Ok, Err, Some, None}
 use Rattle.std.proofs.lemmas.List.{drop_at}
 use Rattle.pcap_core.specs.declared.errors.PcapError.{PcapError}
 use Rattle.pcap_classic.specs.declared.pcap.header.PcapHeader.{PcapHeader}
@@ -9,15 +9,13 @@ use Rattle.pcap_core.specs.Faults.{Fault, Shows}
 use Rattle.pcap_core.specs.Format.{Format}
 use Rattle.pcap_classic.specs.Magic.{is_magic, order_of, resolution_of}
 use Rattle.pcap_classic.specs.PacketText.{packet_limit, Captured, PacketHeaderText, PacketText, LacksHead, HasHeadFault}
-use Rattle.std.specs.Prelude.{is_some}
-use Rattle.pcap_core.specs.Asked.{FillsItem}
-use Rattle.pcap_core.specs.Reading.{Pulls}
-use Rattle.pcap_classic.specs.Packets.{packet_format, choice, reader_format}
+use Rattle.pcap_core.specs.Reading.{Takes, Pulls}
+use Rattle.pcap_classic.specs.Packets.{packet_format, refusing_format, choice, reader_format}
 use Rattle.pcap_classic.proofs.Packets.{reader_says}
 use Rattle.pcap_core.proofs.Refusals.{refuses_shows, shows_more}
 use Rattle.pcap_classic.proofs.Stable.{packet_header_more}
-use Rattle.pcap_core.specs.Filling.{Stated, FillsHeaded}
-use Rattle.pcap_classic.specs.StatedPackets.{KnowsHeader, shown_in}
+use Rattle.pcap_core.specs.Filling.{Stated, FillsHeaded, TakesStated}
+use Rattle.pcap_classic.specs.StatedPackets.{KnowsHeader, held_packet}
 
 chosen_head : (b : Bool) (f g : Format (Unit {0}) Captured) → b ≡ true → (choice b f g).head ≡ f.head
 chosen_head true f g e = refl
@@ -71,16 +69,27 @@ shown_stands header head s t =
     (packet_stands header head (length t.body) t.front t.body s t.knows t.split refl)
 
 -- what was filled with was taken
-pub pulls_headed : (header : PcapHeader) (before after : Option (List ℕ)) (held : List ℕ) (failed : Bool) (result : Result (Option PacketHeader) PcapError)
+pub packet_held : (header : PcapHeader) (before after : Option (List ℕ)) (held : List ℕ) (failed : Bool) (result : Result (Option PacketHeader) PcapError)
     → FillsHeaded ((reader_format packet_limit header).says tt) (KnowsHeader header) (reader_format packet_limit header).head before after held failed result
-    → Pulls ((reader_format packet_limit header).says tt) (shown_in held) before after failed result
-pulls_headed header before after held failed (Ok (Some head)) x = (x.0, (held, shown_stands header head held x.1, x.4))
-pulls_headed header before after held failed (Ok None) x = (x.0, x.2, x.3)
-pulls_headed header before after held failed (Err e) x = x
+    → Pulls ((reader_format packet_limit header).says tt) (held_packet held) before after failed result
+packet_held header before after held failed (Ok (Some head)) x = (x.0, (held, shown_stands header head held x.1, x.4))
+packet_held header before after held failed (Ok None) x = (x.0, x.2, x.3)
+packet_held header before after held failed (Err e) x = x
 
--- what was filled with is an item
-pub fills_item : (header : PcapHeader) (before after : Option (List ℕ)) (held : List ℕ) (failed : Bool) (known : Option PacketHeader)
-    → FillsHeaded ((reader_format packet_limit header).says tt) (KnowsHeader header) (reader_format packet_limit header).head before after held failed (Ok known)
-    → FillsItem ((reader_format packet_limit header).says tt) before after held failed (Ok (is_some known))
-fills_item header before after held failed (Some head) x = (x.0, (shown_in held head, shown_stands header head held x.1), x.4)
-fills_item header before after held failed None x = x
+-- a header that was taken, and the data that it states, are a packet
+pub packet_taken : (header : PcapHeader) (head : PacketHeader) (body : List ℕ) (before after : Option (List ℕ))
+    → TakesStated ((reader_format packet_limit header).says tt) (KnowsHeader header) (reader_format packet_limit header).head before after head body
+    → Takes ((reader_format packet_limit header).says tt) before after (record { header = head; bytes = body })
+packet_taken header head body before after x =
+    let s = x.stated in
+    let stands = packet_stands header head (length s.body) s.front s.body x.bytes s.knows s.split refl in
+    (x.bytes, subst (λ (l : List ℕ). (reader_format packet_limit header).says tt x.bytes (whole (record { header = head; bytes = l }) [])) x.body_is stands, x.took)
+
+choice_within : (b : Bool) (f g : Format (Unit {0}) Captured) → f.head ≤ 16 → g.head ≤ 16 → (choice b f g).head ≤ 16
+choice_within true f g x y = x
+choice_within false f g x y = y
+
+-- no head is longer than a packet's header
+pub head_within : (header : PcapHeader) → (reader_format packet_limit header).head ≤ 16
+unfolding reader_format packet_format refusing_format
+head_within header = choice_within (is_magic header.magic_number) _ _ (omega arith) (omega arith)

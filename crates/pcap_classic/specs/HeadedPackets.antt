@@ -1,6 +1,6 @@
 -- Packets as a format with a head: what is said of the sixteen bytes of a header, and then of the data.
 use Rattle.std.specs.Prelude.{◌≡◌, ℕ, List, []}
-use Rattle.pcap_core.specs.declared.common.TsResolution.{TsResolution}
+use Rattle.pcap_classic.specs.declared.common.TsResolution.{TsResolution}
 use Rattle.pcap_classic.specs.declared.pcap.packet.PacketHeader.{PacketHeader}
 use Rattle.pcap_core.specs.Answer.{Order}
 use Rattle.pcap_classic.specs.PacketText.{Captured, PacketHeaderText, HasHeadFault}

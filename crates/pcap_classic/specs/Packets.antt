@@ -1,6 +1,6 @@
 -- The format of packets.
 use Rattle.std.specs.Prelude.{◌≡◌, ◌<◌, ℕ, List, [], length, Bool, true, false}
-use Rattle.pcap_core.specs.declared.common.TsResolution.{TsResolution}
+use Rattle.pcap_classic.specs.declared.common.TsResolution.{TsResolution}
 use Rattle.pcap_classic.specs.declared.pcap.header.PcapHeader.{PcapHeader}
 use Rattle.pcap_core.specs.declared.rules.Rule.TheVariants.{CaptureMagic}
 use Rattle.pcap_core.specs.Answer.{Order, number_in, Verdict, whole, lacks, faulty}
@@ -35,3 +35,7 @@ choice false f g = g
 -- what a reader reads under its header as it stands
 unfoldable pub reader_format : ℕ → PcapHeader → Format (Unit {0}) Captured
 reader_format limit header = choice (is_magic header.magic_number) (format_under limit header) refusing_format
+
+-- packets after any header, which is the state
+abbrev pub capture_format : ℕ → Format PcapHeader Captured
+capture_format limit = record { says = λ header. (format_under limit header).says tt; goes = λ header packet. header; head = 16 }

@@ -1,10 +1,13 @@
 -- What a reader shows.
-use Rattle.std.specs.Prelude.{◌≡◌, ◌⊎◌, ℕ, List, Bool, false, Option, Result, Ok, Err}
+use Rattle.std.specs.Prelude.{⊤, ◌≡◌, ◌⊎◌, ℕ, List, [], drop, Bool, false, Option, None, Some, Result, Ok, Err}
 use Rattle.pcap_core.specs.declared.errors.PcapError.{PcapError}
+use Rattle.pcap_classic.specs.declared.pcap.packet.PacketHeader.{PacketHeader}
 use Rattle.pcap_classic.specs.declared.pcap.reader.PcapReader.{PcapReader}
 use Rattle.pcap_core.specs.Errors.{IsIo}
 use Rattle.pcap_core.specs.Faults.{Shows}
+use Rattle.pcap_core.specs.Held.{held_bytes}
 use Rattle.pcap_classic.specs.HeaderText.{HeaderSays}
+use Rattle.pcap_classic.specs.PacketText.{Captured}
 use Rattle.pcap_core.specs.Reading.{IsFaultOf, Takes}
 
 -- the stream behind a reader
@@ -18,6 +21,20 @@ has_failed reader = reader.has_failed
 -- the reader has refused something
 abbrev pub is_done : {T : Type 0} → PcapReader T → Bool
 is_done reader = reader.is_done
+
+-- the data that a reader lends: what follows the header of the packet that it holds
+abbrev pub data_of : {T : Type 0} → PcapReader T → List ℕ
+data_of reader = drop 16 (held_bytes reader.lent)
+
+-- the packet of this header and the data that a reader lends
+abbrev pub lent_packet : {T : Type 0} → PcapReader T → PacketHeader → Captured
+lent_packet reader head = record { header = head; bytes = data_of reader }
+
+-- where a call gave no header, no data is lent
+abbrev pub LetsGo : Option (Result PacketHeader PcapError) → List ℕ → Type 0
+LetsGo (Some (Ok head)) lent = ⊤
+LetsGo (Some (Err e)) lent = lent ≡ []
+LetsGo None lent = lent ≡ []
 
 -- one call that makes a reader: the header's text was taken and no more, and nothing failed; or a read failed or the stream
 -- ended early, or the header is refused

@@ -13,5 +13,5 @@ pub record KnowsHeader (header : PcapHeader) (head : PacketHeader) (n : ℕ) (by
   pub follows : head.incl_len ≡ n
 
 -- the packet of this header whose header and data these bytes are
-abbrev pub shown_in : List ℕ → PacketHeader → Captured
-shown_in s head = record { header = head; bytes = drop 16 s }
+abbrev pub held_packet : List ℕ → PacketHeader → Captured
+held_packet bytes head = record { header = head; bytes = drop 16 bytes }

@@ -5,8 +5,8 @@ use Rattle.std.specs.List.{flat_map}
 use Rattle.byteorder.specs.Endian.{big_bytes, little_bytes}
 use Rattle.pcap_core.specs.declared.common.Endianness.{Endianness}
 use Rattle.pcap_core.specs.declared.common.Endianness.TheVariants.{Big, Little}
-use Rattle.pcap_core.specs.declared.common.TsResolution.{TsResolution}
-use Rattle.pcap_core.specs.declared.common.TsResolution.TheVariants.{MicroSecond, NanoSecond}
+use Rattle.pcap_classic.specs.declared.common.TsResolution.{TsResolution}
+use Rattle.pcap_classic.specs.declared.common.TsResolution.TheVariants.{MicroSecond, NanoSecond}
 use Rattle.pcap_classic.specs.declared.pcap.header.PcapHeader.{PcapHeader}
 use Rattle.pcap_classic.specs.declared.pcap.packet.PacketHeader.{PacketHeader}
 use Rattle.pcap_core.specs.Link.{link_number, IsPlain}

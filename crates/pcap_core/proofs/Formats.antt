@@ -10,7 +10,7 @@ use Rattle.pcap_core.specs.Answer.{Verdict, whole, lacks, faulty}
 use Rattle.pcap_core.specs.Laws.{ExactlyOne}
 use Rattle.pcap_core.specs.Format.{Format, Texts, state_after, Front, Asks, IsLawful, Extends}
 
-nil_of_length : (l : List ℕ) → length l ≡ 0 → l ≡ []
+pub nil_of_length : (l : List ℕ) → length l ≡ 0 → l ≡ []
 nil_of_length [] e = refl
 nil_of_length (x ∷ xs) e = absurd (omega (arith, e))
 
@@ -18,7 +18,7 @@ cons_same : {A : Type 0} (x y : A) (xs ys : List A) → x ≡ y → xs ≡ ys �
 cons_same x y xs ys a b = rw (a, b) refl
 
 -- of two beginnings of one list the shorter begins the longer
-beginning : (a x b y : List ℕ) → a ++ x ≡ b ++ y → length a ≤ length b → (w : List ℕ) × (b ≡ a ++ w) × (x ≡ w ++ y)
+pub beginning : (a x b y : List ℕ) → a ++ x ≡ b ++ y → length a ≤ length b → (w : List ℕ) × (b ≡ a ++ w) × (x ≡ w ++ y)
 beginning [] x b y e le = (b, refl, e)
 beginning (c ∷ a) x [] y e le = absurd (omega (arith, le))
 beginning (c ∷ a) x (d ∷ b) y e le =
@@ -263,7 +263,7 @@ module _ {S V : Type 0} (f : Format S V) (laws : IsLawful f) where
   requests_are q v t (n ∷ k ∷ m ∷ ns) text asked = absurd (omega (arith, asks_twice q (n ∷ k ∷ m ∷ ns) [] t asked))
 
   -- behind a head the request is for all the rest of the text
-  second_is_all : (q : S) (v : V) (h b : List ℕ) (k : ℕ) → f.head ≤ length h → f.says q (h ++ b) (whole v []) → f.says q h (lacks k) → k ≡ length b
+  pub second_is_all : (q : S) (v : V) (h b : List ℕ) (k : ℕ) → f.head ≤ length h → f.says q (h ++ b) (whole v []) → f.says q h (lacks k) → k ≡ length b
   second_is_all q v h b k long text ask =
       let fit : k + length {A = ℕ} [] ≤ length b = fits q k h b v [] ask text in
       elim (cases_lt k (length b)) [

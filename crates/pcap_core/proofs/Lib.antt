@@ -16,4 +16,7 @@ pub mod Verdicts
 pub mod Numbers
 pub mod OnePadded
 pub mod Kept
+pub mod Requested
+pub mod Showing
 pub mod EachRule
+pub mod Pieces

@@ -6,7 +6,7 @@ use Rattle.pcap_core.specs.declared.errors.PcapError.{PcapError}
 use Rattle.pcap_core.specs.declared.errors.PcapError.TheVariants as errors
 use Rattle.pcap_core.specs.Answer.{whole, faulty}
 use Rattle.pcap_core.specs.Early.{EarlyFault}
-use Rattle.pcap_core.specs.Faults.{Fault, Invalid, Io, NoText, Shows}
+use Rattle.pcap_core.specs.Faults.{Fault, Invalid, Io, Utf8, Shows}
 use Rattle.pcap_core.specs.Format.{Format, Texts, state_after, Front, IsLawful}
 use Rattle.pcap_core.specs.Reading.{HasCause, read_failed, no_memory, torn, refused, IsFaultOf, Takes}
 use Rattle.pcap_core.specs.Takes.{Stops, EndsFront, TakesTexts, TakesItems, ReadsFront}
@@ -19,7 +19,7 @@ takes_none f q known = record { bytes = []; texts = refl; took = Consumes-nil kn
 pub shown_fault : (Stands : Fault → Type 0) (e : PcapError) → Shows Stands e → (fault : Fault) × Stands fault
 shown_fault Stands (errors.InvalidField text) shown = (Invalid shown.0, shown.2)
 shown_fault Stands (errors.IoError x) shown = (Io, shown)
-shown_fault Stands (errors.Utf8Error x) shown = (NoText, shown)
+shown_fault Stands (errors.Utf8Error x) shown = (Utf8, shown)
 shown_fault Stands (errors.IncompleteBuffer n) shown = absurd shown
 shown_fault Stands (errors.FromUtf8Error x) shown = absurd shown
 shown_fault Stands (errors.OutOfMemory x) shown = absurd shown

@@ -48,11 +48,11 @@ text_of rules.NameUnended = codes "Non null terminated string"
 text_of rules.RecordUnpadded = codes "NameResolutionBlock: Record padding > slice.len()"
 text_of rules.UnknownTooLong = codes "UnknownBlock: length > 0xFFFFFFFF"
 
--- why bytes are refused: they break a rule, a value is too short, or a text is not UTF-8
+-- why bytes are refused: they break a rule, a value is too short, or a string is not UTF-8
 pub data Fault : Type 0 where
   Invalid : Rule → Fault
   Io : Fault
-  NoText : Fault
+  Utf8 : Fault
 
 -- the error has the text of this rule
 abbrev pub Names : Rule → PcapError → Type 0
@@ -63,5 +63,5 @@ Names rule _ = ⊥
 abbrev pub Shows : (Fault → Type 0) → PcapError → Type 0
 Shows Stands (InvalidField text) = (rule : Rule) × (text.now ≡ text_of rule) × Stands (Invalid rule)
 Shows Stands (IoError e) = Stands Io
-Shows Stands (Utf8Error e) = Stands NoText
+Shows Stands (Utf8Error e) = Stands Utf8
 Shows Stands _ = ⊥

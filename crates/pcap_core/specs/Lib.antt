@@ -13,10 +13,16 @@ pub mod Held
 pub mod Fill
 pub mod Streams
 pub mod Reading
-pub mod Asked
 pub mod Takes
 pub mod LentStreams
 pub mod Writing
 pub mod Errors
 pub mod Filling
 pub mod Padded
+pub mod Requests
+pub mod Window
+pub mod Requested
+pub mod Found
+pub mod Exact
+pub mod Pieces
+pub mod Waiting

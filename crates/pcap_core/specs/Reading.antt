@@ -63,17 +63,20 @@ NextGives IsSaid view before after false done old new (Some (Ok x)) = (done ≡ 
 NextGives IsSaid view before after false done old new (Some (Err e)) = (done ≡ true) × HasCause IsSaid before new e × TakesAsked IsSaid before after
 
 -- one call that reads a value off a stream that had not failed, and tells whether it failed then: the value's text was taken
--- and no more, or a read failed, or the stream ended before the text did, or the bytes are refused
+-- and no more; or no more than was asked for, and a read failed, or the stream ended before the text did, or the bytes are
+-- refused
 abbrev pub ReadsTold : {X V : Type 0} → (List ℕ → Verdict V → Type 0) → (X → V) → Option (List ℕ) → Option (List ℕ) → Bool → Result X PcapError → Type 0
 ReadsTold IsSaid view before after failed (Ok x) = (failed ≡ false) × Takes IsSaid before after (view x)
 ReadsTold IsSaid view before after failed (Err e) =
-    (IsIo e × (failed ≡ true)) ⊎ (IsIo e × (failed ≡ false) × IfSome before (IsShort IsSaid)) ⊎ (Shows (IsFaultOf IsSaid before) e × (failed ≡ false))
+    TakesAsked IsSaid before after
+    × ((IsIo e × (failed ≡ true)) ⊎ (IsIo e × (failed ≡ false) × IfSome before (IsShort IsSaid)) ⊎ (Shows (IsFaultOf IsSaid before) e × (failed ≡ false)))
 
 -- one call that reads a value off a borrowed stream, and grows something only under this condition: its text was taken
--- and no more, or a read failed or the stream ended early, or memory ran out, or the bytes are refused
+-- and no more; or no more than was asked for, and a read failed or the stream ended early, or memory ran out, or the bytes
+-- are refused
 abbrev pub ReadsWhere : {X V : Type 0} → Type 0 → (List ℕ → Verdict V → Type 0) → (X → V) → Option (List ℕ) → Option (List ℕ) → Result X PcapError → Type 0
 ReadsWhere MayGrow IsSaid view before after (Ok x) = Takes IsSaid before after (view x)
-ReadsWhere MayGrow IsSaid view before after (Err e) = IsIo e ⊎ (MayGrow × IsMemory e) ⊎ Shows (IsFaultOf IsSaid before) e
+ReadsWhere MayGrow IsSaid view before after (Err e) = TakesAsked IsSaid before after × (IsIo e ⊎ (MayGrow × IsMemory e) ⊎ Shows (IsFaultOf IsSaid before) e)
 
 -- the same of a call that takes no memory
 abbrev pub Reads : {X V : Type 0} → (List ℕ → Verdict V → Type 0) → (X → V) → Option (List ℕ) → Option (List ℕ) → Result X PcapError → Type 0

@@ -32,7 +32,20 @@ EndsInside n held known = IfSome known (λ rest. (length rest < n) × (0 < lengt
 abbrev pub HasCauseToFill : ℕ → List ℕ → Option (List ℕ) → Bool → Bool → PcapError → Type 0
 HasCauseToFill n held before old new e = TellsCause old new e ⊎ (IsIo e × (new ≡ old) × EndsInside n held before)
 
--- an array is what the stream gave, or a read failed, or the stream had too few bytes for it
+-- fewer than n bytes were taken
+abbrev pub TakesFewer : ℕ → Option (List ℕ) → Option (List ℕ) → Type 0
+TakesFewer n before after = (taken : List ℕ) × Consumes before after taken × (length taken < n)
+
+-- fewer than n bytes are left
+abbrev pub EndsBefore : ℕ → Option (List ℕ) → Type 0
+EndsBefore n known = IfSome known (λ rest. length rest < n)
+
+-- why no n bytes were taken: memory was refused, a read failed, or the stream ended before them
+abbrev pub HasCauseToTake : ℕ → Option (List ℕ) → Bool → Bool → PcapError → Type 0
+HasCauseToTake n before old new e = TellsCause old new e ⊎ (IsIo e × (new ≡ old) × EndsBefore n before)
+
+-- an array is what the stream gave, or fewer bytes were taken: a read failed, or the stream ended before them
 abbrev pub FillsArray : Option (List ℕ) → Option (List ℕ) → Bool → Bool → List ℕ → Result (Unit {0}) PcapError → Type 0
 FillsArray before after old new bytes (Ok u) = (new ≡ old) × Consumes before after bytes
-FillsArray before after old new bytes (Err e) = IsIo e × ((new ≡ true) ⊎ ((new ≡ old) × IfSome before (λ rest. length rest < length bytes)))
+FillsArray before after old new bytes (Err e) =
+    IsIo e × TakesFewer (length bytes) before after × ((new ≡ true) ⊎ ((new ≡ old) × EndsBefore (length bytes) before))

@@ -5,12 +5,13 @@ use Rattle.pcap_core.specs.declared.errors.PcapError.{PcapError}
 use Rattle.pcap_core.specs.Answer.{Verdict}
 use Rattle.pcap_core.specs.Errors.{IsMemory, IsIo}
 use Rattle.pcap_core.specs.Format.{Format, Texts, state_after, Front}
-use Rattle.pcap_core.specs.Reading.{HasCause}
+use Rattle.pcap_core.specs.Reading.{HasCause, TakesAsked}
 
--- why a run stopped: without a refusal at the end of the stream or at its first `most` items, else with a cause, before `most`
+-- why a run stopped: without a refusal at the end of the stream or at its first `most` items, with nothing more taken; else
+-- with a cause, before `most`, and no more taken than was asked for
 abbrev pub Stops : {V : Type 0} → (List ℕ → Verdict V → Type 0) → Option (List ℕ) → Option (List ℕ) → Bool → ℕ → ℕ → Option PcapError → Type 0
 Stops IsSaid left now failed count most None = (failed ≡ false) × Keeps left now × (IsAtEnd left ⊎ (count ≡ most))
-Stops IsSaid left now failed count most (Some e) = (count < most) × HasCause IsSaid left failed e
+Stops IsSaid left now failed count most (Some e) = (count < most) × HasCause IsSaid left failed e × TakesAsked IsSaid left now
 
 -- what that says of the front: without a refusal the items are all of it and nothing is left, or the first `most`; a refusal
 -- that is not for want of memory, where no read failed, is that of the rest, and they are all

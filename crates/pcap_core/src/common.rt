@@ -1,4 +1,4 @@
-//! What headers and packets share.
+//! The order of numbers, and bytes that are borrowed or owned.
 
 ghost use Rattle.std.specs.Prelude.{◌≡◌, ◌↔◌, IsTrue, [], ◌∷◌, length, IsOk, IfOk, IfErr};
 ghost use Rattle.pcap_core.specs.Bytes.{cow_bytes, IsBorrowed, IsOwned};
@@ -7,13 +7,6 @@ ghost use Rattle.pcap_core.specs.Errors.{IsMemory};
 use crate::ResultParsing;
 use byteorder::ByteOrder;
 use std::alloc::Global;
-
-/// What the fraction of a packet's time counts: microseconds or nanoseconds.
-#[derive(Clone, Copy, Debug, PartialEq, Eq)]
-pub enum TsResolution {
-    MicroSecond,
-    NanoSecond,
-}
 
 /// The order of the bytes of a number: the highest first, or the lowest.
 #[derive(Clone, Copy, Debug, PartialEq, Eq)]

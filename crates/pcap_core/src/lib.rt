@@ -7,9 +7,10 @@ pub mod fields;
 mod link;
 mod rest;
 pub mod rules;
+pub mod run;
 pub mod stream;
 
-pub use common::{CowBytes, Endianness, TsResolution};
+pub use common::{CowBytes, Endianness};
 pub use errors::{PcapError, ResultParsing};
 pub use link::DataLink;
 pub use rest::Rest;

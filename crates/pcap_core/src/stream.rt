@@ -3,10 +3,14 @@
 mod fill;
 mod filling;
 mod held;
+mod reading;
 mod told;
+mod writing;
 
-pub(crate) use fill::more_of;
-pub use fill::{Fill, fill_array, take_bytes};
-pub use filling::{HasHead, fill_item};
+pub use fill::Fill;
+pub use filling::{HasHead, fill_item, take_item};
 pub use held::Held;
-pub use told::{Told, put};
+pub use reading::{fill_array, take_bytes};
+pub(crate) use reading::{read_exactly, read_once};
+pub use told::Told;
+pub use writing::put;

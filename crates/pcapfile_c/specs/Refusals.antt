@@ -4,7 +4,7 @@ use Rattle.pcap_core.specs.declared.errors.PcapError.{PcapError}
 use Rattle.pcap_core.specs.declared.errors.PcapError.TheVariants as errors
 use Rattle.pcap_core.specs.declared.rules.Rule.{Rule}
 use Rattle.pcap_core.specs.Answer.{Verdict, lacks, faulty}
-use Rattle.pcap_core.specs.Faults.{Invalid, Io, NoText, text_of}
+use Rattle.pcap_core.specs.Faults.{Invalid, Io, Utf8, text_of}
 use Rattle.pcap_core.specs.Rules.{number_of}
 use Rattle.pcapfile_c.specs.declared.errors.PcapfileError.{PcapfileError}
 
@@ -32,4 +32,4 @@ abbrev pub TellsRefusal : {V : Type 0} → (Verdict V → Type 0) → PcapfileEr
 TellsRefusal IsSaid told status =
     ((status ≡ pos 1) × (told.rule ≡ 0) × IsSaid (lacks told.missing))
     ⊎ (((status ≡ pos 3) × (rule : Rule) × ShowsRule rule told × IsSaid (faulty (Invalid rule)))
-    ⊎ (((status ≡ pos 2) × SaysNoMore told × IsSaid (faulty Io)) ⊎ ((status ≡ pos 4) × SaysNoMore told × IsSaid (faulty NoText))))
+    ⊎ (((status ≡ pos 2) × SaysNoMore told × IsSaid (faulty Io)) ⊎ ((status ≡ pos 4) × SaysNoMore told × IsSaid (faulty Utf8))))

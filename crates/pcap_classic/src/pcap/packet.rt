@@ -12,18 +12,19 @@ ghost use Rattle.pcap_core.specs.Writing.{WritesAll};
 ghost use Rattle.pcap_classic.specs.Written.{fraction_of, packet_header_bytes};
 ghost use Rattle.pcap_classic.specs.PacketText.{packet_limit, Head, IsGood, IsHeadFault, spelled_header, content_of, PacketHeaderSays, PacketSays};
 
+use crate::common::TsResolution;
 use crate::pcap::PcapHeader;
 use byteorder::{BigEndian, ByteOrder, LittleEndian};
 use pcap_core::fields::split_u32;
 use pcap_core::rules::Rule;
 use pcap_core::stream::{fill_array, put, take_bytes};
-use pcap_core::{CowBytes, Endianness, PcapError, ResultParsing, TsResolution};
+use pcap_core::{CowBytes, Endianness, PcapError, ResultParsing};
 use std::alloc::Global;
 use std::io::{Read, Write};
 use std::time::Duration;
 
 /// The most bytes that a packet's stored or original length may say.
-const MOST_BYTES: u32 = 0x40000;
+const PACKET_LIMIT: u32 = 262144;
 
 /// The header of a packet, 16 bytes in a capture.
 #[derive(Clone, Copy, Debug, Default, PartialEq, Eq)]
@@ -39,6 +40,7 @@ pub struct PacketHeader {
 }
 
 // The header that four numbers spell, or the first rule that they break.
+#[inline(always)]
 fn header_of(
     ts_resolution: TsResolution,
     ts_sec: u32,
@@ -60,10 +62,10 @@ fn header_of(
             1000 * fraction
         }
     };
-    if incl_len > MOST_BYTES {
+    if incl_len > PACKET_LIMIT {
         return Err(Rule::IncludedTooLong);
     }
-    if orig_len > MOST_BYTES {
+    if orig_len > PACKET_LIMIT {
         return Err(Rule::OriginalTooLong);
     }
     if incl_len > orig_len {
@@ -187,7 +189,7 @@ impl<'a> Packet<'a> {
         ensures owned { IfOk result (λ packet. IsOwned packet.data_) }
     {
         let header = PacketHeader::from_reader::<R, B>(reader, ts_resolution)?;
-        let bytes = take_bytes(alloc, reader, header.incl_len as usize)?;
+        let bytes = take_bytes(alloc, reader, &mut false, header.incl_len as usize)?;
         Ok(Packet {
             header,
             data_: CowBytes::Owned(bytes),
@@ -275,6 +277,7 @@ impl<'a> Packet<'a> {
 }
 
 // The packet at the front of a slice under this header, and what follows it.
+#[inline(always)]
 pub(crate) fn packet_under<'a>(
     header: &PcapHeader,
     slice: &'a [u8],

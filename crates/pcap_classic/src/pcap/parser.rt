@@ -55,6 +55,7 @@ impl PcapParser {
     ///
     /// `IncompleteBuffer` where bytes are missing, 16 for the empty slice, and `InvalidField` for the first rule
     /// that the packet's header breaks. The parser stays as it is.
+    #[inline(always)]
     pub fn next_packet<'a>(&self, slice: &'a [u8]) -> ResultParsing<(&'a [u8], Packet<'a>)>
         ensures tells { let magic = (header_of self.now).magic_number in
             Tells (PacketSays packet_limit (number_in (order_of magic)) (resolution_of magic) slice.now) content_of result }

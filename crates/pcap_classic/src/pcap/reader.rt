@@ -1,28 +1,26 @@
 //! Packets of a stream.
 
-ghost use Rattle.std.specs.Prelude.{◌≡◌, ◌<◌, ⊤, false, [], length, IsTrue, OnOk, IfOk, IfErr};
+ghost use Rattle.std.specs.Prelude.{◌≡◌, ◌≤◌, max, false, [], OnOk, IfOk, IfNone};
+ghost use Rattle.pcap_core.specs.Bytes.{IsBorrowed};
 ghost use Rattle.std.specs.Borrow.{sem, Lends};
-ghost use Rattle.pcap_core.specs.Answer.{whole};
-ghost use Rattle.pcap_core.specs.Asked.{FillsItem, HoldsItem};
-ghost use Rattle.pcap_core.specs.Held.{held_bytes};
-ghost use Rattle.pcap_classic.specs.HeaderText.{HeaderSays};
-ghost use Rattle.pcap_classic.specs.Magic.{is_magic};
+ghost use Rattle.pcap_core.specs.Held.{held_bytes, room_of};
 ghost use Rattle.pcap_classic.specs.Packets.{reader_format};
 ghost use Rattle.pcap_classic.specs.PacketText.{packet_limit, content_of};
+ghost use Rattle.pcap_classic.specs.StatedPackets.{held_packet};
 ghost use Rattle.pcap_core.specs.Reading.{NextGives, Pulls};
 
-use crate::pcap::packet::packet_under;
-use crate::pcap::stated::{PacketsUnder, packet_of};
-use crate::pcap::{Packet, PcapHeader};
-use pcap_core::ResultParsing;
-use pcap_core::stream::{Held, fill_item};
+use crate::pcap::stated::PacketsUnder;
+use crate::pcap::{Packet, PacketHeader, PcapHeader};
+use pcap_core::stream::{Held, fill_item, take_item};
+use pcap_core::{CowBytes, ResultParsing};
 use std::alloc::Global;
 use std::io::Read;
 
-/// Reads the packets of a capture off a stream, one for each call of `next`.
+/// Reads the packets of a capture off a stream, one for each call of `next`, or of `next_header`, which takes no memory for
+/// each of them.
 ///
-/// `next` is None where the stream ends between packets; the next call asks the stream again. After its first refusal it
-/// is None for good. Between packets exactly the bytes of the header and of the packets were taken; a refused call has
+/// Both are None where the stream ends between packets; the next call asks the stream again. After their first refusal they
+/// are None for good. Between packets exactly the bytes of the header and of the packets were taken; a refused call has
 /// taken no more than was missing.
 #[derive(Debug, Drop)]
 pub struct PcapReader<T> {
@@ -32,39 +30,15 @@ pub struct PcapReader<T> {
     inner: T,
     has_failed: bool,
     held: Held,
+    lent: Held,
     is_done: bool,
     ghost between: { is_done ≡ false → held_bytes held ≡ [] },
     ghost unfailed: { is_done ≡ false → has_failed ≡ false },
-}
-
-// Fills what is held with the next packet. Nothing is held before it, nor where it answers false.
-pub(crate) fn fill_packet<T: Read>(
-    header: &PcapHeader,
-    stream: &mut T,
-    has_failed: &mut bool,
-    held: &mut Held,
-) -> ResultParsing<bool>
-    requires between { held_bytes held.old ≡ [] }
-    requires unfailed { has_failed.old ≡ false }
-    ensures { FillsItem ((reader_format packet_limit header.now).says tt) (T.remaining stream.old) (T.remaining stream.new) (held_bytes held.new) has_failed.new result }
-{
-    let head = fill_item(&PacketsUnder { header }, stream, has_failed, held)?;
-    Ok(head.is_some())
-}
-
-// The packet that the bytes are, lent from them.
-pub(crate) fn whole_packet<'a>(header: &PcapHeader, bytes: &'a [u8]) -> Packet<'a>
-    requires { HoldsItem ((reader_format packet_limit header.now).says tt bytes.now) }
-    ensures { (reader_format packet_limit header.now).says tt bytes.now (whole (content_of result) []) }
-{
-    match packet_under(header, bytes) {
-        Ok((_, packet)) => packet,
-        Err(_) => unreachable!(),
-    }
+    ghost room: { room_of held ≤ 16 },
 }
 
 // Takes the next packet. Nothing is held before it, nor after an `Ok`.
-pub(crate) fn pull<T: Read>(
+fn pull<T: Read>(
     alloc: Global,
     header: &PcapHeader,
     stream: &mut T,
@@ -75,20 +49,106 @@ pub(crate) fn pull<T: Read>(
     requires unfailed { has_failed.old ≡ false }
     ensures pulls { Pulls ((reader_format packet_limit header.now).says tt) content_of (T.remaining stream.old) (T.remaining stream.new) has_failed.new result }
     ensures between { OnOk result (held_bytes held.new ≡ []) }
+    ensures room { room_of held.new ≤ max (room_of held.old) 16 }
 {
-    let Some(head) = fill_item(&PacketsUnder { header }, stream, has_failed, held)? else {
+    let packets = PacketsUnder { header };
+    let Some((head, bytes)) = take_item(alloc, &packets, stream, has_failed, held)? else {
         return Ok(None);
     };
-    let packet = packet_of(header, head, held.as_slice()).to_owned(alloc)?;
-    held.clear();
-    Ok(Some(packet))
+    Ok(Some(Packet {
+        header: head,
+        data_: CowBytes::Owned(bytes),
+    }))
+}
+
+// Holds the next packet, its header too. Nothing is held before it, nor after a `None`.
+#[inline(always)]
+fn hold<T: Read>(
+    header: &PcapHeader,
+    stream: &mut T,
+    has_failed: &mut bool,
+    held: &mut Held,
+) -> ResultParsing<Option<PacketHeader>>
+    requires between { held_bytes held.old ≡ [] }
+    requires unfailed { has_failed.old ≡ false }
+    ensures pulls { Pulls ((reader_format packet_limit header.now).says tt) (held_packet (held_bytes held.new)) (T.remaining stream.old) (T.remaining stream.new) has_failed.new result }
+    ensures none { IfOk result (λ head. IfNone head (held_bytes held.new ≡ [])) }
+{
+    fill_item(&PacketsUnder { header }, stream, has_failed, held)
 }
 
 impl<T: Read + Drop> PcapReader<T> {
-    ghost use Rattle.pcap_classic.specs.Reader.{stream_of, has_failed, is_done, OpensReader};
+    ghost use Rattle.pcap_classic.specs.Reader.{stream_of, has_failed, is_done, data_of, lent_packet, LetsGo, OpensReader};
 
-    // A reader of the packets that stand behind this header.
-    pub(crate) fn behind(alloc: Global, header: PcapHeader, stream: T) -> PcapReader<T>
+    /// Reads the header of a capture off a stream, and makes a reader of the packets behind it. A refused call drops the
+    /// stream.
+    ///
+    /// `InvalidField` where the magic number is none of the four. `IoError` where a read failed, or the stream ended early.
+    pub fn new(alloc: Global, mut reader: T) -> ResultParsing<PcapReader<T>>
+        ensures { OpensReader T.remaining reader result }
+    {
+        let header = PcapHeader::from_reader(&mut reader)?;
+        Ok(PcapReader::with_header(alloc, header, reader))
+    }
+
+    /// The header of the next packet, whose data the reader lends from then on (`data`, `packet`), until it is called again.
+    /// So a packet costs no memory of its own. What it answers, and when, is said as of `next`.
+    ///
+    /// `InvalidField` for the first rule that the packet's header breaks. `IoError` where a read failed, or the stream ended
+    /// inside the packet. `OutOfMemory` where its bytes can't be held: room grows with the bytes that come, and stays.
+    pub fn next_header(&mut self) -> Option<ResultParsing<PacketHeader>>
+        ensures header { self.new.header ≡ self.old.header }
+        ensures next { NextGives ((reader_format packet_limit self.old.header).says tt) (lent_packet self.new) (T.remaining (stream_of self.old)) (T.remaining (stream_of self.new)) (is_done self.old) (is_done self.new) (has_failed self.old) (has_failed self.new) result }
+        ensures let_go { LetsGo result (data_of self.new) }
+    {
+        self.lent.clear();
+        if self.is_done {
+            return None;
+        }
+        let head = hold(
+            &self.header,
+            &mut self.inner,
+            &mut self.has_failed,
+            &mut self.lent,
+        );
+        self.is_done = head.is_err();
+        if self.is_done {
+            self.lent.clear();
+        }
+        head.transpose()
+    }
+}
+
+impl<T> PcapReader<T> {
+    ghost use Rattle.pcap_classic.specs.contracts.pcap.reader.PcapReader.{the_row as reader-row};
+    ghost use Rattle.pcap_classic.specs.LentStreams.{reader_with};
+    ghost use Rattle.pcap_classic.specs.Reader.{stream_of, has_failed, is_done, data_of, lent_packet};
+
+    /// The data of the packet whose header `next_header` gave last. Empty where it gave none.
+    pub fn data(&self) -> &[u8]
+        ensures { result.now ≡ data_of self.now }
+    {
+        let bytes = self.lent.as_slice();
+        if bytes.len() < 16 {
+            return &[];
+        }
+        let (_head, data) = bytes.split_at(16);
+        data
+    }
+
+    /// The packet whose header `next_header` gave last, its data lent by the reader.
+    pub fn packet(&self, header: PacketHeader) -> Packet<'_>
+        ensures packet { content_of result ≡ lent_packet self.now header }
+        ensures borrowed { IsBorrowed result.data_ }
+    {
+        Packet {
+            header,
+            data_: CowBytes::Borrowed(self.data()),
+        }
+    }
+
+    /// A reader of the packets of a stream whose header was read before: the stream stands after its 24 bytes.
+    pub fn with_header(alloc: Global, header: PcapHeader, stream: T) -> PcapReader<T>
         ensures header { result.header ≡ header }
         ensures stream { stream_of result ≡ stream }
         ensures unfailed { has_failed result ≡ false }
@@ -100,26 +160,10 @@ impl<T: Read + Drop> PcapReader<T> {
             inner: stream,
             has_failed: false,
             held: Held::new(alloc),
+            lent: Held::new(alloc),
             is_done: false,
         }
     }
-
-    /// Reads the header of a capture off a stream, and makes a reader of the packets behind it. A refused call drops the
-    /// stream.
-    ///
-    /// `InvalidField` where the magic number is none of the four. `IoError` where a read failed, or the stream ended early.
-    pub fn new(alloc: Global, mut reader: T) -> ResultParsing<PcapReader<T>>
-        ensures { OpensReader T.remaining reader result }
-    {
-        let header = PcapHeader::from_reader(&mut reader)?;
-        Ok(PcapReader::behind(alloc, header, reader))
-    }
-}
-
-impl<T> PcapReader<T> {
-    ghost use Rattle.pcap_classic.specs.contracts.pcap.reader.PcapReader.{the_row as reader-row};
-    ghost use Rattle.pcap_classic.specs.LentStreams.{reader_with};
-    ghost use Rattle.pcap_classic.specs.Reader.{stream_of, has_failed, is_done};
 
     /// Gives the wrapped stream back.
     pub fn into_reader(self) -> T

@@ -23,6 +23,7 @@ pub(crate) struct PacketsUnder<'a> {
 }
 
 // The packet's header at the front of a slice, and what follows it.
+#[inline(always)]
 fn header_under<'a>(header: &PcapHeader, slice: &'a [u8]) -> ResultParsing<(&'a [u8], PacketHeader)>
     requires { IsTrue (is_magic header.now.magic_number) }
     ensures tells { let magic = header.now.magic_number in
@@ -55,6 +56,7 @@ impl HasHead for PacketsUnder<'_> {
         if self.header.has_valid_magic() { 16 } else { 1 }
     }
 
+    #[inline(always)]
     fn stated(&self, bytes: &[u8]) -> ResultParsing<(PacketHeader, usize)> {
         if !self.header.has_valid_magic() {
             return Err(PcapError::from(Rule::CaptureMagic));

@@ -1,17 +1,21 @@
 //! Copies of captures, from a reader to a writer.
 
 ghost use Rattle.std.specs.Prelude.{◌≡◌, ◌≤◌, ◌↔◌, true, IsTrue, IfSome, MatchResult};
-ghost use Rattle.pcap_core.specs.Asked.{HoldsItem};
+ghost use Rattle.pcap_core.specs.Filling.{Stated};
+ghost use Rattle.pcap_classic.specs.StatedPackets.{KnowsHeader};
 ghost use Rattle.pcap_classic.specs.Copies.{CanBeUnder, IsNew, outcome_of, CopyRun, CopyFront, CopiesBehind, WritesHeld, header_under};
 ghost use Rattle.pcap_classic.specs.Magic.{is_magic};
 ghost use Rattle.pcap_classic.specs.Packets.{reader_format};
 ghost use Rattle.pcap_classic.specs.PacketText.{packet_limit};
 ghost use Rattle.pcap_classic.specs.Written.{written_under};
 
-use crate::pcap::{PcapHeader, fill_packet, put_header, put_packet, read_header, whole_packet};
+use crate::common::TsResolution;
+use crate::pcap::{
+    PacketHeader, PacketsUnder, PcapHeader, packet_of, put_header, put_packet, read_header,
+};
 use pcap_core::rules::Rule;
-use pcap_core::stream::Held;
-use pcap_core::{Endianness, PcapError, ResultParsing, TsResolution};
+use pcap_core::stream::{Held, fill_item};
+use pcap_core::{Endianness, PcapError, ResultParsing};
 use std::alloc::Global;
 use std::io::{Read, Write};
 
@@ -138,14 +142,16 @@ fn copy_packets<R: Read, W: Write>(
 {
     let mut held = Held::new(alloc);
     while copied.packets < most {
-        if !fill_packet(header, reader, &mut copied.read_failed, &mut held)? {
+        let packets = PacketsUnder { header };
+        let Some(head) = fill_item(&packets, reader, &mut copied.read_failed, &mut held)? else {
             return Ok(());
-        }
+        };
         put_held(
             writer,
             &mut copied.write_failed,
             header,
             out,
+            head,
             held.as_slice(),
         )?;
         held.clear();
@@ -154,18 +160,19 @@ fn copy_packets<R: Read, W: Write>(
     Ok(())
 }
 
-// Writes the packet that the bytes are, lent from them.
+// Writes the packet of this header that the bytes are, lent from them.
 fn put_held<W: Write>(
     writer: &mut W,
     has_failed: &mut bool,
     header: &PcapHeader,
     out: &PcapHeader,
+    head: PacketHeader,
     held: &[u8],
 ) -> ResultParsing<()>
-    requires item { HoldsItem ((reader_format packet_limit header.now).says tt held.now) }
+    requires stated { Stated (KnowsHeader header.now) (reader_format packet_limit header.now).head head held.now }
     requires written { IsTrue (is_magic out.now.magic_number) }
     ensures out { WritesHeld ((reader_format packet_limit header.now).says tt) (written_under out.now) held.now (W.contents writer.old) (W.contents writer.new) result }
     ensures told { MatchResult result (λ _. has_failed.new ≡ has_failed.old) (λ _. has_failed.new ≡ true) }
 {
-    put_packet(writer, has_failed, out, &whole_packet(header, held))
+    put_packet(writer, has_failed, out, &packet_of(header, head, held))
 }

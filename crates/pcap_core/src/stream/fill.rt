@@ -1,25 +1,19 @@
 //! A buffer that is filled from a stream as bytes are asked for.
 
-ghost use Rattle.std.specs.Prelude.{false, ◌≡◌, ◌<◌, ◌≤◌, ◌+◌, ◌⊎◌, take, drop, min, length, [], IfOk, IfErr, OnOk, OnErr};
+ghost use Rattle.std.specs.Prelude.{false, ◌≡◌, ◌<◌, ◌≤◌, ◌+◌, min, max, length, [], IfOk, IfErr, OnOk, OnErr};
 ghost use Rattle.std.specs.Borrow.{sem, Lends};
-ghost use Rattle.std.specs.Io.KnownBytes.{Keeps, Consumes, IsAtEnd};
+ghost use Rattle.std.specs.Io.KnownBytes.{Keeps, IsAtEnd};
 ghost use Rattle.pcap_core.specs.contracts.stream.fill.Fill.{the_row as fill-row};
-ghost use Rattle.pcap_core.specs.Errors.{IsMemory, IsIo};
-ghost use Rattle.pcap_core.specs.Fill.{told_of, held_of, stream_of, has_failed};
-ghost use Rattle.pcap_core.specs.Held.{held_bytes};
+ghost use Rattle.pcap_core.specs.Fill.{told_of, held_of, room_of, stream_of, has_failed};
 ghost use Rattle.pcap_core.specs.Format.{IsLawful};
 ghost use Rattle.pcap_core.specs.Filling.{FillsHeaded};
 ghost use Rattle.pcap_core.specs.LentStreams.{fill_with};
-ghost use Rattle.pcap_core.specs.Streams.{Adds, AddsFewer, TellsCause, FillGives, HasCauseToFill, FillsArray};
+ghost use Rattle.pcap_core.specs.Streams.{Adds, AddsFewer, TellsCause, FillGives, HasCauseToFill};
 
-use crate::stream::{HasHead, Held, Told, fill_item};
-use crate::{PcapError, ResultParsing};
+use crate::ResultParsing;
+use crate::stream::{HasHead, Held, Told, fill_item, read_exactly, read_once};
 use std::alloc::Global;
-use std::io;
-use std::io::{ErrorKind, Read};
-
-/// The most bytes that one read is offered room for.
-const MOST_AT_ONCE: usize = 65536;
+use std::io::Read;
 
 /// Bytes of a stream, taken as they are asked for, and held until they are let go.
 #[derive(Debug, Drop)]
@@ -33,6 +27,7 @@ impl<T> Fill<T> {
     pub fn new(alloc: Global, told: Told<T>) -> Fill<T>
         ensures told { told_of result ≡ told }
         ensures held { held_of result ≡ [] }
+        ensures room { room_of result ≡ 0 }
     {
         Fill {
             told,
@@ -47,9 +42,10 @@ impl<T> Fill<T> {
         self.held.as_slice()
     }
 
-    /// Lets the held bytes go.
+    /// Lets the held bytes go, and keeps their room.
     pub fn clear(&mut self)
         ensures held { held_of self.new ≡ [] }
+        ensures room { room_of self.new ≡ room_of self.old }
         ensures told { told_of self.new ≡ told_of self.old }
     {
         self.held.clear();
@@ -98,8 +94,9 @@ impl<T: Read> Fill<T> {
         ensures held { OnErr result (held_of self.new ≡ held_of self.old) }
         ensures kept { OnErr result (Keeps (T.remaining (stream_of self.old)) (T.remaining (stream_of self.new))) }
         ensures cause { IfErr result (TellsCause (has_failed self.old) (has_failed self.new)) }
+        ensures room { room_of self.new ≤ max (room_of self.old) (length (held_of self.old) + min n 65536) }
     {
-        step_of(
+        read_once(
             &mut self.told.inner,
             &mut self.told.has_failed,
             &mut self.held,
@@ -116,8 +113,10 @@ impl<T: Read> Fill<T> {
         ensures told { OnOk result (has_failed self.new ≡ has_failed self.old) }
         ensures part { OnErr result (AddsFewer n (held_of self.old) (held_of self.new) (T.remaining (stream_of self.old)) (T.remaining (stream_of self.new))) }
         ensures cause { IfErr result (HasCauseToFill n (held_of self.old) (T.remaining (stream_of self.old)) (has_failed self.old) (has_failed self.new)) }
+        ensures room { room_of self.new ≤ max (room_of self.old) (length (held_of self.old) + n) }
+        ensures ahead { room_of self.new ≤ max (room_of self.old) (length (held_of self.new) + 65536) }
     {
-        more_of(
+        read_exactly(
             &mut self.told.inner,
             &mut self.told.has_failed,
             &mut self.held,
@@ -131,7 +130,8 @@ impl<T: Read> Fill<T> {
         requires lawful { IsLawful (H.format item.now) }
         requires between { held_of self.old ≡ [] }
         requires unfailed { has_failed self.old ≡ false }
-        ensures { FillsHeaded ((H.format item.now).says (H.state item.now)) (H.knows item.now) (H.format item.now).head (T.remaining (stream_of self.old)) (T.remaining (stream_of self.new)) (held_of self.new) (has_failed self.new) result }
+        ensures fills { FillsHeaded ((H.format item.now).says (H.state item.now)) (H.knows item.now) (H.format item.now).head (T.remaining (stream_of self.old)) (T.remaining (stream_of self.new)) (held_of self.new) (has_failed self.new) result }
+        ensures ahead { room_of self.new ≤ max (room_of self.old) (length (held_of self.new) + 65536) }
     {
         fill_item(
             item,
@@ -140,115 +140,4 @@ impl<T: Read> Fill<T> {
             &mut self.held,
         )
     }
-}
-
-// One read, over the parts of a `Fill`: so a stream that is only borrowed is filled from too.
-pub(crate) fn step_of<T: Read>(
-    stream: &mut T,
-    has_failed: &mut bool,
-    held: &mut Held,
-    n: usize,
-) -> ResultParsing<usize>
-    requires { 0 < n }
-    ensures added { IfOk result (Adds (held_bytes held.old) (held_bytes held.new) (T.remaining stream.old) (T.remaining stream.new)) }
-    ensures most { IfOk result (λ k. k ≤ min n 65536) }
-    ensures end { IfOk result (λ k. k ≡ 0 → IsAtEnd (T.remaining stream.new)) }
-    ensures told { OnOk result (has_failed.new ≡ has_failed.old) }
-    ensures held { OnErr result (held_bytes held.new ≡ held_bytes held.old) }
-    ensures kept { OnErr result (Keeps (T.remaining stream.old) (T.remaining stream.new)) }
-    ensures cause { IfErr result (TellsCause has_failed.old has_failed.new) }
-{
-    let room = n.min(MOST_AT_ONCE);
-    held.make_room(room)?;
-    match read_at(stream, held.room.as_mut_slice(), held.len, room) {
-        Ok(taken) => {
-            held.len += taken;
-            Ok(taken)
-        }
-        Err(e) => {
-            *has_failed = true;
-            Err(PcapError::IoError(e))
-        }
-    }
-}
-
-pub(crate) fn more_of<T: Read>(
-    stream: &mut T,
-    has_failed: &mut bool,
-    held: &mut Held,
-    n: usize,
-) -> ResultParsing<bool>
-    requires { 0 < n }
-    ensures added { IfOk result (FillGives n (held_bytes held.old) (held_bytes held.new) (T.remaining stream.old) (T.remaining stream.new)) }
-    ensures told { OnOk result (has_failed.new ≡ has_failed.old) }
-    ensures part { OnErr result (AddsFewer n (held_bytes held.old) (held_bytes held.new) (T.remaining stream.old) (T.remaining stream.new)) }
-    ensures cause { IfErr result (HasCauseToFill n (held_bytes held.old) (T.remaining stream.old) has_failed.old has_failed.new) }
-{
-    let mut missing = n;
-    while missing > 0 {
-        let taken = step_of(stream, has_failed, held, missing)?;
-        if taken == 0 {
-            if held.as_slice().is_empty() {
-                return Ok(false);
-            }
-            return Err(ended_early());
-        }
-        missing -= taken;
-    }
-    Ok(true)
-}
-
-/// Takes so many bytes off a stream.
-pub fn take_bytes<T: Read>(alloc: Global, stream: &mut T, n: usize) -> ResultParsing<Vec<u8>>
-    ensures bytes { IfOk result (λ bytes. Consumes (T.remaining stream.old) (T.remaining stream.new) bytes.items) }
-    ensures count { IfOk result (λ bytes. length bytes.items ≡ n) }
-    ensures refused { IfErr result (λ e. IsMemory e ⊎ IsIo e) }
-{
-    let mut held = Held::new(alloc);
-    if n > 0 && !more_of(stream, &mut false, &mut held, n)? {
-        return Err(ended_early());
-    }
-    Ok(held.into_vec())
-}
-
-/// Fills an array from a stream, which takes no memory.
-pub fn fill_array<T: Read>(
-    stream: &mut T,
-    has_failed: &mut bool,
-    array: &mut [u8],
-) -> ResultParsing<()>
-    ensures { FillsArray (T.remaining stream.old) (T.remaining stream.new) has_failed.old has_failed.new array.new result }
-{
-    let mut at = 0;
-    while at < array.len() {
-        let room = array.len() - at;
-        match read_at(stream, array, at, room) {
-            Ok(0) => return Err(ended_early()),
-            Ok(n) => at += n,
-            Err(e) => {
-                *has_failed = true;
-                return Err(PcapError::IoError(e));
-            }
-        }
-    }
-    Ok(())
-}
-
-// One read into so many bytes from a place on.
-fn read_at<T: Read>(stream: &mut T, bytes: &mut [u8], at: usize, room: usize) -> io::Result<usize>
-    requires some { 0 < room }
-    requires within { at + room ≤ length bytes.old }
-    ensures front { take at bytes.new ≡ take at bytes.old }
-    ensures fits { IfOk result (λ n. n ≤ room) }
-    ensures came { IfOk result (λ n. Consumes (T.remaining stream.old) (T.remaining stream.new) (take n (drop at bytes.new))) }
-    ensures end { IfOk result (λ n. n ≡ 0 → IsAtEnd (T.remaining stream.new)) }
-    ensures kept { OnErr result (Keeps (T.remaining stream.old) (T.remaining stream.new)) }
-{
-    stream.read(&mut bytes[at..at + room])
-}
-
-fn ended_early() -> PcapError
-    ensures { IsIo result }
-{
-    PcapError::IoError(io::Error::new(ErrorKind::UnexpectedEof, "the stream ended early"))
 }

@@ -1,6 +1,6 @@
 //! Bytes that came from a stream.
 
-ghost use Rattle.std.specs.Prelude.{◌≡◌, ◌≤◌, ◌+◌, [], length, IfErr, OnOk, vec_len};
+ghost use Rattle.std.specs.Prelude.{◌≡◌, ◌≤◌, ◌+◌, max, [], IfOk, IfErr, OnOk, vec_len};
 ghost use Rattle.pcap_core.specs.Errors.{IsMemory};
 
 use crate::ResultParsing;
@@ -15,16 +15,29 @@ pub struct Held {
 }
 
 impl Held {
-    ghost use Rattle.pcap_core.specs.Held.{held_bytes};
+    ghost use Rattle.pcap_core.specs.Held.{held_bytes, room_of};
 
     /// Nothing, which takes no memory.
     pub fn new(alloc: Global) -> Held
-        ensures { held_bytes result ≡ [] }
+        ensures held { held_bytes result ≡ [] }
+        ensures room { room_of result ≡ 0 }
     {
         Held {
             room: Vec::new(alloc),
             len: 0,
         }
+    }
+
+    // Nothing yet, with memory for so many bytes.
+    pub(crate) fn with_capacity(alloc: Global, n: usize) -> ResultParsing<Held>
+        ensures held { IfOk result (λ made. held_bytes made ≡ []) }
+        ensures room { IfOk result (λ made. room_of made ≡ 0) }
+        ensures memory { IfErr result IsMemory }
+    {
+        Ok(Held {
+            room: Vec::with_capacity(alloc, n)?,
+            len: 0,
+        })
     }
 
     /// The bytes that are held.
@@ -45,15 +58,18 @@ impl Held {
 
     /// Lets all bytes go, and keeps their room.
     pub fn clear(&mut self)
-        ensures { held_bytes self.new ≡ [] }
+        ensures held { held_bytes self.new ≡ [] }
+        ensures room { room_of self.new ≡ room_of self.old }
     {
         self.len = 0;
     }
 
     // Makes room for so many bytes behind those that are held.
+    #[inline(always)]
     pub(crate) fn make_room(&mut self, n: usize) -> ResultParsing<()>
         requires { n ≤ 65536 }
-        ensures room { OnOk result (self.new.len + n ≤ vec_len self.new.room) }
+        ensures room { OnOk result (self.new.len + n ≤ room_of self.new) }
+        ensures most { room_of self.new ≤ max (room_of self.old) (self.old.len + n) }
         ensures len { self.new.len ≡ self.old.len }
         ensures held { held_bytes self.new ≡ held_bytes self.old }
         ensures memory { IfErr result IsMemory }

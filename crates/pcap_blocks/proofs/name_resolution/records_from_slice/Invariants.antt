@@ -1,6 +1,6 @@
 use Rattle.std.proofs.Common.{length, map, All}
 use Rattle.pcap_core.specs.Padded.{Chain}
-use Rattle.pcap_blocks.specs.Records.{name_record_of, RecordIsBorrowed}
+use Rattle.pcap_blocks.specs.Record.{name_record_of, RecordIsBorrowed}
 use Rattle.pcap_blocks.specs.NameResolution.{KeptText}
 use Rattle.pcap_blocks.proofs.name_resolution.records_from_slice.Given as goal
 

@@ -1,10 +1,10 @@
 use Rattle.std.proofs.Common.{arith}
-use Rattle.std.specs.Prelude.{⊤}
 use Rattle.std.proofs.lemmas.Result.{err_from_is_err_and}
-use Rattle.pcap_blocks.specs.PacketBody.{short}
+use Rattle.pcap_blocks.specs.Packet.{short}
 use Rattle.pcap_core.proofs.Padded.{behind_number, behind_both}
 use Rattle.pcap_blocks.proofs.StoredPackets.{packet_fails}
-use Rattle.pcap_blocks.proofs.Refusals.{Denies-weaker}
+use Rattle.pcap_blocks.proofs.Growth.{holds_after}
+use Rattle.pcap_blocks.proofs.Refusals.{denies_more}
 use Rattle.pcap_blocks.proofs.packet.PacketBlock.read.Goals as goal
 
 pub returns-then-slice-lt20-clause-tells : goal.returns-then-slice-lt20-clause-tells
@@ -14,7 +14,7 @@ pub returns-in_err-rest-clause-tells : goal.returns-in_err-rest-clause-tells
 returns-in_err-rest-clause-tells g c =
     let p = err_from_is_err_and c.from_residual.result c.from_residual.ensures.1 in
     let head = behind_both (behind_number c.split_u16-interface_id.ensures.number) (behind_number c.split_u16-drop_count.ensures.number) in
-    rw (p.1, p.2) (Denies-weaker ⊤ c.in_err-rest.field-0.0 (packet_fails _ _ _ head) c.in_err-rest.ensures.tells)
+    rw (p.1, p.2) (denies_more c.in_err-rest.field-0.0 (holds_after 4 _ _ _ head) (packet_fails _ _ _ head) c.in_err-rest.ensures.tells)
 
 pub returns-clause-tells : goal.returns-clause-tells
 returns-clause-tells g c = record {

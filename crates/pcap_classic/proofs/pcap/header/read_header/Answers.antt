@@ -31,4 +31,4 @@ returns-in_err-header g c =
     let long : length bytes ≡ 24 = omega (arith, c.fill_array.auto.array) in
     let p = err_from_is_err_and c.from_residual-in_err-header.result c.from_residual-in_err-header.ensures.1 in
     let shows : Shows (λ fault. HeaderSays bytes (faulty fault)) c.in_err-header.field-0.0 = refuses_shows (LacksHeader bytes) (λ fault. HeaderSays bytes (faulty fault)) c.in_err-header.field-0.0 (λ n lack. omega (arith, long, lack.some, lack.missing)) c.in_err-header.ensures.tells in
-    rw (p.1, p.2) (array_refused HeaderSays header_stable (λ header. header) c.in_err-header.field-0.0 bytes (omega (arith, long)) shows _ _ (g.R.Read.remaining c.fill_array.new.stream) _ (c.in_ok-fill_array.ensures.0 ∙ c.requires) c.in_ok-fill_array.ensures.1)
+    rw (p.1, p.2) (array_refused HeaderSays header_stable (λ header. header) c.in_err-header.field-0.0 bytes (omega (arith, long)) (λ s n sum some. record { some = some; missing = sum ∙ long }) shows _ (g.R.Read.remaining c.fill_array.new.stream) _ (c.in_ok-fill_array.ensures.0 ∙ c.requires) c.in_ok-fill_array.ensures.1)

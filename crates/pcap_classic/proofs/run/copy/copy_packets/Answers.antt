@@ -8,27 +8,30 @@ use Rattle.pcap_classic.specs.PacketText.{Captured, packet_limit}
 use Rattle.pcap_core.specs.Reading.{HasCause, TakesAsked}
 use Rattle.pcap_classic.proofs.Copied.{copying_none, copying_more, torn_write}
 use Rattle.pcap_classic.proofs.Captures.{under_valid}
-use Rattle.pcap_classic.proofs.Packets.{reader_whole}
+use Rattle.pcap_classic.proofs.Packets.{reader_lawful, reader_whole}
 use Rattle.pcap_classic.proofs.run.copy.copy_packets.Goals as goal
 
 pub loop-copied-init : goal.loop-copied-init
 loop-copied-init g c = record {
   so_far = subst (λ n. Copying c.args.header.now c.args.out.now (g.R.Read.remaining c.args.reader.now) (g.R.Read.remaining c.args.reader.now) (g.W.Write.contents c.args.writer.now) (g.W.Write.contents c.args.writer.now) n)
       (sym c.requires.new.none) (copying_none _ _ _ _);
-  between = c.new-held.ensures;
+  between = c.new-held.ensures.held;
   within = omega (arith, c.requires.new.none);
   read = c.requires.new.no_read_failed;
   wrote = c.requires.new.no_write_failed;
 }
 
-pub fill_packet-requires-clause-between : goal.fill_packet-requires-clause-between
-fill_packet-requires-clause-between g c = c.loop-copied.invariant.between
+pub fill_item-requires-clause-lawful : goal.fill_item-requires-clause-lawful
+fill_item-requires-clause-lawful g c = reader_lawful packet_limit c.args.header.now
 
-pub fill_packet-requires-clause-unfailed : goal.fill_packet-requires-clause-unfailed
-fill_packet-requires-clause-unfailed g c = c.loop-copied.invariant.read
+pub fill_item-requires-clause-between : goal.fill_item-requires-clause-between
+fill_item-requires-clause-between g c = c.loop-copied.invariant.between
 
-pub returns-in_err-fill_packet : goal.returns-in_err-fill_packet
-returns-in_err-fill_packet g c =
+pub fill_item-requires-clause-unfailed : goal.fill_item-requires-clause-unfailed
+fill_item-requires-clause-unfailed g c = c.loop-copied.invariant.read
+
+pub returns-in_err-head : goal.returns-in_err-head
+returns-in_err-head g c =
     let p = err_from_is_err_and c.from_residual.result c.from_residual.ensures.1 in
     record {
       left = g.R.Read.remaining c.loop-copied.reader;
@@ -36,16 +39,16 @@ returns-in_err-fill_packet g c =
       so_far = c.loop-copied.invariant.so_far;
       ends = inr (inr (record {
         fewer = omega (arith, c.loop-copied-test.true);
-        refused = rw (p.1, p.2) (under_valid packet_limit c.args.header.now c.requires.read (λ (f : Format (Unit {0}) Captured). HasCause (f.says tt) (g.R.Read.remaining c.loop-copied.reader) c.fill_packet.new.has_failed c.in_err-fill_packet.field-0.0) c.in_err-fill_packet.ensures.0);
-        part = under_valid packet_limit c.args.header.now c.requires.read (λ (f : Format (Unit {0}) Captured). TakesAsked (f.says tt) (g.R.Read.remaining c.loop-copied.reader) (g.R.Read.remaining c.fill_packet.new.stream)) c.in_err-fill_packet.ensures.1;
+        refused = rw (p.1, p.2) (under_valid packet_limit c.args.header.now c.requires.read (λ (f : Format (Unit {0}) Captured). HasCause (f.says tt) (g.R.Read.remaining c.loop-copied.reader) c.fill_item.new.has_failed c.in_err-head.field-0.0) c.in_err-head.ensures.fills.0);
+        part = under_valid packet_limit c.args.header.now c.requires.read (λ (f : Format (Unit {0}) Captured). TakesAsked (f.says tt) (g.R.Read.remaining c.loop-copied.reader) (g.R.Read.remaining c.fill_item.new.stream)) c.in_err-head.ensures.fills.1;
         no_write_failed = c.loop-copied.invariant.wrote;
         out = Keeps-refl _;
       }));
     }
 
-pub returns-then-not-branch : goal.returns-then-not-branch
-returns-then-not-branch g c =
-    let filled = rw c.if-not-branch.true at c.in_ok-fill_packet.ensures in
+pub returns-in_default : goal.returns-in_default
+returns-in_default g c =
+    let filled = rw c.in_default.is at c.in_ok-head.ensures.fills in
     record {
       left = g.R.Read.remaining c.loop-copied.reader;
       mid = g.W.Write.contents c.loop-copied.writer;
@@ -63,7 +66,7 @@ returns-then-not-branch g c =
 
 pub returns-in_err-put_held : goal.returns-in_err-put_held
 returns-in_err-put_held g c =
-    let filled = rw c.if-not-branch.false at c.in_ok-fill_packet.ensures in
+    let filled = rw c.in-Some.is at c.in_ok-head.ensures.fills in
     let wrote = c.in_err-put_held.ensures.out in
     let p = err_from_is_err_and c.from_residual-in_err-put_held.result c.from_residual-in_err-put_held.ensures.1 in
     let part = torn_write _ _ _ _ wrote.2 in
@@ -73,7 +76,7 @@ returns-in_err-put_held g c =
       so_far = c.loop-copied.invariant.so_far;
       ends = inr (inl (record {
         packet = wrote.0;
-        next = (held_bytes c.fill_packet.new.held, (reader_whole packet_limit c.args.header.now _ [] wrote.0 (rw c.as_slice.ensures at wrote.1)).1, filled.2);
+        next = (held_bytes c.fill_item.new.held, (reader_whole packet_limit c.args.header.now _ [] wrote.0 (rw c.as_slice.ensures at wrote.1)).1, filled.4);
         fewer = omega (arith, c.loop-copied-test.true);
         refused = rw (p.1, p.2) part.0;
         no_read_failed = filled.0;
@@ -84,12 +87,12 @@ returns-in_err-put_held g c =
 
 pub loop-copied-preserved : goal.loop-copied-preserved
 loop-copied-preserved g c =
-    let filled = rw c.if-not-branch.false at c.in_ok-fill_packet.ensures in
+    let filled = rw c.in-Some.is at c.in_ok-head.ensures.fills in
     let wrote = c.in_ok-put_held.ensures.out in
     record {
       so_far = copying_more _ _ _ _ _ _ _ _ _ wrote.0 c.loop-copied.invariant.so_far
-          (held_bytes c.fill_packet.new.held, (reader_whole packet_limit c.args.header.now _ [] wrote.0 (rw c.as_slice.ensures at wrote.1)).1, filled.2) wrote.2;
-      between = c.clear.ensures;
+          (held_bytes c.fill_item.new.held, (reader_whole packet_limit c.args.header.now _ [] wrote.0 (rw c.as_slice.ensures at wrote.1)).1, filled.4) wrote.2;
+      between = c.clear.ensures.held;
       within = omega (arith, c.loop-copied-test.true);
       read = filled.0;
       wrote = c.in_ok-put_held.ensures.told ∙ c.loop-copied.invariant.wrote;

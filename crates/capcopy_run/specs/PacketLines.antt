@@ -1,0 +1,35 @@
+-- What the word list writes.
+use Rattle.std.specs.Prelude.{◌≡◌, ℕ, ◌-◌, List, [], ◌++◌, length, replicate, codes}
+use Rattle.std.specs.Fmt.{decimal}
+use Rattle.pcap_classic.specs.declared.pcap.header.PcapHeader.{PcapHeader}
+use Rattle.pcap_classic.specs.declared.pcap.packet.PacketHeader.{PacketHeader}
+use Rattle.pcap_classic.specs.HeaderText.{HeaderSays}
+use Rattle.pcap_classic.specs.PacketText.{packet_limit, Captured}
+use Rattle.pcap_classic.specs.Packets.{format_under}
+use Rattle.capcopy_run.specs.Listing.{Kind}
+
+-- a number with zeros before it, to at least nine digits
+abbrev pub nine_digits : ℕ → List ℕ
+nine_digits n = replicate (9 - length (decimal n)) 48 ++ decimal n
+
+-- the line of the packet at this index: its index, its time in seconds and nanoseconds, its stored and original length
+abbrev pub packet_line : ℕ → PacketHeader → List ℕ
+packet_line index header =
+    let time = decimal header.ts_sec ++ (codes "." ++ nine_digits header.ts_nsec) in
+    let lengths = decimal header.incl_len ++ (codes "/" ++ decimal header.orig_len) in
+    decimal index ++ (codes " " ++ (time ++ (codes " " ++ (lengths ++ codes "\n"))))
+
+-- the line of a packet
+abbrev pub IsPacketLine : ℕ → Captured → List ℕ → Type 0
+IsPacketLine index packet line = line ≡ packet_line index packet.header
+
+-- classic captures: no line for the header, and one for each packet
+abbrev pub packet_lines : Kind PcapHeader (Unit {0}) Captured
+packet_lines = record {
+  opens = HeaderSays;
+  grows = ⊥;
+  heading = λ header. [];
+  format = format_under packet_limit;
+  start = λ header. tt;
+  IsLine = IsPacketLine;
+}

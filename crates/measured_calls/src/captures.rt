@@ -1,0 +1,154 @@
+//! Calls on a classic capture in memory.
+
+use pcap_classic::ResultParsing;
+use pcap_classic::pcap::{PcapParser, PcapReader, PcapWriter};
+use pcap_classic::run::{Copied, Under, copy_pcap};
+use std::alloc::Global;
+
+// The sum over the values of all passes, or nothing where no call has this name.
+pub(crate) fn passes_of(
+    alloc: Global,
+    call: &str,
+    passes: u64,
+    bytes: &[u8],
+) -> Option<ResultParsing<u64>> {
+    match call {
+        "next_packet" => Some(next_packet(passes, bytes)),
+        "next" => Some(next(alloc, passes, bytes)),
+        "next_header" => Some(next_header(alloc, passes, bytes)),
+        "write_packet" => Some(write_packet(alloc, passes, bytes)),
+        "copy" => Some(copy(alloc, passes, bytes)),
+        "memcpy" => Some(memcpy(alloc, passes, bytes)),
+        _ => None,
+    }
+}
+
+fn next_packet(passes: u64, bytes: &[u8]) -> ResultParsing<u64> {
+    let mut sum = 0u64;
+    for _ in 0..passes {
+        let (mut left, parser) = PcapParser::new(bytes)?;
+        for _ in 0..u64::MAX {
+            if left.is_empty() {
+                break;
+            }
+            let (rest, packet) = parser.next_packet(left)?;
+            sum = sum
+                .wrapping_add(u64::from(packet.header.ts_nsec))
+                .wrapping_add(packet.data_.len() as u64);
+            left = rest;
+        }
+    }
+    Ok(sum)
+}
+
+// The length of the next packet.
+fn read_one(reader: &mut PcapReader<&[u8]>) -> ResultParsing<Option<u64>> {
+    match reader.next() {
+        None => Ok(None),
+        Some(Err(error)) => Err(error),
+        Some(Ok(packet)) => Ok(Some(packet.data_.len() as u64)),
+    }
+}
+
+fn read_all(alloc: Global, bytes: &[u8]) -> ResultParsing<u64> {
+    let mut sum = 0u64;
+    let mut reader = PcapReader::new(alloc, bytes)?;
+    for _ in 0..u64::MAX {
+        match read_one(&mut reader)? {
+            None => break,
+            Some(n) => sum = sum.wrapping_add(n),
+        }
+    }
+    Ok(sum)
+}
+
+fn next(alloc: Global, passes: u64, bytes: &[u8]) -> ResultParsing<u64> {
+    let mut sum = 0u64;
+    for _ in 0..passes {
+        sum = sum.wrapping_add(read_all(alloc, bytes)?);
+    }
+    Ok(sum)
+}
+
+// The length of the next packet, which is lent.
+fn lend_one(reader: &mut PcapReader<&[u8]>) -> ResultParsing<Option<u64>> {
+    match reader.next_header() {
+        None => Ok(None),
+        Some(Err(error)) => Err(error),
+        Some(Ok(_header)) => Ok(Some(reader.data().len() as u64)),
+    }
+}
+
+fn lend_all(alloc: Global, bytes: &[u8]) -> ResultParsing<u64> {
+    let mut sum = 0u64;
+    let mut reader = PcapReader::new(alloc, bytes)?;
+    for _ in 0..u64::MAX {
+        match lend_one(&mut reader)? {
+            None => break,
+            Some(n) => sum = sum.wrapping_add(n),
+        }
+    }
+    Ok(sum)
+}
+
+fn next_header(alloc: Global, passes: u64, bytes: &[u8]) -> ResultParsing<u64> {
+    let mut sum = 0u64;
+    for _ in 0..passes {
+        sum = sum.wrapping_add(lend_all(alloc, bytes)?);
+    }
+    Ok(sum)
+}
+
+fn write_packet(alloc: Global, passes: u64, bytes: &[u8]) -> ResultParsing<u64> {
+    let (mut left, parser) = PcapParser::new(bytes)?;
+    let mut packets = Vec::new(alloc);
+    for _ in 0..u64::MAX {
+        if left.is_empty() {
+            break;
+        }
+        let (rest, packet) = parser.next_packet(left)?;
+        packets.push(packet)?;
+        left = rest;
+    }
+    let header = *parser.header();
+    let mut out: Vec<u8> = Vec::with_capacity(alloc, bytes.len())?;
+    let mut sum = 0u64;
+    for _ in 0..passes {
+        out.clear();
+        {
+            let mut writer = PcapWriter::with_header(header, &mut out)?;
+            for packet in &packets {
+                writer.write_packet(packet)?;
+            }
+        }
+        sum = sum.wrapping_add(out.len() as u64);
+    }
+    Ok(sum)
+}
+
+fn copy(alloc: Global, passes: u64, bytes: &[u8]) -> ResultParsing<u64> {
+    let mut out: Vec<u8> = Vec::with_capacity(alloc, bytes.len())?;
+    let mut sum = 0u64;
+    for _ in 0..passes {
+        out.clear();
+        let mut input = bytes;
+        let Copied { fault, .. } = copy_pcap(alloc, &mut input, &mut out, Under::Same, u64::MAX);
+        if let Some(error) = fault {
+            return Err(error);
+        }
+        sum = sum.wrapping_add(out.len() as u64);
+    }
+    Ok(sum)
+}
+
+// What is below all others: the bytes are copied, and nothing else is done.
+fn memcpy(alloc: Global, passes: u64, bytes: &[u8]) -> ResultParsing<u64> {
+    let mut out: Vec<u8> = Vec::with_capacity(alloc, bytes.len())?;
+    let mut sum = 0u64;
+    for _ in 0..passes {
+        out.clear();
+        out.extend_from_slice(bytes)?;
+        sum = sum.wrapping_add(out.len() as u64);
+    }
+    Ok(sum)
+}

@@ -1,0 +1,214 @@
+-- Bytes that are shown as they are asked for, after those of earlier items.
+use Rattle.std.proofs.Common.{◌≡◌, ◌<◌, ◌≤◌, ◌+◌, ◌-◌, ◌*◌, ℕ, List, [], ◌∷◌, ◌++◌, length, take, drop, refl, sym, ap, subst, ◌∙◌, arith, append_assoc, append-nil, length-append, length-drop, inl, inr}
+use Rattle.std.proofs.lemmas.List.{drop-take, drop-drop}
+use Rattle.std.specs.Prelude.{min}
+use Rattle.std.proofs.Math.Nat.{min-le_left, min-le_right, min-eq_left, min-eq_right}
+use Rattle.std.proofs.lemmas.Bool.{cases_lt}
+use Rattle.pcap_core.specs.declared.errors.PcapError.{PcapError}
+use Rattle.pcap_core.specs.Faults.{Fault, Shows}
+use Rattle.pcap_core.specs.Answer.{Verdict, whole, lacks, faulty}
+use Rattle.pcap_core.specs.Format.{Format, Front, state_after, IsLawful}
+use Rattle.pcap_core.specs.Requested.{ItemRequests, AsksItem}
+use Rattle.pcap_core.specs.Exact.{ExactItems}
+use Rattle.pcap_core.specs.Run.{IsRest}
+use Rattle.pcap_core.specs.declared.rest.Rest.{Rest}
+use Rattle.pcap_core.specs.declared.rest.Rest.TheVariants.{Clean, Needs, Refused}
+use Rattle.pcap_core.proofs.Formats.{lacks_no_text, fault_no_text, nothing_no_text, only, requests_left}
+use Rattle.pcap_core.proofs.Refusals.{shows_more, shown_some}
+use Rattle.pcap_core.proofs.Requested.{Asking, asking_none, asking_few, asking_more, asking_smaller, asking_item, asking_fault, asking_short, asking_told, asking_ended, items_push, items_few, item_texts, texts_long, run_few}
+
+-- fewer than were asked for are all that were left
+short_is_all : (n k left : ℕ) → k ≡ min n left → k < n → (k ≡ left) × (left < n)
+short_is_all n k left is few =
+    elim (cases_lt n left) [
+      | inl lt ↦
+          let le : n ≤ left = omega (arith, lt) in
+          absurd (omega (arith, is, few, min-eq_left le))
+      | inr le ↦
+          let same : k ≡ left = is ∙ min-eq_right le in
+          (same, omega (arith, same, few))
+    ]
+
+-- the bytes up to `shown` were shown, those after `start` in requests that stand after the earlier ones and were counted
+pub record Showing {S V : Type 0} (f : Format S V) (laws : IsLawful f) (q : S) (bytes : List ℕ) (start shown : ℕ) (earlier now : List ℕ) (first count : ℕ) : Type 0 where
+  pub m : ℕ
+  pub ns : List ℕ
+  pub sum : start + m ≡ shown
+  pub asking : Asking f laws q (drop start bytes) m ns
+  pub grown : now ≡ earlier ++ ns
+  pub counted : count ≡ first + length ns
+
+pub showing_none : {S V : Type 0} (f : Format S V) (laws : IsLawful f) (q : S) (bytes : List ℕ) (start : ℕ) (earlier : List ℕ) (first : ℕ) → Showing f laws q bytes start start earlier earlier first first
+showing_none f laws q bytes start earlier first = record {
+  m = 0;
+  ns = [];
+  sum = omega arith;
+  asking = asking_none f laws q (drop start bytes);
+  grown = sym (append-nil earlier);
+  counted = omega arith;
+}
+
+module _ {S V : Type 0} {f : Format S V} {laws : IsLawful f} {q : S} {bytes : List ℕ} {start shown : ℕ} {earlier now : List ℕ} {first count : ℕ} (a : Showing f laws q bytes start shown earlier now first count) where
+  pub showing_few : count ≤ first + 2
+  showing_few = omega (arith, a.counted, asking_few f laws q (drop start bytes) a.m a.ns a.asking)
+
+  -- what was shown is a beginning of what stands there
+  held_is : drop start (take shown bytes) ≡ take a.m (drop start bytes)
+  held_is = ap (λ (k : ℕ). drop start (take k bytes)) (sym a.sum) ∙ drop-take start a.m bytes
+
+  said : (v : Verdict V) → f.says q (drop start (take shown bytes)) v → f.says q (take a.m (drop start bytes)) v
+  said v x = subst (λ (t : List ℕ). f.says q t v) held_is x
+
+  left_is : length bytes - shown ≡ length (drop start bytes) - a.m
+  left_is = omega (arith, a.sum, length-drop start bytes)
+
+  -- a request that is met
+  pub showing_more : (n k : ℕ) → f.says q (drop start (take shown bytes)) (lacks n) → k ≡ min n (length bytes - shown) → n ≤ k → Showing f laws q bytes start (shown + k) earlier (now ++ n ∷ []) first (count + 1)
+  showing_more n k ask is met =
+      let same : k ≡ n = omega (arith, is, met, min-le_left n (length bytes - shown)) in
+      let fits : a.m + n ≤ length (drop start bytes) = omega (arith, is, met, left_is, a.asking.within, min-le_right n (length bytes - shown)) in
+      record {
+        m = a.m + n;
+        ns = a.ns ++ n ∷ [];
+        sum = omega (arith, a.sum, same);
+        asking = asking_more f laws q (drop start bytes) a.m a.ns n a.asking (said (lacks n) ask) fits;
+        grown = ap (λ (l : List ℕ). l ++ n ∷ []) a.grown ∙ append_assoc earlier a.ns (n ∷ []);
+        counted = omega (arith, a.counted, length-append a.ns (n ∷ []));
+      }
+
+  -- leaves fewer requests
+  pub showing_smaller : (n k : ℕ) → f.says q (drop start (take shown bytes)) (lacks n) → k ≡ min n (length bytes - shown) → n ≤ k
+      → requests_left f laws q (drop start (take (shown + k) bytes)) < requests_left f laws q (drop start (take shown bytes))
+  showing_smaller n k ask is met =
+      let same : k ≡ n = omega (arith, is, met, min-le_left n (length bytes - shown)) in
+      let fits : a.m + n ≤ length (drop start bytes) = omega (arith, is, met, left_is, a.asking.within, min-le_right n (length bytes - shown)) in
+      let sum : shown + k ≡ start + (a.m + n) = omega (arith, a.sum, same) in
+      let there : drop start (take (shown + k) bytes) ≡ take (a.m + n) (drop start bytes) = ap (λ (i : ℕ). drop start (take i bytes)) sum ∙ drop-take start (a.m + n) bytes in
+      rw (there, held_is) (asking_smaller f laws q (drop start bytes) a.m n (said (lacks n) ask) fits)
+
+  asked_told : ((n : ℕ) → f.says q (drop start (take shown bytes)) (lacks n) → ⊥) → AsksItem f q (drop start bytes) earlier now first count
+  asked_told none = record {
+    requests = a.ns;
+    asked = asking_told f laws q (drop start bytes) a.m a.ns a.asking (λ n x. none n (subst (λ (t : List ℕ). f.says q t (lacks n)) (sym held_is) x));
+    grown = a.grown;
+    counted = a.counted;
+  }
+
+  -- an item
+  pub showing_item : (v : V) (rest : List ℕ) → f.says q (drop start (take shown bytes)) (whole v rest) → AsksItem f q (drop start bytes) earlier now first count
+  showing_item v rest text = asked_told (λ n x. lacks_no_text f laws q n (drop start (take shown bytes)) x v rest text)
+
+  pub showing_text : (v : V) (rest : List ℕ) → f.says q (drop start (take shown bytes)) (whole v rest) → f.says q (drop start bytes) (whole v (drop shown bytes))
+  showing_text v rest text =
+      let all = asking_item f laws q (drop start bytes) a.m a.ns a.asking v rest (said (whole v rest) text) in
+      let left : drop a.m (drop start bytes) ≡ drop shown bytes = drop-drop a.m start bytes ∙ ap (λ (k : ℕ). drop k bytes) a.sum in
+      subst (λ (t : List ℕ). f.says q (drop start bytes) (whole v t)) left all
+
+  fault_lacks : (n : ℕ) (fault : Fault) → f.says q (drop start (take shown bytes)) (faulty fault) → f.says q (drop start (take shown bytes)) (lacks n) → ⊥
+  fault_lacks n fault x y =
+      let no : lacks n ≡ faulty fault = only f laws q (drop start (take shown bytes)) (lacks n) (faulty fault) y x in
+      absurd cc
+
+  -- a fault
+  pub showing_refused : (e : PcapError) → Shows (λ fault. f.says q (drop start (take shown bytes)) (faulty fault)) e → AsksItem f q (drop start bytes) earlier now first count
+  showing_refused e shows =
+      let stands : (fault : Fault) × f.says q (drop start (take shown bytes)) (faulty fault) = shown_some e shows in
+      asked_told (λ n x. fault_lacks n stands.0 stands.1 x)
+
+  pub showing_fault : (e : PcapError) → Shows (λ fault. f.says q (drop start (take shown bytes)) (faulty fault)) e → Shows (λ fault. f.says q (drop start bytes) (faulty fault)) e
+  showing_fault e shows = shows_more (λ fault x. asking_fault f laws q (drop start bytes) a.m fault (said (faulty fault) x)) e shows
+
+  -- a request that is not met
+  pub showing_ended : (n k : ℕ) → f.says q (drop start (take shown bytes)) (lacks n) → k ≡ min n (length bytes - shown) → k < n → AsksItem f q (drop start bytes) earlier (now ++ n ∷ []) first (count + 1)
+  showing_ended n k ask is few = record {
+    requests = a.ns ++ n ∷ [];
+    asked = asking_ended f laws q (drop start bytes) a.m a.ns n a.asking (said (lacks n) ask) (omega (arith, left_is, (short_is_all n k (length bytes - shown) is few).1));
+    grown = ap (λ (l : List ℕ). l ++ n ∷ []) a.grown ∙ append_assoc earlier a.ns (n ∷ []);
+    counted = omega (arith, a.counted, length-append a.ns (n ∷ []));
+  }
+
+  pub showing_lack : (n k : ℕ) → f.says q (drop start (take shown bytes)) (lacks n) → k ≡ min n (length bytes - shown) → k < n → f.says q (drop start bytes) (lacks (n - k))
+  showing_lack n k ask is few =
+      let short = short_is_all n k (length bytes - shown) is few in
+      let all : k ≡ length (drop start bytes) - a.m = omega (arith, short.0, left_is) in
+      let there = asking_short f laws q (drop start bytes) a.m n (said (lacks n) ask) (omega (arith, left_is, short.1)) in
+      subst (λ (i : ℕ). f.says q (drop start bytes) (lacks (n - i))) (sym all) there
+
+-- ---- whole runs
+
+-- the requests for these items stand after the earlier ones and were counted
+pub record Exacting {S V : Type 0} (f : Format S V) (q : S) (vs : List V) (s left earlier now : List ℕ) (first count : ℕ) : Type 0 where
+  pub ns : List ℕ
+  pub items : ItemRequests f q vs s left ns
+  pub grown : now ≡ earlier ++ ns
+  pub counted : count ≡ first + length ns
+
+pub exacting_none : {S V : Type 0} (f : Format S V) (q : S) (s earlier : List ℕ) (first : ℕ) → Exacting f q [] s s earlier earlier first first
+exacting_none f q s earlier first = record { ns = []; items = (refl, refl); grown = sym (append-nil earlier); counted = omega arith }
+
+module _ {S V : Type 0} {f : Format S V} {q : S} {vs : List V} {s mid earlier now : List ℕ} {first count : ℕ} (a : Exacting f q vs s mid earlier now first count) where
+  pub exacting_item : (v : V) {rest next : List ℕ} {more : ℕ} → AsksItem f (state_after f q vs) mid now next count more → f.says (state_after f q vs) mid (whole v rest) → Exacting f q (vs ++ v ∷ []) s rest earlier next first more
+  exacting_item v {rest = rest} asked text = record {
+    ns = a.ns ++ asked.requests;
+    items = items_push f q vs v s mid rest a.ns asked.requests a.items text asked.asked;
+    grown = asked.grown ∙ ap (λ (l : List ℕ). l ++ asked.requests) a.grown ∙ append_assoc earlier a.ns asked.requests;
+    counted = omega (arith, asked.counted, a.counted, length-append a.ns asked.requests);
+  }
+
+  -- the rest after them is refused, or lacks bytes
+  pub exacting_rest : {start used : ℕ} {bytes : List ℕ} {next : List ℕ} {more : ℕ} {rest : Rest} → s ≡ drop start bytes → mid ≡ drop used bytes → used ≤ length bytes
+      → 0 < length mid → AsksItem f (state_after f q vs) mid now next count more → IsRest (f.says (state_after f q vs)) mid rest → ExactItems f q vs bytes start used rest earlier next first more
+  exacting_rest {start = start} {used = used} {bytes = bytes} {rest = rest} from to within some asked is = record {
+    requests = a.ns ++ asked.requests;
+    asked = record {
+      for_items = a.ns;
+      at_rest = asked.requests;
+      items = rw (← from, ← to) a.items;
+      last = inr (rw (← to) some, rw (← to) asked.asked);
+      all = refl;
+    };
+    within = within;
+    rest_is = subst (λ (t : List ℕ). IsRest (f.says (state_after f q vs)) t rest) to is;
+    grown = asked.grown ∙ ap (λ (l : List ℕ). l ++ asked.requests) a.grown ∙ append_assoc earlier a.ns asked.requests;
+    counted = omega (arith, asked.counted, a.counted, length-append a.ns asked.requests);
+  }
+
+  -- nothing is left after them
+  pub exacting_end : {start used : ℕ} {bytes : List ℕ} → s ≡ drop start bytes → mid ≡ drop used bytes → used ≤ length bytes → mid ≡ [] → ExactItems f q vs bytes start used Clean earlier now first count
+  exacting_end from to within none = record {
+    requests = a.ns;
+    asked = record { for_items = a.ns; at_rest = []; items = rw (← from, ← to) a.items; last = inl (sym to ∙ none, refl); all = sym (append-nil a.ns) };
+    within = within;
+    rest_is = sym to ∙ none;
+    grown = a.grown;
+    counted = a.counted;
+  }
+
+  -- how many they are
+  pub exacting_few : count ≤ first + 2 * length vs
+  exacting_few = omega (arith, a.counted, items_few f q vs s mid a.ns a.items)
+
+  pub exacting_long : IsLawful f → length vs + length mid ≤ length s
+  exacting_long laws = texts_long f laws q vs s mid (item_texts f q vs s mid a.ns a.items)
+
+-- no item's text begins a rest
+pub rest_no_text : {S V : Type 0} (f : Format S V) → IsLawful f → (q : S) (left : List ℕ) (rest : Rest) → IsRest (f.says q) left rest → (v : V) (after : List ℕ) → f.says q left (whole v after) → ⊥
+rest_no_text f laws q left Clean is v after text = nothing_no_text f laws q v after (subst (λ (t : List ℕ). f.says q t (whole v after)) is text)
+rest_no_text f laws q left (Needs n) is v after text = lacks_no_text f laws q n left is.0 v after text
+rest_no_text f laws q left (Refused e) is v after text =
+    let stands : (fault : Fault) × f.says q left (faulty fault) = shown_some e is in
+    fault_no_text f laws q stands.0 left stands.1 v after text
+
+-- the items that were shown are the front
+pub exact_front : {S V : Type 0} {f : Format S V} {q : S} {vs : List V} {bytes : List ℕ} {start used : ℕ} {rest : Rest} {earlier now : List ℕ} {first count : ℕ} → IsLawful f
+    → ExactItems f q vs bytes start used rest earlier now first count → Front f q vs (drop start bytes) (drop used bytes)
+exact_front {f = f} {q = q} {vs = vs} {bytes = bytes} {start = start} {used = used} {rest = rest} laws x = record {
+  texts = item_texts f q vs (drop start bytes) (drop used bytes) x.asked.for_items x.asked.items;
+  longest = rest_no_text f laws (state_after f q vs) (drop used bytes) rest x.rest_is;
+}
+
+-- how many requests there are
+pub exact_few : {S V : Type 0} {f : Format S V} {q : S} {vs : List V} {bytes : List ℕ} {start used : ℕ} {rest : Rest} {earlier now : List ℕ} {first count : ℕ}
+    → ExactItems f q vs bytes start used rest earlier now first count → count ≤ first + 2 * length vs + 2
+exact_few {f = f} {q = q} {vs = vs} {bytes = bytes} {start = start} {used = used} x =
+    omega (arith, x.counted, run_few f q vs (drop start bytes) (drop used bytes) x.requests x.asked)

@@ -1,0 +1,27 @@
+-- A first block that is no section.
+use Rattle.std.proofs.Common.{◌≡◌, ℕ, List, refl, inr}
+use Rattle.pcap_core.specs.Answer.{whole}
+use Rattle.pcap_core.specs.declared.rules.Rule.TheVariants.{SectionMissing}
+use Rattle.pcap_core.specs.Faults.{Invalid}
+use Rattle.pcap_core.specs.Headed.{bad}
+use Rattle.pcap_blocks.specs.declared.parsed_block.ParsedBlock.{ParsedBlock}
+use Rattle.pcap_blocks.specs.declared.parsed_block.ParsedBlock.TheVariants as block_of
+use Rattle.pcap_blocks.specs.declared.section_header.SectionHeaderBlock.{SectionHeaderBlock}
+use Rattle.pcap_blocks.specs.ParsedBlock.{body_of}
+use Rattle.pcap_file.specs.Bodies.{SaysOfBody}
+use Rattle.pcap_file.specs.Frames.{Framed}
+use Rattle.pcap_file.specs.State.{opening, leads, Means}
+
+leads_nowhere : (p : ParsedBlock) → ((section : SectionHeaderBlock) → p ≡ block_of.SectionHeader section → ⊥) → leads opening (body_of p) ≡ bad (Invalid SectionMissing)
+leads_nowhere (block_of.SectionHeader b) none = absurd (none b refl)
+leads_nowhere (block_of.InterfaceDescription b) none = refl
+leads_nowhere (block_of.Packet b) none = refl
+leads_nowhere (block_of.SimplePacket b) none = refl
+leads_nowhere (block_of.NameResolution b) none = refl
+leads_nowhere (block_of.InterfaceStatistics b) none = refl
+leads_nowhere (block_of.EnhancedPacket b) none = refl
+leads_nowhere (block_of.SystemdJournalExport b) none = refl
+leads_nowhere (block_of.Unknown b) none = refl
+
+pub no_section : (b : Framed) (p : ParsedBlock) → ((section : SectionHeaderBlock) → p ≡ block_of.SectionHeader section → ⊥) → (rest : List ℕ) × SaysOfBody b (whole (body_of p) rest) → Means opening b (bad (Invalid SectionMissing))
+no_section b p none said = inr (body_of p, said.0, said.1, leads_nowhere p none)

@@ -1,0 +1,13 @@
+pub mod Frames
+pub mod Bodies
+pub mod State
+pub mod Blocks
+pub mod Opening
+pub mod Sections
+pub mod MarkedLists
+pub mod Parser
+pub mod Front
+pub mod Run
+pub mod Reader
+pub mod Reads
+pub mod StatedFrames

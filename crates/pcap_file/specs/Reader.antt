@@ -1,0 +1,45 @@
+-- What a reader of blocks shows.
+use Rattle.std.specs.Prelude.{◌≡◌, ℕ, List, map, Bool, false, Option, Some, Result, Ok, Err}
+use Rattle.pcap_core.specs.declared.errors.PcapError.{PcapError}
+use Rattle.pcap_core.specs.Fill as fill
+use Rattle.pcap_core.specs.Reading.{Takes}
+use Rattle.pcap_blocks.specs.SectionHeader.{Section, section_of}
+use Rattle.pcap_blocks.specs.InterfaceDescription.{Interface, interface_of}
+use Rattle.pcap_file.specs.declared.pcapng.reader.PcapNgReader.{PcapNgReader}
+use Rattle.pcap_file.specs.State.{State, within}
+use Rattle.pcap_file.specs.Opening.{OpeningSays, RefusesOpening}
+
+-- the section in force
+abbrev pub section_in_force : {T : Type 0} → PcapNgReader T → Section
+section_in_force reader = section_of reader.in_force.section
+
+-- its interfaces so far
+abbrev pub interfaces_in_force : {T : Type 0} → PcapNgReader T → List Interface
+interfaces_in_force reader = map interface_of reader.in_force.interfaces.items
+
+-- what is in force
+abbrev pub state_of : {T : Type 0} → PcapNgReader T → State
+state_of reader = within (section_in_force reader) (interfaces_in_force reader)
+
+-- the stream that a reader wraps
+abbrev pub stream_of : {T : Type 0} → PcapNgReader T → T
+stream_of reader = fill.stream_of reader.fill
+
+-- a read of it failed
+abbrev pub has_failed : {T : Type 0} → PcapNgReader T → Bool
+has_failed reader = fill.has_failed reader.fill
+
+-- the reader has refused something
+abbrev pub is_done : {T : Type 0} → PcapNgReader T → Bool
+is_done reader = reader.is_done
+
+-- one call that makes a reader: the first block's text was taken and no more, and nothing failed; or the call is refused
+abbrev pub OpensReader : {T : Type 0} → (T → Option (List ℕ)) → T → Result (PcapNgReader T) PcapError → Type 0
+OpensReader remaining stream (Ok reader) =
+    (is_done reader ≡ false) × (has_failed reader ≡ false) × Takes OpeningSays (remaining stream) (remaining (stream_of reader)) (state_of reader)
+OpensReader remaining stream (Err e) = RefusesOpening (remaining stream) e
+
+-- what is in force stays, unless a block came
+abbrev pub StaysUnlessGiven : {X : Type 0} → State → State → Option (Result X PcapError) → Type 0
+StaysUnlessGiven old new (Some (Ok x)) = Unit {0}
+StaysUnlessGiven old new _ = new ≡ old

@@ -1,0 +1,21 @@
+//! PcapNg captures: blocks in their frames, a parser and a reader of them, and their bodies.
+
+mod block;
+pub mod blocks;
+mod fields;
+mod framing;
+mod parser;
+mod reader;
+mod state;
+
+pub use block::Block;
+pub use parser::PcapNgParser;
+pub use pcap_blocks::{
+    BlockType, CustomBinaryOption, CustomUtf8Option, EnhancedPacketBlock, EnhancedPacketOption,
+    InterfaceDescriptionBlock, InterfaceDescriptionOption, InterfaceStatisticsBlock,
+    InterfaceStatisticsOption, Ipv4Record, Ipv6Record, NameResolutionBlock, NameResolutionOption,
+    PacketBlock, PacketOption, ParsedBlock, Record, SectionHeaderBlock, SectionHeaderOption,
+    SimplePacketBlock, SystemdJournalExportBlock, UnknownBlock, UnknownOption, UnknownRecord,
+    str_from_u8_null_terminated,
+};
+pub use reader::PcapNgReader;

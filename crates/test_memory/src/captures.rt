@@ -1,0 +1,103 @@
+//! Calls on captures and packets.
+
+use crate::bytes::CAPTURE;
+use crate::tell;
+use byteorder::BigEndian;
+use pcap_classic::pcap::{Packet, PcapHeader, PcapReader};
+use pcap_classic::run::{Copied, PcapRead, Under, copy_pcap, parse_pcap, read_pcap};
+use pcap_classic::stream::{Fill, Told};
+use pcap_classic::{CowBytes, PcapError, ResultParsing, TsResolution};
+use std::alloc::Global;
+use std::io::{self, Cursor};
+
+pub(crate) fn make_calls(rt: &HostRuntime) -> io::Result<()> {
+    let alloc = rt.alloc();
+    tell(rt, "parse_pcap", parse(alloc))?;
+    tell(rt, "read_pcap", read(alloc))?;
+    tell(rt, "PcapReader::next", next(alloc))?;
+    tell(rt, "copy_pcap", copy(alloc))?;
+    tell(rt, "PcapHeader::to_array", header_to_array(alloc))?;
+    tell(rt, "Packet::from_reader", packet_from_reader(alloc))?;
+    tell(rt, "Packet::to_owned", packet_to_owned(alloc))?;
+    tell(rt, "Packet::into_owned", packet_into_owned(alloc))?;
+    tell(rt, "CowBytes::into_owned", bytes_into_owned(alloc))?;
+    tell(rt, "Fill::step", fill_step(alloc))?;
+    tell(rt, "Fill::more", fill_more(alloc))
+}
+
+fn parse(alloc: Global) -> ResultParsing<()> {
+    let _run = parse_pcap(alloc, &CAPTURE)?;
+    Ok(())
+}
+
+fn read(alloc: Global) -> ResultParsing<()> {
+    let PcapRead {
+        packets: _packets,
+        fault,
+        ..
+    } = read_pcap(alloc, Cursor::new(CAPTURE), 9)?;
+    match fault {
+        None => Ok(()),
+        Some(error) => Err(error),
+    }
+}
+
+fn next(alloc: Global) -> ResultParsing<()> {
+    let mut reader = PcapReader::new(alloc, Cursor::new(CAPTURE))?;
+    match reader.next() {
+        None => Err(PcapError::InvalidField("no packet came")),
+        Some(Ok(_packet)) => Ok(()),
+        Some(Err(error)) => Err(error),
+    }
+}
+
+fn copy(alloc: Global) -> ResultParsing<()> {
+    let mut capture = Cursor::new(CAPTURE);
+    let Copied { fault, .. } = copy_pcap(alloc, &mut capture, &mut io::sink(), Under::Same, 9);
+    match fault {
+        None => Ok(()),
+        Some(error) => Err(error),
+    }
+}
+
+fn header_to_array(alloc: Global) -> ResultParsing<()> {
+    let _bytes = PcapHeader::default().to_array::<BigEndian>(alloc)?;
+    Ok(())
+}
+
+fn packet_from_reader(alloc: Global) -> ResultParsing<()> {
+    let (_header, mut text) = CAPTURE.split_at(24);
+    let _packet = Packet::from_reader::<_, BigEndian>(alloc, &mut text, TsResolution::MicroSecond)?;
+    Ok(())
+}
+
+fn packet_to_owned(alloc: Global) -> ResultParsing<()> {
+    let (_header, text) = CAPTURE.split_at(24);
+    let (_rest, packet) = Packet::from_slice::<BigEndian>(text, TsResolution::MicroSecond)?;
+    let _packet = packet.to_owned(alloc)?;
+    Ok(())
+}
+
+fn packet_into_owned(alloc: Global) -> ResultParsing<()> {
+    let (_header, text) = CAPTURE.split_at(24);
+    let (_rest, packet) = Packet::from_slice::<BigEndian>(text, TsResolution::MicroSecond)?;
+    let _packet = packet.into_owned(alloc)?;
+    Ok(())
+}
+
+fn bytes_into_owned(alloc: Global) -> ResultParsing<()> {
+    let _bytes = CowBytes::Borrowed(&CAPTURE).into_owned(alloc)?;
+    Ok(())
+}
+
+fn fill_step(alloc: Global) -> ResultParsing<()> {
+    let mut fill = Fill::new(alloc, Told::new(Cursor::new(CAPTURE)));
+    let _taken = fill.step(10)?;
+    Ok(())
+}
+
+fn fill_more(alloc: Global) -> ResultParsing<()> {
+    let mut fill = Fill::new(alloc, Told::new(Cursor::new(CAPTURE)));
+    let _is_filled = fill.more(44)?;
+    Ok(())
+}

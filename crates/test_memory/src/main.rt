@@ -1,0 +1,30 @@
+//! Makes calls that take memory, all of them twice, and says of each whether it was refused.
+#![tactic(auto)]
+
+mod bodies;
+mod bytes;
+mod captures;
+mod parts;
+mod pcapng;
+
+use pcap_classic::{PcapError, ResultParsing};
+use std::io;
+
+fn main(rt: HostRuntime) -> io::Result<()> {
+    for _turn in 0..2 {
+        captures::make_calls(&rt)?;
+        bodies::make_calls(&rt)?;
+        parts::make_calls(&rt)?;
+        pcapng::make_calls(&rt)?;
+    }
+    Ok(())
+}
+
+// Says how a call ended.
+fn tell(rt: &HostRuntime, name: &str, ended: ResultParsing<()>) -> io::Result<()> {
+    match &ended {
+        Ok(()) => println!(rt; "{name}: ok"),
+        Err(PcapError::OutOfMemory(_)) => println!(rt; "{name}: out of memory"),
+        Err(_) => println!(rt; "{name}: another error"),
+    }
+}

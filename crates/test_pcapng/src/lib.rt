@@ -1,0 +1,11 @@
+//! PcapNg captures over slices and streams: inputs with the answers that the format gives them.
+#![tactic(auto)]
+
+#[cfg(test)]
+mod parser;
+#[cfg(test)]
+mod reader;
+#[cfg(test)]
+mod runs;
+#[cfg(test)]
+mod told;

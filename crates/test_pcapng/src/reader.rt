@@ -1,0 +1,218 @@
+//! The reader, and runs over streams.
+
+use crate::runs::{REFUSED, TORN, beginning, count};
+use crate::told::{blocks, state};
+use pcap_file::pcapng::{Block, PcapNgReader};
+use pcap_file::run::{NgRead, read_pcapng};
+use pcap_file::{PcapError, ResultParsing};
+use std::alloc::Global;
+use std::io::ErrorKind;
+use std::test::Fail;
+use test_support::captures::{SECTION, SECTIONS, back, front};
+use test_support::readers::{EndsOnce, Halting};
+use test_support::rows::{bytes, rows};
+
+// The kind of the error inside an `IoError`.
+fn kind_of(error: &Option<PcapError>) -> Option<ErrorKind> {
+    match error {
+        Some(PcapError::IoError(error)) => Some(error.kind()),
+        _ => None,
+    }
+}
+
+// Whether this is what a reader gives of a capture of which so many bytes are used, and where it ends or fails.
+fn is_read(
+    read: &ResultParsing<NgRead<Halting>>,
+    used: usize,
+    kind: Option<ErrorKind>,
+    has_failed: bool,
+) -> bool {
+    match read {
+        Err(PcapError::IoError(error)) => used == 0 && kind == Some(error.kind()),
+        Err(_) => false,
+        Ok(read) => {
+            read.blocks.len() == count(used)
+                && kind_of(&read.fault) == kind
+                && read.fault.is_some() == kind.is_some()
+                && read.reader.failed() == has_failed
+        }
+    }
+}
+
+#[test]
+fn every_beginning(rt: HostRuntime) -> Result<(), Fail> {
+    for step in [1, 5, 100] {
+        for end in 0..97 {
+            let stream = Halting::new(rt.alloc(), front(&SECTIONS, end), step)?;
+            let read = read_pcapng(rt.alloc(), stream, 9);
+            let (used, wanted) = beginning(end);
+            let kind = if wanted == end {
+                None
+            } else {
+                Some(ErrorKind::UnexpectedEof)
+            };
+            assert!(rt; is_read(&read, used, kind, false), "at {end}");
+        }
+    }
+    Ok(())
+}
+
+#[test]
+fn every_failed_read(rt: HostRuntime) -> Result<(), Fail> {
+    for kind in [ErrorKind::Other, ErrorKind::Interrupted] {
+        // the call that fails comes after so many bytes, one a call
+        for end in 0..97usize {
+            let mut stream = Halting::new(rt.alloc(), &SECTIONS, 1)?;
+            stream.fails_at = end.saturating_add(1);
+            stream.kind = kind;
+            let read = read_pcapng(rt.alloc(), stream, 9);
+            let (used, _wanted) = beginning(end);
+            assert!(rt; is_read(&read, used, Some(kind), true), "at {end}");
+        }
+    }
+    Ok(())
+}
+
+#[test]
+fn most_blocks(rt: HostRuntime) -> Result<(), Fail> {
+    // how many blocks are wanted, what comes, and how many bytes are taken
+    let rows = [
+        (0, "Big 1.0 -1 [] with", 28),
+        (
+            1,
+            "InterfaceDescription/20/20/Big Big 1.0 -1 [] with ETHERNET/262144/[]",
+            48,
+        ),
+        (
+            2,
+            "InterfaceDescription/20/20/Big SectionHeader/28/28/Little Little 1.0 -1 [] with",
+            76,
+        ),
+        (
+            3,
+            "InterfaceDescription/20/20/Big SectionHeader/28/28/Little InterfaceDescription/20/20/Little Little 1.0 -1 [] with ETHERNET/262144/[]",
+            96,
+        ),
+    ];
+    for step in [1, 100] {
+        for (most, told, taken) in rows {
+            let stream = Halting::new(rt.alloc(), &SECTIONS, step)?;
+            let read = read_pcapng(rt.alloc(), stream, most)?;
+            let blocks = blocks(rt.alloc(), read.blocks.as_slice())?;
+            let state = state(rt.alloc(), read.reader.section(), read.reader.interfaces())?;
+            let shown = format!(in rt.alloc(); "{blocks}{state}")?;
+            assert_eq!(rt; shown.as_str(), told);
+            assert!(rt; read.fault.is_none() && read.reader.get_ref().taken == taken);
+        }
+    }
+    Ok(())
+}
+
+#[test]
+fn first_blocks(rt: HostRuntime) -> Result<(), Fail> {
+    for step in [1, 100] {
+        for (digits, told) in rows(rt.alloc(), REFUSED)? {
+            let bytes = bytes(rt.alloc(), digits)?;
+            let stream = Halting::new(rt.alloc(), bytes.as_slice(), step)?;
+            let error = PcapNgReader::new(rt.alloc(), stream).err();
+            let shown = format!(in rt.alloc(); "{error:?}")?;
+            let told = format!(in rt.alloc(); "Some({told})")?;
+            assert_eq!(rt; shown.as_str(), told.as_str(), "at {digits}");
+        }
+        for (digits, _told) in rows(rt.alloc(), TORN)? {
+            let bytes = bytes(rt.alloc(), digits)?;
+            let stream = Halting::new(rt.alloc(), bytes.as_slice(), step)?;
+            let error = PcapNgReader::new(rt.alloc(), stream).err();
+            assert!(rt;
+                kind_of(&error) == Some(ErrorKind::UnexpectedEof),
+                "at {digits}"
+            );
+        }
+    }
+    Ok(())
+}
+
+// What a reader gives next, as text.
+fn next(alloc: Global, reader: &mut PcapNgReader<Halting>) -> Result<String, Fail> {
+    match reader.next() {
+        None => Ok(String::from_str(alloc, "None")?),
+        Some(Ok(block)) => Ok(format!(in alloc; "{:?}", block.type_)?),
+        Some(Err(PcapError::IoError(error))) => Ok(format!(in alloc; "{:?}", error.kind())?),
+        Some(Err(error)) => Ok(format!(in alloc; "{error:?}")?),
+    }
+}
+
+#[test]
+fn refused_blocks(rt: HostRuntime) -> Result<(), Fail> {
+    let table = r#"
+        000000ff 0000000d => UnexpectedEof
+        000000ff fffffffc 00000000 => UnexpectedEof
+        000000ff 0000000d 00000000 => InvalidField("Block: (initial_len % 4) != 0")
+        000000ff 00000008 00000000 => InvalidField("Block: initial_len < 12")
+        000000ff 0000000c 00000010 => InvalidField("Block initial_length != trailer_length")
+        00000001 00000010 00000001 00000010 00 => InvalidField("InterfaceDescriptionBlock: block length < 8")
+        0a0d0d0a 10000000 4d3c2b1a 10000000 => InvalidField("SectionHeaderBlock: block length < 16")
+        00000001 0000001c 0001 0000 00040000 0bac 0003 616263 00 0000001c => UnexpectedEof
+        => None
+    "#;
+    for step in [1, 100] {
+        for (digits, told) in rows(rt.alloc(), table)? {
+            let mut all = bytes(rt.alloc(), "00000001 00000014 0001 0000 00040000 00000014")?;
+            all.extend_from_slice(bytes(rt.alloc(), digits)?.as_slice())?;
+            let mut whole = Vec::from_slice(rt.alloc(), &SECTION)?;
+            whole.extend_from_slice(all.as_slice())?;
+            let stream = Halting::new(rt.alloc(), whole.as_slice(), step)?;
+            let mut reader = PcapNgReader::new(rt.alloc(), stream)?;
+            assert_eq!(rt;
+                next(rt.alloc(), &mut reader)?.as_str(),
+                "InterfaceDescription"
+            );
+            assert_eq!(rt;
+                next(rt.alloc(), &mut reader)?.as_str(),
+                told,
+                "at {digits}"
+            );
+            assert_eq!(rt; next(rt.alloc(), &mut reader)?.as_str(), "None");
+            let state = state(rt.alloc(), reader.section(), reader.interfaces())?;
+            assert_eq!(rt; state.as_str(), "Big 1.0 -1 [] with ETHERNET/262144/[]");
+            assert!(rt; !reader.failed());
+        }
+    }
+    Ok(())
+}
+
+#[test]
+fn a_stream_that_goes_on(rt: HostRuntime) -> Result<(), Fail> {
+    for step in [1, 100] {
+        let stream = EndsOnce {
+            first: front(&SECTIONS, 48),
+            second: back(&SECTIONS, 48),
+            step,
+            has_ended: false,
+        };
+        let mut reader = PcapNgReader::new(rt.alloc(), stream)?;
+        for is_block in [true, false, true, true, false, false] {
+            assert!(rt; !reader.failed());
+            let is_next = matches!(reader.next(), Some(Ok(_)));
+            assert_eq!(rt; is_next, is_block);
+        }
+        let state = state(rt.alloc(), reader.section(), reader.interfaces())?;
+        assert_eq!(rt; state.as_str(), "Little 1.0 -1 [] with ETHERNET/262144/[]");
+    }
+    Ok(())
+}
+
+#[test]
+fn a_block_that_lies(rt: HostRuntime) -> Result<(), Fail> {
+    let mut bytes = Vec::from_slice(rt.alloc(), &SECTION)?;
+    bytes.extend_from_slice(&[0, 0, 0, 0xff, 0xff, 0xff, 0xff, 0xfc])?;
+    bytes.resize(28 + 8 + 100_000, 0)?;
+    for step in [1000, 1_000_000] {
+        let stream = Halting::new(rt.alloc(), bytes.as_slice(), step)?;
+        let mut reader = PcapNgReader::new(rt.alloc(), stream)?;
+        assert_eq!(rt; next(rt.alloc(), &mut reader)?.as_str(), "UnexpectedEof");
+        assert_eq!(rt; next(rt.alloc(), &mut reader)?.as_str(), "None");
+        assert_eq!(rt; reader.get_ref().most_room, 65_536);
+    }
+    Ok(())
+}

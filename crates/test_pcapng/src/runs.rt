@@ -1,0 +1,147 @@
+//! Whole runs over slices.
+
+use crate::told::{blocks, state};
+use pcap_file::pcapng::Block;
+use pcap_file::run::{NgRun, Rest, parse_pcapng};
+use pcap_file::{PcapError, ResultParsing};
+use std::alloc::Global;
+use std::test::Fail;
+use test_support::captures::{SECTIONS, front};
+use test_support::rows::{bytes, rows};
+
+// What the run over these digits comes to: its blocks, what is in force after them, how many bytes it takes, and what
+// stands after them.
+fn run(alloc: Global, digits: &str) -> Result<String, Fail> {
+    let bytes = bytes(alloc, digits)?;
+    let run = match parse_pcapng(alloc, bytes.as_slice()) {
+        Ok(run) => run,
+        Err(error) => return Ok(format!(in alloc; "{error:?}")?),
+    };
+    let blocks = blocks(alloc, run.blocks.as_slice())?;
+    let state = state(alloc, run.parser.section(), run.parser.interfaces())?;
+    Ok(format!(in alloc; "{blocks}{state} used {} {:?}", run.used, run.rest)?)
+}
+
+#[test]
+fn runs(rt: HostRuntime) -> Result<(), Fail> {
+    let table = r#"
+        => Big 1.0 -1 [] with used 28 Clean
+        00000001 00000014 0001 0000 00040000 00000014 0a0d0d0a 1c000000 4d3c2b1a 0100 0000 ffffffffffffffff 1c000000 01000000 14000000 0100 0000 00000400 14000000 => InterfaceDescription/20/20/Big SectionHeader/28/28/Little InterfaceDescription/20/20/Little Little 1.0 -1 [] with ETHERNET/262144/[] used 96 Clean
+        00000001 00000014 0001 0000 00040000 00000014 01000000 10000000 01000000 10000000 => InterfaceDescription/20/20/Big Big 1.0 -1 [] with ETHERNET/262144/[] used 48 Needs(268435440)
+        00000001 00000014 0001 0000 00040000 00000014 00000001 00000010 00000001 00000010 => InterfaceDescription/20/20/Big Big 1.0 -1 [] with ETHERNET/262144/[] used 48 Refused(InvalidField("InterfaceDescriptionBlock: block length < 8"))
+        000000ff 0000000c 0000000c => Unknown(255)/12/12/Big Big 1.0 -1 [] with used 40 Clean
+        000000ff 0000000d 00000000 => Big 1.0 -1 [] with used 28 Refused(InvalidField("Block: (initial_len % 4) != 0"))
+        000000ff 00000008 00000000 => Big 1.0 -1 [] with used 28 Refused(InvalidField("Block: initial_len < 12"))
+        000000ff 00000006 00000000 => Big 1.0 -1 [] with used 28 Refused(InvalidField("Block: (initial_len % 4) != 0"))
+        000000ff 0000000c 0000000d => Big 1.0 -1 [] with used 28 Refused(InvalidField("Block initial_length != trailer_length"))
+        000000ff fffffffc 00000000 => Big 1.0 -1 [] with used 28 Needs(4294967280)
+        000000ff 0000000d => Big 1.0 -1 [] with used 28 Needs(4)
+        0a0d0d0a 0000000d 00000000 => Big 1.0 -1 [] with used 28 Refused(InvalidField("SectionHeaderBlock: invalid magic number"))
+        0a0d0d0a 00000024 1a2b3c4d 0001 0000 ffffffffffffffff 0001 0002 6869 0000 00000024 => SectionHeader/36/36/Big Big 1.0 -1 [Comment("hi")] with used 64 Clean
+        00000006 0000000c 0000000c 00000005 00000010 ffffffff 00000010 => EnhancedPacket/12/12/Big InterfaceStatistics/16/16/Big Big 1.0 -1 [] with used 56 Clean
+        00000001 0000001c 0001 0000 00040000 0002 0001 ff 000000 0000001c => Big 1.0 -1 [] with used 28 Refused(Utf8Error(Utf8Error { valid_up_to: 0, error_len: Some(1) }))
+    "#;
+    for (digits, told) in rows(rt.alloc(), table)? {
+        let digits = format!(in rt.alloc();
+            "0a0d0d0a 0000001c 1a2b3c4d 0001 0000 ffffffffffffffff 0000001c {digits}"
+        )?;
+        let run = run(rt.alloc(), digits.as_str())?;
+        assert_eq!(rt; run.as_str(), told, "at {digits}");
+    }
+    Ok(())
+}
+
+/// First blocks with which no capture begins, and what a parser says of them.
+pub const REFUSED: &str = r#"
+    0a0d0d0a 0000000c 1a2b3c4d => InvalidField("Block initial_length != trailer_length")
+    0a0d0d0a 00000010 1a2b3c4d 00000010 => InvalidField("SectionHeaderBlock: block length < 16")
+    0a0d0d0a 0000001c 00000000 00000000 00000000 00000000 00000000 => InvalidField("SectionHeaderBlock: invalid magic number")
+    00000001 00000014 0001 0000 00040000 00000014 => InvalidField("SectionHeader missing")
+    00000001 0000000c 0000000c => InvalidField("InterfaceDescriptionBlock: block length < 8")
+    00000006 0000000c 0000000c => InvalidField("EnhancedPacketBlock: block length length < 20")
+    00000099 0000000c 0000000c => InvalidField("SectionHeader missing")
+    00000099 0000000d 0000000d => InvalidField("Block: (initial_len % 4) != 0")
+    00000099 00000008 00000008 => InvalidField("Block: initial_len < 12")
+"#;
+
+/// First blocks of which bytes are missing.
+pub const TORN: &str = "
+    => IncompleteBuffer(12)
+    0a0d0d0a 0000001c 1a2b3c => IncompleteBuffer(1)
+    01000000 14000000 0100 0000 00000400 14000000 => IncompleteBuffer(335544300)
+";
+
+#[test]
+fn refused_runs(rt: HostRuntime) -> Result<(), Fail> {
+    for table in [REFUSED, TORN] {
+        for (digits, told) in rows(rt.alloc(), table)? {
+            let run = run(rt.alloc(), digits)?;
+            assert_eq!(rt; run.as_str(), told, "at {digits}");
+        }
+    }
+    Ok(())
+}
+
+/// Of the beginnings of the capture with two sections: from how many bytes on, how many are used, and how many there have
+/// to be before there is more to say.
+pub const BEGINNINGS: [(usize, usize, usize); 12] = [
+    (0, 0, 12),
+    (12, 0, 28),
+    (28, 28, 28),
+    (29, 28, 40),
+    (40, 28, 48),
+    (48, 48, 48),
+    (49, 48, 60),
+    (60, 48, 76),
+    (76, 76, 76),
+    (77, 76, 88),
+    (88, 76, 96),
+    (96, 96, 96),
+];
+
+/// The row of the beginning of this length.
+pub fn beginning(end: usize) -> (usize, usize) {
+    let mut row = (0, 0);
+    for (from, used, wanted) in BEGINNINGS {
+        if from <= end {
+            row = (used, wanted);
+        }
+    }
+    row
+}
+
+/// How many blocks after the first lie in so many bytes of it.
+pub fn count(used: usize) -> usize {
+    match used {
+        96 => 3,
+        76 => 2,
+        48 => 1,
+        _ => 0,
+    }
+}
+
+// Whether this is the run over the first bytes, of which so many are used, and so many more are missing.
+fn is_run(run: &ResultParsing<NgRun>, used: usize, missing: usize) -> bool {
+    match run {
+        Err(PcapError::IncompleteBuffer(n)) => used == 0 && *n == missing,
+        Err(_) => false,
+        Ok(run) => {
+            let is_right = run.used == used && run.blocks.len() == count(used);
+            match run.rest {
+                Rest::Clean => is_right && missing == 0,
+                Rest::Needs(n) => is_right && missing > 0 && n == missing,
+                Rest::Refused(_) => false,
+            }
+        }
+    }
+}
+
+#[test]
+fn every_beginning(rt: HostRuntime) -> Result<(), Fail> {
+    for end in 0..97 {
+        let run = parse_pcapng(rt.alloc(), front(&SECTIONS, end));
+        let (used, wanted) = beginning(end);
+        assert!(rt; is_run(&run, used, wanted.saturating_sub(end)), "at {end}");
+    }
+    Ok(())
+}

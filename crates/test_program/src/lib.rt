@@ -1,0 +1,9 @@
+//! The program over inputs and outputs in memory.
+#![tactic(auto)]
+
+#[cfg(test)]
+mod blocks;
+#[cfg(test)]
+mod failing;
+#[cfg(test)]
+mod words;

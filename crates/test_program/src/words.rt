@@ -1,0 +1,240 @@
+//! The program over inputs and outputs in memory.
+
+use capcopy_run::{Exit, run};
+use pcap_classic::PcapError;
+use std::io::ErrorKind;
+use std::test::Fail;
+use test_support::captures::{big, capture, front, little};
+use test_support::readers::Halting;
+
+/// A big-endian capture in nanoseconds of one empty packet, at 1 second and 999 nanoseconds.
+const BIG_NANO: [u8; 40] = [
+    0xa1, 0xb2, 0x3c, 0x4d, 0, 2, 0, 4, 0, 0, 0, 0, 0, 0, 0, 0, 0, 0, 0xff, 0xff, 0, 0, 0, 1, 0, 0,
+    0, 1, 0, 0, 3, 0xe7, 0, 0, 0, 0, 0, 0, 0, 0,
+];
+
+/// The same in microseconds, to which its time is cut.
+const BIG_MICRO: [u8; 40] = [
+    0xa1, 0xb2, 0xc3, 0xd4, 0, 2, 0, 4, 0, 0, 0, 0, 0, 0, 0, 0, 0, 0, 0xff, 0xff, 0, 0, 0, 1, 0, 0,
+    0, 1, 0, 0, 0, 0, 0, 0, 0, 0, 0, 0, 0, 0,
+];
+
+/// The most bytes that one read of the input gives.
+const STEPS: [usize; 2] = [1, 1000];
+
+/// The most lines or packets of a run that asks for all.
+const ALL: u64 = 4_294_967_295;
+
+// Whether the run ended because the input did.
+fn is_early_end(exit: &Exit) -> bool {
+    match exit {
+        Exit::Io(PcapError::IoError(error)) => error.kind() == ErrorKind::UnexpectedEof,
+        _ => false,
+    }
+}
+
+#[test]
+fn lists(rt: HostRuntime) -> Result<(), Fail> {
+    let rows = [
+        (big(rt.alloc())?, "1 1335958313.152630000 98/98\n"),
+        (little(rt.alloc())?, "1 1331901000.000000000 117/117\n"),
+    ];
+    for step in STEPS {
+        for (bytes, lines) in &rows {
+            let mut input = Halting::new(rt.alloc(), bytes.as_slice(), step)?;
+            let mut output = Vec::new(rt.alloc());
+            let exit = run(rt.alloc(), &["list"], &mut input, &mut output, ALL);
+            assert!(rt; matches!(exit, Exit::Done));
+            assert_eq!(rt; exit.status(), 0);
+            assert_eq!(rt; output.as_slice(), lines.as_bytes());
+        }
+    }
+    Ok(())
+}
+
+#[test]
+fn lists_of_torn_captures(rt: HostRuntime) -> Result<(), Fail> {
+    let whole = big(rt.alloc())?;
+    for step in STEPS {
+        for end in [0, 10, 40, 137] {
+            let bytes = front(whole.as_slice(), end);
+            let mut input = Halting::new(rt.alloc(), bytes, step)?;
+            let mut output = Vec::new(rt.alloc());
+            let exit = run(rt.alloc(), &["list"], &mut input, &mut output, ALL);
+            assert!(rt; is_early_end(&exit), "at {end}");
+            assert_eq!(rt; exit.status(), 3);
+            assert!(rt; output.is_empty());
+        }
+    }
+    Ok(())
+}
+
+#[test]
+fn most_lines(rt: HostRuntime) -> Result<(), Fail> {
+    let mut whole = big(rt.alloc())?;
+    whole.extend_from_slice(&[0xff; 16])?;
+    for end in [154, 138] {
+        for step in STEPS {
+            let bytes = front(whole.as_slice(), end);
+            let mut input = Halting::new(rt.alloc(), bytes, step)?;
+            let mut output = Vec::new(rt.alloc());
+            let exit = run(rt.alloc(), &["list"], &mut input, &mut output, 1);
+            assert!(rt; matches!(exit, Exit::Most));
+            assert_eq!(rt; exit.status(), 1);
+            assert_eq!(rt; input.taken, 138);
+            assert_eq!(rt;
+                output.as_slice(),
+                b"1 1335958313.152630000 98/98\n".as_slice()
+            );
+        }
+    }
+    Ok(())
+}
+
+#[test]
+fn refused_captures(rt: HostRuntime) -> Result<(), Fail> {
+    let mut whole = big(rt.alloc())?;
+    whole.extend_from_slice(&[0, 0, 0, 1, 0, 0, 0, 0, 0, 0, 0, 2, 0, 0, 0, 1])?;
+    for step in STEPS {
+        let bytes = whole.as_slice();
+        let mut input = Halting::new(rt.alloc(), bytes, step)?;
+        let mut output = Vec::new(rt.alloc());
+        let exit = run(rt.alloc(), &["list"], &mut input, &mut output, ALL);
+        assert_eq!(rt;
+            output.as_slice(),
+            b"1 1335958313.152630000 98/98\n".as_slice()
+        );
+        assert_eq!(rt; exit.status(), 1);
+        let line = format!(in rt.alloc(); "{exit}")?;
+        assert_eq!(rt;
+            line.as_str(),
+            "capcopy: Invalid field value: PacketHeader incl_len > orig_len"
+        );
+    }
+    Ok(())
+}
+
+#[test]
+fn copies(rt: HostRuntime) -> Result<(), Fail> {
+    let big = big(rt.alloc())?;
+    let little = little(rt.alloc())?;
+    let little_nano = capture(
+        rt.alloc(),
+        &[
+            0x4d, 0x3c, 0xb2, 0xa1, 2, 0, 4, 0, 0, 0, 0, 0, 0, 0, 0, 0, 0xff, 0xff, 0, 0, 1, 0, 0,
+            0, 0x29, 0x1b, 0xa1, 0x4f, 0xf0, 0xf2, 0x18, 0x09, 0x62, 0, 0, 0, 0x62, 0, 0, 0,
+        ],
+        98,
+    )?;
+    let rows: [(&[&str], &[u8], &[u8]); 4] = [
+        (&["copy"], little.as_slice(), little.as_slice()),
+        (
+            &["copy", "little", "nano"],
+            big.as_slice(),
+            little_nano.as_slice(),
+        ),
+        (
+            &["copy", "big", "micro"],
+            little_nano.as_slice(),
+            big.as_slice(),
+        ),
+        (&["copy", "big", "micro"], &BIG_NANO, &BIG_MICRO),
+    ];
+    for step in STEPS {
+        for (words, bytes, copy) in rows {
+            let mut output = Vec::new(rt.alloc());
+            let exit = run(
+                rt.alloc(),
+                words,
+                &mut Halting::new(rt.alloc(), bytes, step)?,
+                &mut output,
+                ALL,
+            );
+            assert!(rt; matches!(exit, Exit::Done));
+            assert_eq!(rt; output.as_slice(), copy);
+            let mut output = Vec::new(rt.alloc());
+            let exit = run(
+                rt.alloc(),
+                words,
+                &mut Halting::new(rt.alloc(), bytes, step)?,
+                &mut output,
+                1,
+            );
+            assert!(rt; matches!(exit, Exit::Most));
+            assert_eq!(rt; output.as_slice(), copy);
+        }
+    }
+    Ok(())
+}
+
+#[test]
+fn largest_packet(rt: HostRuntime) -> Result<(), Fail> {
+    let mut whole = Vec::from_slice(rt.alloc(), front(&BIG_MICRO, 24))?;
+    whole.extend_from_slice(&[0, 0, 0, 1, 0, 0, 0, 2, 0, 4, 0, 0, 0, 4, 0, 0])?;
+    whole.resize(262_184, 7)?;
+    let bytes = whole.as_slice();
+    let rows: [(&str, &[u8]); 2] = [("list", b"1 1.000002000 262144/262144\n"), ("copy", bytes)];
+    for step in STEPS {
+        for (word, written) in rows {
+            let mut output = Vec::new(rt.alloc());
+            let exit = run(
+                rt.alloc(),
+                &[word],
+                &mut Halting::new(rt.alloc(), bytes, step)?,
+                &mut output,
+                ALL,
+            );
+            assert!(rt; matches!(exit, Exit::Done));
+            assert!(rt; output.as_slice() == written);
+        }
+    }
+    Ok(())
+}
+
+#[test]
+fn copies_of_torn_captures(rt: HostRuntime) -> Result<(), Fail> {
+    let whole = big(rt.alloc())?;
+    for step in STEPS {
+        for (end, written) in [(0, 0), (10, 0), (40, 24), (137, 24)] {
+            let bytes = front(whole.as_slice(), end);
+            let mut output = Vec::new(rt.alloc());
+            let exit = run(
+                rt.alloc(),
+                &["copy"],
+                &mut Halting::new(rt.alloc(), bytes, step)?,
+                &mut output,
+                ALL,
+            );
+            assert!(rt; exit.status() == 3, "at {end}");
+            assert_eq!(rt; output.as_slice(), front(whole.as_slice(), written));
+        }
+    }
+    Ok(())
+}
+
+#[test]
+fn usage(rt: HostRuntime) -> Result<(), Fail> {
+    let whole = big(rt.alloc())?;
+    let rows: [&[&str]; 8] = [
+        &[],
+        &["copy", "big"],
+        &["copy", "nano"],
+        &["copy", "nano", "big"],
+        &["list", "list"],
+        &["lists"],
+        &["block"],
+        &["blocks", "list"],
+    ];
+    for step in STEPS {
+        for words in rows {
+            let bytes = whole.as_slice();
+            let mut input = Halting::new(rt.alloc(), bytes, step)?;
+            let mut output = Vec::new(rt.alloc());
+            let exit = run(rt.alloc(), words, &mut input, &mut output, ALL);
+            assert!(rt; matches!(exit, Exit::Usage));
+            assert_eq!(rt; exit.status(), 2);
+            assert!(rt; input.calls == 0 && output.is_empty());
+        }
+    }
+    Ok(())
+}

@@ -1,0 +1,17 @@
+//! Worked rows of streams: what comes off them and goes out, and what happens where they fail.
+#![tactic(auto)]
+
+#[cfg(test)]
+mod copying;
+#[cfg(test)]
+mod failing;
+#[cfg(test)]
+mod filling;
+#[cfg(test)]
+mod kinds;
+#[cfg(test)]
+mod reading;
+#[cfg(test)]
+mod rows;
+#[cfg(test)]
+mod sample;

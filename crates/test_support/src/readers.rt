@@ -1,0 +1,92 @@
+//! Streams that give few bytes at once, fail, or end and go on.
+
+use crate::captures::back;
+use std::alloc::{AllocError, Global};
+use std::io;
+use std::io::{ErrorKind, Read};
+
+/// Gives its bytes, so many at most in a read, and fails at one of its calls.
+#[derive(Drop)]
+pub struct Halting {
+    /// All its bytes.
+    pub bytes: Vec<u8>,
+    /// How many of them it has given.
+    pub taken: usize,
+    /// The most bytes of one read.
+    pub step: usize,
+    /// The call that fails, counted from 1.
+    pub fails_at: usize,
+    /// How the call fails.
+    pub kind: ErrorKind,
+    /// How many calls there were.
+    pub calls: usize,
+    /// The most room that a call was offered.
+    pub most_room: usize,
+}
+
+impl Halting {
+    /// A stream of these bytes that never fails.
+    pub fn new(alloc: Global, bytes: &[u8], step: usize) -> Result<Halting, AllocError> {
+        Ok(Halting {
+            bytes: Vec::from_slice(alloc, bytes)?,
+            taken: 0,
+            step,
+            fails_at: 0,
+            kind: ErrorKind::Other,
+            calls: 0,
+            most_room: 0,
+        })
+    }
+}
+
+impl Read for Halting {
+    fn read(&mut self, buf: &mut [u8]) -> io::Result<usize> {
+        self.calls = self.calls.saturating_add(1);
+        self.most_room = self.most_room.max(buf.len());
+        if self.calls == self.fails_at {
+            return Err(io::Error::from(self.kind));
+        }
+        let left = back(self.bytes.as_slice(), self.taken);
+        let n = buf.len().min(self.step).min(left.len());
+        let (given, _) = left.split_at(n);
+        buf[..n].copy_from_slice(given);
+        self.taken = self.taken.saturating_add(n);
+        Ok(n)
+    }
+}
+
+/// Gives the first bytes, so many at most in a read, ends once, and then gives the second ones.
+#[derive(Drop)]
+pub struct EndsOnce<'a> {
+    /// What it gives before it ends.
+    pub first: &'a [u8],
+    /// What it gives after its end.
+    pub second: &'a [u8],
+    /// The most bytes of one read.
+    pub step: usize,
+    /// Whether it has ended once.
+    pub has_ended: bool,
+}
+
+impl Read for EndsOnce<'_> {
+    fn read(&mut self, buf: &mut [u8]) -> io::Result<usize> {
+        if self.first.is_empty() && !self.has_ended {
+            self.has_ended = true;
+            return Ok(0);
+        }
+        let from = if self.has_ended {
+            self.second
+        } else {
+            self.first
+        };
+        let n = buf.len().min(self.step).min(from.len());
+        let (given, left) = from.split_at(n);
+        buf[..n].copy_from_slice(given);
+        if self.has_ended {
+            self.second = left;
+        } else {
+            self.first = left;
+        }
+        Ok(n)
+    }
+}

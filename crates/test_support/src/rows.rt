@@ -1,0 +1,79 @@
+//! Tables of bytes, and of what calls give for them.
+//!
+//! A row of a table is bytes as hexadecimal digits, an arrow, and what a call gives for them as text: the remainder and
+//! the value, or the refusal. These texts were written by hand, from the bytes and the rules of the formats.
+
+use pcap_core::{PcapError, ResultParsing};
+use std::alloc::Global;
+use std::fmt::Debug;
+use std::io::ErrorKind;
+use std::test::Fail;
+
+/// The rows of a table: the digits, and what a call gives.
+pub fn rows<'a>(alloc: Global, table: &'a str) -> Result<Vec<(&'a str, &'a str)>, Fail> {
+    let mut rows = Vec::new(alloc);
+    for line in table.trim().lines() {
+        let (digits, shown) = line.split_once("=>").ok_or("a row with no arrow")?;
+        rows.push((digits, shown.trim()))?;
+    }
+    Ok(rows)
+}
+
+/// The digits of a list, and its text, from a table with a row for each of its members.
+pub fn list(alloc: Global, table: &str) -> Result<(String, String), Fail> {
+    let mut digits = String::new(alloc);
+    let mut shown = String::new(alloc);
+    for (member, text) in rows(alloc, table)? {
+        if !shown.is_empty() {
+            shown.push_str(", ")?;
+        }
+        digits.push_str(member)?;
+        shown.push_str(text)?;
+    }
+    Ok((digits, shown))
+}
+
+/// The bytes of these digits; white space parts them for the reader.
+pub fn bytes(alloc: Global, digits: &str) -> Result<Vec<u8>, Fail> {
+    let mut pairs = Vec::new(alloc);
+    for digit in digits.bytes() {
+        if !digit.is_ascii_whitespace() {
+            pairs.push(digit)?;
+        }
+    }
+    Ok(hex::decode(alloc, pairs)?)
+}
+
+/// What a call gives: the remainder and the value, or why it is refused.
+pub fn told<T: Debug + Drop>(
+    alloc: Global,
+    outcome: ResultParsing<(&[u8], T)>,
+) -> Result<String, Fail> {
+    match outcome {
+        Ok((rest, value)) => Ok(format!(in alloc; "{rest:?} {value:?}")?),
+        Err(error) => Ok(format!(in alloc; "{}", refusal(&error))?),
+    }
+}
+
+/// The same of a call that gives no remainder.
+pub fn told_alone<T: Debug + Drop>(
+    alloc: Global,
+    outcome: ResultParsing<T>,
+) -> Result<String, Fail> {
+    match outcome {
+        Ok(value) => Ok(format!(in alloc; "{value:?}")?),
+        Err(error) => Ok(format!(in alloc; "{}", refusal(&error))?),
+    }
+}
+
+// Why a call gives no value: the text of an `InvalidField`, or the kind of the error. Bytes that are too few are an early
+// end.
+fn refusal(error: &PcapError) -> &'static str {
+    match error {
+        PcapError::InvalidField(text) => *text,
+        PcapError::IoError(error) if error.kind() == ErrorKind::UnexpectedEof => "IoError",
+        PcapError::Utf8Error(_) => "Utf8Error",
+        PcapError::OutOfMemory(_) => "OutOfMemory",
+        _ => "another",
+    }
+}
