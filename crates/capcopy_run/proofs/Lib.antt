@@ -1,5 +1,5 @@
-mod Digits
 mod Lines
 mod Listing
 mod PacketLists
+mod PacketLines
 mod Exits

@@ -4,6 +4,7 @@
 mod commands;
 mod copy;
 mod exit;
+mod line;
 mod list;
 
 pub use commands::run;

@@ -1,9 +1,9 @@
 use Rattle.std.proofs.Common.{◌∙◌, subst}
 use Rattle.std.proofs.lemmas.Result.{err_from_is_err_and}
 use Rattle.pcap_classic.specs.declared.pcap.header.PcapHeader.{PcapHeader}
-use Rattle.pcap_classic.specs.PacketText.{packet_limit, content_of}
+use Rattle.pcap_classic.specs.PacketText.{packet_limit}
 use Rattle.pcap_classic.specs.Packets.{reader_format}
-use Rattle.pcap_classic.specs.Reader.{stream_of, has_failed}
+use Rattle.pcap_classic.specs.Reader.{stream_of, has_failed, lent_packet}
 use Rattle.pcap_classic.proofs.Packets.{reader_lawful}
 use Rattle.pcap_core.specs.Reading.{Takes, HasCause}
 use Rattle.capcopy_run.specs.PacketLines.{IsPacketLine}
@@ -14,10 +14,10 @@ pub returns-in_err-write_line-in-Some-Ok : goal.returns-in_err-write_line-in-Som
 returns-in_err-write_line-in-Some-Ok g c =
     let f = reader_format packet_limit c.args.reader.now.header in
     let left = g.T.Read.remaining (stream_of c.loop-turn.reader) in
-    let now = g.T.Read.remaining (stream_of c.next.new.self) in
-    let packet = content_of c.in-Some-Ok.packet in
-    let steps = rw (c.loop-turn.invariant.ready, c.in-Some-Ok.field-0-is) at c.in-Some-Ok.ensures.steps in
-    let took = subst (λ (h : PcapHeader). Takes ((reader_format packet_limit h).says tt) left now packet) c.loop-turn.invariant.same steps.1.2 in
+    let now = g.T.Read.remaining (stream_of c.next_header.new.self) in
+    let packet = lent_packet c.next_header.new.self c.in-Some-Ok.header in
+    let steps = rw (c.loop-turn.invariant.ready, c.in-Some-Ok.field-0-is) at c.in-Some-Ok.ensures.next in
+    let took = subst (λ (h : PcapHeader). Takes ((reader_format packet_limit h).says tt) left now packet) c.loop-turn.invariant.same steps.2 in
     let p = err_from_is_err_and c.from_residual.result c.from_residual.ensures.1 in
     record {
       n = c.loop-turn.turn;
@@ -31,9 +31,9 @@ pub returns-in-Some-Err : goal.returns-in-Some-Err
 returns-in-Some-Err g c =
     let f = reader_format packet_limit c.args.reader.now.header in
     let left = g.T.Read.remaining (stream_of c.loop-turn.reader) in
-    let failed = has_failed c.next.new.self in
-    let steps = rw (c.loop-turn.invariant.ready, c.in-Some-Err.field-0-is) at c.in-Some-Err.ensures.steps in
-    let cause = subst (λ (h : PcapHeader). HasCause ((reader_format packet_limit h).says tt) left failed c.in-Some-Err.error) c.loop-turn.invariant.same steps.1.1 in
+    let failed = has_failed c.next_header.new.self in
+    let steps = rw (c.loop-turn.invariant.ready, c.in-Some-Err.field-0-is) at c.in-Some-Err.ensures.next in
+    let cause = subst (λ (h : PcapHeader). HasCause ((reader_format packet_limit h).says tt) left failed c.in-Some-Err.error) c.loop-turn.invariant.same steps.1 in
     record {
       n = c.loop-turn.turn;
       left = left;
@@ -46,13 +46,13 @@ pub loop-turn-preserved : goal.loop-turn-preserved
 loop-turn-preserved g c =
     let header = c.args.reader.now.header in
     let left = g.T.Read.remaining (stream_of c.loop-turn.reader) in
-    let now = g.T.Read.remaining (stream_of c.next.new.self) in
-    let packet = content_of c.in-Some-Ok.packet in
-    let steps = rw (c.loop-turn.invariant.ready, c.in-Some-Ok.field-0-is) at c.in-Some-Ok.ensures.steps in
-    let took = subst (λ (h : PcapHeader). Takes ((reader_format packet_limit h).says tt) left now packet) c.loop-turn.invariant.same steps.1.2 in
+    let now = g.T.Read.remaining (stream_of c.next_header.new.self) in
+    let packet = lent_packet c.next_header.new.self c.in-Some-Ok.header in
+    let steps = rw (c.loop-turn.invariant.ready, c.in-Some-Ok.field-0-is) at c.in-Some-Ok.ensures.next in
+    let took = subst (λ (h : PcapHeader). Takes ((reader_format packet_limit h).says tt) left now packet) c.loop-turn.invariant.same steps.2 in
     record {
       so_far = listing_more IsPacketLine (reader_format packet_limit header) tt (reader_lawful packet_limit header) _ left now _ _ _ c.loop-turn.turn packet c.loop-turn.invariant.so_far took c.in_ok-write_line-in-Some-Ok.ensures;
-      ready = steps.1.0;
-      unfailed = steps.1.1;
-      same = steps.0 ∙ c.loop-turn.invariant.same;
+      ready = steps.0;
+      unfailed = steps.1;
+      same = c.in-Some-Ok.ensures.header ∙ c.loop-turn.invariant.same;
     }
