@@ -9,7 +9,7 @@ class Value:
 
 
 class Lent(bytes):
-    """Bytes behind `CowBytes::Borrowed`."""
+    """Bytes of `CowBytes::Borrowed`."""
 
 
 ESCAPES = {"\0": r"\0", "\t": r"\t", "\n": r"\n", "\r": r"\r", '"': r"\"", "\\": r"\\"}

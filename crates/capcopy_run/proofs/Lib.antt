@@ -1,3 +1,4 @@
+mod BlockLists
 mod Lines
 mod Listing
 mod PacketLists

@@ -1,5 +1,5 @@
 -- Items that are listed, one after another, over any lawful format.
-use Rattle.std.proofs.Common.{◌≡◌, ◌<◌, ◌≤◌, ◌+◌, IfSome, ◌⊎◌, ℕ, suc, List, [], ◌∷◌, ◌++◌, length, Bool, false, Option, Some, None, Result, Ok, Err, inl, inr, refl, sym, ◌∙◌, subst, arith, length-append, append_assoc}
+use Rattle.std.proofs.Common.{◌≡◌, ◌<◌, ◌≤◌, ◌+◌, IfSome, ◌⊎◌, ℕ, suc, List, [], ◌∷◌, ◌++◌, length, Bool, false, Option, Some, None, Result, Ok, Err, inl, inr, refl, sym, ap, ◌∙◌, subst, arith, length-append, append_assoc}
 use Rattle.std.specs.Io.KnownBytes.{Appends, Keeps, IsAtEnd}
 use Rattle.std.proofs.KnownBytes.{Appends-nil, Appends-trans, Consumes-nil, Keeps-refl}
 use Rattle.pcap_core.specs.declared.errors.PcapError.{PcapError}
@@ -12,6 +12,8 @@ use Rattle.pcap_core.specs.Laws.{IsStable}
 use Rattle.pcap_core.specs.Reading.{IsFaultOf, Takes, HasCause, read_failed, no_memory, torn, refused}
 use Rattle.pcap_core.specs.Takes.{TakesTexts, ReadsFront, Stops}
 use Rattle.pcap_core.proofs.Pulling.{nothing_asked}
+use Rattle.pcap_core.specs.Writing.{AppendsPart}
+use Rattle.pcap_core.proofs.Formats.{state_push}
 use Rattle.pcap_core.proofs.Taking.{takes_more, run_reads}
 use Rattle.capcopy_run.specs.declared.exit.Exit.{Exit}
 use Rattle.capcopy_run.specs.declared.exit.Exit.TheVariants as exits
@@ -57,29 +59,88 @@ module _ {V : Type 0} (IsLine : ℕ → V → List ℕ → Type 0) (IsSaid : Lis
 
 module _ {S V : Type 0} (IsLine : ℕ → V → List ℕ → Type 0) (f : Format S V) (q : S) where
   -- nothing is listed yet
-  pub listing_none : (before out : Option (List ℕ)) → Listing IsLine f q before before out out 0
+  pub listing_none : (before out : Option (List ℕ)) → Listing IsLine f q q before before out out 0
   listing_none before out = record {
     items = [];
     count = refl;
+    leads = refl;
     took = record { bytes = []; texts = refl; took = Consumes-nil before };
     lines = [];
     are_lines = refl;
     out = Appends-nil out;
   }
 
-  -- one item more
-  pub listing_more : IsLawful f → (a b c p q' r : Option (List ℕ)) (n : ℕ) (item : V) (so_far : Listing IsLine f q a b p q' n)
-      → Takes (f.says (state_after f q so_far.items)) b c item → WritesLine (IsLine (n + 1) item) q' r (Ok tt) → Listing IsLine f q a c p r (n + 1)
-  listing_more laws a b c p q' r n item so_far took out =
+  -- one item more, which leads there
+  pub listing_more : IsLawful f → (here there : S) (a b c p r t : Option (List ℕ)) (n : ℕ) (item : V) → Listing IsLine f q here a b p r n
+      → Takes (f.says here) b c item → f.goes here item ≡ there → WritesLine (IsLine (n + 1) item) r t (Ok tt) → Listing IsLine f q there a c p t (n + 1)
+  listing_more laws here there a b c p r t n item so_far took goes out =
       let index : n + 1 ≡ 1 + length so_far.items = omega (arith, so_far.count) in
+      let next : Takes (f.says (state_after f q so_far.items)) b c item = subst (λ (s : S). Takes (f.says s) b c item) (sym so_far.leads) took in
       record {
         items = so_far.items ++ item ∷ [];
         count = length-append so_far.items (item ∷ []) ∙ omega (arith, so_far.count);
-        took = takes_more f laws q so_far.items item a b c so_far.took took;
+        leads = state_push f q so_far.items item ∙ ap (λ (s : S). f.goes s item) so_far.leads ∙ goes;
+        took = takes_more f laws q so_far.items item a b c so_far.took next;
         lines = so_far.lines ++ out.0;
         are_lines = lines_push IsLine 1 so_far.items item so_far.lines out.0 so_far.are_lines (subst (λ k. IsLine k item out.0) index out.1);
-        out = Appends-trans p q' r so_far.lines out.0 so_far.out out.2;
+        out = Appends-trans p r t so_far.lines out.0 so_far.out out.2;
       }
+
+-- the exit where the opening is refused
+module _ {O S V : Type 0} (kind : Kind O S V) (most : ℕ) (s : List ℕ) (before after : Option (List ℕ)) (kept : Keeps before after) where
+  opening_shown : (e : PcapError) → Shows (IsFaultOf kind.opens (Some s)) e → (exit : Exit) → EndsAt e exit → ListsUntil kind most s before after exit
+  opening_shown (errors.IoError x) stands exit ends = rw ends (inl kept)
+  opening_shown (errors.InvalidField t) stands exit ends = rw ends (inl (stands, kept))
+  opening_shown (errors.Utf8Error x) stands exit ends = rw ends (inl (stands, kept))
+  opening_shown (errors.IncompleteBuffer k) stands exit ends = absurd stands
+  opening_shown (errors.FromUtf8Error x) stands exit ends = absurd stands
+  opening_shown (errors.OutOfMemory x) stands exit ends = absurd stands
+  opening_shown errors.WriterFailed stands exit ends = absurd stands
+
+  opening_io : (e : PcapError) → IsIo e → (exit : Exit) → EndsAt e exit → ListsUntil kind most s before after exit
+  opening_io (errors.IoError x) io exit ends = rw ends (inl kept)
+  opening_io (errors.InvalidField t) io exit ends = absurd io
+  opening_io (errors.Utf8Error x) io exit ends = absurd io
+  opening_io (errors.IncompleteBuffer k) io exit ends = absurd io
+  opening_io (errors.FromUtf8Error x) io exit ends = absurd io
+  opening_io (errors.OutOfMemory x) io exit ends = absurd io
+  opening_io errors.WriterFailed io exit ends = absurd io
+
+  opening_memory : (e : PcapError) → kind.grows → IsMemory e → (exit : Exit) → EndsAt e exit → ListsUntil kind most s before after exit
+  opening_memory (errors.IoError x) grows memory exit ends = absurd memory
+  opening_memory (errors.InvalidField t) grows memory exit ends = absurd memory
+  opening_memory (errors.Utf8Error x) grows memory exit ends = absurd memory
+  opening_memory (errors.IncompleteBuffer k) grows memory exit ends = absurd memory
+  opening_memory (errors.FromUtf8Error x) grows memory exit ends = absurd memory
+  opening_memory (errors.OutOfMemory x) grows memory exit ends = rw ends (inl (grows, kept))
+  opening_memory errors.WriterFailed grows memory exit ends = absurd memory
+
+-- a capture whose opening is refused
+pub lists_none : {O S V : Type 0} (kind : Kind O S V) (most : ℕ) (known before after : Option (List ℕ)) → Keeps before after → (e : PcapError)
+    → (IsMemory e → kind.grows) → IsIo e ⊎ IsMemory e ⊎ Shows (IsFaultOf kind.opens known) e → (exit : Exit) → EndsAt e exit → IfSome known (λ s. ListsUntil kind most s before after exit)
+lists_none kind most None before after kept e grows cause exit ends = tt
+lists_none kind most (Some s) before after kept e grows cause exit ends =
+    elim cause [
+      | inl io ↦ opening_io kind most s before after kept e io exit ends
+      | inr (inl memory) ↦ opening_memory kind most s before after kept e (grows memory) memory exit ends
+      | inr (inr stands) ↦ opening_shown kind most s before after kept e stands exit ends
+    ]
+
+-- an opening that was taken, and a line of it that did not go out
+module _ {O S V : Type 0} (kind : Kind O S V) (grows : kind.grows) (most : ℕ) (s : List ℕ) (before after : Option (List ℕ)) (opening : O) (rest : List ℕ) (opens : kind.opens s (whole opening rest)) where
+  heading_torn : (exit : Exit) → WritesLine (λ line. line ≡ kind.heading opening) before after (Err exit) → ListsUntil kind most s before after exit
+  heading_torn (exits.Io (errors.IoError x)) part = inr (inl (record { opening = opening; rest = rest; opens = opens; out = subst (λ line. AppendsPart before after line) part.1 part.2 }))
+  heading_torn (exits.Io (errors.IncompleteBuffer k)) part = absurd part
+  heading_torn (exits.Io (errors.InvalidField t)) part = absurd part
+  heading_torn (exits.Io (errors.Utf8Error x)) part = absurd part
+  heading_torn (exits.Io (errors.FromUtf8Error x)) part = absurd part
+  heading_torn (exits.Io (errors.OutOfMemory x)) part = absurd part
+  heading_torn (exits.Io errors.WriterFailed) part = absurd part
+  heading_torn exits.Memory part = inl (grows, part)
+  heading_torn exits.Done part = absurd part
+  heading_torn (exits.Refused e) part = absurd part
+  heading_torn exits.Most part = absurd part
+  heading_torn exits.Usage part = absurd part
 
 -- an opening whose line went out, and the run over the items after it
 module _ {O S V : Type 0} (kind : Kind O S V) (opening : O) (laws : IsLawful (kind.format opening)) (s rest : List ℕ) (opens : kind.opens s (whole opening rest))
@@ -90,6 +151,10 @@ module _ {O S V : Type 0} (kind : Kind O S V) (opening : O) (laws : IsLawful (ki
   abbrev q : S
   q = kind.start opening
 
+  -- the items that were listed
+  abbrev ListingTo : S → Option (List ℕ) → Option (List ℕ) → ℕ → Type 0
+  ListingTo here left mid n = Listing kind.IsLine f q here (Some rest) left start mid n
+
   -- the items that were taken are a beginning of the front's, up to why the run stopped
   reads : (items : List V) (left : Option (List ℕ)) (most : ℕ) (fault : Option PcapError) → TakesTexts f q items (Some rest) left → length items ≤ most
       → Stops (f.says (state_after f q items)) left left false (length items) most fault → ReadsFront f q rest most items fault false
@@ -99,9 +164,8 @@ module _ {O S V : Type 0} (kind : Kind O S V) (opening : O) (laws : IsLawful (ki
   some_reads : (items : List V) (left : Option (List ℕ)) → TakesTexts f q items (Some rest) left → ReadsFront f q rest (length items) items None false
   some_reads items left took = reads items left (length items) None took (omega arith) (refl, Keeps-refl left, inr refl)
 
-  abbrev listed_from : (most n : ℕ) (mid left : Option (List ℕ)) (fault : Option PcapError) (so_far : Listing kind.IsLine f q (Some rest) left start mid n)
-      → ReadsFront f q rest most so_far.items fault false → Listed kind s before
-  listed_from most n mid left fault so_far read = record {
+  abbrev listed_from : (most n : ℕ) (here : S) (mid left : Option (List ℕ)) (fault : Option PcapError) (so_far : ListingTo here left mid n) → ReadsFront f q rest most so_far.items fault false → Listed kind s before
+  listed_from most n here mid left fault so_far read = record {
     opening = opening;
     after = rest;
     opens = opens;
@@ -115,41 +179,43 @@ module _ {O S V : Type 0} (kind : Kind O S V) (opening : O) (laws : IsLawful (ki
     out = Appends-trans before start mid (kind.heading opening) so_far.lines headed so_far.out;
   }
 
-  lists_clean : (most n : ℕ) (mid after left : Option (List ℕ)) → Listing kind.IsLine f q (Some rest) left start mid n → n < most → IsAtEnd left → Keeps mid after → ListsUntil kind most s before after exits.Done
-  lists_clean most n mid after left so_far fewer end kept =
+  lists_clean : (most n : ℕ) (here : S) (mid after left : Option (List ℕ)) → ListingTo here left mid n → n < most → IsAtEnd left → Keeps mid after → ListsUntil kind most s before after exits.Done
+  lists_clean most n here mid after left so_far fewer end kept =
       let few : length so_far.items < most = omega (arith, so_far.count, fewer) in
       let read = reads so_far.items left most None so_far.took (omega (arith, few)) (refl, Keeps-refl left, inl end) in
       elim read.ends.1 [
-        | inl all ↦ (listed_from most n mid left None so_far read, record { fewer = few; all = all.0; nothing = all.1; out = kept })
+        | inl all ↦ (listed_from most n here mid left None so_far read, record { fewer = few; all = all.0; nothing = all.1; out = kept })
         | inr full ↦ absurd (omega (arith, few, full))
       ]
 
-  lists_most : (most n : ℕ) (mid after left : Option (List ℕ)) → Listing kind.IsLine f q (Some rest) left start mid n → n ≡ most → Keeps mid after → ListsUntil kind most s before after exits.Most
-  lists_most most n mid after left so_far full kept =
-      (listed_from _ n mid left None so_far (some_reads so_far.items left so_far.took), so_far.count ∙ full, kept)
+  lists_most : (most n : ℕ) (here : S) (mid after left : Option (List ℕ)) → ListingTo here left mid n → n ≡ most → Keeps mid after → ListsUntil kind most s before after exits.Most
+  lists_most most n here mid after left so_far full kept =
+      (listed_from _ n here mid left None so_far (some_reads so_far.items left so_far.took), so_far.count ∙ full, kept)
 
-  lists_refused : (most n : ℕ) (mid after left : Option (List ℕ)) (e : PcapError) → (IsIo e → ⊥) → (IsMemory e → ⊥) → (so_far : Listing kind.IsLine f q (Some rest) left start mid n) → n < most
-      → Shows (IsFaultOf (f.says (state_after f q so_far.items)) left) e → Keeps mid after → ListsUntil kind most s before after (exits.Refused e)
-  lists_refused most n mid after left e no_io no_memory_ so_far fewer stands kept =
+  lists_refused : (most n : ℕ) (here : S) (mid after left : Option (List ℕ)) (e : PcapError) → (IsIo e → ⊥) → (IsMemory e → ⊥) → ListingTo here left mid n → n < most
+      → Shows (IsFaultOf (f.says here) left) e → Keeps mid after → ListsUntil kind most s before after (exits.Refused e)
+  lists_refused most n here mid after left e no_io no_memory_ so_far fewer stands kept =
       let few : length so_far.items < most = omega (arith, so_far.count, fewer) in
-      let read = reads so_far.items left most (Some e) so_far.took (omega (arith, few)) (few, refused stands refl, nothing_asked (f.says (state_after f q so_far.items)) left) in
+      let there = subst (λ (p : S). Shows (IsFaultOf (f.says p) left) e) (sym so_far.leads) stands in
+      let read = reads so_far.items left most (Some e) so_far.took (omega (arith, few)) (few, refused there refl, nothing_asked (f.says (state_after f q so_far.items)) left) in
       elim read.ends.1 [
         | inl io ↦ absurd (no_io io.0)
         | inr (inl memory) ↦ absurd (no_memory_ memory.0)
         | inr (inr all) ↦ inr (
-          listed_from most n mid left (Some e) so_far read,
+          listed_from most n here mid left (Some e) so_far read,
           record { fewer = few; all = all.0; refused = shows (f.says (state_after f q so_far.items)) (Some read.rest) false e no_io no_memory_ all.1; out = kept },
         )
       ]
 
-  lists_some : (most n : ℕ) (mid left : Option (List ℕ)) → Listing kind.IsLine f q (Some rest) left start mid n → n < most → (listed : Listed kind s before) × (length listed.items < most) × (listed.mid ≡ mid)
-  lists_some most n mid left so_far fewer = (listed_from _ n mid left None so_far (some_reads so_far.items left so_far.took), omega (arith, so_far.count, fewer), refl)
+  lists_some : (most n : ℕ) (here : S) (mid left : Option (List ℕ)) → ListingTo here left mid n → n < most → (listed : Listed kind s before) × (length listed.items < most) × (listed.mid ≡ mid)
+  lists_some most n here mid left so_far fewer = (listed_from _ n here mid left None so_far (some_reads so_far.items left so_far.took), omega (arith, so_far.count, fewer), refl)
 
-  lists_torn : (most n : ℕ) (mid after left : Option (List ℕ)) (so_far : Listing kind.IsLine f q (Some rest) left start mid n) → n < most
-      → TearsNext kind.IsLine (f.says (state_after f q so_far.items)) left mid after n → (listed : Listed kind s before) × (length listed.items < most) × (Keeps listed.mid after ⊎ TearsLine kind after listed)
-  lists_torn most n mid after left so_far fewer torn_ =
+  lists_torn : (most n : ℕ) (here : S) (mid after left : Option (List ℕ)) → ListingTo here left mid n → n < most → TearsNext kind.IsLine (f.says here) left mid after n
+      → (listed : Listed kind s before) × (length listed.items < most) × (Keeps listed.mid after ⊎ TearsLine kind after listed)
+  lists_torn most n here mid after left so_far fewer torn_ =
       let items = so_far.items in
-      let longer = takes_more f laws q items torn_.item (Some rest) left torn_.now so_far.took torn_.took in
+      let took = subst (λ (p : S). Takes (f.says p) left torn_.now torn_.item) (sym so_far.leads) torn_.took in
+      let longer = takes_more f laws q items torn_.item (Some rest) left torn_.now so_far.took took in
       let read = some_reads (items ++ torn_.item ∷ []) torn_.now longer in
       let listed : Listed kind s before = record {
         opening = opening;
@@ -168,12 +234,12 @@ module _ {O S V : Type 0} (kind : Kind O S V) (opening : O) (laws : IsLawful (ki
       (listed, omega (arith, so_far.count, fewer), inr (record { next = torn_.item; others = read.more; more = refl; line = torn_.line; is_line = is_line; out = torn_.out }))
 
   lists_from : (most : ℕ) (after : Option (List ℕ)) (result : Result (Unit {0}) Exit) → ListsItems kind.IsLine f q (Some rest) start after most result → ListsUntil kind most s before after (exit_of result)
-  lists_from most after (Ok done) run = lists_clean most run.n run.mid after run.left run.so_far run.ends.0 run.ends.1 run.ends.2
-  lists_from most after (Err exits.Most) run = lists_most most run.n run.mid after run.left run.so_far run.ends.0 run.ends.1
+  lists_from most after (Ok done) run = lists_clean most run.n run.here run.mid after run.left run.so_far run.ends.0 run.ends.1 run.ends.2
+  lists_from most after (Err exits.Most) run = lists_most most run.n run.here run.mid after run.left run.so_far run.ends.0 run.ends.1
   lists_from most after (Err (exits.Refused (errors.InvalidField t))) run =
-      lists_refused most run.n run.mid after run.left (errors.InvalidField t) (λ x. x) (λ x. x) run.so_far run.ends.0 run.ends.1 run.ends.2
+      lists_refused most run.n run.here run.mid after run.left (errors.InvalidField t) (λ x. x) (λ x. x) run.so_far run.ends.0 run.ends.1 run.ends.2
   lists_from most after (Err (exits.Refused (errors.Utf8Error x))) run =
-      lists_refused most run.n run.mid after run.left (errors.Utf8Error x) (λ x. x) (λ x. x) run.so_far run.ends.0 run.ends.1 run.ends.2
+      lists_refused most run.n run.here run.mid after run.left (errors.Utf8Error x) (λ x. x) (λ x. x) run.so_far run.ends.0 run.ends.1 run.ends.2
   lists_from most after (Err (exits.Refused (errors.IoError x))) run = absurd run.ends
   lists_from most after (Err (exits.Refused (errors.IncompleteBuffer k))) run = absurd run.ends.1
   lists_from most after (Err (exits.Refused (errors.FromUtf8Error x))) run = absurd run.ends.1
@@ -181,8 +247,8 @@ module _ {O S V : Type 0} (kind : Kind O S V) (opening : O) (laws : IsLawful (ki
   lists_from most after (Err (exits.Refused errors.WriterFailed)) run = absurd run.ends.1
   lists_from most after (Err (exits.Io (errors.IoError x))) run =
       elim run.ends.1 [
-        | inl kept ↦ let some = lists_some most run.n run.mid run.left run.so_far run.ends.0 in inr (inr (some.0, some.1, inl (rw some.2 kept)))
-        | inr part ↦ inr (inr (lists_torn most run.n run.mid after run.left run.so_far run.ends.0 part))
+        | inl kept ↦ let some = lists_some most run.n run.here run.mid run.left run.so_far run.ends.0 in inr (inr (some.0, some.1, inl (rw some.2 kept)))
+        | inr part ↦ inr (inr (lists_torn most run.n run.here run.mid after run.left run.so_far run.ends.0 part))
       ]
   lists_from most after (Err (exits.Io (errors.IncompleteBuffer k))) run = absurd run.ends
   lists_from most after (Err (exits.Io (errors.InvalidField t))) run = absurd run.ends
@@ -190,20 +256,26 @@ module _ {O S V : Type 0} (kind : Kind O S V) (opening : O) (laws : IsLawful (ki
   lists_from most after (Err (exits.Io (errors.FromUtf8Error x))) run = absurd run.ends
   lists_from most after (Err (exits.Io (errors.OutOfMemory x))) run = absurd run.ends
   lists_from most after (Err (exits.Io errors.WriterFailed)) run = absurd run.ends
-  lists_from most after (Err exits.Memory) run = let some = lists_some most run.n run.mid run.left run.so_far run.ends.0 in inr (some.0, some.1, rw some.2 run.ends.1)
+  lists_from most after (Err exits.Memory) run = let some = lists_some most run.n run.here run.mid run.left run.so_far run.ends.0 in inr (some.0, some.1, rw some.2 run.ends.1)
   lists_from most after (Err exits.Done) run = absurd run.ends
   lists_from most after (Err exits.Usage) run = absurd run.ends
 
--- a capture whose opening was taken, and whose items were listed
-module _ {O S V : Type 0} (kind : Kind O S V) (stable : IsStable kind.opens) (opening : O) (laws : IsLawful (kind.format opening)) where
-  lists_behind : (s : List ℕ) (known before start : Option (List ℕ)) → Takes kind.opens (Some s) known opening → Appends before start (kind.heading opening) → (most : ℕ) (after : Option (List ℕ))
-      (result : Result (Unit {0}) Exit) → ListsItems kind.IsLine (kind.format opening) (kind.start opening) known start after most result → ListsUntil kind most s before after (exit_of result)
-  lists_behind s None before start took headed most after result run = absurd took.2
-  lists_behind s (Some rest) before start took headed most after result run =
-      let opens = subst (λ (l : List ℕ). kind.opens l (whole opening rest)) (sym took.2) (stable.text took.0 rest [] opening took.1) in
-      lists_from kind opening laws s rest opens before start headed most after result run
+-- a capture whose opening was taken
+module _ {O S V : Type 0} (kind : Kind O S V) (stable : IsStable kind.opens) (opening : O) where
+  opens_there : (s rest : List ℕ) → Takes kind.opens (Some s) (Some rest) opening → kind.opens s (whole opening rest)
+  opens_there s rest took = subst (λ (l : List ℕ). kind.opens l (whole opening rest)) (sym took.2) (stable.text took.0 rest [] opening took.1)
 
-  pub lists_known : (bytes known before start : Option (List ℕ)) → Takes kind.opens bytes known opening → Appends before start (kind.heading opening) → (most : ℕ) (after : Option (List ℕ))
+  -- and whose line did not go out
+  pub lists_heading : kind.grows → (most : ℕ) (bytes known before after : Option (List ℕ)) → Takes kind.opens bytes known opening → (exit : Exit)
+      → WritesLine (λ line. line ≡ kind.heading opening) before after (Err exit) → IfSome bytes (λ s. ListsUntil kind most s before after exit)
+  lists_heading grows most None known before after took exit part = tt
+  lists_heading grows most (Some s) None before after took exit part = absurd took.2
+  lists_heading grows most (Some s) (Some rest) before after took exit part = heading_torn kind grows most s before after opening rest (opens_there s rest took) exit part
+
+  -- and whose items were listed
+  pub lists_known : IsLawful (kind.format opening) → (bytes known before start : Option (List ℕ)) → Takes kind.opens bytes known opening → Appends before start (kind.heading opening) → (most : ℕ) (after : Option (List ℕ))
       (result : Result (Unit {0}) Exit) → ListsItems kind.IsLine (kind.format opening) (kind.start opening) known start after most result → IfSome bytes (λ s. ListsUntil kind most s before after (exit_of result))
-  lists_known None known before start took headed most after result run = tt
-  lists_known (Some s) known before start took headed most after result run = lists_behind s known before start took headed most after result run
+  lists_known laws None known before start took headed most after result run = tt
+  lists_known laws (Some s) None before start took headed most after result run = absurd took.2
+  lists_known laws (Some s) (Some rest) before start took headed most after result run =
+      lists_from kind opening laws s rest (opens_there s rest took) before start headed most after result run

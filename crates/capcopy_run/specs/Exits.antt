@@ -1,9 +1,10 @@
 -- How runs of the program end.
-use Rattle.std.specs.Prelude.{◌≡◌, ⊤, ℕ, List, [], Option, None, Some, Result, Ok, Err, codes}
+use Rattle.std.specs.Prelude.{◌≡◌, ⊤, ℕ, List, [], ◌++◌, Result, Ok, Err, codes}
 use Rattle.std.specs.IoError.{error_kind}
 use Rattle.std.specs.declared.io.ErrorKind.TheVariants.{UnexpectedEof}
 use Rattle.pcap_core.specs.declared.errors.PcapError.{PcapError}
 use Rattle.pcap_core.specs.declared.errors.PcapError.TheVariants.{IncompleteBuffer, IoError, OutOfMemory}
+use Rattle.pcap_core.specs.Errors.{error_message}
 use Rattle.capcopy_run.specs.declared.exit.Exit.{Exit}
 use Rattle.capcopy_run.specs.declared.exit.Exit.TheVariants.{Done, Refused, Most, Usage, Io, Memory}
 
@@ -21,14 +22,14 @@ status_of Usage = 2
 status_of (Io e) = 3
 status_of Memory = 4
 
--- the line on standard error; that of a refusal ends with the error's own text, which no clause states
-abbrev pub message_of : Exit → Option (List ℕ)
-message_of Done = Some []
-message_of (Refused e) = None
-message_of Most = Some (codes "capcopy: limit reached")
-message_of Usage = Some (codes "usage: capcopy list | copy [big|little micro|nano] | blocks")
-message_of (Io e) = Some (codes "capcopy: input or output failed or ended early")
-message_of Memory = Some (codes "capcopy: out of memory")
+-- the line on standard error; that of a refusal ends with what the error shows
+abbrev pub message_of : Exit → List ℕ
+message_of Done = []
+message_of (Refused e) = codes "capcopy: " ++ error_message e
+message_of Most = codes "capcopy: limit reached"
+message_of Usage = codes "usage: capcopy list | copy [big|little micro|nano] | blocks"
+message_of (Io e) = codes "capcopy: input or output failed or ended early"
+message_of Memory = codes "capcopy: out of memory"
 
 -- the run ended early: an input error says so
 abbrev pub IsEarlyEnd : Exit → Type 0

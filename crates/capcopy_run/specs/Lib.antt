@@ -1,3 +1,4 @@
+pub mod BlockLines
 pub mod Commands
 pub mod Copying
 pub mod Exits

@@ -49,10 +49,11 @@ module _ {V : Type 0} (IsLine : ℕ → V → List ℕ → Type 0) (IsSaid : Lis
   LinesEnd left mid out_now n most (Err exit) = ⊥
 
 module _ {S V : Type 0} (IsLine : ℕ → V → List ℕ → Type 0) (f : Format S V) (q : S) where
-  -- so many items were taken, and their lines went out
-  pub record Listing (before now out_before out_now : Option (List ℕ)) (n : ℕ) : Type 0 where
+  -- so many items were taken, which lead to this state, and their lines went out
+  pub record Listing (here : S) (before now out_before out_now : Option (List ℕ)) (n : ℕ) : Type 0 where
     pub items : List V
     pub count : length items ≡ n
+    pub leads : state_after f q items ≡ here
     pub took : TakesTexts f q items before now
     pub lines : List ℕ
     pub are_lines : AreLines IsLine 1 items lines
@@ -61,10 +62,11 @@ module _ {S V : Type 0} (IsLine : ℕ → V → List ℕ → Type 0) (f : Format
   -- items were taken and listed, until the run ended
   pub record ListsItems (before out_before out_now : Option (List ℕ)) (most : ℕ) (result : Result (Unit {0}) Exit) : Type 0 where
     pub n : ℕ
+    pub here : S
     pub left : Option (List ℕ)
     pub mid : Option (List ℕ)
-    pub so_far : Listing before left out_before mid n
-    pub ends : LinesEnd IsLine (f.says (state_after f q so_far.items)) left mid out_now n most result
+    pub so_far : Listing here before left out_before mid n
+    pub ends : LinesEnd IsLine (f.says here) left mid out_now n most result
 
 module _ {O S V : Type 0} (kind : Kind O S V) where
   -- s is an opening, items, more items and a rest that no item begins, and the lines of the opening and of the first items went out

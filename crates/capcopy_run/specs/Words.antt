@@ -26,7 +26,11 @@ texts_of words = map (λ word. word.now) words
 abbrev pub AskForList : List (Bor (List ℕ)) → Type 0
 AskForList words = texts_of words ≡ codes "list" ∷ []
 
--- the words ask for a copy under this: the word copy, and for an order and a resolution the words of both behind it
+-- the words are the one word blocks
+abbrev pub AskForBlocks : List (Bor (List ℕ)) → Type 0
+AskForBlocks words = texts_of words ≡ codes "blocks" ∷ []
+
+-- the words ask for a copy under this: the word copy, and for an order and a resolution the words of both after it
 abbrev pub AskForCopy : Under → List (Bor (List ℕ)) → Type 0
 AskForCopy Same words = texts_of words ≡ codes "copy" ∷ []
 AskForCopy (Order e r) words = texts_of words ≡ codes "copy" ∷ order_word e ∷ resolution_word r ∷ []
@@ -34,4 +38,4 @@ AskForCopy (Header header) words = ⊥
 
 -- the words are none that the program knows
 abbrev pub AskForNothing : List (Bor (List ℕ)) → Type 0
-AskForNothing words = (AskForList words → ⊥) × ((under : Under) → AskForCopy under words → ⊥)
+AskForNothing words = (AskForList words → ⊥) × (AskForBlocks words → ⊥) × ((under : Under) → AskForCopy under words → ⊥)

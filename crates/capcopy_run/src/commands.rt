@@ -4,18 +4,20 @@ ghost use Rattle.std.specs.Prelude.{◌≡◌, IfSome};
 ghost use Rattle.std.specs.Io.KnownBytes.{Keeps};
 ghost use Rattle.pcap_classic.specs.declared.run.copy.Under.{Under};
 ghost use Rattle.capcopy_run.specs.declared.exit.Exit.TheVariants as exits;
+ghost use Rattle.capcopy_run.specs.BlockLines.{block_lines};
 ghost use Rattle.capcopy_run.specs.Commands.{AsksFor};
 ghost use Rattle.capcopy_run.specs.Copying.{CopiesUntil};
 ghost use Rattle.capcopy_run.specs.Exits.{IsOfKnownWord, exit_of};
 ghost use Rattle.capcopy_run.specs.Listing.{ListsUntil};
 ghost use Rattle.capcopy_run.specs.PacketLines.{packet_lines};
-ghost use Rattle.capcopy_run.specs.Words.{AskForList, AskForCopy, AskForNothing};
+ghost use Rattle.capcopy_run.specs.Words.{AskForList, AskForBlocks, AskForCopy, AskForNothing};
 
 use crate::Exit;
+use crate::blocks::blocks;
 use crate::copy::copy;
 use crate::list::list;
-use pcap_classic::run::Under;
-use pcap_classic::{Endianness, TsResolution};
+use pcap_file::run::Under;
+use pcap_file::{Endianness, TsResolution};
 use std::alloc::Global;
 use std::io::{Read, Write};
 
@@ -23,6 +25,7 @@ use std::io::{Read, Write};
 pub(crate) enum Command {
     List,
     Copy(Under),
+    Blocks,
 }
 
 fn asked_for(words: &[&str]) -> Option<Command>
@@ -30,6 +33,7 @@ fn asked_for(words: &[&str]) -> Option<Command>
 {
     let under = match words {
         ["list"] => return Some(Command::List),
+        ["blocks"] => return Some(Command::Blocks),
         ["copy"] => Under::Same,
         ["copy", "big", "micro"] => Under::Order(Endianness::Big, TsResolution::MicroSecond),
         ["copy", "big", "nano"] => Under::Order(Endianness::Big, TsResolution::NanoSecond),
@@ -45,8 +49,10 @@ fn asked_for(words: &[&str]) -> Option<Command>
 /// `list` writes a line for each packet of the capture that the input holds: `index sec.nsec incl/orig`, where index
 /// counts from 1, sec and nsec are the time in seconds and nanoseconds, and incl and orig the stored and the original
 /// length in bytes. `copy` writes the capture again, and `copy big|little micro|nano` writes it in that order of bytes
-/// and resolution of time. Lines and packets before a fault are written. Other words are `Usage`, and then nothing is
-/// read or written.
+/// and resolution of time. `blocks` writes `section big|little major.minor` for the first section header of a PcapNg
+/// capture, which is no one of the `most` lines, and then a line for each block after it: `index kind length ok|refused`,
+/// where length is that of the whole block in bytes, and the last word says whether its body could be read. Lines and
+/// packets before a fault are written. Other words are `Usage`, and then nothing is read or written.
 pub fn run<R: Read, W: Write>(
     alloc: Global,
     words: &[&str],
@@ -56,6 +62,8 @@ pub fn run<R: Read, W: Write>(
 ) -> Exit
     ensures listed { AskForList words.now → IfSome (R.remaining input.old) (λ s.
         ListsUntil packet_lines most s (W.contents output.old) (W.contents output.new) result) }
+    ensures blocks_listed { AskForBlocks words.now → IfSome (R.remaining input.old) (λ s.
+        ListsUntil block_lines most s (W.contents output.old) (W.contents output.new) result) }
     ensures copied { (under : Under) → AskForCopy under words.now →
         CopiesUntil under (R.remaining input.old) (R.remaining input.new) (W.contents output.old) (W.contents output.new) most result }
     ensures known { (AskForNothing words.now → ⊥) → IsOfKnownWord result }
@@ -67,6 +75,7 @@ pub fn run<R: Read, W: Write>(
         None => Exit::Usage,
         Some(Command::List) => exit_at(list(alloc, input, output, most)),
         Some(Command::Copy(under)) => exit_at(copy(alloc, input, output, under, most)),
+        Some(Command::Blocks) => exit_at(blocks(alloc, input, output, most)),
     }
 }
 

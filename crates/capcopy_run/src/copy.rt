@@ -5,13 +5,13 @@ ghost use Rattle.capcopy_run.specs.Copying.{CopiesUntil};
 ghost use Rattle.capcopy_run.specs.Exits.{exit_of, IsOfKnownWord};
 
 use crate::Exit;
-use pcap_classic::run::{Copied, Under, copy_pcap};
+use pcap_file::run::{Copied, Under, copy_pcap};
 use std::alloc::Global;
 use std::io::{Read, Write};
 
 /// Writes the capture that the input holds, and `most` packets of it at most.
 ///
-/// What refuses the rest is told behind the packets before it.
+/// What refuses the rest is told after the packets before it.
 pub(crate) fn copy<R: Read, W: Write>(
     alloc: Global,
     input: &mut R,

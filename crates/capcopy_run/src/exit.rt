@@ -1,11 +1,11 @@
 //! How a run of the program ends.
 
-ghost use Rattle.std.specs.Prelude.{◌≡◌};
+ghost use Rattle.std.specs.Prelude.{◌≡◌, Some};
 ghost use Rattle.capcopy_run.specs.declared.exit.Exit.TheVariants as exits;
 ghost use Rattle.pcap_core.specs.declared.errors.PcapError.TheVariants as errors;
 ghost use Rattle.capcopy_run.specs.Exits.{status_of, message_of, EndsAt};
 
-use pcap_classic::PcapError;
+use pcap_file::PcapError;
 use std::alloc::{AllocError, AllocFailed};
 use std::io::ErrorKind;
 use std::{fmt, io};
@@ -44,7 +44,7 @@ impl Exit {
 
 /// The line on standard error, without its newline. `Done` has none.
 impl fmt::Display for Exit {
-    ghost output = { message_of };
+    ghost output = { λ exit. Some (message_of exit) };
 
     fn fmt<W: fmt::Write>(&self, f: &mut fmt::Formatter<W>) -> fmt::Result {
         match self {

@@ -1,11 +1,13 @@
 //! What the program `capcopy` does, over any input and output.
 #![tactic(auto)]
 
+mod blocks;
 mod commands;
 mod copy;
 mod exit;
 mod line;
 mod list;
+mod output;
 
 pub use commands::run;
 pub use exit::Exit;

@@ -10,7 +10,7 @@ use Rattle.pcap_core.specs.Answer.{Order, Number, number_in}
 use Rattle.pcap_core.specs.Faults.{Fault}
 use Rattle.pcap_blocks.specs.declared.refusal.Refusal.{Refusal}
 use Rattle.pcap_blocks.specs.declared.section_header.SectionHeaderBlock.{SectionHeaderBlock}
-use Rattle.pcap_blocks.specs.Refusals.{FindsWhere}
+use Rattle.pcap_blocks.specs.Refusal.{FindsWhere}
 use Rattle.pcap_core.specs.Padded.{Behind}
 use Rattle.pcap_blocks.specs.Options.{may_end_with_body, ListFault}
 use Rattle.pcap_blocks.specs.InterfaceDescription.{interface_description, InterfaceFault, in_options}
@@ -29,7 +29,7 @@ section_fails magic endianness s after is names f fault = after_magic f magic af
 section_grows : (magic : ℕ) (endianness : Endianness) (s after : List ℕ) → Number big_number 4 magic s after → magic_order magic ≡ Some endianness → AfterMagicMayGrow (number_in endianness) after → SectionMayGrow s
 section_grows magic endianness s after is names grows = record { magic = magic; after_magic = after; endianness = endianness; magic_is = is; names = names; grows = grows }
 
--- what is told behind the magic number is told of the body
+-- what is told after the magic number is told of the body
 pub section_tells : (magic : ℕ) (endianness : Endianness) (s after : List ℕ) → Number big_number 4 magic s after → magic_order magic ≡ Some endianness → (r : Result (Bor (List ℕ) × SectionHeaderBlock) Refusal)
     → FindsWhere (AfterMagicMayGrow (number_in endianness) after) (AfterMagicSays (number_in endianness) magic after) section_of r → FindsWhere (SectionMayGrow s) (SectionSays s) section_of r
 section_tells magic endianness s after is names (Ok x) tells =

@@ -8,8 +8,8 @@ use Rattle.pcap_core.specs.Faults.{Fault, Invalid, Utf8}
 use Rattle.pcap_core.specs.Laws.{ExactlyOne}
 use Rattle.pcap_core.specs.declared.rules.Rule.TheVariants.{NameUnended}
 use Rattle.pcap_core.specs.Padded.{Chain}
-use Rattle.pcap_blocks.specs.Values.{text_at}
-use Rattle.pcap_blocks.specs.Names.{HasNoZero, NameText, NameFault, unended, no_text, NameSays, NamesSay}
+use Rattle.pcap_blocks.specs.Values.{string_at}
+use Rattle.pcap_blocks.specs.Names.{HasNoZero, NameText, NameFault, unended, no_string, NameSays, NamesSay}
 use Rattle.pcap_blocks.proofs.Naming.{name_shorter}
 use Rattle.pcap_core.proofs.Verdicts.{one_moved, Then, one_then, Stopped, IsMany, one_stopped, same_whole, whole_no_fault}
 
@@ -50,16 +50,16 @@ zero_inside : (a x : List ℕ) → HasNoZero (a ++ 0 ∷ x) → ⊥
 zero_inside [] x all = no_zero_head 0 x all refl
 zero_inside (b ∷ a) x all = zero_inside a x (no_zero_tail b (a ++ 0 ∷ x) all)
 
--- the bytes of a name, and then whether they are a text
+-- the bytes of a name, and then whether they are a string
 ZeroSays : List ℕ → Verdict (List ℕ) → Type 0
 ZeroSays s (whole name rest) = (s ≡ name ++ 0 ∷ rest) × HasNoZero name
 ZeroSays s (lacks n) = ⊥
 ZeroSays s (faulty f) = (f ≡ Invalid NameUnended) × HasNoZero s
 
-TextSays : List ℕ → List ℕ → Verdict (List ℕ) → Type 0
-TextSays name rest (whole n r) = (text_at name ≡ Ok n) × (n ≡ name) × (r ≡ rest)
-TextSays name rest (lacks n) = ⊥
-TextSays name rest (faulty f) = text_at name ≡ Err f
+StringSays : List ℕ → List ℕ → Verdict (List ℕ) → Type 0
+StringSays name rest (whole n r) = (string_at name ≡ Ok n) × (n ≡ name) × (r ≡ rest)
+StringSays name rest (lacks n) = ⊥
+StringSays name rest (faulty f) = string_at name ≡ Err f
 
 zero_only : (s : List ℕ) (v w : Verdict (List ℕ)) → ZeroSays s v → ZeroSays s w → w ≡ v
 unfolding ZeroSays
@@ -79,53 +79,53 @@ zero_one s =
       | inr none ↦ record { value = faulty (Invalid NameUnended); holds = (refl, none); only = λ w k. zero_only s (faulty (Invalid NameUnended)) w (refl, none) k }
     ]
 
-text_cases : (name : List ℕ) (b : Bool) → is_utf8 name ≡ b → (text_at name ≡ Ok name) ⊎ (text_at name ≡ Err Utf8)
-text_cases name true e = inl (rw e refl)
-text_cases name false e = inr (rw e refl)
+string_cases : (name : List ℕ) (b : Bool) → is_utf8 name ≡ b → (string_at name ≡ Ok name) ⊎ (string_at name ≡ Err Utf8)
+string_cases name true e = inl (rw e refl)
+string_cases name false e = inr (rw e refl)
 
-text_only : (name rest : List ℕ) (v w : Verdict (List ℕ)) → TextSays name rest v → TextSays name rest w → w ≡ v
-unfolding TextSays
-text_only name rest (whole n r) (whole m q) h k = rw (h.1, h.2, k.1, k.2) refl
-text_only name rest (whole n r) (lacks m) h k = absurd k
-text_only name rest (whole n r) (faulty g) h k = let e = sym h.0 ∙ k in absurd cc
-text_only name rest (lacks m) w h k = absurd h
-text_only name rest (faulty f) (lacks m) h k = absurd k
-text_only name rest (faulty f) (whole m q) h k = let e = sym h ∙ k.0 in absurd cc
-text_only name rest (faulty f) (faulty g) h k = let e = sym h ∙ k in let same : f ≡ g = cc in rw same refl
+string_only : (name rest : List ℕ) (v w : Verdict (List ℕ)) → StringSays name rest v → StringSays name rest w → w ≡ v
+unfolding StringSays
+string_only name rest (whole n r) (whole m q) h k = rw (h.1, h.2, k.1, k.2) refl
+string_only name rest (whole n r) (lacks m) h k = absurd k
+string_only name rest (whole n r) (faulty g) h k = let e = sym h.0 ∙ k in absurd cc
+string_only name rest (lacks m) w h k = absurd h
+string_only name rest (faulty f) (lacks m) h k = absurd k
+string_only name rest (faulty f) (whole m q) h k = let e = sym h ∙ k.0 in absurd cc
+string_only name rest (faulty f) (faulty g) h k = let e = sym h ∙ k in let same : f ≡ g = cc in rw same refl
 
-text_one : (name rest : List ℕ) → ExactlyOne (TextSays name rest)
-unfolding TextSays
-text_one name rest =
-    elim (text_cases name (is_utf8 name) refl) [
-      | inl ok ↦ record { value = whole name rest; holds = (ok, refl, refl); only = λ w k. text_only name rest (whole name rest) w (ok, refl, refl) k }
-      | inr err ↦ record { value = faulty Utf8; holds = err; only = λ w k. text_only name rest (faulty Utf8) w err k }
+string_one : (name rest : List ℕ) → ExactlyOne (StringSays name rest)
+unfolding StringSays
+string_one name rest =
+    elim (string_cases name (is_utf8 name) refl) [
+      | inl ok ↦ record { value = whole name rest; holds = (ok, refl, refl); only = λ w k. string_only name rest (whole name rest) w (ok, refl, refl) k }
+      | inr err ↦ record { value = faulty Utf8; holds = err; only = λ w k. string_only name rest (faulty Utf8) w err k }
     ]
 
 NameThen : List ℕ → Verdict (List ℕ) → Type 0
-NameThen s = Then (ZeroSays s) TextSays
+NameThen s = Then (ZeroSays s) StringSays
 
 name_to : (s : List ℕ) (w : Verdict (List ℕ)) → NameSays s w → NameThen s w
-unfolding NameThen ZeroSays TextSays
-name_to s (whole n r) h = (n, r, (h.parts, h.no_zero), (h.text, refl, refl))
+unfolding NameThen ZeroSays StringSays
+name_to s (whole n r) h = (n, r, (h.parts, h.no_zero), (h.string, refl, refl))
 name_to s (lacks m) h = absurd h
 name_to s (faulty f) (unended none) = inl (refl, none)
-name_to s (faulty f) (no_text _ name rest parts no_zero e) = inr (name, rest, (parts, no_zero), e)
+name_to s (faulty f) (no_string _ name rest parts no_zero e) = inr (name, rest, (parts, no_zero), e)
 
 name_from : (s : List ℕ) (w : Verdict (List ℕ)) → NameThen s w → NameSays s w
-unfolding NameThen ZeroSays TextSays
+unfolding NameThen ZeroSays StringSays
 name_from s (whole n r) t = record {
   parts = rw (t.3.1, t.3.2) t.2.0;
   no_zero = rw t.3.1 t.2.1;
-  text = subst (λ (x : List ℕ). text_at x ≡ Ok n) (sym t.3.1) t.3.0;
+  string = subst (λ (x : List ℕ). string_at x ≡ Ok n) (sym t.3.1) t.3.0;
 }
 name_from s (lacks m) (inl t) = t
 name_from s (lacks m) (inr t) = t.3
 name_from s (faulty f) (inl t) = rw t.0 (unended t.1)
-name_from s (faulty f) (inr t) = no_text f t.0 t.1 t.2.0 t.2.1 t.3
+name_from s (faulty f) (inr t) = no_string f t.0 t.1 t.2.0 t.2.1 t.3
 
 pub name_one : (s : List ℕ) → ExactlyOne (NameSays s)
 unfolding NameThen
-name_one s = one_moved (NameSays s) (NameThen s) (name_to s) (name_from s) (one_then (ZeroSays s) TextSays (zero_one s) (λ name rest h. text_one name rest))
+name_one s = one_moved (NameSays s) (NameThen s) (name_to s) (name_from s) (one_then (ZeroSays s) StringSays (zero_one s) (λ name rest h. string_one name rest))
 
 -- what stops names
 NamesStop : List (List ℕ) → List ℕ → Verdict (List (List ℕ)) → Type 0

@@ -26,7 +26,7 @@ body_one order s =
     one_then (NumbersSay order (Invalid EnhancedTooShort) widths s) (λ ns after. Made (make ns) (StoredSays order packet_kind after)) (numbers_one order (Invalid EnhancedTooShort) widths s)
     (λ ns after k. one_made (make ns) (StoredSays order packet_kind after) (stored_one order packet_kind after))
 
--- of less than 20 bytes less than 16 are behind the first 4
+-- of less than 20 bytes less than 16 are after the first 4
 body_short : (order : Order) (s : List ℕ) → length s < 20 → (v : Verdict (Values widths)) → NumbersSay order (Invalid EnhancedTooShort) widths s v → BodyThen order s (faulty (Invalid EnhancedTooShort))
 unfolding BodyThen
 body_short order s lt (whole ns after) h = inr (ns, after, h, stored.short (omega (arith, lt, numbers_length order widths ns s after h)))

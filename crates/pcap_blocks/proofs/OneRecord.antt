@@ -137,7 +137,7 @@ value_ends (any_value type) v r rest h = h.1
 
 -- ---- a record
 
--- the padding behind a value
+-- the padding after a value
 PadSays : NameRecord → List ℕ → List ℕ → Verdict NameRecord → Type 0
 PadSays r v s (whole q rest) = (q ≡ r) × Padded v s rest
 PadSays r v s (lacks n) = ⊥

@@ -2,7 +2,7 @@
 use Rattle.pcap_core.specs.Faults.{Fault, Invalid, Io, Utf8}
 use Rattle.pcap_blocks.specs.declared.refusal.Refusal.{Refusal}
 use Rattle.pcap_blocks.specs.declared.refusal.Refusal.TheVariants as refusals
-use Rattle.pcap_blocks.specs.Refusals.{Denies}
+use Rattle.pcap_blocks.specs.Refusal.{Denies}
 
 -- where the whole may grow if the part does, and has the part's faults
 pub denies_more : {M N : Type 0} {P Q : Fault → Type 0} (e : Refusal) → (M → N) → ((f : Fault) → P f → Q f) → Denies M P e → Denies N Q e

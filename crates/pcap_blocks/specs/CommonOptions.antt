@@ -4,7 +4,7 @@ use Rattle.std.specs.declared.borrow.CowStr.{CowStr}
 use Rattle.std.specs.Cow.{cow_str_bytes, IsBorrowedStr, IsOwnedStr}
 use Rattle.pcap_core.specs.declared.common.CowBytes.{CowBytes}
 use Rattle.pcap_core.specs.Bytes.{cow_bytes, IsBorrowed, IsOwned}
-use Rattle.pcap_blocks.specs.Values.{Entry, Text, Bytes, Integer, CustomText, CustomBytes, Unknown}
+use Rattle.pcap_blocks.specs.Values.{Entry, Str, Bytes, Integer, CustomStr, CustomBytes, Unknown}
 use Rattle.pcap_blocks.specs.declared.options.UnknownOption.{UnknownOption}
 use Rattle.pcap_blocks.specs.declared.options.CustomBinaryOption.{CustomBinaryOption}
 use Rattle.pcap_blocks.specs.declared.options.CustomUtf8Option.{CustomUtf8Option}
@@ -17,9 +17,9 @@ unknown_entry o = record { code = o.code; value = Unknown o.length (cow_bytes o.
 abbrev pub custom_bytes_entry : CustomBinaryOption → Entry
 custom_bytes_entry o = record { code = o.code; value = CustomBytes o.pen (cow_bytes o.value) }
 
--- what an option of an enterprise's text says
-abbrev pub custom_text_entry : CustomUtf8Option → Entry
-custom_text_entry o = record { code = o.code; value = CustomText o.pen (cow_str_bytes o.value) }
+-- what an option of an enterprise's string says
+abbrev pub custom_string_entry : CustomUtf8Option → Entry
+custom_string_entry o = record { code = o.code; value = CustomStr o.pen (cow_str_bytes o.value) }
 
 -- its bytes are borrowed
 abbrev pub UnknownIsBorrowed : UnknownOption → Type 0
@@ -37,29 +37,29 @@ CustomBytesIsBorrowed o = IsBorrowed o.value
 abbrev pub CustomBytesIsOwned : CustomBinaryOption → Type 0
 CustomBytesIsOwned o = IsOwned o.value
 
--- its text is borrowed
-abbrev pub CustomTextIsBorrowed : CustomUtf8Option → Type 0
-CustomTextIsBorrowed o = IsBorrowedStr o.value
+-- its string is borrowed
+abbrev pub CustomStringIsBorrowed : CustomUtf8Option → Type 0
+CustomStringIsBorrowed o = IsBorrowedStr o.value
 
--- its text is owned
-abbrev pub CustomTextIsOwned : CustomUtf8Option → Type 0
-CustomTextIsOwned o = IsOwnedStr o.value
+-- its string is owned
+abbrev pub CustomStringIsOwned : CustomUtf8Option → Type 0
+CustomStringIsOwned o = IsOwnedStr o.value
 
--- what an option carries: what it says, and what it is that its text or bytes are borrowed, or owned
+-- what an option carries: what it says, and when its string or bytes are borrowed, and when owned
 pub record Carried : Type 1 where
   pub entry : Entry
   pub is_borrowed : Type 0
   pub is_owned : Type 0
 
--- a text under this code
-abbrev pub carries_text : {Z : Type 0} → ℕ → CowStr Z → Carried
-carries_text code t = record { entry = record { code = code; value = Text (cow_str_bytes t) }; is_borrowed = IsBorrowedStr t; is_owned = IsOwnedStr t }
+-- a string under this code
+abbrev pub carries_string : {Z : Type 0} → ℕ → CowStr Z → Carried
+carries_string code t = record { entry = record { code = code; value = Str (cow_str_bytes t) }; is_borrowed = IsBorrowedStr t; is_owned = IsOwnedStr t }
 
 -- bytes under this code
 abbrev pub carries_bytes : ℕ → CowBytes → Carried
 carries_bytes code b = record { entry = record { code = code; value = Bytes (cow_bytes b) }; is_borrowed = IsBorrowed b; is_owned = IsOwned b }
 
--- a number under this code, which lies nowhere else
+-- a number under this code, which borrows nothing and owns nothing
 abbrev pub carries_number : ℕ → ℕ → Carried
 carries_number code n = record { entry = record { code = code; value = Integer n }; is_borrowed = Unit {0}; is_owned = Unit {0} }
 
@@ -67,9 +67,9 @@ carries_number code n = record { entry = record { code = code; value = Integer n
 abbrev pub carries_custom_bytes : CustomBinaryOption → Carried
 carries_custom_bytes o = record { entry = custom_bytes_entry o; is_borrowed = CustomBytesIsBorrowed o; is_owned = CustomBytesIsOwned o }
 
--- an option of an enterprise's text
-abbrev pub carries_custom_text : CustomUtf8Option → Carried
-carries_custom_text o = record { entry = custom_text_entry o; is_borrowed = CustomTextIsBorrowed o; is_owned = CustomTextIsOwned o }
+-- an option of an enterprise's string
+abbrev pub carries_custom_string : CustomUtf8Option → Carried
+carries_custom_string o = record { entry = custom_string_entry o; is_borrowed = CustomStringIsBorrowed o; is_owned = CustomStringIsOwned o }
 
 -- an option of an unknown code
 abbrev pub carries_unknown : UnknownOption → Carried

@@ -1,6 +1,5 @@
 -- The body of an enhanced packet ('Enhanced Packet Block').
 use Rattle.std.specs.Prelude.{◌≡◌, ◌<◌, ℕ, List, [], ◌∷◌, length, map, All}
-use Rattle.std.specs.Cow.{cow_str_bytes, IsBorrowedStr, IsOwnedStr}
 use Rattle.pcap_core.specs.Answer.{Order, Number, Verdict, Says}
 use Rattle.pcap_core.specs.Bytes.{cow_bytes, IsBorrowed, IsOwned}
 use Rattle.pcap_core.specs.Faults.{Fault, Invalid}
@@ -9,14 +8,14 @@ use Rattle.pcap_blocks.specs.declared.enhanced_packet.EnhancedPacketBlock.{Enhan
 use Rattle.pcap_blocks.specs.declared.enhanced_packet.EnhancedPacketOption.{EnhancedPacketOption}
 use Rattle.pcap_blocks.specs.declared.enhanced_packet.EnhancedPacketOption.TheVariants as option_of
 use Rattle.pcap_core.specs.Padded.{Behind}
-use Rattle.pcap_blocks.specs.Values.{Entry, Text, Bytes, Integer, Kind, text, bytes, number, custom}
-use Rattle.pcap_blocks.specs.CommonOptions.{Carried, carries_text, carries_bytes, carries_number, carries_custom_bytes, carries_custom_text, carries_unknown}
+use Rattle.pcap_blocks.specs.Values.{Entry, Kind, string, bytes, number, custom}
+use Rattle.pcap_blocks.specs.CommonOptions.{Carried, carries_string, carries_bytes, carries_number, carries_custom_bytes, carries_custom_string, carries_unknown}
 use Rattle.pcap_blocks.specs.Growth.{HoldsAfter}
 use Rattle.pcap_blocks.specs.StoredPacket.{Stored, StoredText, StoredFault, StoredMayGrow}
 
 -- comment, flags, hash, drop count
 abbrev pub enhanced_packet : Kind
-enhanced_packet = (1, text) ∷ (2, number 4 EnhancedFlagsLength) ∷ (3, bytes) ∷ (4, number 8 EnhancedDropCountLength) ∷ custom
+enhanced_packet = (1, string) ∷ (2, number 4 EnhancedFlagsLength) ∷ (3, bytes) ∷ (4, number 8 EnhancedDropCountLength) ∷ custom
 
 -- an enhanced packet, wherever its bytes lie
 pub record Enhanced : Type 0 where
@@ -44,23 +43,23 @@ EnhancedMayGrow order = HoldsAfter 4 (StoredMayGrow order enhanced_packet)
 
 -- what an option of the code carries
 abbrev pub enhanced_carries : EnhancedPacketOption → Carried
-enhanced_carries (option_of.Comment t) = carries_text 1 t
+enhanced_carries (option_of.Comment t) = carries_string 1 t
 enhanced_carries (option_of.Flags n) = carries_number 2 n
 enhanced_carries (option_of.Hash b) = carries_bytes 3 b
 enhanced_carries (option_of.DropCount n) = carries_number 4 n
 enhanced_carries (option_of.CustomBinary o) = carries_custom_bytes o
-enhanced_carries (option_of.CustomUtf8 o) = carries_custom_text o
+enhanced_carries (option_of.CustomUtf8 o) = carries_custom_string o
 enhanced_carries (option_of.Unknown o) = carries_unknown o
 
 -- what an option of the code says
 abbrev pub enhanced_entry : EnhancedPacketOption → Entry
 enhanced_entry o = (enhanced_carries o).entry
 
--- its text or bytes are borrowed, where it has any
+-- its string or bytes are borrowed, where it has any
 abbrev pub EnhancedOptionIsBorrowed : EnhancedPacketOption → Type 0
 EnhancedOptionIsBorrowed o = (enhanced_carries o).is_borrowed
 
--- its text or bytes are owned, where it has any
+-- its string or bytes are owned, where it has any
 abbrev pub EnhancedOptionIsOwned : EnhancedPacketOption → Type 0
 EnhancedOptionIsOwned o = (enhanced_carries o).is_owned
 

@@ -1,27 +1,25 @@
 -- The body of an interface description ('Interface Description Block').
 use Rattle.std.specs.Prelude.{◌≡◌, ◌<◌, ℕ, List, [], ◌∷◌, length, map, All}
-use Rattle.std.specs.Cow.{cow_str_bytes, IsBorrowedStr, IsOwnedStr}
 use Rattle.pcap_core.specs.declared.link.DataLink.{DataLink}
 use Rattle.pcap_core.specs.declared.rules.Rule.TheVariants as rules
 use Rattle.pcap_core.specs.Answer.{Order, Number, Verdict, Says}
-use Rattle.pcap_core.specs.Bytes.{cow_bytes, IsBorrowed, IsOwned}
 use Rattle.pcap_core.specs.Faults.{Fault, Invalid}
 use Rattle.pcap_core.specs.Link.{Link}
 use Rattle.pcap_blocks.specs.declared.interface_description.InterfaceDescriptionBlock.{InterfaceDescriptionBlock}
 use Rattle.pcap_blocks.specs.declared.interface_description.InterfaceDescriptionOption.{InterfaceDescriptionOption}
 use Rattle.pcap_blocks.specs.declared.interface_description.InterfaceDescriptionOption.TheVariants as option_of
 use Rattle.pcap_core.specs.Padded.{Behind}
-use Rattle.pcap_blocks.specs.Values.{Entry, Text, Bytes, Integer, Kind, text, some_bytes, fixed_bytes, byte, number, custom}
+use Rattle.pcap_blocks.specs.Values.{Entry, Kind, string, some_bytes, fixed_bytes, byte, number, custom}
 use Rattle.pcap_blocks.specs.Growth.{HoldsAfter}
 use Rattle.pcap_blocks.specs.Options.{may_end_with_body, OptionList, ListFault, OptionsMayGrow}
-use Rattle.pcap_blocks.specs.CommonOptions.{Carried, carries_text, carries_bytes, carries_number, carries_custom_bytes, carries_custom_text, carries_unknown}
+use Rattle.pcap_blocks.specs.CommonOptions.{Carried, carries_string, carries_bytes, carries_number, carries_custom_bytes, carries_custom_string, carries_unknown}
 
 -- comment, name, description, addresses, speed, time, filter, system, check sequence, hardware
 abbrev pub interface_description : Kind
 interface_description =
-    (1, text)
-    ∷ (2, text)
-    ∷ (3, text)
+    (1, string)
+    ∷ (2, string)
+    ∷ (3, string)
     ∷ (4, fixed_bytes 8 rules.InterfaceIpv4Length)
     ∷ (5, fixed_bytes 17 rules.InterfaceIpv6Length)
     ∷ (6, fixed_bytes 6 rules.InterfaceMacLength)
@@ -30,10 +28,10 @@ interface_description =
     ∷ (9, byte rules.InterfaceResolutionLength)
     ∷ (10, number 4 rules.InterfaceZoneLength)
     ∷ (11, some_bytes rules.InterfaceFilterEmpty)
-    ∷ (12, text)
+    ∷ (12, string)
     ∷ (13, byte rules.InterfaceFcsLength)
     ∷ (14, number 8 rules.InterfaceOffsetLength)
-    ∷ (15, text)
+    ∷ (15, string)
     ∷ custom
 
 -- an interface, wherever its options lie
@@ -74,9 +72,9 @@ InterfaceMayGrow order = HoldsAfter 8 (OptionsMayGrow order interface_descriptio
 
 -- what an option of the code carries
 abbrev pub interface_carries : InterfaceDescriptionOption → Carried
-interface_carries (option_of.Comment t) = carries_text 1 t
-interface_carries (option_of.IfName t) = carries_text 2 t
-interface_carries (option_of.IfDescription t) = carries_text 3 t
+interface_carries (option_of.Comment t) = carries_string 1 t
+interface_carries (option_of.IfName t) = carries_string 2 t
+interface_carries (option_of.IfDescription t) = carries_string 3 t
 interface_carries (option_of.IfIpv4Addr b) = carries_bytes 4 b
 interface_carries (option_of.IfIpv6Addr b) = carries_bytes 5 b
 interface_carries (option_of.IfMacAddr b) = carries_bytes 6 b
@@ -85,23 +83,23 @@ interface_carries (option_of.IfSpeed n) = carries_number 8 n
 interface_carries (option_of.IfTsResol n) = carries_number 9 n
 interface_carries (option_of.IfTzone n) = carries_number 10 n
 interface_carries (option_of.IfFilter b) = carries_bytes 11 b
-interface_carries (option_of.IfOs t) = carries_text 12 t
+interface_carries (option_of.IfOs t) = carries_string 12 t
 interface_carries (option_of.IfFcsLen n) = carries_number 13 n
 interface_carries (option_of.IfTsOffset n) = carries_number 14 n
-interface_carries (option_of.IfHardware t) = carries_text 15 t
+interface_carries (option_of.IfHardware t) = carries_string 15 t
 interface_carries (option_of.CustomBinary o) = carries_custom_bytes o
-interface_carries (option_of.CustomUtf8 o) = carries_custom_text o
+interface_carries (option_of.CustomUtf8 o) = carries_custom_string o
 interface_carries (option_of.Unknown o) = carries_unknown o
 
 -- what an option of the code says
 abbrev pub interface_entry : InterfaceDescriptionOption → Entry
 interface_entry o = (interface_carries o).entry
 
--- its text or bytes are borrowed, where it has any
+-- its string or bytes are borrowed, where it has any
 abbrev pub InterfaceOptionIsBorrowed : InterfaceDescriptionOption → Type 0
 InterfaceOptionIsBorrowed o = (interface_carries o).is_borrowed
 
--- its text or bytes are owned, where it has any
+-- its string or bytes are owned, where it has any
 abbrev pub InterfaceOptionIsOwned : InterfaceDescriptionOption → Type 0
 InterfaceOptionIsOwned o = (interface_carries o).is_owned
 

@@ -1,6 +1,5 @@
 -- The body of interface statistics ('Interface Statistics Block').
 use Rattle.std.specs.Prelude.{◌≡◌, ◌<◌, ℕ, List, [], ◌∷◌, length, map, All}
-use Rattle.std.specs.Cow.{cow_str_bytes, IsBorrowedStr, IsOwnedStr}
 use Rattle.pcap_core.specs.Answer.{Order, Number, Verdict, Says}
 use Rattle.pcap_core.specs.Faults.{Fault, Invalid}
 use Rattle.pcap_core.specs.declared.rules.Rule.TheVariants.{StatisticsTooShort}
@@ -8,16 +7,16 @@ use Rattle.pcap_blocks.specs.declared.interface_statistics.InterfaceStatisticsBl
 use Rattle.pcap_blocks.specs.declared.interface_statistics.InterfaceStatisticsOption.{InterfaceStatisticsOption}
 use Rattle.pcap_blocks.specs.declared.interface_statistics.InterfaceStatisticsOption.TheVariants as option_of
 use Rattle.pcap_core.specs.Padded.{Behind}
-use Rattle.pcap_blocks.specs.Values.{Entry, Text, Integer, Kind, text, first_number, first_time, custom}
+use Rattle.pcap_blocks.specs.Values.{Entry, Kind, string, first_number, first_time, custom}
 use Rattle.pcap_blocks.specs.Growth.{HoldsAfter}
 use Rattle.pcap_blocks.specs.Options.{may_end_with_body, OptionList, ListFault, OptionsMayGrow}
-use Rattle.pcap_blocks.specs.CommonOptions.{Carried, carries_text, carries_number, carries_custom_bytes, carries_custom_text, carries_unknown}
+use Rattle.pcap_blocks.specs.CommonOptions.{Carried, carries_string, carries_number, carries_custom_bytes, carries_custom_string, carries_unknown}
 use Rattle.pcap_blocks.specs.Time.{TimeText}
 
 -- comment, start and end time, and the numbers of packets
 abbrev pub interface_statistics : Kind
 interface_statistics =
-    (1, text)
+    (1, string)
     ∷ (2, first_time)
     ∷ (3, first_time)
     ∷ (4, first_number)
@@ -56,7 +55,7 @@ StatisticsMayGrow order = HoldsAfter 12 (OptionsMayGrow order interface_statisti
 
 -- what an option of the code carries
 abbrev pub statistics_carries : InterfaceStatisticsOption → Carried
-statistics_carries (option_of.Comment t) = carries_text 1 t
+statistics_carries (option_of.Comment t) = carries_string 1 t
 statistics_carries (option_of.IsbStartTime n) = carries_number 2 n
 statistics_carries (option_of.IsbEndTime n) = carries_number 3 n
 statistics_carries (option_of.IsbIfRecv n) = carries_number 4 n
@@ -65,18 +64,18 @@ statistics_carries (option_of.IsbFilterAccept n) = carries_number 6 n
 statistics_carries (option_of.IsbOsDrop n) = carries_number 7 n
 statistics_carries (option_of.IsbUsrDeliv n) = carries_number 8 n
 statistics_carries (option_of.CustomBinary o) = carries_custom_bytes o
-statistics_carries (option_of.CustomUtf8 o) = carries_custom_text o
+statistics_carries (option_of.CustomUtf8 o) = carries_custom_string o
 statistics_carries (option_of.Unknown o) = carries_unknown o
 
 -- what an option of the code says
 abbrev pub statistics_entry : InterfaceStatisticsOption → Entry
 statistics_entry o = (statistics_carries o).entry
 
--- its text or bytes are borrowed, where it has any
+-- its string or bytes are borrowed, where it has any
 abbrev pub StatisticsOptionIsBorrowed : InterfaceStatisticsOption → Type 0
 StatisticsOptionIsBorrowed o = (statistics_carries o).is_borrowed
 
--- its text or bytes are owned, where it has any
+-- its string or bytes are owned, where it has any
 abbrev pub StatisticsOptionIsOwned : InterfaceStatisticsOption → Type 0
 StatisticsOptionIsOwned o = (statistics_carries o).is_owned
 

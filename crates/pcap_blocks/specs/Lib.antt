@@ -1,4 +1,4 @@
-pub mod Refusals
+pub mod Refusal
 pub mod Growth
 pub mod Values
 pub mod Options

@@ -1,23 +1,21 @@
 -- The body of a name resolution block ('Name Resolution Block').
 use Rattle.std.specs.Prelude.{◌≡◌, ◌≢◌, ℕ, List, [], ◌∷◌, map, All}
-use Rattle.std.specs.Cow.{cow_str_bytes, IsBorrowedStr, IsOwnedStr}
 use Rattle.pcap_core.specs.Answer.{Order, Verdict, Says}
-use Rattle.pcap_core.specs.Bytes.{cow_bytes, IsBorrowed, IsOwned}
 use Rattle.pcap_core.specs.Faults.{Fault}
 use Rattle.pcap_core.specs.declared.rules.Rule.TheVariants.{NameIpv4Length, NameIpv6Length}
 use Rattle.pcap_blocks.specs.declared.name_resolution.NameResolutionBlock.{NameResolutionBlock}
 use Rattle.pcap_blocks.specs.declared.name_resolution.NameResolutionOption.{NameResolutionOption}
 use Rattle.pcap_blocks.specs.declared.name_resolution.NameResolutionOption.TheVariants as option_of
 use Rattle.pcap_core.specs.Padded.{Chain}
-use Rattle.pcap_blocks.specs.Values.{Entry, Text, Bytes, Kind, text, fixed_bytes, custom}
+use Rattle.pcap_blocks.specs.Values.{Entry, Kind, string, fixed_bytes, custom}
 use Rattle.pcap_blocks.specs.Growth.{BeginsWith}
 use Rattle.pcap_blocks.specs.Options.{may_end_with_body, OptionList, ListFault, OptionsMayGrow}
-use Rattle.pcap_blocks.specs.CommonOptions.{Carried, carries_text, carries_bytes, carries_custom_bytes, carries_custom_text, carries_unknown}
+use Rattle.pcap_blocks.specs.CommonOptions.{Carried, carries_string, carries_bytes, carries_custom_bytes, carries_custom_string, carries_unknown}
 use Rattle.pcap_blocks.specs.Record.{NameRecord, End, RecordText, RecordFault, RecordMayGrow, name_record_of, RecordIsBorrowed, RecordIsOwned}
 
 -- comment, and the name and addresses of the server that resolved the names
 abbrev pub name_resolution : Kind
-name_resolution = (1, text) ∷ (2, text) ∷ (3, fixed_bytes 4 NameIpv4Length) ∷ (4, fixed_bytes 16 NameIpv6Length) ∷ custom
+name_resolution = (1, string) ∷ (2, string) ∷ (3, fixed_bytes 4 NameIpv4Length) ∷ (4, fixed_bytes 16 NameIpv6Length) ∷ custom
 
 -- names, wherever their bytes lie
 pub record Resolution : Type 0 where
@@ -35,7 +33,7 @@ pub record RecordsText (order : Order) (records : List NameRecord) (s rest : Lis
   pub are : Chain (KeptText order) records s end
   pub ends : RecordText order End end rest
 
--- the fault of records: some good ones that are no end, and behind them the fault of what is left
+-- the fault of records: some good ones that are no end, and after them the fault of what is left
 pub record RecordsFault (order : Order) (s : List ℕ) (fault : Fault) : Type 0 where
   pub good : List NameRecord
   pub bad : List ℕ
@@ -73,23 +71,23 @@ pub data ResolutionMayGrow (order : Order) (s : List ℕ) : Type 0 where
 
 -- what an option of the code carries
 abbrev pub name_carries : NameResolutionOption → Carried
-name_carries (option_of.Comment t) = carries_text 1 t
-name_carries (option_of.NsDnsName t) = carries_text 2 t
+name_carries (option_of.Comment t) = carries_string 1 t
+name_carries (option_of.NsDnsName t) = carries_string 2 t
 name_carries (option_of.NsDnsIpv4Addr b) = carries_bytes 3 b
 name_carries (option_of.NsDnsIpv6Addr b) = carries_bytes 4 b
 name_carries (option_of.CustomBinary o) = carries_custom_bytes o
-name_carries (option_of.CustomUtf8 o) = carries_custom_text o
+name_carries (option_of.CustomUtf8 o) = carries_custom_string o
 name_carries (option_of.Unknown o) = carries_unknown o
 
 -- what an option of the code says
 abbrev pub name_entry : NameResolutionOption → Entry
 name_entry o = (name_carries o).entry
 
--- its text or bytes are borrowed, where it has any
+-- its string or bytes are borrowed, where it has any
 abbrev pub NameOptionIsBorrowed : NameResolutionOption → Type 0
 NameOptionIsBorrowed o = (name_carries o).is_borrowed
 
--- its text or bytes are owned, where it has any
+-- its string or bytes are owned, where it has any
 abbrev pub NameOptionIsOwned : NameResolutionOption → Type 0
 NameOptionIsOwned o = (name_carries o).is_owned
 

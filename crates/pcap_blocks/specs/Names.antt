@@ -1,10 +1,10 @@
--- Names: texts without a zero byte, each followed by one ('Name Resolution Block').
+-- Names: strings without a zero byte, each followed by one ('Name Resolution Block').
 use Rattle.std.specs.Prelude.{◌≡◌, ◌≢◌, ℕ, List, [], ◌∷◌, ◌++◌, Ok, Err, All}
 use Rattle.pcap_core.specs.Answer.{Verdict, Says}
 use Rattle.pcap_core.specs.Faults.{Fault, Invalid}
 use Rattle.pcap_core.specs.declared.rules.Rule.TheVariants.{NameUnended}
 use Rattle.pcap_core.specs.Padded.{Chain}
-use Rattle.pcap_blocks.specs.Values.{text_at}
+use Rattle.pcap_blocks.specs.Values.{string_at}
 use Rattle.pcap_blocks.specs.Growth.{BeginsWith}
 
 -- no byte is zero
@@ -15,23 +15,23 @@ HasNoZero bytes = All (λ b. b ≢ 0) bytes
 pub record NameText (name s rest : List ℕ) : Type 0 where
   pub parts : s ≡ name ++ 0 ∷ rest
   pub no_zero : HasNoZero name
-  pub text : text_at name ≡ Ok name
+  pub string : string_at name ≡ Ok name
 
 -- the first fault that stands where a name is to begin
 pub data NameFault (s : List ℕ) : Fault → Type 0 where
   unended : HasNoZero s → NameFault s (Invalid NameUnended)
-  no_text : (fault : Fault) (name rest : List ℕ) → s ≡ name ++ 0 ∷ rest → HasNoZero name → text_at name ≡ Err fault → NameFault s fault
+  no_string : (fault : Fault) (name rest : List ℕ) → s ≡ name ++ 0 ∷ rest → HasNoZero name → string_at name ≡ Err fault → NameFault s fault
 
 -- what is said of bytes where a name is asked for
 abbrev pub NameSays : List ℕ → Verdict (List ℕ) → Type 0
 NameSays s = Says (λ name rest. NameText name s rest) (λ n. ⊥) (NameFault s)
 
--- s is these names, one behind the other, to its end
+-- s is these names, one after the other, to its end
 pub record NamesText (names : List (List ℕ)) (s rest : List ℕ) : Type 0 where
   pub are : Chain NameText names s []
   pub nothing_left : rest ≡ []
 
--- the fault of names: some good ones, and behind them the fault of what is left
+-- the fault of names: some good ones, and after them the fault of what is left
 pub record NamesFault (s : List ℕ) (fault : Fault) : Type 0 where
   pub good : List (List ℕ)
   pub bad : List ℕ

@@ -52,12 +52,12 @@ abbrev pub IsOver : Ending → List Entry → Type 0
 IsOver wants_end options = options ≡ []
 IsOver may_end_with_body options = Unit {0}
 
--- s is a list of options, and then rest: the options, and behind them the mark, or no byte where the list is over then
+-- s is a list of options, and then rest: the options, and after them the mark, or no byte where the list is over then
 pub data OptionList (ending : Ending) (order : Order) (kind : Kind) (options : List Entry) (s rest : List ℕ) : Type 0 where
   marked : (end : List ℕ) → Chain (OptionText order kind) options s end → EndMark order end rest → OptionList ending order kind options s rest
   with_body : Chain (OptionText order kind) options s [] → IsOver ending options → rest ≡ [] → OptionList ending order kind options s rest
 
--- the fault of a list: some good options, and behind them the fault of what is left, unless the list is over there
+-- the fault of a list: some good options, and after them the fault of what is left, unless the list is over there
 pub record ListFault (ending : Ending) (order : Order) (kind : Kind) (s : List ℕ) (fault : Fault) : Type 0 where
   pub good : List Entry
   pub bad : List ℕ

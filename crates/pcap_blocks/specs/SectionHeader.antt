@@ -1,7 +1,6 @@
 -- The body of a section header ('Section Header Block').
 use Rattle.std.specs.Prelude.{◌≡◌, ◌≤◌, ◌<◌, ◌==◌, if◌then◌else◌, ℕ, ℤ, List, [], ◌∷◌, length, map, All, Option, Some, None}
 use Rattle.std.specs.Int.{w64, cast_signed}
-use Rattle.std.specs.Cow.{cow_str_bytes, IsBorrowedStr, IsOwnedStr}
 use Rattle.byteorder.specs.Endian.{big_number}
 use Rattle.pcap_core.specs.declared.common.Endianness.{Endianness}
 use Rattle.pcap_core.specs.declared.common.Endianness.TheVariants.{Big, Little}
@@ -12,14 +11,14 @@ use Rattle.pcap_blocks.specs.declared.section_header.SectionHeaderBlock.{Section
 use Rattle.pcap_blocks.specs.declared.section_header.SectionHeaderOption.{SectionHeaderOption}
 use Rattle.pcap_blocks.specs.declared.section_header.SectionHeaderOption.TheVariants as option_of
 use Rattle.pcap_core.specs.Padded.{Behind}
-use Rattle.pcap_blocks.specs.Values.{Entry, Text, Kind, text, custom}
+use Rattle.pcap_blocks.specs.Values.{Entry, Kind, string, custom}
 use Rattle.pcap_blocks.specs.Growth.{HoldsAfter}
 use Rattle.pcap_blocks.specs.Options.{may_end_with_body, OptionList, ListFault, OptionsMayGrow}
-use Rattle.pcap_blocks.specs.CommonOptions.{Carried, carries_text, carries_custom_bytes, carries_custom_text, carries_unknown}
+use Rattle.pcap_blocks.specs.CommonOptions.{Carried, carries_string, carries_custom_bytes, carries_custom_string, carries_unknown}
 
 -- comment, hardware, operating system, application
 abbrev pub section_header : Kind
-section_header = (1, text) ∷ (2, text) ∷ (3, text) ∷ (4, text) ∷ custom
+section_header = (1, string) ∷ (2, string) ∷ (3, string) ∷ (4, string) ∷ custom
 
 -- the order that a section's magic number names
 unfoldable pub magic_order : ℕ → Option Endianness
@@ -74,7 +73,7 @@ pub data SectionFault (s : List ℕ) : Fault → Type 0 where
 abbrev pub SectionSays : List ℕ → Verdict Section → Type 0
 SectionSays s = Says (λ section rest. SectionText section s rest) (λ n. ⊥) (SectionFault s)
 
--- what is said of the bytes behind this magic number, in this order
+-- what is said of the bytes after this magic number, in this order
 abbrev pub AfterMagicSays : Order → ℕ → List ℕ → Verdict Section → Type 0
 AfterMagicSays order magic s = Says (λ section rest. (section.magic ≡ magic) × AfterMagic order section s rest) (λ n. ⊥) (AfterMagicFault order s)
 
@@ -93,23 +92,23 @@ pub record SectionMayGrow (s : List ℕ) : Type 0 where
 
 -- what an option of the code carries
 abbrev pub section_carries : SectionHeaderOption → Carried
-section_carries (option_of.Comment t) = carries_text 1 t
-section_carries (option_of.Hardware t) = carries_text 2 t
-section_carries (option_of.OS t) = carries_text 3 t
-section_carries (option_of.UserApplication t) = carries_text 4 t
+section_carries (option_of.Comment t) = carries_string 1 t
+section_carries (option_of.Hardware t) = carries_string 2 t
+section_carries (option_of.OS t) = carries_string 3 t
+section_carries (option_of.UserApplication t) = carries_string 4 t
 section_carries (option_of.CustomBinary o) = carries_custom_bytes o
-section_carries (option_of.CustomUtf8 o) = carries_custom_text o
+section_carries (option_of.CustomUtf8 o) = carries_custom_string o
 section_carries (option_of.Unknown o) = carries_unknown o
 
 -- what an option of the code says
 abbrev pub section_entry : SectionHeaderOption → Entry
 section_entry o = (section_carries o).entry
 
--- its text or bytes are borrowed, where it has any
+-- its string or bytes are borrowed, where it has any
 abbrev pub SectionOptionIsBorrowed : SectionHeaderOption → Type 0
 SectionOptionIsBorrowed o = (section_carries o).is_borrowed
 
--- its text or bytes are owned, where it has any
+-- its string or bytes are owned, where it has any
 abbrev pub SectionOptionIsOwned : SectionHeaderOption → Type 0
 SectionOptionIsOwned o = (section_carries o).is_owned
 

@@ -1,4 +1,4 @@
--- What both kinds of packet body hold behind their interface ('Enhanced Packet Block', 'Packet Block').
+-- What both kinds of packet body hold after their interface ('Enhanced Packet Block', 'Packet Block').
 use Rattle.std.specs.Prelude.{◌≡◌, ◌<◌, ℕ, List, length, map, All}
 use Rattle.pcap_core.specs.Answer.{Order, Number, Verdict, Says}
 use Rattle.pcap_core.specs.Bytes.{cow_bytes, IsBorrowed}

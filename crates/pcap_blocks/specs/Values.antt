@@ -5,12 +5,12 @@ use Rattle.pcap_core.specs.Answer.{Order, Verdict, Says}
 use Rattle.pcap_core.specs.Faults.{Fault, Invalid, Io, Utf8}
 use Rattle.pcap_core.specs.declared.rules.Rule.{Rule}
 
--- what an option holds; a custom option the number of an enterprise before its text or bytes, an unknown one its length
+-- what an option holds; a custom option the number of an enterprise before its string or bytes, an unknown one its length
 pub data Value : Type 0 where
-  Text : List ℕ → Value
+  Str : List ℕ → Value
   Bytes : List ℕ → Value
   Integer : ℕ → Value
-  CustomText : ℕ → List ℕ → Value
+  CustomStr : ℕ → List ℕ → Value
   CustomBytes : ℕ → List ℕ → Value
   Unknown : ℕ → List ℕ → Value
 
@@ -19,27 +19,27 @@ pub record Entry : Type 0 where
   pub code : ℕ
   pub value : Value
 
--- the bytes or the text that a value holds
+-- the bytes or the string that a value holds
 abbrev pub value_bytes : Value → List ℕ
-value_bytes (Text t) = t
+value_bytes (Str t) = t
 value_bytes (Bytes b) = b
 value_bytes (Integer n) = []
-value_bytes (CustomText pen t) = t
+value_bytes (CustomStr pen t) = t
 value_bytes (CustomBytes pen b) = b
 value_bytes (Unknown len b) = b
 
 -- the number that a value holds, before its bytes or alone
 abbrev pub integer_in : Value → ℕ
-integer_in (Text t) = 0
+integer_in (Str t) = 0
 integer_in (Bytes b) = 0
 integer_in (Integer n) = n
-integer_in (CustomText pen t) = pen
+integer_in (CustomStr pen t) = pen
 integer_in (CustomBytes pen b) = pen
 integer_in (Unknown len b) = len
 
 -- how the bytes of a value are read; a rule is broken where their number is another; of a first number and a first time more bytes than 8 are ignored
 pub data Shape : Type 0 where
-  text : Shape
+  string : Shape
   bytes : Shape
   some_bytes : Rule → Shape
   fixed_bytes : ℕ → Rule → Shape
@@ -47,13 +47,13 @@ pub data Shape : Type 0 where
   number : ℕ → Rule → Shape
   first_number : Shape
   first_time : Shape
-  custom_text : Shape
+  custom_string : Shape
   custom_bytes : Shape
   unknown : Shape
 
--- the text that bytes are, or the fault that they are none
-abbrev pub text_at : List ℕ → Result (List ℕ) Fault
-text_at v = if is_utf8 v then Ok v else Err Utf8
+-- the string that bytes are, or the fault that they are none
+abbrev pub string_at : List ℕ → Result (List ℕ) Fault
+string_at v = if is_utf8 v then Ok v else Err Utf8
 
 -- a value made of what was read, or the same fault
 abbrev pub with_value : (List ℕ → Value) → Result (List ℕ) Fault → Result Value Fault
@@ -86,7 +86,7 @@ first_time_at order v = if nat_lt (length v) 8 then Err Io else Ok (Integer (ord
 
 -- the value that bytes of this shape are, or the fault that stands there
 abbrev pub value_of : Order → Shape → List ℕ → Result Value Fault
-value_of order text v = with_value Text (text_at v)
+value_of order string v = with_value Str (string_at v)
 value_of order bytes v = Ok (Bytes v)
 value_of order (some_bytes empty) v = some_at empty v
 value_of order (fixed_bytes n wrong_length) v = fixed_at n wrong_length v
@@ -94,7 +94,7 @@ value_of order (byte wrong_length) v = byte_at wrong_length v
 value_of order (number n wrong_length) v = number_at order n wrong_length v
 value_of order first_number v = first_number_at order v
 value_of order first_time v = first_time_at order v
-value_of order custom_text v = if nat_lt (length v) 4 then Err Io else with_value (CustomText (order 4 (take 4 v))) (text_at (drop 4 v))
+value_of order custom_string v = if nat_lt (length v) 4 then Err Io else with_value (CustomStr (order 4 (take 4 v))) (string_at (drop 4 v))
 value_of order custom_bytes v = if nat_lt (length v) 4 then Err Io else Ok (CustomBytes (order 4 (take 4 v)) (drop 4 v))
 value_of order unknown v = Ok (Unknown (length v) v)
 
@@ -121,4 +121,4 @@ shape_at ((named, shape) ∷ rows) code = if code == named then shape else shape
 
 -- the codes that each kind has
 abbrev pub custom : Kind
-custom = (2988, custom_text) ∷ (19372, custom_text) ∷ (2989, custom_bytes) ∷ (19373, custom_bytes) ∷ []
+custom = (2988, custom_string) ∷ (19372, custom_string) ∷ (2989, custom_bytes) ∷ (19373, custom_bytes) ∷ []

@@ -3,7 +3,7 @@
 ghost use Rattle.std.specs.Prelude.{◌≡◌};
 ghost use Rattle.pcap_blocks.specs.BlockType.{block_type};
 
-/// The type of a block.
+/// The type of a block ('Block Types').
 #[derive(Clone, Copy, Debug, PartialEq, Eq)]
 pub enum BlockType {
     SectionHeader,

@@ -2,7 +2,7 @@
 
 ghost use Rattle.std.specs.Prelude.{◌≡◌, IsOk, IfOk, IfErr};
 ghost use Rattle.pcap_core.specs.Answer.{TellsWhere};
-ghost use Rattle.pcap_blocks.specs.Refusals.{FindsWhere};
+ghost use Rattle.pcap_blocks.specs.Refusal.{FindsWhere};
 ghost use Rattle.pcap_blocks.specs.InterfaceDescription.{interface_description, InterfaceSays, interface_entry, InterfaceOptionIsBorrowed, interface_of, InterfaceIsBorrowed, InterfaceOptionIsOwned, InterfaceIsOwned, InterfaceNeedsNoMemory, InterfaceMayGrow};
 ghost use Rattle.pcap_core.specs.Errors.{IsMemory};
 
@@ -11,7 +11,7 @@ use crate::options::{
 };
 use crate::owned::{IntoStatic, each_into_static};
 use crate::refusal::Refusal;
-use crate::values::{fixed_value, some_value, text_value, u8_value, u32_value, u64_value};
+use crate::values::{fixed_value, some_value, string_value, u8_value, u32_value, u64_value};
 use byteorder::ByteOrder;
 use pcap_core::fields::{split_u16, split_u32};
 use pcap_core::rules::Rule;
@@ -19,24 +19,26 @@ use pcap_core::{CowBytes, DataLink, ResultParsing};
 use std::alloc::{AllocError, Global};
 use std::borrow::CowStr;
 
-/// The body of an interface description: an interface that packets were captured on.
+/// The body of an interface description ('Interface Description Block'): an interface that packets were captured on.
 #[derive(Clone, Debug, Drop)]
 pub struct InterfaceDescriptionBlock<'a> {
-    /// The type of the packets' first layer.
+    /// The link type: the first layer of the packets.
     pub linktype: DataLink,
     /// Not used, and to be ignored.
     pub reserved: u16,
-    /// The most bytes that are stored of a packet; 0 is no limit.
+    /// The snaplen: the most bytes that are stored of a packet; 0 is no limit.
     pub snaplen: u32,
     /// What else is said of the interface.
     pub options: Vec<InterfaceDescriptionOption<'a>>,
 }
 
 impl<'a> InterfaceDescriptionBlock<'a> {
-    /// The interface that a block's body is, and what follows its options. Texts and bytes are borrowed from the slice.
+    /// The interface that a block's body is, and what follows its options, which end at their mark or with the slice.
+    /// Strings and bytes are borrowed from the slice.
     ///
-    /// `InvalidField` under 8 bytes, then for the first fault of the options, or `Utf8Error` or `IoError` where that
-    /// is a text that isn't UTF-8 or a custom value under 4 bytes. `OutOfMemory` where the list of options can't grow.
+    /// `InvalidField` under 8 bytes, then for the first fault of the options, or `Utf8Error` or `IoError` where that is
+    /// a string that isn't UTF-8 or a custom value under 4 bytes. `OutOfMemory` where an allocation failed, and only
+    /// where an option stands.
     pub fn from_slice<B: ByteOrder>(
         alloc: Global,
         slice: &'a [u8],
@@ -70,9 +72,9 @@ impl<'a> InterfaceDescriptionBlock<'a> {
         Ok((rest, block))
     }
 
-    /// The same interface, with bytes and texts of its own: borrowed ones are copied, owned ones kept.
+    /// The same interface, with bytes and strings of its own: borrowed ones are copied, owned ones kept.
     ///
-    /// `OutOfMemory` where a copy can't be made; the value is then dropped.
+    /// `OutOfMemory` where an allocation failed; the value is then dropped.
     pub fn into_owned(self, alloc: Global) -> ResultParsing<InterfaceDescriptionBlock<'static>>
         ensures same { IfOk result (λ kept. interface_of kept ≡ interface_of self.entry) }
         ensures owned { IfOk result InterfaceIsOwned }
@@ -83,42 +85,43 @@ impl<'a> InterfaceDescriptionBlock<'a> {
     }
 }
 
-/// An option of an interface description.
+/// An option of an interface description ('Interface Description Block').
 #[derive(Clone, Debug, Drop)]
 pub enum InterfaceDescriptionOption<'a> {
-    /// A comment on the interface.
+    /// A comment on the interface (opt_comment, code 1).
     Comment(CowStr<'a>),
-    /// The name of the device.
+    /// The name of the device (if_name, code 2).
     IfName(CowStr<'a>),
-    /// What the device is.
+    /// What the device is (if_description, code 3).
     IfDescription(CowStr<'a>),
-    /// An IPv4 address and its mask, 8 bytes.
+    /// An IPv4 address and its netmask, 4 bytes each (if_IPv4addr, code 4).
     IfIpv4Addr(CowBytes<'a>),
-    /// An IPv6 address and the length of its prefix, 17 bytes.
+    /// An IPv6 address, 16 bytes, and the length of its prefix in bits, one byte (if_IPv6addr, code 5).
     IfIpv6Addr(CowBytes<'a>),
-    /// The hardware's MAC address, 6 bytes.
+    /// The hardware's MAC address, 6 bytes (if_MACaddr, code 6).
     IfMacAddr(CowBytes<'a>),
-    /// The hardware's EUI address.
+    /// The hardware's EUI address, 8 bytes as a number in the order of the section (if_EUIaddr, code 7).
     IfEuIAddr(u64),
-    /// The interface's speed in bits a second.
+    /// The interface's speed in bits a second (if_speed, code 8).
     IfSpeed(u64),
-    /// The resolution of times: a power of 10, or of 2 where the highest bit is set.
+    /// The unit of times in seconds (if_tsresol, code 9): 10 to the power of minus this number, or, where its highest
+    /// bit is set, 2 to the power of minus the other seven bits.
     IfTsResol(u8),
-    /// The time zone, of 4 bytes.
+    /// The time zone, a number of 4 bytes whose unit the draft leaves open (if_tzone, code 10).
     IfTzone(u32),
-    /// The filter of the capture, at least one byte.
+    /// The filter of the capture, at least one byte: the first one tells its form (if_filter, code 11).
     IfFilter(CowBytes<'a>),
-    /// The operating system of the interface's machine.
+    /// The operating system of the interface's machine (if_os, code 12).
     IfOs(CowStr<'a>),
-    /// The length of the frame check sequence.
+    /// The length of the frame check sequence in bits (if_fcslen, code 13).
     IfFcsLen(u8),
-    /// Seconds that are to be added to each time.
+    /// Seconds that are to be added to each time (if_tsoffset, code 14).
     IfTsOffset(u64),
-    /// What the hardware is.
+    /// What the hardware is (if_hardware, code 15).
     IfHardware(CowStr<'a>),
-    /// Bytes of an enterprise.
+    /// Bytes of an enterprise, code 2989 or 19373.
     CustomBinary(CustomBinaryOption<'a>),
-    /// A text of an enterprise.
+    /// A string of an enterprise, code 2988 or 19372.
     CustomUtf8(CustomUtf8Option<'a>),
     /// An option of another code.
     Unknown(UnknownOption<'a>),
@@ -133,9 +136,9 @@ impl<'a> PcapNgOption<'a> for InterfaceDescriptionOption<'a> {
 
     fn from_value<B: ByteOrder>(code: u16, len: u16, value: &'a [u8]) -> Result<Self, Refusal> {
         Ok(match code {
-            1 => Self::Comment(text_value(value)?),
-            2 => Self::IfName(text_value(value)?),
-            3 => Self::IfDescription(text_value(value)?),
+            1 => Self::Comment(string_value(value)?),
+            2 => Self::IfName(string_value(value)?),
+            3 => Self::IfDescription(string_value(value)?),
             4 => Self::IfIpv4Addr(fixed_value(value, 8, Rule::InterfaceIpv4Length)?),
             5 => Self::IfIpv6Addr(fixed_value(value, 17, Rule::InterfaceIpv6Length)?),
             6 => Self::IfMacAddr(fixed_value(value, 6, Rule::InterfaceMacLength)?),
@@ -144,10 +147,10 @@ impl<'a> PcapNgOption<'a> for InterfaceDescriptionOption<'a> {
             9 => Self::IfTsResol(u8_value(value, Rule::InterfaceResolutionLength)?),
             10 => Self::IfTzone(u32_value::<B>(value, Rule::InterfaceZoneLength)?),
             11 => Self::IfFilter(some_value(value, Rule::InterfaceFilterEmpty)?),
-            12 => Self::IfOs(text_value(value)?),
+            12 => Self::IfOs(string_value(value)?),
             13 => Self::IfFcsLen(u8_value(value, Rule::InterfaceFcsLength)?),
             14 => Self::IfTsOffset(u64_value::<B>(value, Rule::InterfaceOffsetLength)?),
-            15 => Self::IfHardware(text_value(value)?),
+            15 => Self::IfHardware(string_value(value)?),
             2988 | 19372 => Self::CustomUtf8(CustomUtf8Option::read::<B>(code, value)?),
             2989 | 19373 => Self::CustomBinary(CustomBinaryOption::read::<B>(code, value)?),
             _ => Self::Unknown(UnknownOption::new(code, len, value)),
@@ -156,9 +159,9 @@ impl<'a> PcapNgOption<'a> for InterfaceDescriptionOption<'a> {
 }
 
 impl<'a> InterfaceDescriptionOption<'a> {
-    /// The same option, with bytes and texts of its own: borrowed ones are copied, owned ones kept.
+    /// The same option, with bytes and strings of its own: borrowed ones are copied, owned ones kept.
     ///
-    /// `OutOfMemory` where a copy can't be made; the value is then dropped.
+    /// `OutOfMemory` where an allocation failed; the value is then dropped.
     pub fn into_owned(self, alloc: Global) -> ResultParsing<InterfaceDescriptionOption<'static>>
         ensures same { IfOk result (λ kept. interface_entry kept ≡ interface_entry self.entry) }
         ensures owned { IfOk result InterfaceOptionIsOwned }

@@ -2,7 +2,7 @@
 
 ghost use Rattle.std.specs.Prelude.{IsOk, IfOk, ◌≡◌, IfErr};
 ghost use Rattle.pcap_core.specs.Answer.{TellsWhere};
-ghost use Rattle.pcap_blocks.specs.Refusals.{FindsWhere};
+ghost use Rattle.pcap_blocks.specs.Refusal.{FindsWhere};
 ghost use Rattle.pcap_blocks.specs.InterfaceStatistics.{interface_statistics, StatisticsSays, statistics_entry, StatisticsOptionIsBorrowed, statistics_of, StatisticsIsBorrowed, StatisticsOptionIsOwned, StatisticsIsOwned, StatisticsNeedsNoMemory, StatisticsMayGrow};
 ghost use Rattle.pcap_core.specs.Errors.{IsMemory};
 
@@ -12,7 +12,7 @@ use crate::options::{
 use crate::owned::{IntoStatic, each_into_static};
 use crate::refusal::Refusal;
 use crate::time::split_time;
-use crate::values::{first_number, first_time, text_value};
+use crate::values::{first_number, first_time, string_value};
 use byteorder::ByteOrder;
 use pcap_core::ResultParsing;
 use pcap_core::fields::split_u32;
@@ -20,23 +20,25 @@ use pcap_core::rules::Rule;
 use std::alloc::{AllocError, Global};
 use std::borrow::CowStr;
 
-/// The body of interface statistics: what an interface counted.
+/// The body of interface statistics ('Interface Statistics Block'): what an interface counted.
 #[derive(Clone, Debug, Drop)]
 pub struct InterfaceStatisticsBlock<'a> {
-    /// The number of the interface among those of the section, from 0.
+    /// The number of the interface, counted from 0 in the order of the section's interface descriptions.
     pub interface_id: u32,
-    /// When it was counted: units of time since 1970-01-01 00:00:00 UTC; the interface's options tell the unit.
+    /// When it was counted: units of time since 1970-01-01 00:00:00 UTC. The interface's `IfTsResol` tells the unit,
+    /// 10^-6 s where it has none.
     pub timestamp: u64,
     /// What was counted.
     pub options: Vec<InterfaceStatisticsOption<'a>>,
 }
 
 impl<'a> InterfaceStatisticsBlock<'a> {
-    /// The statistics that a block's body is, and what follows their options. Texts and bytes are borrowed from the slice.
+    /// The statistics that a block's body is, and what follows their options, which end at their mark or with the
+    /// slice. Strings and bytes are borrowed from the slice.
     ///
-    /// `InvalidField` under 12 bytes, then for the first fault of the options, or `Utf8Error` where that is a text that
-    /// isn't UTF-8, or `IoError` where a number or time is under 8 bytes or a custom value under 4.
-    /// `OutOfMemory` where the list of options can't grow.
+    /// `InvalidField` under 12 bytes, then for the first fault of the options, or `Utf8Error` where that is a string
+    /// that isn't UTF-8, or `IoError` where a number or time is under 8 bytes or a custom value under 4. `OutOfMemory`
+    /// where an allocation failed, and only where an option stands.
     pub fn from_slice<B: ByteOrder>(
         alloc: Global,
         slice: &'a [u8],
@@ -68,9 +70,9 @@ impl<'a> InterfaceStatisticsBlock<'a> {
         Ok((rest, block))
     }
 
-    /// The same statistics, with bytes and texts of its own: borrowed ones are copied, owned ones kept.
+    /// The same statistics, with bytes and strings of its own: borrowed ones are copied, owned ones kept.
     ///
-    /// `OutOfMemory` where a copy can't be made; the value is then dropped.
+    /// `OutOfMemory` where an allocation failed; the value is then dropped.
     pub fn into_owned(self, alloc: Global) -> ResultParsing<InterfaceStatisticsBlock<'static>>
         ensures same { IfOk result (λ kept. statistics_of kept ≡ statistics_of self.entry) }
         ensures owned { IfOk result StatisticsIsOwned }
@@ -81,28 +83,28 @@ impl<'a> InterfaceStatisticsBlock<'a> {
     }
 }
 
-/// An option of interface statistics.
+/// An option of interface statistics ('Interface Statistics Block'). Times are in the unit of the block's own.
 #[derive(Clone, Debug, Drop)]
 pub enum InterfaceStatisticsOption<'a> {
-    /// A comment on the statistics.
+    /// A comment on the statistics (opt_comment, code 1).
     Comment(CowStr<'a>),
-    /// When the capture began.
+    /// When the capture began (isb_starttime, code 2).
     IsbStartTime(u64),
-    /// When the capture ended.
+    /// When the capture ended (isb_endtime, code 3).
     IsbEndTime(u64),
-    /// How many packets the interface received.
+    /// How many packets the interface received (isb_ifrecv, code 4).
     IsbIfRecv(u64),
-    /// How many packets the interface dropped.
+    /// How many packets the interface dropped (isb_ifdrop, code 5).
     IsbIfDrop(u64),
-    /// How many packets the filter accepted.
+    /// How many packets the filter accepted (isb_filteraccept, code 6).
     IsbFilterAccept(u64),
-    /// How many packets the operating system dropped.
+    /// How many packets the operating system dropped (isb_osdrop, code 7).
     IsbOsDrop(u64),
-    /// How many packets the user was given.
+    /// How many packets the user was given (isb_usrdeliv, code 8).
     IsbUsrDeliv(u64),
-    /// Bytes of an enterprise.
+    /// Bytes of an enterprise, code 2989 or 19373.
     CustomBinary(CustomBinaryOption<'a>),
-    /// A text of an enterprise.
+    /// A string of an enterprise, code 2988 or 19372.
     CustomUtf8(CustomUtf8Option<'a>),
     /// An option of another code.
     Unknown(UnknownOption<'a>),
@@ -117,7 +119,7 @@ impl<'a> PcapNgOption<'a> for InterfaceStatisticsOption<'a> {
 
     fn from_value<B: ByteOrder>(code: u16, len: u16, value: &'a [u8]) -> Result<Self, Refusal> {
         Ok(match code {
-            1 => Self::Comment(text_value(value)?),
+            1 => Self::Comment(string_value(value)?),
             2 => Self::IsbStartTime(first_time::<B>(value)?),
             3 => Self::IsbEndTime(first_time::<B>(value)?),
             4 => Self::IsbIfRecv(first_number::<B>(value)?),
@@ -133,9 +135,9 @@ impl<'a> PcapNgOption<'a> for InterfaceStatisticsOption<'a> {
 }
 
 impl<'a> InterfaceStatisticsOption<'a> {
-    /// The same option, with bytes and texts of its own: borrowed ones are copied, owned ones kept.
+    /// The same option, with bytes and strings of its own: borrowed ones are copied, owned ones kept.
     ///
-    /// `OutOfMemory` where a copy can't be made; the value is then dropped.
+    /// `OutOfMemory` where an allocation failed; the value is then dropped.
     pub fn into_owned(self, alloc: Global) -> ResultParsing<InterfaceStatisticsOption<'static>>
         ensures same { IfOk result (λ kept. statistics_entry kept ≡ statistics_entry self.entry) }
         ensures owned { IfOk result StatisticsOptionIsOwned }

@@ -115,8 +115,8 @@ pub fn body_is_one()
     ensures { (order : Order) (type : BlockType) (s : List ℕ) → ExactlyOne (BodySays order type s) }
 {}
 
-/// Where bytes are a list of options that wants its mark, they are that list, and no other, where a list may end
-/// with its body.
+/// Where bytes are a list of options that wants its mark, they are that list, and no other, where a list may end with
+/// its body.
 pub fn list_is_kept()
     ensures kept { (order : Order) (kind : Kind) (options : List Entry) (s rest : List ℕ) →
         OptionList wants_end order kind options s rest → OptionList may_end_with_body order kind options s rest }

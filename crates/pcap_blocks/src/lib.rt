@@ -1,4 +1,7 @@
 //! Blocks of PcapNg captures: their bodies and options, read from slices.
+//!
+//! The format is that of the IETF draft draft-ietf-opsawg-pcapng; names in quotes are sections of it. A list of options
+//! ends at its mark, the code 0, or without one where no byte is left ('Options'). Lengths are in bytes.
 #![tactic(auto)]
 
 mod block_type;

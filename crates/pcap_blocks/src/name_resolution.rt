@@ -2,7 +2,7 @@
 
 ghost use Rattle.std.specs.Prelude.{map, All, IsOk, IfOk, ◌≡◌, IfErr};
 ghost use Rattle.pcap_core.specs.Answer.{TellsWhere};
-ghost use Rattle.pcap_blocks.specs.Refusals.{FindsWhere};
+ghost use Rattle.pcap_blocks.specs.Refusal.{FindsWhere};
 ghost use Rattle.pcap_blocks.specs.Record.{name_record_of, RecordIsBorrowed};
 ghost use Rattle.pcap_blocks.specs.NameResolution.{name_resolution, RecordsSay, ResolutionSays, name_entry, NameOptionIsBorrowed, names_of, ResolutionIsBorrowed, NameOptionIsOwned, ResolutionIsOwned, ResolutionNeedsNoMemory, ResolutionMayGrow, RecordsMayGrow};
 ghost use Rattle.pcap_core.specs.Errors.{IsMemory};
@@ -13,14 +13,14 @@ use crate::options::{
 use crate::owned::{IntoStatic, each_into_static};
 use crate::record::Record;
 use crate::refusal::Refusal;
-use crate::values::{fixed_value, text_value};
+use crate::values::{fixed_value, string_value};
 use byteorder::ByteOrder;
 use pcap_core::rules::Rule;
 use pcap_core::{CowBytes, ResultParsing};
 use std::alloc::{AllocError, Global};
 use std::borrow::CowStr;
 
-/// The body of a name resolution block: names of addresses.
+/// The body of a name resolution block ('Name Resolution Block'): names of addresses.
 #[derive(Clone, Debug, Drop)]
 pub struct NameResolutionBlock<'a> {
     /// The addresses and their names, without the record that ends them.
@@ -30,12 +30,13 @@ pub struct NameResolutionBlock<'a> {
 }
 
 impl<'a> NameResolutionBlock<'a> {
-    /// The names that a block's body is, and what follows its options. Texts and bytes are borrowed from the slice.
+    /// The names that a block's body is, and what follows its options, which end at their mark or with the slice.
+    /// Strings and bytes are borrowed from the slice.
     ///
     /// The fault of the first record that has one, as `Record::from_slice` gives it: so `IoError` where the slice ends
     /// and no record has ended the others. Then `InvalidField` for the first fault of the options, or `Utf8Error` or
-    /// `IoError` where that is a text that isn't UTF-8 or a custom value under 4 bytes. `OutOfMemory` where a list
-    /// can't grow.
+    /// `IoError` where that is a string that isn't UTF-8 or a custom value under 4 bytes. `OutOfMemory` where an
+    /// allocation failed, and only where a record that is kept, a name or an option stands.
     pub fn from_slice<B: ByteOrder>(
         alloc: Global,
         slice: &'a [u8],
@@ -58,9 +59,9 @@ impl<'a> NameResolutionBlock<'a> {
         Ok((rest, NameResolutionBlock { records, options }))
     }
 
-    /// The same block, with bytes and texts of its own: borrowed ones are copied, owned ones kept.
+    /// The same block, with bytes and strings of its own: borrowed ones are copied, owned ones kept.
     ///
-    /// `OutOfMemory` where a copy can't be made; the value is then dropped.
+    /// `OutOfMemory` where an allocation failed; the value is then dropped.
     pub fn into_owned(self, alloc: Global) -> ResultParsing<NameResolutionBlock<'static>>
         ensures same { IfOk result (λ kept. names_of kept ≡ names_of self.entry) }
         ensures owned { IfOk result ResolutionIsOwned }
@@ -91,20 +92,20 @@ fn records_from_slice<'a, B: ByteOrder>(
     }
 }
 
-/// An option of a name resolution block.
+/// An option of a name resolution block ('Name Resolution Block').
 #[derive(Clone, Debug, Drop)]
 pub enum NameResolutionOption<'a> {
-    /// A comment on the names.
+    /// A comment on the names (opt_comment, code 1).
     Comment(CowStr<'a>),
-    /// The name of the server that resolved the names.
+    /// The name of the server that resolved the names (ns_dnsname, code 2).
     NsDnsName(CowStr<'a>),
-    /// Its IPv4 address, 4 bytes.
+    /// Its IPv4 address, 4 bytes (ns_dnsIP4addr, code 3).
     NsDnsIpv4Addr(CowBytes<'a>),
-    /// Its IPv6 address, 16 bytes.
+    /// Its IPv6 address, 16 bytes (ns_dnsIP6addr, code 4).
     NsDnsIpv6Addr(CowBytes<'a>),
-    /// Bytes of an enterprise.
+    /// Bytes of an enterprise, code 2989 or 19373.
     CustomBinary(CustomBinaryOption<'a>),
-    /// A text of an enterprise.
+    /// A string of an enterprise, code 2988 or 19372.
     CustomUtf8(CustomUtf8Option<'a>),
     /// An option of another code.
     Unknown(UnknownOption<'a>),
@@ -119,8 +120,8 @@ impl<'a> PcapNgOption<'a> for NameResolutionOption<'a> {
 
     fn from_value<B: ByteOrder>(code: u16, len: u16, value: &'a [u8]) -> Result<Self, Refusal> {
         Ok(match code {
-            1 => Self::Comment(text_value(value)?),
-            2 => Self::NsDnsName(text_value(value)?),
+            1 => Self::Comment(string_value(value)?),
+            2 => Self::NsDnsName(string_value(value)?),
             3 => Self::NsDnsIpv4Addr(fixed_value(value, 4, Rule::NameIpv4Length)?),
             4 => Self::NsDnsIpv6Addr(fixed_value(value, 16, Rule::NameIpv6Length)?),
             2988 | 19372 => Self::CustomUtf8(CustomUtf8Option::read::<B>(code, value)?),
@@ -131,9 +132,9 @@ impl<'a> PcapNgOption<'a> for NameResolutionOption<'a> {
 }
 
 impl<'a> NameResolutionOption<'a> {
-    /// The same option, with bytes and texts of its own: borrowed ones are copied, owned ones kept.
+    /// The same option, with bytes and strings of its own: borrowed ones are copied, owned ones kept.
     ///
-    /// `OutOfMemory` where a copy can't be made; the value is then dropped.
+    /// `OutOfMemory` where an allocation failed; the value is then dropped.
     pub fn into_owned(self, alloc: Global) -> ResultParsing<NameResolutionOption<'static>>
         ensures same { IfOk result (λ kept. name_entry kept ≡ name_entry self.entry) }
         ensures owned { IfOk result NameOptionIsOwned }

@@ -3,7 +3,7 @@
 ghost use Rattle.std.specs.Prelude.{◌≡◌, ◌<◌, length, map, take, slice_index, All, IfOk, MatchOption};
 ghost use Rattle.std.specs.Cow.{cow_str_bytes, IsBorrowedStr};
 ghost use Rattle.pcap_core.specs.Answer.{Tells};
-ghost use Rattle.pcap_blocks.specs.Refusals.{Finds, FindsAllWhere};
+ghost use Rattle.pcap_blocks.specs.Refusal.{Finds, FindsAllWhere};
 ghost use Rattle.pcap_blocks.specs.Names.{HasNoZero, NameSays, NamesSay, NamesMayGrow};
 
 use crate::refusal::Refusal;
@@ -26,22 +26,22 @@ fn zero_position(bytes: &[u8]) -> Option<usize>
 }
 
 fn name_from_slice(src: &[u8]) -> Result<(&[u8], &str), Refusal>
-    ensures tells { Finds (NameSays src.now) (λ text. text.now) result }
+    ensures tells { Finds (NameSays src.now) (λ string. string.now) result }
 {
     let Some(end) = zero_position(src) else {
         return Err(Refusal::Invalid(Rule::NameUnended));
     };
     let (name, rest) = src.split_at(end);
-    let text = str_value(name)?;
+    let string = str_value(name)?;
     let (_zero, rest) = rest.split_at(1);
-    Ok((rest, text))
+    Ok((rest, string))
 }
 
-/// What follows the first zero byte, and the text before it.
+/// What follows the first zero byte, and the string before it ('Name Resolution Block').
 ///
-/// `InvalidField` where there is no zero byte, and `Utf8Error` where the text isn't UTF-8.
+/// `InvalidField` where there is no zero byte, and `Utf8Error` where the string isn't UTF-8.
 pub fn str_from_u8_null_terminated(src: &[u8]) -> ResultParsing<(&[u8], &str)>
-    ensures tells { Tells (NameSays src.now) (λ text. text.now) result }
+    ensures tells { Tells (NameSays src.now) (λ string. string.now) result }
 {
     Ok(name_from_slice(src)?)
 }

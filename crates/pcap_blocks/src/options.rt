@@ -3,15 +3,15 @@
 ghost use Rattle.std.specs.Prelude.{◌≡◌, length, map, All, IsOk, IfOk, IfSome, IfErr};
 ghost use Rattle.std.specs.Option.{option_map};
 ghost use Rattle.pcap_core.specs.Answer.{TellsAll};
-ghost use Rattle.pcap_blocks.specs.Refusals.{Finds, FindsWhere, FindsAll};
-ghost use Rattle.pcap_blocks.specs.Values.{Entry, Kind, Unknown, shape_at, custom_text, custom_bytes, EntrySays, value_bytes, integer_in};
+ghost use Rattle.pcap_blocks.specs.Refusal.{Finds, FindsWhere, FindsAll};
+ghost use Rattle.pcap_blocks.specs.Values.{Entry, Kind, Unknown, shape_at, custom_string, custom_bytes, EntrySays, value_bytes, integer_in};
 ghost use Rattle.pcap_blocks.specs.Options.{may_end_with_body, OptionSays, ListSays, OptionsMayGrow};
-ghost use Rattle.pcap_blocks.specs.CommonOptions.{unknown_entry, custom_bytes_entry, custom_text_entry, UnknownIsBorrowed, CustomBytesIsBorrowed, CustomTextIsBorrowed, UnknownIsOwned, CustomBytesIsOwned, CustomTextIsOwned};
+ghost use Rattle.pcap_blocks.specs.CommonOptions.{unknown_entry, custom_bytes_entry, custom_string_entry, UnknownIsBorrowed, CustomBytesIsBorrowed, CustomStringIsBorrowed, UnknownIsOwned, CustomBytesIsOwned, CustomStringIsOwned};
 ghost use Rattle.pcap_core.specs.Errors.{IsMemory};
 
 use crate::owned::IntoStatic;
 use crate::refusal::Refusal;
-use crate::values::text_value;
+use crate::values::string_value;
 use byteorder::ByteOrder;
 use pcap_core::fields::{split_padded, split_u16};
 use pcap_core::rules::Rule;
@@ -19,7 +19,7 @@ use pcap_core::{CowBytes, ResultParsing};
 use std::alloc::{AllocError, Global};
 use std::borrow::CowStr;
 
-/// An option whose code has no meaning in its kind of block.
+/// An option whose code has no meaning in its kind of block ('Options').
 #[derive(Clone, Debug, Drop)]
 pub struct UnknownOption<'a> {
     code: u16,
@@ -61,9 +61,9 @@ impl<'a> UnknownOption<'a> {
         self.value.as_slice()
     }
 
-    /// The same option, with bytes and texts of its own: borrowed ones are copied, owned ones kept.
+    /// The same option, with bytes and strings of its own: borrowed ones are copied, owned ones kept.
     ///
-    /// `OutOfMemory` where a copy can't be made; the value is then dropped.
+    /// `OutOfMemory` where an allocation failed; the value is then dropped.
     pub fn into_owned(self, alloc: Global) -> ResultParsing<UnknownOption<'static>>
         ensures same { IfOk result (λ kept. unknown_entry kept ≡ unknown_entry self.entry) }
         ensures owned { IfOk result UnknownIsOwned }
@@ -74,7 +74,7 @@ impl<'a> UnknownOption<'a> {
     }
 }
 
-/// An option of an enterprise, which holds bytes.
+/// An option of an enterprise, which holds bytes ('Custom Options', codes 2989 and 19373).
 #[derive(Clone, Debug, Drop)]
 pub struct CustomBinaryOption<'a> {
     code: u16,
@@ -115,23 +115,23 @@ impl<'a> CustomBinaryOption<'a> {
         self.code
     }
 
-    /// The number of the enterprise.
+    /// The number of the enterprise, as IANA gives them out.
     pub fn pen(&self) -> u32
         ensures { result ≡ integer_in (custom_bytes_entry self.now).value }
     {
         self.pen
     }
 
-    /// Its value, behind the number of the enterprise.
+    /// Its value, after the number of the enterprise.
     pub fn value(&self) -> &[u8]
         ensures { result.now ≡ value_bytes (custom_bytes_entry self.now).value }
     {
         self.value.as_slice()
     }
 
-    /// The same option, with bytes and texts of its own: borrowed ones are copied, owned ones kept.
+    /// The same option, with bytes and strings of its own: borrowed ones are copied, owned ones kept.
     ///
-    /// `OutOfMemory` where a copy can't be made; the value is then dropped.
+    /// `OutOfMemory` where an allocation failed; the value is then dropped.
     pub fn into_owned(self, alloc: Global) -> ResultParsing<CustomBinaryOption<'static>>
         ensures same { IfOk result (λ kept. custom_bytes_entry kept ≡ custom_bytes_entry self.entry) }
         ensures owned { IfOk result CustomBytesIsOwned }
@@ -142,7 +142,7 @@ impl<'a> CustomBinaryOption<'a> {
     }
 }
 
-/// An option of an enterprise, which holds a text.
+/// An option of an enterprise, which holds a string ('Custom Options', codes 2988 and 19372).
 #[derive(Clone, Debug, Drop)]
 pub struct CustomUtf8Option<'a> {
     code: u16,
@@ -152,8 +152,8 @@ pub struct CustomUtf8Option<'a> {
 
 impl<'a> CustomUtf8Option<'a> {
     pub(crate) fn read<B: ByteOrder>(code: u16, src: &'a [u8]) -> Result<Self, Refusal>
-        ensures tells { FindsAll (EntrySays B.number_of custom_text code src.now) custom_text_entry result }
-        ensures borrowed { IfOk result CustomTextIsBorrowed }
+        ensures tells { FindsAll (EntrySays B.number_of custom_string code src.now) custom_string_entry result }
+        ensures borrowed { IfOk result CustomStringIsBorrowed }
     {
         if src.len() < 4 {
             return Err(Refusal::Io);
@@ -162,49 +162,49 @@ impl<'a> CustomUtf8Option<'a> {
         Ok(CustomUtf8Option {
             code,
             pen: B::read_u32(pen),
-            value: text_value(value)?,
+            value: string_value(value)?,
         })
     }
 
     /// The option of this code whose value is all of a slice.
     ///
-    /// `IoError` under 4 bytes, and `Utf8Error` where the text behind them isn't UTF-8.
+    /// `IoError` under 4 bytes, and `Utf8Error` where the string after them isn't UTF-8.
     pub fn from_slice<B: ByteOrder>(code: u16, src: &'a [u8]) -> ResultParsing<Self>
-        ensures tells { TellsAll (EntrySays B.number_of custom_text code src.now) custom_text_entry result }
-        ensures borrowed { IfOk result CustomTextIsBorrowed }
+        ensures tells { TellsAll (EntrySays B.number_of custom_string code src.now) custom_string_entry result }
+        ensures borrowed { IfOk result CustomStringIsBorrowed }
     {
         Ok(CustomUtf8Option::read::<B>(code, src)?)
     }
 
     /// Its code.
     pub fn code(&self) -> u16
-        ensures { result ≡ (custom_text_entry self.now).code }
+        ensures { result ≡ (custom_string_entry self.now).code }
     {
         self.code
     }
 
-    /// The number of the enterprise.
+    /// The number of the enterprise, as IANA gives them out.
     pub fn pen(&self) -> u32
-        ensures { result ≡ integer_in (custom_text_entry self.now).value }
+        ensures { result ≡ integer_in (custom_string_entry self.now).value }
     {
         self.pen
     }
 
-    /// Its text, behind the number of the enterprise.
+    /// Its string, after the number of the enterprise.
     pub fn value(&self) -> &str
-        ensures { result.now ≡ value_bytes (custom_text_entry self.now).value }
+        ensures { result.now ≡ value_bytes (custom_string_entry self.now).value }
     {
         &self.value
     }
 
-    /// The same option, with bytes and texts of its own: borrowed ones are copied, owned ones kept.
+    /// The same option, with bytes and strings of its own: borrowed ones are copied, owned ones kept.
     ///
-    /// `OutOfMemory` where a copy can't be made; the value is then dropped.
+    /// `OutOfMemory` where an allocation failed; the value is then dropped.
     pub fn into_owned(self, alloc: Global) -> ResultParsing<CustomUtf8Option<'static>>
-        ensures same { IfOk result (λ kept. custom_text_entry kept ≡ custom_text_entry self.entry) }
-        ensures owned { IfOk result CustomTextIsOwned }
+        ensures same { IfOk result (λ kept. custom_string_entry kept ≡ custom_string_entry self.entry) }
+        ensures owned { IfOk result CustomStringIsOwned }
         ensures memory { IfErr result IsMemory }
-        ensures kept { CustomTextIsOwned self.entry → IsOk result }
+        ensures kept { CustomStringIsOwned self.entry → IsOk result }
     {
         Ok(self.into_static(alloc)?)
     }
@@ -218,7 +218,7 @@ pub(crate) trait PcapNgOption<'a>: Sized {
     // The option, wherever its bytes lie.
     ghost view: { Self → Entry };
 
-    // Its text or bytes are borrowed, where it has any.
+    // Its string or bytes are borrowed, where it has any.
     ghost is_borrowed: { Self → Type 0 };
 
     // The option of this code whose value is all of a slice, of this length.
@@ -316,11 +316,11 @@ impl<'a> IntoStatic for CustomBinaryOption<'a> {
 impl<'a> IntoStatic for CustomUtf8Option<'a> {
     type Owned = CustomUtf8Option<'static>;
 
-    ghost is_same = { λ value kept. custom_text_entry kept ≡ custom_text_entry value };
+    ghost is_same = { λ value kept. custom_string_entry kept ≡ custom_string_entry value };
 
-    ghost is_owned = { CustomTextIsOwned };
+    ghost is_owned = { CustomStringIsOwned };
 
-    ghost needs_no_memory = { CustomTextIsOwned };
+    ghost needs_no_memory = { CustomStringIsOwned };
 
     fn into_static(self, alloc: Global) -> Result<CustomUtf8Option<'static>, AllocError> {
         let CustomUtf8Option { code, pen, value } = self;

@@ -9,20 +9,20 @@ use pcap_core::CowBytes;
 use std::alloc::{AllocError, Global};
 use std::borrow::CowStr;
 
-/// What can be made to own its bytes and texts.
+/// What can be made to own its bytes and strings.
 pub(crate) trait IntoStatic: Sized {
     type Owned;
 
     // The owned value says the same.
     ghost is_same: { Self → Self.Owned → Type 0 };
 
-    // Each text and all bytes of it are owned.
+    // Each string and all bytes of it are owned.
     ghost is_owned: { Self.Owned → Type 0 };
 
     // All of it is owned already, and it has no list to make anew.
     ghost needs_no_memory: { Self → Type 0 };
 
-    // The value with borrowed bytes and texts copied; owned ones are kept.
+    // The value with borrowed bytes and strings copied; owned ones are kept.
     fn into_static(self, alloc: Global) -> Result<Self::Owned, AllocError>
         ensures same { IfOk result (is_same self) }
         ensures owned { IfOk result is_owned }
@@ -48,7 +48,7 @@ pub(crate) fn each_into_static<T: IntoStatic<Owned: Drop> + Drop>(
 impl<'a> IntoStatic for CowStr<'a> {
     type Owned = CowStr<'static>;
 
-    ghost is_same = { λ text kept. cow_str_bytes kept ≡ cow_str_bytes text };
+    ghost is_same = { λ string kept. cow_str_bytes kept ≡ cow_str_bytes string };
 
     ghost is_owned = { IsOwnedStr };
 

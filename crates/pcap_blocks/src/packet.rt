@@ -2,7 +2,7 @@
 
 ghost use Rattle.std.specs.Prelude.{map, All, IsOk, IfOk, ◌≡◌, IfErr};
 ghost use Rattle.pcap_core.specs.Answer.{TellsWhere};
-ghost use Rattle.pcap_blocks.specs.Refusals.{FindsWhere};
+ghost use Rattle.pcap_blocks.specs.Refusal.{FindsWhere};
 ghost use Rattle.pcap_blocks.specs.Options.{may_end_with_body, ListSays, OptionsMayGrow};
 ghost use Rattle.pcap_blocks.specs.Packet.{packet_kind, PacketBodySays, packet_entry, PacketOptionIsBorrowed, packet_of, PacketIsBorrowed, PacketOptionIsOwned, PacketIsOwned, PacketNeedsNoMemory, PacketBodyMayGrow};
 ghost use Rattle.pcap_core.specs.Errors.{IsMemory};
@@ -13,7 +13,7 @@ use crate::options::{
 use crate::owned::{IntoStatic, each_into_static};
 use crate::refusal::Refusal;
 use crate::stored_packet::stored_from_slice;
-use crate::values::{text_value, u32_value};
+use crate::values::{string_value, u32_value};
 use byteorder::ByteOrder;
 use pcap_core::fields::split_u16;
 use pcap_core::rules::Rule;
@@ -21,14 +21,15 @@ use pcap_core::{CowBytes, ResultParsing};
 use std::alloc::{AllocError, Global};
 use std::borrow::CowStr;
 
-/// The body of a packet block: a packet of an interface, in an obsolete form.
+/// The body of a packet block ('Packet Block'): a packet of an interface, in an obsolete form.
 #[derive(Clone, Debug, Drop)]
 pub struct PacketBlock<'a> {
-    /// The number of the interface among those of the section, from 0.
+    /// The number of the interface, counted from 0 in the order of the section's interface descriptions.
     pub interface_id: u16,
-    /// How many packets were lost between this one and the one before it.
+    /// How many packets of the interface were lost between this one and the one before it.
     pub drop_count: u16,
-    /// Units of time since 1970-01-01 00:00:00 UTC; the interface's options tell the unit.
+    /// Units of time since 1970-01-01 00:00:00 UTC. The interface's `IfTsResol` tells the unit, 10^-6 s where it has
+    /// none.
     pub timestamp: u64,
     /// How many bytes of the packet are stored.
     pub captured_len: u32,
@@ -41,11 +42,12 @@ pub struct PacketBlock<'a> {
 }
 
 impl<'a> PacketBlock<'a> {
-    /// The packet that a block's body is, and what follows its options. Texts and bytes are borrowed from the slice.
+    /// The packet that a block's body is, and what follows its options, which end at their mark or with the slice.
+    /// Strings and bytes are borrowed from the slice.
     ///
     /// `InvalidField` under 20 bytes, then where the data and its padding pass the slice, then for the first fault of
-    /// the options, or `Utf8Error` or `IoError` where that is a text that isn't UTF-8 or a custom value under 4 bytes.
-    /// `OutOfMemory` where the list of options can't grow.
+    /// the options, or `Utf8Error` or `IoError` where that is a string that isn't UTF-8 or a custom value under 4
+    /// bytes. `OutOfMemory` where an allocation failed, and only where an option stands.
     pub fn from_slice<B: ByteOrder>(
         alloc: Global,
         slice: &'a [u8],
@@ -81,9 +83,9 @@ impl<'a> PacketBlock<'a> {
         Ok((rest, block))
     }
 
-    /// The same packet, with bytes and texts of its own: borrowed ones are copied, owned ones kept.
+    /// The same packet, with bytes and strings of its own: borrowed ones are copied, owned ones kept.
     ///
-    /// `OutOfMemory` where a copy can't be made; the value is then dropped.
+    /// `OutOfMemory` where an allocation failed; the value is then dropped.
     pub fn into_owned(self, alloc: Global) -> ResultParsing<PacketBlock<'static>>
         ensures same { IfOk result (λ kept. packet_of kept ≡ packet_of self.entry) }
         ensures owned { IfOk result PacketIsOwned }
@@ -94,28 +96,32 @@ impl<'a> PacketBlock<'a> {
     }
 }
 
-/// An option of a packet block.
+/// An option of a packet block ('Packet Block').
 #[derive(Clone, Debug, Drop)]
 pub enum PacketOption<'a> {
-    /// A comment on the packet.
+    /// A comment on the packet (opt_comment, code 1).
     Comment(CowStr<'a>),
-    /// What the link layer says of the packet.
+    /// What the link layer says of the packet (pack_flags, code 2). Bit 0 is the lowest: bits 0 and 1 are the direction
+    /// (1 in, 2 out), bits 2 to 4 how it was received (1 unicast, 2 multicast, 3 broadcast, 4 promiscuous), bits 5 to 8
+    /// the length of its frame check sequence in bytes, bits 16 to 31 errors of the link layer. 0 is not known.
     Flags(u32),
-    /// A hash of the packet, behind a byte that names its algorithm.
+    /// A hash of the packet (pack_hash, code 3), after a byte that names its algorithm: 0 for the 2s complement, 1 for
+    /// XOR, 2 for CRC32, 3 for MD5, 4 for SHA-1.
     Hash(CowBytes<'a>),
-    /// Bytes of an enterprise.
+    /// Bytes of an enterprise, code 2989 or 19373.
     CustomBinary(CustomBinaryOption<'a>),
-    /// A text of an enterprise.
+    /// A string of an enterprise, code 2988 or 19372.
     CustomUtf8(CustomUtf8Option<'a>),
     /// An option of another code.
     Unknown(UnknownOption<'a>),
 }
 
 impl<'a> PacketOption<'a> {
-    /// The list of options at the front of a slice, and what follows it.
+    /// The list of options at the front of a slice, and what follows it. It ends at its mark or with the slice.
     ///
-    /// `InvalidField` for the first fault of the list, or `Utf8Error` or `IoError` where that is a text that isn't
-    /// UTF-8 or a custom value under 4 bytes. `OutOfMemory` where the list can't grow.
+    /// `InvalidField` for the first fault of the list, or `Utf8Error` or `IoError` where that is a string that isn't
+    /// UTF-8 or a custom value under 4 bytes. `OutOfMemory` where an allocation failed, and only where an option
+    /// stands.
     pub fn from_slice<B: ByteOrder>(
         alloc: Global,
         slice: &'a [u8],
@@ -126,9 +132,9 @@ impl<'a> PacketOption<'a> {
         Ok(options_from_slice::<PacketOption, B>(alloc, slice)?)
     }
 
-    /// The same option, with bytes and texts of its own: borrowed ones are copied, owned ones kept.
+    /// The same option, with bytes and strings of its own: borrowed ones are copied, owned ones kept.
     ///
-    /// `OutOfMemory` where a copy can't be made; the value is then dropped.
+    /// `OutOfMemory` where an allocation failed; the value is then dropped.
     pub fn into_owned(self, alloc: Global) -> ResultParsing<PacketOption<'static>>
         ensures same { IfOk result (λ kept. packet_entry kept ≡ packet_entry self.entry) }
         ensures owned { IfOk result PacketOptionIsOwned }
@@ -148,7 +154,7 @@ impl<'a> PcapNgOption<'a> for PacketOption<'a> {
 
     fn from_value<B: ByteOrder>(code: u16, len: u16, value: &'a [u8]) -> Result<Self, Refusal> {
         Ok(match code {
-            1 => Self::Comment(text_value(value)?),
+            1 => Self::Comment(string_value(value)?),
             2 => Self::Flags(u32_value::<B>(value, Rule::PacketFlagsLength)?),
             3 => Self::Hash(CowBytes::Borrowed(value)),
             2988 | 19372 => Self::CustomUtf8(CustomUtf8Option::read::<B>(code, value)?),

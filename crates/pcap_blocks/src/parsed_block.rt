@@ -2,7 +2,7 @@
 
 ghost use Rattle.std.specs.Prelude.{◌≡◌, IsOk, IfOk, IfErr};
 ghost use Rattle.pcap_core.specs.Answer.{TellsWhere};
-ghost use Rattle.pcap_blocks.specs.Refusals.{FindsWhere};
+ghost use Rattle.pcap_blocks.specs.Refusal.{FindsWhere};
 ghost use Rattle.pcap_blocks.specs.ParsedBlock.{BodySays, BodyMayGrow, body_of, ParsedIsBorrowed, section_in, interface_in, ParsedIsOwned, ParsedNeedsNoMemory};
 ghost use Rattle.pcap_core.specs.Errors.{IsMemory};
 
@@ -23,7 +23,7 @@ use pcap_core::ResultParsing;
 use pcap_core::rules::Rule;
 use std::alloc::{AllocError, Global};
 
-/// The body of a block, by its type.
+/// The body of a block, by its type ('Block Types').
 #[derive(Clone, Debug, Drop)]
 pub enum ParsedBlock<'a> {
     SectionHeader(SectionHeaderBlock<'a>),
@@ -38,11 +38,12 @@ pub enum ParsedBlock<'a> {
 }
 
 impl<'a> ParsedBlock<'a> {
-    /// The body of a block of this type, and what follows it. Texts and bytes are borrowed from the slice.
+    /// The body of a block of this type, and what follows it. Strings and bytes are borrowed from the slice.
     ///
     /// A section's numbers have the order that its own magic number names, whatever `B` is. Of an unknown type the
-    /// whole slice is the value and is left as well: `InvalidField` where it has 2^32 bytes or more. The errors of
-    /// the other types are those of their own `from_slice`.
+    /// whole slice is the value and is left as well: `InvalidField` where it has 2^32 bytes or more. The errors of the
+    /// other types are those of their own `from_slice`, so simple packets, journal entries and unknown types never give
+    /// `OutOfMemory`.
     pub fn from_slice<B: ByteOrder>(
         alloc: Global,
         type_: BlockType,
@@ -127,9 +128,9 @@ impl<'a> ParsedBlock<'a> {
         }
     }
 
-    /// The same block, with bytes and texts of its own: borrowed ones are copied, owned ones kept.
+    /// The same block, with bytes and strings of its own: borrowed ones are copied, owned ones kept.
     ///
-    /// `OutOfMemory` where a copy can't be made; the value is then dropped.
+    /// `OutOfMemory` where an allocation failed; the value is then dropped.
     pub fn into_owned(self, alloc: Global) -> ResultParsing<ParsedBlock<'static>>
         ensures same { IfOk result (λ kept. body_of kept ≡ body_of self.entry) }
         ensures owned { IfOk result ParsedIsOwned }

@@ -3,7 +3,7 @@
 ghost use Rattle.std.specs.Prelude.{◌≡◌, ◌≤◌, length, IsOk, IfOk, IfErr};
 ghost use Rattle.pcap_core.specs.Answer.{TellsWhere, TellsAllWhere};
 ghost use Rattle.pcap_core.specs.declared.rules.Rule.TheVariants.{Ipv4RecordTooShort, Ipv6RecordTooShort};
-ghost use Rattle.pcap_blocks.specs.Refusals.{FindsWhere, FindsAllWhere};
+ghost use Rattle.pcap_blocks.specs.Refusal.{FindsWhere, FindsAllWhere};
 ghost use Rattle.pcap_blocks.specs.Record.{AddressSays, address_of, AddressIsBorrowed, form_of, RecordValueSays, RecordSays, ipv4_of, ipv6_of, name_record_of, Ipv4IsBorrowed, Ipv6IsBorrowed, RecordIsBorrowed, other_of, Ipv4IsOwned, Ipv4NeedsNoMemory, Ipv6IsOwned, Ipv6NeedsNoMemory, UnknownRecordIsOwned, RecordIsOwned, RecordNeedsNoMemory, AddressMayGrow, RecordValueMayGrow, RecordMayGrow};
 ghost use Rattle.pcap_core.specs.Errors.{IsMemory};
 
@@ -17,7 +17,7 @@ use pcap_core::{CowBytes, ResultParsing};
 use std::alloc::{AllocError, Global};
 use std::borrow::CowStr;
 
-/// The names of an IPv4 address.
+/// The names of an IPv4 address (nrb_record_ipv4 of 'Name Resolution Block').
 #[derive(Clone, Debug, Drop)]
 pub struct Ipv4Record<'a> {
     /// The address, 4 bytes.
@@ -29,8 +29,8 @@ pub struct Ipv4Record<'a> {
 impl<'a> Ipv4Record<'a> {
     /// The address and the names that all of a record's value is. They are borrowed from the slice.
     ///
-    /// `InvalidField` under 6 bytes, then where a name has no zero byte behind it, or `Utf8Error` where one isn't
-    /// UTF-8. `OutOfMemory` where the list of names can't grow.
+    /// `InvalidField` under 6 bytes, then where a name has no zero byte after it, or `Utf8Error` where one isn't UTF-8.
+    /// `OutOfMemory` where an allocation failed, and only where a name stands.
     pub fn from_slice(alloc: Global, slice: &'a [u8]) -> ResultParsing<Self>
         ensures tells { TellsAllWhere (AddressMayGrow 4 slice.now) (AddressSays 4 Ipv4RecordTooShort slice.now) ipv4_of result }
         ensures borrowed { IfOk result Ipv4IsBorrowed }
@@ -46,9 +46,9 @@ impl<'a> Ipv4Record<'a> {
         Ok(Ipv4Record { ip_addr, names })
     }
 
-    /// The same record, with bytes and texts of its own: borrowed ones are copied, owned ones kept.
+    /// The same record, with bytes and strings of its own: borrowed ones are copied, owned ones kept.
     ///
-    /// `OutOfMemory` where a copy can't be made; the value is then dropped.
+    /// `OutOfMemory` where an allocation failed; the value is then dropped.
     pub fn into_owned(self, alloc: Global) -> ResultParsing<Ipv4Record<'static>>
         ensures same { IfOk result (λ kept. ipv4_of kept ≡ ipv4_of self.entry) }
         ensures owned { IfOk result Ipv4IsOwned }
@@ -59,7 +59,7 @@ impl<'a> Ipv4Record<'a> {
     }
 }
 
-/// The names of an IPv6 address.
+/// The names of an IPv6 address (nrb_record_ipv6 of 'Name Resolution Block').
 #[derive(Clone, Debug, Drop)]
 pub struct Ipv6Record<'a> {
     /// The address, 16 bytes.
@@ -71,8 +71,8 @@ pub struct Ipv6Record<'a> {
 impl<'a> Ipv6Record<'a> {
     /// The address and the names that all of a record's value is. They are borrowed from the slice.
     ///
-    /// `InvalidField` under 18 bytes, then where a name has no zero byte behind it, or `Utf8Error` where one isn't
-    /// UTF-8. `OutOfMemory` where the list of names can't grow.
+    /// `InvalidField` under 18 bytes, then where a name has no zero byte after it, or `Utf8Error` where one isn't
+    /// UTF-8. `OutOfMemory` where an allocation failed, and only where a name stands.
     pub fn from_slice(alloc: Global, slice: &'a [u8]) -> ResultParsing<Self>
         ensures tells { TellsAllWhere (AddressMayGrow 16 slice.now) (AddressSays 16 Ipv6RecordTooShort slice.now) ipv6_of result }
         ensures borrowed { IfOk result Ipv6IsBorrowed }
@@ -88,9 +88,9 @@ impl<'a> Ipv6Record<'a> {
         Ok(Ipv6Record { ip_addr, names })
     }
 
-    /// The same record, with bytes and texts of its own: borrowed ones are copied, owned ones kept.
+    /// The same record, with bytes and strings of its own: borrowed ones are copied, owned ones kept.
     ///
-    /// `OutOfMemory` where a copy can't be made; the value is then dropped.
+    /// `OutOfMemory` where an allocation failed; the value is then dropped.
     pub fn into_owned(self, alloc: Global) -> ResultParsing<Ipv6Record<'static>>
         ensures same { IfOk result (λ kept. ipv6_of kept ≡ ipv6_of self.entry) }
         ensures owned { IfOk result Ipv6IsOwned }
@@ -119,7 +119,7 @@ fn address_from_slice(
     Ok((CowBytes::Borrowed(ip_addr), names_from_slice(alloc, rest)?))
 }
 
-/// A record whose type has no name here.
+/// A record of another type ('Name Resolution Block').
 #[derive(Clone, Debug, Drop)]
 pub struct UnknownRecord<'a> {
     /// Its type.
@@ -130,25 +130,25 @@ pub struct UnknownRecord<'a> {
     pub value: CowBytes<'a>,
 }
 
-/// A record of a name resolution body.
+/// A record of a name resolution body ('Name Resolution Block').
 #[derive(Clone, Debug, Drop)]
 pub enum Record<'a> {
-    /// The end of the records.
+    /// The end of the records (nrb_record_end, type 0).
     End,
-    /// An IPv4 address and its names.
+    /// An IPv4 address and its names (type 1).
     Ipv4(Ipv4Record<'a>),
-    /// An IPv6 address and its names.
+    /// An IPv6 address and its names (type 2).
     Ipv6(Ipv6Record<'a>),
     /// A record of another type.
     Unknown(UnknownRecord<'a>),
 }
 
 impl<'a> Record<'a> {
-    /// The record at the front of a slice, and what follows its padding. Texts and bytes are borrowed from the slice.
+    /// The record at the front of a slice, and what follows its padding. Strings and bytes are borrowed from the slice.
     ///
     /// `IoError` under 4 bytes. `InvalidField` where its value passes the slice, then where its length doesn't fit its
-    /// type, then where a name has no zero byte behind it, or `Utf8Error` where one isn't UTF-8; last `InvalidField`
-    /// where its padding passes the slice. `OutOfMemory` where the list of names can't grow.
+    /// type, then where a name has no zero byte after it, or `Utf8Error` where one isn't UTF-8; last `InvalidField`
+    /// where its padding passes the slice. `OutOfMemory` where an allocation failed, and only where a name stands.
     pub fn from_slice<B: ByteOrder>(
         alloc: Global,
         slice: &'a [u8],
@@ -206,9 +206,9 @@ impl<'a> Record<'a> {
         }
     }
 
-    /// The same record, with bytes and texts of its own: borrowed ones are copied, owned ones kept.
+    /// The same record, with bytes and strings of its own: borrowed ones are copied, owned ones kept.
     ///
-    /// `OutOfMemory` where a copy can't be made; the value is then dropped.
+    /// `OutOfMemory` where an allocation failed; the value is then dropped.
     pub fn into_owned(self, alloc: Global) -> ResultParsing<Record<'static>>
         ensures same { IfOk result (λ kept. name_record_of kept ≡ name_record_of self.entry) }
         ensures owned { IfOk result RecordIsOwned }
@@ -256,9 +256,9 @@ impl<'a> IntoStatic for Ipv6Record<'a> {
 }
 
 impl<'a> UnknownRecord<'a> {
-    /// The same record, with bytes and texts of its own: borrowed ones are copied, owned ones kept.
+    /// The same record, with bytes and strings of its own: borrowed ones are copied, owned ones kept.
     ///
-    /// `OutOfMemory` where a copy can't be made; the value is then dropped.
+    /// `OutOfMemory` where an allocation failed; the value is then dropped.
     pub fn into_owned(self, alloc: Global) -> ResultParsing<UnknownRecord<'static>>
         ensures same { IfOk result (λ kept. other_of kept ≡ other_of self.entry) }
         ensures owned { IfOk result UnknownRecordIsOwned }

@@ -1,7 +1,7 @@
 //! Why bytes are not read, inside the crate.
 
 ghost use Rattle.std.specs.Prelude.{◌≡◌, alloc_error};
-ghost use Rattle.pcap_blocks.specs.Refusals.{IsShownAs};
+ghost use Rattle.pcap_blocks.specs.Refusal.{IsShownAs};
 ghost use Rattle.pcap_blocks.specs.declared.refusal.Refusal.TheVariants as refusals;
 
 use pcap_core::PcapError;

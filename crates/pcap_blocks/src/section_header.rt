@@ -2,7 +2,7 @@
 
 ghost use Rattle.std.specs.Prelude.{◌≡◌, ◌≤◌, ◌↔◌, length, IsOk, IfOk, IsTrue, IsSome, Some, IfErr};
 ghost use Rattle.pcap_core.specs.Answer.{TellsWhere};
-ghost use Rattle.pcap_blocks.specs.Refusals.{FindsWhere};
+ghost use Rattle.pcap_blocks.specs.Refusal.{FindsWhere};
 ghost use Rattle.pcap_blocks.specs.SectionHeader.{section_header, magic_order, SectionSays, AfterMagicSays, section_entry, SectionOptionIsBorrowed, section_of, SectionIsBorrowed, SectionOptionIsOwned, SectionIsOwned, SectionNeedsNoMemory, SectionMayGrow, AfterMagicMayGrow};
 ghost use Rattle.pcap_core.specs.Errors.{IsMemory};
 
@@ -11,7 +11,7 @@ use crate::options::{
 };
 use crate::owned::{IntoStatic, each_into_static};
 use crate::refusal::Refusal;
-use crate::values::text_value;
+use crate::values::string_value;
 use byteorder::{BigEndian, ByteOrder, LittleEndian};
 use pcap_core::fields::{split_u16, split_u32, split_u64};
 use pcap_core::rules::Rule;
@@ -19,7 +19,7 @@ use pcap_core::{Endianness, ResultParsing};
 use std::alloc::{AllocError, Global};
 use std::borrow::CowStr;
 
-/// The body of a section header: what holds for all blocks up to the next one.
+/// The body of a section header ('Section Header Block'): what holds for all blocks up to the next one.
 #[derive(Clone, Debug, Drop)]
 pub struct SectionHeaderBlock<'a> {
     /// Magic number, read high byte first: 0x1A2B3C4D in a big-endian section, 0x4D3C2B1A in a little-endian one.
@@ -28,18 +28,19 @@ pub struct SectionHeaderBlock<'a> {
     pub major_version: u16,
     /// Minor version number, 0 as a rule.
     pub minor_version: u16,
-    /// Length in bytes of the section without this block, or -1 where it isn't known. Nothing is skipped by it.
+    /// Length of the section in bytes, without this block, or -1 where it isn't known. Nothing is skipped by it.
     pub section_length: i64,
     /// What else is said of the section.
     pub options: Vec<SectionHeaderOption<'a>>,
 }
 
 impl<'a> SectionHeaderBlock<'a> {
-    /// The section that a block's body is, and what follows its options. Texts and bytes are borrowed from the slice.
+    /// The section that a block's body is, and what follows its options, which end at their mark or with the slice.
+    /// Strings and bytes are borrowed from the slice.
     ///
     /// `InvalidField` under 16 bytes, then where the magic number is neither of the two, then for the first fault of
-    /// the options, or `Utf8Error` or `IoError` where that is a text that isn't UTF-8 or a custom value under 4 bytes.
-    /// `OutOfMemory` where the list of options can't grow.
+    /// the options, or `Utf8Error` or `IoError` where that is a string that isn't UTF-8 or a custom value under 4
+    /// bytes. `OutOfMemory` where an allocation failed, and only where an option stands.
     pub fn from_slice(alloc: Global, slice: &'a [u8]) -> ResultParsing<(&'a [u8], Self)>
         ensures tells { TellsWhere (SectionMayGrow slice.now) (SectionSays slice.now) section_of result }
         ensures borrowed { IfOk result (λ x. SectionIsBorrowed x.1) }
@@ -107,9 +108,9 @@ impl<'a> SectionHeaderBlock<'a> {
         }
     }
 
-    /// The same section, with bytes and texts of its own: borrowed ones are copied, owned ones kept.
+    /// The same section, with bytes and strings of its own: borrowed ones are copied, owned ones kept.
     ///
-    /// `OutOfMemory` where a copy can't be made; the value is then dropped.
+    /// `OutOfMemory` where an allocation failed; the value is then dropped.
     pub fn into_owned(self, alloc: Global) -> ResultParsing<SectionHeaderBlock<'static>>
         ensures same { IfOk result (λ kept. section_of kept ≡ section_of self.entry) }
         ensures owned { IfOk result SectionIsOwned }
@@ -120,20 +121,20 @@ impl<'a> SectionHeaderBlock<'a> {
     }
 }
 
-/// An option of a section header.
+/// An option of a section header ('Section Header Block').
 #[derive(Clone, Debug, Drop)]
 pub enum SectionHeaderOption<'a> {
-    /// A comment on the section.
+    /// A comment on the section (opt_comment, code 1).
     Comment(CowStr<'a>),
-    /// The hardware that the section was made on.
+    /// The hardware that the section was made on (shb_hardware, code 2).
     Hardware(CowStr<'a>),
-    /// The operating system that the section was made on.
+    /// The operating system that the section was made on (shb_os, code 3).
     OS(CowStr<'a>),
-    /// The application that made the section.
+    /// The application that made the section (shb_userappl, code 4).
     UserApplication(CowStr<'a>),
-    /// Bytes of an enterprise.
+    /// Bytes of an enterprise, code 2989 or 19373.
     CustomBinary(CustomBinaryOption<'a>),
-    /// A text of an enterprise.
+    /// A string of an enterprise, code 2988 or 19372.
     CustomUtf8(CustomUtf8Option<'a>),
     /// An option of another code.
     Unknown(UnknownOption<'a>),
@@ -148,10 +149,10 @@ impl<'a> PcapNgOption<'a> for SectionHeaderOption<'a> {
 
     fn from_value<B: ByteOrder>(code: u16, len: u16, value: &'a [u8]) -> Result<Self, Refusal> {
         Ok(match code {
-            1 => Self::Comment(text_value(value)?),
-            2 => Self::Hardware(text_value(value)?),
-            3 => Self::OS(text_value(value)?),
-            4 => Self::UserApplication(text_value(value)?),
+            1 => Self::Comment(string_value(value)?),
+            2 => Self::Hardware(string_value(value)?),
+            3 => Self::OS(string_value(value)?),
+            4 => Self::UserApplication(string_value(value)?),
             2988 | 19372 => Self::CustomUtf8(CustomUtf8Option::read::<B>(code, value)?),
             2989 | 19373 => Self::CustomBinary(CustomBinaryOption::read::<B>(code, value)?),
             _ => Self::Unknown(UnknownOption::new(code, len, value)),
@@ -160,9 +161,9 @@ impl<'a> PcapNgOption<'a> for SectionHeaderOption<'a> {
 }
 
 impl<'a> SectionHeaderOption<'a> {
-    /// The same option, with bytes and texts of its own: borrowed ones are copied, owned ones kept.
+    /// The same option, with bytes and strings of its own: borrowed ones are copied, owned ones kept.
     ///
-    /// `OutOfMemory` where a copy can't be made; the value is then dropped.
+    /// `OutOfMemory` where an allocation failed; the value is then dropped.
     pub fn into_owned(self, alloc: Global) -> ResultParsing<SectionHeaderOption<'static>>
         ensures same { IfOk result (λ kept. section_entry kept ≡ section_entry self.entry) }
         ensures owned { IfOk result SectionOptionIsOwned }

@@ -2,7 +2,7 @@
 
 ghost use Rattle.std.specs.Prelude.{IsOk, IfOk, ◌≡◌, IfErr};
 ghost use Rattle.pcap_core.specs.Answer.{Tells};
-ghost use Rattle.pcap_blocks.specs.Refusals.{Finds};
+ghost use Rattle.pcap_blocks.specs.Refusal.{Finds};
 ghost use Rattle.pcap_blocks.specs.SimplePacket.{SimpleSays, simple_of, SimpleIsBorrowed, SimpleIsOwned};
 ghost use Rattle.pcap_core.specs.Errors.{IsMemory};
 
@@ -14,7 +14,7 @@ use pcap_core::rules::Rule;
 use pcap_core::{CowBytes, ResultParsing};
 use std::alloc::{AllocError, Global};
 
-/// The body of a simple packet: a packet of the section's first interface, with no time.
+/// The body of a simple packet ('Simple Packet Block'): a packet of the section's first interface, with no time.
 #[derive(Clone, Debug, Drop)]
 pub struct SimplePacketBlock<'a> {
     /// How many bytes the packet had on the wire.
@@ -24,7 +24,7 @@ pub struct SimplePacketBlock<'a> {
 }
 
 impl<'a> SimplePacketBlock<'a> {
-    /// The packet that a block's body is; nothing is left behind it. Its bytes are borrowed from the slice.
+    /// The packet that a block's body is; nothing is left. Its bytes are borrowed from the slice.
     ///
     /// `InvalidField` under 4 bytes.
     pub fn from_slice<B: ByteOrder>(slice: &'a [u8]) -> ResultParsing<(&'a [u8], Self)>
@@ -49,9 +49,9 @@ impl<'a> SimplePacketBlock<'a> {
         Ok((&slice[slice.len()..], block))
     }
 
-    /// The same packet, with bytes and texts of its own: borrowed ones are copied, owned ones kept.
+    /// The same packet, with bytes and strings of its own: borrowed ones are copied, owned ones kept.
     ///
-    /// `OutOfMemory` where a copy can't be made; the value is then dropped.
+    /// `OutOfMemory` where an allocation failed; the value is then dropped.
     pub fn into_owned(self, alloc: Global) -> ResultParsing<SimplePacketBlock<'static>>
         ensures same { IfOk result (λ kept. simple_of kept ≡ simple_of self.entry) }
         ensures owned { IfOk result SimpleIsOwned }

@@ -1,7 +1,7 @@
-//! What both kinds of packet body hold behind their interface.
+//! What both kinds of packet body hold after their interface.
 
 ghost use Rattle.std.specs.Prelude.{◌≤◌, length, IfOk};
-ghost use Rattle.pcap_blocks.specs.Refusals.{FindsWhere};
+ghost use Rattle.pcap_blocks.specs.Refusal.{FindsWhere};
 ghost use Rattle.pcap_blocks.specs.StoredPacket.{StoredSays, stored_of, StoredIsBorrowed, StoredMayGrow};
 
 use crate::options::{PcapNgOption, options_from_slice};

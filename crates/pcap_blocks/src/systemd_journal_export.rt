@@ -10,7 +10,7 @@ use byteorder::ByteOrder;
 use pcap_core::{CowBytes, ResultParsing};
 use std::alloc::{AllocError, Global};
 
-/// The body of a systemd journal export.
+/// The body of a systemd journal export ('systemd Journal Export Block').
 #[derive(Clone, Debug, Drop)]
 pub struct SystemdJournalExportBlock<'a> {
     /// An entry in the journal export format.
@@ -18,7 +18,7 @@ pub struct SystemdJournalExportBlock<'a> {
 }
 
 impl<'a> SystemdJournalExportBlock<'a> {
-    /// The entry that a block's body is; nothing is left behind it. Its bytes are borrowed from the slice.
+    /// The entry that a block's body is; nothing is left. Its bytes are borrowed from the slice.
     pub fn from_slice<B: ByteOrder>(slice: &'a [u8]) -> ResultParsing<(&'a [u8], Self)>
         ensures tells { Tells (JournalSays slice.now) journal_of result }
         ensures borrowed { IfOk result (λ x. JournalIsBorrowed x.1) }
@@ -36,9 +36,9 @@ impl<'a> SystemdJournalExportBlock<'a> {
         (&slice[slice.len()..], block)
     }
 
-    /// The same entry, with bytes and texts of its own: borrowed ones are copied, owned ones kept.
+    /// The same entry, with bytes and strings of its own: borrowed ones are copied, owned ones kept.
     ///
-    /// `OutOfMemory` where a copy can't be made; the value is then dropped.
+    /// `OutOfMemory` where an allocation failed; the value is then dropped.
     pub fn into_owned(self, alloc: Global) -> ResultParsing<SystemdJournalExportBlock<'static>>
         ensures same { IfOk result (λ kept. journal_of kept ≡ journal_of self.entry) }
         ensures owned { IfOk result JournalIsOwned }

@@ -1,4 +1,4 @@
-//! Blocks of other types.
+//! Blocks whose type has no name here.
 
 ghost use Rattle.std.specs.Prelude.{◌≡◌, IsOk, IfOk, IfErr};
 ghost use Rattle.pcap_blocks.specs.UnknownBlock.{unknown_of, UnknownBlockIsBorrowed, UnknownBlockIsOwned};
@@ -9,7 +9,7 @@ use crate::owned::IntoStatic;
 use pcap_core::{CowBytes, ResultParsing};
 use std::alloc::{AllocError, Global};
 
-/// The body of a block whose type has no name here.
+/// The body of a block whose type has no name here ('General Block Structure').
 #[derive(Clone, Debug, Drop)]
 pub struct UnknownBlock<'a> {
     /// The block's type.
@@ -33,9 +33,9 @@ impl<'a> UnknownBlock<'a> {
         }
     }
 
-    /// The same block, with bytes and texts of its own: borrowed ones are copied, owned ones kept.
+    /// The same block, with bytes and strings of its own: borrowed ones are copied, owned ones kept.
     ///
-    /// `OutOfMemory` where a copy can't be made; the value is then dropped.
+    /// `OutOfMemory` where an allocation failed; the value is then dropped.
     pub fn into_owned(self, alloc: Global) -> ResultParsing<UnknownBlock<'static>>
         ensures same { IfOk result (λ kept. unknown_of kept ≡ unknown_of self.entry) }
         ensures owned { IfOk result UnknownBlockIsOwned }

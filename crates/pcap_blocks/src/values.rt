@@ -3,8 +3,8 @@
 ghost use Rattle.std.specs.Prelude.{◌≡◌, IfOk};
 ghost use Rattle.std.specs.Cow.{cow_str_bytes, IsBorrowedStr};
 ghost use Rattle.pcap_core.specs.Bytes.{cow_bytes, IsBorrowed};
-ghost use Rattle.pcap_blocks.specs.Refusals.{FindsAll};
-ghost use Rattle.pcap_blocks.specs.Values.{Bytes, Integer, AllSay, text_at, fixed_at, some_at, byte_at, number_at, first_number_at, first_time_at};
+ghost use Rattle.pcap_blocks.specs.Refusal.{FindsAll};
+ghost use Rattle.pcap_blocks.specs.Values.{Bytes, Integer, AllSay, string_at, fixed_at, some_at, byte_at, number_at, first_number_at, first_time_at};
 
 use crate::refusal::Refusal;
 use byteorder::ByteOrder;
@@ -13,26 +13,26 @@ use pcap_core::rules::Rule;
 use std::borrow::CowStr;
 use std::str;
 
-// The text that all bytes of a name are.
-#[tactic(auto, using(crate::proofs::Strings::text_is, crate::proofs::Strings::no_text))]
+// The string that all bytes of a name are.
+#[tactic(auto, using(crate::proofs::Strings::string_is, crate::proofs::Strings::no_string))]
 pub(crate) fn str_value(name: &[u8]) -> Result<&str, Refusal>
-    ensures tells { FindsAll (AllSay (text_at name.now)) (λ text. text.now) result }
-    ensures same { IfOk result (λ text. text.now ≡ name.now) }
+    ensures tells { FindsAll (AllSay (string_at name.now)) (λ string. string.now) result }
+    ensures same { IfOk result (λ string. string.now ≡ name.now) }
 {
     match str::from_utf8(name) {
-        Ok(text) => Ok(text),
+        Ok(string) => Ok(string),
         Err(e) => Err(Refusal::Utf8(e)),
     }
 }
 
-// A text.
-#[tactic(auto, using(crate::proofs::Strings::text_is, crate::proofs::Strings::no_text))]
-pub(crate) fn text_value(value: &[u8]) -> Result<CowStr<'_>, Refusal>
-    ensures tells { FindsAll (AllSay (text_at value.now)) cow_str_bytes result }
+// A string.
+#[tactic(auto, using(crate::proofs::Strings::string_is, crate::proofs::Strings::no_string))]
+pub(crate) fn string_value(value: &[u8]) -> Result<CowStr<'_>, Refusal>
+    ensures tells { FindsAll (AllSay (string_at value.now)) cow_str_bytes result }
     ensures borrowed { IfOk result IsBorrowedStr }
 {
     match str::from_utf8(value) {
-        Ok(text) => Ok(CowStr::Borrowed(text)),
+        Ok(string) => Ok(CowStr::Borrowed(string)),
         Err(e) => Err(Refusal::Utf8(e)),
     }
 }

@@ -14,3 +14,5 @@ pub mod Captures
 pub mod Copied
 pub mod Accepted
 pub mod StatedPackets
+pub mod Exact
+pub mod Pieces

@@ -1,5 +1,5 @@
 -- A packet off a stream is its header and then its data.
-use Rattle.std.proofs.Common.{◌≡◌, ℕ, List, [], ◌++◌, ◌≤◌, ◌+◌, length, Bool, sym, append-nil, Err, Some, None, ◌⊎◌, inl, inr, arith}
+use Rattle.std.proofs.Common.{◌≡◌, ℕ, List, [], ◌++◌, length, Bool, sym, append-nil, Err, Some, None, ◌⊎◌, inl, inr, arith}
 use Rattle.std.specs.Prelude.{⊤, Option, IfSome}
 use Rattle.std.specs.Io.KnownBytes.{Consumes}
 use Rattle.std.proofs.KnownBytes.{Consumes-trans}

@@ -14,3 +14,5 @@ pub mod Writing
 pub mod Defaults
 pub mod Copies
 pub mod StatedPackets
+pub mod Exact
+pub mod Pieces

@@ -35,3 +35,7 @@ choice false f g = g
 -- what a reader reads under its header as it stands
 unfoldable pub reader_format : ℕ → PcapHeader → Format (Unit {0}) Captured
 reader_format limit header = choice (is_magic header.magic_number) (format_under limit header) refusing_format
+
+-- packets after any header, which is the state
+abbrev pub capture_format : ℕ → Format PcapHeader Captured
+capture_format limit = record { says = λ header. (format_under limit header).says tt; goes = λ header packet. header; head = 16 }

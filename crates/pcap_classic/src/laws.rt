@@ -1,16 +1,13 @@
 //! Laws of the grammar and of `==`. Each contract is the law; only the functions of `==` call anything.
 
-ghost use Rattle.std.specs.Prelude.{◌≡◌, ◌≤◌, ◌++◌, ◌↔◌, ℕ, List, [], ◌∷◌, length, map, All, IsTrue, Option, false};
+ghost use Rattle.std.specs.Prelude.{IfOk, IsOk, ◌≡◌, ◌≤◌, ◌+◌, ◌++◌, ◌↔◌, ℕ, List, [], ◌∷◌, length, map, All, IsTrue, Option, false};
 ghost use Rattle.std.specs.Io.KnownBytes.{Appends};
 ghost use Rattle.std.specs.List.{flat_map};
-ghost use Rattle.pcap_core.specs.declared.common.Endianness.{Endianness};
-ghost use Rattle.pcap_classic.specs.declared.common.TsResolution.{TsResolution};
-ghost use Rattle.pcap_core.specs.declared.link.DataLink.{DataLink};
 ghost use Rattle.pcap_classic.specs.declared.pcap.header.PcapHeader.{PcapHeader};
 ghost use Rattle.pcap_classic.specs.declared.run.copy.Copied.{Copied};
 ghost use Rattle.pcap_classic.specs.declared.run.copy.Under.{Under};
 ghost use Rattle.pcap_classic.specs.declared.run.copy.Under.TheVariants.{Same};
-ghost use Rattle.pcap_core.specs.Answer.{Order, number_in};
+ghost use Rattle.pcap_core.specs.Answer.{Order, number_in, whole, lacks};
 ghost use Rattle.pcap_core.specs.Bytes.{IsBytes};
 ghost use Rattle.pcap_classic.specs.Copies.{CanBeUnder, CopyFront, CopiesAll, NothingFailed, header_under};
 ghost use Rattle.pcap_core.specs.Format.{Front, Texts, Asks, IsLawful};
@@ -21,11 +18,14 @@ ghost use Rattle.pcap_core.specs.Link.{Link, IsPlain, link_number};
 ghost use Rattle.pcap_classic.specs.Magic.{is_magic, resolution_of};
 ghost use Rattle.pcap_classic.specs.Packets.{packet_format, reader_format};
 ghost use Rattle.pcap_classic.specs.PacketText.{packet_limit, PacketSays, PacketHeaderSays, Captured, PacketText};
+ghost use Rattle.pcap_classic.specs.Pieces.{HoldsPackets};
 ghost use Rattle.pcap_core.specs.Reading.{TakesAsked, TakesAtMost};
+ghost use Rattle.pcap_core.specs.Requested.{HeadThenRest, RequestsAt, RunRequests};
 ghost use Rattle.pcap_classic.specs.Written.{IsWhole, IsWholeHeader, number_bytes, capture, cut, record_bytes};
 
+use crate::common::{DataLink, Endianness, TsResolution};
 use crate::pcap::{PacketHeader, PcapHeader};
-use pcap_core::DataLink;
+use std::alloc::AllocError;
 
 /// Of each slice exactly one thing is said where a capture's header is asked for: its text begins the slice, so
 /// many bytes lack, or there is one fault.
@@ -71,6 +71,19 @@ pub fn packets_are_asked_for_twice()
         (length (n ∷ ns) ≤ 2) × ((packet : Captured) (rest : List ℕ) → PacketText limit order r packet t rest → rest ≡ []) }
 {}
 
+/// Who adds exactly what is asked for of a capture's header is asked once, and has nothing after the header that comes.
+pub fn header_is_asked_for_once()
+    ensures { (n : ℕ) (s more : List ℕ) → HeaderSays s (lacks n) → length more ≡ n →
+        ((m : ℕ) → HeaderSays (s ++ more) (lacks m) → ⊥) × ((header : PcapHeader) (rest : List ℕ) → HeaderSays (s ++ more) (whole header rest) → rest ≡ []) }
+{}
+
+/// The same of a packet's header.
+pub fn packet_header_is_asked_for_once()
+    ensures { (limit : ℕ) (order : Order) (r : TsResolution) (n : ℕ) (s more : List ℕ) → PacketHeaderSays limit order r s (lacks n) → length more ≡ n →
+        ((m : ℕ) → PacketHeaderSays limit order r (s ++ more) (lacks m) → ⊥)
+        × ((header : PacketHeader) (rest : List ℕ) → PacketHeaderSays limit order r (s ++ more) (whole header rest) → rest ≡ []) }
+{}
+
 /// Under a magic number that is none of the four a refused call of `PcapReader::next` has taken one byte at most.
 pub fn invalid_magic_takes_one_byte()
     ensures { (limit : ℕ) (header : PcapHeader) (before after : Option (List ℕ)) → is_magic header.magic_number ≡ false →
@@ -107,9 +120,9 @@ pub fn written_packet_is_read()
         PacketText packet_limit (number_in e) r (cut r packet) (record_bytes (number_bytes e) r packet ++ rest) rest }
 {}
 
-/// The link type that a number gives has that number.
+/// Each number is that of one link type, and of no other.
 pub fn link_keeps_its_number()
-    ensures { (n : ℕ) (link : DataLink) → Link n link → link_number link ≡ n }
+    ensures { (n : ℕ) → ExactlyOne (λ (link : DataLink). Link n link) }
 {}
 
 /// The number of a link type gives it back, unless it is an unknown one with a number of the table.
@@ -136,6 +149,67 @@ pub fn packet_headers_are_equal(left: &PacketHeader, right: &PacketHeader) -> bo
     ensures { IsTrue result ↔ (left.now ≡ right.now) }
 {
     left == right
+}
+
+/// Two orders of numbers are equal where they are the same.
+pub fn orders_are_equal(left: Endianness, right: Endianness) -> bool
+    ensures { IsTrue result ↔ (left ≡ right) }
+{
+    left == right
+}
+
+/// Two resolutions of times are equal where they are the same.
+pub fn resolutions_are_equal(left: TsResolution, right: TsResolution) -> bool
+    ensures { IsTrue result ↔ (left ≡ right) }
+{
+    left == right
+}
+
+/// A clone of a link type is that link type, and takes no memory.
+pub fn link_is_cloned(link: &DataLink) -> Result<DataLink, AllocError>
+    ensures clone { IfOk result (λ clone. clone ≡ link.now) }
+    ensures succeeds { IsOk result }
+{
+    link.clone()
+}
+
+/// The same of an order of numbers.
+pub fn order_is_cloned(order: &Endianness) -> Result<Endianness, AllocError>
+    ensures clone { IfOk result (λ clone. clone ≡ order.now) }
+    ensures succeeds { IsOk result }
+{
+    order.clone()
+}
+
+/// The same of a resolution of times.
+pub fn resolution_is_cloned(resolution: &TsResolution) -> Result<TsResolution, AllocError>
+    ensures clone { IfOk result (λ clone. clone ≡ resolution.now) }
+    ensures succeeds { IsOk result }
+{
+    resolution.clone()
+}
+
+/// The same of a capture's header.
+pub fn header_is_cloned(header: &PcapHeader) -> Result<PcapHeader, AllocError>
+    ensures clone { IfOk result (λ clone. clone ≡ header.now) }
+    ensures succeeds { IsOk result }
+{
+    header.clone()
+}
+
+/// The same of a packet's header.
+pub fn packet_header_is_cloned(header: &PacketHeader) -> Result<PacketHeader, AllocError>
+    ensures clone { IfOk result (λ clone. clone ≡ header.now) }
+    ensures succeeds { IsOk result }
+{
+    header.clone()
+}
+
+/// The default header of a packet: all of its fields are 0.
+pub fn default_packet_header() -> PacketHeader
+    ensures { result ≡ record { ts_sec = 0; ts_nsec = 0; incl_len = 0; orig_len = 0 } }
+{
+    PacketHeader::default()
 }
 
 /// A capture that is written has that header and those packets in front, their nanoseconds cut as the resolution demands,
@@ -165,4 +239,28 @@ pub fn copy_is_read_under_its_header()
     ensures { (header under : PcapHeader) (packets : List Captured) (s rest : List ℕ) → IsBytes s →
         CaptureFront packet_limit header packets s rest → IsWholeHeader under →
         CaptureFront packet_limit under (map (cut (resolution_of under.magic_number)) packets) (capture under packets) [] }
+{}
+
+/// The requests of a run over packets are these and no others.
+pub fn requests_are_one()
+    ensures { (limit : ℕ) (order : Order) (r : TsResolution) (packets : List Captured) (s rest ns others : List ℕ) →
+        RunRequests (packet_format limit order r) tt packets s rest ns → RunRequests (packet_format limit order r) tt packets s rest others → ns ≡ others }
+{}
+
+/// Where a packet stands, what is asked for are the 16 bytes of its header, and then those of its data, where it has some.
+pub fn packet_requests_are()
+    ensures { (limit : ℕ) (order : Order) (r : TsResolution) (packet : Captured) (s rest ns : List ℕ) →
+        PacketText limit order r packet s rest → RequestsAt (packet_format limit order r) tt s ns → HeadThenRest 16 (16 + length packet.bytes) ns }
+{}
+
+/// And these requests are what asking gives: each of them met exactly, the packet's text is there, and no more.
+pub fn packet_requests_are_asked()
+    ensures { (limit : ℕ) (order : Order) (r : TsResolution) (packet : Captured) (s rest ns : List ℕ) →
+        PacketText limit order r packet s rest → RequestsAt (packet_format limit order r) tt s ns →
+        (t : List ℕ) × (s ≡ t ++ rest) × Asks (packet_format limit order r) tt ns [] t }
+{}
+
+/// The number of packets that bytes hold is one.
+pub fn packets_held_are_one()
+    ensures { (s : List ℕ) (n m : ℕ) → HoldsPackets s n → HoldsPackets s m → n ≡ m }
 {}

@@ -1,12 +1,15 @@
 //! Whole runs over a capture.
 
 mod copy;
+mod exact;
+mod find;
+mod pieces;
 
 ghost use Rattle.std.specs.Prelude.{◌≡◌, ◌⊎◌, ⊤, false, All, IfOk, IfErr, IfSome, map};
 ghost use Rattle.pcap_core.specs.Answer.{Refuses};
 ghost use Rattle.pcap_core.specs.Bytes.{IsBorrowed};
 ghost use Rattle.pcap_classic.specs.Captures.{TakesCapture, ReadsCapture};
-ghost use Rattle.pcap_core.specs.Errors.{IsIo};
+ghost use Rattle.pcap_core.specs.Errors.{IsMemory, IsIo};
 ghost use Rattle.pcap_core.specs.Faults.{Shows};
 ghost use Rattle.pcap_classic.specs.HeaderText.{LacksHeader, HasHeaderFault, HeaderSays};
 ghost use Rattle.pcap_classic.specs.Packets.{reader_format};
@@ -14,12 +17,15 @@ ghost use Rattle.pcap_classic.specs.PacketText.{packet_limit, content_of};
 ghost use Rattle.pcap_classic.specs.Reader.{stream_of, has_failed, is_done};
 ghost use Rattle.pcap_core.specs.Reading.{IsFaultOf};
 ghost use Rattle.pcap_core.specs.Takes.{TakesItems};
-ghost use Rattle.pcap_classic.specs.Run.{IsRun};
+ghost use Rattle.pcap_classic.specs.Run.{IsRun, HasPacket};
 ghost use Rattle.pcap_core.specs.Run.{rest_after};
 
 use crate::pcap::{Packet, PcapHeader, PcapParser, PcapReader};
 pub use copy::{Copied, Under, copy_pcap};
+pub use exact::exact_pcap;
 pub use pcap_core::Rest;
+pub use pcap_core::run::{Window, pieces_fit};
+pub use pieces::pieces_pcap;
 use pcap_core::{PcapError, ResultParsing};
 use std::alloc::Global;
 use std::io::Read;
@@ -54,6 +60,7 @@ pub fn parse_pcap<'a>(alloc: Global, bytes: &'a [u8]) -> ResultParsing<PcapRun<'
     ensures front { IfOk result (λ run. IsRun run bytes.now) }
     ensures borrowed { IfOk result (λ run. All (λ packet. IsBorrowed packet.data_) run.packets.items) }
     ensures refused { IfErr result (Refuses ⊤ (LacksHeader bytes.now) (HasHeaderFault bytes.now)) }
+    ensures memory { IfErr result (λ e. IsMemory e → HasPacket bytes.now) }
 {
     let (after_header, parser) = PcapParser::new(bytes)?;
     let header = *parser.header();

@@ -1,12 +1,13 @@
 -- Where a run over a slice stops.
-use Rattle.std.proofs.Common.{◌<◌, length, ℕ, List}
+use Rattle.std.proofs.Common.{◌≡◌, [], ◌∷◌, ◌++◌, subst, ◌<◌, ◌∙◌, sym, length, ℕ, List}
 use Rattle.pcap_core.specs.Faults.{Invalid, Io, Utf8}
 use Rattle.pcap_core.specs.declared.errors.PcapError.{PcapError}
 use Rattle.pcap_core.specs.declared.errors.PcapError.TheVariants as errors
-use Rattle.pcap_core.specs.Answer.{whole, lacks, faulty, Refuses}
-use Rattle.pcap_core.specs.Format.{Format, IsLawful}
+use Rattle.pcap_core.specs.Answer.{Verdict, whole, lacks, faulty, Refuses}
+use Rattle.pcap_core.specs.Format.{Format, Texts, state_after, Front, IsLawful}
+use Rattle.pcap_core.specs.Laws.{ExactlyOne}
 use Rattle.pcap_core.specs.Run.{IsRest, rest_after}
-use Rattle.pcap_core.proofs.Formats.{lacks_no_text, fault_no_text}
+use Rattle.pcap_core.proofs.Formats.{lacks_no_text, fault_no_text, has_front, front_goes_on, texts_push}
 
 -- where an item is refused, that is what is said of the rest, and no item begins it
 pub record StopsAt {S V : Type 0} (f : Format S V) (q : S) (left : List ℕ) (e : PcapError) : Type 0 where
@@ -23,6 +24,17 @@ stops f laws q left (errors.FromUtf8Error e) some h = absurd h
 stops f laws q left (errors.OutOfMemory e) some h = absurd h
 stops f laws q left errors.WriterFailed some h = absurd h
 
+-- bytes of which a text is said are not refused
+pub said_not_refused : {V : Type 0} (IsSaid : Verdict V → Type 0) → ExactlyOne IsSaid → (v : V) (rest : List ℕ) → IsSaid (whole v rest)
+    → (e : PcapError) → Refuses ⊥ (λ n. IsSaid (lacks n)) (λ fault. IsSaid (faulty fault)) e → ⊥
+said_not_refused IsSaid one v rest text (errors.IncompleteBuffer n) h = let no : lacks n ≡ whole v rest = one.only (lacks n) h ∙ sym (one.only (whole v rest) text) in absurd cc
+said_not_refused IsSaid one v rest text (errors.InvalidField t) h = let no : faulty (Invalid h.0) ≡ whole v rest = one.only (faulty (Invalid h.0)) h.2 ∙ sym (one.only (whole v rest) text) in absurd cc
+said_not_refused IsSaid one v rest text (errors.IoError e) h = let no : faulty Io ≡ whole v rest = one.only (faulty Io) h ∙ sym (one.only (whole v rest) text) in absurd cc
+said_not_refused IsSaid one v rest text (errors.Utf8Error e) h = let no : faulty Utf8 ≡ whole v rest = one.only (faulty Utf8) h ∙ sym (one.only (whole v rest) text) in absurd cc
+said_not_refused IsSaid one v rest text (errors.FromUtf8Error e) h = h
+said_not_refused IsSaid one v rest text (errors.OutOfMemory e) h = h
+said_not_refused IsSaid one v rest text errors.WriterFailed h = h
+
 -- bytes that an item's text begins are not refused
 pub whole_not_refused : {S V : Type 0} (f : Format S V) → IsLawful f → (q : S) (s : List ℕ) (v : V) (rest : List ℕ) → f.says q s (whole v rest)
     → (e : PcapError) → Refuses ⊥ (λ n. f.says q s (lacks n)) (λ fault. f.says q s (faulty fault)) e → ⊥
@@ -33,3 +45,16 @@ whole_not_refused f laws q s v rest text (errors.Utf8Error e) h = fault_no_text 
 whole_not_refused f laws q s v rest text (errors.FromUtf8Error e) h = h
 whole_not_refused f laws q s v rest text (errors.OutOfMemory e) h = h
 whole_not_refused f laws q s v rest text errors.WriterFailed h = h
+
+first_of : {V : Type 0} (vs more all : List V) (v : V) → all ≡ (vs ++ v ∷ []) ++ more → (first : V) × (others : List V) × (all ≡ first ∷ others)
+first_of [] more all v e = (v, more, e)
+first_of (w ∷ ws) more all v e = (w, (ws ++ v ∷ []) ++ more, e)
+
+-- where an item was found, the front has a first one
+pub front_some : {S V : Type 0} (f : Format S V) → IsLawful f → (q : S) (vs : List V) (v : V) (s left rest : List ℕ) → Texts f q vs s left → f.says (state_after f q vs) left (whole v rest)
+    → (first : V) × (others : List V) × (end : List ℕ) × Front f q (first ∷ others) s end
+front_some {V = V} f laws q vs v s left rest texts text =
+    let front = has_front f laws q s in
+    let on = front_goes_on f laws q (vs ++ v ∷ []) front.0 s rest front.1 (texts_push f q vs v s left rest texts text) front.2 in
+    let first = first_of vs on.0 front.0 v on.1 in
+    (first.0, first.1, front.1, subst (λ (l : List V). Front f q l s front.1) first.2 front.2)

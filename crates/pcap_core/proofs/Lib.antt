@@ -19,3 +19,4 @@ pub mod Kept
 pub mod Requested
 pub mod Showing
 pub mod EachRule
+pub mod Pieces

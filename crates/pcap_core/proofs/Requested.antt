@@ -1,13 +1,13 @@
 -- What is asked for, by whoever adds exactly what was asked for.
 use Rattle.std.proofs.Common.{◌≡◌, ◌<◌, ◌≤◌, ◌+◌, ◌-◌, ◌*◌, ℕ, List, [], ◌∷◌, ◌++◌, length, take, drop, refl, sym, ap, subst, ◌∙◌, arith, append_assoc, append-nil, length-append, length-drop, inl, inr}
 use Rattle.std.proofs.lemmas.Bool.{cases_lt}
-use Rattle.std.proofs.lemmas.List.{length-take-le, take-append-drop, drop-take}
+use Rattle.std.proofs.lemmas.List.{length-take-le, take-append-drop}
 use Rattle.std.proofs.Math.Seq.{take-add}
 use Rattle.pcap_core.specs.Faults.{Fault}
 use Rattle.pcap_core.specs.Answer.{whole, lacks, faulty}
 use Rattle.pcap_core.specs.Format.{Format, Texts, state_after, Asks, IsLawful}
 use Rattle.pcap_core.specs.Requested.{RequestsAt, head_short, head_alone, head_first, ItemRequests, RestRequests, RunRequests, HeadThenRest}
-use Rattle.pcap_core.proofs.Formats.{text_same, nothing_lacks, nothing_no_text, shorter, short_asks, asks_twice, asks_exact, requests_left, requests_fall, only, beginning, beginning_asks, fits, second_is_all}
+use Rattle.pcap_core.proofs.Formats.{text_same, lacks_no_text, requests_there, nothing_lacks, nothing_no_text, shorter, short_asks, asks_twice, asks_exact, requests_left, requests_fall, only, beginning, beginning_asks, fits, second_is_all}
 use Rattle.pcap_core.proofs.Texts.{split_same}
 
 -- ---- what needs no law
@@ -208,6 +208,15 @@ module _ {S V : Type 0} (f : Format S V) (laws : IsLawful f) (q : S) where
       let there : f.says q (bytes ++ w.0) (whole v []) = subst (λ (u : List ℕ). f.says q u (whole v [])) w.1 text in
       let all : n ≡ length w.0 = second_is_all f laws q v bytes w.0 n (omega (arith, count)) there ask in
       inr (n, laws.asks q bytes n ask, omega (arith, all, count, ap length w.1, length-append bytes w.0), is)
+
+  -- where an item stands, its requests are for its text, and are what asking gives
+  pub requests_asked : (s rest ns : List ℕ) (v : V) → f.says q s (whole v rest) → RequestsAt f q s ns → (t : List ℕ) × (s ≡ t ++ rest) × HeadThenRest f.head (length t) ns × Asks f q ns [] t
+  requests_asked s rest ns v text asked =
+      let o = laws.own q s rest v text in
+      let there = requests_there f laws q v o.0 o.2 in
+      let told = ends_told f laws q there.0 s o.0 rest o.1 there.1 (λ n x. lacks_no_text f laws q n o.0 x v [] o.2) in
+      let same : there.0 ≡ ns = requests_at_one s there.0 ns told asked in
+      (o.0, o.1, item_asks s ns v o.0 rest o.1 o.2 asked, subst (λ (l : List ℕ). Asks f q l [] o.0) same there.1)
 
 pub items_one : {S V : Type 0} (f : Format S V) → IsLawful f → (q : S) (vs : List V) (s rest a b : List ℕ) → ItemRequests f q vs s rest a → ItemRequests f q vs s rest b → a ≡ b
 items_one f laws q [] s rest a b x y = x.1 ∙ sym y.1

@@ -7,11 +7,15 @@ use Rattle.std.proofs.lemmas.Bool.{cases_lt}
 use Rattle.pcap_core.specs.declared.errors.PcapError.{PcapError}
 use Rattle.pcap_core.specs.Faults.{Fault, Shows}
 use Rattle.pcap_core.specs.Answer.{Verdict, whole, lacks, faulty}
-use Rattle.pcap_core.specs.Format.{Format, state_after, IsLawful}
-use Rattle.pcap_core.specs.Requested.{ItemRequests, RunRequests, AsksItem}
-use Rattle.pcap_core.proofs.Formats.{lacks_no_text, only, requests_left}
+use Rattle.pcap_core.specs.Format.{Format, Front, state_after, IsLawful}
+use Rattle.pcap_core.specs.Requested.{ItemRequests, AsksItem}
+use Rattle.pcap_core.specs.Exact.{ExactItems}
+use Rattle.pcap_core.specs.Run.{IsRest}
+use Rattle.pcap_core.specs.declared.rest.Rest.{Rest}
+use Rattle.pcap_core.specs.declared.rest.Rest.TheVariants.{Clean, Needs, Refused}
+use Rattle.pcap_core.proofs.Formats.{lacks_no_text, fault_no_text, nothing_no_text, only, requests_left}
 use Rattle.pcap_core.proofs.Refusals.{shows_more, shown_some}
-use Rattle.pcap_core.proofs.Requested.{Asking, asking_none, asking_few, asking_more, asking_smaller, asking_item, asking_fault, asking_short, asking_told, asking_ended, items_push, items_few, item_texts, texts_long}
+use Rattle.pcap_core.proofs.Requested.{Asking, asking_none, asking_few, asking_more, asking_smaller, asking_item, asking_fault, asking_short, asking_told, asking_ended, items_push, items_few, item_texts, texts_long, run_few}
 
 -- fewer than were asked for are all that were left
 short_is_all : (n k left : ℕ) → k ≡ min n left → k < n → (k ≡ left) × (left < n)
@@ -139,13 +143,6 @@ pub record Exacting {S V : Type 0} (f : Format S V) (q : S) (vs : List V) (s lef
   pub grown : now ≡ earlier ++ ns
   pub counted : count ≡ first + length ns
 
--- so do those of a whole run
-pub record Ran {S V : Type 0} (f : Format S V) (q : S) (vs : List V) (s rest earlier now : List ℕ) (first count : ℕ) : Type 0 where
-  pub requests : List ℕ
-  pub run : RunRequests f q vs s rest requests
-  pub grown : now ≡ earlier ++ requests
-  pub counted : count ≡ first + length requests
-
 pub exacting_none : {S V : Type 0} (f : Format S V) (q : S) (s earlier : List ℕ) (first : ℕ) → Exacting f q [] s s earlier earlier first first
 exacting_none f q s earlier first = record { ns = []; items = (refl, refl); grown = sym (append-nil earlier); counted = omega arith }
 
@@ -158,18 +155,31 @@ module _ {S V : Type 0} {f : Format S V} {q : S} {vs : List V} {s mid earlier no
     counted = omega (arith, asked.counted, a.counted, length-append a.ns asked.requests);
   }
 
-  pub exacting_rest : {next : List ℕ} {more : ℕ} → 0 < length mid → AsksItem f (state_after f q vs) mid now next count more → Ran f q vs s mid earlier next first more
-  exacting_rest some asked = record {
+  -- the rest after them is refused, or lacks bytes
+  pub exacting_rest : {start used : ℕ} {bytes : List ℕ} {next : List ℕ} {more : ℕ} {rest : Rest} → s ≡ drop start bytes → mid ≡ drop used bytes → used ≤ length bytes
+      → 0 < length mid → AsksItem f (state_after f q vs) mid now next count more → IsRest (f.says (state_after f q vs)) mid rest → ExactItems f q vs bytes start used rest earlier next first more
+  exacting_rest {start = start} {used = used} {bytes = bytes} {rest = rest} from to within some asked is = record {
     requests = a.ns ++ asked.requests;
-    run = record { for_items = a.ns; at_rest = asked.requests; items = a.items; last = inr (some, asked.asked); all = refl };
+    asked = record {
+      for_items = a.ns;
+      at_rest = asked.requests;
+      items = rw (← from, ← to) a.items;
+      last = inr (rw (← to) some, rw (← to) asked.asked);
+      all = refl;
+    };
+    within = within;
+    rest_is = subst (λ (t : List ℕ). IsRest (f.says (state_after f q vs)) t rest) to is;
     grown = asked.grown ∙ ap (λ (l : List ℕ). l ++ asked.requests) a.grown ∙ append_assoc earlier a.ns asked.requests;
     counted = omega (arith, asked.counted, a.counted, length-append a.ns asked.requests);
   }
 
-  pub exacting_end : mid ≡ [] → Ran f q vs s mid earlier now first count
-  exacting_end none = record {
+  -- nothing is left after them
+  pub exacting_end : {start used : ℕ} {bytes : List ℕ} → s ≡ drop start bytes → mid ≡ drop used bytes → used ≤ length bytes → mid ≡ [] → ExactItems f q vs bytes start used Clean earlier now first count
+  exacting_end from to within none = record {
     requests = a.ns;
-    run = record { for_items = a.ns; at_rest = []; items = a.items; last = inl (none, refl); all = sym (append-nil a.ns) };
+    asked = record { for_items = a.ns; at_rest = []; items = rw (← from, ← to) a.items; last = inl (sym to ∙ none, refl); all = sym (append-nil a.ns) };
+    within = within;
+    rest_is = sym to ∙ none;
     grown = a.grown;
     counted = a.counted;
   }
@@ -180,3 +190,25 @@ module _ {S V : Type 0} {f : Format S V} {q : S} {vs : List V} {s mid earlier no
 
   pub exacting_long : IsLawful f → length vs + length mid ≤ length s
   exacting_long laws = texts_long f laws q vs s mid (item_texts f q vs s mid a.ns a.items)
+
+-- no item's text begins a rest
+pub rest_no_text : {S V : Type 0} (f : Format S V) → IsLawful f → (q : S) (left : List ℕ) (rest : Rest) → IsRest (f.says q) left rest → (v : V) (after : List ℕ) → f.says q left (whole v after) → ⊥
+rest_no_text f laws q left Clean is v after text = nothing_no_text f laws q v after (subst (λ (t : List ℕ). f.says q t (whole v after)) is text)
+rest_no_text f laws q left (Needs n) is v after text = lacks_no_text f laws q n left is.0 v after text
+rest_no_text f laws q left (Refused e) is v after text =
+    let stands : (fault : Fault) × f.says q left (faulty fault) = shown_some e is in
+    fault_no_text f laws q stands.0 left stands.1 v after text
+
+-- the items that were shown are the front
+pub exact_front : {S V : Type 0} {f : Format S V} {q : S} {vs : List V} {bytes : List ℕ} {start used : ℕ} {rest : Rest} {earlier now : List ℕ} {first count : ℕ} → IsLawful f
+    → ExactItems f q vs bytes start used rest earlier now first count → Front f q vs (drop start bytes) (drop used bytes)
+exact_front {f = f} {q = q} {vs = vs} {bytes = bytes} {start = start} {used = used} {rest = rest} laws x = record {
+  texts = item_texts f q vs (drop start bytes) (drop used bytes) x.asked.for_items x.asked.items;
+  longest = rest_no_text f laws (state_after f q vs) (drop used bytes) rest x.rest_is;
+}
+
+-- how many requests there are
+pub exact_few : {S V : Type 0} {f : Format S V} {q : S} {vs : List V} {bytes : List ℕ} {start used : ℕ} {rest : Rest} {earlier now : List ℕ} {first count : ℕ}
+    → ExactItems f q vs bytes start used rest earlier now first count → count ≤ first + 2 * length vs + 2
+exact_few {f = f} {q = q} {vs = vs} {bytes = bytes} {start = start} {used = used} x =
+    omega (arith, x.counted, run_few f q vs (drop start bytes) (drop used bytes) x.requests x.asked)

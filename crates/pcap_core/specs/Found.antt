@@ -9,24 +9,29 @@ use Rattle.pcap_core.specs.Answer.{Verdict, whole, lacks, faulty}
 use Rattle.pcap_core.specs.Errors.{IsMemory}
 use Rattle.pcap_core.specs.Faults.{Shows}
 
--- what a parser's answer says of the bytes; want of memory says nothing
+-- what a parser's answer says of the bytes; want of memory says nothing of them
 abbrev pub found_of : {X : Type 0} → Result X PcapError → Result (Found X) PcapError
 found_of (Ok x) = Ok (Item x)
 found_of (Err (IncompleteBuffer n)) = Ok (Needs n)
 found_of (Err (OutOfMemory e)) = Err (OutOfMemory e)
 found_of (Err error) = Ok (Refused error)
 
--- what was found of bytes where an item is asked for: one, seen by view, with what follows it; so many bytes that lack; or a fault
+-- what was found where an item is asked for: an item, seen by view, with what follows it; or n bytes lack; or there is a fault
 abbrev pub FoundSays : {X V : Type 0} → (Verdict V → Type 0) → (X → V) → Found (Bor (List ℕ) × X) → Type 0
 FoundSays IsSaid view (Item x) = IsSaid (whole (view x.1) x.0.now)
 FoundSays IsSaid view (Needs n) = IsSaid (lacks n)
 FoundSays IsSaid view (Refused error) = Shows (λ fault. IsSaid (faulty fault)) error
 
--- what was found of bytes that were shown as they were asked for, of which these are left to show behind an item
+-- the same of a call that grows something: it may find no memory
+abbrev pub FindsWhere : {X V : Type 0} → (Verdict V → Type 0) → (X → V) → Result (Found (Bor (List ℕ) × X)) PcapError → Type 0
+FindsWhere IsSaid view (Ok found) = FoundSays IsSaid view found
+FindsWhere IsSaid view (Err error) = IsMemory error
+
+-- what was found of bytes that were shown as they were asked for: an item, after which these bytes follow, shown or not; or n bytes lack; or there is a fault
 abbrev pub FoundBefore : {X V : Type 0} → (Verdict V → Type 0) → (X → V) → List ℕ → Found X → Type 0
-FoundBefore IsSaid view left (Item x) = IsSaid (whole (view x) left)
-FoundBefore IsSaid view left (Needs n) = IsSaid (lacks n)
-FoundBefore IsSaid view left (Refused error) = Shows (λ fault. IsSaid (faulty fault)) error
+FoundBefore IsSaid view after (Item x) = IsSaid (whole (view x) after)
+FoundBefore IsSaid view after (Needs n) = IsSaid (lacks n)
+FoundBefore IsSaid view after (Refused error) = Shows (λ fault. IsSaid (faulty fault)) error
 
 -- where an item was found, this holds of it
 abbrev pub IfItem : {X : Type 0} → (X → Type 0) → Found X → Type 0
@@ -34,7 +39,7 @@ IfItem P (Item x) = P x
 IfItem P (Needs n) = Unit {0}
 IfItem P (Refused error) = Unit {0}
 
--- the same, where memory sufficed
-abbrev pub FindsWhere : {X V : Type 0} → (Verdict V → Type 0) → (X → V) → Result (Found (Bor (List ℕ) × X)) PcapError → Type 0
-FindsWhere IsSaid view (Ok found) = FoundSays IsSaid view found
-FindsWhere IsSaid view (Err error) = IsMemory error
+-- unless an item was found, this holds
+abbrev pub UnlessItem : {X : Type 0} → Type 0 → Result (Found X) PcapError → Type 0
+UnlessItem P (Ok (Item x)) = Unit {0}
+UnlessItem P _ = P

@@ -23,3 +23,6 @@ pub mod Requests
 pub mod Window
 pub mod Requested
 pub mod Found
+pub mod Exact
+pub mod Pieces
+pub mod Waiting

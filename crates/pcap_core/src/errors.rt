@@ -1,14 +1,15 @@
 //! Why a capture could not be read or written.
 
 ghost use Rattle.std.specs.Prelude.{◌≡◌, Some, IfSome, alloc_error};
+ghost use Rattle.pcap_core.specs.Errors.{error_message};
 ghost use Rattle.pcap_core.specs.Faults.{Names};
 ghost use Rattle.pcap_core.specs.declared.errors.PcapError.TheVariants as errors;
 
 use crate::rules::Rule;
 use std::alloc::{AllocError, AllocFailed};
-use std::io;
 use std::str::Utf8Error;
 use std::string::FromUtf8Error;
+use std::{fmt, io};
 use thiserror::Error;
 
 /// A value, or why there is none.
@@ -18,26 +19,34 @@ pub type ResultParsing<T> = Result<T, PcapError>;
 #[derive(Debug, Drop, Error)]
 pub enum PcapError {
     /// The slice holds a beginning of what is asked for: so many bytes are missing, at least.
-    #[error("Need at least {0} more bytes")]
     IncompleteBuffer(usize),
     /// A read or write failed, a stream ended early, or a value inside a body is too short.
-    #[error("Error reading bytes")]
     IoError(io::Error),
     /// The bytes break a rule of the format: the text names it.
-    #[error("Invalid field value: {0}")]
     InvalidField(&'static str),
     /// A text isn't UTF-8.
-    #[error("UTF8 error")]
     Utf8Error(Utf8Error),
     /// Kept from the Rust crate. No call of this crate answers it.
-    #[error("UTF8 error")]
     FromUtf8Error(FromUtf8Error),
     /// A growth was refused.
-    #[error("Out of memory")]
     OutOfMemory(AllocError),
     /// An earlier write of this writer failed.
-    #[error("Writer failed earlier")]
     WriterFailed,
+}
+
+impl fmt::Display for PcapError {
+    ghost output = { λ error. Some (error_message error) };
+
+    fn fmt<W: fmt::Write>(&self, f: &mut fmt::Formatter<W>) -> fmt::Result {
+        match self {
+            PcapError::IncompleteBuffer(n) => write!(f, "Need at least {n} more bytes"),
+            PcapError::IoError(_) => f.write_str("Error reading bytes"),
+            PcapError::InvalidField(text) => write!(f, "Invalid field value: {text}"),
+            PcapError::Utf8Error(_) | PcapError::FromUtf8Error(_) => f.write_str("UTF8 error"),
+            PcapError::OutOfMemory(_) => f.write_str("Out of memory"),
+            PcapError::WriterFailed => f.write_str("Writer failed earlier"),
+        }
+    }
 }
 
 impl PcapError {

@@ -1,9 +1,11 @@
 //! What runs over bytes that are shown, or come, a few at a time share.
 
 mod found;
+mod pieces;
 mod requests;
 mod window;
 
 pub use found::{Found, found_in};
+pub use pieces::{PieceParser, Pieces, Progress, feed_pieces, pieces_fit};
 pub use requests::{Request, Requests};
 pub use window::Window;

@@ -1,19 +1,18 @@
 -- Blocks are a lawful format, from their frames and what their bodies mean.
-use Rattle.std.proofs.Common.{◌≡◌, ℕ, List, [], ◌++◌, true, false, Bool, refl, sym, ap, subst, ◌∙◌, arith, inl, inr}
-use Rattle.std.specs.Prelude.{◌⊎◌}
+use Rattle.std.proofs.Common.{◌≡◌, ℕ, List, ◌++◌, true, false, Bool, refl, sym, ap, subst, ◌∙◌, arith, inl, inr}
 use Rattle.pcap_core.specs.Answer.{number_in, Verdict, whole, lacks, faulty}
 use Rattle.pcap_core.specs.Faults.{Fault}
 use Rattle.pcap_core.specs.Headed.{HeadReading, good, bad}
 use Rattle.pcap_core.specs.Laws.{ExactlyOne}
 use Rattle.pcap_core.specs.Format.{IsLawful}
 use Rattle.pcap_core.proofs.Formats.{text_same, lacks_no_text, fault_no_text, only}
-use Rattle.pcap_blocks.specs.declared.block.BlockType.{BlockType}
-use Rattle.pcap_blocks.specs.declared.block.BlockType.TheVariants as types
+use Rattle.pcap_blocks.specs.declared.block_type.BlockType.{BlockType}
+use Rattle.pcap_blocks.specs.declared.block_type.BlockType.TheVariants as types
 use Rattle.pcap_blocks.specs.ParsedBlock.{Body, BodySays}
 use Rattle.pcap_blocks.proofs.OneBody.{body_one}
 use Rattle.pcap_file.specs.Frames.{Framed, FrameText, FrameSays, frame_format}
 use Rattle.pcap_file.specs.State.{State, order_at, is_read, leads, MeansIf, Means}
-use Rattle.pcap_file.specs.Blocks.{Item, BlockText, BodyFault, BlockSays, block_format}
+use Rattle.pcap_file.specs.Blocks.{Item, BlockText, BlockSays, block_format}
 use Rattle.pcap_file.proofs.HeadedFrames.{frames_lawful}
 
 -- a body never lacks bytes
@@ -177,7 +176,7 @@ module _ (q : State) (s : List ℕ) where
   frame_there (lacks n) t = (lacks n, t)
   frame_there (faulty f) t = (faulty f, inl t)
 
-  block_one : ExactlyOne (BlockSays q s)
+  pub block_one : ExactlyOne (BlockSays q s)
   unfolding frame_format
   block_one =
       let o = frames_lawful.one (order_at q) s in
@@ -204,3 +203,8 @@ blocks_lawful = record {
   short = λ q s n sum some. frames_lawful.short (order_at q) s n sum some;
   last = λ q s more n m long x count y. frames_lawful.last (order_at q) s more n m long x count y;
 }
+
+-- a block's text, by the format
+pub block_said : (q : State) (item : Item) (s rest : List ℕ) → BlockText q item s rest → block_format.says q s (whole item rest)
+unfolding block_format
+block_said q item s rest text = text

@@ -1,5 +1,5 @@
 -- What refuses a block's frame off a stream refuses the block.
-use Rattle.std.proofs.Common.{◌≡◌, ◌<◌, ℕ, List, [], length, take, Bool, false, Some, None, Ok, Err, sym, subst, inl, inr, ◌⊎◌}
+use Rattle.std.proofs.Common.{◌≡◌, ℕ, List, [], take, Bool, false, Some, None, Ok, Err, subst, inl, inr, ◌⊎◌}
 use Rattle.std.specs.Prelude.{Option, IfSome, Result, ⊤}
 use Rattle.std.specs.Io.KnownBytes.{Consumes}
 use Rattle.pcap_core.specs.declared.errors.PcapError.{PcapError}
@@ -21,7 +21,6 @@ use Rattle.pcap_file.specs.Frames.{Framed, FrameSays, frame_format}
 use Rattle.pcap_file.specs.State.{State, opening, order_at, Means, CanGrow, OpensTells}
 use Rattle.pcap_file.specs.Blocks.{BlockSays, block_format}
 use Rattle.pcap_file.specs.Opening.{OpeningSays, OpensHeld, RefusesOpening}
-use Rattle.pcap_file.proofs.HeadedFrames.{frames_lawful}
 use Rattle.pcap_file.proofs.BlockFormat.{blocks_lawful}
 use Rattle.pcap_file.proofs.Refusing.{refuses_wider, shows_refuses}
 
@@ -90,9 +89,9 @@ module _ (q : State) (order : Endianness) (is : order ≡ order_at q) (held : Li
       elim (memory_or_shows M (λ f. block_format.says q held (faulty f)) e x) [
         | inl memory ↦ pull_room e memory
         | inr shown ↦ (
-            asked_cause (block_format.says q) (blocks_lawful.stable q) e held (λ f stands. fault_some block_format blocks_lawful q held f stands) shown before after failed unfailed came,
-            frame_asked,
-          )
+          asked_cause (block_format.says q) (blocks_lawful.stable q) e held (λ f stands. fault_some block_format blocks_lawful q held f stands) shown before after failed unfailed came,
+          frame_asked,
+        )
       ]
 
 module _ (q : State) (order : Endianness) (is : order ≡ order_at q) (b : Framed) (held : List ℕ) (text : frame_format.says order held (whole b [])) where

@@ -1,5 +1,5 @@
 -- How long the parts of a frame are.
-use Rattle.std.proofs.Common.{◌≡◌, ℕ, ◌+◌, List, ◌++◌, length, ap, arith, length-append}
+use Rattle.std.proofs.Common.{◌≡◌, ℕ, ◌+◌, List, length, ap, arith, length-append}
 use Rattle.pcap_core.specs.declared.common.Endianness.{Endianness}
 use Rattle.pcap_core.specs.Answer.{Number, number_in}
 use Rattle.pcap_file.specs.Frames.{FrameHeadText}

@@ -1,11 +1,10 @@
 -- Frames are a lawful format: twelve bytes that say how many follow, and these.
-use Rattle.std.proofs.Common.{◌≡◌, ℕ, ◌+◌, ◌-◌, ◌<◌, ◌≤◌, List, [], ◌∷◌, ◌++◌, length, take, drop, Option, Some, None, refl, sym, ap, subst, ◌∙◌, arith, append_assoc, append-nil, length-append, inl, inr}
+use Rattle.std.proofs.Common.{◌≡◌, ℕ, ◌+◌, ◌-◌, ◌<◌, ◌≤◌, List, ◌++◌, length, take, drop, Option, Some, None, refl, sym, ap, subst, ◌∙◌, arith, append_assoc, length-append, inl, inr}
 use Rattle.std.specs.Prelude.{◌≢◌, ◌%◌, ◌⊎◌}
 use Rattle.std.proofs.lemmas.Bool.{cases_lt, cases_eq}
 use Rattle.std.proofs.lemmas.List.{length-take, length-drop, take-append-drop, take_at, drop_at}
 use Rattle.byteorder.specs.Endian.{big_number}
 use Rattle.pcap_core.specs.declared.common.Endianness.{Endianness}
-use Rattle.pcap_core.specs.declared.rules.Rule.{Rule}
 use Rattle.pcap_core.specs.declared.rules.Rule.TheVariants.{SectionMagic, BlockUnaligned, BlockTooShort, BlockLengthsDiffer}
 use Rattle.pcap_core.specs.Answer.{Number, number_in, Verdict, whole, lacks, faulty}
 use Rattle.pcap_core.specs.Faults.{Fault, Invalid}
@@ -15,9 +14,9 @@ use Rattle.pcap_core.specs.Headed.{Piece, HeadReading, good, bad, Headed, Headed
 use Rattle.pcap_core.proofs.Formats.{lawful_moved}
 use Rattle.pcap_core.proofs.Headed.{headed_lawful}
 use Rattle.pcap_core.proofs.Texts.{split_same}
-use Rattle.pcap_blocks.specs.declared.block.BlockType.{BlockType}
-use Rattle.pcap_blocks.specs.WholeBodies.{block_type}
-use Rattle.pcap_file.specs.Frames.{Framed, own_order, FrameHeadText, IsGoodLength, NoOrder, BreaksHead, no_order, unaligned, too_short, FrameTail, FrameText, LacksRest, FrameLacks, LengthsDiffer, FrameFault, in_head, unequal, FrameSays, frame_format}
+use Rattle.pcap_blocks.specs.declared.block_type.BlockType.{BlockType}
+use Rattle.pcap_blocks.specs.BlockType.{block_type}
+use Rattle.pcap_file.specs.Frames.{Framed, own_order, FrameHeadText, NoOrder, no_order, unaligned, too_short, FrameTail, FrameText, LengthsDiffer, FrameFault, in_head, unequal, FrameSays, frame_format}
 
 -- a good head, and the four bytes after its length
 record Head : Type 0 where
@@ -306,8 +305,12 @@ module _ (e : Endianness) where
       let size : length t.body ≡ t.len - 12 = omega (arith, t.tail.length_is) in
       let tail_is : drop (t.len - 12) (third ++ c.m) ≡ tail = ap (drop (t.len - 12)) c.front ∙ drop_at t.body tail (t.len - 12) size in
       let trailer : number_in t.own 4 (drop (t.len - 12) (third ++ c.m)) ≡ t.trailer = ap (number_in t.own 4) tail_is ∙ t.tail.trailer_is.value in
-      inr (inr (x, h.more, good_piece t.number t.len t.own s t.after h t.aligned (omega (arith, t.tail.length_is)),
-      (t.rest, record { bytes = c.m; text = c.text; length_is = c.count ∙ size; holds = (refl, λ same. t.differ (sym trailer ∙ same)) })))
+      inr (inr (
+        x,
+        h.more,
+        good_piece t.number t.len t.own s t.after h t.aligned (omega (arith, t.tail.length_is)),
+        (t.rest, record { bytes = c.m; text = c.text; length_is = c.count ∙ size; holds = (refl, λ same. t.differ (sym trailer ∙ same)) }),
+      ))
 
   frame_to : (s : List ℕ) (v : Verdict Framed) → FrameSays e s v → HeadedSays headed_frames e s v
   unfolding headed_frames RestReads framed_by
@@ -322,12 +325,17 @@ module _ (e : Endianness) where
       let tail_is : drop n (third ++ c.m) ≡ tail = ap (drop n) c.front ∙ drop_at b.body tail n size in
       let body_is : take n (third ++ c.m) ≡ b.body = ap (take n) c.front ∙ take_at b.body tail n size in
       let trailer : number_in b.endianness 4 (drop n (third ++ c.m)) ≡ b.trailer_len = ap (number_in b.endianness 4) tail_is ∙ t.tail.trailer_is.value in
-      inr (inr (x, h.more, good_piece t.number b.initial_len b.endianness s t.after h t.aligned (omega (arith, t.tail.length_is)), record {
-        bytes = c.m;
-        text = c.text;
-        length_is = c.count ∙ size;
-        holds = (framed_is b (block_type t.number) (take n (third ++ c.m)) (number_in b.endianness 4 (drop n (third ++ c.m))) t.type_is body_is trailer, trailer ∙ t.same);
-      }))
+      inr (inr (
+        x,
+        h.more,
+        good_piece t.number b.initial_len b.endianness s t.after h t.aligned (omega (arith, t.tail.length_is)),
+        record {
+          bytes = c.m;
+          text = c.text;
+          length_is = c.count ∙ size;
+          holds = (framed_is b (block_type t.number) (take n (third ++ c.m)) (number_in b.endianness 4 (drop n (third ++ c.m))) t.type_is body_is trailer, trailer ∙ t.same);
+        },
+      ))
   frame_to s (lacks n) (inl t) = inl t
   frame_to s (lacks n) (inr t) =
       let h = t.head in
@@ -413,3 +421,7 @@ module _ (e : Endianness) where
 pub frames_lawful : IsLawful frame_format
 unfolding frame_format headed_frames
 frames_lawful = lawful_moved (headed headed_frames) frame_format refl (λ e s v. frame_from e s v) (λ e s v. frame_to e s v) headed_frames_lawful
+
+pub frame_one : (e : Endianness) (s : List ℕ) → ExactlyOne (FrameSays e s)
+unfolding frame_format
+frame_one = frames_lawful.one

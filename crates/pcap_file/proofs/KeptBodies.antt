@@ -4,17 +4,17 @@ use Rattle.std.specs.Prelude.{IsSome}
 use Rattle.pcap_core.specs.declared.common.Endianness.{Endianness}
 use Rattle.pcap_core.specs.Answer.{number_in, whole}
 use Rattle.pcap_core.specs.Headed.{HeadReading, good}
-use Rattle.pcap_blocks.specs.declared.block.BlockType.{BlockType}
-use Rattle.pcap_blocks.specs.declared.block.BlockType.TheVariants as types
+use Rattle.pcap_blocks.specs.declared.block_type.BlockType.{BlockType}
+use Rattle.pcap_blocks.specs.declared.block_type.BlockType.TheVariants as types
 use Rattle.pcap_blocks.specs.declared.section_header.SectionHeaderBlock.{SectionHeaderBlock}
 use Rattle.pcap_blocks.specs.declared.interface_description.InterfaceDescriptionBlock.{InterfaceDescriptionBlock}
 use Rattle.pcap_blocks.specs.SectionHeader.{Section, SectionSays, section_of, magic_order}
 use Rattle.pcap_blocks.specs.InterfaceDescription.{Interface, InterfaceSays, interface_of}
-use Rattle.pcap_blocks.specs.ParsedBlock.{SectionBody, InterfaceBody, BodySays, HasLists}
+use Rattle.pcap_blocks.specs.ParsedBlock.{SectionBody, InterfaceBody, BodySays}
 use Rattle.pcap_file.specs.Frames.{Framed}
-use Rattle.pcap_file.specs.State.{State, within, is_kept, is_read, MeansIf, Means, CanGrow}
+use Rattle.pcap_file.specs.State.{State, within, is_kept, is_read, MeansIf, Means, AreKept, CanGrow}
 
-read_means : (q : State) (b : Framed) (r : HeadReading State) → is_read q b.type_ ≡ true → MeansIf true q b r → Means q b r
+pub read_means : (q : State) (b : Framed) (r : HeadReading State) → is_read q b.type_ ≡ true → MeansIf true q b r → Means q b r
 read_means q b r is x = subst (λ (t : Bool). MeansIf t q b r) (sym is) x
 
 module _ (section : Section) (interfaces : List Interface) (b : Framed) where
@@ -33,10 +33,10 @@ module _ (section : Section) (interfaces : List Interface) (b : Framed) where
       read_means (within section interfaces) b (good (within section (interfaces ++ interface_of kept ∷ []))) (ap is_kept type) (InterfaceBody (interface_of kept), rest, there, refl)
 
   pub section_grows : b.type_ ≡ types.SectionHeader → CanGrow (within section interfaces) b
-  section_grows type = (ap is_kept type, subst HasLists (sym type) tt)
+  section_grows type = subst AreKept (sym type) tt
 
   pub interface_grows : b.type_ ≡ types.InterfaceDescription → CanGrow (within section interfaces) b
-  interface_grows type = (ap is_kept type, subst HasLists (sym type) tt)
+  interface_grows type = subst AreKept (sym type) tt
 
 order_some : (o : Option Endianness) (e : Endianness) → o ≡ Some e → IsSome o
 order_some o e is = rw is refl

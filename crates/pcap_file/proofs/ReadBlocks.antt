@@ -1,15 +1,13 @@
 -- What was taken off a stream that tells its bytes is the front of these.
-use Rattle.std.proofs.Common.{◌≡◌, ℕ, List, [], ◌++◌, Some, None, sym, subst}
+use Rattle.std.proofs.Common.{ℕ, List, [], ◌++◌, Some, None, sym, subst}
 use Rattle.std.specs.Prelude.{Option, IfSome, map}
-use Rattle.std.specs.Io.KnownBytes.{Consumes}
 use Rattle.pcap_core.specs.Answer.{whole}
 use Rattle.pcap_core.specs.Reading.{Takes}
-use Rattle.pcap_core.specs.Takes.{TakesItems}
 use Rattle.pcap_core.proofs.Taking.{run_reads}
 use Rattle.pcap_file.specs.declared.run.NgRead.{NgRead}
 use Rattle.pcap_file.specs.Frames.{framed_of}
 use Rattle.pcap_file.specs.State.{State, opening}
-use Rattle.pcap_file.specs.Blocks.{Item, BlockText, block_format}
+use Rattle.pcap_file.specs.Blocks.{block_format}
 use Rattle.pcap_file.specs.Opening.{OpeningSays}
 use Rattle.pcap_file.specs.Reader.{state_of, stream_of, has_failed}
 use Rattle.pcap_file.specs.Reads.{TakesBlocks, TakesNg, ReadsNg}

@@ -1,25 +1,14 @@
 -- What refuses a frame, or what a block means, refuses the block.
-use Rattle.std.proofs.Common.{◌≡◌, ℕ, List, refl, inl, inr, ◌⊎◌}
+use Rattle.std.proofs.Common.{◌≡◌, ℕ, List, refl, inl, inr}
 use Rattle.pcap_core.specs.declared.common.Endianness.TheVariants.{Big}
 use Rattle.pcap_core.specs.declared.errors.PcapError.{PcapError}
 use Rattle.pcap_core.specs.declared.errors.PcapError.TheVariants as errors
 use Rattle.pcap_core.specs.Answer.{lacks, faulty, Refuses}
-use Rattle.pcap_core.specs.Errors.{IsMemory}
 use Rattle.pcap_core.specs.Faults.{Fault, Invalid, Io, Utf8, Shows}
 use Rattle.pcap_core.specs.Headed.{bad}
 use Rattle.pcap_file.specs.Frames.{Framed, FrameText, FrameSays}
 use Rattle.pcap_file.specs.State.{State, opening, order_at, Means, CanGrow}
 use Rattle.pcap_file.specs.Blocks.{BlockSays, MayGrow}
-use Rattle.pcap_file.specs.Opening.{OpeningSays}
-
-pub memory_refuses : (M : Type 0) (L : ℕ → Type 0) (F : Fault → Type 0) (e : PcapError) → M → IsMemory e → Refuses M L F e
-memory_refuses M L F (errors.OutOfMemory a) m is = m
-memory_refuses M L F (errors.IncompleteBuffer n) m is = absurd is
-memory_refuses M L F (errors.InvalidField text) m is = absurd is
-memory_refuses M L F (errors.IoError a) m is = absurd is
-memory_refuses M L F (errors.Utf8Error a) m is = absurd is
-memory_refuses M L F (errors.FromUtf8Error a) m is = absurd is
-memory_refuses M L F errors.WriterFailed m is = absurd is
 
 -- a refusal says what follows from the fault that it shows, and memory may run out where it may
 pub refuses_wider : (M N : Type 0) (P Q : Fault → Type 0) → (M → N) → ((f : Fault) → P f → Q f) → (e : PcapError) → Refuses M (λ n. ⊥) P e → Refuses N (λ n. ⊥) Q e
@@ -53,7 +42,7 @@ module _ (q : State) (s : List ℕ) where
   frame_refuses M errors.WriterFailed x = absurd x
 
   can_grow : (b : Framed) (rest : List ℕ) → FrameText (order_at q) b s rest → CanGrow q b → MayGrow q s
-  can_grow b rest frame grows = record { block = b; rest = rest; frame = frame; is_read_there = grows.0; lists = grows.1 }
+  can_grow b rest frame grows = record { block = b; rest = rest; frame = frame; grows = grows }
 
   pub body_refuses : (b : Framed) (rest : List ℕ) → FrameText (order_at q) b s rest → (e : PcapError) → Refuses (CanGrow q b) (λ n. ⊥) (λ f. Means q b (bad f)) e
       → Refuses (MayGrow q s) (λ n. BlockSays q s (lacks n)) (λ f. BlockSays q s (faulty f)) e
@@ -64,10 +53,6 @@ module _ (q : State) (s : List ℕ) where
   body_refuses b rest frame (errors.FromUtf8Error a) x = absurd x
   body_refuses b rest frame (errors.OutOfMemory a) x = can_grow b rest frame x
   body_refuses b rest frame errors.WriterFailed x = absurd x
-
-  pub room_refuses : (b : Framed) (rest : List ℕ) → FrameText (order_at q) b s rest → CanGrow q b → (e : PcapError) → IsMemory e
-      → Refuses (MayGrow q s) (λ n. BlockSays q s (lacks n)) (λ f. BlockSays q s (faulty f)) e
-  room_refuses b rest frame grows e is = memory_refuses (MayGrow q s) (λ n. BlockSays q s (lacks n)) (λ f. BlockSays q s (faulty f)) e (can_grow b rest frame grows) is
 
 pub opening_order : order_at opening ≡ Big
 unfolding order_at

@@ -1,13 +1,12 @@
 -- Blocks under the section and interfaces in force.
-use Rattle.std.specs.Prelude.{◌≡◌, ◌⊎◌, ℕ, List, true}
+use Rattle.std.specs.Prelude.{◌⊎◌, ℕ, List}
 use Rattle.pcap_core.specs.Answer.{Verdict, Says}
 use Rattle.pcap_core.specs.Faults.{Fault}
 use Rattle.pcap_core.specs.Format.{Format}
 use Rattle.pcap_core.specs.Headed.{good, bad}
-use Rattle.pcap_blocks.specs.ParsedBlock.{HasLists}
 use Rattle.pcap_file.specs.declared.pcapng.block.Block.{Block}
 use Rattle.pcap_file.specs.Frames.{Framed, framed_of, FrameText, FrameLacks, FrameFault}
-use Rattle.pcap_file.specs.State.{State, order_at, is_read, Means}
+use Rattle.pcap_file.specs.State.{State, order_at, Means, CanGrow}
 
 -- a block, and the section and interfaces in force after it
 pub record Item : Type 0 where
@@ -34,13 +33,12 @@ pub record BodyFault (q : State) (s : List ℕ) (fault : Fault) : Type 0 where
 abbrev pub BlockSays : State → List ℕ → Verdict Item → Type 0
 BlockSays q s = Says (λ item rest. BlockText q item s rest) (FrameLacks (order_at q) s) (λ fault. FrameFault (order_at q) s fault ⊎ BodyFault q s fault)
 
--- a whole block stands there whose body is read and has lists
+-- a whole block stands there whose body is read and has lists: only then a call needs memory
 pub record MayGrow (q : State) (s : List ℕ) : Type 0 where
   pub block : Framed
   pub rest : List ℕ
   pub frame : FrameText (order_at q) block s rest
-  pub is_read_there : is_read q block.type_ ≡ true
-  pub lists : HasLists block.type_
+  pub grows : CanGrow q block
 
 -- blocks, the first of which is a section header
 unfoldable pub block_format : Format State Item

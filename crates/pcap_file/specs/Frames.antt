@@ -1,6 +1,5 @@
 -- Blocks in their frames ('General Block Structure').
-use Rattle.std.specs.Prelude.{◌≡◌, ◌≢◌, ◌<◌, ◌≤◌, ◌+◌, ◌%◌, ◌==◌, ◌⊎◌, if◌then◌else◌, ℕ, List, ◌++◌, length, Option, Some, None, Result, Ok, Err}
-use Rattle.std.specs.Borrow.{Bor}
+use Rattle.std.specs.Prelude.{◌≡◌, ◌≢◌, ◌<◌, ◌≤◌, ◌+◌, ◌%◌, ◌==◌, ◌⊎◌, if◌then◌else◌, ℕ, List, ◌++◌, length, Option, Some, None}
 use Rattle.byteorder.specs.Endian.{big_number}
 use Rattle.pcap_core.specs.declared.common.Endianness.{Endianness}
 use Rattle.pcap_core.specs.declared.rules.Rule.{Rule}
@@ -10,9 +9,9 @@ use Rattle.pcap_core.specs.Bytes.{cow_bytes}
 use Rattle.pcap_core.specs.Faults.{Fault, Invalid}
 use Rattle.pcap_core.specs.Format.{Format}
 use Rattle.pcap_core.specs.Padded.{Behind}
-use Rattle.pcap_blocks.specs.declared.block.BlockType.{BlockType}
+use Rattle.pcap_blocks.specs.declared.block_type.BlockType.{BlockType}
 use Rattle.pcap_blocks.specs.SectionHeader.{magic_order}
-use Rattle.pcap_blocks.specs.WholeBodies.{block_type}
+use Rattle.pcap_blocks.specs.BlockType.{block_type}
 use Rattle.pcap_file.specs.declared.pcapng.block.Block.{Block}
 
 -- a block, wherever its body lies: its type, its length before and after the body, the body, and the order of its numbers

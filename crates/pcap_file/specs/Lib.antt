@@ -3,6 +3,8 @@ pub mod Bodies
 pub mod State
 pub mod Blocks
 pub mod Opening
+pub mod Sections
+pub mod MarkedLists
 pub mod Parser
 pub mod Front
 pub mod Run

@@ -4,7 +4,7 @@ use Rattle.pcap_core.specs.declared.errors.PcapError.{PcapError}
 use Rattle.pcap_core.specs.Format.{state_after}
 use Rattle.pcap_core.specs.Reading.{Takes}
 use Rattle.pcap_core.specs.Answer.{whole}
-use Rattle.pcap_core.specs.Takes.{TakesTexts, TakesItems, ReadsFront}
+use Rattle.pcap_core.specs.Takes.{TakesItems, ReadsFront}
 use Rattle.pcap_file.specs.declared.run.NgRead.{NgRead}
 use Rattle.pcap_file.specs.Frames.{Framed, framed_of}
 use Rattle.pcap_file.specs.State.{State}
@@ -12,18 +12,11 @@ use Rattle.pcap_file.specs.Blocks.{Item, block_format}
 use Rattle.pcap_file.specs.Opening.{OpeningSays}
 use Rattle.pcap_file.specs.Reader.{state_of, stream_of, has_failed}
 
--- these blocks were taken and no more, and this is in force after them
-pub record TakenBlocks (q place : State) (before left : Option (List ℕ)) (blocks : List Framed) : Type 0 where
-  pub items : List Item
-  pub blocks_are : map (λ (item : Item). item.block) items ≡ blocks
-  pub in_force : state_after block_format q items ≡ place
-  pub took : TakesTexts block_format q items before left
-
 -- a run took these blocks, at most so many, and then stopped; this is in force after them
-pub record TakesBlocks (q place : State) (before now : Option (List ℕ)) (failed : Bool) (most : ℕ) (blocks : List Framed) (fault : Option PcapError) : Type 0 where
+pub record TakesBlocks (q reached : State) (before now : Option (List ℕ)) (failed : Bool) (most : ℕ) (blocks : List Framed) (fault : Option PcapError) : Type 0 where
   pub items : List Item
   pub blocks_are : map (λ (item : Item). item.block) items ≡ blocks
-  pub in_force : state_after block_format q items ≡ place
+  pub in_force : state_after block_format q items ≡ reached
   pub run : TakesItems block_format q before now failed most items fault
 
 -- the first block was taken, and then blocks up to a cause to stop

@@ -1,21 +1,21 @@
--- The section and the interfaces in force, and where a block leads.
-use Rattle.std.specs.Prelude.{◌≡◌, ◌⊎◌, ◌++◌, ℕ, List, [], ◌∷◌, map, Bool, true, false, Option, Some, None, IsSome, Result, Ok, Err}
+-- The section and the interfaces in force, and where a block leads ('Section Header Block', 'Interface Description Block').
+use Rattle.std.specs.Prelude.{◌≡◌, ◌⊎◌, ◌++◌, ℕ, List, [], ◌∷◌, map, Bool, true, false, Option, Some, None, IsSome, ⊤, Result, Ok, Err}
 use Rattle.pcap_core.specs.declared.common.Endianness.{Endianness}
 use Rattle.pcap_core.specs.declared.common.Endianness.TheVariants.{Big}
 use Rattle.pcap_core.specs.declared.rules.Rule.TheVariants.{SectionMissing}
 use Rattle.pcap_core.specs.declared.errors.PcapError.{PcapError}
-use Rattle.pcap_core.specs.Answer.{Verdict, whole, faulty, Refuses}
-use Rattle.pcap_core.specs.Faults.{Fault, Invalid}
+use Rattle.pcap_core.specs.Answer.{whole, faulty, Refuses}
+use Rattle.pcap_core.specs.Faults.{Invalid}
 use Rattle.pcap_core.specs.Headed.{HeadReading, good, bad}
-use Rattle.pcap_blocks.specs.declared.block.BlockType.{BlockType}
-use Rattle.pcap_blocks.specs.declared.block.BlockType.TheVariants as types
+use Rattle.pcap_blocks.specs.declared.block_type.BlockType.{BlockType}
+use Rattle.pcap_blocks.specs.declared.block_type.BlockType.TheVariants as types
 use Rattle.pcap_blocks.specs.SectionHeader.{Section, section_of, magic_order}
 use Rattle.pcap_blocks.specs.InterfaceDescription.{Interface, interface_of}
-use Rattle.pcap_blocks.specs.ParsedBlock.{Body, SectionBody, InterfaceBody, HasLists}
+use Rattle.pcap_blocks.specs.ParsedBlock.{Body, SectionBody, InterfaceBody}
 use Rattle.pcap_file.specs.declared.pcapng.state.InForce.{InForce}
 use Rattle.pcap_file.specs.declared.pcapng.state.Kept.{Kept}
 use Rattle.pcap_file.specs.declared.pcapng.state.Kept.TheVariants as kept
-use Rattle.pcap_file.specs.Bodies.{SaysOfBody}
+use Rattle.pcap_file.specs.Bodies.{GrowsInBody, SaysOfBody}
 use Rattle.pcap_file.specs.Frames.{Framed}
 
 -- what is known before a block: nothing, or the section and its interfaces so far
@@ -78,9 +78,16 @@ led q (Some body) = good_or q (leads q body)
 abbrev pub state_in : InForce → State
 state_in f = within (section_of f.section) (map interface_of f.interfaces.items)
 
--- the body of a block is read, and has lists
+-- the bodies of blocks of this type are kept
+abbrev pub AreKept : BlockType → Type 0
+AreKept types.SectionHeader = ⊤
+AreKept types.InterfaceDescription = ⊤
+AreKept _ = ⊥
+
+-- a whole block needs memory only where its body is kept, or is read and has something that is kept in a list
 abbrev pub CanGrow : State → Framed → Type 0
-CanGrow q b = (is_read q b.type_ ≡ true) × HasLists b.type_
+CanGrow opening b = AreKept b.type_ ⊎ GrowsInBody b
+CanGrow (within section interfaces) b = AreKept b.type_
 
 -- the body that is kept, if one is
 abbrev pub kept_of : Kept → Option Body

@@ -4,7 +4,7 @@ use Rattle.std.specs.Borrow.{Bor}
 use Rattle.pcap_core.specs.declared.common.Endianness.{Endianness}
 use Rattle.pcap_core.specs.declared.rules.Rule.{Rule}
 use Rattle.pcap_core.specs.declared.rules.Rule.TheVariants.{BlockLengthsDiffer}
-use Rattle.pcap_blocks.specs.WholeBodies.{block_type}
+use Rattle.pcap_blocks.specs.BlockType.{block_type}
 use Rattle.pcap_file.specs.declared.pcapng.block.Block.{Block}
 use Rattle.pcap_file.specs.declared.pcapng.framing.FrameHead.{FrameHead}
 use Rattle.pcap_file.specs.Frames.{Framed, framed_of, FrameHeadText, IsGoodLength, BreaksHead, FrameTail}

@@ -1,10 +1,76 @@
-//! Laws of the grammar of blocks.
+//! Laws of the grammar of blocks. Each contract is the law.
 
-ghost use Rattle.pcap_core.specs.Format.{IsLawful};
-ghost use Rattle.pcap_file.specs.Blocks.{block_format};
+ghost use Rattle.std.specs.Prelude.{◌≡◌, ◌≤◌, ℕ, List, [], ◌∷◌, ◌++◌, length, map};
+ghost use Rattle.pcap_core.specs.declared.common.Endianness.{Endianness};
+ghost use Rattle.pcap_core.specs.Answer.{whole};
+ghost use Rattle.pcap_core.specs.Format.{Front, Texts, Asks, IsLawful, state_after};
+ghost use Rattle.pcap_core.specs.Laws.{ExactlyOne, IsStable};
+ghost use Rattle.pcap_file.specs.Blocks.{Item, BlockText, BlockSays, block_format};
+ghost use Rattle.pcap_file.specs.Frames.{Framed, FrameSays};
+ghost use Rattle.pcap_file.specs.Front.{NgFront};
+ghost use Rattle.pcap_file.specs.MarkedLists.{marked_format};
+ghost use Rattle.pcap_file.specs.Opening.{OpeningSays};
+ghost use Rattle.pcap_file.specs.Sections.{Leaves};
+ghost use Rattle.pcap_file.specs.State.{State, opening};
+
+/// Of each slice exactly one thing is said where a block in its frame is asked for: its text begins the slice, so many bytes
+/// are missing, or there is one fault.
+pub fn frame_is_one()
+    ensures { (order : Endianness) (s : List ℕ) → ExactlyOne (FrameSays order s) }
+{}
+
+/// The same where a block is asked for under a section and its interfaces.
+pub fn block_is_one()
+    ensures { (q : State) (s : List ℕ) → ExactlyOne (BlockSays q s) }
+{}
+
+/// The same where the first block is asked for.
+pub fn first_block_is_one()
+    ensures { (s : List ℕ) → ExactlyOne (OpeningSays s) }
+{}
+
+/// More bytes change neither a block nor its fault, and shrink a request by their number.
+pub fn block_is_stable()
+    ensures { (q : State) → IsStable (BlockSays q) }
+{}
+
+/// The same of the first block.
+pub fn first_block_is_stable()
+    ensures { IsStable OpeningSays }
+{}
 
 /// Blocks are a format: of all bytes one thing is said, more bytes change nothing, a text is its own, and a request is
 /// the head's, or else the last.
 pub fn blocks_are_lawful()
     ensures { IsLawful block_format }
+{}
+
+/// Who adds exactly what is asked for is asked twice at most, and has nothing after the block that comes.
+pub fn blocks_are_asked_for_twice()
+    ensures { (q : State) (n : ℕ) (ns s t : List ℕ) → Asks block_format q (n ∷ ns) s t →
+        (length (n ∷ ns) ≤ 2) × ((item : Item) (rest : List ℕ) → BlockText q item t rest → rest ≡ []) }
+{}
+
+/// All bytes have one front of blocks and no other.
+pub fn blocks_have_one_front()
+    ensures { (q : State) (s : List ℕ) → ExactlyOne (λ (p : List Item × List ℕ). Front block_format q p.0 s p.1) }
+{}
+
+/// What begins with a first block has one front as a capture and no other.
+pub fn capture_has_one_front()
+    ensures { (q : State) (s after : List ℕ) → OpeningSays s (whole q after) →
+        ExactlyOne (λ (p : State × List Framed × List ℕ). NgFront p.0 p.1 s p.2) }
+{}
+
+/// What is in force after blocks is what their bodies say: the section is that of the last section header, and the
+/// interfaces are those described after it.
+pub fn blocks_leave_their_section_in_force()
+    ensures { (first : Item) (items : List Item) (s rest : List ℕ) → Texts block_format opening (first ∷ items) s rest →
+        Leaves (map (λ (item : Item). item.block) (first ∷ items)) (state_after block_format opening (first ∷ items)) }
+{}
+
+/// Where each list of options has to end with its mark, the blocks of a front are a beginning of those of the front.
+pub fn unmarked_lists_keep_blocks()
+    ensures { (q : State) (items others : List Item) (s a b : List ℕ) → Front marked_format q items s a → Front block_format q others s b →
+        (more : List Item) × (others ≡ items ++ more) }
 {}

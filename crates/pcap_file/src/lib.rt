@@ -5,7 +5,7 @@ pub mod laws;
 pub mod pcapng;
 pub mod run;
 
-pub use pcap_classic::pcap;
 pub use pcap_classic::pcap::{PcapParser, PcapReader, PcapWriter};
-pub use pcap_core::{CowBytes, DataLink, Endianness, PcapError, ResultParsing, TsResolution};
+pub use pcap_classic::{TsResolution, pcap};
+pub use pcap_core::{CowBytes, DataLink, Endianness, PcapError, ResultParsing};
 pub use pcapng::{PcapNgParser, PcapNgReader};

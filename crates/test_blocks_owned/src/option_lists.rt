@@ -1,6 +1,6 @@
 //! Options by themselves, of each kind of block.
 
-use crate::rows::{HasTexts, Owned, bytes_behind, mismatch_or_loan};
+use crate::rows::{HasTexts, Owned, bytes_after, mismatch_or_loan};
 use crate::texts::{
     enhanced_owns_text, interface_owns_text, name_owns_text, packet_owns_text, section_owns_text,
     statistics_own_text,
@@ -19,7 +19,7 @@ use test_support::rows::bytes;
 
 impl Owned for Vec<SectionHeaderOption<'static>> {
     fn owned(alloc: Global, digits: &str) -> Result<Self, Fail> {
-        let body = bytes_behind(alloc, "1a2b3c4d 0001 0000 0000000000000010", digits)?;
+        let body = bytes_after(alloc, "1a2b3c4d 0001 0000 0000000000000010", digits)?;
         let (_rest, block) = SectionHeaderBlock::from_slice(alloc, body.as_slice())?;
         let mut options = Vec::new(alloc);
         for option in block.options {
@@ -37,7 +37,7 @@ impl HasTexts for Vec<SectionHeaderOption<'static>> {
 
 impl Owned for Vec<InterfaceDescriptionOption<'static>> {
     fn owned(alloc: Global, digits: &str) -> Result<Self, Fail> {
-        let body = bytes_behind(alloc, "0001 0000 00040000", digits)?;
+        let body = bytes_after(alloc, "0001 0000 00040000", digits)?;
         let (_rest, block) = InterfaceDescriptionBlock::from_slice::<BigEndian>(
             alloc,
             body.as_slice(),
@@ -94,7 +94,7 @@ impl HasTexts for Vec<PacketOption<'static>> {
 
 impl Owned for Vec<InterfaceStatisticsOption<'static>> {
     fn owned(alloc: Global, digits: &str) -> Result<Self, Fail> {
-        let body = bytes_behind(alloc, "00000001 00000002 00000003", digits)?;
+        let body = bytes_after(alloc, "00000001 00000002 00000003", digits)?;
         let (_rest, block) = InterfaceStatisticsBlock::from_slice::<BigEndian>(
             alloc,
             body.as_slice(),
@@ -115,7 +115,7 @@ impl HasTexts for Vec<InterfaceStatisticsOption<'static>> {
 
 impl Owned for Vec<NameResolutionOption<'static>> {
     fn owned(alloc: Global, digits: &str) -> Result<Self, Fail> {
-        let body = bytes_behind(alloc, "0000 0000", digits)?;
+        let body = bytes_after(alloc, "0000 0000", digits)?;
         let (_rest, block) = NameResolutionBlock::from_slice::<BigEndian>(alloc, body.as_slice())?;
         let mut options = Vec::new(alloc);
         for option in block.options {

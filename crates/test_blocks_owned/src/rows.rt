@@ -55,7 +55,7 @@ pub(crate) fn text_with_clone<T: Clone + Debug>(alloc: Global, value: &T) -> Res
     }
 }
 
-// The bytes of these digits, behind those of a head.
-pub(crate) fn bytes_behind(alloc: Global, head: &str, digits: &str) -> Result<Vec<u8>, Fail> {
+// The bytes of these digits, after those of a head.
+pub(crate) fn bytes_after(alloc: Global, head: &str, digits: &str) -> Result<Vec<u8>, Fail> {
     bytes(alloc, format!(in alloc; "{head} {digits}")?.as_str())
 }

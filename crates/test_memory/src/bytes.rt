@@ -25,7 +25,7 @@ pub(crate) const PACKET: [u8; 32] = [
     0, 0,
 ];
 
-/// Two names for an address, an unknown record, and the comment "hi" behind the records.
+/// Two names for an address, an unknown record, and the comment "hi" after the records.
 pub(crate) const NAMES: [u8; 32] = [
     0, 1, 0, 8, 10, 0, 0, 1, 0x61, 0, 0x62, 0, 0, 7, 0, 1, 9, 0, 0, 0, 0, 0, 0, 0, 0, 1, 0, 2,
     0x68, 0x69, 0, 0,
@@ -55,3 +55,24 @@ pub(crate) const IPV6_RECORD: [u8; 24] = [
 
 /// A record of an unknown type.
 pub(crate) const UNKNOWN_RECORD: [u8; 8] = [0, 9, 0, 1, 0xaa, 0, 0, 0];
+
+/// A block of an interface with the name "a".
+pub(crate) const INTERFACE_BLOCK: [u8; 32] = [
+    0, 0, 0, 1, 0, 0, 0, 0x20, 0, 1, 0, 0, 0, 4, 0, 0, 0, 2, 0, 1, 0x61, 0, 0, 0, 0, 0, 0, 0, 0, 0,
+    0, 0x20,
+];
+
+/// A block of a little-endian section with the comment "hi".
+pub(crate) const SECTION_BLOCK: [u8; 36] = [
+    0xa, 0xd, 0xd, 0xa, 0x24, 0, 0, 0, 0x4d, 0x3c, 0x2b, 0x1a, 1, 0, 0, 0, 0xff, 0xff, 0xff, 0xff,
+    0xff, 0xff, 0xff, 0xff, 1, 0, 2, 0, 0x68, 0x69, 0, 0, 0x24, 0, 0, 0,
+];
+
+/// A big-endian section with the comment "hi", an interface with the name "a", and a packet of four bytes with that comment.
+pub(crate) const BLOCKS: [u8; 112] = [
+    0xa, 0xd, 0xd, 0xa, 0, 0, 0, 0x24, 0x1a, 0x2b, 0x3c, 0x4d, 0, 1, 0, 0, 0xff, 0xff, 0xff, 0xff,
+    0xff, 0xff, 0xff, 0xff, 0, 1, 0, 2, 0x68, 0x69, 0, 0, 0, 0, 0, 0x24, 0, 0, 0, 1, 0, 0, 0, 0x20,
+    0, 1, 0, 0, 0, 4, 0, 0, 0, 2, 0, 1, 0x61, 0, 0, 0, 0, 0, 0, 0, 0, 0, 0, 0x20, 0, 0, 0, 6, 0, 0,
+    0, 0x2c, 0, 0, 0, 0, 0, 0, 0, 0, 0, 0, 0, 1, 0, 0, 0, 4, 0, 0, 0, 4, 1, 2, 3, 4, 0, 1, 0, 2,
+    0x68, 0x69, 0, 0, 0, 0, 0, 0x2c,
+];

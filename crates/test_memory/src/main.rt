@@ -5,6 +5,7 @@ mod bodies;
 mod bytes;
 mod captures;
 mod parts;
+mod pcapng;
 
 use pcap_classic::{PcapError, ResultParsing};
 use std::io;
@@ -14,6 +15,7 @@ fn main(rt: HostRuntime) -> io::Result<()> {
         captures::make_calls(&rt)?;
         bodies::make_calls(&rt)?;
         parts::make_calls(&rt)?;
+        pcapng::make_calls(&rt)?;
     }
     Ok(())
 }

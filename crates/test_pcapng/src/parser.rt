@@ -100,6 +100,19 @@ fn first_blocks(rt: HostRuntime) -> Result<(), Fail> {
     Ok(())
 }
 
+// A block and its body, as text.
+fn lent(alloc: Global, block: &Block) -> Result<String, Fail> {
+    let body = format!(in alloc; "{:?}", block.parsed(alloc)?)?;
+    Ok(format!(in alloc; "{block:?} {body}")?)
+}
+
+// The same, where both outlive the slice.
+fn kept(alloc: Global, block: Block) -> Result<String, Fail> {
+    let body = block.parsed(alloc)?.into_owned(alloc)?;
+    let block = block.into_owned(alloc)?;
+    Ok(format!(in alloc; "{block:?} {body:?}")?)
+}
+
 #[test]
 fn owned_blocks(rt: HostRuntime) -> Result<(), Fail> {
     let (_rest, mut parser) = PcapNgParser::new(rt.alloc(), &SECTION)?;
@@ -112,11 +125,9 @@ fn owned_blocks(rt: HostRuntime) -> Result<(), Fail> {
         let slice = bytes(rt.alloc(), digits)?;
         let (rest, block) = parser.next_block(slice.as_slice())?;
         assert!(rt; rest.is_empty() && block.endianness() == Endianness::Big);
-        let lent = format!(in rt.alloc(); "{block:?} {:?}", block.parsed(rt.alloc())?)?;
+        let lent = lent(rt.alloc(), &block)?;
         assert_eq!(rt; lent.as_str(), told, "at {digits}");
-        let body = block.parsed(rt.alloc())?.into_owned(rt.alloc())?;
-        let block = block.into_owned(rt.alloc())?;
-        let kept = format!(in rt.alloc(); "{block:?} {body:?}")?;
+        let kept = kept(rt.alloc(), block)?;
         let owned = told.replace(rt.alloc(), "Borrowed(", "Owned(")?;
         assert_eq!(rt; kept.as_str(), owned.as_str(), "at {digits}");
     }

@@ -192,6 +192,7 @@ fn a_stream_that_goes_on(rt: HostRuntime) -> Result<(), Fail> {
         };
         let mut reader = PcapNgReader::new(rt.alloc(), stream)?;
         for is_block in [true, false, true, true, false, false] {
+            assert!(rt; !reader.failed());
             let is_next = matches!(reader.next(), Some(Ok(_)));
             assert_eq!(rt; is_next, is_block);
         }

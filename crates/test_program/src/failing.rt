@@ -3,19 +3,26 @@
 use capcopy_run::run;
 use std::io::ErrorKind;
 use std::test::Fail;
-use test_support::captures::{big, front};
+use test_support::captures::{SECTIONS, big, front};
 use test_support::readers::Halting;
 use test_support::writers::Narrow;
 
 const LINE: &str = "1 1335958313.152630000 98/98\n";
 
+const LINES: &str = "section big 1.0\n1 interface 20 ok\n2 section 28 ok\n3 interface 20 ok\n";
+
 #[test]
 fn interrupted_reads(rt: HostRuntime) -> Result<(), Fail> {
     let bytes = big(rt.alloc())?;
-    let rows: [(&str, &[u8]); 2] = [("list", LINE.as_bytes()), ("copy", bytes.as_slice())];
-    for (word, written) in rows {
-        let mut input = Halting::new(rt.alloc(), bytes.as_slice(), 1)?;
-        input.fails_at = 139;
+    // a word, its input, the call that fails, after all of it, and what is written
+    let rows: [(&str, &[u8], usize, &[u8]); 3] = [
+        ("list", bytes.as_slice(), 139, LINE.as_bytes()),
+        ("copy", bytes.as_slice(), 139, bytes.as_slice()),
+        ("blocks", &SECTIONS, 97, LINES.as_bytes()),
+    ];
+    for (word, given, fails_at, written) in rows {
+        let mut input = Halting::new(rt.alloc(), given, 1)?;
+        input.fails_at = fails_at;
         input.kind = ErrorKind::Interrupted;
         let mut output = Vec::new(rt.alloc());
         let exit = run(rt.alloc(), &[word], &mut input, &mut output, 9);
@@ -28,11 +35,17 @@ fn interrupted_reads(rt: HostRuntime) -> Result<(), Fail> {
 #[test]
 fn narrow_outputs(rt: HostRuntime) -> Result<(), Fail> {
     let bytes = big(rt.alloc())?;
-    let rows: [(&str, &[u8]); 2] = [("list", LINE.as_bytes()), ("copy", bytes.as_slice())];
-    for (word, written) in rows {
+    let rows: [(&str, &[u8], &[u8]); 3] = [
+        ("list", bytes.as_slice(), LINE.as_bytes()),
+        ("copy", bytes.as_slice(), bytes.as_slice()),
+        ("blocks", &SECTIONS, LINES.as_bytes()),
+    ];
+    for (word, given, written) in rows {
+        let mut input = Halting::new(rt.alloc(), given, 1000)?;
         for room in 0..written.len() {
+            input.taken = 0;
             let mut output = Narrow::new(rt.alloc(), room, false);
-            let exit = run(rt.alloc(), &[word], &mut bytes.as_slice(), &mut output, 9);
+            let exit = run(rt.alloc(), &[word], &mut input, &mut output, 9);
             assert!(rt; exit.status() == 3, "{word} at {room}");
             assert_eq!(rt; output.out.as_slice(), front(written, room));
         }

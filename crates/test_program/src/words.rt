@@ -215,14 +215,15 @@ fn copies_of_torn_captures(rt: HostRuntime) -> Result<(), Fail> {
 #[test]
 fn usage(rt: HostRuntime) -> Result<(), Fail> {
     let whole = big(rt.alloc())?;
-    let rows: [&[&str]; 7] = [
+    let rows: [&[&str]; 8] = [
         &[],
         &["copy", "big"],
         &["copy", "nano"],
         &["copy", "nano", "big"],
         &["list", "list"],
         &["lists"],
-        &["blocks"],
+        &["block"],
+        &["blocks", "list"],
     ];
     for step in STEPS {
         for words in rows {

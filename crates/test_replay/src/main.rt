@@ -6,13 +6,16 @@
 //! program, gives for them: `tests/model/run` makes it.
 #![tactic(auto)]
 
+mod framed;
+
 use byteorder::{BigEndian, ByteOrder, LittleEndian};
-use pcap_blocks::{
+use framed::{parsed, refusal};
+use pcap_file::pcap::{Packet, PacketHeader, PcapHeader};
+use pcap_file::pcapng::{
     BlockType, CustomBinaryOption, CustomUtf8Option, EnhancedPacketOption, Ipv4Record, Ipv6Record,
-    PacketOption, ParsedBlock, Record, str_from_u8_null_terminated,
+    PacketOption, Record, str_from_u8_null_terminated,
 };
-use pcap_classic::pcap::{Packet, PacketHeader, PcapHeader};
-use pcap_classic::{PcapError, TsResolution};
+use pcap_file::{PcapError, TsResolution};
 use std::io;
 
 fn main(rt: HostRuntime) -> io::Result<()> {
@@ -127,32 +130,28 @@ fn replay_record<B: ByteOrder>(rt: &HostRuntime, call: &str, slice: &[u8]) -> io
     }
 }
 
-// The same of a body of this type.
+// The same of a body of this type. Its block in a capture has to give the same value.
 fn replay_body<B: ByteOrder>(rt: &HostRuntime, name: &str, slice: &[u8]) -> io::Result<()> {
-    let type_ = match name {
-        "SectionHeader" => BlockType::SectionHeader,
-        "InterfaceDescription" => BlockType::InterfaceDescription,
-        "Packet" => BlockType::Packet,
-        "SimplePacket" => BlockType::SimplePacket,
-        "NameResolution" => BlockType::NameResolution,
-        "InterfaceStatistics" => BlockType::InterfaceStatistics,
-        "EnhancedPacket" => BlockType::EnhancedPacket,
-        "SystemdJournalExport" => BlockType::SystemdJournalExport,
-        _ => BlockType::Unknown(77),
+    let (type_, number) = match name {
+        "SectionHeader" => (BlockType::SectionHeader, 0x0a0d0d0a),
+        "InterfaceDescription" => (BlockType::InterfaceDescription, 1),
+        "Packet" => (BlockType::Packet, 2),
+        "SimplePacket" => (BlockType::SimplePacket, 3),
+        "NameResolution" => (BlockType::NameResolution, 4),
+        "InterfaceStatistics" => (BlockType::InterfaceStatistics, 5),
+        "EnhancedPacket" => (BlockType::EnhancedPacket, 6),
+        "SystemdJournalExport" => (BlockType::SystemdJournalExport, 9),
+        _ => (BlockType::Unknown(77), 77),
     };
-    match ParsedBlock::from_slice::<B>(rt.alloc(), type_, slice) {
-        Ok((rest, block)) => println!(rt; "ok {rest:?} {block:?}"),
+    match parsed::<B>(rt.alloc(), type_, number, slice) {
+        Ok(told) => println!(rt; "{told}"),
         Err(error) => refused(rt, error),
     }
 }
 
 fn refused(rt: &HostRuntime, error: PcapError) -> io::Result<()> {
-    match &error {
-        PcapError::IncompleteBuffer(lacking) => println!(rt; "needs {lacking}"),
-        PcapError::IoError(_) => println!(rt; "io"),
-        PcapError::Utf8Error(_) => println!(rt; "utf8"),
-        PcapError::InvalidField(text) => println!(rt; "invalid {text}"),
-        PcapError::OutOfMemory(_) => println!(rt; "out of memory"),
-        _ => println!(rt; "another error"),
+    match refusal(rt.alloc(), &error) {
+        Ok(told) => println!(rt; "{told}"),
+        Err(_) => println!(rt; "out of memory"),
     }
 }

@@ -5,7 +5,7 @@ use pcap_file::pcapng::{Block, BlockType, InterfaceDescriptionBlock, SectionHead
 use pcap_file::run::{parse_pcapng, read_pcapng};
 use pcap_file::{Endianness, ResultParsing};
 use std::alloc::Global;
-use std::io::Cursor;
+use test_support::readers::Halting;
 
 pub(crate) fn parse(alloc: Global, bytes: &[u8], told: &mut String) -> ResultParsing<()> {
     match parse_pcapng(alloc, bytes) {
@@ -18,13 +18,18 @@ pub(crate) fn parse(alloc: Global, bytes: &[u8], told: &mut String) -> ResultPar
     }
 }
 
-pub(crate) fn read(
-    alloc: Global,
-    bytes: Vec<u8>,
-    most: u64,
-    told: &mut String,
-) -> ResultParsing<()> {
-    match read_pcapng(alloc, Cursor::new(bytes), most) {
+pub(crate) fn read(alloc: Global, bytes: &[u8], most: u64, told: &mut String) -> ResultParsing<()> {
+    read_by(alloc, Halting::new(alloc, bytes, usize::MAX)?, most, told)?;
+    let mut slowly = String::new(alloc);
+    read_by(alloc, Halting::new(alloc, bytes, 3)?, most, &mut slowly)?;
+    if slowly.as_str() != told.as_str() {
+        write!(told, " by short reads {slowly}")?;
+    }
+    Ok(())
+}
+
+fn read_by(alloc: Global, stream: Halting, most: u64, told: &mut String) -> ResultParsing<()> {
+    match read_pcapng(alloc, stream, most) {
         Ok(read) => {
             push_blocks(alloc, told, read.blocks.as_slice())?;
             push_state(told, read.reader.section(), read.reader.interfaces())?;

@@ -38,7 +38,7 @@ fn is_cut(read: &PcapRead) -> bool {
 }
 
 // The capture's header and then these bytes.
-fn behind_header(alloc: Global, bytes: &[u8]) -> Result<Vec<u8>, AllocError> {
+fn after_header(alloc: Global, bytes: &[u8]) -> Result<Vec<u8>, AllocError> {
     let whole = big(alloc)?;
     let mut capture = Vec::from_slice(alloc, front(whole.as_slice(), 24))?;
     capture.extend_from_slice(bytes)?;
@@ -66,8 +66,8 @@ fn other_orders(rt: HostRuntime) -> Result<(), Fail> {
 fn fractions_are_cut(rt: HostRuntime) -> Result<(), Fail> {
     let nanoseconds = [0, 0, 0, 1, 0, 0, 3, 0xe7, 0, 0, 0, 0, 0, 0, 0, 0];
     let cut = [0, 0, 0, 1, 0, 0, 0, 0, 0, 0, 0, 0, 0, 0, 0, 0];
-    let whole = behind_header(rt.alloc(), &nanoseconds)?;
-    let wanted = behind_header(rt.alloc(), &cut)?;
+    let whole = after_header(rt.alloc(), &nanoseconds)?;
+    let wanted = after_header(rt.alloc(), &cut)?;
     let mut bytes = Vec::from_slice(rt.alloc(), &[0xa1, 0xb2, 0x3c, 0x4d])?;
     bytes.extend_from_slice(back(whole.as_slice(), 4))?;
     for step in [1, 99] {

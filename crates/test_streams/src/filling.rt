@@ -14,7 +14,7 @@ fn told_readers(rt: HostRuntime) -> Result<(), Fail> {
     stream.kind = ErrorKind::Interrupted;
     let mut told = Told::new(stream);
     let mut bytes = [0; 3];
-    // each read, and what the three bytes are behind it
+    // each read, and what the three bytes are after it
     for (n, wanted) in [(2, [1, 2, 0]), (1, [3, 2, 0]), (0, [3, 2, 0])] {
         assert!(rt; matches!(told.read(&mut bytes), Ok(taken) if taken == n));
         assert_eq!(rt; bytes, wanted);

@@ -28,7 +28,7 @@ fn kind_of_item(item: Option<ResultParsing<Packet<'static>>>) -> Option<ErrorKin
     }
 }
 
-// What stands behind the bytes of a stream, which are given in three reads: its end, or a read that fails. With it the kind
+// What follows the bytes of a stream, which are given in three reads: its end, or a read that fails. With it the kind
 // of the fault.
 const ENDS: [(usize, ErrorKind); 2] = [(0, ErrorKind::UnexpectedEof), (4, ErrorKind::TimedOut)];
 

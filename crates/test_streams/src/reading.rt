@@ -211,7 +211,7 @@ fn refusals(rt: HostRuntime) -> Result<(), Fail> {
 #[test]
 fn failed_reads(rt: HostRuntime) -> Result<(), Fail> {
     let whole = big(rt.alloc())?;
-    // the most bytes of one read, and the call that fails, behind 50 bytes
+    // the most bytes of one read, and the call that fails, after 50 bytes
     for (step, fails_at) in [(1, 51), (50, 4)] {
         let mut stream = Halting::new(rt.alloc(), front(whole.as_slice(), 50), step)?;
         stream.fails_at = fails_at;
@@ -273,7 +273,7 @@ fn wrong_magics(rt: HostRuntime) -> Result<(), Fail> {
     let whole = big(rt.alloc())?;
     let mut bytes = big(rt.alloc())?;
     bytes.extend_from_slice(back(whole.as_slice(), 24))?;
-    // where the stream ends: behind the second packet, or inside it
+    // where the stream ends: after the second packet, or inside it
     for (end, step) in [(252, 1), (252, 300), (238, 1), (238, 300), (143, 300)] {
         let stream = Halting::new(rt.alloc(), front(bytes.as_slice(), end), step)?;
         let mut reader = PcapReader::new(rt.alloc(), stream)?;

@@ -60,7 +60,7 @@ impl Read for Halting {
 pub struct EndsOnce<'a> {
     /// What it gives before it ends.
     pub first: &'a [u8],
-    /// What it gives behind its end.
+    /// What it gives after its end.
     pub second: &'a [u8],
     /// The most bytes of one read.
     pub step: usize,

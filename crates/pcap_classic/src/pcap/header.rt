@@ -11,8 +11,8 @@ ghost use Rattle.pcap_core.specs.Reading.{Reads, ReadsTold};
 ghost use Rattle.pcap_core.specs.Writing.{WritesAll};
 ghost use Rattle.pcap_classic.specs.Written.{header_bytes};
 
-use byteorder::{BigEndian, ByteOrder, LittleEndian};
 use crate::common::TsResolution;
+use byteorder::{BigEndian, ByteOrder, LittleEndian};
 use pcap_core::fields::{split_u16, split_u32};
 use pcap_core::rules::Rule;
 use pcap_core::stream::{fill_array, put};

@@ -124,7 +124,7 @@ impl<T> PcapReader<T> {
     ghost use Rattle.pcap_classic.specs.LentStreams.{reader_with};
     ghost use Rattle.pcap_classic.specs.Reader.{stream_of, has_failed, is_done, data_of, lent_packet};
 
-    /// The data of the packet whose header `next_header` gave last. None where it gave none.
+    /// The data of the packet whose header `next_header` gave last. Empty where it gave none.
     pub fn data(&self) -> &[u8]
         ensures { result.now ≡ data_of self.now }
     {

@@ -10,7 +10,9 @@ ghost use Rattle.pcap_classic.specs.PacketText.{packet_limit};
 ghost use Rattle.pcap_classic.specs.Written.{written_under};
 
 use crate::common::TsResolution;
-use crate::pcap::{PacketHeader, PacketsUnder, PcapHeader, packet_of, put_header, put_packet, read_header};
+use crate::pcap::{
+    PacketHeader, PacketsUnder, PcapHeader, packet_of, put_header, put_packet, read_header,
+};
 use pcap_core::rules::Rule;
 use pcap_core::stream::{Held, fill_item};
 use pcap_core::{Endianness, PcapError, ResultParsing};

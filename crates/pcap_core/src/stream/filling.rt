@@ -67,6 +67,7 @@ pub fn fill_item<H: HasHead, T: Read>(
 ///
 /// The head's refusal where its bytes are refused. `OutOfMemory` where there is no room, `IoError` where a read failed or the
 /// stream ended early.
+#[inline(always)]
 pub fn take_item<H: HasHead, T: Read>(
     alloc: Global,
     item: &H,

@@ -1,6 +1,6 @@
 //! Bytes that came from a stream.
 
-ghost use Rattle.std.specs.Prelude.{◌≡◌, ◌≤◌, ◌+◌, max, [], IfErr, OnOk, vec_len};
+ghost use Rattle.std.specs.Prelude.{◌≡◌, ◌≤◌, ◌+◌, max, [], IfOk, IfErr, OnOk, vec_len};
 ghost use Rattle.pcap_core.specs.Errors.{IsMemory};
 
 use crate::ResultParsing;
@@ -26,6 +26,18 @@ impl Held {
             room: Vec::new(alloc),
             len: 0,
         }
+    }
+
+    // Nothing yet, with memory for so many bytes.
+    pub(crate) fn with_capacity(alloc: Global, n: usize) -> ResultParsing<Held>
+        ensures held { IfOk result (λ made. held_bytes made ≡ []) }
+        ensures room { IfOk result (λ made. room_of made ≡ 0) }
+        ensures memory { IfErr result IsMemory }
+    {
+        Ok(Held {
+            room: Vec::with_capacity(alloc, n)?,
+            len: 0,
+        })
     }
 
     /// The bytes that are held.

@@ -80,6 +80,7 @@ pub(crate) fn read_exactly<T: Read>(
 /// Takes so many bytes off a stream, in a vector of their own, whose room grows with the bytes that come.
 ///
 /// `OutOfMemory` where they can't be kept, `IoError` where a read failed or the stream ended early.
+#[inline(always)]
 pub fn take_bytes<T: Read>(
     alloc: Global,
     stream: &mut T,
@@ -92,8 +93,11 @@ pub fn take_bytes<T: Read>(
     ensures part { OnErr result (TakesFewer n (T.remaining stream.old) (T.remaining stream.new)) }
     ensures cause { IfErr result (HasCauseToTake n (T.remaining stream.old) has_failed.old has_failed.new) }
 {
-    let mut held = Held::new(alloc);
-    if n > 0 && !read_exactly(stream, has_failed, &mut held, n)? {
+    if n == 0 {
+        return Ok(Vec::new(alloc));
+    }
+    let mut held = Held::with_capacity(alloc, n.min(MOST_AT_ONCE))?;
+    if !read_exactly(stream, has_failed, &mut held, n)? {
         return Err(ended_early());
     }
     Ok(held.into_vec())

@@ -4,8 +4,8 @@ ghost use Rattle.std.specs.Prelude.{◌≡◌, ◌≤◌, ◌+◌, length, IsOk,
 ghost use Rattle.pcap_core.specs.Answer.{Tells, TellsWhere, number_in};
 ghost use Rattle.pcap_core.specs.Bytes.{IsBorrowed, IsOwned};
 ghost use Rattle.pcap_core.specs.Errors.{IsMemory};
-ghost use Rattle.pcap_blocks.specs.ParsedBlock.{BodySays, HasLists, body_of, ParsedIsBorrowed};
-ghost use Rattle.pcap_file.specs.Bodies.{ParsesWhere, SaysOfBody};
+ghost use Rattle.pcap_blocks.specs.ParsedBlock.{BodySays, BodyMayGrow, body_of, ParsedIsBorrowed};
+ghost use Rattle.pcap_file.specs.Bodies.{GrowsInBody, ParsesWhere, SaysOfBody};
 ghost use Rattle.pcap_file.specs.Frames.{framed_of, FrameSays};
 ghost use Rattle.pcap_file.specs.StatedFrames.{TailTells};
 
@@ -67,10 +67,10 @@ impl<'a> Block<'a> {
     /// The body, read as the block's type says, in the block's own order. What follows it is left out.
     ///
     /// The errors are those of `from_slice` of this type's body: `InvalidField` for the first rule that it breaks,
-    /// `Utf8Error` for a text that isn't UTF-8, `IoError` for a value that is too short. `OutOfMemory` where a list of its
-    /// options or records can't grow.
+    /// `Utf8Error` for a string that isn't UTF-8, `IoError` for a value that is too short. `OutOfMemory` where it has options
+    /// or records, and their list can't grow.
     pub fn parsed(&self, alloc: Global) -> ResultParsing<ParsedBlock<'_>>
-        ensures tells { ParsesWhere (HasLists (framed_of self.now).type_) (SaysOfBody (framed_of self.now)) body_of result }
+        ensures tells { ParsesWhere (GrowsInBody (framed_of self.now)) (SaysOfBody (framed_of self.now)) body_of result }
         ensures borrowed { IfOk result ParsedIsBorrowed }
     {
         let (_rest, parsed) = parsed_in(self.endianness, alloc, self.type_, self.body.as_slice())?;
@@ -97,10 +97,7 @@ impl<'a> Block<'a> {
     }
 
     // The block of this head, from what follows its first length, and what follows the block.
-    pub(crate) fn of_head(
-        head: FrameHead,
-        after: &'a [u8],
-    ) -> Result<(&'a [u8], Block<'a>), Rule>
+    pub(crate) fn of_head(head: FrameHead, after: &'a [u8]) -> Result<(&'a [u8], Block<'a>), Rule>
         requires long { 12 ≤ head.len }
         requires whole { head.len ≤ 8 + length after.now }
         ensures tells { TailTells head after.now result }
@@ -129,7 +126,7 @@ fn parsed_in<'a>(
     type_: BlockType,
     slice: &'a [u8],
 ) -> ResultParsing<(&'a [u8], ParsedBlock<'a>)>
-    ensures tells { TellsWhere (HasLists type_) (BodySays (number_in order) type_ slice.now) body_of result }
+    ensures tells { TellsWhere (BodyMayGrow (number_in order) type_ slice.now) (BodySays (number_in order) type_ slice.now) body_of result }
     ensures borrowed { IfOk result (λ x. ParsedIsBorrowed x.1) }
 {
     match order {

@@ -1,8 +1,8 @@
 //! The section in force and its interfaces.
 
-ghost use Rattle.std.specs.Prelude.{⊤, IsSome};
+ghost use Rattle.std.specs.Prelude.{IsSome};
 ghost use Rattle.pcap_core.specs.Answer.{TellsWhere, number_in};
-ghost use Rattle.pcap_blocks.specs.InterfaceDescription.{InterfaceSays, interface_of};
+ghost use Rattle.pcap_blocks.specs.InterfaceDescription.{InterfaceSays, InterfaceMayGrow, interface_of};
 ghost use Rattle.pcap_blocks.specs.SectionHeader.{magic_order};
 
 use crate::pcapng::block::Block;
@@ -87,13 +87,18 @@ impl InForce {
     {
         match block.type_ {
             BlockType::SectionHeader => {
-                let (_rest, section) =
-                    SectionHeaderBlock::from_slice(alloc, block.body.as_slice())?;
+                let (_rest, section) = SectionHeaderBlock::from_slice(
+                    alloc,
+                    block.body.as_slice(),
+                )?;
                 Ok(Kept::Section(section.into_owned(alloc)?))
             }
             BlockType::InterfaceDescription => {
-                let (_rest, interface) =
-                    interface_in(block.endianness(), alloc, block.body.as_slice())?;
+                let (_rest, interface) = interface_in(
+                    block.endianness(),
+                    alloc,
+                    block.body.as_slice(),
+                )?;
                 Ok(Kept::Interface(interface.into_owned(alloc)?))
             }
             _ => Ok(Kept::Nothing),
@@ -126,7 +131,7 @@ fn interface_in<'a>(
     alloc: Global,
     slice: &'a [u8],
 ) -> ResultParsing<(&'a [u8], InterfaceDescriptionBlock<'a>)>
-    ensures { TellsWhere ⊤ (InterfaceSays (number_in order) slice.now) interface_of result }
+    ensures { TellsWhere (InterfaceMayGrow (number_in order) slice.now) (InterfaceSays (number_in order) slice.now) interface_of result }
 {
     match order {
         Endianness::Big => InterfaceDescriptionBlock::from_slice::<BigEndian>(alloc, slice),

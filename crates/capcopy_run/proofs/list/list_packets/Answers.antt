@@ -1,4 +1,4 @@
-use Rattle.std.proofs.Common.{◌∙◌, subst}
+use Rattle.std.proofs.Common.{refl, ◌∙◌, subst}
 use Rattle.std.proofs.lemmas.Result.{err_from_is_err_and}
 use Rattle.pcap_classic.specs.declared.pcap.header.PcapHeader.{PcapHeader}
 use Rattle.pcap_classic.specs.PacketText.{packet_limit}
@@ -21,6 +21,7 @@ returns-in_err-write_line-in-Some-Ok g c =
     let p = err_from_is_err_and c.from_residual.result c.from_residual.ensures.1 in
     record {
       n = c.loop-turn.turn;
+      here = tt;
       left = left;
       mid = g.W.Write.contents c.loop-turn.output;
       so_far = c.loop-turn.invariant.so_far;
@@ -36,6 +37,7 @@ returns-in-Some-Err g c =
     let cause = subst (λ (h : PcapHeader). HasCause ((reader_format packet_limit h).says tt) left failed c.in-Some-Err.error) c.loop-turn.invariant.same steps.1 in
     record {
       n = c.loop-turn.turn;
+      here = tt;
       left = left;
       mid = g.W.Write.contents c.loop-turn.output;
       so_far = c.loop-turn.invariant.so_far;
@@ -51,7 +53,7 @@ loop-turn-preserved g c =
     let steps = rw (c.loop-turn.invariant.ready, c.in-Some-Ok.field-0-is) at c.in-Some-Ok.ensures.next in
     let took = subst (λ (h : PcapHeader). Takes ((reader_format packet_limit h).says tt) left now packet) c.loop-turn.invariant.same steps.2 in
     record {
-      so_far = listing_more IsPacketLine (reader_format packet_limit header) tt (reader_lawful packet_limit header) _ left now _ _ _ c.loop-turn.turn packet c.loop-turn.invariant.so_far took c.in_ok-write_line-in-Some-Ok.ensures;
+      so_far = listing_more IsPacketLine (reader_format packet_limit header) tt (reader_lawful packet_limit header) tt tt _ left now _ _ _ c.loop-turn.turn packet c.loop-turn.invariant.so_far took refl c.in_ok-write_line-in-Some-Ok.ensures;
       ready = steps.0;
       unfailed = steps.1;
       same = c.in-Some-Ok.ensures.header ∙ c.loop-turn.invariant.same;

@@ -13,7 +13,9 @@ use Rattle.pcap_classic.proofs.Texts.{packet_length, header_length}
 use Rattle.pcap_core.proofs.Formats.{texts_push, nothing_no_text}
 use Rattle.pcap_classic.proofs.HeadedPackets.{packets_lawful}
 use Rattle.pcap_classic.proofs.Packets.{packets_say, packets_refuse}
-use Rattle.pcap_core.proofs.Fronts.{stops}
+use Rattle.pcap_core.proofs.Fronts.{stops, front_some}
+use Rattle.pcap_classic.specs.Run.{HasPacket}
+use Rattle.std.proofs.lemmas.Result.{err_from_is_err_and}
 use Rattle.pcap_classic.proofs.run.parse_pcap.Goals as goal
 
 pub loop-left-preserved : goal.loop-left-preserved
@@ -69,3 +71,20 @@ returns-clause-front c =
       used = rw none (omega arith);
       rest = none;
     }
+
+pub returns-in_err-push-in-Ok-clause-memory : goal.returns-in_err-push-in-Ok-clause-memory
+returns-in_err-push-in-Ok-clause-memory c =
+    let header = c.header-header.result.now in
+    let order = number_in (order_of header.magic_number) in
+    let r = resolution_of header.magic_number in
+    let f = packet_format packet_limit order r in
+    let packets = map content_of c.loop-left.packets.items in
+    let packet = content_of c.in-Ok.packet in
+    let after = c.in_ok-after_header.after_header.now in
+    let text = rw (← c.header-header.ensures) at c.in_ok-after_header.ensures.tells in
+    let next = rw (← c.header-header.ensures) at c.in-Ok.ensures.tells in
+    let says = packets_say packet_limit order r (state_after f tt packets) c.loop-left.left.now (whole packet c.in-Ok.after.now) next in
+    let some = front_some f (packets_lawful packet_limit order r) tt packets packet after c.loop-left.left.now c.in-Ok.after.now c.loop-left.invariant.texts says in
+    let p = err_from_is_err_and c.from_residual-in_err-push-in-Ok.result c.from_residual-in_err-push-in-Ok.ensures.1 in
+    let stands : HasPacket c.args.bytes.now = (header, some.0, some.1, some.2, record { after = after; header_text = text; front = some.3 }) in
+    rw p.1 (λ memory. stands)

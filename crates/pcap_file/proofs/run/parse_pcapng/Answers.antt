@@ -1,16 +1,14 @@
-use Rattle.std.proofs.Common.{◌≡◌, ◌<◌, ◌∷◌, [], ◌++◌, List, ℕ, length, arith, rules, sym, subst, All}
+use Rattle.std.proofs.Common.{◌≡◌, ◌<◌, ◌∷◌, [], ◌++◌, length, arith, rules, sym, subst, All}
 use Rattle.std.proofs.lemmas.Grind.{common_steps}
 use Rattle.std.specs.Prelude.{map}
 use Rattle.std.proofs.lemmas.List.Elements.{All-push}
 use Rattle.std.proofs.lemmas.List.{map_push}
-use Rattle.pcap_core.specs.declared.rest.Rest.{Rest}
-use Rattle.pcap_core.specs.Answer.{whole}
 use Rattle.pcap_core.specs.Bytes.{IsBorrowed}
 use Rattle.pcap_core.specs.Run.{IsRest}
 use Rattle.pcap_core.proofs.Formats.{nothing_no_text}
 use Rattle.pcap_file.specs.Frames.{framed_of}
 use Rattle.pcap_file.specs.State.{State}
-use Rattle.pcap_file.specs.Blocks.{Item, item_of, MayGrow, block_format}
+use Rattle.pcap_file.specs.Blocks.{item_of, MayGrow, block_format}
 use Rattle.pcap_file.specs.Parser.{state_of}
 use Rattle.pcap_file.specs.Front.{NgFront}
 use Rattle.pcap_file.proofs.BlockFormat.{blocks_lawful}

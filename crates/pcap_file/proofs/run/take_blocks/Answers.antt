@@ -12,7 +12,7 @@ returns-in-Some-Err g c =
     let steps = rw (c.loop-turn.invariant.ready, c.in-Some-Err.field-0-is) at c.in-Some-Err.ensures.steps in
     let few : length blocks < c.args.most = omega (arith, length-map c.loop-turn.blocks.items framed_of, c.loop-turn.invariant.count, c.loop-turn-test.true) in
     rw c.reserve.ensures.items (taken_stops (state_of c.args.reader.now) (state_of c.loop-turn.reader) (state_of c.next.new.self) (g.T.Read.remaining (stream_of c.args.reader.now)) (g.T.Read.remaining (stream_of c.loop-turn.reader))
-    (g.T.Read.remaining (stream_of c.next.new.self)) (has_failed c.next.new.self) c.args.most blocks c.in-Some-Err.e c.loop-turn.invariant.took few steps.0 steps.1.1)
+    (g.T.Read.remaining (stream_of c.next.new.self)) (has_failed c.next.new.self) c.args.most blocks c.in-Some-Err.e c.loop-turn.invariant.took few steps.0 steps.1.1 steps.1.2)
 
 pub loop-turn-preserved : goal.loop-turn-preserved
 loop-turn-preserved g c =

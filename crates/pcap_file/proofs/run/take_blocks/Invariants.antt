@@ -1,7 +1,7 @@
 use Rattle.std.proofs.Common.{◌≡◌, false, map, length}
 use Rattle.pcap_file.specs.Frames.{framed_of}
 use Rattle.pcap_file.specs.Reader.{state_of, stream_of, has_failed, is_done}
-use Rattle.pcap_file.specs.Reads.{TakenBlocks}
+use Rattle.pcap_file.proofs.Taken.{TakenBlocks}
 use Rattle.pcap_file.proofs.run.take_blocks.Given as goal
 
 abbrev pub invariant-loop-turn : goal.invariant-loop-turn

@@ -1,6 +1,5 @@
-use Rattle.std.proofs.Common.{◌≡◌, ◌<◌, ◌++◌, length, rules, sym, ◌∙◌, Some, None}
-use Rattle.std.specs.Prelude.{◌≢◌, ◌%◌}
-use Rattle.pcap_file.specs.Frames.{FrameHeadText, NoOrder, own_order, no_order, unaligned, too_short}
+use Rattle.std.proofs.Common.{◌≡◌, ◌++◌, rules, sym, ◌∙◌, None}
+use Rattle.pcap_file.specs.Frames.{FrameHeadText, own_order, no_order, unaligned, too_short}
 use Rattle.pcap_file.proofs.pcapng.framing.split_head.Goals as goal
 
 pub returns-in_default : goal.returns-in_default

@@ -1,4 +1,3 @@
-use Rattle.std.specs.Result.{IsErrAnd}
 use Rattle.std.proofs.lemmas.Result.{err_from_is_err_and}
 use Rattle.pcap_file.specs.Frames.{framed_of}
 use Rattle.pcap_file.proofs.Causes.{frame_opens, body_opens}

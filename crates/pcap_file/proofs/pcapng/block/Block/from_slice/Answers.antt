@@ -1,4 +1,4 @@
-use Rattle.std.proofs.Common.{◌≡◌, length, arith, inr, subst, sym}
+use Rattle.std.proofs.Common.{arith, inr, subst, sym}
 use Rattle.pcap_core.specs.declared.rules.Rule.{Rule}
 use Rattle.pcap_core.specs.Faults.{Invalid}
 use Rattle.pcap_core.proofs.Refusals.{named_tells}

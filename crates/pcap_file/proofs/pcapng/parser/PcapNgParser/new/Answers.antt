@@ -1,6 +1,4 @@
-use Rattle.std.proofs.Common.{◌≡◌, sym}
 use Rattle.std.proofs.lemmas.Result.{err_from_is_err_and}
-use Rattle.pcap_core.specs.declared.common.Endianness.{Endianness}
 use Rattle.pcap_file.specs.Frames.{framed_of, FrameText}
 use Rattle.pcap_file.specs.State.{opening, order_at}
 use Rattle.pcap_file.specs.Blocks.{MayGrow}

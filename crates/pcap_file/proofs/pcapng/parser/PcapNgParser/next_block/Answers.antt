@@ -1,10 +1,9 @@
-use Rattle.std.proofs.Common.{◌≡◌, sym, inl, inr}
 use Rattle.std.proofs.lemmas.Result.{err_from_is_err_and}
 use Rattle.pcap_file.specs.Frames.{framed_of, FrameText}
-use Rattle.pcap_file.specs.State.{order_at, CanGrow}
+use Rattle.pcap_file.specs.State.{order_at}
 use Rattle.pcap_file.specs.Blocks.{MayGrow}
 use Rattle.pcap_file.specs.Parser.{state_of}
-use Rattle.pcap_file.proofs.Refusing.{frame_refuses, body_refuses, room_refuses}
+use Rattle.pcap_file.proofs.Refusing.{frame_refuses, body_refuses}
 use Rattle.pcap_file.proofs.pcapng.parser.PcapNgParser.next_block.Goals as goal
 
 pub returns-in_err-rest-clause-tells : goal.returns-in_err-rest-clause-tells

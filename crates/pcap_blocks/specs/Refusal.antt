@@ -38,5 +38,5 @@ abbrev pub IsShownAs : Refusal → PcapError → Type 0
 IsShownAs (refusals.Memory a) (errors.OutOfMemory b) = Unit {0}
 IsShownAs refusals.Io (errors.IoError e) = Unit {0}
 IsShownAs (refusals.Utf8 a) (errors.Utf8Error b) = a ≡ b
-IsShownAs (refusals.Invalid rule) (errors.InvalidField text) = text.now ≡ text_of rule
+IsShownAs (refusals.Invalid rule) (errors.InvalidField message) = message.now ≡ text_of rule
 IsShownAs refusal error = ⊥

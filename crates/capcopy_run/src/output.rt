@@ -1,0 +1,26 @@
+//! What goes out.
+
+ghost use Rattle.std.specs.Prelude.{◌≡◌};
+ghost use Rattle.capcopy_run.specs.Lines.{WritesLine};
+
+use crate::Exit;
+use std::io;
+use std::io::{ErrorKind, Write};
+
+// Writes all of a line, or up to a call that fails or takes nothing of it.
+pub(crate) fn put_line<W: Write>(output: &mut W, line: &[u8]) -> Result<(), Exit>
+    ensures { WritesLine (λ bytes. bytes ≡ line.now) (W.contents output.old) (W.contents output.new) result }
+{
+    let mut rest = line;
+    while !rest.is_empty() {
+        match output.write(rest) {
+            Ok(0) => {
+                let message = "the output took nothing";
+                return Err(Exit::from(io::Error::new(ErrorKind::WriteZero, message)));
+            }
+            Ok(n) => rest = &rest[n..],
+            Err(error) => return Err(Exit::from(error)),
+        }
+    }
+    Ok(())
+}

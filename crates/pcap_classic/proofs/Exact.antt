@@ -1,0 +1,85 @@
+-- Runs over a capture that is shown as it is asked for.
+use Rattle.std.proofs.Common.{◌≡◌, ◌≤◌, ◌+◌, ◌-◌, ℕ, List, [], ◌∷◌, ◌++◌, length, take, drop, map, refl, ap, subst, ◌∙◌, arith, append_assoc, length-append, length-drop}
+use Rattle.std.proofs.lemmas.List.{length-take-le, length-map, take-append-drop}
+use Rattle.std.proofs.Math.Nat.{min-le_left, min-le_right}
+use Rattle.std.specs.Prelude.{min, ⊤}
+use Rattle.pcap_core.specs.declared.errors.PcapError.{PcapError}
+use Rattle.pcap_core.specs.declared.errors.PcapError.TheVariants as errors
+use Rattle.pcap_classic.specs.declared.pcap.header.PcapHeader.{PcapHeader}
+use Rattle.pcap_classic.specs.declared.run.PcapRun.{PcapRun}
+use Rattle.pcap_core.specs.Answer.{Order, number_in, whole, Refuses}
+use Rattle.pcap_classic.specs.Exact.{IsExact}
+use Rattle.pcap_core.specs.Faults.{Fault, Invalid, Io, Utf8}
+use Rattle.pcap_core.specs.Format.{IsLawful}
+use Rattle.pcap_classic.specs.HeaderText.{HeaderText, LacksHeader, HasHeaderFault}
+use Rattle.pcap_classic.specs.Magic.{order_of, resolution_of}
+use Rattle.pcap_classic.specs.Packets.{format_under, packet_format}
+use Rattle.pcap_classic.specs.declared.common.TsResolution.{TsResolution}
+use Rattle.pcap_core.specs.Exact.{ExactItems}
+use Rattle.pcap_core.specs.Requested.{RequestsAt, HeadThenRest}
+use Rattle.pcap_classic.specs.PacketText.{Captured, PacketText, packet_limit, content_of}
+use Rattle.pcap_core.proofs.Formats.{nil_of_length}
+use Rattle.pcap_classic.proofs.HeadedPackets.{packets_lawful}
+use Rattle.pcap_core.proofs.Requested.{item_asks}
+use Rattle.pcap_core.proofs.Showing.{exact_front, exact_few}
+use Rattle.pcap_classic.proofs.Stable.{header_stable}
+use Rattle.pcap_classic.proofs.Texts.{header_length, packet_length}
+
+pub under_lawful : (limit : ℕ) (header : PcapHeader) → IsLawful (format_under limit header)
+under_lawful limit header = packets_lawful limit (number_in (order_of header.magic_number)) (resolution_of header.magic_number)
+
+-- a first request that is met
+pub first_shown : (k shown before left : ℕ) → before ≡ 0 → k ≡ min 24 (left - before) → shown ≡ before + k → 24 ≤ k → (shown ≡ 24) × (24 ≤ left)
+first_shown k shown before left none is sum met =
+    let most : k ≤ 24 = omega (arith, is, min-le_left 24 (left - before)) in
+    let fits : k ≤ left - before = omega (arith, is, min-le_right 24 (left - before)) in
+    (omega (arith, none, sum, most, met), omega (arith, fits, met, none))
+
+fault_all : (bytes : List ℕ) (fault : Fault) → HasHeaderFault (take 24 bytes) fault → HasHeaderFault bytes fault
+fault_all bytes fault x = subst (λ (t : List ℕ). HasHeaderFault t fault) (take-append-drop 24 bytes) (header_stable.fault (take 24 bytes) (drop 24 bytes) fault x)
+
+-- what refuses the first bytes refuses all of them
+pub header_refuses : (bytes : List ℕ) → 24 ≤ length bytes → (e : PcapError) → Refuses ⊥ (LacksHeader (take 24 bytes)) (HasHeaderFault (take 24 bytes)) e
+    → Refuses ⊤ (LacksHeader bytes) (HasHeaderFault bytes) e
+header_refuses bytes long (errors.IncompleteBuffer n) x = absurd (omega (arith, x.some, x.missing, length-take-le 24 bytes long))
+header_refuses bytes long (errors.InvalidField text) x = (x.0, x.1, fault_all bytes (Invalid x.0) x.2)
+header_refuses bytes long (errors.IoError e) x = fault_all bytes Io x
+header_refuses bytes long (errors.Utf8Error e) x = fault_all bytes Utf8 x
+header_refuses bytes long (errors.FromUtf8Error e) x = absurd x
+header_refuses bytes long (errors.OutOfMemory e) x = absurd x
+header_refuses bytes long errors.WriterFailed x = absurd x
+
+-- and so is a header
+pub header_all : (header : PcapHeader) (bytes rest : List ℕ) → 24 ≤ length bytes → HeaderText header (take 24 bytes) rest → HeaderText header bytes (drop 24 bytes)
+header_all header bytes rest long text =
+    let none : rest ≡ [] = nil_of_length rest (omega (arith, header_length header (take 24 bytes) rest text, length-take-le 24 bytes long)) in
+    let alone : HeaderText header (take 24 bytes) [] = subst (λ (t : List ℕ). HeaderText header (take 24 bytes) t) none text in
+    subst (λ (t : List ℕ). HeaderText header t (drop 24 bytes)) (take-append-drop 24 bytes) (header_stable.text (take 24 bytes) (drop 24 bytes) [] header alone)
+
+-- a run whose requests were counted
+pub exact_is : (run : PcapRun) (bytes earlier now : List ℕ) (count : ℕ) → HeaderText run.header bytes (drop 24 bytes)
+    → ExactItems (format_under packet_limit run.header) tt (map content_of run.packets.items) bytes 24 run.used run.rest (earlier ++ 24 ∷ []) now 1 count → IsExact run count bytes earlier now
+exact_is run bytes earlier now count text x = record {
+  run_is = record {
+    left = drop run.used bytes;
+    front = record { after = drop 24 bytes; header_text = text; front = exact_front (under_lawful packet_limit run.header) x };
+    used = omega (arith, x.within, length-drop run.used bytes);
+    rest = x.rest_is;
+  };
+  requests = 24 ∷ x.requests;
+  asked = record { after = drop 24 bytes; further = x.requests; header_text = text; run = x.asked; all = refl };
+  grown = x.grown ∙ append_assoc earlier (24 ∷ []) x.requests;
+  counted = omega (arith, x.counted);
+  few = omega (arith, exact_few x, length-map run.packets.items content_of);
+}
+
+-- a packet is asked for by its head and its data
+pub packet_asks : (limit : ℕ) (order : Order) (r : TsResolution) (packet : Captured) (s rest ns : List ℕ) → PacketText limit order r packet s rest
+    → RequestsAt (packet_format limit order r) tt s ns → HeadThenRest 16 (16 + length packet.bytes) ns
+unfolding packet_format
+packet_asks limit order r packet s rest ns text asked =
+    let f = packet_format limit order r in
+    let laws = packets_lawful limit order r in
+    let o = laws.own tt s rest packet text in
+    let count : length o.0 ≡ 16 + length packet.bytes = omega (arith, packet_length order limit r packet o.0 [] o.2) in
+    subst (λ (n : ℕ). HeadThenRest 16 n ns) count (item_asks f laws tt s ns packet o.0 rest o.1 o.2 asked)

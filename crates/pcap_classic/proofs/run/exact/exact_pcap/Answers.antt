@@ -1,0 +1,23 @@
+use Rattle.std.proofs.Common.{◌≡◌, length, take, arith}
+use Rattle.std.proofs.lemmas.Result.{err_from_is_err_and}
+use Rattle.pcap_core.specs.Window.{bytes_of, shown_of}
+use Rattle.pcap_classic.proofs.Exact.{first_shown, header_refuses, header_all, exact_is}
+use Rattle.pcap_classic.proofs.run.exact.exact_pcap.Goals as goal
+
+pub returns-in_err-parser-clause-refused : goal.returns-in_err-parser-clause-refused
+returns-in_err-parser-clause-refused c =
+    let bytes = bytes_of c.args.window.now in
+    let first = first_shown c.ask-shown.result _ _ (length bytes) c.requires c.ask-shown.ensures.count c.ask-shown.ensures.shown (omega (arith, c.if-shown-lt-HEADER_BYTES.false)) in
+    let p = err_from_is_err_and c.from_residual.result c.from_residual.ensures.1 in
+    let seen : c.seen.result.now ≡ take 24 bytes = rw (← first.0, ← c.ask-shown.ensures.bytes) c.seen.ensures.seen in
+    rw (p.1, p.2) (header_refuses bytes first.1 c.in_err-parser.field-0.0 (rw seen at c.in_err-parser.ensures.tells))
+
+pub returns-clause-run : goal.returns-clause-run
+returns-clause-run c =
+    let bytes = bytes_of c.args.window.now in
+    let first = first_shown c.ask-shown.result _ _ (length bytes) c.requires c.ask-shown.ensures.count c.ask-shown.ensures.shown (omega (arith, c.if-shown-lt-HEADER_BYTES.false)) in
+    let seen : c.seen.result.now ≡ take 24 bytes = rw (← first.0, ← c.ask-shown.ensures.bytes) c.seen.ensures.seen in
+    let header = c.header.result.now in
+    let text = header_all header bytes _ first.1 (rw (← c.header.ensures, seen) at c.in_ok-parser.ensures.tells) in
+    let shown : shown_of c.ask-shown.new.self ≡ 24 = first.0 in
+    exact_is _ bytes _ _ _ text (rw (← c.header.ensures, c.ask-shown.ensures.bytes, shown, c.ask-shown.ensures.requests) at c.in_ok-packets.ensures.items)

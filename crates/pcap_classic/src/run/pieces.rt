@@ -1,0 +1,93 @@
+//! Runs over a capture that comes in pieces.
+
+ghost use Rattle.std.specs.Prelude.{◌<◌, ◌^◌, [], ⊤, length, All, IfOk, IfErr};
+ghost use Rattle.pcap_core.specs.Answer.{Refuses};
+ghost use Rattle.pcap_core.specs.Bytes.{IsOwned};
+ghost use Rattle.pcap_core.specs.Pieces.{AfterEach, joined_pieces};
+ghost use Rattle.pcap_classic.specs.declared.pcap.header.PcapHeader.{PcapHeader};
+ghost use Rattle.pcap_classic.specs.HeaderText.{HeaderSays, LacksHeader, HasHeaderFault};
+ghost use Rattle.pcap_classic.specs.PacketText.{packet_limit, Captured, content_of};
+ghost use Rattle.pcap_classic.specs.Packets.{capture_format};
+ghost use Rattle.pcap_classic.specs.Parser.{header_of};
+ghost use Rattle.pcap_classic.specs.Pieces.{HoldsPackets};
+ghost use Rattle.pcap_classic.specs.Run.{IsRun};
+
+use crate::pcap::{Packet, PcapParser};
+use crate::run::PcapRun;
+use crate::run::find::find_packet;
+use pcap_core::ResultParsing;
+use pcap_core::run::{Found, PieceParser, Pieces, Progress, feed_pieces, found_in};
+use std::alloc::Global;
+
+impl PieceParser for PcapParser {
+    type Item = Packet<'static>;
+
+    ghost State = { PcapHeader };
+
+    ghost Value = { Captured };
+
+    ghost Part = { Captured };
+
+    ghost opens = { HeaderSays };
+
+    ghost format = { capture_format packet_limit };
+
+    ghost state = { header_of };
+
+    ghost part = { λ packet. packet };
+
+    ghost view = { content_of };
+
+    ghost owned = { λ packet. IsOwned packet.data_ };
+
+    fn open(alloc: Global, held: &[u8]) -> ResultParsing<Found<(PcapParser, usize)>> {
+        match found_in(PcapParser::new(held))? {
+            Found::Item((after, parser)) => Ok(Found::Item((parser, after.len()))),
+            Found::Needs(n) => Ok(Found::Needs(n)),
+            Found::Refused(e) => Ok(Found::Refused(e)),
+        }
+    }
+
+    fn take(&mut self, alloc: Global, held: &[u8]) -> ResultParsing<Found<(Packet<'static>, usize)>> {
+        match find_packet(self, held)? {
+            Found::Item((after, packet)) => Ok(Found::Item((packet.to_owned(alloc)?, after.len()))),
+            Found::Needs(n) => Ok(Found::Needs(n)),
+            Found::Refused(e) => Ok(Found::Refused(e)),
+        }
+    }
+}
+
+/// The whole run over a capture that comes in pieces, with owned packets; and for each piece, how many packets it and those
+/// before it hold, 0 while the capture's header isn't whole. Empty pieces are pieces too.
+///
+/// The pieces' lengths together fit `usize`, which `pieces_fit` tests. Only bytes that no packet has taken are kept, and
+/// each packet is parsed twice at most, so the cost is linear in the bytes and the pieces.
+///
+/// Where the header is refused, that refusal, and `IncompleteBuffer` where it isn't whole. `OutOfMemory` where something
+/// can't grow.
+pub fn pieces_pcap(alloc: Global, pieces: &[&[u8]]) -> ResultParsing<(PcapRun<'static>, Vec<usize>)>
+    requires { length (joined_pieces pieces.now) < 2 ^ 64 }
+    ensures run { IfOk result (λ x. IsRun x.0 (joined_pieces pieces.now)) }
+    ensures numbers { IfOk result (λ x. AfterEach HoldsPackets [] pieces.now x.1.items) }
+    ensures owned { IfOk result (λ x. All (λ packet. IsOwned packet.data_) x.0.packets.items) }
+    ensures refused { IfErr result (Refuses ⊤ (LacksHeader (joined_pieces pieces.now)) (HasHeaderFault (joined_pieces pieces.now))) }
+{
+    let Pieces {
+        progress,
+        items,
+        numbers,
+        used,
+    } = feed_pieces::<PcapParser>(alloc, pieces)?;
+    match progress {
+        Progress::Before(error) => Err(error),
+        Progress::Within(parser, rest) => {
+            let run = PcapRun {
+                header: *parser.header(),
+                packets: items,
+                used,
+                rest,
+            };
+            Ok((run, numbers))
+        }
+    }
+}

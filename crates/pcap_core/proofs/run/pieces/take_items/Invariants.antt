@@ -1,0 +1,16 @@
+use Rattle.std.proofs.Common.{◌≤◌, ◌-◌, ℕ, List, length, drop, map, All}
+use Rattle.pcap_core.specs.Pieces.{Reaches}
+use Rattle.pcap_core.proofs.run.pieces.take_items.Given as goal
+
+abbrev pub invariant-loop-at : goal.invariant-loop-at
+invariant-loop-at g l =
+    let p = g.P.PieceParser in
+    record {
+      within : l.at ≤ length l.held.items;
+      reached : (s : List ℕ) → Reaches p.opens p.format p.part (p.state l.fn.parser) (map p.view l.fn.items.items) s l.fn.held.items
+          → Reaches p.opens p.format p.part (p.state l.parser) (map p.view l.items.items) s (drop l.at l.held.items);
+      owned : All p.owned l.fn.items.items → All p.owned l.items.items;
+    }
+
+abbrev pub decreases-loop-at : goal.decreases-loop-at
+decreases-loop-at g l = length l.held.items - l.at

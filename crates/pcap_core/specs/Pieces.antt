@@ -1,0 +1,87 @@
+-- What is known of bytes that come in pieces, over any format.
+use Rattle.std.specs.Prelude.{◌≡◌, ◌+◌, ◌⊎◌, ℕ, List, [], ◌∷◌, ◌++◌, length, map, Result, Ok, Err}
+use Rattle.std.specs.Borrow.{Bor}
+use Rattle.std.specs.List.{flat_map}
+use Rattle.pcap_core.specs.declared.errors.PcapError.{PcapError}
+use Rattle.pcap_core.specs.declared.rest.Rest.{Rest}
+use Rattle.pcap_core.specs.declared.run.found.Found.{Found}
+use Rattle.pcap_core.specs.declared.run.found.Found.TheVariants.{Item, Needs, Refused}
+use Rattle.pcap_core.specs.declared.run.pieces.Progress.{Progress}
+use Rattle.pcap_core.specs.declared.run.pieces.Progress.TheVariants.{Before, Within}
+use Rattle.pcap_core.specs.Answer.{Verdict, whole, lacks, faulty, Refuses}
+use Rattle.pcap_core.specs.Errors.{IsMemory}
+use Rattle.pcap_core.specs.Faults.{Shows}
+use Rattle.pcap_core.specs.Format.{Format, Front, Texts, state_after}
+use Rattle.pcap_core.specs.Laws.{ExactlyOne, IsStable}
+use Rattle.pcap_core.specs.Run.{IsRest}
+
+-- all bytes of the pieces, joined
+abbrev pub joined_pieces : List (Bor (List ℕ)) → List ℕ
+joined_pieces pieces = flat_map (λ piece. piece.now) pieces
+
+-- for each piece a number, and this holds of all bytes up to the end of the piece and of the number
+abbrev pub AfterEach : (List ℕ → ℕ → Type 0) → List ℕ → List (Bor (List ℕ)) → List ℕ → Type 0
+AfterEach Holds before [] [] = Unit {0}
+AfterEach Holds before [] (n ∷ ns) = ⊥
+AfterEach Holds before (piece ∷ pieces) [] = ⊥
+AfterEach Holds before (piece ∷ pieces) (n ∷ ns) = Holds (before ++ piece.now) n × AfterEach Holds (before ++ piece.now) pieces ns
+
+-- what opens a capture: of all bytes one thing is said, more bytes change neither a text nor a fault, and what follows a text ends the bytes
+pub record IsOpening {S : Type 0} (opens : List ℕ → Verdict S → Type 0) : Type 0 where
+  pub one : (s : List ℕ) → ExactlyOne (opens s)
+  pub stable : IsStable opens
+  pub ends : (s rest : List ℕ) (q : S) → opens s (whole q rest) → (t : List ℕ) × (s ≡ t ++ rest)
+
+-- nothing that opens a capture stands at the front of s
+abbrev pub OpensNone : {S : Type 0} → (List ℕ → Verdict S → Type 0) → List ℕ → Type 0
+OpensNone {S = S} opens s = (q : S) (after : List ℕ) → opens s (whole q after) → ⊥
+
+-- s opens a capture whose front has n items, or it doesn't, and n is 0
+abbrev pub HoldsItems : {S V : Type 0} → (List ℕ → Verdict S → Type 0) → Format S V → List ℕ → ℕ → Type 0
+HoldsItems {S = S} {V = V} opens f s n =
+    ((first : S) × (after : List ℕ) × (vs : List V) × (rest : List ℕ) × opens s (whole first after) × Front f first vs after rest × (n ≡ length vs))
+    ⊎ (OpensNone opens s × (n ≡ 0))
+
+-- s opens a capture, then come items of which these parts are kept and after which q is the state, and then left
+pub record Reaches {S V W : Type 0} (opens : List ℕ → Verdict S → Type 0) (f : Format S V) (part : V → W) (q : S) (ws : List W) (s left : List ℕ) : Type 0 where
+  pub first : S
+  pub after : List ℕ
+  pub values : List V
+  pub opening : opens s (whole first after)
+  pub texts : Texts f first values after left
+  pub parts : map part values ≡ ws
+  pub state_is : state_after f first values ≡ q
+
+-- the bytes s came, and these are held: all of them where nothing opens a capture yet, and else those that no item has taken, which begin no item
+abbrev pub IsFed : {P S V W : Type 0} → (List ℕ → Verdict S → Type 0) → Format S V → (V → W) → (P → S) → List ℕ → Progress P → List ℕ → List W → Type 0
+IsFed opens f part state s (Before error) held ws = (held ≡ s) × (ws ≡ []) × Refuses ⊥ (λ n. opens s (lacks n)) (λ fault. opens s (faulty fault)) error
+IsFed opens f part state s (Within parser rest) held ws = Reaches opens f part (state parser) ws s held × IsRest (f.says (state parser)) held rest
+
+-- s came, and so many of its bytes were taken
+pub record IsFedUpTo {P S V W : Type 0} (opens : List ℕ → Verdict S → Type 0) (f : Format S V) (part : V → W) (state : P → S) (s : List ℕ) (progress : Progress P) (used : ℕ) (ws : List W) : Type 0 where
+  pub left : List ℕ
+  pub fed : IsFed opens f part state s progress left ws
+  pub used_is : used + length left ≡ length s
+
+-- what a parser tells of bytes at whose front a capture opens: the parser after that, and how many bytes follow; or n bytes lack; or there is a fault; or it found no memory
+abbrev pub OpensWith : {P S : Type 0} → (List ℕ → Verdict S → Type 0) → (P → S) → List ℕ → Result (Found (P × ℕ)) PcapError → Type 0
+OpensWith opens state s (Ok (Item x)) = (after : List ℕ) × opens s (whole (state x.0) after) × (length after ≡ x.1)
+OpensWith opens state s (Ok (Needs n)) = opens s (lacks n)
+OpensWith opens state s (Ok (Refused error)) = Shows (λ fault. opens s (faulty fault)) error
+OpensWith opens state s (Err error) = IsMemory error
+
+-- an item of which this part is kept begins s, leads to the next state, and count bytes follow it
+pub record TakesPart {S V W : Type 0} (f : Format S V) (part : V → W) (q next : S) (w : W) (s : List ℕ) (count : ℕ) : Type 0 where
+  pub value : V
+  pub after : List ℕ
+  pub text : f.says q s (whole value after)
+  pub goes : next ≡ f.goes q value
+  pub part_is : w ≡ part value
+  pub count_is : length after ≡ count
+
+-- what a parser tells of bytes where an item is asked for
+abbrev pub TakesFront : {X S V W : Type 0} → Format S V → (V → W) → (X → W) → S → S → List ℕ → Result (Found (X × ℕ)) PcapError → Type 0
+TakesFront f part view q next s (Ok (Item x)) = TakesPart f part q next (view x.0) s x.1
+TakesFront f part view q next s (Ok (Needs n)) = (next ≡ q) × f.says q s (lacks n)
+TakesFront f part view q next s (Ok (Refused error)) = (next ≡ q) × Shows (λ fault. f.says q s (faulty fault)) error
+TakesFront f part view q next s (Err error) = IsMemory error

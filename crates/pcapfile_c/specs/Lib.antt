@@ -1,0 +1,4 @@
+pub mod Shown
+pub mod Refusals
+pub mod Calls
+pub mod Writing

@@ -1,0 +1,126 @@
+//! Calls on PcapNg captures. A refused one leaves section and interfaces as they were, and the same call again succeeds.
+
+use crate::bytes::{BLOCKS, INTERFACE_BLOCK, SECTION_BLOCK};
+use crate::tell;
+use pcap_file::pcapng::{
+    InterfaceDescriptionBlock, PcapNgParser, PcapNgReader, SectionHeaderBlock,
+};
+use pcap_file::run::{NgRead, parse_pcapng, read_pcapng};
+use pcap_file::{PcapError, ResultParsing};
+use std::alloc::{AllocError, Global};
+use std::io::{self, Cursor};
+
+pub(crate) fn make_calls(rt: &HostRuntime) -> io::Result<()> {
+    let alloc = rt.alloc();
+    tell(rt, "parse_pcapng", parse(alloc))?;
+    tell(rt, "read_pcapng", read(alloc))?;
+    tell(rt, "PcapNgReader::next", next(alloc))?;
+    tell(rt, "Block::parsed", parsed(alloc))?;
+    tell(rt, "Block::into_owned", into_owned(alloc))?;
+    next_blocks(rt, "an interface", &INTERFACE_BLOCK)?;
+    next_blocks(rt, "a section", &SECTION_BLOCK)
+}
+
+fn parse(alloc: Global) -> ResultParsing<()> {
+    let _run = parse_pcapng(alloc, &BLOCKS)?;
+    Ok(())
+}
+
+fn read(alloc: Global) -> ResultParsing<()> {
+    let NgRead {
+        blocks: _blocks,
+        reader: _reader,
+        fault,
+    } = read_pcapng(alloc, Cursor::new(BLOCKS), 9)?;
+    match fault {
+        None => Ok(()),
+        Some(error) => Err(error),
+    }
+}
+
+// Whether the big-endian section is in force, with so many interfaces.
+fn is_in_force(
+    section: &SectionHeaderBlock,
+    interfaces: &[InterfaceDescriptionBlock],
+    count: usize,
+) -> bool {
+    section.magic == 0x1a2b3c4d && section.options.len() == 1 && interfaces.len() == count
+}
+
+fn changed() -> PcapError {
+    PcapError::InvalidField("a refused call changed what is in force")
+}
+
+fn next(alloc: Global) -> ResultParsing<()> {
+    let mut reader = PcapNgReader::new(alloc, Cursor::new(BLOCKS))?;
+    for count in 0..2 {
+        if !is_in_force(reader.section(), reader.interfaces(), count) {
+            return Err(PcapError::InvalidField("another state is in force"));
+        }
+        match reader.next() {
+            None => return Err(PcapError::InvalidField("no block came")),
+            Some(Ok(_block)) => {}
+            Some(Err(error)) => {
+                let is_left = is_in_force(reader.section(), reader.interfaces(), count);
+                return Err(if is_left && reader.next().is_none() {
+                    error
+                } else {
+                    changed()
+                });
+            }
+        }
+    }
+    Ok(())
+}
+
+fn parsed(alloc: Global) -> ResultParsing<()> {
+    let (rest, mut parser) = PcapNgParser::new(alloc, &BLOCKS)?;
+    let (_rest, block) = parser.next_block(rest)?;
+    let _body = block.parsed(alloc)?;
+    Ok(())
+}
+
+fn into_owned(alloc: Global) -> ResultParsing<()> {
+    let (rest, mut parser) = PcapNgParser::new(alloc, &BLOCKS)?;
+    let (_rest, block) = parser.next_block(rest)?;
+    let _block = block.into_owned(alloc)?;
+    Ok(())
+}
+
+// A parser after the section and its interface.
+fn parser(alloc: Global) -> ResultParsing<PcapNgParser> {
+    let (rest, mut parser) = PcapNgParser::new(alloc, &BLOCKS)?;
+    let (_rest, _block) = parser.next_block(rest)?;
+    Ok(parser)
+}
+
+fn next_block(parser: &mut PcapNgParser, slice: &[u8]) -> ResultParsing<()> {
+    let (_rest, _block) = parser.next_block(slice)?;
+    Ok(())
+}
+
+// Makes a parser, and where that is refused another one, and asks it twice for this block.
+fn next_blocks(rt: &HostRuntime, name: &str, slice: &[u8]) -> io::Result<()> {
+    let (made, parser) = match parser(rt.alloc()) {
+        Ok(parser) => (Ok(()), Some(parser)),
+        Err(error) => (Err(error), parser(rt.alloc()).ok()),
+    };
+    tell(rt, "PcapNgParser::new", made)?;
+    let (first, second) = match parser {
+        None => (
+            Err(PcapError::from(AllocError)),
+            Err(PcapError::from(AllocError)),
+        ),
+        Some(mut parser) => {
+            let first = next_block(&mut parser, slice);
+            let is_left = is_in_force(parser.section(), parser.interfaces(), 1);
+            let first = match first {
+                Err(_) if !is_left => Err(changed()),
+                first => first,
+            };
+            (first, next_block(&mut parser, slice))
+        }
+    };
+    tell(rt, name, first)?;
+    tell(rt, "the same again", second)
+}

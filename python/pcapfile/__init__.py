@@ -1,0 +1,15 @@
+"""Reads packet captures by a proved parser.
+
+    import pcapfile
+    with pcapfile.open("capture.pcap") as capture:
+        for packet in capture:
+            print(packet.time, len(packet.data), packet.original_length)
+
+The parser is the library `libpcapfile.so`, proved never to read outside of the capture, whatever its bytes are. It is
+looked for at PCAPFILE_LIBRARY, then in the folder of this package, then where the system keeps libraries.
+"""
+
+from ._capture import Capture, Header, Packet, open, parse
+from ._errors import CaptureError, Incomplete, Invalid
+
+__all__ = ["Capture", "CaptureError", "Header", "Incomplete", "Invalid", "Packet", "open", "parse"]

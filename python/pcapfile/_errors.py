@@ -1,0 +1,37 @@
+"""Why a capture is refused."""
+
+from . import _library
+
+
+class CaptureError(Exception):
+    """A capture is refused at `offset`, in bytes from its start. What came before it was good."""
+
+    def __init__(self, message: str, offset: int) -> None:
+        super().__init__(f"{message} (at byte {offset})")
+        self.offset = offset
+
+
+class Incomplete(CaptureError):
+    """The capture ends within a header or a packet: `missing` bytes more are needed, at least."""
+
+    def __init__(self, missing: int, offset: int) -> None:
+        super().__init__(f"{missing} bytes are missing", offset)
+        self.missing = missing
+
+
+class Invalid(CaptureError):
+    """The capture breaks a rule of its format: `number`, `rule` and `text` are the rule's number, name and text."""
+
+    def __init__(self, number: int, offset: int) -> None:
+        self.number = number
+        self.rule = _library.rule_name(number)
+        self.text = _library.rule_text(number)
+        super().__init__(f"{self.rule}: {self.text}", offset)
+
+
+def error_of(status: int, error: _library.Error, offset: int) -> CaptureError:
+    if status == _library.INCOMPLETE:
+        return Incomplete(error.missing, offset)
+    if status == _library.INVALID:
+        return Invalid(error.rule, offset)
+    return CaptureError(f"status {status}", offset)

@@ -1,0 +1,120 @@
+"""The calls of pcapfile.h, by ctypes."""
+
+import ctypes
+import ctypes.util
+import os
+from pathlib import Path
+from typing import Callable
+
+OK, INCOMPLETE, INVALID = 0, 1, 3
+
+
+class Bytes(ctypes.Structure):
+    _fields_ = [("ptr", ctypes.c_void_p), ("len", ctypes.c_size_t)]
+
+
+class Header(ctypes.Structure):
+    _fields_ = [
+        ("magic_number", ctypes.c_uint32),
+        ("version_major", ctypes.c_uint16),
+        ("version_minor", ctypes.c_uint16),
+        ("ts_correction", ctypes.c_int32),
+        ("ts_accuracy", ctypes.c_uint32),
+        ("snaplen", ctypes.c_uint32),
+        ("link", ctypes.c_uint32),
+    ]
+
+
+class Packet(ctypes.Structure):
+    _fields_ = [
+        ("ts_sec", ctypes.c_uint32),
+        ("ts_nsec", ctypes.c_uint32),
+        ("orig_len", ctypes.c_uint32),
+        ("bytes", Bytes),
+    ]
+
+
+class Error(ctypes.Structure):
+    _fields_ = [("rule", ctypes.c_uint32), ("missing", ctypes.c_size_t)]
+
+
+def _find() -> str:
+    beside = Path(__file__).with_name("libpcapfile.so")
+    named = os.environ.get("PCAPFILE_LIBRARY") or (str(beside) if beside.exists() else None)
+    return named or ctypes.util.find_library("pcapfile") or "libpcapfile.so.0"
+
+
+_library = ctypes.CDLL(_find())
+_to = ctypes.POINTER
+
+take_header = _library.pcapfile_take_header
+take_header.argtypes = [_to(Bytes), _to(Header), _to(Error)]
+take_header.restype = ctypes.c_int32
+
+take_packets = _library.pcapfile_take_packets
+take_packets.argtypes = [_to(Header), _to(Bytes), _to(Packet), ctypes.c_size_t, _to(ctypes.c_size_t), _to(Error)]
+take_packets.restype = ctypes.c_int32
+
+
+
+class _Buffer(ctypes.Structure):
+    """Python's own struct for bytes that an object lends."""
+
+    _fields_ = [
+        ("buf", ctypes.c_void_p),
+        ("obj", ctypes.py_object),
+        ("len", ctypes.c_ssize_t),
+        ("itemsize", ctypes.c_ssize_t),
+        ("readonly", ctypes.c_int),
+        ("ndim", ctypes.c_int),
+        ("format", ctypes.c_char_p),
+        ("shape", ctypes.c_void_p),
+        ("strides", ctypes.c_void_p),
+        ("suboffsets", ctypes.c_void_p),
+        ("internal", ctypes.c_void_p),
+    ]
+
+
+_get_buffer = ctypes.pythonapi.PyObject_GetBuffer
+_get_buffer.argtypes = [ctypes.py_object, _to(_Buffer), ctypes.c_int]
+_release_buffer = ctypes.pythonapi.PyBuffer_Release
+_release_buffer.argtypes = [_to(_Buffer)]
+_release_buffer.restype = None
+
+
+def address_of(view: memoryview) -> int:
+    """Where the bytes of a view lie. They lie there until it is released."""
+    if len(view) == 0:
+        return ctypes.addressof(_NOTHING)
+    buffer = _Buffer()
+    _get_buffer(view, ctypes.byref(buffer), 0)
+    try:
+        return buffer.buf
+    finally:
+        _release_buffer(ctypes.byref(buffer))
+
+
+_NOTHING = ctypes.create_string_buffer(1)
+
+
+def no_bytes() -> Bytes:
+    return Bytes(ctypes.addressof(_NOTHING), 0)
+
+
+def _text_of(call: Callable[..., None], rule: int) -> str:
+    text = no_bytes()
+    call(rule, ctypes.byref(text))
+    return ctypes.string_at(text.ptr, text.len).decode("ascii")
+
+
+for _call in (_library.pcapfile_rule_name, _library.pcapfile_rule_text):
+    _call.argtypes = [ctypes.c_uint32, _to(Bytes)]
+    _call.restype = None
+
+
+def rule_name(rule: int) -> str:
+    return _text_of(_library.pcapfile_rule_name, rule)
+
+
+def rule_text(rule: int) -> str:
+    return _text_of(_library.pcapfile_rule_text, rule)

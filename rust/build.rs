@@ -1,0 +1,13 @@
+//! Links libpcapfile.a from PCAPFILE_LIB_DIR, else from the folder `out` of the repository, where `make` puts it.
+
+use std::env;
+use std::path::PathBuf;
+
+fn main() {
+    println!("cargo:rerun-if-env-changed=PCAPFILE_LIB_DIR");
+    let beside = PathBuf::from(env::var_os("CARGO_MANIFEST_DIR").unwrap()).join("../out");
+    let folder = env::var_os("PCAPFILE_LIB_DIR").map_or(beside, PathBuf::from);
+    println!("cargo:rerun-if-changed={}", folder.join("libpcapfile.a").display());
+    println!("cargo:rustc-link-search=native={}", folder.display());
+    println!("cargo:rustc-link-lib=static=pcapfile");
+}

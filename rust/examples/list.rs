@@ -1,0 +1,36 @@
+//! The lines of `capcopy list`. `list FILE`: a line a packet. `list -f FILE`: of every front of the file, its lines and then
+//! its status.
+
+use pcapfile::{Capture, Error};
+use std::process::ExitCode;
+
+fn list(bytes: &[u8]) -> Result<(), Error> {
+    for (index, packet) in Capture::parse(bytes)?.enumerate() {
+        let packet = packet?;
+        let (index, stored) = (index + 1, packet.data.len());
+        println!("{index} {}.{:09} {stored}/{}", packet.seconds, packet.nanoseconds, packet.original_len);
+    }
+    Ok(())
+}
+
+fn status_of(bytes: &[u8]) -> u8 {
+    match list(bytes) {
+        Ok(()) => 0,
+        Err(Error::Incomplete(_)) => 3,
+        Err(Error::Invalid(_)) => 1,
+    }
+}
+
+fn main() -> ExitCode {
+    let words: Vec<_> = std::env::args().skip(1).collect();
+    let Some(bytes) = words.last().and_then(|path| std::fs::read(path).ok()) else {
+        return ExitCode::from(4);
+    };
+    if words[0] != "-f" {
+        return ExitCode::from(status_of(&bytes));
+    }
+    for end in 0..=bytes.len() {
+        println!("status {}", status_of(&bytes[..end]));
+    }
+    ExitCode::SUCCESS
+}

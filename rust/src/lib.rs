@@ -1,0 +1,150 @@
+//! Reads packet captures that lie in memory, by a proved parser, through its C library.
+//!
+//! ```
+//! # let bytes: &[u8] = b"\xd4\xc3\xb2\xa1\x02\0\x04\0\0\0\0\0\0\0\0\0\xff\xff\0\0\x01\0\0\0";
+//! for packet in pcapfile::Capture::parse(bytes)? {
+//!     let packet = packet?;
+//!     println!("{}.{:09} {}", packet.seconds, packet.nanoseconds, packet.data.len());
+//! }
+//! # Ok::<(), pcapfile::Error>(())
+//! ```
+
+mod calls;
+
+use std::fmt;
+
+/// The header of a capture.
+#[repr(C)]
+#[derive(Clone, Copy, Debug, Default, PartialEq, Eq)]
+pub struct Header {
+    /// Read high byte first: a1b2c3d4, d4c3b2a1, a1b23c4d or 4d3cb2a1.
+    pub magic_number: u32,
+    pub version_major: u16,
+    pub version_minor: u16,
+    pub ts_correction: i32,
+    pub ts_accuracy: u32,
+    /// The most bytes that are stored of a packet.
+    pub snaplen: u32,
+    /// The number of the link type of the packets' first layer.
+    pub link: u32,
+}
+
+/// A packet of a capture, whose bytes lie in the capture.
+#[derive(Clone, Copy, Debug, PartialEq, Eq)]
+pub struct Packet<'a> {
+    pub seconds: u32,
+    /// Nanoseconds, whatever the capture's resolution is. They may pass one second.
+    pub nanoseconds: u32,
+    /// How many bytes the packet had on the wire.
+    pub original_len: u32,
+    /// The bytes that are stored.
+    pub data: &'a [u8],
+}
+
+/// Why a capture is refused.
+#[derive(Clone, Copy, Debug, PartialEq, Eq)]
+pub enum Error {
+    /// So many bytes are missing of a header or a packet, at least.
+    Incomplete(usize),
+    /// The bytes break the rule of this number.
+    Invalid(u32),
+}
+
+impl Error {
+    /// The name of the rule that is broken.
+    pub fn rule(self) -> Option<&'static str> {
+        match self {
+            Error::Incomplete(_) => None,
+            Error::Invalid(rule) => Some(text_of(calls::pcapfile_rule_name, rule)),
+        }
+    }
+
+    fn of(status: i32, error: calls::Error) -> Error {
+        match status {
+            1 => Error::Incomplete(error.missing),
+            _ => Error::Invalid(error.rule),
+        }
+    }
+}
+
+impl fmt::Display for Error {
+    fn fmt(&self, f: &mut fmt::Formatter<'_>) -> fmt::Result {
+        match *self {
+            Error::Incomplete(missing) => write!(f, "{missing} bytes are missing"),
+            Error::Invalid(rule) => f.write_str(text_of(calls::pcapfile_rule_text, rule)),
+        }
+    }
+}
+
+impl std::error::Error for Error {}
+
+fn text_of(call: unsafe extern "C" fn(u32, *mut calls::Bytes), rule: u32) -> &'static str {
+    let mut text = calls::Bytes::of(b"");
+    // SAFETY: `text` is a valid struct, and the call fills it with ASCII that is valid for ever.
+    unsafe {
+        call(rule, &mut text);
+        std::str::from_utf8_unchecked(std::slice::from_raw_parts(text.ptr, text.len))
+    }
+}
+
+/// A capture: its header, and then its packets, as an iterator. A refusal is its last item.
+#[derive(Clone, Debug)]
+pub struct Capture<'a> {
+    header: Header,
+    left: &'a [u8],
+    is_done: bool,
+}
+
+impl<'a> Capture<'a> {
+    /// The capture that begins these bytes.
+    pub fn parse(bytes: &'a [u8]) -> Result<Capture<'a>, Error> {
+        let mut left = calls::Bytes::of(bytes);
+        let mut header = Header::default();
+        let mut error = calls::Error::default();
+        // SAFETY: each pointer is that of a value of its own, and `left` is a slice's.
+        let status = unsafe { calls::pcapfile_take_header(&mut left, &mut header, &mut error) };
+        if status != 0 {
+            return Err(Error::of(status, error));
+        }
+        Ok(Capture { header, left: &bytes[bytes.len() - left.len..], is_done: false })
+    }
+
+    /// The header of the capture.
+    pub fn header(&self) -> &Header {
+        &self.header
+    }
+
+    /// The bytes after the packets that have been given.
+    pub fn rest(&self) -> &'a [u8] {
+        self.left
+    }
+
+    fn take(&mut self) -> Result<Packet<'a>, Error> {
+        let mut left = calls::Bytes::of(self.left);
+        let mut packet = calls::Packet { ts_sec: 0, ts_nsec: 0, orig_len: 0, bytes: calls::Bytes::of(b"") };
+        let mut error = calls::Error::default();
+        // SAFETY: each pointer is that of a value of its own, and `left` is a slice's.
+        let status = unsafe { calls::pcapfile_take_packet(&self.header, &mut left, &mut packet, &mut error) };
+        if status != 0 {
+            return Err(Error::of(status, error));
+        }
+        let text = self.left.len() - left.len;
+        let data = &self.left[text - packet.bytes.len..text];
+        debug_assert_eq!(data.as_ptr(), packet.bytes.ptr);
+        self.left = &self.left[text..];
+        Ok(Packet { seconds: packet.ts_sec, nanoseconds: packet.ts_nsec, original_len: packet.orig_len, data })
+    }
+}
+
+impl<'a> Iterator for Capture<'a> {
+    type Item = Result<Packet<'a>, Error>;
+
+    fn next(&mut self) -> Option<Self::Item> {
+        if self.is_done || self.left.is_empty() {
+            return None;
+        }
+        let taken = self.take();
+        self.is_done = taken.is_err();
+        Some(taken)
+    }
+}

@@ -1,0 +1,36 @@
+use pcapfile::{Capture, Error};
+
+/// Little-endian, microseconds, Ethernet; one packet of three bytes, five on the wire.
+const CAPTURE: &[u8] = b"\xd4\xc3\xb2\xa1\x02\0\x04\0\0\0\0\0\0\0\0\0\xff\xff\0\0\x01\0\0\0\
+    \x07\0\0\0\x08\0\0\0\x03\0\0\0\x05\0\0\0abc";
+
+#[test]
+fn packets_lie_in_the_capture() {
+    let capture = Capture::parse(CAPTURE).unwrap();
+    assert_eq!((capture.header().snaplen, capture.header().link), (65535, 1));
+    let packets: Vec<_> = capture.map(Result::unwrap).collect();
+    assert_eq!(packets.len(), 1);
+    assert_eq!((packets[0].seconds, packets[0].nanoseconds, packets[0].original_len), (7, 8000, 5));
+    assert_eq!(packets[0].data, b"abc");
+    assert_eq!(packets[0].data.as_ptr(), CAPTURE[40..].as_ptr());
+}
+
+#[test]
+fn every_front_lacks_what_is_missing() {
+    for end in 0..24 {
+        assert_eq!(Capture::parse(&CAPTURE[..end]).unwrap_err(), Error::Incomplete(24 - end));
+    }
+    for end in 25..CAPTURE.len() {
+        let mut capture = Capture::parse(&CAPTURE[..end]).unwrap();
+        let missing = if end < 40 { 40 - end } else { 43 - end };
+        assert_eq!(capture.next(), Some(Err(Error::Incomplete(missing))));
+        assert_eq!((capture.next(), capture.rest().len()), (None, end - 24));
+    }
+}
+
+#[test]
+fn a_refusal_names_its_rule() {
+    let error = Capture::parse(&[0xff; 24]).unwrap_err();
+    assert_eq!((error, error.rule()), (Error::Invalid(1), Some("CaptureMagic")));
+    assert_eq!(error.to_string(), "PcapHeader wrong magic number");
+}

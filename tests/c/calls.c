@@ -1,0 +1,137 @@
+/* What the calls answer at the edges, each against what the header says. */
+#include "pcapfile.h"
+
+#include <stdio.h>
+#include <string.h>
+
+static int failures;
+
+#define EXPECT(what) do { if (!(what)) { failures++; printf("calls.c:%d: %s\n", __LINE__, #what); } } while (0)
+
+/* Little-endian, microseconds, Ethernet; one packet of three bytes, five on the wire. */
+static const uint8_t capture[] = {
+    0xd4, 0xc3, 0xb2, 0xa1, 2, 0, 4, 0, 0xfe, 0xff, 0xff, 0xff, 0, 0, 0, 0, 0xff, 0xff, 0, 0, 1, 0, 0, 0,
+    7, 0, 0, 0, 8, 0, 0, 0, 3, 0, 0, 0, 5, 0, 0, 0, 'a', 'b', 'c',
+};
+
+static void headers(void) {
+    pcapfile_bytes left = { capture, sizeof capture };
+    pcapfile_header header = PCAPFILE_HEADER_INIT, before = header;
+    pcapfile_error error = PCAPFILE_ERROR_INIT;
+    EXPECT(pcapfile_take_header(&left, &header, &error) == PCAPFILE_OK);
+    EXPECT(left.ptr == capture + 24 && left.len == sizeof capture - 24);
+    EXPECT(header.magic_number == 0xd4c3b2a1 && header.version_major == 2 && header.version_minor == 4);
+    EXPECT(header.ts_correction == -2 && header.ts_accuracy == 0 && header.snaplen == 65535);
+    EXPECT(header.link == PCAPFILE_LINK_ETHERNET);
+    left = (pcapfile_bytes){ capture, 20 };
+    header = before;
+    EXPECT(pcapfile_take_header(&left, &header, &error) == PCAPFILE_INCOMPLETE);
+    EXPECT(error.missing == 4 && error.rule == 0);
+    EXPECT(left.ptr == capture && left.len == 20 && !memcmp(&header, &before, sizeof header));
+    left = (pcapfile_bytes){ capture + 1, 24 };
+    EXPECT(pcapfile_take_header(&left, &header, &error) == PCAPFILE_INVALID);
+    EXPECT(error.missing == 0 && error.rule == PCAPFILE_RULE_CAPTURE_MAGIC);
+    EXPECT(left.ptr == capture + 1 && left.len == 24 && !memcmp(&header, &before, sizeof header));
+}
+
+static void packets(void) {
+    pcapfile_bytes left = { capture + 24, sizeof capture - 24 };
+    pcapfile_header header = { 0xd4c3b2a1, 2, 4, 0, 0, 65535, 1 };
+    pcapfile_packet packet = PCAPFILE_PACKET_INIT;
+    pcapfile_error error = PCAPFILE_ERROR_INIT;
+    EXPECT(pcapfile_take_packet(&header, &left, &packet, &error) == PCAPFILE_OK);
+    EXPECT(packet.ts_sec == 7 && packet.ts_nsec == 8000 && packet.orig_len == 5);
+    EXPECT(packet.bytes.ptr == capture + 40 && packet.bytes.len == 3 && left.len == 0);
+    EXPECT(pcapfile_take_packet(&header, &left, &packet, &error) == PCAPFILE_INCOMPLETE && error.missing == 16);
+    left = (pcapfile_bytes){ capture + 24, 17 };
+    EXPECT(pcapfile_take_packet(&header, &left, &packet, &error) == PCAPFILE_INCOMPLETE && error.missing == 2);
+    EXPECT(left.ptr == capture + 24 && left.len == 17 && packet.ts_sec == 7);
+    header.magic_number = 0xa1b2c3d4;
+    left = (pcapfile_bytes){ capture + 24, 19 };
+    EXPECT(pcapfile_take_packet(&header, &left, &packet, &error) == PCAPFILE_INVALID);
+    EXPECT(error.rule == PCAPFILE_RULE_FRACTION_TOO_LARGE && left.len == 19);
+    header.magic_number = 7;
+    EXPECT(pcapfile_take_packet(&header, &left, &packet, &error) == PCAPFILE_INVALID);
+    EXPECT(error.rule == PCAPFILE_RULE_CAPTURE_MAGIC && left.len == 19);
+}
+
+static void batches(void) {
+    uint8_t twice[2 * 19];
+    pcapfile_packet packets[3] = { PCAPFILE_PACKET_INIT, PCAPFILE_PACKET_INIT, PCAPFILE_PACKET_INIT };
+    pcapfile_header header = { 0xd4c3b2a1, 2, 4, 0, 0, 65535, 1 };
+    pcapfile_error error = PCAPFILE_ERROR_INIT;
+    size_t taken = 9;
+    memcpy(twice, capture + 24, 19);
+    memcpy(twice + 19, capture + 24, 19);
+    pcapfile_bytes left = { twice, sizeof twice };
+    EXPECT(pcapfile_take_packets(&header, &left, packets, 1, &taken, &error) == PCAPFILE_OK);
+    EXPECT(taken == 1 && left.len == 19 && packets[1].orig_len == 0);
+    left = (pcapfile_bytes){ twice, sizeof twice };
+    EXPECT(pcapfile_take_packets(&header, &left, packets, 3, &taken, &error) == PCAPFILE_OK);
+    EXPECT(taken == 2 && left.len == 0 && packets[1].bytes.ptr == twice + 35 && packets[2].orig_len == 0);
+    left = (pcapfile_bytes){ twice, sizeof twice - 1 };
+    EXPECT(pcapfile_take_packets(&header, &left, packets, 3, &taken, &error) == PCAPFILE_INCOMPLETE);
+    EXPECT(taken == 1 && left.len == 18 && error.missing == 1 && left.ptr == twice + 19);
+    EXPECT(pcapfile_take_packets(&header, &left, packets, 0, &taken, &error) == PCAPFILE_OK && taken == 0);
+    header.magic_number = 7;
+    EXPECT(pcapfile_take_packets(&header, &left, packets, 3, &taken, &error) == PCAPFILE_INVALID);
+    EXPECT(taken == 0 && error.rule == PCAPFILE_RULE_CAPTURE_MAGIC && left.len == 18);
+}
+
+static void writes(void) {
+    uint8_t room[64], before[64];
+    pcapfile_header header = { 0xd4c3b2a1, 2, 4, -2, 0, 65535, PCAPFILE_LINK_ETHERNET };
+    pcapfile_packet packet = { 7, 8999, 5, { (const uint8_t *)"abc", 3 } };
+    pcapfile_error error = PCAPFILE_ERROR_INIT;
+    size_t written = 99;
+    memset(room, 0xee, sizeof room);
+    memcpy(before, room, sizeof room);
+    EXPECT(pcapfile_write_header(&header, room, 0, &written, &error) == PCAPFILE_INCOMPLETE && error.missing == 24);
+    EXPECT(pcapfile_write_header(&header, room, 20, &written, &error) == PCAPFILE_INCOMPLETE && error.missing == 4);
+    EXPECT(pcapfile_write_packet(&header, &packet, room, 18, &written, &error) == PCAPFILE_INCOMPLETE && error.missing == 1);
+    EXPECT(written == 99 && !memcmp(room, before, sizeof room));
+    EXPECT(pcapfile_write_header(&header, room, sizeof room, &written, &error) == PCAPFILE_OK && written == 24);
+    EXPECT(pcapfile_write_packet(&header, &packet, room + 24, sizeof room - 24, &written, &error) == PCAPFILE_OK);
+    EXPECT(written == 19 && !memcmp(room, capture, sizeof capture));
+    EXPECT(!memcmp(room + 43, before + 43, sizeof room - 43));
+    header.magic_number = 0xa1b23c4d;
+    EXPECT(pcapfile_write_packet(&header, &packet, room, sizeof room, &written, &error) == PCAPFILE_OK && written == 19);
+    EXPECT(!memcmp(room, "\0\0\0\7\0\0\x23\x27\0\0\0\3\0\0\0\5abc", 19));
+    header.magic_number = 7;
+    written = 99;
+    memcpy(room, before, sizeof room);
+    EXPECT(pcapfile_write_header(&header, room, sizeof room, &written, &error) == PCAPFILE_INVALID);
+    EXPECT(error.rule == PCAPFILE_RULE_CAPTURE_MAGIC);
+    EXPECT(pcapfile_write_packet(&header, &packet, room, sizeof room, &written, &error) == PCAPFILE_INVALID);
+    EXPECT(written == 99 && !memcmp(room, before, sizeof room));
+}
+
+static int is_text(pcapfile_bytes bytes, const char *text) {
+    return bytes.len == strlen(text) && !memcmp(bytes.ptr, text, bytes.len);
+}
+
+static void rules(void) {
+    pcapfile_bytes name = PCAPFILE_NO_BYTES, text = PCAPFILE_NO_BYTES;
+    int found = 0;
+    for (uint32_t rule = 0; rule < 3000; rule++) {
+        pcapfile_rule_name(rule, &name);
+        pcapfile_rule_text(rule, &text);
+        EXPECT((name.len > 0) == (text.len > 0));
+        found += name.len > 0;
+    }
+    EXPECT(found == 40);
+    pcapfile_rule_name(PCAPFILE_RULE_ORIGINAL_TOO_LONG, &name);
+    pcapfile_rule_text(PCAPFILE_RULE_ORIGINAL_TOO_LONG, &text);
+    EXPECT(is_text(name, "OriginalTooLong") && is_text(text, "PacketHeader orig_len > 0x40000"));
+    pcapfile_rule_name(1915, &name);
+    EXPECT(is_text(name, "NameIpv6Length"));
+}
+
+int main(void) {
+    headers();
+    packets();
+    batches();
+    writes();
+    rules();
+    return failures > 0;
+}

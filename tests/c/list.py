@@ -1,0 +1,48 @@
+"""The lines of `capcopy list`, by the Python package.
+
+list.py FILE: a line a packet. list.py -f FILE: of every front of the file, its lines and then its status. list.py -t FILE:
+counts, and prints packets a second, the best of five rounds.
+"""
+
+import sys
+import time
+
+import pcapfile
+
+
+def list_packets(capture):
+    for index, packet in enumerate(capture, 1):
+        print(f"{index} {packet.seconds}.{packet.nanoseconds:09} {len(packet.data)}/{packet.original_length}")
+
+
+def status_of(opened):
+    try:
+        list_packets(opened())
+    except pcapfile.Incomplete as error:
+        print(f"list.py: {error}", file=sys.stderr)
+        return 3
+    except pcapfile.CaptureError as error:
+        print(f"list.py: {error}", file=sys.stderr)
+        return 1
+    return 0
+
+
+def rate(path):
+    best = 0.0
+    with pcapfile.open(path) as capture:
+        for _ in range(5):
+            start = time.perf_counter()
+            count = sum(1 for _ in capture)
+            best = max(best, count / (time.perf_counter() - start))
+    return f"{count} packets, {best / 1e6:.2f} million a second"
+
+
+path = sys.argv[-1]
+if sys.argv[1] == "-t":
+    print(rate(path))
+elif sys.argv[1] == "-f":
+    data = open(path, "rb").read()
+    for end in range(len(data) + 1):
+        print("status", status_of(lambda: pcapfile.parse(data[:end])))
+else:
+    sys.exit(status_of(lambda: pcapfile.open(path)))
