@@ -10,6 +10,8 @@ mod filling;
 #[cfg(test)]
 mod kinds;
 #[cfg(test)]
+mod lending;
+#[cfg(test)]
 mod reading;
 #[cfg(test)]
 mod rows;
