@@ -1,6 +1,6 @@
 mod BlockLists
-mod Digits
 mod Lines
 mod Listing
 mod PacketLists
+mod PacketLines
 mod Exits

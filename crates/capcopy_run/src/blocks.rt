@@ -73,7 +73,7 @@ fn write_section<W: Write>(
 {
     let mut line = String::new(alloc);
     push_section(&mut line, section)?;
-    put_line(output, &line)
+    put_line(output, line.as_bytes())
 }
 
 // Whether a block's body can be read.
@@ -111,7 +111,7 @@ fn write_block<W: Write>(
 {
     let word = body_word(alloc, block)?;
     push_block(line, index, block, word)?;
-    put_line(output, line)
+    put_line(output, line.as_bytes())
 }
 
 // Writes a line for each block that the reader gives, before it is asked for the next one.

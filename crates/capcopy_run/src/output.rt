@@ -8,10 +8,10 @@ use std::io;
 use std::io::{ErrorKind, Write};
 
 // Writes all of a line, or up to a call that fails or takes nothing of it.
-pub(crate) fn put_line<W: Write>(output: &mut W, line: &str) -> Result<(), Exit>
+pub(crate) fn put_line<W: Write>(output: &mut W, line: &[u8]) -> Result<(), Exit>
     ensures { WritesLine (λ bytes. bytes ≡ line.now) (W.contents output.old) (W.contents output.new) result }
 {
-    let mut rest = line.as_bytes();
+    let mut rest = line;
     while !rest.is_empty() {
         match output.write(rest) {
             Ok(0) => {

@@ -25,8 +25,8 @@ pub use copy::{Copied, Under, copy_pcap};
 pub use exact::exact_pcap;
 pub use pcap_core::Rest;
 pub use pcap_core::run::{Window, pieces_fit};
-pub use pieces::pieces_pcap;
 use pcap_core::{PcapError, ResultParsing};
+pub use pieces::pieces_pcap;
 use std::alloc::Global;
 use std::io::Read;
 

@@ -2,13 +2,15 @@
 //! Each line of the output is what the call gives: the refusal of the header or first block, or else the packets, or the
 //! blocks with the section and interfaces after them, and how they end.
 //!
-//! The argument is the most items of a reader, which has to give the same by short reads. The captures of `stdin` were drawn at random, whole, torn or damaged.
+//! The argument is the most items of a reader, which has to give the same by short reads, or the lengths of the pieces that
+//! the capture comes in. The captures of `stdin` were drawn at random, whole, torn or damaged.
 //! `stdout` is what a model of the formats, which shares nothing with this program, gives for them: `tests/model/run`
 //! makes it.
 #![tactic(auto)]
 
 mod blocks;
 mod packets;
+mod pieces;
 mod texts;
 
 use pcap_file::ResultParsing;
@@ -42,6 +44,8 @@ fn answer(alloc: Global, line: &str) -> ResultParsing<String> {
     match call {
         "parse_pcap" => packets::parse(alloc, bytes.as_slice(), &mut told)?,
         "read_pcap" => packets::read(alloc, bytes.as_slice(), most, &mut told)?,
+        "exact_pcap" => packets::exact(alloc, bytes.as_slice(), &mut told)?,
+        "pieces_pcap" => packets::pieces(alloc, bytes.as_slice(), argument, &mut told)?,
         "parse_pcapng" => blocks::parse(alloc, bytes.as_slice(), &mut told)?,
         "read_pcapng" => blocks::read(alloc, bytes.as_slice(), most, &mut told)?,
         _ => told.push_str("no such call")?,

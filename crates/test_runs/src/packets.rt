@@ -1,17 +1,78 @@
 //! Runs over classic captures.
 
+use crate::pieces::{cut, push_numbers};
 use crate::texts::{push_bytes, push_fault, push_refusal, push_rest};
-use pcap_file::ResultParsing;
-use pcap_file::pcap::Packet;
-use pcap_file::run::{parse_pcap, read_pcap};
+use pcap_classic::run::{Window, exact_pcap, pieces_fit, pieces_pcap};
+use pcap_file::pcap::{Packet, PcapParser};
+use pcap_file::run::{PcapRun, parse_pcap, read_pcap};
+use pcap_file::{PcapError, ResultParsing};
 use std::alloc::Global;
+use test_support::captures::{back, front};
 use test_support::readers::Halting;
 
 pub(crate) fn parse(alloc: Global, bytes: &[u8], told: &mut String) -> ResultParsing<()> {
     match parse_pcap(alloc, bytes) {
-        Ok(run) => {
-            push_packets(told, run.packets.as_slice())?;
-            push_rest(told, run.used, &run.rest)
+        Ok(run) => push_run(told, &run),
+        Err(error) => push_refusal(told, &error),
+    }
+}
+
+pub(crate) fn exact(alloc: Global, bytes: &[u8], told: &mut String) -> ResultParsing<()> {
+    match exact_pcap(alloc, &mut Window::new(bytes)) {
+        Ok((run, requests)) => {
+            push_run(told, &run)?;
+            write!(told, " requests {requests}")?;
+            let made = count_requests(bytes);
+            if made != requests {
+                write!(told, " where a caller makes {made}")?;
+            }
+            Ok(())
+        }
+        Err(error) => push_refusal(told, &error),
+    }
+}
+
+// How many requests a caller of the parser makes who shows it exactly what it asks for.
+fn count_requests(bytes: &[u8]) -> u64 {
+    let mut window = Window::new(bytes);
+    let Ok((_rest, parser)) = PcapParser::new(front(bytes, window.ask(24))) else {
+        return 1;
+    };
+    let mut requests = 1u64;
+    let mut used = 24;
+    for _turn in 0..u64::MAX {
+        let held = back(window.seen(), used);
+        if held.is_empty() && window.is_done() {
+            return requests;
+        }
+        match parser.next_packet(held) {
+            Ok((_rest, _packet)) => used = window.seen().len(),
+            Err(PcapError::IncompleteBuffer(n)) => {
+                requests = requests.saturating_add(1);
+                if window.ask(n) < n {
+                    return requests;
+                }
+            }
+            Err(_) => return requests,
+        }
+    }
+    requests
+}
+
+pub(crate) fn pieces(
+    alloc: Global,
+    bytes: &[u8],
+    cuts: &str,
+    told: &mut String,
+) -> ResultParsing<()> {
+    let pieces = cut(alloc, bytes, cuts)?;
+    if !pieces_fit(pieces.as_slice()) {
+        return Ok(());
+    }
+    match pieces_pcap(alloc, pieces.as_slice()) {
+        Ok((run, numbers)) => {
+            push_run(told, &run)?;
+            push_numbers(told, numbers.as_slice())
         }
         Err(error) => push_refusal(told, &error),
     }
@@ -35,6 +96,11 @@ fn read_by(alloc: Global, stream: Halting, most: u64, told: &mut String) -> Resu
         }
         Err(error) => push_refusal(told, &error),
     }
+}
+
+fn push_run(told: &mut String, run: &PcapRun) -> ResultParsing<()> {
+    push_packets(told, run.packets.as_slice())?;
+    push_rest(told, run.used, &run.rest)
 }
 
 fn push_packets(told: &mut String, packets: &[Packet]) -> ResultParsing<()> {

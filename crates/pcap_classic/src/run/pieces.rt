@@ -48,7 +48,11 @@ impl PieceParser for PcapParser {
         }
     }
 
-    fn take(&mut self, alloc: Global, held: &[u8]) -> ResultParsing<Found<(Packet<'static>, usize)>> {
+    fn take(
+        &mut self,
+        alloc: Global,
+        held: &[u8],
+    ) -> ResultParsing<Found<(Packet<'static>, usize)>> {
         match find_packet(self, held)? {
             Found::Item((after, packet)) => Ok(Found::Item((packet.to_owned(alloc)?, after.len()))),
             Found::Needs(n) => Ok(Found::Needs(n)),

@@ -19,7 +19,9 @@ pub enum Found<T> {
 /// What a parser's answer says of the slice: the item at its front, with what follows it, or why there is none.
 ///
 /// `OutOfMemory` says nothing of the slice, and stays an error.
-pub fn found_in<'a, T: Drop>(answer: ResultParsing<(&'a [u8], T)>) -> ResultParsing<Found<(&'a [u8], T)>>
+pub fn found_in<'a, T: Drop>(
+    answer: ResultParsing<(&'a [u8], T)>,
+) -> ResultParsing<Found<(&'a [u8], T)>>
     ensures { result ≡ found_of answer.entry }
 {
     match answer {

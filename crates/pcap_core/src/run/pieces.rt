@@ -123,7 +123,11 @@ pub fn pieces_fit(pieces: &[&[u8]]) -> bool
 }
 
 // With one piece more.
-fn feed<P: PieceParser>(alloc: Global, fed: Fed<P, P::Item>, piece: &[u8]) -> ResultParsing<Fed<P, P::Item>>
+fn feed<P: PieceParser>(
+    alloc: Global,
+    fed: Fed<P, P::Item>,
+    piece: &[u8],
+) -> ResultParsing<Fed<P, P::Item>>
     requires lawful { IsLawful P.format }
     requires opening { IsOpening P.opens }
     ensures fed { IfOk result (λ new. (s : List ℕ) → IsFed P.opens P.format P.part P.state s fed.progress fed.held.items (map P.view fed.items.items)
@@ -213,7 +217,13 @@ fn take_items<P: PieceParser>(
 }
 
 // The parser after items that took the first so many bytes, and the bytes that are left.
-fn after_items<P, T>(parser: P, rest: Rest, items: Vec<T>, mut held: Vec<u8>, taken: usize) -> Fed<P, T>
+fn after_items<P, T>(
+    parser: P,
+    rest: Rest,
+    items: Vec<T>,
+    mut held: Vec<u8>,
+    taken: usize,
+) -> Fed<P, T>
     requires { taken ≤ length held.items }
     ensures progress { result.progress ≡ Progress.Within parser rest }
     ensures items { result.items ≡ items }
@@ -261,13 +271,7 @@ fn still_within(rest: Rest, more: usize) -> Option<Rest>
     ensures { result ≡ rest_after_more rest more }
 {
     match rest {
-        Rest::Clean => {
-            if more == 0 {
-                Some(Rest::Clean)
-            } else {
-                None
-            }
-        }
+        Rest::Clean => { if more == 0 { Some(Rest::Clean) } else { None } }
         Rest::Needs(n) => {
             if more < n {
                 Some(Rest::Needs(n - more))
