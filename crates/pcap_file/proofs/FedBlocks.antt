@@ -1,12 +1,11 @@
 -- Blocks of a capture that comes in pieces.
-use Rattle.std.proofs.Common.{◌≡◌, ◌+◌, ℕ, List, ◌∷◌, ◌++◌, length, map, refl, sym, ap, subst, ◌∙◌, inl, inr}
+use Rattle.std.proofs.Common.{◌≡◌, ℕ, List, ◌∷◌, length, map, refl, sym, ap, subst, ◌∙◌, inl, inr}
 use Rattle.std.proofs.lemmas.List.{length-map}
 use Rattle.pcap_core.specs.declared.run.pieces.Progress.TheVariants.{Within}
 use Rattle.pcap_core.specs.Answer.{whole}
 use Rattle.pcap_core.specs.Format.{Front}
 use Rattle.pcap_core.specs.Pieces.{HoldsItems, IsFedUpTo, IsOpening, OpensNone, Reaches}
 use Rattle.pcap_core.proofs.Showing.{rest_no_text}
-use Rattle.pcap_file.specs.declared.pcapng.parser.PcapNgParser.{PcapNgParser}
 use Rattle.pcap_file.specs.declared.run.NgRun.{NgRun}
 use Rattle.pcap_file.specs.Blocks.{Item, block_format}
 use Rattle.pcap_file.specs.Frames.{Framed, framed_of}

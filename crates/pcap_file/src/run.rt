@@ -19,8 +19,8 @@ pub use pcap_classic::run::{
     Copied, PcapRead, PcapRun, Rest, Under, Window, copy_pcap, exact_pcap, parse_pcap, pieces_fit,
     pieces_pcap, read_pcap,
 };
-pub use pieces::pieces_pcapng;
 use pcap_core::{PcapError, ResultParsing};
+pub use pieces::pieces_pcapng;
 use std::alloc::Global;
 use std::io::Read;
 

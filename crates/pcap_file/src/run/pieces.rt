@@ -48,7 +48,11 @@ impl PieceParser for PcapNgParser {
         }
     }
 
-    fn take(&mut self, alloc: Global, held: &[u8]) -> ResultParsing<Found<(Block<'static>, usize)>> {
+    fn take(
+        &mut self,
+        alloc: Global,
+        held: &[u8],
+    ) -> ResultParsing<Found<(Block<'static>, usize)>> {
         match find_block(self, held)? {
             Found::Item((after, block)) => Ok(Found::Item((block.into_owned(alloc)?, after.len()))),
             Found::Needs(n) => Ok(Found::Needs(n)),

@@ -1,16 +1,14 @@
-use Rattle.std.proofs.Common.{◌≡◌, ◌≤◌, ◌<◌, ◌∷◌, [], ◌++◌, length, drop, map, refl, sym, ap, subst, ◌∙◌, arith, length-drop}
+use Rattle.std.proofs.Common.{◌≡◌, ◌≤◌, ◌<◌, ◌∷◌, [], ◌++◌, length, drop, map, refl, ap, ◌∙◌, arith, length-drop}
 use Rattle.std.proofs.lemmas.Grind.{common_steps}
-use Rattle.std.proofs.lemmas.List.{length-map, map_push, length-take-le}
+use Rattle.std.proofs.lemmas.List.{map_push, length-take-le}
 use Rattle.std.proofs.lemmas.List.Elements.{All-push}
-use Rattle.std.proofs.Math.ListN.{drop_of_length-le}
 use Rattle.pcap_core.specs.Bytes.{IsBorrowed}
 use Rattle.pcap_core.specs.Window.{bytes_of, shown_of, requests_made}
 use Rattle.pcap_file.specs.Blocks.{item_of, block_format}
 use Rattle.pcap_file.specs.Frames.{framed_of}
 use Rattle.pcap_file.specs.Parser.{state_of}
-use Rattle.pcap_file.specs.State.{State}
 use Rattle.pcap_file.proofs.Running.{block_shorter}
-use Rattle.pcap_file.proofs.ShownBlocks.{ShowsBlocks, blocks_none, blocks_item, blocks_rest, blocks_end, blocks_few, blocks_long}
+use Rattle.pcap_file.proofs.ShownBlocks.{blocks_none, blocks_item, blocks_rest, blocks_few, blocks_long}
 use Rattle.pcap_file.proofs.run.exact.show_blocks.Goals as goal
 
 pub loop-window-init : goal.loop-window-init

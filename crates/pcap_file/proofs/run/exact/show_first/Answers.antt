@@ -1,5 +1,5 @@
-use Rattle.std.proofs.Common.{◌≡◌, take, refl, arith, ◌∙◌}
-use Rattle.pcap_core.specs.Window.{bytes_of, shown_of, requests_made}
+use Rattle.std.proofs.Common.{refl, arith, ◌∙◌}
+use Rattle.pcap_core.specs.Window.{bytes_of, requests_made}
 use Rattle.pcap_core.proofs.Showing.{showing_none, showing_few, showing_more, showing_smaller, showing_item, showing_text, showing_refused, showing_fault, showing_ended, showing_lack}
 use Rattle.pcap_file.specs.Blocks.{Item, block_format}
 use Rattle.pcap_file.specs.Parser.{state_of}
