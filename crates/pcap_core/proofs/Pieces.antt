@@ -1,6 +1,6 @@
 -- Bytes that come in pieces, over any format.
-use Rattle.std.proofs.Common.{◌≡◌, ◌<◌, ◌≤◌, ◌+◌, ◌-◌, ℕ, List, [], ◌∷◌, ◌++◌, length, take, drop, map, get_or, Bool, true, false, Result, Ok, Err, refl, sym, ap, subst, ◌∙◌, arith, append_assoc, append-nil, length-append, length-drop, inl, inr}
-use Rattle.std.specs.Prelude.{Option, Some, None, IfOk, nat_lt, ◌==◌, if◌then◌else◌}
+use Rattle.std.proofs.Common.{◌≡◌, ◌<◌, ◌≤◌, ◌+◌, ◌-◌, ℕ, List, [], ◌∷◌, ◌++◌, length, take, drop, get_or, Bool, true, false, Result, Ok, Err, refl, sym, ap, subst, ◌∙◌, arith, append_assoc, append-nil, length-append, length-drop, inl, inr}
+use Rattle.std.specs.Prelude.{Some, None, IfOk, nat_lt, ◌==◌, if◌then◌else◌}
 use Rattle.std.specs.Borrow.{Bor}
 use Rattle.std.proofs.lemmas.Bool.{ltb-true}
 use Rattle.std.proofs.lemmas.Bool.Decides.{nat_tests}
@@ -13,10 +13,10 @@ use Rattle.pcap_core.specs.declared.rest.Rest.TheVariants.{Clean, Needs, Refused
 use Rattle.pcap_core.specs.declared.run.pieces.Progress.{Progress}
 use Rattle.pcap_core.specs.declared.run.pieces.Progress.TheVariants.{Before, Within}
 use Rattle.pcap_core.specs.Answer.{Verdict, whole, lacks, faulty, Refuses}
-use Rattle.pcap_core.specs.Faults.{Fault, Invalid, Io, Utf8}
-use Rattle.pcap_core.specs.Format.{Format, Front, Texts, IsLawful, state_after}
-use Rattle.pcap_core.specs.Laws.{ExactlyOne, IsStable}
-use Rattle.pcap_core.specs.Pieces.{AfterEach, HoldsItems, IsFed, IsOpening, OpensNone, Reaches, TakesPart, joined_pieces}
+use Rattle.pcap_core.specs.Faults.{Invalid, Io, Utf8}
+use Rattle.pcap_core.specs.Format.{Format, Front, IsLawful, state_after}
+use Rattle.pcap_core.specs.Laws.{IsStable}
+use Rattle.pcap_core.specs.Pieces.{AfterEach, HoldsItems, IsFed, IsOpening, Reaches, TakesPart, joined_pieces}
 use Rattle.pcap_core.specs.Run.{IsRest}
 use Rattle.pcap_core.specs.Waiting.{error_after, rest_after_more}
 use Rattle.pcap_core.proofs.Formats.{front_same, nil_of_length, shorter, state_push, texts_more, texts_push}

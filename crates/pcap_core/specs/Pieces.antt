@@ -3,7 +3,6 @@ use Rattle.std.specs.Prelude.{◌≡◌, ◌+◌, ◌⊎◌, ℕ, List, [], ◌�
 use Rattle.std.specs.Borrow.{Bor}
 use Rattle.std.specs.List.{flat_map}
 use Rattle.pcap_core.specs.declared.errors.PcapError.{PcapError}
-use Rattle.pcap_core.specs.declared.rest.Rest.{Rest}
 use Rattle.pcap_core.specs.declared.run.found.Found.{Found}
 use Rattle.pcap_core.specs.declared.run.found.Found.TheVariants.{Item, Needs, Refused}
 use Rattle.pcap_core.specs.declared.run.pieces.Progress.{Progress}

@@ -11,3 +11,5 @@ pub mod Run
 pub mod Reader
 pub mod Reads
 pub mod StatedFrames
+pub mod Exact
+pub mod Pieces

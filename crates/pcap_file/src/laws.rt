@@ -5,11 +5,13 @@ ghost use Rattle.pcap_core.specs.declared.common.Endianness.{Endianness};
 ghost use Rattle.pcap_core.specs.Answer.{whole};
 ghost use Rattle.pcap_core.specs.Format.{Front, Texts, Asks, IsLawful, state_after};
 ghost use Rattle.pcap_core.specs.Laws.{ExactlyOne, IsStable};
+ghost use Rattle.pcap_core.specs.Requested.{HeadThenRest, RequestsAt, RunRequests};
 ghost use Rattle.pcap_file.specs.Blocks.{Item, BlockText, BlockSays, block_format};
 ghost use Rattle.pcap_file.specs.Frames.{Framed, FrameSays};
 ghost use Rattle.pcap_file.specs.Front.{NgFront};
 ghost use Rattle.pcap_file.specs.MarkedLists.{marked_format};
 ghost use Rattle.pcap_file.specs.Opening.{OpeningSays};
+ghost use Rattle.pcap_file.specs.Pieces.{HoldsBlocks};
 ghost use Rattle.pcap_file.specs.Sections.{Leaves};
 ghost use Rattle.pcap_file.specs.State.{State, opening};
 
@@ -73,4 +75,22 @@ pub fn blocks_leave_their_section_in_force()
 pub fn unmarked_lists_keep_blocks()
     ensures { (q : State) (items others : List Item) (s a b : List ℕ) → Front marked_format q items s a → Front block_format q others s b →
         (more : List Item) × (others ≡ items ++ more) }
+{}
+
+/// The requests of a run over blocks, the first one among them, are these and no others.
+pub fn requests_are_one()
+    ensures { (q : State) (items : List Item) (s rest ns others : List ℕ) →
+        RunRequests block_format q items s rest ns → RunRequests block_format q items s rest others → ns ≡ others }
+{}
+
+/// Where a block stands, the first one too, what is asked for are the 12 bytes of its head, and then the rest of it. These
+/// requests are what asking gives: each of them met exactly, the block's text is there, and no more.
+pub fn block_requests_are()
+    ensures { (q : State) (item : Item) (s rest ns : List ℕ) → BlockText q item s rest → RequestsAt block_format q s ns →
+        (t : List ℕ) × (s ≡ t ++ rest) × HeadThenRest 12 (length t) ns × Asks block_format q ns [] t }
+{}
+
+/// The number of blocks that bytes hold is one.
+pub fn blocks_held_are_one()
+    ensures { (s : List ℕ) (n m : ℕ) → HoldsBlocks s n → HoldsBlocks s m → n ≡ m }
 {}

@@ -1,5 +1,9 @@
 //! Whole runs over a capture.
 
+mod exact;
+mod find;
+mod pieces;
+
 ghost use Rattle.std.specs.Prelude.{◌≡◌, ⊤, false, All, IfOk, IfErr, IfSome, map};
 ghost use Rattle.pcap_file.specs.Frames.{framed_of};
 ghost use Rattle.pcap_file.specs.Reader.{state_of, stream_of, has_failed, is_done};
@@ -10,10 +14,13 @@ ghost use Rattle.pcap_file.specs.Opening.{OpeningSays, RefusesOpening};
 ghost use Rattle.pcap_file.specs.Run.{IsRun, RestTells};
 
 use crate::pcapng::{Block, PcapNgParser, PcapNgReader};
+pub use exact::exact_pcapng;
 pub use pcap_classic::run::{
-    Copied, PcapRead, PcapRun, Rest, Under, copy_pcap, parse_pcap, read_pcap,
+    Copied, PcapRead, PcapRun, Rest, Under, Window, copy_pcap, exact_pcap, parse_pcap, pieces_fit,
+    pieces_pcap, read_pcap,
 };
 use pcap_core::{PcapError, ResultParsing};
+pub use pieces::pieces_pcapng;
 use std::alloc::Global;
 use std::io::Read;
 

@@ -1,7 +1,6 @@
-use Rattle.std.proofs.Common.{◌≡◌, ◌++◌, ℕ, List, length, map, sym, subst, ◌∙◌, refl}
+use Rattle.std.proofs.Common.{◌≡◌, ◌++◌, length, map, sym, ◌∙◌}
 use Rattle.std.specs.Prelude.{Some}
-use Rattle.pcap_core.specs.declared.run.pieces.Progress.TheVariants.{Within}
-use Rattle.pcap_core.specs.Pieces.{IsFed, Reaches}
+use Rattle.pcap_core.specs.Pieces.{Reaches}
 use Rattle.pcap_core.specs.Waiting.{rest_after_more}
 use Rattle.pcap_core.proofs.Pieces.{fed_waits_within, reaches_more, if_ok_more}
 use Rattle.pcap_core.proofs.run.pieces.feed.Goals as goal

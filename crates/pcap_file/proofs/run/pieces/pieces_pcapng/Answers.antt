@@ -1,0 +1,21 @@
+use Rattle.std.proofs.Common.{[]}
+use Rattle.pcap_core.specs.Pieces.{HoldsItems, joined_pieces}
+use Rattle.pcap_core.proofs.Pieces.{after_each_more}
+use Rattle.pcap_file.specs.Blocks.{block_format}
+use Rattle.pcap_file.specs.Opening.{OpeningSays}
+use Rattle.pcap_file.specs.Pieces.{HoldsBlocks}
+use Rattle.pcap_file.proofs.BlockFormat.{blocks_lawful}
+use Rattle.pcap_file.proofs.FedBlocks.{first_opening, holds_blocks, fed_run}
+use Rattle.pcap_file.proofs.run.pieces.pieces_pcapng.Goals as goal
+
+pub feed_pieces-requires-clause-lawful : goal.feed_pieces-requires-clause-lawful
+feed_pieces-requires-clause-lawful c = blocks_lawful
+
+pub feed_pieces-requires-clause-opening : goal.feed_pieces-requires-clause-opening
+feed_pieces-requires-clause-opening c = first_opening
+
+pub returns-clause-run : goal.returns-clause-run
+returns-clause-run c = fed_run (joined_pieces c.args.pieces.now) _ (rw c.in-Within.is at c.in_ok-progress.ensures.fed)
+
+pub returns-clause-numbers : goal.returns-clause-numbers
+returns-clause-numbers c = after_each_more (HoldsItems OpeningSays block_format) HoldsBlocks holds_blocks [] c.args.pieces.now _ c.in_ok-progress.ensures.numbers

@@ -1,0 +1,97 @@
+//! Runs over a PcapNg capture that comes in pieces.
+
+ghost use Rattle.std.specs.Prelude.{◌<◌, ◌^◌, [], ⊤, length, All, IfOk, IfErr};
+ghost use Rattle.pcap_core.specs.Answer.{Refuses, lacks, faulty};
+ghost use Rattle.pcap_core.specs.Bytes.{IsOwned};
+ghost use Rattle.pcap_core.specs.Pieces.{AfterEach, joined_pieces};
+ghost use Rattle.pcap_file.specs.Blocks.{Item as BlockItem, block_format};
+ghost use Rattle.pcap_file.specs.Frames.{Framed, framed_of};
+ghost use Rattle.pcap_file.specs.Opening.{OpeningSays};
+ghost use Rattle.pcap_file.specs.Parser.{state_of};
+ghost use Rattle.pcap_file.specs.Pieces.{HoldsBlocks};
+ghost use Rattle.pcap_file.specs.Run.{IsRun};
+ghost use Rattle.pcap_file.specs.State.{State as BlockState};
+
+use crate::pcapng::{Block, PcapNgParser};
+use crate::run::NgRun;
+use crate::run::find::{find_block, find_first};
+use pcap_core::ResultParsing;
+use pcap_core::run::{Found, PieceParser, Pieces, Progress, feed_pieces};
+use std::alloc::Global;
+
+impl PieceParser for PcapNgParser {
+    type Item = Block<'static>;
+
+    ghost State = { BlockState };
+
+    ghost Value = { BlockItem };
+
+    ghost Part = { Framed };
+
+    ghost opens = { OpeningSays };
+
+    ghost format = { block_format };
+
+    ghost state = { state_of };
+
+    ghost part = { λ item. item.block };
+
+    ghost view = { framed_of };
+
+    ghost owned = { λ block. IsOwned block.body };
+
+    fn open(alloc: Global, held: &[u8]) -> ResultParsing<Found<(PcapNgParser, usize)>> {
+        match find_first(alloc, held)? {
+            Found::Item((after, parser)) => Ok(Found::Item((parser, after.len()))),
+            Found::Needs(n) => Ok(Found::Needs(n)),
+            Found::Refused(e) => Ok(Found::Refused(e)),
+        }
+    }
+
+    fn take(
+        &mut self,
+        alloc: Global,
+        held: &[u8],
+    ) -> ResultParsing<Found<(Block<'static>, usize)>> {
+        match find_block(self, held)? {
+            Found::Item((after, block)) => Ok(Found::Item((block.into_owned(alloc)?, after.len()))),
+            Found::Needs(n) => Ok(Found::Needs(n)),
+            Found::Refused(e) => Ok(Found::Refused(e)),
+        }
+    }
+}
+
+/// The whole run over a capture that comes in pieces, with owned blocks; and for each piece, how many blocks after the first
+/// it and those before it hold, 0 while the first one isn't whole. Empty pieces are pieces too.
+///
+/// The pieces' lengths together fit `usize`, which `pieces_fit` tests. Only bytes that no block has taken are kept, and
+/// each block is parsed twice at most, so the cost is linear in the bytes and the pieces.
+///
+/// The errors are those of `PcapNgParser::new` on the first block, with `IncompleteBuffer` where it isn't whole.
+/// `OutOfMemory` where something can't grow.
+pub fn pieces_pcapng(alloc: Global, pieces: &[&[u8]]) -> ResultParsing<(NgRun<'static>, Vec<usize>)>
+    requires { length (joined_pieces pieces.now) < 2 ^ 64 }
+    ensures run { IfOk result (λ x. IsRun x.0 (joined_pieces pieces.now)) }
+    ensures numbers { IfOk result (λ x. AfterEach HoldsBlocks [] pieces.now x.1.items) }
+    ensures owned { IfOk result (λ x. All (λ block. IsOwned block.body) x.0.blocks.items) }
+    ensures refused { IfErr result (Refuses ⊤ (λ n. OpeningSays (joined_pieces pieces.now) (lacks n)) (λ fault. OpeningSays (joined_pieces pieces.now) (faulty fault))) }
+{
+    let Pieces {
+        progress,
+        items,
+        numbers,
+        used,
+    } = feed_pieces::<PcapNgParser>(alloc, pieces)?;
+    match progress {
+        Progress::Before(error) => Err(error),
+        Progress::Within(parser, rest) => {
+            let run = NgRun {
+                blocks: items,
+                parser,
+                used,
+                rest,
+            };
+            Ok((run, numbers))
+        }
+    }
+}

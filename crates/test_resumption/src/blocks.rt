@@ -1,0 +1,93 @@
+//! PcapNg captures.
+
+use pcap_file::PcapError;
+use pcap_file::run::{Rest, Window, exact_pcapng, pieces_fit, pieces_pcapng};
+use std::alloc::Global;
+
+// A section in each order, with an interface behind each.
+const SECTIONS: [u8; 96] = [
+    0x0a, 0x0d, 0x0d, 0x0a, 0, 0, 0, 0x1c, 0x1a, 0x2b, 0x3c, 0x4d, 0, 1, 0, 0, 0xff, 0xff, 0xff,
+    0xff, 0xff, 0xff, 0xff, 0xff, 0, 0, 0, 0x1c, 0, 0, 0, 1, 0, 0, 0, 0x14, 0, 1, 0, 0, 0, 4, 0, 0,
+    0, 0, 0, 0x14, 0x0a, 0x0d, 0x0d, 0x0a, 0x1c, 0, 0, 0, 0x4d, 0x3c, 0x2b, 0x1a, 1, 0, 0, 0, 0xff,
+    0xff, 0xff, 0xff, 0xff, 0xff, 0xff, 0xff, 0x1c, 0, 0, 0, 1, 0, 0, 0, 0x14, 0, 0, 0, 1, 0, 0, 0,
+    0, 0, 4, 0, 0x14, 0, 0, 0,
+];
+
+// A section, and what stands behind it.
+fn with_section(alloc: Global, more: &[u8]) -> Option<Vec<u8>> {
+    let mut bytes = Vec::from_slice(alloc, &SECTIONS[..28]).ok()?;
+    bytes.extend_from_slice(more).ok()?;
+    Some(bytes)
+}
+
+// How many blocks there are, what is missing after them (none where nothing is), and how many requests that took.
+fn shown(alloc: Global, bytes: &[u8]) -> Option<(usize, usize, u64)> {
+    let mut window = Window::new(bytes);
+    match exact_pcapng(alloc, &mut window) {
+        Ok((run, count)) => match run.rest {
+            Rest::Clean => Some((run.blocks.len(), 0, count)),
+            Rest::Needs(n) => Some((run.blocks.len(), n, count)),
+            Rest::Refused(_) => None,
+        },
+        Err(PcapError::IncompleteBuffer(n)) => Some((0, n, 0)),
+        Err(_) => None,
+    }
+}
+
+#[test]
+fn requests_are_exact(rt: HostRuntime) {
+    let alloc = rt.alloc();
+    assert_eq!(rt; shown(alloc, &SECTIONS[..28]), Some((0, 0, 2)));
+    assert_eq!(rt; shown(alloc, &SECTIONS), Some((3, 0, 8)));
+    assert_eq!(rt; shown(alloc, &SECTIONS[..20]), Some((0, 8, 0)));
+    let empty = with_section(alloc, &[0, 0, 0, 0xff, 0, 0, 0, 12, 0, 0, 0, 12]).expect(
+        &rt, "memory",
+    );
+    assert_eq!(rt; shown(alloc, &empty), Some((1, 0, 3)));
+    let large = with_section(alloc, &[0, 0, 0, 0xff, 0xff, 0xff, 0xff, 0xfc, 0, 0, 0, 0]).expect(
+        &rt, "memory",
+    );
+    assert_eq!(rt; shown(alloc, &large), Some((0, 4294967280, 4)));
+}
+
+// What the pieces between two cuts hold: the numbers after each, and how many bytes were taken in all.
+fn cut(
+    alloc: Global,
+    bytes: &[u8],
+    first: usize,
+    second: usize,
+) -> Option<(usize, usize, usize, usize)> {
+    if second < first || bytes.len() < second {
+        return None;
+    }
+    let (front, rest) = bytes.split_at(first);
+    let (middle, back) = rest.split_at(second - first);
+    let pieces = [front, middle, back];
+    if !pieces_fit(&pieces) {
+        return None;
+    }
+    let (run, numbers) = pieces_pcapng(alloc, &pieces).ok()?;
+    Some((
+        *numbers.get(0)?,
+        *numbers.get(1)?,
+        *numbers.get(2)?,
+        run.used,
+    ))
+}
+
+// How many blocks after the first end within so many bytes.
+fn ended(bytes: usize) -> usize {
+    usize::from(48 <= bytes) + usize::from(76 <= bytes) + usize::from(96 <= bytes)
+}
+
+#[test]
+fn every_cutting_gives_the_same(rt: HostRuntime) {
+    let alloc = rt.alloc();
+    for first in 0..97 {
+        for second in first..97 {
+            let wanted = (ended(first), ended(second), 3, 96);
+            assert_eq!(rt; cut(alloc, &SECTIONS, first, second), Some(wanted));
+        }
+    }
+    assert_eq!(rt; cut(alloc, &SECTIONS, 10, 60), Some((0, 1, 3, 96)));
+}

@@ -1,0 +1,7 @@
+//! Captures that are shown as they are asked for, and captures that come in pieces.
+#![tactic(auto)]
+
+#[cfg(test)]
+mod blocks;
+#[cfg(test)]
+mod packets;
