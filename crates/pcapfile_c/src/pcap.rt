@@ -81,6 +81,7 @@ pub extern "C" fn pcapfile_take_packets<'a>(
 }
 
 // Takes the packet at the front of `left`.
+#[inline(always)]
 fn next_packet<'a>(
     parser: &PcapParser,
     left: &mut PcapfileBytes<'a>,
