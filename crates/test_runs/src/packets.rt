@@ -2,9 +2,10 @@
 
 use crate::pieces::{cut, push_numbers};
 use crate::texts::{push_bytes, push_fault, push_refusal, push_rest};
-use pcap_classic::run::{Window, exact_pcap, pieces_fit, pieces_pcap};
 use pcap_file::pcap::{Packet, PcapParser};
-use pcap_file::run::{PcapRun, parse_pcap, read_pcap};
+use pcap_file::run::{
+    PcapRun, Window, exact_pcap, parse_pcap, pieces_fit, pieces_pcap, read_pcap,
+};
 use pcap_file::{PcapError, ResultParsing};
 use std::alloc::Global;
 use test_support::captures::{back, front};
@@ -35,7 +36,8 @@ pub(crate) fn exact(alloc: Global, bytes: &[u8], told: &mut String) -> ResultPar
 // How many requests a caller of the parser makes who shows it exactly what it asks for.
 fn count_requests(bytes: &[u8]) -> u64 {
     let mut window = Window::new(bytes);
-    let Ok((_rest, parser)) = PcapParser::new(front(bytes, window.ask(24))) else {
+    let shown = window.ask(24);
+    let Some(parser) = parser_of(front(bytes, shown)) else {
         return 1;
     };
     let mut requests = 1u64;
@@ -45,18 +47,34 @@ fn count_requests(bytes: &[u8]) -> u64 {
         if held.is_empty() && window.is_done() {
             return requests;
         }
-        match parser.next_packet(held) {
-            Ok((_rest, _packet)) => used = window.seen().len(),
-            Err(PcapError::IncompleteBuffer(n)) => {
+        match missing_of(&parser, held) {
+            Some(0) => used = window.seen().len(),
+            Some(n) => {
                 requests = requests.saturating_add(1);
                 if window.ask(n) < n {
                     return requests;
                 }
             }
-            Err(_) => return requests,
+            None => return requests,
         }
     }
     requests
+}
+
+fn parser_of(bytes: &[u8]) -> Option<PcapParser> {
+    match PcapParser::new(bytes) {
+        Ok((_rest, parser)) => Some(parser),
+        Err(_) => None,
+    }
+}
+
+// How many bytes of a packet are missing, none where it is whole. None where these bytes are refused.
+fn missing_of(parser: &PcapParser, held: &[u8]) -> Option<usize> {
+    match parser.next_packet(held) {
+        Ok(_) => Some(0),
+        Err(PcapError::IncompleteBuffer(n)) => Some(n),
+        Err(_) => None,
+    }
 }
 
 pub(crate) fn pieces(
