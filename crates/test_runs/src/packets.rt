@@ -3,9 +3,7 @@
 use crate::pieces::{cut, push_numbers};
 use crate::texts::{push_bytes, push_fault, push_refusal, push_rest};
 use pcap_file::pcap::{Packet, PcapParser};
-use pcap_file::run::{
-    PcapRun, Window, exact_pcap, parse_pcap, pieces_fit, pieces_pcap, read_pcap,
-};
+use pcap_file::run::{PcapRun, Window, exact_pcap, parse_pcap, pieces_fit, pieces_pcap, read_pcap};
 use pcap_file::{PcapError, ResultParsing};
 use std::alloc::Global;
 use test_support::captures::{back, front};
