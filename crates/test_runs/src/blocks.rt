@@ -1,21 +1,120 @@
 //! Runs over PcapNg captures.
 
+use crate::pieces::{cut, push_numbers};
 use crate::texts::{push_fault, push_refusal, push_rest};
 use pcap_file::pcapng::{Block, BlockType, InterfaceDescriptionBlock, SectionHeaderBlock};
-use pcap_file::run::{parse_pcapng, read_pcapng};
-use pcap_file::{Endianness, ResultParsing};
+use pcap_file::run::{
+    NgRun, Window, exact_pcapng, parse_pcapng, pieces_fit, pieces_pcapng, read_pcapng,
+};
+use pcap_file::{Endianness, PcapError, PcapNgParser, ResultParsing};
 use std::alloc::Global;
+use test_support::captures::back;
 use test_support::readers::Halting;
 
 pub(crate) fn parse(alloc: Global, bytes: &[u8], told: &mut String) -> ResultParsing<()> {
     match parse_pcapng(alloc, bytes) {
-        Ok(run) => {
-            push_blocks(alloc, told, run.blocks.as_slice())?;
-            push_state(told, run.parser.section(), run.parser.interfaces())?;
-            push_rest(told, run.used, &run.rest)
+        Ok(run) => push_run(alloc, told, &run),
+        Err(error) => push_refusal(told, &error),
+    }
+}
+
+pub(crate) fn exact(alloc: Global, bytes: &[u8], told: &mut String) -> ResultParsing<()> {
+    match exact_pcapng(alloc, &mut Window::new(bytes)) {
+        Ok((run, requests)) => {
+            push_run(alloc, told, &run)?;
+            write!(told, " requests {requests}")?;
+            let made = count_requests(alloc, bytes);
+            if made != requests {
+                write!(told, " where a caller makes {made}")?;
+            }
+            Ok(())
         }
         Err(error) => push_refusal(told, &error),
     }
+}
+
+// How many requests a caller of the parser makes who shows it exactly what it asks for.
+fn count_requests(alloc: Global, bytes: &[u8]) -> u64 {
+    let mut window = Window::new(bytes);
+    let shown = window.ask(12);
+    let Some(first) = missing_of_first(alloc, window.seen()) else {
+        return 1;
+    };
+    if shown < 12 || window.ask(first) < first {
+        return 2;
+    }
+    let Some(mut parser) = parser_of(alloc, window.seen()) else {
+        return 2;
+    };
+    let mut requests = 2u64;
+    let mut used = window.seen().len();
+    for _turn in 0..u64::MAX {
+        let held = back(window.seen(), used);
+        if held.is_empty() && window.is_done() {
+            return requests;
+        }
+        match missing_of(&mut parser, held) {
+            Some(0) => used = window.seen().len(),
+            Some(n) => {
+                requests = requests.saturating_add(1);
+                if window.ask(n) < n {
+                    return requests;
+                }
+            }
+            None => return requests,
+        }
+    }
+    requests
+}
+
+// How many bytes of the first block are missing. None where it is refused.
+fn missing_of_first(alloc: Global, bytes: &[u8]) -> Option<usize> {
+    match PcapNgParser::new(alloc, bytes) {
+        Ok(_) => Some(0),
+        Err(PcapError::IncompleteBuffer(n)) => Some(n),
+        Err(_) => None,
+    }
+}
+
+fn parser_of(alloc: Global, bytes: &[u8]) -> Option<PcapNgParser> {
+    match PcapNgParser::new(alloc, bytes) {
+        Ok((_rest, parser)) => Some(parser),
+        Err(_) => None,
+    }
+}
+
+// How many bytes of a block are missing, none where it is whole. None where these bytes are refused.
+fn missing_of(parser: &mut PcapNgParser, held: &[u8]) -> Option<usize> {
+    match parser.next_block(held) {
+        Ok(_) => Some(0),
+        Err(PcapError::IncompleteBuffer(n)) => Some(n),
+        Err(_) => None,
+    }
+}
+
+pub(crate) fn pieces(
+    alloc: Global,
+    bytes: &[u8],
+    cuts: &str,
+    told: &mut String,
+) -> ResultParsing<()> {
+    let pieces = cut(alloc, bytes, cuts)?;
+    if !pieces_fit(pieces.as_slice()) {
+        return Ok(());
+    }
+    match pieces_pcapng(alloc, pieces.as_slice()) {
+        Ok((run, numbers)) => {
+            push_run(alloc, told, &run)?;
+            push_numbers(told, numbers.as_slice())
+        }
+        Err(error) => push_refusal(told, &error),
+    }
+}
+
+fn push_run(alloc: Global, told: &mut String, run: &NgRun) -> ResultParsing<()> {
+    push_blocks(alloc, told, run.blocks.as_slice())?;
+    push_state(told, run.parser.section(), run.parser.interfaces())?;
+    push_rest(told, run.used, &run.rest)
 }
 
 pub(crate) fn read(alloc: Global, bytes: &[u8], most: u64, told: &mut String) -> ResultParsing<()> {

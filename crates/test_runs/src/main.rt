@@ -47,6 +47,8 @@ fn answer(alloc: Global, line: &str) -> ResultParsing<String> {
         "exact_pcap" => packets::exact(alloc, bytes.as_slice(), &mut told)?,
         "pieces_pcap" => packets::pieces(alloc, bytes.as_slice(), argument, &mut told)?,
         "parse_pcapng" => blocks::parse(alloc, bytes.as_slice(), &mut told)?,
+        "exact_pcapng" => blocks::exact(alloc, bytes.as_slice(), &mut told)?,
+        "pieces_pcapng" => blocks::pieces(alloc, bytes.as_slice(), argument, &mut told)?,
         "read_pcapng" => blocks::read(alloc, bytes.as_slice(), most, &mut told)?,
         _ => told.push_str("no such call")?,
     }
