@@ -5,7 +5,7 @@ ghost use Rattle.std.specs.Fmt.{decimal};
 ghost use Rattle.capcopy_run.specs.PacketLines.{nine_digits, packet_line};
 
 use itoa::write_digits;
-use pcap_classic::pcap::PacketHeader;
+use pcap_file::pcap::PacketHeader;
 
 /// Room for the longest line: five numbers of at most twenty digits, and a byte after each.
 pub(crate) const ROOM: usize = 105;
