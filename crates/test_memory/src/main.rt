@@ -6,6 +6,7 @@ mod bytes;
 mod captures;
 mod parts;
 mod pcapng;
+mod resumption;
 
 use pcap_classic::{PcapError, ResultParsing};
 use std::io;
@@ -16,6 +17,7 @@ fn main(rt: HostRuntime) -> io::Result<()> {
         bodies::make_calls(&rt)?;
         parts::make_calls(&rt)?;
         pcapng::make_calls(&rt)?;
+        resumption::make_calls(&rt)?;
     }
     Ok(())
 }
