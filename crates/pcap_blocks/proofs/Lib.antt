@@ -19,3 +19,4 @@ pub mod OneName
 pub mod OneRecord
 pub mod OneResolution
 pub mod OneBody
+pub mod Found
