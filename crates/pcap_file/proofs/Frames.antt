@@ -4,7 +4,7 @@ use Rattle.pcap_core.specs.declared.common.Endianness.{Endianness}
 use Rattle.pcap_core.specs.Answer.{Number, number_in}
 use Rattle.pcap_file.specs.Frames.{FrameHeadText}
 
-number_long : (order : ℕ → List ℕ → ℕ) (w n : ℕ) (s rest : List ℕ) → Number order w n s rest → length s ≡ w + length rest
+pub number_long : (order : ℕ → List ℕ → ℕ) (w n : ℕ) (s rest : List ℕ) → Number order w n s rest → length s ≡ w + length rest
 number_long order w n s rest t = omega (arith, ap length t.text, length-append t.bytes rest, t.length_is)
 
 pub head_long : (e : Endianness) (number len : ℕ) (own : Endianness) (s after : List ℕ) → FrameHeadText e number own len s after → length s ≡ 8 + length after

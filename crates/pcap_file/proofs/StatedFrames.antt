@@ -41,7 +41,7 @@ head_more e number len own s after more t = record {
 }
 
 -- what follows a length is what follows eight bytes
-head_drop : (e : Endianness) (number len : ℕ) (own : Endianness) (s after : List ℕ) → FrameHeadText e number own len s after → drop 8 s ≡ after
+pub head_drop : (e : Endianness) (number len : ℕ) (own : Endianness) (s after : List ℕ) → FrameHeadText e number own len s after → drop 8 s ≡ after
 head_drop e number len own s after t =
     let a = t.number_is.bytes in
     let b = t.len_is.bytes in

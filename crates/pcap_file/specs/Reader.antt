@@ -6,6 +6,9 @@ use Rattle.pcap_core.specs.Reading.{Takes}
 use Rattle.pcap_blocks.specs.SectionHeader.{Section, section_of}
 use Rattle.pcap_blocks.specs.InterfaceDescription.{Interface, interface_of}
 use Rattle.pcap_file.specs.declared.pcapng.reader.PcapNgReader.{PcapNgReader}
+use Rattle.pcap_file.specs.declared.pcapng.block_header.BlockHeader.{BlockHeader}
+use Rattle.pcap_file.specs.Blocks.{Item}
+use Rattle.pcap_file.specs.Lent.{body_in, held_item}
 use Rattle.pcap_file.specs.State.{State, within}
 use Rattle.pcap_file.specs.Opening.{OpeningSays, RefusesOpening}
 
@@ -32,6 +35,14 @@ has_failed reader = fill.has_failed reader.fill
 -- the reader has refused something
 abbrev pub is_done : {T : Type 0} → PcapNgReader T → Bool
 is_done reader = reader.is_done
+
+-- the body that a reader lends: that of the block that it holds
+abbrev pub body_of : {T : Type 0} → PcapNgReader T → List ℕ
+body_of reader = body_in (fill.held_of reader.fill)
+
+-- the block of this header and the body that a reader lends, and what is in force after it
+abbrev pub lent_item : {T : Type 0} → PcapNgReader T → BlockHeader → Item
+lent_item reader header = held_item (state_of reader) (fill.held_of reader.fill) header
 
 -- one call that makes a reader: the first block's text was taken and no more, and nothing failed; or the call is refused
 abbrev pub OpensReader : {T : Type 0} → (T → Option (List ℕ)) → T → Result (PcapNgReader T) PcapError → Type 0

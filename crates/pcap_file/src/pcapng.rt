@@ -1,6 +1,7 @@
 //! PcapNg captures: blocks in their frames, a parser and a reader of them, and their bodies.
 
 mod block;
+mod block_header;
 pub mod blocks;
 mod fields;
 mod framing;
@@ -9,6 +10,7 @@ mod reader;
 mod state;
 
 pub use block::Block;
+pub use block_header::BlockHeader;
 pub use parser::PcapNgParser;
 pub use pcap_blocks::{
     BlockType, Clock, CustomBinaryOption, CustomUtf8Option, EnhancedPacketBlock,

@@ -15,6 +15,7 @@ pub(crate) fn make_calls(rt: &HostRuntime) -> io::Result<()> {
     tell(rt, "parse_pcapng", parse(alloc))?;
     tell(rt, "read_pcapng", read(alloc))?;
     tell(rt, "PcapNgReader::next", next(alloc))?;
+    tell(rt, "PcapNgReader::next_header", next_header(alloc))?;
     tell(rt, "Block::parsed", parsed(alloc))?;
     tell(rt, "Block::into_owned", into_owned(alloc))?;
     next_blocks(rt, "an interface", &INTERFACE_BLOCK)?;
@@ -67,6 +68,31 @@ fn next(alloc: Global) -> ResultParsing<()> {
                 } else {
                     changed()
                 });
+            }
+        }
+    }
+    Ok(())
+}
+
+fn next_header(alloc: Global) -> ResultParsing<()> {
+    let mut reader = PcapNgReader::new(alloc, Cursor::new(BLOCKS))?;
+    for count in 0..2 {
+        if !is_in_force(reader.section(), reader.interfaces(), count) {
+            return Err(PcapError::InvalidField("another state is in force"));
+        }
+        match reader.next_header() {
+            None => return Err(PcapError::InvalidField("no block came")),
+            Some(Ok(_header)) => {}
+            Some(Err(error)) => {
+                let is_left = is_in_force(reader.section(), reader.interfaces(), count);
+                let lends_nothing = reader.body().is_empty();
+                return Err(
+                    if is_left && lends_nothing && reader.next_header().is_none() {
+                        error
+                    } else {
+                        changed()
+                    },
+                );
             }
         }
     }

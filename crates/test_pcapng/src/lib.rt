@@ -2,6 +2,8 @@
 #![tactic(auto)]
 
 #[cfg(test)]
+mod lending;
+#[cfg(test)]
 mod parser;
 #[cfg(test)]
 mod reader;

@@ -28,7 +28,7 @@ pub struct Block<'a> {
     pub body: CowBytes<'a>,
     /// The length of the whole block again, as it stands after the body.
     pub trailer_len: u32,
-    endianness: Endianness,
+    pub(crate) endianness: Endianness,
 }
 
 impl<'a> Block<'a> {

@@ -1,0 +1,35 @@
+-- Blocks that a reader lends ('General Block Structure').
+use Rattle.std.specs.Prelude.{⊤, ◌≡◌, ◌-◌, ℕ, List, [], length, take, drop, Option, None, Some, Result, Ok, Err}
+use Rattle.pcap_core.specs.declared.errors.PcapError.{PcapError}
+use Rattle.pcap_file.specs.declared.pcapng.block_header.BlockHeader.{BlockHeader}
+use Rattle.pcap_file.specs.Blocks.{Item}
+use Rattle.pcap_file.specs.Frames.{Framed}
+use Rattle.pcap_file.specs.State.{State}
+
+-- what stands around the body of a block
+abbrev pub header_of : Framed → BlockHeader
+header_of b = record { type_ = b.type_; initial_len = b.initial_len; endianness = b.endianness }
+
+-- the block of this header around a body: its length stands again after the body
+abbrev pub framed_around : BlockHeader → List ℕ → Framed
+framed_around header body = record {
+  type_ = header.type_;
+  initial_len = header.initial_len;
+  body = body;
+  trailer_len = header.initial_len;
+  endianness = header.endianness;
+}
+
+-- the body of the block that these bytes are: what stands between its first eight bytes and its last four
+abbrev pub body_in : List ℕ → List ℕ
+body_in s = take (length s - 12) (drop 8 s)
+
+-- the block of this header that these bytes are, and this is in force after it
+abbrev pub held_item : State → List ℕ → BlockHeader → Item
+held_item after s header = record { block = framed_around header (body_in s); after = after }
+
+-- where a call gave no header, no body is lent
+abbrev pub LetsGo : Option (Result BlockHeader PcapError) → List ℕ → Type 0
+LetsGo (Some (Ok header)) lent = ⊤
+LetsGo (Some (Err e)) lent = lent ≡ []
+LetsGo None lent = lent ≡ []
