@@ -5,7 +5,7 @@ use pcap_core::stream::{Fill, HasHead, Held, Told};
 use pcap_core::{PcapError, ResultParsing};
 use std::io::ErrorKind;
 use std::test::Fail;
-use test_support::captures::front;
+use test_support::captures::{back, front};
 use test_support::readers::Halting;
 
 // Two bytes a sample, a sample of channel 7, no bytes, one of channel 8, three bytes, and one of channel 256.
@@ -29,6 +29,10 @@ fn is_head(given: &Option<ResultParsing<Head>>, head: Head) -> bool {
 
 fn is_io(given: &Option<ResultParsing<Head>>, kind: ErrorKind) -> bool {
     matches!(given, Some(Err(PcapError::IoError(e))) if e.kind() == kind)
+}
+
+fn is_item(item: &Option<(Head, Vec<u8>)>, head: Head, bytes: &[u8]) -> bool {
+    matches!(item, Some((given, own)) if *given == head && own.as_slice() == bytes)
 }
 
 fn is_early_end(error: Option<PcapError>) -> bool {
@@ -160,6 +164,7 @@ fn failed_reads(rt: HostRuntime) -> Result<(), Fail> {
     Ok(())
 }
 
+#[tactic(auto, using(crate::proofs::HeadedSamples::samples_lawful))]
 #[test]
 fn filled_under_a_size(rt: HostRuntime) -> Result<(), Fail> {
     let samples = SamplesOf { size: 3 };
@@ -185,22 +190,34 @@ fn filled_under_a_size(rt: HostRuntime) -> Result<(), Fail> {
 
 #[test]
 fn taken_items(rt: HostRuntime) -> Result<(), Fail> {
-    let mut stream = Halting::new(rt.alloc(), &LOG, 3)?;
+    // where an item begins, the size of samples there, and the item
+    let rows: [(usize, u16, Head, &[u8]); 7] = [
+        (0, 0, Head::Size(2), &[]),
+        (4, 2, Head::Sample(7), &[0xaa, 0xbb]),
+        (4, 0, Head::Sample(7), &[]),
+        (4, 3, Head::Sample(7), &[0xaa, 0xbb, 0]),
+        (10, 2, Head::Size(0), &[]),
+        (14, 0, Head::Sample(8), &[]),
+        (22, 3, Head::Sample(256), &[4, 5, 6]),
+    ];
+    for (start, size, head, bytes) in rows {
+        let mut stream = Halting::new(rt.alloc(), back(&LOG, start), 3)?;
+        let mut has_failed = false;
+        let mut held = Held::new(rt.alloc());
+        let item = take_next(rt.alloc(), size, &mut stream, &mut has_failed, &mut held)?;
+        assert!(rt; is_item(&item, head, bytes), "{start} {size}");
+        assert_eq!(rt; stream.taken, 4 + bytes.len());
+        assert!(rt; !has_failed && held.as_slice().is_empty());
+    }
+    Ok(())
+}
+
+#[test]
+fn nothing_to_take(rt: HostRuntime) -> Result<(), Fail> {
+    let mut stream = Halting::new(rt.alloc(), &[], 3)?;
     let mut has_failed = false;
     let mut held = Held::new(rt.alloc());
-    let mut size = 0;
-    for (head, bytes, taken) in ITEMS {
-        let item = take_next(rt.alloc(), size, &mut stream, &mut has_failed, &mut held)?;
-        assert!(rt;
-            item.is_some_and(|(given, own)| given == head && own.as_slice() == bytes),
-            "{taken}"
-        );
-        assert_eq!(rt; stream.taken, taken);
-        if let Head::Size(new) = head {
-            size = new;
-        }
-    }
-    let item = take_next(rt.alloc(), size, &mut stream, &mut has_failed, &mut held)?;
-    assert!(rt; item.is_none() && !has_failed && held.as_slice().is_empty());
+    let item = take_next(rt.alloc(), 3, &mut stream, &mut has_failed, &mut held)?;
+    assert!(rt; item.is_none() && !has_failed);
     Ok(())
 }
