@@ -30,14 +30,15 @@ fn parse(alloc: Global) -> ResultParsing<()> {
     Ok(())
 }
 
+// No packet is taken that then finds no room in the list.
 fn read(alloc: Global) -> ResultParsing<()> {
-    let PcapRead {
-        packets: _packets,
-        fault,
-        ..
-    } = read_pcap(alloc, Cursor::new(CAPTURE), 9)?;
+    let mut capture = Cursor::new(CAPTURE);
+    let PcapRead { packets, fault, .. } = read_pcap(alloc, &mut capture, 9)?;
     match fault {
         None => Ok(()),
+        Some(_) if packets.is_empty() && capture.position() == 44 => {
+            Err(PcapError::InvalidField("a packet was lost"))
+        }
         Some(error) => Err(error),
     }
 }

@@ -27,14 +27,18 @@ fn parse(alloc: Global) -> ResultParsing<()> {
     Ok(())
 }
 
+// No interface is taken that then finds no room in the list.
 fn read(alloc: Global) -> ResultParsing<()> {
     let NgRead {
-        blocks: _blocks,
-        reader: _reader,
+        blocks,
+        reader,
         fault,
     } = read_pcapng(alloc, Cursor::new(BLOCKS), 9)?;
     match fault {
         None => Ok(()),
+        Some(_) if blocks.is_empty() && !reader.interfaces().is_empty() => {
+            Err(PcapError::InvalidField("an interface was lost"))
+        }
         Some(error) => Err(error),
     }
 }

@@ -6,7 +6,7 @@ use pcap_file::pcapng::{Block, PcapNgReader};
 use pcap_file::run::{NgRead, read_pcapng};
 use pcap_file::{PcapError, ResultParsing};
 use std::alloc::Global;
-use std::io::ErrorKind;
+use std::io::{ErrorKind, Read};
 use std::test::Fail;
 use test_support::captures::{SECTION, SECTIONS, back, front};
 use test_support::readers::{EndsOnce, Halting};
@@ -108,6 +108,11 @@ fn most_blocks(rt: HostRuntime) -> Result<(), Fail> {
     Ok(())
 }
 
+// Whether no reader is made of a stream.
+fn makes_none<T: Read + Drop>(alloc: Global, stream: T) -> bool {
+    PcapNgReader::new(alloc, stream).is_err()
+}
+
 #[test]
 fn first_blocks(rt: HostRuntime) -> Result<(), Fail> {
     for step in [1, 100] {
@@ -118,6 +123,13 @@ fn first_blocks(rt: HostRuntime) -> Result<(), Fail> {
             let shown = format!(in rt.alloc(); "{error:?}")?;
             let told = format!(in rt.alloc(); "Some({told})")?;
             assert_eq!(rt; shown.as_str(), told.as_str(), "at {digits}");
+            let mut more = Vec::from_slice(rt.alloc(), bytes.as_slice())?;
+            more.extend_from_slice(&SECTION)?;
+            let mut stream = Halting::new(rt.alloc(), more.as_slice(), step)?;
+            assert!(rt;
+                makes_none(rt.alloc(), &mut stream) && stream.taken <= bytes.len(),
+                "at {digits}"
+            );
         }
         for (digits, _told) in rows(rt.alloc(), TORN)? {
             let bytes = bytes(rt.alloc(), digits)?;

@@ -1,5 +1,7 @@
 //! Copies from streams to writers.
 
+use crate::failing::CALLS;
+use crate::kinds::kind_of;
 use pcap_classic::pcap::{PacketHeader, PcapHeader};
 use pcap_classic::run::{Copied, PcapRead, Under, copy_pcap, read_pcap};
 use pcap_classic::{Endianness, PcapError, TsResolution};
@@ -105,6 +107,25 @@ fn every_room(rt: HostRuntime) -> Result<(), Fail> {
 }
 
 #[test]
+fn interrupted_writes(rt: HostRuntime) -> Result<(), Fail> {
+    let whole = big(rt.alloc())?;
+    for (call, gone) in CALLS {
+        for (is_idle, kind) in [
+            (false, ErrorKind::Interrupted),
+            (true, ErrorKind::WriteZero),
+        ] {
+            let mut stream = Halting::new(rt.alloc(), whole.as_slice(), 200)?;
+            let mut output = Narrow::halting(rt.alloc(), call, is_idle);
+            let copied = copy_pcap(rt.alloc(), &mut stream, &mut output, Under::Same, 9);
+            assert!(rt; copied.packets == 0 && copied.write_failed && !copied.read_failed);
+            assert_eq!(rt; kind_of(copied.fault), Some(kind), "at call {call}");
+            assert_eq!(rt; output.out.as_slice(), front(whole.as_slice(), gone));
+        }
+    }
+    Ok(())
+}
+
+#[test]
 fn every_failed_read(rt: HostRuntime) -> Result<(), Fail> {
     let whole = big(rt.alloc())?;
     for fails_at in 1..140usize {
@@ -165,6 +186,20 @@ fn invalid_header(rt: HostRuntime) -> Result<(), Fail> {
     let copied = copy_pcap(rt.alloc(), &mut stream, &mut out, Under::Header(header), 9);
     assert!(rt; names(&copied, "PcapHeader wrong magic number"));
     assert!(rt; stream.calls == 0 && out.is_empty() && !copied.read_failed);
+    Ok(())
+}
+
+#[test]
+fn torn_headers(rt: HostRuntime) -> Result<(), Fail> {
+    let whole = big(rt.alloc())?;
+    for end in 0..24usize {
+        let mut stream = Halting::new(rt.alloc(), front(whole.as_slice(), end), 9)?;
+        let mut out = Vec::new(rt.alloc());
+        let copied = copy_pcap(rt.alloc(), &mut stream, &mut out, Under::Same, 9);
+        assert!(rt; is_io(&copied) && copied.packets == 0, "at {end}");
+        assert!(rt; !copied.read_failed && !copied.write_failed, "at {end}");
+        assert!(rt; stream.taken == end && out.is_empty());
+    }
     Ok(())
 }
 

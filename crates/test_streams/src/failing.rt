@@ -10,6 +10,25 @@ use std::test::Fail;
 use test_support::captures::{big, contents, front};
 use test_support::writers::Narrow;
 
+/// Each call of a writer that takes ten bytes at most of the capture, and how many bytes went out before it.
+pub const CALLS: [(u64, usize); 15] = [
+    (1, 0),
+    (2, 10),
+    (3, 20),
+    (4, 24),
+    (5, 34),
+    (6, 40),
+    (7, 50),
+    (8, 60),
+    (9, 70),
+    (10, 80),
+    (11, 90),
+    (12, 100),
+    (13, 110),
+    (14, 120),
+    (15, 130),
+];
+
 // Writes the capture's header and its packet twice, and tells whether each call answered as it must: the first that has no
 // room is an `IoError`, and each later one a `WriterFailed`.
 fn fails_once(output: &mut Narrow, packet: &Packet<'_>, room: usize) -> bool {
@@ -45,30 +64,12 @@ fn interrupted_calls(rt: HostRuntime) -> Result<(), Fail> {
     let whole = big(rt.alloc())?;
     let contents = contents(rt.alloc())?;
     let packet = packet(contents.as_slice());
-    // each call of the writer, and how many bytes went out before it, ten at most in one
-    let rows = [
-        (1, 0),
-        (2, 10),
-        (3, 20),
-        (4, 24),
-        (5, 34),
-        (6, 40),
-        (7, 50),
-        (8, 60),
-        (9, 70),
-        (10, 80),
-        (11, 90),
-        (12, 100),
-        (13, 110),
-        (14, 120),
-        (15, 130),
-    ];
-    for (call, gone) in rows {
-        let mut output = Narrow::new(rt.alloc(), 1000, true);
-        output.step = 10;
-        output.interrupted = call;
-        assert!(rt; fails_once(&mut output, &packet, gone), "at call {call}");
-        assert_eq!(rt; output.out.as_slice(), front(whole.as_slice(), gone));
+    for (call, gone) in CALLS {
+        for is_idle in [false, true] {
+            let mut output = Narrow::halting(rt.alloc(), call, is_idle);
+            assert!(rt; fails_once(&mut output, &packet, gone), "at call {call}");
+            assert_eq!(rt; output.out.as_slice(), front(whole.as_slice(), gone));
+        }
     }
     Ok(())
 }
@@ -125,5 +126,14 @@ fn told_writers(rt: HostRuntime) -> Result<(), Fail> {
         assert_eq!(rt; full.flush().is_err(), fails);
         assert_eq!(rt; full.failed(), fails);
     }
+    for is_idle in [false, true] {
+        let mut told = Told::new(Narrow::halting(rt.alloc(), 1, is_idle));
+        assert_eq!(rt; told.write(&[1]).is_ok(), is_idle);
+        assert!(rt; told.failed());
+        assert_eq!(rt; told.get_ref().calls, 1);
+    }
+    let mut told = Told::new(Narrow::halting(rt.alloc(), 1, false));
+    assert!(rt; told.flush().is_err() && told.failed());
+    assert_eq!(rt; told.get_ref().calls, 1);
     Ok(())
 }

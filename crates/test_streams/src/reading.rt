@@ -5,7 +5,8 @@ use byteorder::BigEndian;
 use pcap_classic::pcap::{Packet, PacketHeader, PcapHeader, PcapReader};
 use pcap_classic::run::{PcapRead, read_pcap};
 use pcap_classic::{PcapError, ResultParsing, TsResolution};
-use std::io::ErrorKind;
+use std::alloc::Global;
+use std::io::{ErrorKind, Read};
 use std::test::Fail;
 use test_support::captures::{back, big, front};
 use test_support::readers::{EndsOnce, Halting};
@@ -83,6 +84,11 @@ fn empty_streams(rt: HostRuntime) -> Result<(), Fail> {
     Ok(())
 }
 
+// Whether no reader is made of a stream.
+fn makes_none<T: Read + Drop>(alloc: Global, stream: T) -> bool {
+    PcapReader::new(alloc, stream).is_err()
+}
+
 #[test]
 fn wrong_headers(rt: HostRuntime) -> Result<(), Fail> {
     for step in [1, 9] {
@@ -94,6 +100,11 @@ fn wrong_headers(rt: HostRuntime) -> Result<(), Fail> {
             ),
             _ => assert!(rt; false, "no fault"),
         }
+        let mut long = Halting::new(rt.alloc(), &[0xff; 40], step)?;
+        assert!(rt; makes_none(rt.alloc(), &mut long) && long.taken == 24);
+        long.taken = 0;
+        let read = read_pcap(rt.alloc(), &mut long, 9);
+        assert!(rt; read.is_err() && long.taken == 24);
         let short = PcapReader::new(rt.alloc(), Halting::new(rt.alloc(), &[0xff; 10], step)?);
         assert_eq!(rt; kind_of(short.err()), Some(ErrorKind::UnexpectedEof));
     }

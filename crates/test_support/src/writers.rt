@@ -7,7 +7,7 @@ use std::io;
 use std::io::{ErrorKind, Write};
 
 /// A writer that takes `room` bytes in all, at most `step` in a call, and then fails, flushes too, or takes nothing. One of
-/// its calls is interrupted.
+/// its calls is interrupted, a flush too, and one takes nothing.
 #[derive(Debug, Drop)]
 pub struct Narrow {
     pub out: Vec<u8>,
@@ -16,10 +16,11 @@ pub struct Narrow {
     pub fails: bool,
     pub calls: u64,
     pub interrupted: u64,
+    pub idle: u64,
 }
 
 impl Narrow {
-    /// A writer of this much room, of which no call is interrupted.
+    /// A writer of this much room, of which no call is interrupted or takes nothing before there is no room.
     pub fn new(alloc: Global, room: usize, fails: bool) -> Narrow {
         Narrow {
             out: Vec::new(alloc),
@@ -28,7 +29,20 @@ impl Narrow {
             fails,
             calls: 0,
             interrupted: 0,
+            idle: 0,
         }
+    }
+
+    /// A writer that takes ten bytes at most in a call, of which this one is interrupted, or takes nothing.
+    pub fn halting(alloc: Global, call: u64, is_idle: bool) -> Narrow {
+        let mut writer = Narrow::new(alloc, 1000, true);
+        writer.step = 10;
+        if is_idle {
+            writer.idle = call;
+        } else {
+            writer.interrupted = call;
+        }
+        writer
     }
 }
 
@@ -40,6 +54,9 @@ impl Write for Narrow {
         if self.calls == self.interrupted {
             return Err(io::Error::new(ErrorKind::Interrupted, "interrupted once"));
         }
+        if self.calls == self.idle {
+            return Ok(0);
+        }
         let most = buf.len().min(self.room).min(self.step);
         if most == 0 && self.fails && !buf.is_empty() {
             return Err(io::Error::new(ErrorKind::Other, "told to fail"));
@@ -50,6 +67,10 @@ impl Write for Narrow {
     }
 
     fn flush(&mut self) -> io::Result<()> {
+        self.calls = self.calls.saturating_add(1);
+        if self.calls == self.interrupted {
+            return Err(io::Error::new(ErrorKind::Interrupted, "interrupted once"));
+        }
         if self.room == 0 && self.fails {
             return Err(io::Error::new(ErrorKind::Other, "told to fail"));
         }
