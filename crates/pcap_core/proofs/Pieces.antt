@@ -3,7 +3,7 @@ use Rattle.std.proofs.Common.{◌≡◌, ◌<◌, ◌≤◌, ◌+◌, ◌-◌, �
 use Rattle.std.specs.Prelude.{Option, Some, None, IfOk, nat_lt, ◌==◌, if◌then◌else◌}
 use Rattle.std.specs.Option.{option_map}
 use Rattle.std.specs.Borrow.{Bor}
-use Rattle.std.proofs.lemmas.Bool.{ltb-true}
+use Rattle.std.proofs.lemmas.Bool.{lt-ltb, ltb-true}
 use Rattle.std.proofs.lemmas.Bool.Decides.{nat_tests}
 use Rattle.std.proofs.lemmas.List.{length-map, take-append-drop, map_push, take_more, flat_map_more}
 use Rattle.std.proofs.Math.Seq.{drop-append_seam}
@@ -19,7 +19,7 @@ use Rattle.pcap_core.specs.Format.{Format, Front, IsLawful, state_after}
 use Rattle.pcap_core.specs.Laws.{IsStable}
 use Rattle.pcap_core.specs.Pieces.{AfterEach, Came, HoldsItems, IsFed, IsOpening, Reaches, TakesPart, joined_pieces}
 use Rattle.pcap_core.specs.Run.{IsRest}
-use Rattle.pcap_core.specs.Waiting.{error_after, progress_after, rest_after_more}
+use Rattle.pcap_core.specs.Waiting.{IsDue, error_after, progress_after, progress_with, rest_after_more}
 use Rattle.pcap_core.proofs.Formats.{front_same, nil_of_length, shorter, state_push, texts_more, texts_push}
 use Rattle.pcap_core.proofs.Fronts.{said_not_refused}
 use Rattle.pcap_core.proofs.Refusals.{shows_more}
@@ -183,6 +183,32 @@ module _ {P S V W : Type 0} (opens : List ℕ → Verdict S → Type 0) (opening
   pub fed_came : (s more : List ℕ) (progress : Progress P) (held : List ℕ) (ws : List W) → IsFed opens f part state s progress held ws → Came opens f part state (s ++ more) progress (held ++ more) ws
   fed_came s more (Before error) held ws fed = (ap (λ (l : List ℕ). l ++ more) fed.0, fed.1)
   fed_came s more (Within parser rest) held ws fed = reaches_more (state parser) ws s held more fed.0
+
+-- fewer bytes than are due leave what is known, with fewer missing
+pub waits_for : {P : Type 0} (progress : Progress P) (missing more : ℕ) → more < missing → IsDue progress missing → progress_after (progress_with progress missing) more ≡ Some (progress_with progress (missing - more))
+waits_for (Before (errors.IncompleteBuffer n)) missing more less due = rw (lt-ltb more missing less) refl
+waits_for (Before (errors.InvalidField text)) missing more less due = refl
+waits_for (Before (errors.IoError io)) missing more less due = refl
+waits_for (Before (errors.Utf8Error utf)) missing more less due = refl
+waits_for (Before (errors.FromUtf8Error utf)) missing more less due = refl
+waits_for (Before (errors.OutOfMemory memory)) missing more less due = refl
+waits_for (Before errors.WriterFailed) missing more less due = refl
+waits_for (Within parser Clean) missing more less due = let none : more ≡ 0 = omega (arith, less, due) in rw none refl
+waits_for (Within parser (Needs n)) missing more less due = rw (lt-ltb more missing less) refl
+waits_for (Within parser (Refused error)) missing more less due = refl
+
+-- and then as few are due
+pub due_less : {P : Type 0} (progress : Progress P) (missing more : ℕ) → IsDue progress missing → IsDue progress (missing - more)
+due_less (Before error) missing more due = due
+due_less (Within parser Clean) missing more due = omega (arith, due)
+due_less (Within parser (Needs n)) missing more due = due
+due_less (Within parser (Refused error)) missing more due = due
+
+-- how many bytes are missing says nothing of what came
+pub came_same : {P S V W : Type 0} (opens : List ℕ → Verdict S → Type 0) (f : Format S V) (part : V → W) (state : P → S) (s : List ℕ) (progress : Progress P) (missing : ℕ) (held : List ℕ) (ws : List W)
+    → Came opens f part state s (progress_with progress missing) held ws → Came opens f part state s progress held ws
+came_same opens f part state s (Before error) missing held ws came = came
+came_same opens f part state s (Within parser rest) missing held ws came = came
 
 -- the number of items of a front is one
 pub holds_same : {S V : Type 0} (opens : List ℕ → Verdict S → Type 0) → IsOpening opens → (f : Format S V) → IsLawful f → (s : List ℕ) (n m : ℕ) → HoldsItems opens f s n → HoldsItems opens f s m → n ≡ m

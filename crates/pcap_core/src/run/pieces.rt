@@ -1,12 +1,12 @@
 //! Items of a capture that comes in pieces.
 
-ghost use Rattle.std.specs.Prelude.{◌≡◌, ◌≤◌, ◌<◌, ◌^◌, ◌↔◌, ◌++◌, ℕ, List, [], length, drop, map, All, false, Some, None, IsTrue, IfOk, IfErr, if◌then◌else◌};
+ghost use Rattle.std.specs.Prelude.{◌≡◌, ◌≤◌, ◌<◌, ◌^◌, ◌↔◌, ◌++◌, ℕ, List, [], length, drop, map, All, IsTrue, IfOk, IfErr};
 ghost use Rattle.pcap_core.specs.Answer.{Verdict};
 ghost use Rattle.pcap_core.specs.Errors.{IsMemory};
 ghost use Rattle.pcap_core.specs.Format.{Format, IsLawful};
 ghost use Rattle.pcap_core.specs.Found.{IfItem};
 ghost use Rattle.pcap_core.specs.Pieces.{AfterEach, Came, HoldsItems, IsFed, IsFedUpTo, IsOpening, OpensWith, Reaches, TakesFront, joined_pieces};
-ghost use Rattle.pcap_core.specs.Waiting.{error_after, progress_after, rest_after_more};
+ghost use Rattle.pcap_core.specs.Waiting.{IsDue, IsDueBehind, error_with, progress_with, rest_with};
 
 use crate::run::Found;
 use crate::{PcapError, Rest, ResultParsing};
@@ -85,19 +85,23 @@ pub fn feed_pieces<P: PieceParser>(
     let mut held = Vec::new(alloc);
     let mut items = Vec::new(alloc);
     let mut progress = opened(alloc, &mut held, &mut items)?;
+    let mut missing = due(&progress);
     let mut numbers = Vec::with_capacity(alloc, pieces.len())?;
     let mut total = 0;
     for piece in pieces {
         hold(&mut held, piece)?;
-        if !waits(&mut progress, piece.len()) {
+        if piece.len() < missing {
+            missing -= piece.len();
+        } else {
             progress = asked(alloc, progress, &mut held, &mut items)?;
+            missing = due(&progress);
         }
         numbers.push(items.as_slice().len())?;
         total += piece.len();
     }
     let used = total - held.len();
     Ok(Pieces {
-        progress,
+        progress: with_missing(progress, missing),
         items,
         numbers,
         used,
@@ -131,54 +135,64 @@ fn hold(held: &mut Vec<u8>, piece: &[u8]) -> ResultParsing<()>
     Ok(())
 }
 
-// Counts so many bytes more, and tells whether what is known of the capture needs no asking.
-#[inline(always)]
-fn waits<P>(progress: &mut Progress<P>, more: usize) -> bool
-    ensures known { progress_after progress.old more ≡ (if result then Some progress.new else None) }
-    ensures kept { result ≡ false → progress.new ≡ progress.old }
+// How many bytes have to come before the parser is asked: as many as are missing, any one behind a whole item, and after a
+// refusal none that can come.
+fn due<P>(progress: &Progress<P>) -> usize
+    ensures same { progress_with progress.now result ≡ progress.now }
+    ensures due { IsDue progress.now result }
 {
     match progress {
-        Progress::Before(error) => error_waits(error, more),
-        Progress::Within(_, rest) => rest_waits(rest, more),
+        Progress::Before(error) => due_before(error),
+        Progress::Within(_, rest) => due_within(rest),
     }
 }
 
-// The same of the error that opening answers.
-#[inline(always)]
-fn error_waits(error: &mut PcapError, more: usize) -> bool
-    ensures known { error_after error.old more ≡ (if result then Some error.new else None) }
-    ensures kept { result ≡ false → error.new ≡ error.old }
+fn due_before(error: &PcapError) -> usize
+    ensures { error_with error.now result ≡ error.now }
 {
     match error {
-        PcapError::IncompleteBuffer(n) => {
-            if more < *n {
-                *n -= more;
-                true
-            } else {
-                false
-            }
-        }
-        _ => true,
+        PcapError::IncompleteBuffer(n) => *n,
+        _ => usize::MAX,
     }
 }
 
-// The same of the rest.
-#[inline(always)]
-fn rest_waits(rest: &mut Rest, more: usize) -> bool
-    ensures known { rest_after_more rest.old more ≡ (if result then Some rest.new else None) }
-    ensures kept { result ≡ false → rest.new ≡ rest.old }
+fn due_within(rest: &Rest) -> usize
+    ensures same { rest_with rest.now result ≡ rest.now }
+    ensures due { IsDueBehind rest.now result }
 {
     match rest {
-        Rest::Clean => more == 0,
-        Rest::Needs(n) => {
-            if more < *n {
-                *n -= more;
-                true
-            } else {
-                false
-            }
-        }
-        Rest::Refused(_) => true,
+        Rest::Clean => 1,
+        Rest::Needs(n) => *n,
+        Rest::Refused(_) => usize::MAX,
+    }
+}
+
+// The same with so many bytes missing, where it tells of missing ones.
+fn with_missing<P>(progress: Progress<P>, missing: usize) -> Progress<P>
+    ensures { result ≡ progress_with progress missing }
+{
+    match progress {
+        Progress::Before(error) => Progress::Before(lacking(error, missing)),
+        Progress::Within(parser, rest) => Progress::Within(parser, needing(rest, missing)),
+    }
+}
+
+fn lacking(error: PcapError, missing: usize) -> PcapError
+    ensures { result ≡ error_with error missing }
+{
+    match error {
+        PcapError::IncompleteBuffer(_) => PcapError::IncompleteBuffer(missing),
+        error => error,
+    }
+}
+
+fn needing(rest: Rest, missing: usize) -> Rest
+    ensures { result ≡ rest_with rest missing }
+{
+    match rest {
+        Rest::Clean => Rest::Clean,
+        Rest::Needs(_) => Rest::Needs(missing),
+        Rest::Refused(error) => Rest::Refused(error),
     }
 }
 
