@@ -1,7 +1,9 @@
-/* pcapfile.h: reads packet captures that lie in memory, by a proved parser, and writes them there. MIT licence.
+/* pcapfile.h: reads packet captures that lie in memory, pcap and PcapNg, by a proved parser, and writes pcap there. MIT
+ * licence.
  *
- * For all bytes the calls return, and read and write nothing but what they are given. They allocate nothing, keep nothing
- * between calls, and may be called from any thread. docs/PROMISES.md says what is proved of them.
+ * For all bytes the calls return, and read and write nothing but what they are given. They keep nothing between calls, and
+ * may be called from any thread. Those of PcapNg take memory by malloc where a block has options or names, and give it back
+ * before they return; all others take none. docs/PROMISES.md says what is proved of them.
  *
  * What the proofs take from the caller, and nothing checks:
  *  - each pointer is aligned, not null, and points at a value of its type that no other pointer of the same call reaches;
@@ -24,7 +26,11 @@ extern "C" {
 enum pcapfile_status {
     PCAPFILE_OK = 0,
     PCAPFILE_INCOMPLETE = 1, /* a beginning of it stands there: error.missing bytes are missing after it, at least */
-    PCAPFILE_INVALID = 3     /* the bytes break the rule error.rule, and more bytes change nothing */
+    PCAPFILE_BAD_VALUE = 2,  /* of PcapNg: a value in the block is too short */
+    PCAPFILE_INVALID = 3,    /* the bytes break the rule error.rule, and more bytes change nothing */
+    PCAPFILE_NOT_UTF8 = 4,   /* of PcapNg: a string in the block is not UTF-8 */
+    PCAPFILE_NO_MEMORY = 6,  /* of PcapNg: memory was refused */
+    PCAPFILE_NOTHING = 8     /* no error: what the call is asked to show is not there */
 };
 
 /* error.rule under PCAPFILE_INVALID: the first rule that the bytes break. pcapfile_rule_name and pcapfile_rule_text tell
@@ -34,7 +40,12 @@ enum pcapfile_rule {
     PCAPFILE_RULE_FRACTION_TOO_LARGE = 2,    /* a packet's microseconds are more than 32 bits of nanoseconds */
     PCAPFILE_RULE_INCLUDED_TOO_LONG = 3,     /* a packet's stored length is above 262144 bytes */
     PCAPFILE_RULE_ORIGINAL_TOO_LONG = 4,     /* a packet's original length is above 262144 bytes */
-    PCAPFILE_RULE_INCLUDED_PAST_ORIGINAL = 5 /* a packet's stored length is above its original length */
+    PCAPFILE_RULE_INCLUDED_PAST_ORIGINAL = 5, /* a packet's stored length is above its original length */
+    PCAPFILE_RULE_SECTION_MAGIC = 6,          /* a section header's magic number is neither order's */
+    PCAPFILE_RULE_BLOCK_UNALIGNED = 7,        /* a block's length is no multiple of 4 */
+    PCAPFILE_RULE_BLOCK_TOO_SHORT = 8,        /* a block's length is below 12 */
+    PCAPFILE_RULE_BLOCK_LENGTHS_DIFFER = 9,   /* the length behind a block's body is another than the one before it */
+    PCAPFILE_RULE_SECTION_MISSING = 10        /* the first block is no section header */
 };
 
 /* Some values of pcapfile_header.link: the numbers of the registry of link types. */
@@ -118,6 +129,104 @@ int32_t pcapfile_write_header(const pcapfile_header *header, uint8_t *room, size
  * As pcapfile_write_header otherwise, and PCAPFILE_INVALID with rule 3 where there are 2^32 bytes or more. */
 int32_t pcapfile_write_packet(const pcapfile_header *header, const pcapfile_packet *packet, uint8_t *room,
                               size_t room_len, size_t *written, pcapfile_error *error);
+
+/* Captures in PcapNg are walked block by block. What a program needs of interfaces it keeps itself:
+ *
+ *     pcapfile_section section = PCAPFILE_SECTION_INIT;
+ *     while (left.len > 0 && pcapfile_take_block(&section, &left, &block, &error) == PCAPFILE_OK)
+ *         if (pcapfile_read_interface(&section, &block, &interface, &error) == PCAPFILE_OK)
+ *             interfaces[section.interfaces - 1] = interface;
+ *         else if (pcapfile_read_packet(&section, &block, &packet, &error) == PCAPFILE_OK)
+ *             use(&packet, &interfaces[packet.interface_id]);
+ *
+ * where it has made sure that there is room for one more interface, and that packet.interface_id is below
+ * section.interfaces. A section header sets section.interfaces to 0. */
+
+/* What a walk over blocks keeps between two of them. */
+typedef struct pcapfile_section {
+    uint32_t magic_number; /* 0 before the first block. Then of the section in force, read high byte first: 1a2b3c4d in a
+                              big-endian section, 4d3c2b1a in a little-endian one */
+    uint16_t version_major;
+    uint16_t version_minor;
+    uint32_t interfaces; /* how many interfaces the section has so far */
+} pcapfile_section;
+
+#define PCAPFILE_SECTION_INIT { 0, 0, 0, 0 }
+
+/* Some values of pcapfile_block.type. */
+enum pcapfile_block_type {
+    PCAPFILE_BLOCK_SECTION = 0x0a0d0d0a,
+    PCAPFILE_BLOCK_INTERFACE = 1,
+    PCAPFILE_BLOCK_PACKET = 2,
+    PCAPFILE_BLOCK_SIMPLE_PACKET = 3,
+    PCAPFILE_BLOCK_NAMES = 4,
+    PCAPFILE_BLOCK_STATISTICS = 5,
+    PCAPFILE_BLOCK_ENHANCED_PACKET = 6,
+    PCAPFILE_BLOCK_JOURNAL = 9
+};
+
+/* A block. */
+typedef struct pcapfile_block {
+    uint32_t type;       /* a number of enum pcapfile_block_type, or another */
+    pcapfile_bytes body; /* what stands between its lengths, lent from the capture; the block is 12 bytes longer */
+} pcapfile_block;
+
+#define PCAPFILE_BLOCK_INIT { 0, PCAPFILE_NO_BYTES }
+
+/* An interface. */
+typedef struct pcapfile_interface {
+    uint32_t link;       /* the type of the packets' first layer: a number of enum pcapfile_link, or another */
+    uint32_t snaplen;    /* the most bytes that are stored of a packet; 0 is no limit */
+    uint8_t ts_base;     /* the unit of its times in seconds is this, 10 or 2, to the power of minus ts_exponent */
+    uint8_t ts_exponent; /* 6, with the base 10, where the capture names no unit */
+    int64_t ts_offset;   /* seconds that are added to each time */
+} pcapfile_interface;
+
+#define PCAPFILE_INTERFACE_INIT { 0, 0, 10, 6, 0 }
+
+/* A packet of an interface. */
+typedef struct pcapfile_ng_packet {
+    uint32_t interface_id; /* the number of its interface, from 0 on in their order; none of the section need have it */
+    uint32_t orig_len;     /* how many bytes it had on the wire */
+    uint64_t timestamp;    /* in units of the interface, for pcapfile_time_of; 0 for a simple packet, which has no time */
+    pcapfile_bytes bytes;  /* those that are stored, lent from the capture; for a simple packet all that follow in the block:
+                              at most orig_len and the interface's snaplen of them are the packet's, and the rest is padding */
+} pcapfile_ng_packet;
+
+#define PCAPFILE_NG_PACKET_INIT { 0, 0, 0, PCAPFILE_NO_BYTES }
+
+/* A time. */
+typedef struct pcapfile_time {
+    int64_t seconds;      /* since 1970-01-01 00:00:00 UTC, below 0 before it */
+    uint32_t nanoseconds; /* after these seconds, below 1000000000; less is cut */
+} pcapfile_time;
+
+#define PCAPFILE_TIME_INIT { 0, 0 }
+
+/* Takes the block at the front of `left`, which begins after it then, and puts into `section` what is in force after it.
+ * The first block is a section header. The bodies of the first block, of section headers and of interfaces are read with it.
+ * PCAPFILE_INCOMPLETE where bytes are missing, of its first 12 or then of the whole block: 12 where `left` has no bytes, so
+ * the end of a capture is where left.len is 0. PCAPFILE_INVALID for the first rule that the block breaks, and
+ * PCAPFILE_BAD_VALUE, PCAPFILE_NOT_UTF8 and PCAPFILE_NO_MEMORY for one whose body is read. PCAPFILE_INVALID with rule 6 where
+ * section->magic_number is none of the three. Then `section`, `left` and `block` are unchanged. */
+int32_t pcapfile_take_block(pcapfile_section *section, pcapfile_bytes *left, pcapfile_block *block,
+                            pcapfile_error *error);
+
+/* Reads the body of a block as its type says, and fills `interface` with the interface that it describes. Of `section` only
+ * the magic number matters.
+ * PCAPFILE_NOTHING where the body is good and of another type. PCAPFILE_INVALID for the first rule that the body breaks, or
+ * rule 6 where section->magic_number is no section's; PCAPFILE_BAD_VALUE, PCAPFILE_NOT_UTF8 or PCAPFILE_NO_MEMORY as above.
+ * Then `interface` is unchanged. */
+int32_t pcapfile_read_interface(const pcapfile_section *section, const pcapfile_block *block,
+                                pcapfile_interface *interface, pcapfile_error *error);
+
+/* As pcapfile_read_interface, for the packet that a block of type 2, 3 or 6 is. */
+int32_t pcapfile_read_packet(const pcapfile_section *section, const pcapfile_block *block, pcapfile_ng_packet *packet,
+                             pcapfile_error *error);
+
+/* Fills `time` with the time of so many units of an interface. Of `interface` only what begins with ts_ matters; any
+ * ts_base but 2 is 10. PCAPFILE_NOTHING where the seconds pass 64 bits; then `time` is unchanged. */
+int32_t pcapfile_time_of(const pcapfile_interface *interface, uint64_t timestamp, pcapfile_time *time);
 
 /* The name of the rule of this number, as CaptureMagic, and its text: ASCII, with no zero byte after it. No bytes where no
  * rule has the number. They are valid for ever. */

@@ -1,4 +1,4 @@
-"""Reads packet captures by a proved parser.
+"""Reads packet captures, pcap and PcapNg, by a proved parser.
 
     import pcapfile
     with pcapfile.open("capture.pcap") as capture:
@@ -9,7 +9,21 @@ The parser is the library `libpcapfile.so`, proved never to read outside of the 
 looked for at PCAPFILE_LIBRARY, then in the folder of this package, then where the system keeps libraries.
 """
 
-from ._capture import Capture, Header, Packet, open, parse
+from ._blocks import BlockCapture, BlockPacket, Interface
+from ._capture import Capture, Header, Packet
 from ._errors import CaptureError, Incomplete, Invalid
+from ._open import open, parse
 
-__all__ = ["Capture", "CaptureError", "Header", "Incomplete", "Invalid", "Packet", "open", "parse"]
+__all__ = [
+    "BlockCapture",
+    "BlockPacket",
+    "Capture",
+    "CaptureError",
+    "Header",
+    "Incomplete",
+    "Interface",
+    "Invalid",
+    "Packet",
+    "open",
+    "parse",
+]

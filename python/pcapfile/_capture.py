@@ -1,10 +1,8 @@
-"""Captures that lie in memory or in a file."""
+"""Classic captures, and the bytes of captures of either format."""
 
 import ctypes
 import mmap
-import os
 import struct
-from builtins import open as _open
 from typing import Iterator, NamedTuple, Optional, Union
 
 from . import _library
@@ -15,6 +13,8 @@ _BATCH = 512
 
 # A packet as the library fills it in: seconds, nanoseconds, original length, and where its bytes lie.
 _PACKET = struct.Struct("@IIIPN")
+
+Data = Union[bytes, bytearray, memoryview, mmap.mmap]
 
 
 class Header(NamedTuple):
@@ -30,12 +30,16 @@ class Header(NamedTuple):
 
 
 class Packet(NamedTuple):
-    """A packet of a capture. `data` lies in the capture: it can be read as long as the capture is open."""
+    """A packet of a capture. `data` lies in the capture: it can be read as long as the capture is open.
+
+    `link` is the number of the link type of its first layer.
+    """
 
     seconds: int
     nanoseconds: int
     original_length: int
     data: memoryview
+    link: int
 
     @property
     def time(self) -> float:
@@ -48,13 +52,35 @@ class Packet(NamedTuple):
         return self.seconds * 1_000_000_000 + self.nanoseconds
 
 
-class Capture:
-    """A capture: iterate over it for its packets. Where it is refused, the packets before that come first."""
+class Bytes:
+    """Bytes that lie in memory or in a mapped file, until they are closed."""
 
-    def __init__(self, data: Union[bytes, bytearray, memoryview, mmap.mmap]) -> None:
+    def __init__(self, data: Data) -> None:
         self._bytes = memoryview(data).cast("B")
         self._start = _library.address_of(self._bytes)
         self._file: Optional[mmap.mmap] = data if isinstance(data, mmap.mmap) else None
+
+    def _from(self, offset: int) -> _library.Bytes:
+        return _library.Bytes(self._start + offset, len(self._bytes) - offset)
+
+    def close(self) -> None:
+        """Lets the capture go. Data of its packets that is still used keeps the file mapped."""
+        self._bytes.release()
+        if self._file is not None:
+            try:
+                self._file.close()
+            except BufferError:
+                pass
+
+    def __exit__(self, *_: object) -> None:
+        self.close()
+
+
+class Capture(Bytes):
+    """A capture: iterate over it for its packets. Where it is refused, the packets before that come first."""
+
+    def __init__(self, data: Data) -> None:
+        super().__init__(data)
         self._after_header = self._take_header()
 
     def _take_header(self) -> int:
@@ -67,9 +93,6 @@ class Capture:
         self.header = Header(*(getattr(header, name) for name, _ in header._fields_))
         return len(self._bytes) - left.len
 
-    def _from(self, offset: int) -> _library.Bytes:
-        return _library.Bytes(self._start + offset, len(self._bytes) - offset)
-
     @property
     def link(self) -> int:
         """The number of the link type of the packets' first layer."""
@@ -79,7 +102,7 @@ class Capture:
         left = self._from(self._after_header)
         packets = (_library.Packet * _BATCH)(*[_library.Packet(0, 0, 0, _library.no_bytes())] * _BATCH)
         fields = memoryview(packets).cast("B")
-        taken, error = ctypes.c_size_t(), _library.Error()
+        taken, error, link = ctypes.c_size_t(), _library.Error(), self.link
         while left.len > 0:
             # A closed capture raises here, before the library would look at its bytes.
             total = len(self._bytes)
@@ -87,34 +110,9 @@ class Capture:
             data, start = self._bytes, self._start
             for seconds, nanoseconds, original, at, length in _PACKET.iter_unpack(fields[: taken.value * _PACKET.size]):
                 at -= start
-                yield Packet(seconds, nanoseconds, original, data[at : at + length])
+                yield Packet(seconds, nanoseconds, original, data[at : at + length], link)
             if status != _library.OK:
                 raise error_of(status, error, total - left.len)
 
-    def close(self) -> None:
-        """Lets the capture go. Data of its packets that is still used keeps the file mapped."""
-        self._bytes.release()
-        if self._file is not None:
-            try:
-                self._file.close()
-            except BufferError:
-                pass
-
     def __enter__(self) -> "Capture":
         return self
-
-    def __exit__(self, *_: object) -> None:
-        self.close()
-
-
-def parse(data: Union[bytes, bytearray, memoryview]) -> Capture:
-    """The capture that these bytes are. They must not change while it is used."""
-    return Capture(data)
-
-
-def open(path: Union[str, os.PathLike]) -> Capture:
-    """The capture in this file, which is mapped and not read. It must not change while it is used."""
-    with _open(path, "rb") as file:
-        if os.fstat(file.fileno()).st_size == 0:
-            return Capture(b"")
-        return Capture(mmap.mmap(file.fileno(), 0, access=mmap.ACCESS_READ))

@@ -12,7 +12,7 @@ class CaptureError(Exception):
 
 
 class Incomplete(CaptureError):
-    """The capture ends within a header or a packet: `missing` bytes more are needed, at least."""
+    """The capture ends within a header, a packet or a block: `missing` bytes more are needed, at least."""
 
     def __init__(self, missing: int, offset: int) -> None:
         super().__init__(f"{missing} bytes are missing", offset)
@@ -34,4 +34,11 @@ def error_of(status: int, error: _library.Error, offset: int) -> CaptureError:
         return Incomplete(error.missing, offset)
     if status == _library.INVALID:
         return Invalid(error.rule, offset)
-    return CaptureError(f"status {status}", offset)
+    return CaptureError(_OTHERS.get(status, f"status {status}"), offset)
+
+
+_OTHERS = {
+    _library.BAD_VALUE: "a value in the block is too short",
+    _library.NOT_UTF8: "a string in the block is not UTF-8",
+    _library.NO_MEMORY: "memory was refused",
+}

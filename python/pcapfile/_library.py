@@ -6,7 +6,7 @@ import os
 from pathlib import Path
 from typing import Callable
 
-OK, INCOMPLETE, INVALID = 0, 1, 3
+OK, INCOMPLETE, BAD_VALUE, INVALID, NOT_UTF8, NO_MEMORY, NOTHING = 0, 1, 2, 3, 4, 6, 8
 
 
 class Bytes(ctypes.Structure):
@@ -34,6 +34,42 @@ class Packet(ctypes.Structure):
     ]
 
 
+class Section(ctypes.Structure):
+    _fields_ = [
+        ("magic_number", ctypes.c_uint32),
+        ("version_major", ctypes.c_uint16),
+        ("version_minor", ctypes.c_uint16),
+        ("interfaces", ctypes.c_uint32),
+    ]
+
+
+class Block(ctypes.Structure):
+    _fields_ = [("type", ctypes.c_uint32), ("body", Bytes)]
+
+
+class Interface(ctypes.Structure):
+    _fields_ = [
+        ("link", ctypes.c_uint32),
+        ("snaplen", ctypes.c_uint32),
+        ("ts_base", ctypes.c_uint8),
+        ("ts_exponent", ctypes.c_uint8),
+        ("ts_offset", ctypes.c_int64),
+    ]
+
+
+class NgPacket(ctypes.Structure):
+    _fields_ = [
+        ("interface_id", ctypes.c_uint32),
+        ("orig_len", ctypes.c_uint32),
+        ("timestamp", ctypes.c_uint64),
+        ("bytes", Bytes),
+    ]
+
+
+class Time(ctypes.Structure):
+    _fields_ = [("seconds", ctypes.c_int64), ("nanoseconds", ctypes.c_uint32)]
+
+
 class Error(ctypes.Structure):
     _fields_ = [("rule", ctypes.c_uint32), ("missing", ctypes.c_size_t)]
 
@@ -55,6 +91,21 @@ take_packets = _library.pcapfile_take_packets
 take_packets.argtypes = [_to(Header), _to(Bytes), _to(Packet), ctypes.c_size_t, _to(ctypes.c_size_t), _to(Error)]
 take_packets.restype = ctypes.c_int32
 
+take_block = _library.pcapfile_take_block
+take_block.argtypes = [_to(Section), _to(Bytes), _to(Block), _to(Error)]
+take_block.restype = ctypes.c_int32
+
+read_interface = _library.pcapfile_read_interface
+read_interface.argtypes = [_to(Section), _to(Block), _to(Interface), _to(Error)]
+read_interface.restype = ctypes.c_int32
+
+read_packet = _library.pcapfile_read_packet
+read_packet.argtypes = [_to(Section), _to(Block), _to(NgPacket), _to(Error)]
+read_packet.restype = ctypes.c_int32
+
+time_of = _library.pcapfile_time_of
+time_of.argtypes = [_to(Interface), ctypes.c_uint64, _to(Time)]
+time_of.restype = ctypes.c_int32
 
 
 class _Buffer(ctypes.Structure):

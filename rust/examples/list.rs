@@ -17,7 +17,7 @@ fn status_of(bytes: &[u8]) -> u8 {
     match list(bytes) {
         Ok(()) => 0,
         Err(Error::Incomplete(_)) => 3,
-        Err(Error::Invalid(_)) => 1,
+        Err(_) => 1,
     }
 }
 

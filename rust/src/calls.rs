@@ -23,6 +23,22 @@ pub struct Packet {
 }
 
 #[repr(C)]
+#[derive(Clone, Copy)]
+pub struct Block {
+    pub type_: u32,
+    pub body: Bytes,
+}
+
+#[repr(C)]
+#[derive(Clone, Copy)]
+pub struct NgPacket {
+    pub interface_id: u32,
+    pub orig_len: u32,
+    pub timestamp: u64,
+    pub bytes: Bytes,
+}
+
+#[repr(C)]
 #[derive(Clone, Copy, Default)]
 pub struct Error {
     pub rule: u32,
@@ -37,6 +53,25 @@ extern "C" {
         packet: *mut Packet,
         error: *mut Error,
     ) -> i32;
+    pub fn pcapfile_take_block(
+        section: *mut crate::Section,
+        left: *mut Bytes,
+        block: *mut Block,
+        error: *mut Error,
+    ) -> i32;
+    pub fn pcapfile_read_interface(
+        section: *const crate::Section,
+        block: *const Block,
+        interface: *mut crate::Interface,
+        error: *mut Error,
+    ) -> i32;
+    pub fn pcapfile_read_packet(
+        section: *const crate::Section,
+        block: *const Block,
+        packet: *mut NgPacket,
+        error: *mut Error,
+    ) -> i32;
+    pub fn pcapfile_time_of(interface: *const crate::Interface, timestamp: u64, time: *mut crate::Time) -> i32;
     pub fn pcapfile_rule_name(rule: u32, name: *mut Bytes);
     pub fn pcapfile_rule_text(rule: u32, text: *mut Bytes);
 }

@@ -1,4 +1,4 @@
-//! Reads packet captures that lie in memory, by a proved parser, through its C library.
+//! Reads packet captures that lie in memory, pcap and PcapNg, by a proved parser, through its C library.
 //!
 //! ```
 //! # let bytes: &[u8] = b"\xd4\xc3\xb2\xa1\x02\0\x04\0\0\0\0\0\0\0\0\0\xff\xff\0\0\x01\0\0\0";
@@ -9,7 +9,10 @@
 //! # Ok::<(), pcapfile::Error>(())
 //! ```
 
+mod blocks;
 mod calls;
+
+pub use blocks::{Block, BlockPacket, Blocks, Interface, Section, Time};
 
 use std::fmt;
 
@@ -44,24 +47,33 @@ pub struct Packet<'a> {
 /// Why a capture is refused.
 #[derive(Clone, Copy, Debug, PartialEq, Eq)]
 pub enum Error {
-    /// So many bytes are missing of a header or a packet, at least.
+    /// So many bytes are missing of a header, a packet or a block, at least.
     Incomplete(usize),
     /// The bytes break the rule of this number.
     Invalid(u32),
+    /// A value in a block is too short.
+    BadValue,
+    /// A string in a block is not UTF-8.
+    NotUtf8,
+    /// Memory was refused.
+    NoMemory,
 }
 
 impl Error {
     /// The name of the rule that is broken.
     pub fn rule(self) -> Option<&'static str> {
         match self {
-            Error::Incomplete(_) => None,
             Error::Invalid(rule) => Some(text_of(calls::pcapfile_rule_name, rule)),
+            _ => None,
         }
     }
 
     fn of(status: i32, error: calls::Error) -> Error {
         match status {
             1 => Error::Incomplete(error.missing),
+            2 => Error::BadValue,
+            4 => Error::NotUtf8,
+            6 => Error::NoMemory,
             _ => Error::Invalid(error.rule),
         }
     }
@@ -72,6 +84,9 @@ impl fmt::Display for Error {
         match *self {
             Error::Incomplete(missing) => write!(f, "{missing} bytes are missing"),
             Error::Invalid(rule) => f.write_str(text_of(calls::pcapfile_rule_text, rule)),
+            Error::BadValue => f.write_str("a value in a block is too short"),
+            Error::NotUtf8 => f.write_str("a string in a block is not UTF-8"),
+            Error::NoMemory => f.write_str("memory was refused"),
         }
     }
 }

@@ -84,7 +84,7 @@ module _ (b : Framed) (body : List ℕ) (is : b.type_ ≡ types.SectionHeader) (
       (within told.0 [], (told.3, told.4), read_means q b (good (within told.0 [])) (read_section q) (SectionBody told.0, told.1, section_said told.0 told.1 told.2, leads_section q told.0))
   section_leads q (Err e) told =
       refuses_wider (SectionMayGrow body) (CanGrow q b) (λ fault. SectionSays body (faulty fault)) (λ fault. Means q b (bad fault)) (λ grows. grows_section q)
-        (λ fault says. read_means q b (bad fault) (read_section q) (inl (section_fault fault says))) e told
+      (λ fault says. read_means q b (bad fault) (read_section q) (inl (section_fault fault says))) e told
 
 -- a first block that is no section
 other_leads : (order : Order) (t : BlockType) (s : List ℕ) (body : Body) (rest : List ℕ) → (t ≡ types.SectionHeader → ⊥) → BodySays order t s (whole body rest) → leads opening body ≡ bad (Invalid SectionMissing)
@@ -104,7 +104,7 @@ opening_refuses b e x = body_refuses b (CanGrow opening b) (λ fault. Means open
 pub section_missing : (b : Framed) (body : Body) (rest : List ℕ) (e : PcapError) → (b.type_ ≡ types.SectionHeader → ⊥) → SaysOfBody b (whole body rest) → Names SectionMissing e → LeadsTells opening b (Err e)
 section_missing b body rest e none said named =
     named_refuses (CanGrow opening b) (λ n. ⊥) (λ fault. Means opening b (bad fault)) SectionMissing e
-      (inr (body, rest, said, other_leads (number_in b.endianness) b.type_ b.body body rest none said)) named
+    (inr (body, rest, said, other_leads (number_in b.endianness) b.type_ b.body body rest none said)) named
 
 -- an interface
 module _ (section : Section) (interfaces : List Interface) (b : Framed) (is : b.type_ ≡ types.InterfaceDescription) where
@@ -114,7 +114,7 @@ module _ (section : Section) (interfaces : List Interface) (b : Framed) (is : b.
   pub interface_refuses : (e : PcapError) → Refuses (GrowsInBody b) (λ n. SaysOfBody b (lacks n)) (λ fault. SaysOfBody b (faulty fault)) e → LeadsTells (within section interfaces) b (Err e)
   interface_refuses e x =
       body_refuses b (CanGrow (within section interfaces) b) (λ fault. Means (within section interfaces) b (bad fault)) (λ grows. grows_interface)
-        (λ fault said. read_means (within section interfaces) b (bad fault) (ap is_kept is) (inl said)) e x
+      (λ fault said. read_means (within section interfaces) b (bad fault) (ap is_kept is) (inl said)) e x
 
   counted : (i : Interface) (n m : ℕ) → n ≡ min (length interfaces) (2 ^ 32 - 1) → m ≡ min (n + 1) (2 ^ 32 - 1) → m ≡ min (length (interfaces ++ i ∷ [])) (2 ^ 32 - 1)
   counted i n m before now = rw (length-append interfaces (i ∷ []), now, before) (omega arith)

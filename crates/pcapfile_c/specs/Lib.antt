@@ -3,3 +3,4 @@ pub mod Refusals
 pub mod Calls
 pub mod Writing
 pub mod Blocks
+pub mod Bodies

@@ -5,6 +5,7 @@ ghost use Rattle.pcap_core.specs.declared.rules.Rule.TheVariants.{SectionMagic};
 ghost use Rattle.pcap_core.specs.Faults.{Names};
 ghost use Rattle.pcap_blocks.specs.declared.block_type.BlockType.TheVariants as types;
 ghost use Rattle.pcap_core.specs.Bytes.{IsBorrowed};
+ghost use Rattle.pcap_blocks.specs.SectionHeader.{magic_order};
 ghost use Rattle.pcap_file.specs.Frames.{framed_of};
 ghost use Rattle.pcap_file.specs.State.{State};
 ghost use Rattle.pcapfile_c.specs.Blocks.{ShowsState, ShowsBlock, number_of_type, order_shown, TellsSection, LeadsTells, NextTells, TakesBlock, RefusesOrder};
@@ -62,16 +63,25 @@ pub extern "C" fn pcapfile_take_block<'a>(
 }
 
 impl PcapfileSection {
-    // The order of a block that is no section. None where the magic number is none.
+    // The order that its magic number names.
     #[tactic(auto, unfolding(pcap_blocks::specs::SectionHeader::magic_order))]
-    pub(crate) fn order(&self) -> Option<Endianness>
+    pub(crate) fn endianness(&self) -> Option<Endianness>
+        ensures { result ≡ magic_order self.now.magic_number }
+    {
+        match self.magic_number {
+            0x1A2B3C4D => Some(Endianness::Big),
+            0x4D3C2B1A => Some(Endianness::Little),
+            _ => None,
+        }
+    }
+
+    // The order of a block that is no section. None where the magic number is none.
+    fn order(&self) -> Option<Endianness>
         ensures { result ≡ order_shown self.now.magic_number }
     {
         match self.magic_number {
             0 => Some(Endianness::Big),
-            0x1A2B3C4D => Some(Endianness::Big),
-            0x4D3C2B1A => Some(Endianness::Little),
-            _ => None,
+            _ => self.endianness(),
         }
     }
 

@@ -5,6 +5,7 @@
 #![tactic(auto)]
 
 mod blocks;
+mod bodies;
 mod errors;
 mod pcap;
 mod rule_texts;

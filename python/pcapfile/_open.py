@@ -1,0 +1,25 @@
+"""Opens captures of either format."""
+
+import mmap
+import os
+from builtins import open as _open
+from typing import Union
+
+from ._blocks import BlockCapture
+from ._capture import Capture, Data
+
+# The type of a section header, with which each PcapNg capture begins.
+_SECTION = b"\x0a\x0d\x0d\x0a"
+
+
+def parse(data: Data) -> Union[Capture, BlockCapture]:
+    """The capture that these bytes are. They must not change while it is used."""
+    return BlockCapture(data) if bytes(memoryview(data)[:4]) == _SECTION else Capture(data)
+
+
+def open(path: Union[str, os.PathLike]) -> Union[Capture, BlockCapture]:
+    """The capture in this file, which is mapped and not read. It must not change while it is used."""
+    with _open(path, "rb") as file:
+        if os.fstat(file.fileno()).st_size == 0:
+            return Capture(b"")
+        return parse(mmap.mmap(file.fileno(), 0, access=mmap.ACCESS_READ))

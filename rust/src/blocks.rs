@@ -1,0 +1,171 @@
+//! Captures in the PcapNg format.
+
+use crate::calls;
+use crate::Error;
+
+/// What holds for the blocks of a section.
+#[repr(C)]
+#[derive(Clone, Copy, Debug, Default, PartialEq, Eq)]
+pub struct Section {
+    /// Read high byte first: 1a2b3c4d in a big-endian section, 4d3c2b1a in a little-endian one.
+    pub magic_number: u32,
+    pub version_major: u16,
+    pub version_minor: u16,
+    /// How many interfaces the section has so far.
+    pub interfaces: u32,
+}
+
+/// A block, whose body lies in the capture.
+#[derive(Clone, Copy, Debug, PartialEq, Eq)]
+pub struct Block<'a> {
+    /// The number of its type.
+    pub type_: u32,
+    /// What stands between its lengths: the block is 12 bytes longer.
+    pub body: &'a [u8],
+    section: Section,
+}
+
+/// An interface.
+#[repr(C)]
+#[derive(Clone, Copy, Debug, Default, PartialEq, Eq)]
+pub struct Interface {
+    /// The number of the link type of its packets' first layer.
+    pub link: u32,
+    /// The most bytes that are stored of a packet; 0 is no limit.
+    pub snaplen: u32,
+    /// The unit of its times in seconds is this, 10 or 2, to the power of minus `ts_exponent`.
+    pub ts_base: u8,
+    pub ts_exponent: u8,
+    /// Seconds that are added to each time.
+    pub ts_offset: i64,
+}
+
+/// A time.
+#[repr(C)]
+#[derive(Clone, Copy, Debug, Default, PartialEq, Eq, PartialOrd, Ord)]
+pub struct Time {
+    /// Since 1970, below 0 before it.
+    pub seconds: i64,
+    /// After these seconds, below 1000000000.
+    pub nanoseconds: u32,
+}
+
+/// A packet of an interface, whose bytes lie in the capture.
+#[derive(Clone, Copy, Debug, PartialEq, Eq)]
+pub struct BlockPacket<'a> {
+    /// The number of its interface, from 0 on.
+    pub interface_id: u32,
+    /// In units of the interface. 0 for a simple packet, which has no time.
+    pub timestamp: u64,
+    /// How many bytes the packet had on the wire.
+    pub original_len: u32,
+    /// The bytes that are stored; for a simple packet with their padding.
+    pub data: &'a [u8],
+}
+
+const NOTHING: i32 = 8;
+
+impl Interface {
+    /// The time of so many units. None where its seconds pass 64 bits.
+    pub fn time(&self, timestamp: u64) -> Option<Time> {
+        let mut time = Time::default();
+        // SAFETY: each pointer is that of a value of its own.
+        let status = unsafe { calls::pcapfile_time_of(self, timestamp, &mut time) };
+        (status == 0).then_some(time)
+    }
+}
+
+impl<'a> Block<'a> {
+    fn raw(&self) -> calls::Block {
+        calls::Block { type_: self.type_, body: calls::Bytes::of(self.body) }
+    }
+
+    /// The interface that it describes. None where its body is good and of another type.
+    pub fn interface(&self) -> Result<Option<Interface>, Error> {
+        let (mut interface, mut error) = (Interface::default(), calls::Error::default());
+        // SAFETY: each pointer is that of a value of its own, and the body is a slice's.
+        match unsafe { calls::pcapfile_read_interface(&self.section, &self.raw(), &mut interface, &mut error) } {
+            0 => Ok(Some(interface)),
+            NOTHING => Ok(None),
+            status => Err(Error::of(status, error)),
+        }
+    }
+
+    /// The packet that it is. None where its body is good and of another type.
+    pub fn packet(&self) -> Result<Option<BlockPacket<'a>>, Error> {
+        let none = calls::Bytes::of(b"");
+        let mut packet = calls::NgPacket { interface_id: 0, orig_len: 0, timestamp: 0, bytes: none };
+        let mut error = calls::Error::default();
+        // SAFETY: each pointer is that of a value of its own, and the body is a slice's.
+        match unsafe { calls::pcapfile_read_packet(&self.section, &self.raw(), &mut packet, &mut error) } {
+            0 => Ok(Some(self.lent(&packet))),
+            NOTHING => Ok(None),
+            status => Err(Error::of(status, error)),
+        }
+    }
+
+    fn lent(&self, packet: &calls::NgPacket) -> BlockPacket<'a> {
+        let at = packet.bytes.ptr as usize - self.body.as_ptr() as usize;
+        BlockPacket {
+            interface_id: packet.interface_id,
+            timestamp: packet.timestamp,
+            original_len: packet.orig_len,
+            data: &self.body[at..at + packet.bytes.len],
+        }
+    }
+}
+
+/// The blocks of a PcapNg capture, as an iterator. A refusal is its last item.
+#[derive(Clone, Debug)]
+pub struct Blocks<'a> {
+    section: Section,
+    left: &'a [u8],
+    is_done: bool,
+}
+
+impl<'a> Blocks<'a> {
+    /// The blocks that these bytes are, the first section header among them.
+    pub fn parse(bytes: &'a [u8]) -> Blocks<'a> {
+        Blocks { section: Section::default(), left: bytes, is_done: false }
+    }
+
+    /// What is in force after the blocks that have been given.
+    pub fn section(&self) -> &Section {
+        &self.section
+    }
+
+    /// The bytes after the blocks that have been given.
+    pub fn rest(&self) -> &'a [u8] {
+        self.left
+    }
+
+    fn take(&mut self) -> Result<Block<'a>, Error> {
+        let mut left = calls::Bytes::of(self.left);
+        let mut block = calls::Block { type_: 0, body: calls::Bytes::of(b"") };
+        let mut error = calls::Error::default();
+        // SAFETY: each pointer is that of a value of its own, and `left` is a slice's.
+        let status = unsafe { calls::pcapfile_take_block(&mut self.section, &mut left, &mut block, &mut error) };
+        if status != 0 {
+            return Err(Error::of(status, error));
+        }
+        let end = self.left.len() - left.len;
+        let body = &self.left[end - 4 - block.body.len..end - 4];
+        debug_assert_eq!(body.as_ptr(), block.body.ptr);
+        self.left = &self.left[end..];
+        Ok(Block { type_: block.type_, body, section: self.section })
+    }
+}
+
+impl<'a> Iterator for Blocks<'a> {
+    type Item = Result<Block<'a>, Error>;
+
+    fn next(&mut self) -> Option<Self::Item> {
+        // Of no bytes at all the library tells how many are missing of the first block.
+        if self.is_done || (self.left.is_empty() && self.section != Section::default()) {
+            return None;
+        }
+        let taken = self.take();
+        self.is_done = taken.is_err();
+        Some(taken)
+    }
+}

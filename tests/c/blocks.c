@@ -1,0 +1,199 @@
+/* The lines of `capcopy blocks`, and the packets of a PcapNg capture, by the library's C header.
+ *
+ *   blocks FILE          a line for the first section, and one for each block after it
+ *   blocks -p FILE       a line for each packet: block, interface, ticks, seconds, link type, stored and original length, bytes
+ *   blocks -f FILE       of every front of the file: its blocks, and then the status
+ *   blocks -t FILE       counts, and prints packets and nanoseconds a packet, the best of ten rounds
+ */
+#include "pcapfile.h"
+
+#include <inttypes.h>
+#include <stdio.h>
+#include <stdlib.h>
+#include <string.h>
+#include <time.h>
+
+enum { INTERFACES = 64, REFUSED = 1, USAGE = 2, ENDED_EARLY = 3, NO_MEMORY = 4, NO_FILE = 4 };
+
+/* A walk, and what it needs of the interfaces of its section. */
+struct walk {
+    pcapfile_bytes left;
+    pcapfile_section section;
+    pcapfile_block block;
+    pcapfile_interface interfaces[INTERFACES];
+    pcapfile_error error;
+    uint64_t index;
+};
+
+static struct walk walk_of(pcapfile_bytes all) {
+    return (struct walk){ all, PCAPFILE_SECTION_INIT, PCAPFILE_BLOCK_INIT, { PCAPFILE_INTERFACE_INIT }, PCAPFILE_ERROR_INIT, 0 };
+}
+
+static int status_of(int32_t status) {
+    switch (status) {
+    case PCAPFILE_OK: return 0;
+    case PCAPFILE_INCOMPLETE:
+    case PCAPFILE_BAD_VALUE: return ENDED_EARLY;
+    case PCAPFILE_NO_MEMORY: return NO_MEMORY;
+    default: return REFUSED;
+    }
+}
+
+/* The next block; of an interface what is needed of it too. */
+static int32_t next_block(struct walk *walk) {
+    uint32_t before = walk->section.interfaces;
+    int32_t status = pcapfile_take_block(&walk->section, &walk->left, &walk->block, &walk->error);
+    if (status == PCAPFILE_OK && walk->block.type == PCAPFILE_BLOCK_INTERFACE && before < INTERFACES)
+        status = pcapfile_read_interface(&walk->section, &walk->block, &walk->interfaces[before], &walk->error);
+    return status;
+}
+
+static const char *kind_of(uint32_t type) {
+    switch (type) {
+    case PCAPFILE_BLOCK_SECTION: return "section";
+    case PCAPFILE_BLOCK_INTERFACE: return "interface";
+    case PCAPFILE_BLOCK_PACKET: return "packet";
+    case PCAPFILE_BLOCK_SIMPLE_PACKET: return "simple";
+    case PCAPFILE_BLOCK_NAMES: return "names";
+    case PCAPFILE_BLOCK_STATISTICS: return "statistics";
+    case PCAPFILE_BLOCK_ENHANCED_PACKET: return "enhanced";
+    case PCAPFILE_BLOCK_JOURNAL: return "journal";
+    default: return NULL;
+    }
+}
+
+static void print_block(struct walk *walk) {
+    pcapfile_ng_packet packet = PCAPFILE_NG_PACKET_INIT;
+    int32_t read = pcapfile_read_packet(&walk->section, &walk->block, &packet, &walk->error);
+    const char *kind = kind_of(walk->block.type), *word = read == PCAPFILE_OK || read == PCAPFILE_NOTHING ? "ok" : "refused";
+    if (kind)
+        printf("%" PRIu64 " %s %zu %s\n", walk->index, kind, walk->block.body.len + 12, word);
+    else
+        printf("%" PRIu64 " unknown:%" PRIu32 " %zu %s\n", walk->index, walk->block.type, walk->block.body.len + 12, word);
+}
+
+static int32_t list_blocks(struct walk *walk) {
+    int32_t status = next_block(walk);
+    if (status == PCAPFILE_OK)
+        printf("section %s %u.%u\n", walk->section.magic_number == 0x1a2b3c4d ? "big" : "little",
+               (unsigned)walk->section.version_major, (unsigned)walk->section.version_minor);
+    while (status == PCAPFILE_OK && walk->left.len > 0) {
+        status = next_block(walk);
+        walk->index++;
+        if (status == PCAPFILE_OK) print_block(walk);
+    }
+    return status;
+}
+
+static void print_time(const struct walk *walk, const pcapfile_ng_packet *packet) {
+    pcapfile_time time = PCAPFILE_TIME_INIT;
+    if (packet->interface_id >= walk->section.interfaces || packet->interface_id >= INTERFACES) {
+        printf("none none ");
+        return;
+    }
+    const pcapfile_interface *interface = &walk->interfaces[packet->interface_id];
+    int has_time = walk->block.type != PCAPFILE_BLOCK_SIMPLE_PACKET;
+    if (has_time && pcapfile_time_of(interface, packet->timestamp, &time) == PCAPFILE_OK)
+        printf("%" PRId64 ".%09" PRIu32 " %" PRIu32 " ", time.seconds, time.nanoseconds, interface->link);
+    else
+        printf("none %" PRIu32 " ", interface->link);
+}
+
+static void print_packet(struct walk *walk) {
+    pcapfile_ng_packet packet = PCAPFILE_NG_PACKET_INIT;
+    if (pcapfile_read_packet(&walk->section, &walk->block, &packet, &walk->error) != PCAPFILE_OK) return;
+    printf("%" PRIu64 " %" PRIu32 " %" PRIu64 " ", walk->index, packet.interface_id, packet.timestamp);
+    print_time(walk, &packet);
+    printf("%zu/%" PRIu32 " ", packet.bytes.len, packet.orig_len);
+    for (size_t i = 0; i < packet.bytes.len; i++) printf("%02x", packet.bytes.ptr[i]);
+    printf("\n");
+}
+
+static int32_t list_packets(struct walk *walk) {
+    int32_t status = PCAPFILE_OK;
+    while (status == PCAPFILE_OK && walk->left.len > 0) {
+        status = next_block(walk);
+        if (status == PCAPFILE_OK) print_packet(walk);
+        walk->index++;
+    }
+    return status;
+}
+
+static int tell(int32_t status, const pcapfile_error *error) {
+    pcapfile_bytes name = PCAPFILE_NO_BYTES, text = PCAPFILE_NO_BYTES;
+    if (status == PCAPFILE_INCOMPLETE) fprintf(stderr, "blocks: %zu bytes are missing\n", error->missing);
+    if (status == PCAPFILE_INVALID) {
+        pcapfile_rule_name(error->rule, &name);
+        pcapfile_rule_text(error->rule, &text);
+        fprintf(stderr, "blocks: rule %" PRIu32 ", %.*s: %.*s\n", error->rule, (int)name.len, (const char *)name.ptr,
+                (int)text.len, (const char *)text.ptr);
+    }
+    return status_of(status);
+}
+
+/* Each front in room of its own, so that a read past its end is seen. */
+static int list_fronts(pcapfile_bytes all) {
+    for (size_t len = 0; len <= all.len; len++) {
+        uint8_t *front = malloc(len > 0 ? len : 1);
+        if (!front) return NO_FILE;
+        memcpy(front, all.ptr, len);
+        struct walk walk = walk_of((pcapfile_bytes){ front, len });
+        printf("status %d\n", status_of(list_blocks(&walk)));
+        free(front);
+    }
+    return 0;
+}
+
+static uint64_t packets_in(struct walk *walk, int32_t *status) {
+    pcapfile_ng_packet packet = PCAPFILE_NG_PACKET_INIT;
+    uint64_t count = 0;
+    *status = PCAPFILE_OK;
+    while (*status == PCAPFILE_OK && walk->left.len > 0)
+        if ((*status = next_block(walk)) == PCAPFILE_OK)
+            count += pcapfile_read_packet(&walk->section, &walk->block, &packet, &walk->error) == PCAPFILE_OK;
+    return count;
+}
+
+static int count(pcapfile_bytes all) {
+    double best = 0;
+    uint64_t packets = 0;
+    for (int round = 0; round < 10; round++) {
+        struct timespec start, end;
+        struct walk walk = walk_of(all);
+        int32_t status;
+        clock_gettime(CLOCK_MONOTONIC, &start);
+        packets = packets_in(&walk, &status);
+        clock_gettime(CLOCK_MONOTONIC, &end);
+        if (status != PCAPFILE_OK) return tell(status, &walk.error);
+        double spent = 1e9 * (double)(end.tv_sec - start.tv_sec) + (double)(end.tv_nsec - start.tv_nsec);
+        if (round == 0 || spent < best) best = spent;
+    }
+    printf("%" PRIu64 " packets, %.2f ns each\n", packets, packets > 0 ? best / (double)packets : 0);
+    return 0;
+}
+
+static pcapfile_bytes read_file(const char *name) {
+    size_t len = 0, room = 1 << 16, more;
+    uint8_t *bytes = malloc(room);
+    FILE *in = fopen(name, "rb");
+    if (!in) return (pcapfile_bytes){ NULL, 0 };
+    while (bytes && (more = fread(bytes + len, 1, room - len, in)) > 0)
+        if ((len += more) == room) bytes = realloc(bytes, room *= 2);
+    fclose(in);
+    return (pcapfile_bytes){ bytes, len };
+}
+
+int main(int argc, char **argv) {
+    const char *way = argc == 3 ? argv[1] : "-b";
+    if (argc < 2 || argc > 3) return USAGE;
+    pcapfile_bytes all = read_file(argv[argc - 1]);
+    if (!all.ptr) return NO_FILE;
+    struct walk walk = walk_of(all);
+    int status = USAGE;
+    if (!strcmp(way, "-b")) status = tell(list_blocks(&walk), &walk.error);
+    if (!strcmp(way, "-p")) status = tell(list_packets(&walk), &walk.error);
+    if (!strcmp(way, "-f")) status = list_fronts(all);
+    if (!strcmp(way, "-t")) status = count(all);
+    free((void *)(uintptr_t)all.ptr);
+    return status;
+}

@@ -1,0 +1,54 @@
+"""The packets of a PcapNg capture, by the Python package, as `blocks -p` of blocks.c prints them, without the blocks' numbers.
+
+blocks.py FILE: a line a packet. blocks.py -f FILE: of every front of the file, its lines and then its status. blocks.py -t
+FILE: counts, and prints packets a second, the best of five rounds.
+"""
+
+import sys
+import time
+
+import pcapfile
+
+
+def time_of(packet):
+    link = "none" if packet.link is None else packet.link
+    return f"none {link}" if packet.seconds is None else f"{packet.seconds}.{packet.nanoseconds:09} {link}"
+
+
+def list_packets(capture):
+    for packet in capture:
+        lengths = f"{len(packet.data)}/{packet.original_length}"
+        print(packet.interface_id, packet.timestamp, time_of(packet), lengths, packet.data.hex())
+
+
+def status_of(opened):
+    try:
+        list_packets(opened())
+    except pcapfile.Incomplete as error:
+        print(f"blocks.py: {error}", file=sys.stderr)
+        return 3
+    except pcapfile.CaptureError as error:
+        print(f"blocks.py: {error}", file=sys.stderr)
+        return 1
+    return 0
+
+
+def rate(path):
+    best = 0.0
+    with pcapfile.open(path) as capture:
+        for _ in range(5):
+            start = time.perf_counter()
+            count = sum(1 for _ in capture)
+            best = max(best, count / (time.perf_counter() - start))
+    return f"{count} packets, {best / 1e6:.2f} million a second"
+
+
+path = sys.argv[-1]
+if sys.argv[1] == "-t":
+    print(rate(path))
+elif sys.argv[1] == "-f":
+    data = open(path, "rb").read()
+    for end in range(len(data) + 1):
+        print("status", status_of(lambda: pcapfile.parse(data[:end])))
+else:
+    sys.exit(status_of(lambda: pcapfile.open(path)))
