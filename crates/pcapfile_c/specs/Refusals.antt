@@ -33,3 +33,7 @@ TellsRefusal IsSaid told status =
     ((status ≡ pos 1) × (told.rule ≡ 0) × IsSaid (lacks told.missing))
     ⊎ (((status ≡ pos 3) × (rule : Rule) × ShowsRule rule told × IsSaid (faulty (Invalid rule)))
     ⊎ (((status ≡ pos 2) × SaysNoMore told × IsSaid (faulty Io)) ⊎ ((status ≡ pos 4) × SaysNoMore told × IsSaid (faulty Utf8))))
+
+-- the same of a call that takes memory, which may run out only under this condition
+abbrev pub TellsRefusalWhere : {V : Type 0} → Type 0 → (Verdict V → Type 0) → PcapfileError → ℤ → Type 0
+TellsRefusalWhere MayGrow IsSaid told status = TellsRefusal IsSaid told status ⊎ ((status ≡ pos 6) × SaysNoMore told × MayGrow)

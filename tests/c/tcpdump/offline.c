@@ -1,0 +1,245 @@
+/* libpcap's calls on captures that lie in files, answered by the proved parser.
+ *
+ * Loaded before libpcap (LD_PRELOAD), it gives an unchanged program, as tcpdump -r, its packets. All else stays libpcap's:
+ * each capture has a handle of libpcap that has seen the header and no packet, so that filters compile and captures are
+ * written as ever. Calls on other handles, as those of interfaces, go on to libpcap.
+ *
+ * Where the parser refuses what libpcap would take, the program is told so as of any bad file.
+ */
+#define _GNU_SOURCE
+#include <dlfcn.h>
+#include <pcap/pcap.h>
+#include <stdio.h>
+#include <stdlib.h>
+#include <string.h>
+
+#include "pcapfile.h"
+
+struct capture {
+    pcap_t *handle;
+    uint8_t *bytes;
+    pcapfile_bytes left;
+    pcapfile_header header;
+    uint8_t head[24];
+    u_int precision;
+    uint32_t snaplen;
+    struct bpf_program filter;
+    struct pcap_pkthdr last;
+    int is_broken;
+    char error[PCAP_ERRBUF_SIZE];
+    struct capture *next;
+};
+
+static struct capture *captures;
+
+static struct capture *capture_of(const pcap_t *handle) {
+    struct capture *capture = captures;
+    while (capture && capture->handle != handle) capture = capture->next;
+    return capture;
+}
+
+/* libpcap's own function of this name. */
+#define ORIGINAL(name) ((__typeof__(&name))(uintptr_t)dlsym(RTLD_NEXT, #name))
+
+static void say(char *said, int32_t status, const pcapfile_error *error) {
+    pcapfile_bytes name = PCAPFILE_NO_BYTES, text = PCAPFILE_NO_BYTES;
+    pcapfile_rule_name(error->rule, &name);
+    pcapfile_rule_text(error->rule, &text);
+    if (status == PCAPFILE_INCOMPLETE)
+        snprintf(said, PCAP_ERRBUF_SIZE, "pcapfile: %zu bytes are missing", error->missing);
+    else
+        snprintf(said, PCAP_ERRBUF_SIZE, "pcapfile: %.*s: %.*s", (int)name.len, (const char *)name.ptr, (int)text.len,
+                 (const char *)text.ptr);
+}
+
+static int read_all(FILE *file, struct capture *capture) {
+    size_t len = 0, room = 1 << 16, more;
+    while ((capture->bytes = realloc(capture->bytes, room)) && (more = fread(capture->bytes + len, 1, room - len, file)) > 0)
+        if ((len += more) == room) room *= 2;
+    capture->left = (pcapfile_bytes){ capture->bytes, len };
+    return capture->bytes && !ferror(file);
+}
+
+static void let_go(struct capture *capture) {
+    free(capture->bytes);
+    free(capture->filter.bf_insns);
+    free(capture);
+}
+
+static int take_header(struct capture *capture, char *said) {
+    pcapfile_error error = PCAPFILE_ERROR_INIT;
+    int32_t status = pcapfile_take_header(&capture->left, &capture->header, &error);
+    if (status != PCAPFILE_OK) say(said, status, &error);
+    return status == PCAPFILE_OK;
+}
+
+/* In versions before 2.3 a packet's lengths stand the other way round. */
+static int has_old_lengths(const pcapfile_header *header, char *said) {
+    unsigned major = header->version_major, minor = header->version_minor;
+    snprintf(said, PCAP_ERRBUF_SIZE, "pcapfile: version %u.%u", major, minor);
+    return (major == 2 && minor < 3) || major == 543;
+}
+
+/* A handle of libpcap that knows the header alone, as the proved writer writes it. */
+static pcap_t *open_handle(struct capture *capture, char *said) {
+    pcapfile_error error = PCAPFILE_ERROR_INIT;
+    size_t written = 0;
+    int32_t status = pcapfile_write_header(&capture->header, capture->head, sizeof capture->head, &written, &error);
+    FILE *head = status == PCAPFILE_OK ? fmemopen(capture->head, written, "rb") : NULL;
+    return head ? ORIGINAL(pcap_fopen_offline_with_tstamp_precision)(head, capture->precision, said) : NULL;
+}
+
+static pcap_t *open_capture(struct capture *capture, char *said) {
+    if (!take_header(capture, said) || has_old_lengths(&capture->header, said)) return NULL;
+    capture->handle = open_handle(capture, said);
+    if (capture->handle) capture->snaplen = (uint32_t)pcap_snapshot(capture->handle);
+    return capture->handle;
+}
+
+pcap_t *pcap_fopen_offline_with_tstamp_precision(FILE *file, u_int precision, char *said) {
+    struct capture *capture = calloc(1, sizeof *capture);
+    pcap_t *handle = NULL;
+    if (!capture) return NULL;
+    capture->precision = precision;
+    if (read_all(file, capture))
+        handle = open_capture(capture, said);
+    else
+        snprintf(said, PCAP_ERRBUF_SIZE, "pcapfile: the file can't be read");
+    if (!handle) {
+        let_go(capture);
+        return NULL;
+    }
+    if (file != stdin) fclose(file);
+    capture->next = captures;
+    captures = capture;
+    return handle;
+}
+
+pcap_t *pcap_open_offline_with_tstamp_precision(const char *name, u_int precision, char *said) {
+    FILE *file = strcmp(name, "-") ? fopen(name, "rb") : stdin;
+    if (!file) {
+        snprintf(said, PCAP_ERRBUF_SIZE, "%s: No such file or directory", name);
+        return NULL;
+    }
+    pcap_t *handle = pcap_fopen_offline_with_tstamp_precision(file, precision, said);
+    if (!handle && file != stdin) fclose(file);
+    return handle;
+}
+
+pcap_t *pcap_open_offline(const char *name, char *said) {
+    return pcap_open_offline_with_tstamp_precision(name, PCAP_TSTAMP_PRECISION_MICRO, said);
+}
+
+pcap_t *pcap_fopen_offline(FILE *file, char *said) {
+    return pcap_fopen_offline_with_tstamp_precision(file, PCAP_TSTAMP_PRECISION_MICRO, said);
+}
+
+static int is_native(const pcapfile_header *header) {
+    const uint8_t *order = (const uint8_t *)&(uint16_t){ 1 };
+    int is_big = header->magic_number == 0xa1b2c3d4 || header->magic_number == 0xa1b23c4d;
+    return is_big != order[0];
+}
+
+/* Takes the next packet. 1: it is there. 0: the capture is over. -1: what is left is refused. */
+static int take(struct capture *capture, struct pcap_pkthdr *header, const u_char **data) {
+    pcapfile_packet packet = PCAPFILE_PACKET_INIT;
+    pcapfile_error error = PCAPFILE_ERROR_INIT;
+    if (capture->left.len == 0) return 0;
+    int32_t status = pcapfile_take_packet(&capture->header, &capture->left, &packet, &error);
+    if (status != PCAPFILE_OK) {
+        say(capture->error, status, &error);
+        return -1;
+    }
+    int is_nano = capture->precision == PCAP_TSTAMP_PRECISION_NANO;
+    /* In the order of this machine libpcap takes seconds for a signed number. */
+    header->ts.tv_sec = is_native(&capture->header) ? (int32_t)packet.ts_sec : (time_t)packet.ts_sec;
+    header->ts.tv_usec = (suseconds_t)(is_nano ? packet.ts_nsec : packet.ts_nsec / 1000);
+    header->len = packet.orig_len;
+    header->caplen = packet.bytes.len < capture->snaplen ? (uint32_t)packet.bytes.len : capture->snaplen;
+    *data = packet.bytes.ptr;
+    return 1;
+}
+
+/* Takes the next packet that the filter lets through. */
+static int take_matching(struct capture *capture, struct pcap_pkthdr *header, const u_char **data) {
+    int taken = take(capture, header, data);
+    while (taken == 1 && capture->filter.bf_insns && !pcap_offline_filter(&capture->filter, header, *data))
+        taken = take(capture, header, data);
+    return taken;
+}
+
+static int give_packets(struct capture *capture, int most, pcap_handler give, u_char *user) {
+    const u_char *data;
+    int given = 0, taken = 1;
+    while ((most <= 0 || given < most) && !capture->is_broken && (taken = take_matching(capture, &capture->last, &data)) == 1) {
+        give(user, &capture->last, data);
+        given++;
+    }
+    if (taken < 0) return PCAP_ERROR;
+    if (capture->is_broken) {
+        capture->is_broken = 0;
+        return PCAP_ERROR_BREAK;
+    }
+    return given;
+}
+
+int pcap_loop(pcap_t *handle, int most, pcap_handler give, u_char *user) {
+    struct capture *capture = capture_of(handle);
+    if (!capture) return ORIGINAL(pcap_loop)(handle, most, give, user);
+    int given = give_packets(capture, most, give, user);
+    return given < 0 ? given : 0;
+}
+
+int pcap_dispatch(pcap_t *handle, int most, pcap_handler give, u_char *user) {
+    struct capture *capture = capture_of(handle);
+    return capture ? give_packets(capture, most, give, user) : ORIGINAL(pcap_dispatch)(handle, most, give, user);
+}
+
+int pcap_next_ex(pcap_t *handle, struct pcap_pkthdr **header, const u_char **data) {
+    struct capture *capture = capture_of(handle);
+    if (!capture) return ORIGINAL(pcap_next_ex)(handle, header, data);
+    *header = &capture->last;
+    int taken = take_matching(capture, *header, data);
+    return taken == 0 ? PCAP_ERROR_BREAK : taken;
+}
+
+const u_char *pcap_next(pcap_t *handle, struct pcap_pkthdr *header) {
+    struct capture *capture = capture_of(handle);
+    const u_char *data;
+    if (!capture) return ORIGINAL(pcap_next)(handle, header);
+    return take_matching(capture, header, &data) == 1 ? data : NULL;
+}
+
+int pcap_setfilter(pcap_t *handle, struct bpf_program *program) {
+    struct capture *capture = capture_of(handle);
+    if (!capture) return ORIGINAL(pcap_setfilter)(handle, program);
+    size_t len = program->bf_len * sizeof *program->bf_insns;
+    struct bpf_insn *copied = malloc(len);
+    if (!copied) return PCAP_ERROR;
+    memcpy(copied, program->bf_insns, len);
+    free(capture->filter.bf_insns);
+    capture->filter = (struct bpf_program){ program->bf_len, copied };
+    return 0;
+}
+
+void pcap_breakloop(pcap_t *handle) {
+    struct capture *capture = capture_of(handle);
+    if (capture)
+        capture->is_broken = 1;
+    else
+        ORIGINAL(pcap_breakloop)(handle);
+}
+
+char *pcap_geterr(pcap_t *handle) {
+    struct capture *capture = capture_of(handle);
+    return capture && capture->error[0] ? capture->error : ORIGINAL(pcap_geterr)(handle);
+}
+
+void pcap_close(pcap_t *handle) {
+    struct capture *capture = capture_of(handle), **at = &captures;
+    ORIGINAL(pcap_close)(handle);
+    while (*at && *at != capture) at = &(*at)->next;
+    if (!capture) return;
+    *at = capture->next;
+    let_go(capture);
+}
