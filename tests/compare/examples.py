@@ -1,0 +1,197 @@
+"""The example programs beside tcpdump, tshark, capinfos and editcap, over captures: `compare(files, folder)`.
+
+What an example writes has to be what these tools say of the same capture. Where an example refuses a capture, what it wrote
+before has to be the beginning of that.
+"""
+import os
+import shutil
+import subprocess
+import tempfile
+
+TOP = os.path.dirname(os.path.dirname(os.path.dirname(os.path.abspath(__file__))))
+TOOLS = ("tcpdump", "tshark", "capinfos", "editcap")
+STARTS = (0, 20, 40, 80, 160, 320, 640, 1280, 2560, 5120)
+SECONDS = 600
+
+SAME, BEGINNING, DIFFERENT = range(3)
+
+
+def output(*words, stdin=None):
+    return subprocess.run(words, input=stdin, capture_output=True, timeout=SECONDS)
+
+
+def fields(path, *names):
+    """For each packet the first value of each field, as tshark has it."""
+    words = [word for name in names for word in ("-e", name)]
+    ran = output("tshark", "-n", "-r", path, "-o", "ip.defragment:FALSE", "-T", "fields", "-E", "separator=|", "-E", "occurrence=f", *words)
+    return [line.split("|") for line in ran.stdout.decode().splitlines()]
+
+
+def carried(time):
+    """A time of tshark's, which doesn't carry microseconds that pass a second."""
+    seconds, nanoseconds = time.split(".")
+    more, rest = divmod(int(nanoseconds), 10**9)
+    return f"{int(seconds) + more}.{rest:09}"
+
+
+def feed(path):
+    return "".join(f"{carried(time)} {size} bytes\n" for time, size in fields(path, "frame.time_epoch", "frame.cap_len"))
+
+
+def replay(path):
+    rows = fields(path, "frame.time_relative", "frame.cap_len")
+    return "".join(f"{'0.000000000' if time.startswith('-') else time} {size} bytes\n" for time, size in rows)
+
+
+def ends(names, ports, protocol):
+    """How a packet's addresses and ports are shown."""
+    (from_name, to_name), (from_port, to_port) = names, ports
+    if protocol not in ("6", "17"):
+        return f"{from_name} > {to_name} protocol {protocol}"
+    name = "TCP" if protocol == "6" else "UDP"
+    if not (from_port and to_port):
+        return f"{from_name} > {to_name} {name}, no ports"
+    from_name, to_name = (f"[{name}]" if ":" in name else name for name in names)
+    return f"{from_name}:{from_port} > {to_name}:{to_port} {name}"
+
+
+def dissect(path):
+    lines = []
+    names = ("frame.number", "frame.time_epoch", "eth.type", "ip.src", "ip.dst", "ip.proto", "ipv6.src", "ipv6.dst", "ipv6.nxt")
+    for row in fields(path, *names, "tcp.srcport", "tcp.dstport", "udp.srcport", "udp.dstport"):
+        number, time, kind, *ip = row[:9]
+        number = f"{number} {carried(time)}"
+        four, six, tcp, udp = ip[:3], ip[3:6], row[9:11], row[11:13]
+        shown = {"0x0800": four, "0x86dd": six}.get(kind)
+        if not (shown and all(shown)):
+            lines.append(f"{number} no IP\n")
+        else:
+            ports = tcp if shown[2] == "6" else udp
+            lines.append(f"{number} {ends(shown[:2], ports, shown[2])}\n")
+    return "".join(lines)
+
+
+def chart(sizes):
+    """The rows of the histogram of these sizes."""
+    counts = [0] * len(STARTS)
+    for size in sizes:
+        counts[max(row for row, start in enumerate(STARTS) if start <= size)] += 1
+    most = max(counts)
+    return "".join(f"{start:>6}.. {'#' * (50 * count // most)} {count}\n" for start, count in zip(STARTS, counts))
+
+
+def statistics(path):
+    """The interfaces of tshark's packets, without their numbers."""
+    interfaces = {}
+    is_pcapng = is_pcapng_file(path)
+    rows = fields(path, "frame.section_number", "frame.interface_id", "frame.time_epoch", "frame.len")
+    for section, interface, time, size in rows:
+        if interface or not is_pcapng:
+            interfaces.setdefault((int(section or 1), int(interface or 0)), []).append((time, int(size)))
+    text = ""
+    for _, packets in sorted(interfaces.items()):
+        sizes, times = [size for _, size in packets], [carried(time) for time, _ in packets if time]
+        text += f"interface: {len(sizes)} packets, {sum(sizes)} bytes\n"
+        if times:
+            text += f"from {min(times, key=in_order)}\nto   {max(times, key=in_order)}\n"
+        text += chart(sizes)
+    return text
+
+
+def in_order(time):
+    seconds, nanoseconds = time.split(".")
+    return int(seconds), int(nanoseconds)
+
+
+def shown_interfaces(text):
+    """What example_statistics shows, without the numbers of interfaces, and without those that have no packet."""
+    shown = ["interface: " + part.partition(": ")[2] for part in text.split("interface ")[1:]]
+    return "".join(part for part in shown if not part.startswith("interface: 0 packets"))
+
+
+def is_pcapng_file(path):
+    with open(path, "rb") as it:
+        return it.read(4) == b"\n\r\r\n"
+
+
+def convert(path):
+    """The packets as editcap converts them."""
+    with tempfile.TemporaryDirectory() as folder:
+        converted = os.path.join(folder, "converted.pcap")
+        ran = output("editcap", "-F", "nsecpcap", path, converted)
+        if ran.returncode:
+            return None
+        with open(converted, "rb") as it:
+            return it.read()[20:]
+
+
+def program(name):
+    return os.path.join(TOP, "crates", name, "out", name)
+
+
+def run_example(name, path, *words):
+    with open(path, "rb") as it:
+        ran = output(program(name), *words, stdin=it.read())
+    return ran.stdout, ran.returncode == 0
+
+
+def verdict(written, is_accepted, wanted):
+    if written == wanted and is_accepted:
+        return SAME
+    return BEGINNING if not is_accepted and wanted.startswith(written) else DIFFERENT
+
+
+def text_verdict(name, path, wanted, *words, shown=str):
+    written, is_accepted = run_example(name, path, *words)
+    return verdict(shown(written.decode()), is_accepted, wanted)
+
+
+def counted(path):
+    """How many packets and bytes capinfos counts, and how many packets tcpdump does."""
+    packets, size = output("capinfos", "-T", "-r", "-c", "-d", path).stdout.decode().split("\t")[1:3]
+    return int(packets), int(size), int(output("tcpdump", "--count", "-r", path).stdout.decode().split()[0])
+
+
+def totals_verdict(path):
+    """Whether the sums of example_statistics are those of capinfos, and its packets those of tcpdump."""
+    written, is_accepted = run_example("example_statistics", path)
+    heads = [line.split() for line in written.decode().splitlines() if line.startswith("interface")]
+    packets, size = sum(int(head[2]) for head in heads), sum(int(head[4]) for head in heads)
+    if not is_accepted:
+        return BEGINNING
+    return SAME if (packets, size, packets) == counted(path) else DIFFERENT
+
+
+def verdicts(path):
+    """Each example that takes this capture, with its verdict."""
+    link = output("capinfos", "-T", "-r", "-E", path).stdout.decode().strip().split("\t")[-1]
+    if is_pcapng_file(path):
+        wanted = convert(path)
+        written, is_accepted = run_example("example_convert", path)
+        if wanted is not None:
+            yield "example_convert", verdict(written[20:], is_accepted, wanted)
+    else:
+        yield "example_feed", text_verdict("example_feed", path, feed(path))
+        yield "example_replay", text_verdict("example_replay", path, replay(path), "0")
+        if link == "ether":
+            yield "example_dissect", text_verdict("example_dissect", path, dissect(path))
+    yield "example_statistics", text_verdict("example_statistics", path, statistics(path), shown=shown_interfaces)
+    yield "example_statistics, sums", totals_verdict(path)
+
+
+def compare(files, folder):
+    """Prints each difference and a line of sums; whether there is none."""
+    missing = [tool for tool in TOOLS if not shutil.which(tool)]
+    missing += [name for name in ("example_convert", "example_dissect", "example_feed", "example_replay", "example_statistics") if not os.path.exists(program(name))]
+    if missing:
+        print(f"the examples were not compared: {', '.join(missing)} missing")
+        return True
+    counts = [0, 0, 0]
+    for path in files:
+        for name, found in verdicts(path):
+            counts[found] += 1
+            if found == DIFFERENT:
+                print(f"{os.path.relpath(path, folder)}: {name}")
+    same, beginning, different = counts
+    print(f"examples: {same} answers are the same, {beginning} refuse what follows a beginning, {different} differ")
+    return different == 0
