@@ -37,6 +37,15 @@ number_in (CustomStr pen t) = None
 number_in (CustomBytes pen b) = None
 number_in (Unknown len b) = None
 
+-- the bytes of a value of an unknown option
+abbrev pub unknown_in : Value → Option (List ℕ)
+unknown_in (Str t) = None
+unknown_in (Bytes b) = None
+unknown_in (Integer n) = None
+unknown_in (CustomStr pen t) = None
+unknown_in (CustomBytes pen b) = None
+unknown_in (Unknown len b) = Some b
+
 -- what an option of this code holds, where it holds such a value
 abbrev pub under : {X : Type 0} → ℕ → (Value → Option X) → Entry → Option X
 under code such option = if option.code == code then such option.value else None

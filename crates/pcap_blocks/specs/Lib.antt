@@ -20,3 +20,5 @@ pub mod NameResolution
 pub mod ParsedBlock
 pub mod Held
 pub mod InterfaceTimes
+pub mod StoredBytes
+pub mod Views

@@ -3,10 +3,20 @@
 ghost use Rattle.std.specs.Prelude.{◌≡◌, map};
 ghost use Rattle.std.specs.Option.{option_map};
 ghost use Rattle.pcap_blocks.specs.Values.{Entry};
-ghost use Rattle.pcap_blocks.specs.Held.{entry_held, string_in, number_in, under, first_under};
+ghost use Rattle.pcap_blocks.specs.Held.{entry_held, string_in, number_in, unknown_in, under, first_under};
+ghost use Rattle.pcap_blocks.specs.SectionHeader.{section_entry};
 ghost use Rattle.pcap_blocks.specs.InterfaceDescription.{interface_entry};
+ghost use Rattle.pcap_blocks.specs.EnhancedPacket.{enhanced_entry};
+ghost use Rattle.pcap_blocks.specs.Packet.{packet_entry};
+ghost use Rattle.pcap_blocks.specs.NameResolution.{name_entry};
+ghost use Rattle.pcap_blocks.specs.InterfaceStatistics.{statistics_entry};
 
+use crate::enhanced_packet::EnhancedPacketOption;
 use crate::interface_description::InterfaceDescriptionOption;
+use crate::interface_statistics::InterfaceStatisticsOption;
+use crate::name_resolution::NameResolutionOption;
+use crate::packet::PacketOption;
+use crate::section_header::SectionHeaderOption;
 
 // An option, lent.
 #[derive(Clone, Copy)]
@@ -46,6 +56,16 @@ impl<'a> Held<'a> {
             _ => None,
         }
     }
+
+    // The value of an unknown option of this code.
+    fn unknown(self, code: u16) -> Option<&'a [u8]>
+        ensures { option_map (λ value. value.now) result ≡ under code unknown_in (entry_held self.entry) }
+    {
+        match self.value {
+            HeldValue::Unknown(_, value) if self.code == code => Some(value),
+            _ => None,
+        }
+    }
 }
 
 // Options that tell what they hold.
@@ -81,6 +101,18 @@ pub(crate) fn first_string<O: HoldsEntry>(options: &[O], code: u16) -> Option<&s
     None
 }
 
+// The value of the first unknown option of this code.
+pub(crate) fn first_unknown<O: HoldsEntry>(options: &[O], code: u16) -> Option<&[u8]>
+    ensures { option_map (λ value. value.now) result ≡ first_under code unknown_in (map O.entry options.now) }
+{
+    for option in options {
+        if let Some(value) = option.held().unknown(code) {
+            return Some(value);
+        }
+    }
+    None
+}
+
 impl HoldsEntry for InterfaceDescriptionOption<'_> {
     ghost entry = { interface_entry };
 
@@ -101,6 +133,109 @@ impl HoldsEntry for InterfaceDescriptionOption<'_> {
             Self::IfFcsLen(n) => (13, HeldValue::Integer(u64::from(*n))),
             Self::IfTsOffset(n) => (14, HeldValue::Integer(*n)),
             Self::IfHardware(held) => (15, HeldValue::Str(held.as_str())),
+            Self::CustomBinary(held) => (
+                held.code(),
+                HeldValue::CustomBytes(held.pen(), held.value()),
+            ),
+            Self::CustomUtf8(held) => (held.code(), HeldValue::CustomStr(held.pen(), held.value())),
+            Self::Unknown(held) => (held.code(), HeldValue::Unknown(held.length(), held.value())),
+        };
+        Held { code, value }
+    }
+}
+
+impl HoldsEntry for SectionHeaderOption<'_> {
+    ghost entry = { section_entry };
+
+    fn held(&self) -> Held<'_> {
+        let (code, value) = match self {
+            Self::Comment(held) => (1, HeldValue::Str(held.as_str())),
+            Self::Hardware(held) => (2, HeldValue::Str(held.as_str())),
+            Self::OS(held) => (3, HeldValue::Str(held.as_str())),
+            Self::UserApplication(held) => (4, HeldValue::Str(held.as_str())),
+            Self::CustomBinary(held) => (
+                held.code(),
+                HeldValue::CustomBytes(held.pen(), held.value()),
+            ),
+            Self::CustomUtf8(held) => (held.code(), HeldValue::CustomStr(held.pen(), held.value())),
+            Self::Unknown(held) => (held.code(), HeldValue::Unknown(held.length(), held.value())),
+        };
+        Held { code, value }
+    }
+}
+
+impl HoldsEntry for EnhancedPacketOption<'_> {
+    ghost entry = { enhanced_entry };
+
+    fn held(&self) -> Held<'_> {
+        let (code, value) = match self {
+            Self::Comment(held) => (1, HeldValue::Str(held.as_str())),
+            Self::Flags(n) => (2, HeldValue::Integer(u64::from(*n))),
+            Self::Hash(held) => (3, HeldValue::Bytes(held.as_slice())),
+            Self::DropCount(n) => (4, HeldValue::Integer(*n)),
+            Self::CustomBinary(held) => (
+                held.code(),
+                HeldValue::CustomBytes(held.pen(), held.value()),
+            ),
+            Self::CustomUtf8(held) => (held.code(), HeldValue::CustomStr(held.pen(), held.value())),
+            Self::Unknown(held) => (held.code(), HeldValue::Unknown(held.length(), held.value())),
+        };
+        Held { code, value }
+    }
+}
+
+impl HoldsEntry for PacketOption<'_> {
+    ghost entry = { packet_entry };
+
+    fn held(&self) -> Held<'_> {
+        let (code, value) = match self {
+            Self::Comment(held) => (1, HeldValue::Str(held.as_str())),
+            Self::Flags(n) => (2, HeldValue::Integer(u64::from(*n))),
+            Self::Hash(held) => (3, HeldValue::Bytes(held.as_slice())),
+            Self::CustomBinary(held) => (
+                held.code(),
+                HeldValue::CustomBytes(held.pen(), held.value()),
+            ),
+            Self::CustomUtf8(held) => (held.code(), HeldValue::CustomStr(held.pen(), held.value())),
+            Self::Unknown(held) => (held.code(), HeldValue::Unknown(held.length(), held.value())),
+        };
+        Held { code, value }
+    }
+}
+
+impl HoldsEntry for NameResolutionOption<'_> {
+    ghost entry = { name_entry };
+
+    fn held(&self) -> Held<'_> {
+        let (code, value) = match self {
+            Self::Comment(held) => (1, HeldValue::Str(held.as_str())),
+            Self::NsDnsName(held) => (2, HeldValue::Str(held.as_str())),
+            Self::NsDnsIpv4Addr(held) => (3, HeldValue::Bytes(held.as_slice())),
+            Self::NsDnsIpv6Addr(held) => (4, HeldValue::Bytes(held.as_slice())),
+            Self::CustomBinary(held) => (
+                held.code(),
+                HeldValue::CustomBytes(held.pen(), held.value()),
+            ),
+            Self::CustomUtf8(held) => (held.code(), HeldValue::CustomStr(held.pen(), held.value())),
+            Self::Unknown(held) => (held.code(), HeldValue::Unknown(held.length(), held.value())),
+        };
+        Held { code, value }
+    }
+}
+
+impl HoldsEntry for InterfaceStatisticsOption<'_> {
+    ghost entry = { statistics_entry };
+
+    fn held(&self) -> Held<'_> {
+        let (code, value) = match self {
+            Self::Comment(held) => (1, HeldValue::Str(held.as_str())),
+            Self::IsbStartTime(n) => (2, HeldValue::Integer(*n)),
+            Self::IsbEndTime(n) => (3, HeldValue::Integer(*n)),
+            Self::IsbIfRecv(n) => (4, HeldValue::Integer(*n)),
+            Self::IsbIfDrop(n) => (5, HeldValue::Integer(*n)),
+            Self::IsbFilterAccept(n) => (6, HeldValue::Integer(*n)),
+            Self::IsbOsDrop(n) => (7, HeldValue::Integer(*n)),
+            Self::IsbUsrDeliv(n) => (8, HeldValue::Integer(*n)),
             Self::CustomBinary(held) => (
                 held.code(),
                 HeldValue::CustomBytes(held.pen(), held.value()),

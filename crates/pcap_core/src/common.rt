@@ -1,6 +1,6 @@
 //! The order of numbers, and bytes that are borrowed or owned.
 
-ghost use Rattle.std.specs.Prelude.{◌≡◌, ◌↔◌, IsTrue, [], ◌∷◌, length, IsOk, IfOk, IfErr};
+ghost use Rattle.std.specs.Prelude.{◌≡◌, ◌↔◌, IsTrue, [], ◌∷◌, length, IsOk, IfOk, IfErr, MatchOption};
 ghost use Rattle.pcap_core.specs.Bytes.{cow_bytes, IsBorrowed, IsOwned};
 ghost use Rattle.pcap_core.specs.Errors.{IsMemory};
 
@@ -51,6 +51,18 @@ impl Endianness {
 pub enum CowBytes<'a> {
     Borrowed(&'a [u8]),
     Owned(Vec<u8>),
+}
+
+impl<'a> CowBytes<'a> {
+    /// Borrowed bytes, for as long as they are lent. None of owned ones.
+    pub fn as_borrowed(&self) -> Option<&'a [u8]>
+        ensures { MatchOption result (IsOwned self.now) (λ bytes. IsBorrowed self.now × (bytes.now ≡ cow_bytes self.now)) }
+    {
+        match self {
+            CowBytes::Borrowed(bytes) => Some(bytes),
+            CowBytes::Owned(_) => None,
+        }
+    }
 }
 
 impl CowBytes<'_> {

@@ -44,6 +44,7 @@ impl TimeUnit {
     }
 
     // The whole nanoseconds in so many units.
+    #[tactic(auto, using(crate::proofs::Units::some_units))]
     fn nanoseconds(self, ticks: u64) -> u128
         ensures { result ≡ nanoseconds_in self ticks }
     {

@@ -1,0 +1,143 @@
+//! Options of blocks by their names. Each call tells the first option of its name, and None where there is none.
+
+ghost use Rattle.std.specs.Prelude.{◌≡◌};
+ghost use Rattle.std.specs.Option.{option_map};
+ghost use Rattle.pcap_blocks.specs.Held.{string_in, number_in, first_under};
+ghost use Rattle.pcap_blocks.specs.SectionHeader.{section_of};
+ghost use Rattle.pcap_blocks.specs.InterfaceDescription.{interface_of};
+ghost use Rattle.pcap_blocks.specs.EnhancedPacket.{enhanced_of};
+ghost use Rattle.pcap_blocks.specs.Packet.{packet_of};
+ghost use Rattle.pcap_blocks.specs.NameResolution.{names_of};
+ghost use Rattle.pcap_blocks.specs.InterfaceStatistics.{statistics_of};
+
+use crate::enhanced_packet::EnhancedPacketBlock;
+use crate::held::{first_number, first_string};
+use crate::interface_description::InterfaceDescriptionBlock;
+use crate::interface_statistics::InterfaceStatisticsBlock;
+use crate::name_resolution::NameResolutionBlock;
+use crate::packet::PacketBlock;
+use crate::section_header::SectionHeaderBlock;
+
+impl SectionHeaderBlock<'_> {
+    /// The first comment on the section.
+    pub fn comment(&self) -> Option<&str>
+        ensures { option_map (λ string. string.now) result ≡ first_under 1 string_in (section_of self.now).options }
+    {
+        first_string(&self.options, 1)
+    }
+
+    /// The hardware that the section was made on.
+    pub fn hardware(&self) -> Option<&str>
+        ensures { option_map (λ string. string.now) result ≡ first_under 2 string_in (section_of self.now).options }
+    {
+        first_string(&self.options, 2)
+    }
+
+    /// The operating system that it was made on.
+    pub fn os(&self) -> Option<&str>
+        ensures { option_map (λ string. string.now) result ≡ first_under 3 string_in (section_of self.now).options }
+    {
+        first_string(&self.options, 3)
+    }
+
+    /// The application that made it.
+    pub fn application(&self) -> Option<&str>
+        ensures { option_map (λ string. string.now) result ≡ first_under 4 string_in (section_of self.now).options }
+    {
+        first_string(&self.options, 4)
+    }
+}
+
+impl InterfaceDescriptionBlock<'_> {
+    /// The first comment on the interface.
+    pub fn comment(&self) -> Option<&str>
+        ensures { option_map (λ string. string.now) result ≡ first_under 1 string_in (interface_of self.now).options }
+    {
+        first_string(&self.options, 1)
+    }
+
+    /// The name of the device.
+    pub fn name(&self) -> Option<&str>
+        ensures { option_map (λ string. string.now) result ≡ first_under 2 string_in (interface_of self.now).options }
+    {
+        first_string(&self.options, 2)
+    }
+
+    /// What the device is.
+    pub fn description(&self) -> Option<&str>
+        ensures { option_map (λ string. string.now) result ≡ first_under 3 string_in (interface_of self.now).options }
+    {
+        first_string(&self.options, 3)
+    }
+
+    /// The interface's speed in bits a second.
+    pub fn speed(&self) -> Option<u64>
+        ensures { result ≡ first_under 8 number_in (interface_of self.now).options }
+    {
+        first_number(&self.options, 8)
+    }
+
+    /// The operating system of the interface's machine.
+    pub fn os(&self) -> Option<&str>
+        ensures { option_map (λ string. string.now) result ≡ first_under 12 string_in (interface_of self.now).options }
+    {
+        first_string(&self.options, 12)
+    }
+
+    /// What the hardware is.
+    pub fn hardware(&self) -> Option<&str>
+        ensures { option_map (λ string. string.now) result ≡ first_under 15 string_in (interface_of self.now).options }
+    {
+        first_string(&self.options, 15)
+    }
+}
+
+impl EnhancedPacketBlock<'_> {
+    /// The first comment on the packet.
+    pub fn comment(&self) -> Option<&str>
+        ensures { option_map (λ string. string.now) result ≡ first_under 1 string_in (enhanced_of self.now).packet.options }
+    {
+        first_string(&self.options, 1)
+    }
+}
+
+impl PacketBlock<'_> {
+    /// The first comment on the packet.
+    pub fn comment(&self) -> Option<&str>
+        ensures { option_map (λ string. string.now) result ≡ first_under 1 string_in (packet_of self.now).packet.options }
+    {
+        first_string(&self.options, 1)
+    }
+}
+
+impl NameResolutionBlock<'_> {
+    /// The first comment on the names.
+    pub fn comment(&self) -> Option<&str>
+        ensures { option_map (λ string. string.now) result ≡ first_under 1 string_in (names_of self.now).options }
+    {
+        first_string(&self.options, 1)
+    }
+}
+
+impl InterfaceStatisticsBlock<'_> {
+    /// The first comment on the statistics.
+    pub fn comment(&self) -> Option<&str>
+        ensures { option_map (λ string. string.now) result ≡ first_under 1 string_in (statistics_of self.now).options }
+    {
+        first_string(&self.options, 1)
+    }
+
+    /// How many packets the interface received.
+    pub fn received(&self) -> Option<u64>
+        ensures { result ≡ first_under 4 number_in (statistics_of self.now).options }
+    {
+        first_number(&self.options, 4)
+    }
+
+    /// How many packets the interface dropped.
+    pub fn dropped(&self) -> Option<u64>
+        ensures { result ≡ first_under 5 number_in (statistics_of self.now).options }
+    {
+        first_number(&self.options, 5)
+    }
+}

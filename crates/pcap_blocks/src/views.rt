@@ -1,0 +1,145 @@
+//! Views of what is newer than the names here: values of unknown blocks, records and options, which stay as they are.
+
+ghost use Rattle.std.specs.Prelude.{◌≡◌, ◌∷◌, ℕ, List, MatchOption};
+ghost use Rattle.std.specs.Option.{option_map};
+ghost use Rattle.pcap_core.specs.Answer.{number_in};
+ghost use Rattle.pcap_blocks.specs.EnhancedPacket.{enhanced_of};
+ghost use Rattle.pcap_blocks.specs.Held.{first_under, unknown_in};
+ghost use Rattle.pcap_blocks.specs.Views.{SecretsText, AddressOf, number_of_all, some_bytes_of};
+
+use crate::block_type::BlockType;
+use crate::enhanced_packet::EnhancedPacketBlock;
+use crate::held::first_unknown;
+use crate::record::UnknownRecord;
+use crate::unknown_block::UnknownBlock;
+use byteorder::{BigEndian, ByteOrder, LittleEndian};
+use pcap_core::Endianness;
+use pcap_core::fields::{split_padded, split_u32};
+
+/// The secrets of a block of type 10 ('Decryption Secrets Block').
+#[derive(Clone, Copy, Debug)]
+pub struct DecryptionSecrets<'a> {
+    /// What the secrets are: 0x544c534b for a log of TLS keys, 0x57474b4c for one of WireGuard, and others.
+    pub secrets_type: u32,
+    /// Their bytes.
+    pub secrets: &'a [u8],
+}
+
+/// A hardware address and its names ('Name Resolution Block').
+#[derive(Clone, Copy, Debug)]
+pub struct HardwareAddress<'a> {
+    /// The address.
+    pub address: &'a [u8],
+    /// Its names, a zero byte behind each: `str_from_u8_null_terminated` reads them, one by one.
+    pub names: &'a [u8],
+}
+
+/// What was decided on a packet ('Enhanced Packet Block', epb_verdict).
+#[derive(Clone, Copy, Debug)]
+pub struct PacketVerdict<'a> {
+    /// Who decided: 0 is the hardware, 1 an eBPF program of Linux's traffic control, 2 one of its XDP.
+    pub kind: u8,
+    /// What was decided, in the form of that kind.
+    pub value: &'a [u8],
+}
+
+impl UnknownBlock<'_> {
+    /// The secrets of a block of type 10 whose numbers are of this order. None of a block of another type, and where the
+    /// secrets and their padding pass the body.
+    pub fn decryption_secrets(&self, order: Endianness) -> Option<DecryptionSecrets<'_>>
+        ensures { MatchOption result ((type : ℕ) (secrets rest : List ℕ) → ¬ SecretsText (number_in order) self.now type secrets rest) (λ x. (rest : List ℕ) × SecretsText (number_in order) self.now x.secrets_type x.secrets.now rest) }
+    {
+        match order {
+            Endianness::Big => self.secrets::<BigEndian>(),
+            Endianness::Little => self.secrets::<LittleEndian>(),
+        }
+    }
+
+    fn secrets<B: ByteOrder>(&self) -> Option<DecryptionSecrets<'_>>
+        ensures { MatchOption result ((type : ℕ) (secrets rest : List ℕ) → ¬ SecretsText B.number_of self.now type secrets rest) (λ x. (rest : List ℕ) × SecretsText B.number_of self.now x.secrets_type x.secrets.now rest) }
+    {
+        let value = self.value.as_slice();
+        if self.type_ != BlockType::Unknown(10) || value.len() < 8 {
+            return None;
+        }
+        let (secrets_type, rest) = split_u32::<B>(value);
+        let (len, rest) = split_u32::<B>(rest);
+        let Some((secrets, _options)) = split_padded(rest, len as usize) else {
+            return None;
+        };
+        Some(DecryptionSecrets {
+            secrets_type,
+            secrets,
+        })
+    }
+}
+
+impl UnknownRecord<'_> {
+    /// The address of 6 bytes and the names of a record of type 3 (nrb_record_eui48). None of a record of another type,
+    /// and of a value that is shorter.
+    pub fn eui48(&self) -> Option<HardwareAddress<'_>>
+        ensures { MatchOption result ((address names : List ℕ) → ¬ AddressOf 3 6 self.now address names) (λ x. AddressOf 3 6 self.now x.address.now x.names.now) }
+    {
+        self.hardware(3, 6)
+    }
+
+    /// The address of 8 bytes and the names of a record of type 4 (nrb_record_eui64). None of a record of another type,
+    /// and of a value that is shorter.
+    pub fn eui64(&self) -> Option<HardwareAddress<'_>>
+        ensures { MatchOption result ((address names : List ℕ) → ¬ AddressOf 4 8 self.now address names) (λ x. AddressOf 4 8 self.now x.address.now x.names.now) }
+    {
+        self.hardware(4, 8)
+    }
+
+    fn hardware(&self, type_: u16, width: usize) -> Option<HardwareAddress<'_>>
+        ensures { MatchOption result ((address names : List ℕ) → ¬ AddressOf type_ width self.now address names) (λ x. AddressOf type_ width self.now x.address.now x.names.now) }
+    {
+        let value = self.value.as_slice();
+        if self.type_ != type_ || value.len() < width {
+            return None;
+        }
+        let (address, names) = value.split_at(width);
+        Some(HardwareAddress { address, names })
+    }
+}
+
+impl EnhancedPacketBlock<'_> {
+    /// The number that names the packet wherever it was captured (epb_packetid, code 5), by the first such option, whose
+    /// numbers are of this order. None without one, and where its value isn't 8 bytes.
+    pub fn packet_id(&self, order: Endianness) -> Option<u64>
+        ensures { result ≡ number_of_all (number_in order) 8 (first_under 5 unknown_in (enhanced_of self.now).packet.options) }
+    {
+        let value = first_unknown(&self.options, 5)?;
+        if value.len() != 8 {
+            return None;
+        }
+        Some(match order {
+            Endianness::Big => BigEndian::read_u64(value),
+            Endianness::Little => LittleEndian::read_u64(value),
+        })
+    }
+
+    /// The interface's queue that the packet came through (epb_queue, code 6), by the first such option, whose numbers
+    /// are of this order. None without one, and where its value isn't 4 bytes.
+    pub fn queue(&self, order: Endianness) -> Option<u32>
+        ensures { result ≡ number_of_all (number_in order) 4 (first_under 6 unknown_in (enhanced_of self.now).packet.options) }
+    {
+        let value = first_unknown(&self.options, 6)?;
+        if value.len() != 4 {
+            return None;
+        }
+        Some(match order {
+            Endianness::Big => BigEndian::read_u32(value),
+            Endianness::Little => LittleEndian::read_u32(value),
+        })
+    }
+
+    /// What was decided on the packet (epb_verdict, code 7), by the first such option. None without one, and where its
+    /// value has no byte.
+    pub fn verdict(&self) -> Option<PacketVerdict<'_>>
+        ensures { option_map (λ x. x.kind ∷ x.value.now) result ≡ some_bytes_of (first_under 7 unknown_in (enhanced_of self.now).packet.options) }
+    {
+        let (kind, value) = first_unknown(&self.options, 7)?.split_first()?;
+        Some(PacketVerdict { kind: *kind, value })
+    }
+}
