@@ -22,6 +22,18 @@ use std::io::Read;
 /// Both are None where the stream ends between packets; the next call asks the stream again. After their first refusal they
 /// are None for good. Between packets exactly the bytes of the header and of the packets were taken; a refused call has
 /// taken no more than was missing.
+///
+/// A stream may never end, so a loop needs a bound to be proved: `for packet in reader.take(usize::MAX)`, or where packets
+/// are lent
+///
+/// ```
+/// for _ in 0..u64::MAX {
+///     let Some(header) = reader.next_header() else {
+///         break;
+///     };
+///     let packet = reader.packet(header?);
+/// }
+/// ```
 #[derive(Debug, Drop)]
 pub struct PcapReader<T> {
     /// The header of the capture. Each packet is read under the header as it stands.

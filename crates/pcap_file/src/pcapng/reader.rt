@@ -31,7 +31,7 @@ use std::io::{ErrorKind, Read};
 ///
 /// Both are None where the stream ends between blocks; the next call asks the stream again. After their first refusal they
 /// are None for good. Between blocks exactly the bytes of the blocks were taken; a refused call has taken no more than was
-/// missing, and leaves the section and its interfaces as they are.
+/// missing, and leaves the section and its interfaces as they are. A loop needs a bound to be proved, as one over packets.
 #[derive(Drop)]
 pub struct PcapNgReader<T> {
     alloc: Global,
@@ -160,7 +160,10 @@ impl<T: Read + Drop> PcapNgReader<T> {
     /// kept: room grows with the bytes that come, and stays.
     ///
     /// ```
-    /// while let Some(header) = reader.next_header() {
+    /// for _ in 0..u64::MAX {
+    ///     let Some(header) = reader.next_header() else {
+    ///         break;
+    ///     };
     ///     if let ParsedBlock::EnhancedPacket(packet) = reader.block(header?).parsed(alloc)? {
     ///         println!(rt; "{} of {} bytes", packet.data_.len(), packet.original_len)?;
     ///     }
