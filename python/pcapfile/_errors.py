@@ -4,18 +4,19 @@ from . import _library
 
 
 class CaptureError(Exception):
-    """A capture is refused at `offset`, in bytes from its start. What came before it was good."""
+    """A capture is refused at `offset`, in bytes from its start. What came before it was good. `status` is the number of the
+    error."""
 
-    def __init__(self, message: str, offset: int) -> None:
+    def __init__(self, message: str, offset: int, status: int) -> None:
         super().__init__(f"{message} (at byte {offset})")
-        self.offset = offset
+        self.offset, self.status = offset, status
 
 
 class Incomplete(CaptureError):
     """The capture ends within a header, a packet or a block: `missing` bytes more are needed, at least."""
 
     def __init__(self, missing: int, offset: int) -> None:
-        super().__init__(f"{missing} bytes are missing", offset)
+        super().__init__(f"{missing} bytes are missing", offset, _library.INCOMPLETE)
         self.missing = missing
 
 
@@ -26,7 +27,7 @@ class Invalid(CaptureError):
         self.number = number
         self.rule = _library.rule_name(number)
         self.text = _library.rule_text(number)
-        super().__init__(f"{self.rule}: {self.text}", offset)
+        super().__init__(f"{self.rule}: {self.text}", offset, _library.INVALID)
 
 
 def error_of(status: int, error: _library.Error, offset: int) -> CaptureError:
@@ -34,7 +35,7 @@ def error_of(status: int, error: _library.Error, offset: int) -> CaptureError:
         return Incomplete(error.missing, offset)
     if status == _library.INVALID:
         return Invalid(error.rule, offset)
-    return CaptureError(_OTHERS.get(status, f"status {status}"), offset)
+    return CaptureError(_OTHERS.get(status, f"status {status}"), offset, status)
 
 
 _OTHERS = {

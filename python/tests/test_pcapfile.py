@@ -26,7 +26,7 @@ class Captures(unittest.TestCase):
         with pcapfile.parse(HEADER + packet(7, 8, b"abc", 5) + packet(9, 999_999, b"")) as capture:
             first, second = capture
             self.assertEqual((first.seconds, first.nanoseconds, first.original_length), (7, 8000, 5))
-            self.assertEqual(bytes(first.data), b"abc")
+            self.assertEqual((bytes(first.data), first.link), (b"abc", 1))
             self.assertEqual(first.time_ns, 7_000_008_000)
             self.assertAlmostEqual(first.time, 7.000008)
             self.assertEqual((second.time_ns, bytes(second.data)), (9_999_999_000, b""))
@@ -52,6 +52,63 @@ class Captures(unittest.TestCase):
     def test_bytes_that_can_be_written(self):
         with pcapfile.parse(bytearray(HEADER + packet(1, 2, b"abc"))) as capture:
             self.assertEqual([bytes(p.data) for p in capture], [b"abc"])
+
+
+def block(number, body):
+    return struct.pack("<II", number, len(body) + 12) + body + struct.pack("<I", len(body) + 12)
+
+
+SECTION = block(0x0A0D0D0A, struct.pack("<IHHq", 0x1A2B3C4D, 1, 0, -1))
+INTERFACE = block(1, struct.pack("<HHI", 113, 0, 96))
+NANOSECONDS = block(1, struct.pack("<HHIHHBxxx", 1, 0, 0, 9, 1, 9))
+
+
+def enhanced(interface, ticks, data):
+    padded = data + bytes(-len(data) % 4)
+    return block(6, struct.pack("<IIIII", interface, ticks >> 32, ticks & 0xFFFFFFFF, len(data), 60) + padded)
+
+
+class Blocks(unittest.TestCase):
+    def test_packets(self):
+        data = SECTION + INTERFACE + NANOSECONDS + enhanced(0, 7_000_008, b"abc") + enhanced(1, 7_000_008, b"")
+        with pcapfile.parse(data) as capture:
+            first, second = capture
+        self.assertEqual((first.time_ns, first.original_length, first.link), (7_000_008_000, 60, 113))
+        self.assertEqual((second.time_ns, second.interface.snaplen, second.link), (7_000_008, 0, 1))
+
+    def test_bytes_lie_in_the_file(self):
+        with tempfile.TemporaryDirectory() as folder:
+            path = Path(folder, "capture.pcapng")
+            path.write_bytes(SECTION + INTERFACE + enhanced(0, 1, b"abc"))
+            with pcapfile.open(path) as capture:
+                self.assertEqual([bytes(p.data) for p in capture], [b"abc"])
+
+    def test_a_new_section_has_no_interfaces(self):
+        data = SECTION + INTERFACE + enhanced(0, 1, b"") + SECTION + enhanced(0, 1, b"")
+        with pcapfile.parse(data) as capture:
+            first, second = capture
+        self.assertEqual((first.link, second.link, second.time), (113, None, None))
+
+    def test_simple_packets_have_no_time(self):
+        with pcapfile.parse(SECTION + INTERFACE + block(3, struct.pack("<I", 4) + b"abcd")) as capture:
+            (only,) = capture
+            self.assertEqual((only.seconds, only.link, bytes(only.data)), (None, 113, b"abcd"))
+
+    def test_refusals(self):
+        with self.assertRaises(pcapfile.Incomplete) as told:
+            list(pcapfile.parse(SECTION + INTERFACE[:-1]))
+        self.assertEqual((told.exception.missing, told.exception.offset), (1, 28))
+        with self.assertRaises(pcapfile.Invalid) as told:
+            list(pcapfile.parse(SECTION + block(1, b"")))
+        self.assertEqual((told.exception.rule, told.exception.offset), ("InterfaceTooShort", 28))
+
+    def test_closed(self):
+        capture = pcapfile.parse(SECTION + INTERFACE + enhanced(0, 1, b"") * 2)
+        packets = iter(capture)
+        next(packets)
+        capture.close()
+        with self.assertRaises(ValueError):
+            list(packets)
 
 
 class Refusals(unittest.TestCase):

@@ -86,7 +86,7 @@ def good():
     yield "two_sections", made.enhanced(0, 2, b"two").section(LITTLE).enhanced(0, 3, b"three")
     made = Made().section().interface().block(4, struct.pack("<HH", 0, 0)).block(5, bytes(12)).block(9, b"A=1\n")
     yield "other_blocks", made.block(0x0BAD, b"what").block(0x80000001, b"").enhanced(0, 1, b"z")
-    made = Made().section().interface().refused(6, bytes(19)).refused(3, bytes(0)).refused(5, bytes(8))
+    made = Made().section().interface().refused(6, bytes(16)).refused(3, bytes(0)).refused(5, bytes(8))
     made = made.refused(6, bytes(20) + made.option(1, b"\xff\xfe")).refused(6, bytes(20) + made.option(2989, b"ab"))
     yield "refused_bodies", made.refused(4, struct.pack("<HH", 1, 3) + b"abcd").enhanced(0, 1, b"z")
     made = Made().section().interface()
@@ -108,7 +108,7 @@ def bad():
     yield "bad_value", begun().interface(options=[(2989, b"ab")]).data
     yield "bad_option", begun().interface(options=[(9, b"ab")]).data
     yield "bad_section", begun().section(options=[(1, b"\xff")]).data
-    yield "no_section", Made().section().data[:0] + b"\x0a\x0d\x0d\x0a" + b"\xd4\xc3\xb2\xa1" * 6
+    yield "no_section", b"\x0a\x0d\x0d\x0a" + b"\xd4\xc3\xb2\xa1" * 6
     yield "torn", begun().data[:-3]
 
 

@@ -9,6 +9,9 @@ import time
 
 import pcapfile
 
+# The status of capcopy for each number of an error.
+STATUSES = {1: 3, 2: 3, 3: 1, 4: 1, 6: 4}
+
 
 def time_of(packet):
     link = "none" if packet.link is None else packet.link
@@ -24,12 +27,9 @@ def list_packets(capture):
 def status_of(opened):
     try:
         list_packets(opened())
-    except pcapfile.Incomplete as error:
-        print(f"blocks.py: {error}", file=sys.stderr)
-        return 3
     except pcapfile.CaptureError as error:
         print(f"blocks.py: {error}", file=sys.stderr)
-        return 1
+        return STATUSES[error.status]
     return 0
 
 

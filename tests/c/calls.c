@@ -106,6 +106,73 @@ static void writes(void) {
     EXPECT(written == 99 && !memcmp(room, before, sizeof room));
 }
 
+/* A little-endian section, an interface of link type 113 that counts nanoseconds and adds 2 seconds, and an enhanced packet of
+ * three bytes, five on the wire, at 7 nanoseconds. */
+static const uint8_t blocks[] = {
+    0x0a, 0x0d, 0x0d, 0x0a, 28, 0, 0, 0, 0x4d, 0x3c, 0x2b, 0x1a, 1, 0, 2, 0, 0xff, 0xff, 0xff, 0xff, 0xff, 0xff, 0xff, 0xff, 28, 0, 0, 0,
+    1, 0, 0, 0, 40, 0, 0, 0, 113, 0, 0, 0, 0, 1, 0, 0, 9, 0, 1, 0, 9, 0, 0, 0, 14, 0, 8, 0, 2, 0, 0, 0, 0, 0, 0, 0, 40, 0, 0, 0,
+    6, 0, 0, 0, 36, 0, 0, 0, 0, 0, 0, 0, 0, 0, 0, 0, 7, 0, 0, 0, 3, 0, 0, 0, 5, 0, 0, 0, 'a', 'b', 'c', 0, 36, 0, 0, 0,
+};
+
+static void first_blocks(void) {
+    pcapfile_section section = PCAPFILE_SECTION_INIT, before = section;
+    pcapfile_bytes left = { blocks, 11 };
+    pcapfile_block block = PCAPFILE_BLOCK_INIT;
+    pcapfile_error error = PCAPFILE_ERROR_INIT;
+    EXPECT(pcapfile_take_block(&section, &left, &block, &error) == PCAPFILE_INCOMPLETE && error.missing == 1);
+    left.len = 12;
+    EXPECT(pcapfile_take_block(&section, &left, &block, &error) == PCAPFILE_INCOMPLETE && error.missing == 16);
+    left = (pcapfile_bytes){ blocks + 28, sizeof blocks - 28 };
+    EXPECT(pcapfile_take_block(&section, &left, &block, &error) == PCAPFILE_INCOMPLETE);
+    left = (pcapfile_bytes){ (const uint8_t *)"\0\0\0\1\0\0\0\x14\0\1\0\0\0\0\0\0\0\0\0\x14", 20 };
+    EXPECT(pcapfile_take_block(&section, &left, &block, &error) == PCAPFILE_INVALID);
+    EXPECT(error.rule == PCAPFILE_RULE_SECTION_MISSING && error.missing == 0);
+    EXPECT(left.len == 20 && block.type == 0 && !memcmp(&section, &before, sizeof section));
+    section.magic_number = 7;
+    left = (pcapfile_bytes){ blocks, sizeof blocks };
+    EXPECT(pcapfile_take_block(&section, &left, &block, &error) == PCAPFILE_INVALID);
+    EXPECT(error.rule == PCAPFILE_RULE_SECTION_MAGIC && left.len == sizeof blocks && section.magic_number == 7);
+}
+
+static void bodies(void) {
+    pcapfile_section section = PCAPFILE_SECTION_INIT;
+    pcapfile_bytes left = { blocks, sizeof blocks };
+    pcapfile_block block = PCAPFILE_BLOCK_INIT;
+    pcapfile_interface interface = PCAPFILE_INTERFACE_INIT;
+    pcapfile_ng_packet packet = PCAPFILE_NG_PACKET_INIT;
+    pcapfile_error error = PCAPFILE_ERROR_INIT;
+    EXPECT(pcapfile_take_block(&section, &left, &block, &error) == PCAPFILE_OK && block.type == PCAPFILE_BLOCK_SECTION);
+    EXPECT(section.magic_number == 0x4d3c2b1a && section.version_major == 1 && section.version_minor == 2);
+    EXPECT(section.interfaces == 0 && block.body.ptr == blocks + 8 && block.body.len == 16);
+    EXPECT(pcapfile_read_interface(&section, &block, &interface, &error) == PCAPFILE_NOTHING && interface.link == 0);
+    EXPECT(pcapfile_take_block(&section, &left, &block, &error) == PCAPFILE_OK && section.interfaces == 1);
+    EXPECT(pcapfile_read_interface(&section, &block, &interface, &error) == PCAPFILE_OK);
+    EXPECT(interface.link == PCAPFILE_LINK_LINUX_SLL && interface.snaplen == 256);
+    EXPECT(interface.ts_base == 10 && interface.ts_exponent == 9 && interface.ts_offset == 2);
+    EXPECT(pcapfile_read_packet(&section, &block, &packet, &error) == PCAPFILE_NOTHING);
+    EXPECT(pcapfile_take_block(&section, &left, &block, &error) == PCAPFILE_OK && left.len == 0);
+    EXPECT(pcapfile_read_packet(&section, &block, &packet, &error) == PCAPFILE_OK);
+    EXPECT(packet.interface_id == 0 && packet.orig_len == 5 && packet.timestamp == 7);
+    EXPECT(packet.bytes.ptr == blocks + 96 && packet.bytes.len == 3);
+    block.body.len = 19;
+    packet.orig_len = 99;
+    EXPECT(pcapfile_read_packet(&section, &block, &packet, &error) == PCAPFILE_INVALID && error.rule == 13);
+    section.magic_number = 0;
+    EXPECT(pcapfile_read_packet(&section, &block, &packet, &error) == PCAPFILE_INVALID);
+    EXPECT(error.rule == PCAPFILE_RULE_SECTION_MAGIC && packet.orig_len == 99);
+}
+
+static void times(void) {
+    pcapfile_interface interface = { 1, 0, 10, 9, 2 };
+    pcapfile_time time = PCAPFILE_TIME_INIT;
+    EXPECT(pcapfile_time_of(&interface, 7, &time) == PCAPFILE_OK && time.seconds == 2 && time.nanoseconds == 7);
+    interface = (pcapfile_interface){ 1, 0, 2, 1, -5 };
+    EXPECT(pcapfile_time_of(&interface, 7, &time) == PCAPFILE_OK && time.seconds == -2 && time.nanoseconds == 500000000);
+    interface = (pcapfile_interface){ 1, 0, 10, 0, INT64_MAX };
+    EXPECT(pcapfile_time_of(&interface, 1, &time) == PCAPFILE_NOTHING && time.seconds == -2 && time.nanoseconds == 500000000);
+    EXPECT(pcapfile_time_of(&interface, 0, &time) == PCAPFILE_OK && time.seconds == INT64_MAX && time.nanoseconds == 0);
+}
+
 static int is_text(pcapfile_bytes bytes, const char *text) {
     return bytes.len == strlen(text) && !memcmp(bytes.ptr, text, bytes.len);
 }
@@ -132,6 +199,9 @@ int main(void) {
     packets();
     batches();
     writes();
+    first_blocks();
+    bodies();
+    times();
     rules();
     return failures > 0;
 }

@@ -19,7 +19,10 @@ struct capture {
     pcap_t *handle;
     uint8_t *bytes;
     pcapfile_bytes left;
-    pcapfile_header header;
+    pcapfile_header header; /* of a PcapNg capture one that stands for its first interface */
+    pcapfile_section section;
+    pcapfile_interface *interfaces; /* those of the section */
+    int is_ng;
     uint8_t head[24];
     u_int precision;
     uint32_t snaplen;
@@ -47,6 +50,8 @@ static void say(char *said, int32_t status, const pcapfile_error *error) {
     pcapfile_rule_text(error->rule, &text);
     if (status == PCAPFILE_INCOMPLETE)
         snprintf(said, PCAP_ERRBUF_SIZE, "pcapfile: %zu bytes are missing", error->missing);
+    else if (status != PCAPFILE_INVALID)
+        snprintf(said, PCAP_ERRBUF_SIZE, "pcapfile: status %d", (int)status);
     else
         snprintf(said, PCAP_ERRBUF_SIZE, "pcapfile: %.*s: %.*s", (int)name.len, (const char *)name.ptr, (int)text.len,
                  (const char *)text.ptr);
@@ -62,6 +67,7 @@ static int read_all(FILE *file, struct capture *capture) {
 
 static void let_go(struct capture *capture) {
     free(capture->bytes);
+    free(capture->interfaces);
     free(capture->filter.bf_insns);
     free(capture);
 }
@@ -89,8 +95,85 @@ static pcap_t *open_handle(struct capture *capture, char *said) {
     return head ? ORIGINAL(pcap_fopen_offline_with_tstamp_precision)(head, capture->precision, said) : NULL;
 }
 
+/* Keeps the interface that a block describes. libpcap wants all to be as the first one. */
+static int keep_interface(struct capture *capture, const pcapfile_block *block, char *said) {
+    uint32_t count = capture->section.interfaces;
+    pcapfile_error error = PCAPFILE_ERROR_INIT;
+    pcapfile_interface interface = PCAPFILE_INTERFACE_INIT;
+    int32_t status = pcapfile_read_interface(&capture->section, block, &interface, &error);
+    pcapfile_interface *kept = realloc(capture->interfaces, count * sizeof interface);
+    if (kept) capture->interfaces = kept;
+    if (status != PCAPFILE_OK || !kept) {
+        say(said, kept ? status : PCAPFILE_NO_MEMORY, &error);
+        return 0;
+    }
+    kept[count - 1] = interface;
+    if (!capture->handle) {
+        capture->header.link = interface.link;
+        capture->header.snaplen = interface.snaplen;
+    } else if (interface.link != capture->header.link) {
+        snprintf(said, PCAP_ERRBUF_SIZE, "an interface has a type %u different from the type of the first interface",
+                 (unsigned)interface.link);
+        return 0;
+    } else if (interface.snaplen != capture->header.snaplen) {
+        snprintf(said, PCAP_ERRBUF_SIZE,
+                 "an interface has a snapshot length %u different from the snapshot length of the first interface",
+                 (unsigned)interface.snaplen);
+        return 0;
+    }
+    return 1;
+}
+
+/* Takes the next block. 1: it is there. 0: the capture is over. -1: what is left is refused. */
+static int take_block(struct capture *capture, pcapfile_block *block, char *said) {
+    pcapfile_error error = PCAPFILE_ERROR_INIT;
+    uint32_t magic = capture->section.magic_number, before = capture->section.interfaces;
+    if (capture->left.len == 0) return 0;
+    int32_t status = pcapfile_take_block(&capture->section, &capture->left, block, &error);
+    if (status != PCAPFILE_OK) {
+        say(said, status, &error);
+        return -1;
+    }
+    if (magic != 0 && magic != capture->section.magic_number) {
+        snprintf(said, PCAP_ERRBUF_SIZE, "the file has sections with different byte orders");
+        return -1;
+    }
+    return capture->section.interfaces <= before || keep_interface(capture, block, said) ? 1 : -1;
+}
+
+static int is_packet(const pcapfile_block *block) {
+    return block->type == PCAPFILE_BLOCK_ENHANCED_PACKET || block->type == PCAPFILE_BLOCK_SIMPLE_PACKET ||
+           block->type == PCAPFILE_BLOCK_PACKET;
+}
+
+/* Takes the blocks up to the first interface, and makes of that a header. */
+static int take_first_interface(struct capture *capture, char *said) {
+    pcapfile_block block = PCAPFILE_BLOCK_INIT;
+    int taken = 1;
+    while (capture->section.interfaces == 0 && (taken = take_block(capture, &block, said)) == 1)
+        if (is_packet(&block)) {
+            snprintf(said, PCAP_ERRBUF_SIZE, "the capture file has a packet block before any Interface Description Blocks");
+            return 0;
+        }
+    if (taken == 0) snprintf(said, PCAP_ERRBUF_SIZE, "the capture file has no Interface Description Blocks");
+    capture->header.magic_number = capture->section.magic_number == 0x1a2b3c4d ? 0xa1b2c3d4 : 0xd4c3b2a1;
+    capture->header.version_major = 2;
+    capture->header.version_minor = 4;
+    return taken == 1;
+}
+
+static int is_ng(pcapfile_bytes bytes) {
+    return bytes.len >= 4 && !memcmp(bytes.ptr, "\x0a\x0d\x0d\x0a", 4);
+}
+
+static int take_front(struct capture *capture, char *said) {
+    capture->is_ng = is_ng(capture->left);
+    if (capture->is_ng) return take_first_interface(capture, said);
+    return take_header(capture, said) && !has_old_lengths(&capture->header, said);
+}
+
 static pcap_t *open_capture(struct capture *capture, char *said) {
-    if (!take_header(capture, said) || has_old_lengths(&capture->header, said)) return NULL;
+    if (!take_front(capture, said)) return NULL;
     capture->handle = open_handle(capture, said);
     if (capture->handle) capture->snaplen = (uint32_t)pcap_snapshot(capture->handle);
     return capture->handle;
@@ -140,10 +223,53 @@ static int is_native(const pcapfile_header *header) {
     return is_big != order[0];
 }
 
+/* The packet that a block is, as libpcap shows it. */
+static int show_packet(struct capture *capture, const pcapfile_block *block, struct pcap_pkthdr *header, const u_char **data) {
+    pcapfile_ng_packet packet = PCAPFILE_NG_PACKET_INIT;
+    pcapfile_error error = PCAPFILE_ERROR_INIT;
+    pcapfile_time time = PCAPFILE_TIME_INIT;
+    int32_t status = pcapfile_read_packet(&capture->section, block, &packet, &error);
+    if (status != PCAPFILE_OK) {
+        say(capture->error, status, &error);
+        return -1;
+    }
+    if (packet.interface_id >= capture->section.interfaces) {
+        snprintf(capture->error, PCAP_ERRBUF_SIZE,
+                 "a packet arrived on interface %u, but there's no Interface Description Block for that interface",
+                 (unsigned)packet.interface_id);
+        return -1;
+    }
+    uint32_t stored = (uint32_t)packet.bytes.len;
+    if (block->type == PCAPFILE_BLOCK_SIMPLE_PACKET && packet.orig_len < stored) stored = packet.orig_len;
+    if (block->type == PCAPFILE_BLOCK_SIMPLE_PACKET && capture->snaplen < stored) stored = capture->snaplen;
+    if (stored > capture->snaplen) {
+        snprintf(capture->error, PCAP_ERRBUF_SIZE, "invalid packet capture length %u, bigger than snaplen of %d",
+                 (unsigned)stored, (int)capture->snaplen);
+        return -1;
+    }
+    pcapfile_time_of(&capture->interfaces[packet.interface_id], packet.timestamp, &time);
+    int is_nano = capture->precision == PCAP_TSTAMP_PRECISION_NANO;
+    header->ts.tv_sec = (time_t)time.seconds;
+    header->ts.tv_usec = (suseconds_t)(is_nano ? time.nanoseconds : time.nanoseconds / 1000);
+    header->len = packet.orig_len;
+    header->caplen = stored;
+    *data = packet.bytes.ptr;
+    return 1;
+}
+
+static int take_from_blocks(struct capture *capture, struct pcap_pkthdr *header, const u_char **data) {
+    pcapfile_block block = PCAPFILE_BLOCK_INIT;
+    int taken;
+    while ((taken = take_block(capture, &block, capture->error)) == 1)
+        if (is_packet(&block)) return show_packet(capture, &block, header, data);
+    return taken;
+}
+
 /* Takes the next packet. 1: it is there. 0: the capture is over. -1: what is left is refused. */
 static int take(struct capture *capture, struct pcap_pkthdr *header, const u_char **data) {
     pcapfile_packet packet = PCAPFILE_PACKET_INIT;
     pcapfile_error error = PCAPFILE_ERROR_INIT;
+    if (capture->is_ng) return take_from_blocks(capture, header, data);
     if (capture->left.len == 0) return 0;
     int32_t status = pcapfile_take_packet(&capture->header, &capture->left, &packet, &error);
     if (status != PCAPFILE_OK) {
