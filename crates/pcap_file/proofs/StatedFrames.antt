@@ -10,7 +10,6 @@ use Rattle.pcap_core.specs.declared.rules.Rule.TheVariants.{BlockLengthsDiffer}
 use Rattle.pcap_core.specs.declared.errors.PcapError.{PcapError}
 use Rattle.pcap_core.specs.Answer.{Number, number_in, Verdict, lacks, faulty}
 use Rattle.pcap_core.specs.Faults.{Invalid, Names}
-use Rattle.pcap_core.proofs.Refusals.{named_shows}
 use Rattle.pcap_blocks.specs.BlockType.{block_type}
 use Rattle.pcap_core.specs.Filling.{IsSettled, Stated, StatesRest, TellsSettled}
 use Rattle.pcap_file.specs.declared.pcapng.framing.FrameHead.{FrameHead}
@@ -118,17 +117,6 @@ module _ (e : Endianness) (head : FrameHead) (n : ℕ) (s : List ℕ) (long : le
 pub frame_breaks : (e : Endianness) (s : List ℕ) (rule : Rule) → BreaksHead e s rule → frame_format.says e s (faulty (Invalid rule))
 unfolding frame_format
 frame_breaks e s rule broken = in_head rule broken
-
--- a head that `?` refuses by its rule
-pub named_states : {H V : Type 0} (IsSaid : List ℕ → Verdict V → Type 0) (Knows : H → ℕ → List ℕ → Type 0) (s : List ℕ) (rule : Rule) (result : Result (H × ℕ) PcapError)
-    → IsSaid s (faulty (Invalid rule)) → IsErrAnd result (Names rule) → StatesRest IsSaid Knows s result
-named_states IsSaid Knows s rule (Err e) stands named = named_shows (λ fault. IsSaid s (faulty fault)) rule e stands named
-named_states IsSaid Knows s rule (Ok x) stands named = absurd named
-
--- what is read of bytes that were filled, refused by `?` for its rule
-pub named_settles : {X V : Type 0} (IsSaid : Verdict V → Type 0) (view : X → V) (rule : Rule) (result : Result X PcapError) → IsSaid (faulty (Invalid rule)) → IsErrAnd result (Names rule) → TellsSettled IsSaid view result
-named_settles IsSaid view rule (Err e) stands named = named_shows (λ fault. IsSaid (faulty fault)) rule e stands named
-named_settles IsSaid view rule (Ok x) stands named = absurd named
 
 -- how long what follows a head is
 pub tail_length : (head : FrameHead) (b : Framed) (s rest : List ℕ) → TailOf head b s rest → length s + 8 ≡ head.len + length rest

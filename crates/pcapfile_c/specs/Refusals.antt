@@ -4,7 +4,7 @@ use Rattle.pcap_core.specs.declared.errors.PcapError.{PcapError}
 use Rattle.pcap_core.specs.declared.errors.PcapError.TheVariants as errors
 use Rattle.pcap_core.specs.declared.rules.Rule.{Rule}
 use Rattle.pcap_core.specs.Answer.{Verdict, lacks, faulty}
-use Rattle.pcap_core.specs.Faults.{Invalid, Io, Utf8, text_of}
+use Rattle.pcap_core.specs.Faults.{Invalid, Io, Utf8, rule_message}
 use Rattle.pcap_core.specs.Rules.{number_of}
 use Rattle.pcapfile_c.specs.declared.errors.PcapfileError.{PcapfileError}
 
@@ -17,7 +17,7 @@ abbrev pub ShowsError : PcapError → PcapfileError → ℤ → Type 0
 ShowsError (errors.IncompleteBuffer n) told status = (status ≡ pos 1) × (told.rule ≡ 0) × (told.missing ≡ n)
 ShowsError (errors.IoError e) told status = (status ≡ pos 2) × SaysNoMore told
 ShowsError (errors.InvalidField text) told status =
-    (status ≡ pos 3) × ((rule : Rule) → text.now ≡ text_of rule → told.rule ≡ number_of rule) × (told.missing ≡ 0)
+    (status ≡ pos 3) × ((rule : Rule) → text.now ≡ rule_message rule → told.rule ≡ number_of rule) × (told.missing ≡ 0)
 ShowsError (errors.Utf8Error e) told status = (status ≡ pos 4) × SaysNoMore told
 ShowsError (errors.FromUtf8Error e) told status = (status ≡ pos 5) × SaysNoMore told
 ShowsError (errors.OutOfMemory e) told status = (status ≡ pos 6) × SaysNoMore told

@@ -7,7 +7,7 @@ use Rattle.pcap_classic.specs.Magic.{is_magic, order_of, resolution_of}
 use Rattle.pcap_classic.specs.PacketText.{packet_limit, PacketHeaderText}
 use Rattle.pcap_classic.specs.Packets.{reader_format}
 use Rattle.pcap_classic.proofs.Packets.{reader_refuses, reader_lawful}
-use Rattle.pcap_classic.proofs.Texts.{head_length}
+use Rattle.pcap_classic.proofs.FieldNumbers.{head_length}
 use Rattle.pcap_core.proofs.Refusals.{named_shows}
 use Rattle.pcap_classic.specs.StatedPackets.{KnowsHeader}
 use Rattle.pcap_classic.proofs.StatedPackets.{reader_head, no_bytes, packet_stands, packet_lacks, header_refused}

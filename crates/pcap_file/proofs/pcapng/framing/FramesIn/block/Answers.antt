@@ -4,7 +4,8 @@ use Rattle.pcap_core.specs.Answer.{whole, faulty}
 use Rattle.pcap_core.specs.Faults.{Invalid}
 use Rattle.pcap_file.specs.Frames.{framed_of, frame_format, FrameHeadText, FrameFault, FrameText, unequal}
 use Rattle.pcap_file.proofs.FrameWords.{frames_say}
-use Rattle.pcap_file.proofs.StatedFrames.{head_of_all, stated_length, tail_text, tail_differs, tail_length, no_bytes, named_settles}
+use Rattle.pcap_file.proofs.StatedFrames.{head_of_all, stated_length, tail_text, tail_differs, tail_length, no_bytes}
+use Rattle.pcap_core.proofs.Refusals.{named_settles}
 use Rattle.pcap_file.proofs.pcapng.framing.FramesIn.block.Goals as goal
 
 pub returns-in_err-_rest : goal.returns-in_err-_rest
