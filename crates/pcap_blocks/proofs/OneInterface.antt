@@ -58,6 +58,7 @@ fault_to order fault s (short lt) = inl (refl, lt)
 fault_to order fault s (in_options _ after behind stands) = inr (after, behind, stands)
 
 interface_then : (order : Order) → IsNumbersThen order (Invalid InterfaceTooShort) widths interface_with (ListSays may_end_with_body order interface_description) (InterfaceText order) (InterfaceFault order)
+unfolding interface_with
 interface_then order = record {
   text_to = λ i s rest h. (numbers_of order i s h.after_head h.head, h.after_head, head_to order i s h.after_head h.head, i.options, made_of_head order i s h.after_head h.head, h.options_are);
   text_from = λ ns options s after rest n h. record { after_head = after; head = head_from order ns options s after n; options_are = h };

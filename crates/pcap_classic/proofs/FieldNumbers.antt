@@ -109,8 +109,9 @@ module _ (order : Order) where
 
   pub fields_same : (p q : PcapHeader) (s a b : List ℕ) → p.magic_number ≡ q.magic_number → FieldsText order p s a → FieldsText order q s b → (p ≡ q) × (a ≡ b)
   fields_same p q s a b magic x y =
-      let e = numbers_same order field_widths (field_numbers p s a x) (field_numbers q s b y) s a b (fields_to p s a x) (fields_to q s b y) in
-      let made : header_with p.magic_number (field_numbers p s a x) ≡ header_with q.magic_number (field_numbers q s b y) = rw (magic, e.0) refl in
+      let m = field_numbers q s b y in
+      let e = numbers_same order field_widths (field_numbers p s a x) m s a b (fields_to p s a x) (fields_to q s b y) in
+      let made : header_with p.magic_number (field_numbers p s a x) ≡ header_with q.magic_number m = ap (header_with p.magic_number) e.0 ∙ ap (λ (k : ℕ). header_with k m) magic in
       (header_made p s a x ∙ made ∙ sym (header_made q s b y), e.1)
 
   pub fields_length : (header : PcapHeader) (s rest : List ℕ) → FieldsText order header s rest → length s ≡ 20 + length rest

@@ -21,10 +21,6 @@ pub frame_head : frame_format.head ≡ 12
 unfolding frame_format
 frame_head = refl
 
-pub no_bytes : (l : List ℕ) → length l ≡ 0 → l ≡ []
-no_bytes [] e = refl
-no_bytes (b ∷ l) e = absurd (omega (arith, e))
-
 number_more : (order : ℕ → List ℕ → ℕ) (w n : ℕ) (s a more : List ℕ) → Number order w n s a → Number order w n (s ++ more) (a ++ more)
 number_more order w n s a more p = record { bytes = p.bytes; text = ap (λ t. t ++ more) p.text ∙ append_assoc p.bytes a more; length_is = p.length_is; value = p.value }
 
