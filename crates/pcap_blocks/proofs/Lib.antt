@@ -20,3 +20,4 @@ pub mod OneName
 pub mod OneRecord
 pub mod OneResolution
 pub mod OneBody
+pub mod Found

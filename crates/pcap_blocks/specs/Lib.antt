@@ -18,3 +18,5 @@ pub mod Names
 pub mod Record
 pub mod NameResolution
 pub mod ParsedBlock
+pub mod Held
+pub mod InterfaceTimes

@@ -6,8 +6,10 @@
 
 mod block_type;
 mod enhanced_packet;
+mod held;
 mod interface_description;
 mod interface_statistics;
+mod interface_times;
 pub mod laws;
 mod name_resolution;
 mod names;
@@ -34,6 +36,7 @@ pub use names::str_from_u8_null_terminated;
 pub use options::{CustomBinaryOption, CustomUtf8Option, UnknownOption};
 pub use packet::{PacketBlock, PacketOption};
 pub use parsed_block::ParsedBlock;
+pub use pcap_times::{Clock, TimeUnit, Timestamp};
 pub use record::{Ipv4Record, Ipv6Record, Record, UnknownRecord};
 pub use section_header::{SectionHeaderBlock, SectionHeaderOption};
 pub use simple_packet::SimplePacketBlock;

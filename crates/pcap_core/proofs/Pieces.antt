@@ -1,6 +1,7 @@
 -- Bytes that come in pieces, over any format.
 use Rattle.std.proofs.Common.{◌≡◌, ◌<◌, ◌≤◌, ◌+◌, ◌-◌, ℕ, List, [], ◌∷◌, ◌++◌, length, take, drop, get_or, Bool, true, false, Result, Ok, Err, refl, sym, ap, subst, ◌∙◌, arith, append_assoc, append-nil, length-append, length-drop, inl, inr}
-use Rattle.std.specs.Prelude.{Some, None, IfOk, nat_lt, ◌==◌, if◌then◌else◌}
+use Rattle.std.specs.Prelude.{Option, Some, None, IfOk, nat_lt, ◌==◌, if◌then◌else◌}
+use Rattle.std.specs.Option.{option_map}
 use Rattle.std.specs.Borrow.{Bor}
 use Rattle.std.proofs.lemmas.Bool.{ltb-true}
 use Rattle.std.proofs.lemmas.Bool.Decides.{nat_tests}
@@ -16,9 +17,9 @@ use Rattle.pcap_core.specs.Answer.{Verdict, whole, lacks, faulty, Refuses}
 use Rattle.pcap_core.specs.Faults.{Invalid, Io, Utf8}
 use Rattle.pcap_core.specs.Format.{Format, Front, IsLawful, state_after}
 use Rattle.pcap_core.specs.Laws.{IsStable}
-use Rattle.pcap_core.specs.Pieces.{AfterEach, HoldsItems, IsFed, IsOpening, Reaches, TakesPart, joined_pieces}
+use Rattle.pcap_core.specs.Pieces.{AfterEach, Came, HoldsItems, IsFed, IsOpening, Reaches, TakesPart, joined_pieces}
 use Rattle.pcap_core.specs.Run.{IsRest}
-use Rattle.pcap_core.specs.Waiting.{error_after, rest_after_more}
+use Rattle.pcap_core.specs.Waiting.{error_after, progress_after, rest_after_more}
 use Rattle.pcap_core.proofs.Formats.{front_same, nil_of_length, shorter, state_push, texts_more, texts_push}
 use Rattle.pcap_core.proofs.Fronts.{said_not_refused}
 use Rattle.pcap_core.proofs.Refusals.{shows_more}
@@ -163,6 +164,25 @@ module _ {P S V W : Type 0} (opens : List ℕ → Verdict S → Type 0) (opening
   pub fed_waits_within : (s more : List ℕ) (parser : P) (rest next : Rest) (held : List ℕ) (ws : List W) → rest_after_more rest (length more) ≡ Some next → IsFed opens f part state s (Within parser rest) held ws
       → IsFed opens f part state (s ++ more) (Within parser next) (held ++ more) ws
   fed_waits_within s more parser rest next held ws e fed = (reaches_more (state parser) ws s held more fed.0, rest_still (f.says (state parser)) (laws.stable (state parser)) held more rest next e fed.1)
+
+  option_of : {X Y : Type 0} (o : Option X) (g : X → Y) (y : Y) → option_map g o ≡ Some y → (x : X) × (o ≡ Some x) × (g x ≡ y)
+  option_of (Some x) g y e = (x, refl, cc)
+  option_of None g y e = absurd cc
+
+  -- a piece with which nothing has to be asked, wherever the capture is
+  pub fed_waits : (s more : List ℕ) (progress next : Progress P) (held : List ℕ) (ws : List W) → progress_after progress (length more) ≡ Some next → IsFed opens f part state s progress held ws
+      → IsFed opens f part state (s ++ more) next (held ++ more) ws
+  fed_waits s more (Before error) next held ws e fed =
+      let o = option_of (error_after error (length more)) Before next e in
+      subst (λ (p : Progress P). IsFed opens f part state (s ++ more) p (held ++ more) ws) o.2 (fed_waits_before s more error o.0 held ws o.1 fed)
+  fed_waits s more (Within parser rest) next held ws e fed =
+      let o = option_of (rest_after_more rest (length more)) (Within parser) next e in
+      subst (λ (p : Progress P). IsFed opens f part state (s ++ more) p (held ++ more) ws) o.2 (fed_waits_within s more parser rest o.0 held ws o.1 fed)
+
+  -- and any other one
+  pub fed_came : (s more : List ℕ) (progress : Progress P) (held : List ℕ) (ws : List W) → IsFed opens f part state s progress held ws → Came opens f part state (s ++ more) progress (held ++ more) ws
+  fed_came s more (Before error) held ws fed = (ap (λ (l : List ℕ). l ++ more) fed.0, fed.1)
+  fed_came s more (Within parser rest) held ws fed = reaches_more (state parser) ws s held more fed.0
 
 -- the number of items of a front is one
 pub holds_same : {S V : Type 0} (opens : List ℕ → Verdict S → Type 0) → IsOpening opens → (f : Format S V) → IsLawful f → (s : List ℕ) (n m : ℕ) → HoldsItems opens f s n → HoldsItems opens f s m → n ≡ m

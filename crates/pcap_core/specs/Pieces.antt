@@ -56,6 +56,11 @@ abbrev pub IsFed : {P S V W : Type 0} → (List ℕ → Verdict S → Type 0) �
 IsFed opens f part state s (Before error) held ws = (held ≡ s) × (ws ≡ []) × Refuses ⊥ (λ n. opens s (lacks n)) (λ fault. opens s (faulty fault)) error
 IsFed opens f part state s (Within parser rest) held ws = Reaches opens f part (state parser) ws s held × IsRest (f.says (state parser)) held rest
 
+-- the same where what is held may begin an item
+abbrev pub Came : {P S V W : Type 0} → (List ℕ → Verdict S → Type 0) → Format S V → (V → W) → (P → S) → List ℕ → Progress P → List ℕ → List W → Type 0
+Came opens f part state s (Before error) held ws = (held ≡ s) × (ws ≡ [])
+Came opens f part state s (Within parser rest) held ws = Reaches opens f part (state parser) ws s held
+
 -- s came, and so many of its bytes were taken
 pub record IsFedUpTo {P S V W : Type 0} (opens : List ℕ → Verdict S → Type 0) (f : Format S V) (part : V → W) (state : P → S) (s : List ℕ) (progress : Progress P) (used : ℕ) (ws : List W) : Type 0 where
   pub left : List ℕ

@@ -13,11 +13,11 @@ pub use block::Block;
 pub use block_header::BlockHeader;
 pub use parser::PcapNgParser;
 pub use pcap_blocks::{
-    BlockType, CustomBinaryOption, CustomUtf8Option, EnhancedPacketBlock, EnhancedPacketOption,
-    InterfaceDescriptionBlock, InterfaceDescriptionOption, InterfaceStatisticsBlock,
-    InterfaceStatisticsOption, Ipv4Record, Ipv6Record, NameResolutionBlock, NameResolutionOption,
-    PacketBlock, PacketOption, ParsedBlock, Record, SectionHeaderBlock, SectionHeaderOption,
-    SimplePacketBlock, SystemdJournalExportBlock, UnknownBlock, UnknownOption, UnknownRecord,
-    str_from_u8_null_terminated,
+    BlockType, Clock, CustomBinaryOption, CustomUtf8Option, EnhancedPacketBlock,
+    EnhancedPacketOption, InterfaceDescriptionBlock, InterfaceDescriptionOption,
+    InterfaceStatisticsBlock, InterfaceStatisticsOption, Ipv4Record, Ipv6Record,
+    NameResolutionBlock, NameResolutionOption, PacketBlock, PacketOption, ParsedBlock, Record,
+    SectionHeaderBlock, SectionHeaderOption, SimplePacketBlock, SystemdJournalExportBlock,
+    TimeUnit, Timestamp, UnknownBlock, UnknownOption, UnknownRecord, str_from_u8_null_terminated,
 };
 pub use reader::PcapNgReader;

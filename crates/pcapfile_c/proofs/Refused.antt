@@ -11,7 +11,7 @@ use Rattle.pcap_classic.specs.Parser.{OpensParser}
 use Rattle.pcapfile_c.specs.declared.errors.PcapfileError.{PcapfileError}
 use Rattle.pcapfile_c.specs.declared.shown.PcapfileBytes.{PcapfileBytes}
 use Rattle.pcapfile_c.specs.Calls.{Takes}
-use Rattle.pcapfile_c.specs.Refusals.{ShowsError, ShowsRule, TellsRefusal}
+use Rattle.pcapfile_c.specs.Refusals.{ShowsError, ShowsRule, TellsRefusal, TellsRefusalWhere}
 
 -- a status as it is returned
 abbrev kept : ℤ → ℤ
@@ -61,3 +61,14 @@ tells_named rule (errors.Utf8Error e) told z named shows = absurd named
 tells_named rule (errors.FromUtf8Error e) told z named shows = absurd named
 tells_named rule (errors.OutOfMemory e) told z named shows = absurd named
 tells_named rule errors.WriterFailed told z named shows = absurd named
+
+-- a refusal of a call that takes memory
+pub tells_refusal_where : {V : Type 0} (M : Type 0) (IsSaid : Verdict V → Type 0) (e : PcapError) (told : PcapfileError) (z : ℤ)
+    → Refuses M (λ n. IsSaid (lacks n)) (λ fault. IsSaid (faulty fault)) e → ShowsError e told z → TellsRefusalWhere M IsSaid told (to_z w32 (of_z w32 z))
+tells_refusal_where M IsSaid (errors.IncompleteBuffer n) told z said shows = inl (tells_refusal IsSaid (errors.IncompleteBuffer n) told z said shows)
+tells_refusal_where M IsSaid (errors.InvalidField text) told z said shows = inl (tells_refusal IsSaid (errors.InvalidField text) told z said shows)
+tells_refusal_where M IsSaid (errors.IoError e) told z said shows = inl (tells_refusal IsSaid (errors.IoError e) told z said shows)
+tells_refusal_where M IsSaid (errors.Utf8Error e) told z said shows = inl (tells_refusal IsSaid (errors.Utf8Error e) told z said shows)
+tells_refusal_where M IsSaid (errors.FromUtf8Error e) told z said shows = absurd said
+tells_refusal_where M IsSaid (errors.OutOfMemory e) told z said shows = inr (ap kept shows.0, shows.1, said)
+tells_refusal_where M IsSaid errors.WriterFailed told z said shows = absurd said

@@ -2,3 +2,4 @@ pub mod Shown
 pub mod Refusals
 pub mod Calls
 pub mod Writing
+pub mod Blocks

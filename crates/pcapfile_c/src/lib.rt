@@ -4,6 +4,7 @@
 //! requires anything of its arguments' values.
 #![tactic(auto)]
 
+mod blocks;
 mod errors;
 mod pcap;
 mod rule_texts;

@@ -7,6 +7,7 @@ mod captures;
 mod parts;
 mod pcapng;
 mod resumption;
+mod samples;
 
 use pcap_classic::{PcapError, ResultParsing};
 use std::io;
@@ -18,6 +19,7 @@ fn main(rt: HostRuntime) -> io::Result<()> {
         parts::make_calls(&rt)?;
         pcapng::make_calls(&rt)?;
         resumption::make_calls(&rt)?;
+        samples::make_calls(&rt)?;
     }
     Ok(())
 }

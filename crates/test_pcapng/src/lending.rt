@@ -2,7 +2,7 @@
 
 use crate::told::state;
 use pcap_file::pcapng::{BlockHeader, BlockType, PcapNgReader};
-use pcap_file::{Endianness, PcapError};
+use pcap_file::{Endianness, PcapError, ResultParsing};
 use std::alloc::Global;
 use std::test::Fail;
 use test_support::captures::{SECTION, SECTIONS, back, front};
@@ -84,17 +84,32 @@ fn capture(alloc: Global, digits: &str) -> Result<Vec<u8>, Fail> {
     Ok(all)
 }
 
-// The block that the reader lends, and its body, as text.
-fn lent(alloc: Global, reader: &mut PcapNgReader<Halting>) -> Result<String, Fail> {
-    match reader.next_header() {
-        None => Ok(String::from_str(alloc, "None")?),
-        Some(Ok(header)) => {
-            let block = reader.block(header);
-            Ok(format!(in alloc; "{:?}", block.parsed(alloc)?)?)
-        }
+// The body of the block that is lent under this header, as text.
+fn body_text(
+    alloc: Global,
+    reader: &PcapNgReader<Halting>,
+    header: BlockHeader,
+) -> Result<String, Fail> {
+    let block = reader.block(header);
+    Ok(format!(in alloc; "{:?}", block.parsed(alloc)?)?)
+}
+
+// What a call gave, as text, where it gave no header.
+fn refusal_text(alloc: Global, given: &Option<ResultParsing<BlockHeader>>) -> Result<String, Fail> {
+    match given {
         Some(Err(PcapError::IoError(error))) => Ok(format!(in alloc; "{:?}", error.kind())?),
         Some(Err(error)) => Ok(format!(in alloc; "{error:?}")?),
+        _ => Ok(String::from_str(alloc, "None")?),
     }
+}
+
+// The body of the next block, which is lent, or the refusal, as text.
+fn lent(alloc: Global, reader: &mut PcapNgReader<Halting>) -> Result<String, Fail> {
+    let given = reader.next_header();
+    if let Some(Ok(header)) = given {
+        return body_text(alloc, reader, header);
+    }
+    refusal_text(alloc, &given)
 }
 
 #[test]
@@ -146,20 +161,25 @@ fn refused_lent_blocks(rt: HostRuntime) -> Result<(), Fail> {
     Ok(())
 }
 
+// How many bytes the next block's body has, owned, if one comes.
+fn owned_length(reader: &mut PcapNgReader<Halting>) -> Option<usize> {
+    match reader.next() {
+        Some(Ok(block)) => Some(block.body.len()),
+        _ => None,
+    }
+}
+
 #[test]
 fn lent_and_owned_blocks(rt: HostRuntime) -> Result<(), Fail> {
     for step in [1, 100] {
         let stream = Halting::new(rt.alloc(), &SECTIONS, step)?;
         let mut reader = PcapNgReader::new(rt.alloc(), stream)?;
-        assert!(rt; given(&mut reader).is_some() && reader.body().len() == 8);
-        let is_owned = match reader.next() {
-            Some(Ok(block)) => block.body.as_slice() == back(front(&SECTIONS, 72), 56),
-            _ => false,
-        };
-        assert!(rt; is_owned && reader.body().is_empty());
-        assert!(rt; given(&mut reader).is_some() && reader.body().len() == 8);
-        let is_end = reader.next().is_none();
-        assert!(rt; is_end && reader.body().is_empty());
+        for (is_given, lent, owned) in [(true, 8, Some(16)), (true, 8, None)] {
+            assert!(rt; given(&mut reader).is_some() == is_given);
+            assert!(rt; reader.body().len() == lent);
+            assert!(rt; owned_length(&mut reader) == owned);
+            assert!(rt; reader.body().is_empty());
+        }
     }
     Ok(())
 }

@@ -1,12 +1,12 @@
 //! Items of a capture that comes in pieces.
 
-ghost use Rattle.std.specs.Prelude.{◌≡◌, ◌≤◌, ◌<◌, ◌^◌, ◌↔◌, ◌++◌, ℕ, List, [], length, drop, map, All, IsTrue, IfOk, IfErr};
+ghost use Rattle.std.specs.Prelude.{◌≡◌, ◌≤◌, ◌<◌, ◌^◌, ◌↔◌, ◌++◌, ℕ, List, [], length, drop, map, All, false, Some, None, IsTrue, IfOk, IfErr, if◌then◌else◌};
 ghost use Rattle.pcap_core.specs.Answer.{Verdict};
 ghost use Rattle.pcap_core.specs.Errors.{IsMemory};
 ghost use Rattle.pcap_core.specs.Format.{Format, IsLawful};
 ghost use Rattle.pcap_core.specs.Found.{IfItem};
-ghost use Rattle.pcap_core.specs.Pieces.{AfterEach, HoldsItems, IsFed, IsFedUpTo, IsOpening, OpensWith, Reaches, TakesFront, joined_pieces};
-ghost use Rattle.pcap_core.specs.Waiting.{error_after, rest_after_more};
+ghost use Rattle.pcap_core.specs.Pieces.{AfterEach, Came, HoldsItems, IsFed, IsFedUpTo, IsOpening, OpensWith, Reaches, TakesFront, joined_pieces};
+ghost use Rattle.pcap_core.specs.Waiting.{error_after, progress_after, rest_after_more};
 
 use crate::run::Found;
 use crate::{PcapError, Rest, ResultParsing};
@@ -67,15 +67,6 @@ pub struct Pieces<P, T> {
     pub used: usize,
 }
 
-// What the pieces so far hold: the items, and the bytes that none of them has taken. Bytes are asked about once so many
-// have come as were missing, so each item is parsed twice at most, and a refused one no more.
-#[derive(Drop)]
-struct Fed<P, T> {
-    progress: Progress<P>,
-    items: Vec<T>,
-    held: Vec<u8>,
-}
-
 /// Feeds a parser with the pieces, one by one, and counts after each of them the items so far.
 ///
 /// `OutOfMemory` where something can't grow.
@@ -91,18 +82,23 @@ pub fn feed_pieces<P: PieceParser>(
     ensures owned { IfOk result (λ x. All P.owned x.items.items) }
     ensures memory { IfErr result IsMemory }
 {
-    let mut fed = opened(alloc, Vec::new(alloc))?;
-    let mut numbers = Vec::new(alloc);
+    let mut held = Vec::new(alloc);
+    let mut items = Vec::new(alloc);
+    let mut progress = opened(alloc, &mut held, &mut items)?;
+    let mut numbers = Vec::with_capacity(alloc, pieces.len())?;
     let mut total = 0;
     for piece in pieces {
-        fed = feed(alloc, fed, piece)?;
-        numbers.push(fed.items.as_slice().len())?;
+        hold(&mut held, piece)?;
+        if !waits(&mut progress, piece.len()) {
+            progress = asked(alloc, progress, &mut held, &mut items)?;
+        }
+        numbers.push(items.as_slice().len())?;
         total += piece.len();
     }
-    let used = total - fed.held.len();
+    let used = total - held.len();
     Ok(Pieces {
-        progress: fed.progress,
-        items: fed.items,
+        progress,
+        items,
         numbers,
         used,
     })
@@ -122,84 +118,129 @@ pub fn pieces_fit(pieces: &[&[u8]]) -> bool
     true
 }
 
-// With one piece more.
-fn feed<P: PieceParser>(
-    alloc: Global,
-    fed: Fed<P, P::Item>,
-    piece: &[u8],
-) -> ResultParsing<Fed<P, P::Item>>
-    requires lawful { IsLawful P.format }
-    requires opening { IsOpening P.opens }
-    ensures fed { IfOk result (λ new. (s : List ℕ) → IsFed P.opens P.format P.part P.state s fed.progress fed.held.items (map P.view fed.items.items)
-        → IsFed P.opens P.format P.part P.state (s ++ piece.now) new.progress new.held.items (map P.view new.items.items)) }
-    ensures owned { IfOk result (λ new. All P.owned fed.items.items → All P.owned new.items.items) }
+// Puts a piece behind what is held.
+#[inline(always)]
+fn hold(held: &mut Vec<u8>, piece: &[u8]) -> ResultParsing<()>
+    ensures held { IfOk result (λ _. held.new.items ≡ held.old.items ++ piece.now) }
     ensures memory { IfErr result IsMemory }
 {
-    let Fed {
-        progress,
-        items,
-        mut held,
-    } = fed;
-    held.extend_from_slice(piece)?;
+    match piece {
+        [byte] => held.push(*byte)?,
+        _ => held.extend_from_slice(piece)?,
+    }
+    Ok(())
+}
+
+// Counts so many bytes more, and tells whether what is known of the capture needs no asking.
+#[inline(always)]
+fn waits<P>(progress: &mut Progress<P>, more: usize) -> bool
+    ensures known { progress_after progress.old more ≡ (if result then Some progress.new else None) }
+    ensures kept { result ≡ false → progress.new ≡ progress.old }
+{
     match progress {
-        Progress::Before(error) => match still_before(error, piece.len()) {
-            Some(error) => Ok(Fed {
-                progress: Progress::Before(error),
-                items,
-                held,
-            }),
-            None => opened(alloc, held),
-        },
-        Progress::Within(parser, rest) => match still_within(rest, piece.len()) {
-            Some(rest) => Ok(Fed {
-                progress: Progress::Within(parser, rest),
-                items,
-                held,
-            }),
-            None => take_items(alloc, parser, held, items),
-        },
+        Progress::Before(error) => error_waits(error, more),
+        Progress::Within(_, rest) => rest_waits(rest, more),
+    }
+}
+
+// The same of the error that opening answers.
+#[inline(always)]
+fn error_waits(error: &mut PcapError, more: usize) -> bool
+    ensures known { error_after error.old more ≡ (if result then Some error.new else None) }
+    ensures kept { result ≡ false → error.new ≡ error.old }
+{
+    match error {
+        PcapError::IncompleteBuffer(n) => {
+            if more < *n {
+                *n -= more;
+                true
+            } else {
+                false
+            }
+        }
+        _ => true,
+    }
+}
+
+// The same of the rest.
+#[inline(always)]
+fn rest_waits(rest: &mut Rest, more: usize) -> bool
+    ensures known { rest_after_more rest.old more ≡ (if result then Some rest.new else None) }
+    ensures kept { result ≡ false → rest.new ≡ rest.old }
+{
+    match rest {
+        Rest::Clean => more == 0,
+        Rest::Needs(n) => {
+            if more < *n {
+                *n -= more;
+                true
+            } else {
+                false
+            }
+        }
+        Rest::Refused(_) => true,
+    }
+}
+
+// Asks the parser for what stands at the front of what is held.
+#[inline(never)]
+fn asked<P: PieceParser>(
+    alloc: Global,
+    progress: Progress<P>,
+    held: &mut Vec<u8>,
+    items: &mut Vec<P::Item>,
+) -> ResultParsing<Progress<P>>
+    requires lawful { IsLawful P.format }
+    requires opening { IsOpening P.opens }
+    ensures fed { IfOk result (λ new. (s : List ℕ) → Came P.opens P.format P.part P.state s progress held.old.items (map P.view items.old.items)
+        → IsFed P.opens P.format P.part P.state s new held.new.items (map P.view items.new.items)) }
+    ensures owned { IfOk result (λ _. All P.owned items.old.items → All P.owned items.new.items) }
+    ensures memory { IfErr result IsMemory }
+{
+    match progress {
+        Progress::Before(_error) => opened(alloc, held, items),
+        Progress::Within(mut parser, _rest) => {
+            let rest = take_items(alloc, &mut parser, held, items)?;
+            Ok(Progress::Within(parser, rest))
+        }
     }
 }
 
 // Opens the capture and takes its items, where it opens.
-fn opened<P: PieceParser>(alloc: Global, mut held: Vec<u8>) -> ResultParsing<Fed<P, P::Item>>
+fn opened<P: PieceParser>(
+    alloc: Global,
+    held: &mut Vec<u8>,
+    items: &mut Vec<P::Item>,
+) -> ResultParsing<Progress<P>>
     requires lawful { IsLawful P.format }
     requires opening { IsOpening P.opens }
-    ensures fed { IfOk result (λ new. IsFed P.opens P.format P.part P.state held.items new.progress new.held.items (map P.view new.items.items)) }
-    ensures owned { IfOk result (λ new. All P.owned new.items.items) }
+    ensures fed { IfOk result (λ new. map P.view items.old.items ≡ [] → IsFed P.opens P.format P.part P.state held.old.items new held.new.items (map P.view items.new.items)) }
+    ensures owned { IfOk result (λ _. All P.owned items.old.items → All P.owned items.new.items) }
     ensures memory { IfErr result IsMemory }
 {
-    let items = Vec::new(alloc);
     match P::open(alloc, held.as_slice())? {
-        Found::Item((parser, left)) => {
+        Found::Item((mut parser, left)) => {
             let taken = held.len() - left;
-            drop_front(&mut held, taken);
-            take_items(alloc, parser, held, items)
+            drop_front(held, taken);
+            let rest = take_items(alloc, &mut parser, held, items)?;
+            Ok(Progress::Within(parser, rest))
         }
-        Found::Needs(n) => Ok(Fed {
-            progress: Progress::Before(PcapError::IncompleteBuffer(n)),
-            items,
-            held,
-        }),
-        Found::Refused(error) => Ok(Fed {
-            progress: Progress::Before(error),
-            items,
-            held,
-        }),
+        Found::Needs(n) => Ok(Progress::Before(PcapError::IncompleteBuffer(n))),
+        Found::Refused(error) => Ok(Progress::Before(error)),
     }
 }
 
-// Takes the items that stand at the front of what is held.
+// Takes the items that stand at the front of what is held, lets their bytes go, and tells what is left.
 fn take_items<P: PieceParser>(
     alloc: Global,
-    mut parser: P,
-    mut held: Vec<u8>,
-    mut items: Vec<P::Item>,
-) -> ResultParsing<Fed<P, P::Item>>
+    parser: &mut P,
+    held: &mut Vec<u8>,
+    items: &mut Vec<P::Item>,
+) -> ResultParsing<Rest>
     requires lawful { IsLawful P.format }
-    ensures fed { IfOk result (λ new. (s : List ℕ) → Reaches P.opens P.format P.part (P.state parser) (map P.view items.items) s held.items
-        → IsFed P.opens P.format P.part P.state s new.progress new.held.items (map P.view new.items.items)) }
-    ensures owned { IfOk result (λ new. All P.owned items.items → All P.owned new.items.items) }
+    ensures fed { IfOk result (λ rest. (s : List ℕ) → Reaches P.opens P.format P.part (P.state parser.old) (map P.view items.old.items) s held.old.items
+        → IsFed P.opens P.format P.part P.state s (Progress.Within parser.new rest) held.new.items (map P.view items.new.items)) }
+    ensures owned { IfOk result (λ _. All P.owned items.old.items → All P.owned items.new.items) }
     ensures memory { IfErr result IsMemory }
 {
     let mut at = 0;
@@ -209,32 +250,18 @@ fn take_items<P: PieceParser>(
                 items.push(item)?;
                 at = held.len() - left;
             }
-            Found::Needs(n) => return Ok(after_items(parser, Rest::Needs(n), items, held, at)),
-            Found::Refused(e) => return Ok(after_items(parser, Rest::Refused(e), items, held, at)),
+            Found::Needs(n) => {
+                drop_front(held, at);
+                return Ok(Rest::Needs(n));
+            }
+            Found::Refused(error) => {
+                drop_front(held, at);
+                return Ok(Rest::Refused(error));
+            }
         }
     }
-    Ok(after_items(parser, Rest::Clean, items, held, at))
-}
-
-// The parser after items that took the first so many bytes, and the bytes that are left.
-fn after_items<P, T>(
-    parser: P,
-    rest: Rest,
-    items: Vec<T>,
-    mut held: Vec<u8>,
-    taken: usize,
-) -> Fed<P, T>
-    requires { taken ≤ length held.items }
-    ensures progress { result.progress ≡ Progress.Within parser rest }
-    ensures items { result.items ≡ items }
-    ensures held { result.held.items ≡ drop taken held.items }
-{
-    drop_front(&mut held, taken);
-    Fed {
-        progress: Progress::Within(parser, rest),
-        items,
-        held,
-    }
+    held.clear();
+    Ok(Rest::Clean)
 }
 
 // Lets the first so many bytes go.
@@ -248,37 +275,4 @@ fn drop_front(held: &mut Vec<u8>, n: usize)
     let len = held.len();
     held.copy_within(n.., 0);
     held.truncate(len - n);
-}
-
-// The error that opening would answer with so many bytes more, where that is known without asking.
-fn still_before(error: PcapError, more: usize) -> Option<PcapError>
-    ensures { result ≡ error_after error more }
-{
-    match error {
-        PcapError::IncompleteBuffer(n) => {
-            if more < n {
-                Some(PcapError::IncompleteBuffer(n - more))
-            } else {
-                None
-            }
-        }
-        error => Some(error),
-    }
-}
-
-// What would be said of the rest with so many bytes more, where that is known without asking.
-fn still_within(rest: Rest, more: usize) -> Option<Rest>
-    ensures { result ≡ rest_after_more rest more }
-{
-    match rest {
-        Rest::Clean => { if more == 0 { Some(Rest::Clean) } else { None } }
-        Rest::Needs(n) => {
-            if more < n {
-                Some(Rest::Needs(n - more))
-            } else {
-                None
-            }
-        }
-        Rest::Refused(error) => Some(Rest::Refused(error)),
-    }
 }

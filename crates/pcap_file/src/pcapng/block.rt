@@ -77,8 +77,12 @@ impl<'a> Block<'a> {
         Ok(parsed)
     }
 
-    // The block at the front of a slice, in this order where it is no section, and what follows it.
-    pub(crate) fn from_slice(
+    /// The block at the front of a slice, in this order where it is no section header, and what follows it. Its body is
+    /// borrowed from the slice, and isn't read.
+    ///
+    /// `IncompleteBuffer` where bytes are missing, of the first 12 or then of the whole block. `InvalidField` for the first
+    /// rule that its frame breaks.
+    pub fn from_slice(
         order: Endianness,
         slice: &'a [u8],
     ) -> ResultParsing<(&'a [u8], Block<'a>)>

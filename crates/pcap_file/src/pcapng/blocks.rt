@@ -2,10 +2,10 @@
 
 pub use crate::pcapng::block::Block;
 pub use pcap_blocks::{
-    BlockType, CustomBinaryOption, CustomUtf8Option, EnhancedPacketBlock, EnhancedPacketOption,
-    InterfaceDescriptionBlock, InterfaceDescriptionOption, InterfaceStatisticsBlock,
-    InterfaceStatisticsOption, Ipv4Record, Ipv6Record, NameResolutionBlock, NameResolutionOption,
-    PacketBlock, PacketOption, ParsedBlock, Record, SectionHeaderBlock, SectionHeaderOption,
-    SimplePacketBlock, SystemdJournalExportBlock, UnknownBlock, UnknownOption, UnknownRecord,
-    str_from_u8_null_terminated,
+    BlockType, Clock, CustomBinaryOption, CustomUtf8Option, EnhancedPacketBlock,
+    EnhancedPacketOption, InterfaceDescriptionBlock, InterfaceDescriptionOption,
+    InterfaceStatisticsBlock, InterfaceStatisticsOption, Ipv4Record, Ipv6Record,
+    NameResolutionBlock, NameResolutionOption, PacketBlock, PacketOption, ParsedBlock, Record,
+    SectionHeaderBlock, SectionHeaderOption, SimplePacketBlock, SystemdJournalExportBlock,
+    TimeUnit, Timestamp, UnknownBlock, UnknownOption, UnknownRecord, str_from_u8_null_terminated,
 };

@@ -1,10 +1,13 @@
-use Rattle.std.proofs.Common.{◌≡◌, ◌+◌, ℕ, List, [], ◌++◌, length, take, map, ap, arith, length-append, get_or}
+use Rattle.std.proofs.Common.{◌≡◌, ◌+◌, ℕ, List, [], ◌++◌, length, take, map, ap, arith, length-append, get_or, All}
+use Rattle.std.specs.Prelude.{Some}
 use Rattle.std.specs.Borrow.{Bor}
 use Rattle.std.proofs.lemmas.List.{length-map, take_more, take_all}
 use Rattle.std.proofs.lemmas.List.Folds.{length-flat_map-take}
-use Rattle.pcap_core.specs.Pieces.{HoldsItems, joined_pieces}
-use Rattle.pcap_core.proofs.Pieces.{after_each_push, fed_holds, fed_within, pieces_more}
+use Rattle.pcap_core.specs.Pieces.{HoldsItems, IsFed, joined_pieces}
+use Rattle.pcap_core.specs.Waiting.{progress_after}
+use Rattle.pcap_core.proofs.Pieces.{after_each_push, fed_came, fed_holds, fed_waits, fed_within, pieces_more}
 use Rattle.pcap_core.proofs.run.pieces.feed_pieces.Goals as goal
+use Rattle.pcap_core.proofs.run.pieces.feed_pieces.Goals.{then-not-waits+in_ok-progress-2, else-not-waits}
 
 nothing : Bor (List ℕ)
 nothing = record { ref_ptr = (0, 0); now = [] }
@@ -19,41 +22,51 @@ overflow_add-total g c =
 pub loop-piece-preserved : goal.loop-piece-preserved
 unfolding nothing
 loop-piece-preserved g c =
+    let p = g.P.PieceParser in
     let pieces = c.args.pieces.now in
     let i = c.loop-piece.piece-index in
     let piece = get_or pieces i nothing in
     let before = joined_pieces (take i pieces) in
-    let holds_now = HoldsItems g.P.PieceParser.opens g.P.PieceParser.format in
+    let ws = map p.view c.loop-piece.items.items in
+    let holds_now = HoldsItems p.opens p.format in
     let more : joined_pieces (take (i + 1) pieces) ≡ before ++ piece.now = pieces_more pieces i nothing c.loop-piece-test.true in
-    let fed = c.in_ok-fed-2.ensures.fed before c.loop-piece.invariant.fed in
-    let items = c.in_ok-fed-2.fed.items.items in
-    let ws = map g.P.PieceParser.view items in
-    let count : length c.as_slice.result.now ≡ length ws = rw (length-map items g.P.PieceParser.view) (ap length c.as_slice.ensures.value) in
+    let fed : IsFed p.opens p.format p.part p.state (before ++ piece.now) c.if-not-waits.progress c.if-not-waits.held.items (map p.view c.if-not-waits.items.items) =
+    elim c.if-not-waits.branch [ then-not-waits+in_ok-progress-2 w ↦
+      let came = fed_came p.opens c.requires.opening p.format c.requires.lawful p.part p.state before piece.now c.loop-piece.progress c.loop-piece.held.items ws c.loop-piece.invariant.fed in
+      rw (w.progress-is, w.held-is, w.items-is) (w.in_ok-progress-2.ensures.fed (before ++ piece.now) (rw (c.waits.ensures.kept w.if-not-waits.true, c.in_ok-hold.ensures.held) came))
+    | else-not-waits w ↦
+      let known : progress_after c.loop-piece.progress (length piece.now) ≡ Some c.waits.new.progress = rw w.if-not-waits.false at c.waits.ensures.known in
+      rw (w.progress-is, w.held-is, w.items-is, c.in_ok-hold.ensures.held)
+          (fed_waits p.opens c.requires.opening p.format c.requires.lawful p.part p.state before piece.now c.loop-piece.progress c.waits.new.progress c.loop-piece.held.items ws known c.loop-piece.invariant.fed) ] in
+    let owned : All p.owned c.if-not-waits.items.items =
+    elim c.if-not-waits.branch [ then-not-waits+in_ok-progress-2 w ↦ rw w.items-is (w.in_ok-progress-2.ensures.owned c.loop-piece.invariant.owned) | else-not-waits w ↦ rw w.items-is c.loop-piece.invariant.owned ] in
+    let items = c.if-not-waits.items.items in
+    let count : length c.as_slice.result.now ≡ length (map p.view items) = rw (length-map items p.view) (ap length c.as_slice.ensures.value) in
     let holds : holds_now (before ++ piece.now) (length c.as_slice.result.now) =
-    rw count (fed_holds g.P.PieceParser.opens c.requires.opening g.P.PieceParser.format c.requires.lawful g.P.PieceParser.part g.P.PieceParser.state (before ++ piece.now) c.in_ok-fed-2.fed.progress c.in_ok-fed-2.fed.held.items ws fed) in
+    rw count (fed_holds p.opens c.requires.opening p.format c.requires.lawful p.part p.state (before ++ piece.now) c.if-not-waits.progress c.if-not-waits.held.items (map p.view items) fed) in
     record {
       fed = rw more fed;
       numbers = rw (take_more pieces i nothing c.loop-piece-test.true, c.in_ok-push.ensures.items)
           (after_each_push holds_now [] (take i pieces) piece c.loop-piece.numbers.items (length c.as_slice.result.now) c.loop-piece.invariant.numbers holds);
       total = omega (arith, c.loop-piece.invariant.total, ap length more, length-append before piece.now);
-      owned = c.in_ok-fed-2.ensures.owned c.loop-piece.invariant.owned;
+      owned = owned;
     }
 
 pub overflow_sub-used : goal.overflow_sub-used
 overflow_sub-used g c =
-    let held = c.loop-piece.fed.held in
+    let held = c.loop-piece.held in
     let s = joined_pieces (take c.loop-piece.piece-index c.args.pieces.now) in
-    let ws = map g.P.PieceParser.view c.loop-piece.fed.items.items in
-    let within = fed_within g.P.PieceParser.opens c.requires.opening g.P.PieceParser.format c.requires.lawful g.P.PieceParser.part g.P.PieceParser.state s c.loop-piece.fed.progress held.items ws c.loop-piece.invariant.fed in
+    let ws = map g.P.PieceParser.view c.loop-piece.items.items in
+    let within = fed_within g.P.PieceParser.opens c.requires.opening g.P.PieceParser.format c.requires.lawful g.P.PieceParser.part g.P.PieceParser.state s c.loop-piece.progress held.items ws c.loop-piece.invariant.fed in
     omega (arith, within, c.loop-piece.invariant.total, c.len.ensures, held.ok.0)
 
 pub returns-clause-fed : goal.returns-clause-fed
 returns-clause-fed g c =
-    let held = c.loop-piece.fed.held in
+    let held = c.loop-piece.held in
     let pieces = c.args.pieces.now in
     let s = joined_pieces (take c.loop-piece.piece-index pieces) in
-    let ws = map g.P.PieceParser.view c.loop-piece.fed.items.items in
-    let within = fed_within g.P.PieceParser.opens c.requires.opening g.P.PieceParser.format c.requires.lawful g.P.PieceParser.part g.P.PieceParser.state s c.loop-piece.fed.progress held.items ws c.loop-piece.invariant.fed in
+    let ws = map g.P.PieceParser.view c.loop-piece.items.items in
+    let within = fed_within g.P.PieceParser.opens c.requires.opening g.P.PieceParser.format c.requires.lawful g.P.PieceParser.part g.P.PieceParser.state s c.loop-piece.progress held.items ws c.loop-piece.invariant.fed in
     let all : take c.loop-piece.piece-index pieces ≡ pieces = take_all c.loop-piece.piece-index pieces c.loop-piece-test.false in
     record {
       left = held.items;

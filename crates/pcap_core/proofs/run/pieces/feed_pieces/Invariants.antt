@@ -6,8 +6,8 @@ abbrev pub invariant-loop-piece : goal.invariant-loop-piece
 invariant-loop-piece g l =
     let p = g.P.PieceParser in
     record {
-      fed : IsFed p.opens p.format p.part p.state (joined_pieces (take l.piece-index l.pieces)) l.fed.progress l.fed.held.items (map p.view l.fed.items.items);
+      fed : IsFed p.opens p.format p.part p.state (joined_pieces (take l.piece-index l.pieces)) l.progress l.held.items (map p.view l.items.items);
       numbers : AfterEach (HoldsItems p.opens p.format) [] (take l.piece-index l.pieces) l.numbers.items;
       total : l.total ≡ length (joined_pieces (take l.piece-index l.pieces));
-      owned : All p.owned l.fed.items.items;
+      owned : All p.owned l.items.items;
     }

@@ -6,7 +6,7 @@ use Rattle.pcap_core.proofs.run.pieces.take_items.Goals as goal
 
 pub loop-at-smaller : goal.loop-at-smaller
 loop-at-smaller g c =
-    let held = c.args.held.items in
+    let held = c.loop-at.held.items in
     let told = rw (c.in-Item.is, c.split_at.ensures.back, c.as_slice.ensures.value) at c.in_ok-item.ensures.takes in
     let less = item_shorter g.P.PieceParser.opens g.P.PieceParser.format c.requires.lawful g.P.PieceParser.part _ _ _ held c.loop-at.at c.in-Item.left told in
     let len : c.len-in-Item.result ≡ length held = c.len-in-Item.ensures ∙ sym c.as_slice.ensures.len ∙ ap length c.as_slice.ensures.value in
@@ -14,7 +14,7 @@ loop-at-smaller g c =
 
 pub loop-at-preserved : goal.loop-at-preserved
 loop-at-preserved g c =
-    let held = c.args.held.items in
+    let held = c.loop-at.held.items in
     let ws = map g.P.PieceParser.view c.loop-at.items.items in
     let w = g.P.PieceParser.view c.in-Item.item in
     let told = rw (c.in-Item.is, c.split_at.ensures.back, c.as_slice.ensures.value) at c.in_ok-item.ensures.takes in

@@ -1,0 +1,54 @@
+//! Times of an interface.
+
+ghost use Rattle.pcap_blocks.specs.InterfaceDescription.{interface_of};
+ghost use Rattle.pcap_blocks.specs.InterfaceTimes.{IsClockOf, IsTimeAt};
+ghost use Rattle.std.specs.Prelude.{◌≡◌, map};
+ghost use Rattle.pcap_blocks.specs.InterfaceDescription.{interface_entry};
+ghost use Rattle.pcap_blocks.specs.Held.{number_in, under, first_under};
+
+use crate::held::first_number;
+use crate::interface_description::{InterfaceDescriptionBlock, InterfaceDescriptionOption};
+use pcap_times::{Clock, TimeUnit, Timestamp};
+
+impl InterfaceDescriptionBlock<'_> {
+    /// How the interface counts time: the unit of its first `IfTsResol`, a microsecond where it has none, and the seconds
+    /// of its first `IfTsOffset`, a signed number, 0 where it has none.
+    pub fn clock(&self) -> Clock
+        ensures { IsClockOf (interface_of self.now) result }
+    {
+        Clock {
+            unit: TimeUnit::from_byte(first_resolution(&self.options).unwrap_or(6)),
+            offset: first_number(&self.options, 14).unwrap_or(0).cast_signed(),
+        }
+    }
+
+    /// The time of so many units, as in the `timestamp` of a packet of this interface, rounded down to whole
+    /// nanoseconds. For many packets ask `clock` once, and it for each time.
+    pub fn timestamp(&self, units: u64) -> Timestamp
+        ensures { IsTimeAt (interface_of self.now) units result }
+    {
+        self.clock().timestamp(units)
+    }
+}
+
+// The byte of the first `IfTsResol`.
+fn first_resolution(options: &[InterfaceDescriptionOption]) -> Option<u8>
+    ensures { result ≡ first_under 9 number_in (map interface_entry options.now) }
+{
+    for option in options {
+        if let Some(byte) = resolution(option) {
+            return Some(byte);
+        }
+    }
+    None
+}
+
+// The byte of an `IfTsResol`.
+fn resolution(option: &InterfaceDescriptionOption) -> Option<u8>
+    ensures { result ≡ under 9 number_in (interface_entry option.now) }
+{
+    match option {
+        InterfaceDescriptionOption::IfTsResol(byte) => Some(*byte),
+        _ => None,
+    }
+}

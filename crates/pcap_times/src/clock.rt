@@ -1,0 +1,37 @@
+//! Clocks of interfaces.
+
+ghost use Rattle.pcap_times.specs.Times.{IsTimeOf};
+
+use crate::unit::TimeUnit;
+
+/// How an interface counts time ('Interface Description Block', if_tsresol and if_tsoffset).
+#[derive(Clone, Copy, Debug, PartialEq, Eq)]
+pub struct Clock {
+    /// The unit that it counts in.
+    pub unit: TimeUnit,
+    /// Seconds that are added to each time.
+    pub offset: i64,
+}
+
+/// A time.
+#[derive(Clone, Copy, Debug, PartialEq, Eq, PartialOrd, Ord)]
+pub struct Timestamp {
+    /// Whole seconds since 1970-01-01 00:00:00 UTC, below 0 before it. Of 128 bits, since 64 bits hold neither the
+    /// greatest number of seconds with an offset nor the least.
+    pub seconds: i128,
+    /// Whole nanoseconds after those seconds, below 1000000000.
+    pub nanoseconds: u32,
+}
+
+impl Clock {
+    /// The time of so many units, rounded down to whole nanoseconds.
+    pub fn timestamp(self, ticks: u64) -> Timestamp
+        ensures { IsTimeOf self ticks result }
+    {
+        let (seconds, nanoseconds) = self.unit.split(ticks);
+        Timestamp {
+            seconds: i128::from(seconds) + i128::from(self.offset),
+            nanoseconds,
+        }
+    }
+}

@@ -1,0 +1,65 @@
+//! Units of time.
+
+ghost use Rattle.std.specs.Prelude.{◌≡◌, ◌-◌, ◌^◌, ◌<◌, ◌≤◌, SomeIff};
+ghost use Rattle.pcap_times.specs.Times.{unit_of, units_in_second, nanoseconds_in, IsSplit};
+
+/// The nanoseconds in a second.
+const BILLION: u128 = 1_000_000_000;
+
+/// How long a unit of an interface's times is ('Interface Description Block', if_tsresol).
+#[derive(Clone, Copy, Debug, PartialEq, Eq)]
+pub enum TimeUnit {
+    /// 10 to the power of minus this number, in seconds.
+    Decimal(u8),
+    /// 2 to the power of minus this number, in seconds.
+    Binary(u8),
+}
+
+impl TimeUnit {
+    /// A microsecond, the unit of an interface that names none.
+    pub const MICROSECOND: TimeUnit = TimeUnit::Decimal(6);
+
+    /// The unit that the byte of an if_tsresol names: a power of 2 where its highest bit is set, else of 10; the other
+    /// seven bits are the exponent.
+    pub fn from_byte(byte: u8) -> Self
+        ensures { result ≡ unit_of byte }
+    {
+        if byte < 128 {
+            TimeUnit::Decimal(byte)
+        } else {
+            TimeUnit::Binary(byte - 128)
+        }
+    }
+
+    /// The whole seconds and the whole nanoseconds after them in so many units; what is less than a nanosecond is
+    /// dropped.
+    pub fn split(self, ticks: u64) -> (u64, u32)
+        ensures { IsSplit self ticks result.0 result.1 }
+    {
+        let nanoseconds = self.nanoseconds(ticks);
+        (
+            (nanoseconds / BILLION) as u64,
+            (nanoseconds % BILLION) as u32,
+        )
+    }
+
+    // The whole nanoseconds in so many units.
+    fn nanoseconds(self, ticks: u64) -> u128
+        ensures { result ≡ nanoseconds_in self ticks }
+    {
+        match self.units_in_second() {
+            Some(units) => u128::from(ticks) * BILLION / units,
+            None => 0,
+        }
+    }
+
+    // Where they are fewer than 2^128.
+    fn units_in_second(self) -> Option<u128>
+        ensures { SomeIff result (units_in_second self < 2 ^ 128) (units_in_second self) }
+    {
+        match self {
+            TimeUnit::Decimal(exponent) => 10u128.checked_pow(u32::from(exponent)),
+            TimeUnit::Binary(exponent) => 2u128.checked_pow(u32::from(exponent)),
+        }
+    }
+}

@@ -1,0 +1,2 @@
+mod HeadedSamples
+mod StatedSamples

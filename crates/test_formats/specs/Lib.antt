@@ -1,0 +1,2 @@
+pub mod SampleReader
+pub mod Samples

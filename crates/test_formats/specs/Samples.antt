@@ -1,0 +1,83 @@
+-- A log of samples, as a format with a head: an item says how long the samples after it are, or is a sample.
+use Rattle.std.specs.Prelude.{◌≡◌, ◌==◌, if◌then◌else◌, nat_lt, ℕ, List, [], drop, Option, None, Some, Result, Ok, Err}
+use Rattle.byteorder.specs.Endian.{big_number}
+use Rattle.pcap_core.specs.declared.errors.PcapError.{PcapError}
+use Rattle.pcap_core.specs.declared.rules.Rule.{Rule}
+use Rattle.pcap_core.specs.declared.rules.Rule.TheVariants.{CaptureMagic, UnknownTooLong}
+use Rattle.pcap_core.specs.Answer.{Number}
+use Rattle.pcap_core.specs.Faults.{Invalid}
+use Rattle.pcap_core.specs.Format.{Format}
+use Rattle.pcap_core.specs.Headed.{HeadReading, good, bad, Headed, headed}
+use Rattle.test_formats.specs.declared.samples.Head.{Head}
+use Rattle.test_formats.specs.declared.samples.Head.TheVariants as heads
+
+-- an item: what its head says, and the bytes after it
+pub record Item : Type 0 where
+  pub head : Head
+  pub bytes : List ℕ
+
+-- a good head: what it says, and how many bytes follow it
+pub record Announced : Type 0 where
+  pub head : Head
+  pub follows : ℕ
+
+-- what a head of this kind and number says, where samples have this size: kind 1 is a size, kind 2 a sample
+unfoldable pub meaning : ℕ → ℕ → ℕ → HeadReading Announced
+meaning size kind number =
+    if kind == 1 then (if nat_lt 1000 number then bad (Invalid UnknownTooLong) else good (record { head = heads.Size number; follows = 0 }))
+    else if kind == 2 then good (record { head = heads.Sample number; follows = size }) else bad (Invalid CaptureMagic)
+
+-- s is a kind and a number, high byte first, that say this where samples have this size, and nothing else
+pub record HeadReads (size : ℕ) (s : List ℕ) (h : HeadReading Announced) : Type 0 where
+  pub kind : ℕ
+  pub number : ℕ
+  pub after : List ℕ
+  pub kind_is : Number big_number 2 kind s after
+  pub number_is : Number big_number 2 number after []
+  pub means : meaning size kind number ≡ h
+
+-- the bytes after a head are those of its item, whatever they are
+abbrev pub BytesRead : Announced → List ℕ → HeadReading Item → Type 0
+BytesRead x s (good item) = (item.head ≡ x.head) × (item.bytes ≡ s)
+BytesRead x s (bad fault) = ⊥
+
+-- the size of the samples after such a head
+abbrev pub size_after : ℕ → Head → ℕ
+size_after size (heads.Size n) = n
+size_after size (heads.Sample channel) = size
+
+-- a log, whose state is the size of the samples that follow
+abbrev pub headed_samples : Headed ℕ Announced Item
+headed_samples = record {
+  head = 4;
+  reads = HeadReads;
+  size = λ x. x.follows;
+  means = λ q. BytesRead;
+  goes = λ q item. size_after q item.head;
+}
+
+unfoldable pub sample_format : Format ℕ Item
+sample_format = headed headed_samples
+
+-- the bytes are a head that says this, where samples have this size, and n bytes follow it
+abbrev pub KnowsHead : ℕ → Head → ℕ → List ℕ → Type 0
+KnowsHead size head n s = HeadReads size s (good (record { head = head; follows = n }))
+
+-- the item of this head and these bytes
+abbrev pub item_with : Head → List ℕ → Item
+item_with head bytes = record { head = head; bytes = bytes }
+
+-- the item of this head whose head and bytes are held
+abbrev pub held_item : List ℕ → Head → Item
+held_item held head = item_with head (drop 4 held)
+
+-- the size of the samples after what a call of a reader gave: only an item changes it
+abbrev pub size_behind : ℕ → Option (Result Head PcapError) → ℕ
+size_behind size (Some (Ok head)) = size_after size head
+size_behind size (Some (Err e)) = size
+size_behind size None = size
+
+-- what is told of a head: what it says, or the rule that it breaks
+abbrev pub HeadTells : HeadReading Announced → Result (Head × ℕ) Rule → Type 0
+HeadTells h (Ok x) = h ≡ good (record { head = x.0; follows = x.1 })
+HeadTells h (Err rule) = h ≡ bad (Invalid rule)

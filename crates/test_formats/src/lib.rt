@@ -1,0 +1,7 @@
+//! Formats that are neither packets nor blocks, over the filling and the laws of the core.
+#![tactic(auto)]
+
+pub mod laws;
+#[cfg(test)]
+mod rows;
+pub mod samples;

@@ -1,0 +1,42 @@
+//! Calls on a log of samples, whose items are filled from a stream as packets and blocks are.
+
+use crate::tell;
+use pcap_core::stream::Held;
+use pcap_core::{PcapError, ResultParsing};
+use std::alloc::Global;
+use std::io::{self, Cursor};
+use test_formats::samples::{SampleReader, take_next};
+
+/// A sample of three bytes, and the size before it.
+const LOG: [u8; 11] = [0, 1, 0, 3, 0, 2, 0, 7, 4, 5, 6];
+
+pub(crate) fn make_calls(rt: &HostRuntime) -> io::Result<()> {
+    let alloc = rt.alloc();
+    tell(rt, "SampleReader::next_head", next_head(alloc))?;
+    tell(rt, "take_next", take(alloc))
+}
+
+fn next_head(alloc: Global) -> ResultParsing<()> {
+    let mut reader = SampleReader::new(alloc, Cursor::new(LOG));
+    for _item in 0..2 {
+        match reader.next_head() {
+            None => return Err(PcapError::InvalidField("no item came")),
+            Some(Ok(_head)) => {}
+            Some(Err(_)) if reader.failed() => {
+                return Err(PcapError::InvalidField("no read failed"));
+            }
+            Some(Err(error)) => return Err(error),
+        }
+    }
+    Ok(())
+}
+
+fn take(alloc: Global) -> ResultParsing<()> {
+    let (_size, mut sample) = LOG.split_at(4);
+    let mut has_failed = false;
+    let mut held = Held::new(alloc);
+    match take_next(alloc, 3, &mut sample, &mut has_failed, &mut held)? {
+        None => Err(PcapError::InvalidField("no item came")),
+        Some((_head, _bytes)) => Ok(()),
+    }
+}

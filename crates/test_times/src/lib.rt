@@ -1,0 +1,7 @@
+//! Times of interfaces, with answers that were worked out by hand.
+#![tactic(auto)]
+
+#[cfg(test)]
+mod clocks;
+#[cfg(test)]
+mod units;
