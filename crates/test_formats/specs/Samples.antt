@@ -56,6 +56,7 @@ headed_samples = record {
   goes = λ q item. size_after q item.head;
 }
 
+-- the format of a log
 unfoldable pub sample_format : Format ℕ Item
 sample_format = headed headed_samples
 
