@@ -1,17 +1,15 @@
 -- What a frame's head states.
-use Rattle.std.proofs.Common.{◌≡◌, ◌<◌, ◌+◌, ℕ, List, [], ◌∷◌, ◌++◌, length, drop, refl, sym, ap, subst, ◌∙◌, arith, append-nil, append_assoc, length-append, inl, inr, Result, Ok, Err}
+use Rattle.std.proofs.Common.{◌≡◌, ◌<◌, ◌+◌, ℕ, List, [], ◌∷◌, ◌++◌, length, drop, refl, sym, ap, subst, ◌∙◌, arith, append-nil, append_assoc, length-append, inl, inr}
 use Rattle.std.proofs.lemmas.Bool.{cases_eq}
 use Rattle.std.proofs.lemmas.List.{drop_at}
-use Rattle.std.specs.Result.{IsErrAnd}
 use Rattle.byteorder.specs.Endian.{big_number}
 use Rattle.pcap_core.specs.declared.common.Endianness.{Endianness}
 use Rattle.pcap_core.specs.declared.rules.Rule.{Rule}
 use Rattle.pcap_core.specs.declared.rules.Rule.TheVariants.{BlockLengthsDiffer}
-use Rattle.pcap_core.specs.declared.errors.PcapError.{PcapError}
-use Rattle.pcap_core.specs.Answer.{Number, number_in, Verdict, lacks, faulty}
-use Rattle.pcap_core.specs.Faults.{Invalid, Names}
+use Rattle.pcap_core.specs.Answer.{Number, number_in, lacks, faulty}
+use Rattle.pcap_core.specs.Faults.{Invalid}
 use Rattle.pcap_blocks.specs.BlockType.{block_type}
-use Rattle.pcap_core.specs.Filling.{IsSettled, Stated, StatesRest, TellsSettled}
+use Rattle.pcap_core.specs.Filling.{IsSettled, Stated}
 use Rattle.pcap_file.specs.declared.pcapng.framing.FrameHead.{FrameHead}
 use Rattle.pcap_file.specs.Frames.{Framed, FrameHeadText, IsGoodLength, BreaksHead, FrameTail, FrameText, LengthsDiffer, in_head, unequal, frame_format}
 use Rattle.pcap_file.specs.StatedFrames.{KnowsFrame, TailOf, TailDiffers}
