@@ -5,6 +5,7 @@ pub mod ReadOptions
 pub mod Bodies
 pub mod OneOption
 pub mod OneList
+pub mod NumbersThen
 pub mod OneSection
 pub mod OneInterface
 pub mod StoredPackets

@@ -1,56 +1,34 @@
 -- Of all bytes exactly one thing is said as the body of an enhanced packet.
-use Rattle.std.proofs.Common.{ℕ, ◌<◌, List, [], ◌∷◌, length, refl, sym, subst, arith, inl, inr}
-use Rattle.pcap_core.specs.Answer.{Order, Number, Verdict, whole, lacks, faulty, Made}
-use Rattle.pcap_core.specs.Faults.{Invalid}
+use Rattle.std.proofs.Common.{ℕ, ◌<◌, List, [], ◌∷◌, length, refl, subst, arith, inl, inr}
+use Rattle.pcap_core.specs.Answer.{Order, Number}
+use Rattle.pcap_core.specs.Faults.{Fault, Invalid}
 use Rattle.pcap_core.specs.Laws.{ExactlyOne}
 use Rattle.pcap_core.specs.declared.rules.Rule.TheVariants.{EnhancedTooShort}
+use Rattle.pcap_core.proofs.Numbers.{Values}
 use Rattle.pcap_blocks.specs.StoredPacket.{Stored, StoredSays}
-use Rattle.pcap_blocks.specs.StoredPacket as stored
-use Rattle.pcap_blocks.specs.EnhancedPacket.{enhanced_packet, Enhanced, EnhancedText, short, in_packet, EnhancedSays}
-use Rattle.pcap_core.proofs.Verdicts.{one_moved, Then, one_then, one_made}
-use Rattle.pcap_core.proofs.Numbers.{Values, NumbersSay, numbers_one, numbers_behind, numbers_at, numbers_length}
-use Rattle.pcap_blocks.proofs.OneStored.{stored_one}
+use Rattle.pcap_blocks.specs.EnhancedPacket.{enhanced_packet, Enhanced, EnhancedText, EnhancedFault, short, in_packet, EnhancedSays}
+use Rattle.pcap_blocks.proofs.NumbersThen.{IsNumbersThen, numbers_then_one}
+use Rattle.pcap_blocks.proofs.OneStored.{PacketFault, short_packet, stored_one}
 
 abbrev widths : List ℕ
 widths = 4 ∷ []
 
-make : Values widths → Stored → Enhanced
+abbrev make : Values widths → Stored → Enhanced
 make ns packet = record { interface_id = ns.0; packet = packet }
 
-BodyThen : Order → List ℕ → Verdict Enhanced → Type 0
-BodyThen order s = Then (NumbersSay order (Invalid EnhancedTooShort) widths s) (λ ns after. Made (make ns) (StoredSays order enhanced_packet after))
+fault_to : (order : Order) (fault : Fault) (s : List ℕ) → EnhancedFault order s fault → PacketFault order enhanced_packet s fault
+fault_to order fault s (short lt) = short_packet order enhanced_packet s lt
+fault_to order fault s (in_packet _ after behind stands) = inr (after, behind, stands)
 
-body_one : (order : Order) (s : List ℕ) → ExactlyOne (BodyThen order s)
-unfolding BodyThen
-body_one order s =
-    one_then (NumbersSay order (Invalid EnhancedTooShort) widths s) (λ ns after. Made (make ns) (StoredSays order enhanced_packet after)) (numbers_one order (Invalid EnhancedTooShort) widths s)
-    (λ ns after k. one_made (make ns) (StoredSays order enhanced_packet after) (stored_one order enhanced_packet after))
-
--- of less than 20 bytes less than 16 are after the first 4
-body_short : (order : Order) (s : List ℕ) → length s < 20 → (v : Verdict (Values widths)) → NumbersSay order (Invalid EnhancedTooShort) widths s v → BodyThen order s (faulty (Invalid EnhancedTooShort))
-unfolding BodyThen
-body_short order s lt (whole ns after) h = inr (ns, after, h, stored.short (omega (arith, lt, numbers_length order widths ns s after h)))
-body_short order s lt (lacks n) h = absurd h
-body_short order s lt (faulty f) h = inl (refl, h.1)
-
-body_to : (order : Order) (s : List ℕ) (w : Verdict Enhanced) → EnhancedSays order s w → BodyThen order s w
-unfolding BodyThen make
-body_to order s (whole b rest) h = ((b.interface_id, tt), h.after_interface, (h.after_interface, h.interface_is, refl), (b.packet, refl, h.packet_is))
-body_to order s (lacks n) h = absurd h
-body_to order s (faulty f) (short lt) =
-    let one = numbers_one order (Invalid EnhancedTooShort) widths s in
-    body_short order s lt one.value one.holds
-body_to order s (faulty f) (in_packet _ after behind fault) = let t = numbers_at order widths s after behind in inr (t.0, after, t.1, fault)
-
-body_from : (order : Order) (s : List ℕ) (w : Verdict Enhanced) → BodyThen order s w → EnhancedSays order s w
-unfolding BodyThen make
-body_from order s (whole b rest) t =
-    let is : EnhancedText order (make t.0 t.3.0) s rest = record { after_interface = t.1; interface_is = subst (λ (x : List ℕ). Number order 4 t.0.0 s x) t.2.2 t.2.1; packet_is = t.3.2 } in
-    subst (λ (x : Enhanced). EnhancedText order x s rest) (sym t.3.1) is
-body_from order s (lacks n) (inl t) = t
-body_from order s (lacks n) (inr t) = t.3
-body_from order s (faulty f) (inl t) = rw t.0 (short (omega (arith, t.1)))
-body_from order s (faulty f) (inr t) = in_packet f t.1 (numbers_behind order widths t.0 s t.1 t.2) t.3
+enhanced_then : (order : Order) → IsNumbersThen order (Invalid EnhancedTooShort) widths make (StoredSays order enhanced_packet) (EnhancedText order) (EnhancedFault order)
+enhanced_then order = record {
+  text_to = λ b s rest h. ((b.interface_id, tt), h.after_interface, (h.after_interface, h.interface_is, refl), b.packet, refl, h.packet_is);
+  text_from = λ ns packet s after rest n h. record { after_interface = after; interface_is = subst (λ (x : List ℕ). Number order 4 ns.0 s x) n.2 n.1; packet_is = h };
+  fault_to = λ fault s h. fault_to order fault s h;
+  short_from = λ s lt. short (omega (arith, lt));
+  fault_from = λ fault s after behind h. in_packet fault after behind h;
+  no_lack = λ s n h. h;
+}
 
 pub enhanced_one : (order : Order) (s : List ℕ) → ExactlyOne (EnhancedSays order s)
-enhanced_one order s = one_moved (EnhancedSays order s) (BodyThen order s) (body_to order s) (body_from order s) (body_one order s)
+enhanced_one order = numbers_then_one order (Invalid EnhancedTooShort) widths make (StoredSays order enhanced_packet) (EnhancedText order) (EnhancedFault order) (enhanced_then order) (stored_one order enhanced_packet)

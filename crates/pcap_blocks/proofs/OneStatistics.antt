@@ -1,64 +1,65 @@
 -- Of all bytes exactly one thing is said as the body of statistics.
-use Rattle.std.proofs.Common.{ℕ, ◌+◌, ◌*◌, ◌^◌, List, [], ◌∷◌, refl, sym, ap, subst, inl, inr}
-use Rattle.pcap_core.specs.Answer.{Order, Number, Verdict, whole, lacks, faulty, Made}
-use Rattle.pcap_core.specs.Faults.{Invalid}
+use Rattle.std.proofs.Common.{◌≡◌, ℕ, ◌+◌, ◌*◌, ◌^◌, ◌<◌, List, [], ◌∷◌, length, refl, ap, subst, inl, inr}
+use Rattle.std.specs.Prelude.{◌⊎◌}
+use Rattle.pcap_core.specs.Answer.{Order, Number, whole, faulty}
+use Rattle.pcap_core.specs.Faults.{Fault, Invalid}
 use Rattle.pcap_core.specs.Laws.{ExactlyOne}
 use Rattle.pcap_core.specs.declared.rules.Rule.TheVariants.{StatisticsTooShort}
 use Rattle.pcap_blocks.specs.Values.{Entry}
 use Rattle.pcap_blocks.specs.Options.{may_end_with_body, ListSays}
-use Rattle.pcap_blocks.specs.InterfaceStatistics.{interface_statistics, Statistics, StatisticsText, short, in_options, StatisticsSays}
-use Rattle.pcap_core.proofs.Verdicts.{one_moved, Then, one_then, one_made}
-use Rattle.pcap_core.proofs.Numbers.{Values, NumbersSay, numbers_one, numbers_behind, numbers_at}
+use Rattle.pcap_blocks.specs.InterfaceStatistics.{interface_statistics, Statistics, StatisticsText, StatisticsFault, short, in_options, StatisticsSays}
+use Rattle.pcap_core.specs.Padded.{Behind}
+use Rattle.pcap_core.proofs.Numbers.{Values, Numbers}
+use Rattle.pcap_blocks.proofs.NumbersThen.{IsNumbersThen, numbers_then_one}
 use Rattle.pcap_blocks.proofs.OneList.{list_one}
 
 -- interface, and the halves of the time
 abbrev widths : List ℕ
 widths = 4 ∷ 4 ∷ 4 ∷ []
 
-make : Values widths → List Entry → Statistics
+abbrev make : Values widths → List Entry → Statistics
 make ns options = record { interface_id = ns.0; timestamp = ns.1.0 * 2 ^ 32 + ns.1.1.0; options = options }
 
-BodyThen : Order → List ℕ → Verdict Statistics → Type 0
-BodyThen order s = Then (NumbersSay order (Invalid StatisticsTooShort) widths s) (λ ns after. Made (make ns) (ListSays may_end_with_body order interface_statistics after))
-
-body_one : (order : Order) (s : List ℕ) → ExactlyOne (BodyThen order s)
-unfolding BodyThen
-body_one order s =
-    one_then (NumbersSay order (Invalid StatisticsTooShort) widths s) (λ ns after. Made (make ns) (ListSays may_end_with_body order interface_statistics after)) (numbers_one order (Invalid StatisticsTooShort) widths s)
-    (λ ns after k. one_made (make ns) (ListSays may_end_with_body order interface_statistics after) (list_one may_end_with_body order interface_statistics after))
-
-at_time : Statistics → ℕ → Statistics
+abbrev at_time : Statistics → ℕ → Statistics
 at_time b t = record { interface_id = b.interface_id; timestamp = t; options = b.options }
 
-body_to : (order : Order) (s : List ℕ) (w : Verdict Statistics) → StatisticsSays order s w → BodyThen order s w
-unfolding BodyThen make at_time
-body_to order s (whole b rest) h =
+fault_to : (order : Order) (fault : Fault) (s : List ℕ) → StatisticsFault order s fault
+    → ((fault ≡ Invalid StatisticsTooShort) × (length s < 12)) ⊎ ((after : List ℕ) × Behind 12 s after × ListSays may_end_with_body order interface_statistics after (faulty fault))
+fault_to order fault s (short lt) = inl (refl, lt)
+fault_to order fault s (in_options _ after behind stands) = inr (after, behind, stands)
+
+text_to : (order : Order) (b : Statistics) (s rest : List ℕ) → StatisticsText order b s rest
+    → (ns : Values widths) × (after : List ℕ) × Numbers order widths ns s after × (options : List Entry) × (b ≡ make ns options) × ListSays may_end_with_body order interface_statistics after (whole options rest)
+text_to order b s rest h =
     let t = h.time_is in (
       (b.interface_id, (t.high, (t.low, tt))),
       h.after_time,
       (h.after_interface, h.interface_is, (t.after_high, t.high_is, (h.after_time, t.low_is, refl))),
-      (b.options, ap (at_time b) t.both, h.options_are),
+      b.options,
+      ap (at_time b) t.both,
+      h.options_are,
     )
-body_to order s (lacks n) h = absurd h
-body_to order s (faulty f) (short lt) = inl (refl, lt)
-body_to order s (faulty f) (in_options _ after behind fault) = let t = numbers_at order widths s after behind in inr (t.0, after, t.1, fault)
 
-body_from : (order : Order) (s : List ℕ) (w : Verdict Statistics) → BodyThen order s w → StatisticsSays order s w
-unfolding BodyThen make
-body_from order s (whole b rest) t =
-    let n = t.2 in
-    let is : StatisticsText order (make t.0 t.3.0) s rest = record {
-      after_interface = n.0;
-      after_time = t.1;
-      interface_is = n.1;
-      time_is = record { high = t.0.1.0; low = t.0.1.1.0; after_high = n.2.0; high_is = n.2.1; low_is = subst (λ (x : List ℕ). Number order 4 t.0.1.1.0 n.2.0 x) n.2.2.2 n.2.2.1; both = refl };
-      options_are = t.3.2;
-    } in
-    subst (λ (x : Statistics). StatisticsText order x s rest) (sym t.3.1) is
-body_from order s (lacks n) (inl t) = t
-body_from order s (lacks n) (inr t) = t.3
-body_from order s (faulty f) (inl t) = rw t.0 (short t.1)
-body_from order s (faulty f) (inr t) = in_options f t.1 (numbers_behind order widths t.0 s t.1 t.2) t.3
+text_from : (order : Order) (ns : Values widths) (options : List Entry) (s after rest : List ℕ) → Numbers order widths ns s after → ListSays may_end_with_body order interface_statistics after (whole options rest)
+    → StatisticsText order (make ns options) s rest
+text_from order ns options s after rest n h = record {
+  after_interface = n.0;
+  after_time = after;
+  interface_is = n.1;
+  time_is = record { high = ns.1.0; low = ns.1.1.0; after_high = n.2.0; high_is = n.2.1; low_is = subst (λ (x : List ℕ). Number order 4 ns.1.1.0 n.2.0 x) n.2.2.2 n.2.2.1; both = refl };
+  options_are = h;
+}
+
+statistics_then : (order : Order) → IsNumbersThen order (Invalid StatisticsTooShort) widths make (ListSays may_end_with_body order interface_statistics) (StatisticsText order) (StatisticsFault order)
+statistics_then order = record {
+  text_to = λ b s rest h. text_to order b s rest h;
+  text_from = λ ns options s after rest n h. text_from order ns options s after rest n h;
+  fault_to = λ fault s h. fault_to order fault s h;
+  short_from = λ s lt. short lt;
+  fault_from = λ fault s after behind h. in_options fault after behind h;
+  no_lack = λ s n h. h;
+}
 
 pub statistics_one : (order : Order) (s : List ℕ) → ExactlyOne (StatisticsSays order s)
-statistics_one order s = one_moved (StatisticsSays order s) (BodyThen order s) (body_to order s) (body_from order s) (body_one order s)
+statistics_one order =
+    numbers_then_one order (Invalid StatisticsTooShort) widths make (ListSays may_end_with_body order interface_statistics) (StatisticsText order) (StatisticsFault order) (statistics_then order) (list_one may_end_with_body order interface_statistics)

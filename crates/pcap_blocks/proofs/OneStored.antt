@@ -1,8 +1,12 @@
 -- Of all bytes exactly one thing is said as a stored packet, and as the bodies that hold one.
-use Rattle.std.proofs.Common.{ℕ, ◌+◌, ◌*◌, ◌^◌, List, [], ◌∷◌, refl, sym, ap, subst, inl, inr}
+use Rattle.std.proofs.Common.{◌≡◌, ℕ, ◌+◌, ◌*◌, ◌^◌, ◌<◌, ◌≤◌, List, [], ◌∷◌, length, take, drop, refl, sym, ap, subst, arith, inl, inr}
+use Rattle.std.specs.Prelude.{◌⊎◌}
+use Rattle.std.proofs.lemmas.Bool.{cases_lt}
+use Rattle.std.proofs.lemmas.List.{take-append-drop, length-take, length-drop}
 use Rattle.pcap_core.specs.Answer.{Order, Number, Verdict, whole, lacks, faulty, Made}
 use Rattle.pcap_core.specs.Faults.{Fault, Invalid}
 use Rattle.pcap_core.specs.Laws.{ExactlyOne}
+use Rattle.pcap_core.specs.Padded.{Behind}
 use Rattle.pcap_core.specs.declared.rules.Rule.TheVariants.{EnhancedTooShort, EnhancedCut}
 use Rattle.pcap_blocks.specs.Values.{Entry, Kind}
 use Rattle.pcap_blocks.specs.Options.{may_end_with_body, ListSays}
@@ -92,3 +96,15 @@ unfolding StoredThen
 stored_one order kind s =
     one_moved (StoredSays order kind s) (StoredThen order kind s) (stored_to order kind s) (stored_from order kind s)
     (one_then (NumbersSay order (Invalid EnhancedTooShort) widths s) (λ ns after. DataThen order kind ns after) (numbers_one order (Invalid EnhancedTooShort) widths s) (λ ns after k. data_one order kind ns after))
+
+-- why a body of four bytes and a stored packet is refused
+abbrev pub PacketFault : Order → Kind → List ℕ → Fault → Type 0
+PacketFault order kind s fault = ((fault ≡ Invalid EnhancedTooShort) × (length s < 4)) ⊎ ((after : List ℕ) × Behind 4 s after × StoredSays order kind after (faulty fault))
+
+-- of less than 20 bytes less than 16 are after the first 4
+pub short_packet : (order : Order) (kind : Kind) (s : List ℕ) → length s < 20 → PacketFault order kind s (Invalid EnhancedTooShort)
+short_packet order kind s lt =
+    elim (cases_lt (length s) 4) [
+      | inl few ↦ inl (refl, few)
+      | inr some ↦ inr (drop 4 s, record { bytes = take 4 s; text = sym (take-append-drop 4 s); length_is = omega (arith, length-take 4 s) }, short (omega (arith, lt, length-drop 4 s)))
+    ]

@@ -4,7 +4,7 @@ use Rattle.std.specs.Borrow.{Bor}
 use Rattle.pcap_core.specs.declared.errors.PcapError.{PcapError}
 use Rattle.pcap_core.specs.declared.errors.PcapError.TheVariants as errors
 use Rattle.pcap_core.specs.Answer.{Verdict, whole, faulty}
-use Rattle.pcap_core.specs.Faults.{Fault, Invalid, Io, Utf8, text_of}
+use Rattle.pcap_core.specs.Faults.{Fault, Invalid, Io, Utf8, rule_message}
 use Rattle.pcap_blocks.specs.declared.refusal.Refusal.{Refusal}
 use Rattle.pcap_blocks.specs.declared.refusal.Refusal.TheVariants as refusals
 
@@ -38,5 +38,5 @@ abbrev pub IsShownAs : Refusal → PcapError → Type 0
 IsShownAs (refusals.Memory a) (errors.OutOfMemory b) = Unit {0}
 IsShownAs refusals.Io (errors.IoError e) = Unit {0}
 IsShownAs (refusals.Utf8 a) (errors.Utf8Error b) = a ≡ b
-IsShownAs (refusals.Invalid rule) (errors.InvalidField message) = message.now ≡ text_of rule
+IsShownAs (refusals.Invalid rule) (errors.InvalidField message) = message.now ≡ rule_message rule
 IsShownAs refusal error = ⊥

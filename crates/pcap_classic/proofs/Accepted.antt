@@ -36,7 +36,7 @@ use Rattle.pcap_classic.proofs.OneFront.{front_one}
 use Rattle.pcap_classic.proofs.Packets.{packets_say}
 use Rattle.pcap_classic.proofs.ReadBack.{written_again}
 use Rattle.pcap_classic.proofs.ReadCapture.{capture_again}
-use Rattle.pcap_core.proofs.Taking.{shown_fault}
+use Rattle.pcap_core.proofs.Refusals.{shown_fault}
 
 zeros : ℕ → List ℕ
 zeros zero = []

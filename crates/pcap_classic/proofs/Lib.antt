@@ -1,3 +1,4 @@
+pub mod FieldNumbers
 pub mod Texts
 pub mod One
 pub mod Stable

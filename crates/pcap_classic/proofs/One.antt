@@ -1,9 +1,7 @@
 -- Of all bytes exactly one thing is said.
-use Rattle.std.proofs.Common.{◌≡◌, ℕ, ◌-◌, ◌≤◌, Bool, true, false, cond, List, length, take, drop, Option, Some, None, refl, sym, ap, subst, ◌∙◌, arith, inl, inr}
+use Rattle.std.proofs.Common.{◌≡◌, ℕ, ◌-◌, ◌≤◌, Bool, true, false, cond, List, length, Option, Some, None, refl, sym, ap, ◌∙◌, arith, inl, inr}
 use Rattle.std.specs.Prelude.{◌⊎◌, nat_lt, ℤ}
-use Rattle.std.proofs.lemmas.List.{length-take, take-append-drop}
 use Rattle.std.proofs.lemmas.Bool.{cases_lt, ltb-false}
-use Rattle.std.specs.Int.{w32, cast_signed}
 use Rattle.byteorder.specs.Endian.{big_number}
 use Rattle.pcap_core.specs.declared.rules.Rule.TheVariants.{CaptureMagic, FractionTooLarge, IncludedTooLong, OriginalTooLong, IncludedPastOriginal}
 use Rattle.pcap_core.specs.Faults.{Fault, Invalid}
@@ -12,13 +10,13 @@ use Rattle.pcap_core.specs.declared.link.DataLink.{DataLink}
 use Rattle.pcap_classic.specs.declared.pcap.header.PcapHeader.{PcapHeader}
 use Rattle.pcap_classic.specs.declared.pcap.packet.PacketHeader.{PacketHeader}
 use Rattle.pcap_core.specs.Answer.{Verdict, whole, lacks, faulty, Number, number_in}
-use Rattle.pcap_core.specs.Link.{Link}
 use Rattle.pcap_classic.specs.Magic.{is_magic, order_of}
 use Rattle.pcap_classic.specs.PacketText.{PacketHeaderSays, Head, RecordHeadText, IsGood, head_fault, spelled_header, nanoseconds, PacketHeaderText, LacksHead, HasHeadFault, Captured}
 use Rattle.pcap_classic.specs.HeaderText.{HeaderSays, FieldsText, HeaderText, HasHeaderFault}
 use Rattle.pcap_core.specs.Laws.{ExactlyOne}
-use Rattle.pcap_core.proofs.Links.{plain_same, link_of}
-use Rattle.pcap_classic.proofs.Texts.{head_same, head_length, packet_header_same, good_has_none, header_length}
+use Rattle.pcap_core.proofs.Numbers.{number_there, numbers_there}
+use Rattle.pcap_classic.proofs.FieldNumbers.{head_widths, head_with, head_from, head_same, head_length, field_widths, header_with, fields_from, fields_same}
+use Rattle.pcap_classic.proofs.Texts.{packet_header_same, good_has_none, header_length}
 use Rattle.pcap_core.proofs.Texts.{number_same, number_length}
 
 -- ---- a head is good or has a fault
@@ -48,42 +46,6 @@ none_is_good limit r head e =
     let d = not_chosen (nat_lt limit head.original) (Invalid OriginalTooLong) (fault_5 head) b.1 in
     let f = not_chosen (nat_lt head.original head.included) (Invalid IncludedPastOriginal) None d.1 in
     record { fraction = ltb-false _ _ a.0; included = ltb-false _ _ f.0; original = ltb-false _ _ d.0 }
-
--- ---- what is there
-
-number_there : (order : ℕ → List ℕ → ℕ) (w : ℕ) (s : List ℕ) → w ≤ length s → (n : ℕ) × (rest : List ℕ) × Number order w n s rest
-number_there order w s long = (
-  order w (take w s),
-  drop w s,
-  record {
-    bytes = take w s;
-    text = sym (take-append-drop w s);
-    length_is = omega (arith, length-take w s);
-    value = refl;
-  },
-)
-
-head_there : (order : ℕ → List ℕ → ℕ) (s : List ℕ) → 16 ≤ length s → (head : Head) × (rest : List ℕ) × RecordHeadText order head s rest
-head_there order s long =
-    let a = number_there order 4 s (omega arith) in
-    let la = number_length order 4 a.0 s a.1 a.2 in
-    let b = number_there order 4 a.1 (omega (arith, la)) in
-    let lb = number_length order 4 b.0 a.1 b.1 b.2 in
-    let d = number_there order 4 b.1 (omega (arith, la, lb)) in
-    let ld = number_length order 4 d.0 b.1 d.1 d.2 in
-    let f = number_there order 4 d.1 (omega (arith, la, lb, ld)) in (
-      record { seconds = a.0; fraction = b.0; included = d.0; original = f.0 },
-      f.1,
-      record {
-        after_seconds = a.1;
-        after_fraction = b.1;
-        after_included = d.1;
-        seconds = a.2;
-        fraction = b.2;
-        included = d.2;
-        original = f.2;
-      },
-    )
 
 -- ---- nothing else is
 
@@ -129,10 +91,12 @@ packet_header_there limit order r s =
     elim (cases_lt (length s) 16) [
       | inl short ↦ (lacks (16 - length s), record { some = omega arith; missing = omega arith })
       | inr long ↦
-          let h = head_there order s long in
-          elim (option_cases (head_fault limit r h.0)) [
-            | inr f ↦ (faulty f.0, record { head = h.0; after = h.1; text = h.2; first = f.1 })
-            | inl none ↦ (whole (spelled_header r h.0) h.1, record { head = h.0; text = h.2; good = none_is_good limit r h.0 none; value = refl })
+          let t = numbers_there order head_widths s long in
+          let head = head_with t.0 in
+          let text = head_from order t.0 s t.1 t.2 in
+          elim (option_cases (head_fault limit r head)) [
+            | inr f ↦ (faulty f.0, record { head = head; after = t.1; text = text; first = f.1 })
+            | inl none ↦ (whole (spelled_header r head) t.1, record { head = head; text = text; good = none_is_good limit r head none; value = refl })
           ]
     ]
 
@@ -158,22 +122,8 @@ pub header_same : (p q : PcapHeader) (s a b : List ℕ) → HeaderText p s a →
 header_same p q s a b x y =
     let m = number_same big_number 4 p.magic_number q.magic_number s x.after_magic y.after_magic x.magic y.magic in
     let order = number_in (order_of q.magic_number) in
-    let xf : FieldsText order p y.after_magic a = rw (← m.0, ← m.1) x.fields in
-    let yf = y.fields in
-    let e1 = number_same order 2 p.version_major q.version_major y.after_magic xf.after_major yf.after_major xf.major yf.major in
-    let t2 : Number order 2 p.version_minor yf.after_major xf.after_minor = rw (← e1.1) xf.minor in
-    let e2 = number_same order 2 p.version_minor q.version_minor yf.after_major xf.after_minor yf.after_minor t2 yf.minor in
-    let t3 : Number order 4 xf.correction_bits yf.after_minor xf.after_correction = rw (← e2.1) xf.correction in
-    let e3 = number_same order 4 xf.correction_bits yf.correction_bits yf.after_minor xf.after_correction yf.after_correction t3 yf.correction in
-    let t4 : Number order 4 p.ts_accuracy yf.after_correction xf.after_accuracy = rw (← e3.1) xf.accuracy in
-    let e4 = number_same order 4 p.ts_accuracy q.ts_accuracy yf.after_correction xf.after_accuracy yf.after_accuracy t4 yf.accuracy in
-    let t5 : Number order 4 p.snaplen yf.after_accuracy xf.after_snaplen = rw (← e4.1) xf.snaplen in
-    let e5 = number_same order 4 p.snaplen q.snaplen yf.after_accuracy xf.after_snaplen yf.after_snaplen t5 yf.snaplen in
-    let t6 : Number order 4 xf.link_number_is yf.after_snaplen a = rw (← e5.1) xf.link in
-    let e6 = number_same order 4 xf.link_number_is yf.link_number_is yf.after_snaplen a b t6 yf.link in
-    let correction : p.ts_correction ≡ q.ts_correction = xf.correction_is ∙ ap (cast_signed w32) e3.0 ∙ sym yf.correction_is in
-    let link : p.datalink ≡ q.datalink = plain_same p.datalink q.datalink xf.link_is.plain yf.link_is.plain (xf.link_is.number ∙ e6.0 ∙ sym yf.link_is.number) in
-    (header_is p q m.0 e1.0 e2.0 correction e4.0 e5.0 link, e6.1)
+    let fields : FieldsText order p y.after_magic a = rw (← m.0, ← m.1) x.fields in
+    fields_same order p q y.after_magic a b m.0 fields y.fields
 
 true_or_false : (b : Bool) → (b ≡ true) ⊎ (b ≡ false)
 true_or_false true = inl refl
@@ -197,48 +147,6 @@ header_only s (faulty f) (whole q b) x y = absurd (valid_no_fault q s b f y x)
 header_only s (faulty f) (lacks m) x y = absurd (omega (arith, y.missing, y.some, x.long))
 header_only s (faulty f) (faulty g) x y = let e : f ≡ g = x.fault_is ∙ sym y.fault_is in rw e refl
 
-made_magic : (a b d : ℕ) (e : ℤ) (f g : ℕ) (h : DataLink) → (make_header a b d e f g h).magic_number ≡ a
-unfolding make_header
-made_magic a b d e f g h = refl
-
-fields_made : (order : ℕ → List ℕ → ℕ) (m a b d e f g : ℕ) (k : DataLink) (s sa sb sd se sf sg : List ℕ)
-    → Number order 2 a s sa → Number order 2 b sa sb → Number order 4 d sb sd → Number order 4 e sd se → Number order 4 f se sf → Number order 4 g sf sg → Link g k
-    → FieldsText order (make_header m a b (cast_signed w32 d) e f k) s sg
-unfolding make_header
-fields_made order m a b d e f g k s sa sb sd se sf sg pa pb pd pe pf pg pk = record {
-  correction_bits = d;
-  link_number_is = g;
-  after_major = sa;
-  after_minor = sb;
-  after_correction = sd;
-  after_accuracy = se;
-  after_snaplen = sf;
-  major = pa;
-  minor = pb;
-  correction = pd;
-  correction_is = refl;
-  accuracy = pe;
-  snaplen = pf;
-  link = pg;
-  link_is = pk;
-}
-
-fields_there : (order : ℕ → List ℕ → ℕ) (magic : ℕ) (s : List ℕ) → 20 ≤ length s → (h : PcapHeader) × (rest : List ℕ) × (h.magic_number ≡ magic) × FieldsText order h s rest
-fields_there order magic s long =
-    let a = number_there order 2 s (omega arith) in
-    let la = number_length order 2 a.0 s a.1 a.2 in
-    let b = number_there order 2 a.1 (omega (arith, la)) in
-    let lb = number_length order 2 b.0 a.1 b.1 b.2 in
-    let d = number_there order 4 b.1 (omega (arith, la, lb)) in
-    let ld = number_length order 4 d.0 b.1 d.1 d.2 in
-    let e = number_there order 4 d.1 (omega (arith, la, lb, ld)) in
-    let le = number_length order 4 e.0 d.1 e.1 e.2 in
-    let f = number_there order 4 e.1 (omega (arith, la, lb, ld, le)) in
-    let lf = number_length order 4 f.0 e.1 f.1 f.2 in
-    let g = number_there order 4 f.1 (omega (arith, la, lb, ld, le, lf)) in
-    let k = link_of g.0 in
-    (make_header magic a.0 b.0 (cast_signed w32 d.0) e.0 f.0 k.0, g.1, made_magic magic a.0 b.0 (cast_signed w32 d.0) e.0 f.0 k.0, fields_made order magic a.0 b.0 d.0 e.0 f.0 g.0 k.0 s a.1 b.1 d.1 e.1 f.1 g.1 a.2 b.2 d.2 e.2 f.2 g.2 k.1)
-
 header_there : (s : List ℕ) → (v : Verdict PcapHeader) × HeaderSays s v
 header_there s =
     elim (cases_lt (length s) 24) [
@@ -249,10 +157,9 @@ header_there s =
           elim (true_or_false (is_magic m.0)) [
             | inr invalid ↦ (faulty (Invalid CaptureMagic), record { magic = m.0; after = m.1; long = long; text = m.2; invalid = invalid; fault_is = refl })
             | inl valid ↦
-                let f = fields_there (number_in (order_of m.0)) m.0 m.1 (omega (arith, lm)) in
-                let magic : Number big_number 4 f.0.magic_number s m.1 = rw f.2 m.2 in
-                let fields : FieldsText (number_in (order_of f.0.magic_number)) f.0 m.1 f.1 = subst (λ (k : ℕ). FieldsText (number_in (order_of k)) f.0 m.1 f.1) (sym f.2) f.3 in
-                (whole f.0 f.1, record { after_magic = m.1; valid = ap is_magic f.2 ∙ valid; magic = magic; fields = fields })
+                let order = number_in (order_of m.0) in
+                let t = numbers_there order field_widths m.1 (omega (arith, lm)) in
+                (whole (header_with m.0 t.0) t.1, record { after_magic = m.1; valid = valid; magic = m.2; fields = fields_from order m.0 t.0 m.1 t.1 t.2 })
           ]
     ]
 

@@ -16,7 +16,7 @@ use Rattle.pcap_classic.specs.Packets.{packet_format}
 use Rattle.pcap_core.proofs.Asked.{asked_more}
 use Rattle.pcap_core.proofs.Pulling.{array_asked}
 use Rattle.pcap_classic.proofs.HeadedPackets.{packet_stable, packets_lawful}
-use Rattle.pcap_classic.proofs.Texts.{head_length}
+use Rattle.pcap_classic.proofs.FieldNumbers.{head_length}
 use Rattle.pcap_core.proofs.Refusals.{shows_more}
 use Rattle.pcap_classic.proofs.Stable.{packet_header_more}
 

@@ -1,5 +1,6 @@
 -- Packets are a lawful format.
 use Rattle.std.proofs.Common.{◌≡◌, ◌<◌, ℕ, Bool, true, false, ◌≤◌, List, [], ◌∷◌, ◌++◌, length, refl, sym, ap, subst, ◌∙◌, arith, length-append}
+use Rattle.std.proofs.lemmas.List.{nil_from_length}
 use Rattle.pcap_core.specs.declared.rules.Rule.TheVariants.{CaptureMagic}
 use Rattle.pcap_core.specs.Faults.{Invalid}
 use Rattle.pcap_classic.specs.declared.common.TsResolution.{TsResolution}
@@ -80,10 +81,6 @@ refusing_one s =
     let v = refusing_there s in
     record { value = v.0; holds = v.1; only = λ w h. refusing_only s w v.0 h v.1 }
 
-no_bytes : (l : List ℕ) → length l ≡ 0 → l ≡ []
-no_bytes [] e = refl
-no_bytes (b ∷ l) e = absurd (omega (arith, e))
-
 refusing_lawful : IsLawful refusing_format
 unfolding refusing_format
 refusing_lawful = record {
@@ -91,12 +88,12 @@ refusing_lawful = record {
   stable = λ q. record {
     text = λ s more rest packet h. absurd h;
     fault = λ s more fault h. (omega (arith, h.0, length-append s more), h.1);
-    request = λ s more n fewer h. (no_bytes (s ++ more) (omega (arith, length-append s more, ap length h.0, h.1)), omega (arith, h.1));
+    request = λ s more n fewer h. (nil_from_length (s ++ more) (omega (arith, length-append s more, ap length h.0, h.1)), omega (arith, h.1));
   };
   own = λ q s rest packet text. absurd text;
   some = omega arith;
   asks = λ q s n lack. omega (arith, lack.1);
-  short = λ q s n sum some. (no_bytes s (omega (arith, sum, some)), omega (arith, sum, some));
+  short = λ q s n sum some. (nil_from_length s (omega (arith, sum, some)), omega (arith, sum, some));
   last = λ q s more n m long lack count again. omega (arith, long, ap length lack.0);
 }
 

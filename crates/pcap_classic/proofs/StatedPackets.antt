@@ -25,10 +25,6 @@ pub reader_head : (header : PcapHeader) → is_magic header.magic_number ≡ tru
 unfolding reader_format packet_format
 reader_head header valid = chosen_head (is_magic header.magic_number) _ _ valid
 
-pub no_bytes : (l : List ℕ) → length l ≡ 0 → l ≡ []
-no_bytes [] e = refl
-no_bytes (b ∷ l) e = absurd (omega (arith, e))
-
 -- a header that is known, and the data behind it, are a packet
 pub packet_stands : (header : PcapHeader) (head : PacketHeader) (n : ℕ) (front body s : List ℕ) → KnowsHeader header head n front → s ≡ front ++ body → length body ≡ n
     → (reader_format packet_limit header).says tt s (whole (record { header = head; bytes = body }) [])

@@ -1,10 +1,10 @@
--- No two rules share a number or a text, and each stands in the list of all.
+-- No two rules share a number or a message, and each stands in the list of all.
 use Rattle.std.proofs.Common.{◌≡◌, ◌<◌, ℕ, List, [], ◌∷◌, get_or, refl, sym, ap, ◌∙◌, arith}
 use Rattle.std.specs.Prelude.{◌==◌, if◌then◌else◌}
 use Rattle.std.specs.Str.{bytes_eq}
 use Rattle.pcap_core.specs.declared.rules.Rule.{Rule}
 use Rattle.pcap_core.specs.declared.rules.Rule.TheVariants as rules
-use Rattle.pcap_core.specs.Faults.{text_of}
+use Rattle.pcap_core.specs.Faults.{rule_message}
 use Rattle.pcap_core.specs.Rules.{number_of}
 
 -- all rules, by number
@@ -229,52 +229,52 @@ numbered_by rules.UnknownTooLong = refl
 pub one_number : {a b : Rule} → number_of a ≡ number_of b → a ≡ b
 one_number {a} {b} e = sym (numbered_by a) ∙ ap numbered e ∙ numbered_by b
 
--- the rule of a text
+-- the rule of a message
 named : List ℕ → Rule
 named s =
-    if bytes_eq s (text_of rules.CaptureMagic) then rules.CaptureMagic else
-    if bytes_eq s (text_of rules.FractionTooLarge) then rules.FractionTooLarge else
-    if bytes_eq s (text_of rules.IncludedTooLong) then rules.IncludedTooLong else
-    if bytes_eq s (text_of rules.OriginalTooLong) then rules.OriginalTooLong else
-    if bytes_eq s (text_of rules.IncludedPastOriginal) then rules.IncludedPastOriginal else
-    if bytes_eq s (text_of rules.SectionMagic) then rules.SectionMagic else
-    if bytes_eq s (text_of rules.BlockUnaligned) then rules.BlockUnaligned else
-    if bytes_eq s (text_of rules.BlockTooShort) then rules.BlockTooShort else
-    if bytes_eq s (text_of rules.BlockLengthsDiffer) then rules.BlockLengthsDiffer else
-    if bytes_eq s (text_of rules.SectionMissing) then rules.SectionMissing else
-    if bytes_eq s (text_of rules.SectionTooShort) then rules.SectionTooShort else
-    if bytes_eq s (text_of rules.InterfaceTooShort) then rules.InterfaceTooShort else
-    if bytes_eq s (text_of rules.EnhancedTooShort) then rules.EnhancedTooShort else
-    if bytes_eq s (text_of rules.EnhancedCut) then rules.EnhancedCut else
-    if bytes_eq s (text_of rules.SimpleTooShort) then rules.SimpleTooShort else
-    if bytes_eq s (text_of rules.StatisticsTooShort) then rules.StatisticsTooShort else
-    if bytes_eq s (text_of rules.OptionTooShort) then rules.OptionTooShort else
-    if bytes_eq s (text_of rules.OptionCut) then rules.OptionCut else
-    if bytes_eq s (text_of rules.InterfaceIpv4Length) then rules.InterfaceIpv4Length else
-    if bytes_eq s (text_of rules.InterfaceIpv6Length) then rules.InterfaceIpv6Length else
-    if bytes_eq s (text_of rules.InterfaceMacLength) then rules.InterfaceMacLength else
-    if bytes_eq s (text_of rules.InterfaceEuiLength) then rules.InterfaceEuiLength else
-    if bytes_eq s (text_of rules.InterfaceSpeedLength) then rules.InterfaceSpeedLength else
-    if bytes_eq s (text_of rules.InterfaceResolutionLength) then rules.InterfaceResolutionLength else
-    if bytes_eq s (text_of rules.InterfaceZoneLength) then rules.InterfaceZoneLength else
-    if bytes_eq s (text_of rules.InterfaceFilterEmpty) then rules.InterfaceFilterEmpty else
-    if bytes_eq s (text_of rules.InterfaceFcsLength) then rules.InterfaceFcsLength else
-    if bytes_eq s (text_of rules.InterfaceOffsetLength) then rules.InterfaceOffsetLength else
-    if bytes_eq s (text_of rules.EnhancedFlagsLength) then rules.EnhancedFlagsLength else
-    if bytes_eq s (text_of rules.EnhancedDropCountLength) then rules.EnhancedDropCountLength else
-    if bytes_eq s (text_of rules.PacketFlagsLength) then rules.PacketFlagsLength else
-    if bytes_eq s (text_of rules.NameIpv4Length) then rules.NameIpv4Length else
-    if bytes_eq s (text_of rules.NameIpv6Length) then rules.NameIpv6Length else
-    if bytes_eq s (text_of rules.RecordCut) then rules.RecordCut else
-    if bytes_eq s (text_of rules.EndNotEmpty) then rules.EndNotEmpty else
-    if bytes_eq s (text_of rules.Ipv4RecordTooShort) then rules.Ipv4RecordTooShort else
-    if bytes_eq s (text_of rules.Ipv6RecordTooShort) then rules.Ipv6RecordTooShort else
-    if bytes_eq s (text_of rules.NameUnended) then rules.NameUnended else
-    if bytes_eq s (text_of rules.RecordUnpadded) then rules.RecordUnpadded else
-    if bytes_eq s (text_of rules.UnknownTooLong) then rules.UnknownTooLong else
+    if bytes_eq s (rule_message rules.CaptureMagic) then rules.CaptureMagic else
+    if bytes_eq s (rule_message rules.FractionTooLarge) then rules.FractionTooLarge else
+    if bytes_eq s (rule_message rules.IncludedTooLong) then rules.IncludedTooLong else
+    if bytes_eq s (rule_message rules.OriginalTooLong) then rules.OriginalTooLong else
+    if bytes_eq s (rule_message rules.IncludedPastOriginal) then rules.IncludedPastOriginal else
+    if bytes_eq s (rule_message rules.SectionMagic) then rules.SectionMagic else
+    if bytes_eq s (rule_message rules.BlockUnaligned) then rules.BlockUnaligned else
+    if bytes_eq s (rule_message rules.BlockTooShort) then rules.BlockTooShort else
+    if bytes_eq s (rule_message rules.BlockLengthsDiffer) then rules.BlockLengthsDiffer else
+    if bytes_eq s (rule_message rules.SectionMissing) then rules.SectionMissing else
+    if bytes_eq s (rule_message rules.SectionTooShort) then rules.SectionTooShort else
+    if bytes_eq s (rule_message rules.InterfaceTooShort) then rules.InterfaceTooShort else
+    if bytes_eq s (rule_message rules.EnhancedTooShort) then rules.EnhancedTooShort else
+    if bytes_eq s (rule_message rules.EnhancedCut) then rules.EnhancedCut else
+    if bytes_eq s (rule_message rules.SimpleTooShort) then rules.SimpleTooShort else
+    if bytes_eq s (rule_message rules.StatisticsTooShort) then rules.StatisticsTooShort else
+    if bytes_eq s (rule_message rules.OptionTooShort) then rules.OptionTooShort else
+    if bytes_eq s (rule_message rules.OptionCut) then rules.OptionCut else
+    if bytes_eq s (rule_message rules.InterfaceIpv4Length) then rules.InterfaceIpv4Length else
+    if bytes_eq s (rule_message rules.InterfaceIpv6Length) then rules.InterfaceIpv6Length else
+    if bytes_eq s (rule_message rules.InterfaceMacLength) then rules.InterfaceMacLength else
+    if bytes_eq s (rule_message rules.InterfaceEuiLength) then rules.InterfaceEuiLength else
+    if bytes_eq s (rule_message rules.InterfaceSpeedLength) then rules.InterfaceSpeedLength else
+    if bytes_eq s (rule_message rules.InterfaceResolutionLength) then rules.InterfaceResolutionLength else
+    if bytes_eq s (rule_message rules.InterfaceZoneLength) then rules.InterfaceZoneLength else
+    if bytes_eq s (rule_message rules.InterfaceFilterEmpty) then rules.InterfaceFilterEmpty else
+    if bytes_eq s (rule_message rules.InterfaceFcsLength) then rules.InterfaceFcsLength else
+    if bytes_eq s (rule_message rules.InterfaceOffsetLength) then rules.InterfaceOffsetLength else
+    if bytes_eq s (rule_message rules.EnhancedFlagsLength) then rules.EnhancedFlagsLength else
+    if bytes_eq s (rule_message rules.EnhancedDropCountLength) then rules.EnhancedDropCountLength else
+    if bytes_eq s (rule_message rules.PacketFlagsLength) then rules.PacketFlagsLength else
+    if bytes_eq s (rule_message rules.NameIpv4Length) then rules.NameIpv4Length else
+    if bytes_eq s (rule_message rules.NameIpv6Length) then rules.NameIpv6Length else
+    if bytes_eq s (rule_message rules.RecordCut) then rules.RecordCut else
+    if bytes_eq s (rule_message rules.EndNotEmpty) then rules.EndNotEmpty else
+    if bytes_eq s (rule_message rules.Ipv4RecordTooShort) then rules.Ipv4RecordTooShort else
+    if bytes_eq s (rule_message rules.Ipv6RecordTooShort) then rules.Ipv6RecordTooShort else
+    if bytes_eq s (rule_message rules.NameUnended) then rules.NameUnended else
+    if bytes_eq s (rule_message rules.RecordUnpadded) then rules.RecordUnpadded else
+    if bytes_eq s (rule_message rules.UnknownTooLong) then rules.UnknownTooLong else
     rules.CaptureMagic
 
-named_by : (rule : Rule) → named (text_of rule) ≡ rule
+named_by : (rule : Rule) → named (rule_message rule) ≡ rule
 unfolding named
 named_by rules.CaptureMagic = refl
 named_by rules.FractionTooLarge = refl
@@ -317,5 +317,5 @@ named_by rules.NameUnended = refl
 named_by rules.RecordUnpadded = refl
 named_by rules.UnknownTooLong = refl
 
-pub one_text : {a b : Rule} → text_of a ≡ text_of b → a ≡ b
-one_text {a} {b} e = sym (named_by a) ∙ ap named e ∙ named_by b
+pub one_message : {a b : Rule} → rule_message a ≡ rule_message b → a ≡ b
+one_message {a} {b} e = sym (named_by a) ∙ ap named e ∙ named_by b

@@ -30,13 +30,13 @@ NumbersSay order too_short ws s (whole ns rest) = Numbers order ws ns s rest
 NumbersSay order too_short ws s (lacks n) = ⊥
 NumbersSay order too_short ws s (faulty f) = (f ≡ too_short) × (length s < total ws)
 
-number_there : (order : Order) (w : ℕ) (s : List ℕ) → w ≤ length s → (n : ℕ) × (a : List ℕ) × Number order w n s a
+pub number_there : (order : Order) (w : ℕ) (s : List ℕ) → w ≤ length s → (n : ℕ) × (a : List ℕ) × Number order w n s a
 number_there order w s long = (order w (take w s), drop w s, record { bytes = take w s; text = sym (take-append-drop w s); length_is = omega (arith, length-take w s); value = refl })
 
 pair_same : {A B : Type 0} (p q : A × B) → p.0 ≡ q.0 → p.1 ≡ q.1 → p ≡ q
 pair_same {A = A} {B = B} p q a b = ap (λ (x : A). (x, p.1)) a ∙ ap (λ (y : B). (q.0, y)) b
 
-numbers_same : (order : Order) (ws : List ℕ) (ns ms : Values ws) (s a b : List ℕ) → Numbers order ws ns s a → Numbers order ws ms s b → (ns ≡ ms) × (a ≡ b)
+pub numbers_same : (order : Order) (ws : List ℕ) (ns ms : Values ws) (s a b : List ℕ) → Numbers order ws ns s a → Numbers order ws ms s b → (ns ≡ ms) × (a ≡ b)
 numbers_same order [] ns ms s a b h k = (refl, sym h ∙ k)
 numbers_same order (w ∷ ws) ns ms s a b h k =
     let one = number_same order w ns.0 ms.0 s h.0 k.0 h.1 k.1 in
@@ -47,7 +47,7 @@ pub numbers_length : (order : Order) (ws : List ℕ) (ns : Values ws) (s rest : 
 numbers_length order [] ns s rest h = let l : length s ≡ length rest = ap length h in omega (arith, l)
 numbers_length order (w ∷ ws) ns s rest h = omega (arith, number_length order w ns.0 s h.0 h.1, numbers_length order ws ns.1 h.0 rest h.2)
 
-numbers_there : (order : Order) (ws s : List ℕ) → total ws ≤ length s → (ns : Values ws) × (rest : List ℕ) × Numbers order ws ns s rest
+pub numbers_there : (order : Order) (ws s : List ℕ) → total ws ≤ length s → (ns : Values ws) × (rest : List ℕ) × Numbers order ws ns s rest
 numbers_there order [] s long = (tt, s, refl)
 numbers_there order (w ∷ ws) s long =
     let f = number_there order w s (omega arith) in

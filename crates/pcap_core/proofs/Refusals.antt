@@ -8,6 +8,7 @@ use Rattle.pcap_core.specs.declared.errors.PcapError.TheVariants as errors
 use Rattle.pcap_core.specs.declared.rules.Rule.{Rule}
 use Rattle.pcap_core.specs.Answer.{Verdict, lacks, faulty, Refuses, TellsWhere}
 use Rattle.pcap_core.specs.Errors.{IsMemory}
+use Rattle.pcap_core.specs.Filling.{StatesRest, TellsSettled}
 use Rattle.pcap_core.specs.Found.{found_of, FindsWhere, UnlessItem}
 use Rattle.pcap_core.specs.Faults.{Fault, Invalid, Io, Utf8, Names, Shows}
 
@@ -45,6 +46,17 @@ named_shows Stands rule (errors.FromUtf8Error e) stands named = absurd named
 named_shows Stands rule (errors.OutOfMemory e) stands named = absurd named
 named_shows Stands rule errors.WriterFailed stands named = absurd named
 
+-- a head that `?` refuses by its rule
+pub named_states : {H V : Type 0} (IsSaid : List ℕ → Verdict V → Type 0) (Knows : H → ℕ → List ℕ → Type 0) (s : List ℕ) (rule : Rule) (result : Result (H × ℕ) PcapError)
+    → IsSaid s (faulty (Invalid rule)) → IsErrAnd result (Names rule) → StatesRest IsSaid Knows s result
+named_states IsSaid Knows s rule (Err e) stands named = named_shows (λ fault. IsSaid s (faulty fault)) rule e stands named
+named_states IsSaid Knows s rule (Ok x) stands named = absurd named
+
+-- what is read of bytes that were filled, refused by `?` for its rule
+pub named_settles : {X V : Type 0} (IsSaid : Verdict V → Type 0) (view : X → V) (rule : Rule) (result : Result X PcapError) → IsSaid (faulty (Invalid rule)) → IsErrAnd result (Names rule) → TellsSettled IsSaid view result
+named_settles IsSaid view rule (Err e) stands named = named_shows (λ fault. IsSaid (faulty fault)) rule e stands named
+named_settles IsSaid view rule (Ok x) stands named = absurd named
+
 -- where no bytes can lack, a refusal shows a fault
 pub refuses_shows : (L : ℕ → Type 0) (F : Fault → Type 0) (e : PcapError) → ((n : ℕ) → L n → ⊥) → Refuses ⊥ L F e → Shows F e
 refuses_shows L F (errors.InvalidField text) none refuses = refuses
@@ -56,14 +68,14 @@ refuses_shows L F (errors.OutOfMemory e) none refuses = refuses
 refuses_shows L F errors.WriterFailed none refuses = refuses
 
 -- an error that shows a fault shows one that stands
-pub shown_some : {P : Fault → Type 0} → (e : PcapError) → Shows P e → (fault : Fault) × P fault
-shown_some (errors.InvalidField text) shown = (Invalid shown.0, shown.2)
-shown_some (errors.IoError e) shown = (Io, shown)
-shown_some (errors.Utf8Error e) shown = (Utf8, shown)
-shown_some (errors.IncompleteBuffer n) shown = absurd shown
-shown_some (errors.FromUtf8Error e) shown = absurd shown
-shown_some (errors.OutOfMemory e) shown = absurd shown
-shown_some errors.WriterFailed shown = absurd shown
+pub shown_fault : (Stands : Fault → Type 0) (e : PcapError) → Shows Stands e → (fault : Fault) × Stands fault
+shown_fault Stands (errors.InvalidField text) shown = (Invalid shown.0, shown.2)
+shown_fault Stands (errors.IoError e) shown = (Io, shown)
+shown_fault Stands (errors.Utf8Error e) shown = (Utf8, shown)
+shown_fault Stands (errors.IncompleteBuffer n) shown = absurd shown
+shown_fault Stands (errors.FromUtf8Error e) shown = absurd shown
+shown_fault Stands (errors.OutOfMemory e) shown = absurd shown
+shown_fault Stands errors.WriterFailed shown = absurd shown
 
 -- what a parser tells, and what is found in its answer
 pub found_tells : {X V : Type 0} (M : Type 0) (IsSaid : Verdict V → Type 0) (view : X → V) (answer : Result (Bor (List ℕ) × X) PcapError) → TellsWhere M IsSaid view answer → FindsWhere IsSaid view (found_of answer)

@@ -14,7 +14,7 @@ use Rattle.pcap_core.specs.Run.{IsRest}
 use Rattle.pcap_core.specs.declared.rest.Rest.{Rest}
 use Rattle.pcap_core.specs.declared.rest.Rest.TheVariants.{Clean, Needs, Refused}
 use Rattle.pcap_core.proofs.Formats.{lacks_no_text, fault_no_text, nothing_no_text, only, requests_left}
-use Rattle.pcap_core.proofs.Refusals.{shows_more, shown_some}
+use Rattle.pcap_core.proofs.Refusals.{shows_more, shown_fault}
 use Rattle.pcap_core.proofs.Requested.{Asking, asking_none, asking_few, asking_more, asking_smaller, asking_item, asking_fault, asking_short, asking_told, asking_ended, items_push, items_few, item_texts, texts_long, run_few}
 
 -- fewer than were asked for are all that were left
@@ -112,7 +112,7 @@ module _ {S V : Type 0} {f : Format S V} {laws : IsLawful f} {q : S} {bytes : Li
   -- a fault
   pub showing_refused : (e : PcapError) → Shows (λ fault. f.says q (drop start (take shown bytes)) (faulty fault)) e → AsksItem f q (drop start bytes) earlier now first count
   showing_refused e shows =
-      let stands : (fault : Fault) × f.says q (drop start (take shown bytes)) (faulty fault) = shown_some e shows in
+      let stands : (fault : Fault) × f.says q (drop start (take shown bytes)) (faulty fault) = shown_fault _ e shows in
       asked_told (λ n x. fault_lacks n stands.0 stands.1 x)
 
   pub showing_fault : (e : PcapError) → Shows (λ fault. f.says q (drop start (take shown bytes)) (faulty fault)) e → Shows (λ fault. f.says q (drop start bytes) (faulty fault)) e
@@ -196,7 +196,7 @@ pub rest_no_text : {S V : Type 0} (f : Format S V) → IsLawful f → (q : S) (l
 rest_no_text f laws q left Clean is v after text = nothing_no_text f laws q v after (subst (λ (t : List ℕ). f.says q t (whole v after)) is text)
 rest_no_text f laws q left (Needs n) is v after text = lacks_no_text f laws q n left is.0 v after text
 rest_no_text f laws q left (Refused e) is v after text =
-    let stands : (fault : Fault) × f.says q left (faulty fault) = shown_some e is in
+    let stands : (fault : Fault) × f.says q left (faulty fault) = shown_fault _ e is in
     fault_no_text f laws q stands.0 left stands.1 v after text
 
 -- the items that were shown are the front

@@ -3,27 +3,17 @@ use Rattle.std.proofs.Common.{◌≡◌, ◌≤◌, ℕ, List, [], ◌∷◌, �
 use Rattle.std.specs.Prelude.{Option}
 use Rattle.std.proofs.KnownBytes.{Consumes-nil, Consumes-trans}
 use Rattle.pcap_core.specs.declared.errors.PcapError.{PcapError}
-use Rattle.pcap_core.specs.declared.errors.PcapError.TheVariants as errors
 use Rattle.pcap_core.specs.Answer.{whole, faulty}
 use Rattle.pcap_core.specs.Early.{EarlyFault}
-use Rattle.pcap_core.specs.Faults.{Fault, Invalid, Io, Utf8, Shows}
+use Rattle.pcap_core.specs.Faults.{Fault}
 use Rattle.pcap_core.specs.Format.{Format, Texts, state_after, Front, IsLawful}
 use Rattle.pcap_core.specs.Reading.{HasCause, read_failed, no_memory, torn, refused, IsFaultOf, Takes}
 use Rattle.pcap_core.specs.Takes.{Stops, EndsFront, TakesTexts, TakesItems, ReadsFront}
 use Rattle.pcap_core.proofs.Formats.{lacks_no_text, fault_no_text, nothing_no_text, has_front, front_goes_on, texts_more, texts_push, nothing_more}
+use Rattle.pcap_core.proofs.Refusals.{shown_fault}
 
 pub takes_none : {S V : Type 0} (f : Format S V) (q : S) (known : Option (List ℕ)) → TakesTexts f q [] known known
 takes_none f q known = record { bytes = []; texts = refl; took = Consumes-nil known }
-
--- a fault that stands for the one that an error shows
-pub shown_fault : (Stands : Fault → Type 0) (e : PcapError) → Shows Stands e → (fault : Fault) × Stands fault
-shown_fault Stands (errors.InvalidField text) shown = (Invalid shown.0, shown.2)
-shown_fault Stands (errors.IoError x) shown = (Io, shown)
-shown_fault Stands (errors.Utf8Error x) shown = (Utf8, shown)
-shown_fault Stands (errors.IncompleteBuffer n) shown = absurd shown
-shown_fault Stands (errors.FromUtf8Error x) shown = absurd shown
-shown_fault Stands (errors.OutOfMemory x) shown = absurd shown
-shown_fault Stands errors.WriterFailed shown = absurd shown
 
 module _ {S V : Type 0} (f : Format S V) (laws : IsLawful f) (q : S) where
   -- one item more

@@ -18,7 +18,7 @@ IsIo _ = ⊥
 abbrev pub error_message : PcapError → List ℕ
 error_message (IncompleteBuffer n) = codes "Need at least " ++ (decimal n ++ codes " more bytes")
 error_message (IoError e) = codes "Error reading bytes"
-error_message (InvalidField text) = codes "Invalid field value: " ++ text.now
+error_message (InvalidField message) = codes "Invalid field value: " ++ message.now
 error_message (Utf8Error e) = codes "UTF8 error"
 error_message (FromUtf8Error e) = codes "UTF8 error"
 error_message (OutOfMemory e) = codes "Out of memory"

@@ -22,9 +22,9 @@ pub enum PcapError {
     IncompleteBuffer(usize),
     /// A read or write failed, a stream ended early, or a value inside a body is too short.
     IoError(io::Error),
-    /// The bytes break a rule of the format: the text names it.
+    /// The bytes break a rule of the format: the message names it.
     InvalidField(&'static str),
-    /// A text isn't UTF-8.
+    /// A string isn't UTF-8.
     Utf8Error(Utf8Error),
     /// Kept from the Rust crate. No call of this crate answers it.
     FromUtf8Error(FromUtf8Error),
@@ -41,7 +41,7 @@ impl fmt::Display for PcapError {
         match self {
             PcapError::IncompleteBuffer(n) => write!(f, "Need at least {n} more bytes"),
             PcapError::IoError(_) => f.write_str("Error reading bytes"),
-            PcapError::InvalidField(text) => write!(f, "Invalid field value: {text}"),
+            PcapError::InvalidField(message) => write!(f, "Invalid field value: {message}"),
             PcapError::Utf8Error(_) | PcapError::FromUtf8Error(_) => f.write_str("UTF8 error"),
             PcapError::OutOfMemory(_) => f.write_str("Out of memory"),
             PcapError::WriterFailed => f.write_str("Writer failed earlier"),
@@ -50,13 +50,13 @@ impl fmt::Display for PcapError {
 }
 
 impl PcapError {
-    /// The rule that the text of an `InvalidField` names. None for each other error.
+    /// The rule that the message of an `InvalidField` names. None for each other error.
     pub fn rule(&self) -> Option<Rule>
         ensures named { IfSome result (λ rule. Names rule self.now) }
         ensures found { (rule : Rule) → Names rule self.now → result ≡ Some rule }
     {
         match self {
-            PcapError::InvalidField(text) => Rule::from_text(text),
+            PcapError::InvalidField(message) => Rule::from_message(message),
             _ => None,
         }
     }

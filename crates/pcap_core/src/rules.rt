@@ -1,7 +1,7 @@
-//! The rules of the formats, one for each text of an `InvalidField`.
+//! The rules of the formats, one for each message of an `InvalidField`.
 
 ghost use Rattle.std.specs.Prelude.{◌≡◌, Some, IfSome};
-ghost use Rattle.pcap_core.specs.Faults.{text_of};
+ghost use Rattle.pcap_core.specs.Faults.{rule_message};
 ghost use Rattle.pcap_core.specs.Rules.{number_of, name_of};
 
 /// A rule of the formats that bytes break. Its number is that of the table of refusals.
@@ -243,22 +243,22 @@ impl Rule {
         None
     }
 
-    /// The rule of this text. None where no rule has it.
-    pub(crate) fn from_text(text: &str) -> Option<Rule>
-        ensures named { IfSome result (λ rule. text_of rule ≡ text.now) }
-        ensures found { (rule : Rule) → text_of rule ≡ text.now → result ≡ Some rule }
+    /// The rule of this message. None where no rule has it.
+    pub(crate) fn from_message(message: &str) -> Option<Rule>
+        ensures named { IfSome result (λ rule. rule_message rule ≡ message.now) }
+        ensures found { (rule : Rule) → rule_message rule ≡ message.now → result ≡ Some rule }
     {
         for rule in &RULES {
-            if rule.text() == text {
+            if rule.text() == message {
                 return Some(*rule);
             }
         }
         None
     }
 
-    /// The text of the `InvalidField` that names this rule.
+    /// The message of the `InvalidField` that names this rule.
     pub fn text(self) -> &'static str
-        ensures { result.now ≡ text_of self }
+        ensures { result.now ≡ rule_message self }
     {
         match self {
             Rule::CaptureMagic => "PcapHeader wrong magic number",

@@ -1,18 +1,15 @@
 -- What a frame's head states.
-use Rattle.std.proofs.Common.{◌≡◌, ◌<◌, ◌+◌, ℕ, List, [], ◌∷◌, ◌++◌, length, drop, refl, sym, ap, subst, ◌∙◌, arith, append-nil, append_assoc, length-append, inl, inr, Result, Ok, Err}
+use Rattle.std.proofs.Common.{◌≡◌, ◌<◌, ◌+◌, ℕ, List, [], ◌∷◌, ◌++◌, length, drop, refl, sym, ap, subst, ◌∙◌, arith, append-nil, append_assoc, length-append, inl, inr}
 use Rattle.std.proofs.lemmas.Bool.{cases_eq}
 use Rattle.std.proofs.lemmas.List.{drop_at}
-use Rattle.std.specs.Result.{IsErrAnd}
 use Rattle.byteorder.specs.Endian.{big_number}
 use Rattle.pcap_core.specs.declared.common.Endianness.{Endianness}
 use Rattle.pcap_core.specs.declared.rules.Rule.{Rule}
 use Rattle.pcap_core.specs.declared.rules.Rule.TheVariants.{BlockLengthsDiffer}
-use Rattle.pcap_core.specs.declared.errors.PcapError.{PcapError}
-use Rattle.pcap_core.specs.Answer.{Number, number_in, Verdict, lacks, faulty}
-use Rattle.pcap_core.specs.Faults.{Invalid, Names}
-use Rattle.pcap_core.proofs.Refusals.{named_shows}
+use Rattle.pcap_core.specs.Answer.{Number, number_in, lacks, faulty}
+use Rattle.pcap_core.specs.Faults.{Invalid}
 use Rattle.pcap_blocks.specs.BlockType.{block_type}
-use Rattle.pcap_core.specs.Filling.{IsSettled, Stated, StatesRest, TellsSettled}
+use Rattle.pcap_core.specs.Filling.{IsSettled, Stated}
 use Rattle.pcap_file.specs.declared.pcapng.framing.FrameHead.{FrameHead}
 use Rattle.pcap_file.specs.Frames.{Framed, FrameHeadText, IsGoodLength, BreaksHead, FrameTail, FrameText, LengthsDiffer, in_head, unequal, frame_format}
 use Rattle.pcap_file.specs.StatedFrames.{KnowsFrame, TailOf, TailDiffers}
@@ -21,10 +18,6 @@ use Rattle.pcap_file.proofs.Frames.{head_long}
 pub frame_head : frame_format.head ≡ 12
 unfolding frame_format
 frame_head = refl
-
-pub no_bytes : (l : List ℕ) → length l ≡ 0 → l ≡ []
-no_bytes [] e = refl
-no_bytes (b ∷ l) e = absurd (omega (arith, e))
 
 number_more : (order : ℕ → List ℕ → ℕ) (w n : ℕ) (s a more : List ℕ) → Number order w n s a → Number order w n (s ++ more) (a ++ more)
 number_more order w n s a more p = record { bytes = p.bytes; text = ap (λ t. t ++ more) p.text ∙ append_assoc p.bytes a more; length_is = p.length_is; value = p.value }
@@ -118,17 +111,6 @@ module _ (e : Endianness) (head : FrameHead) (n : ℕ) (s : List ℕ) (long : le
 pub frame_breaks : (e : Endianness) (s : List ℕ) (rule : Rule) → BreaksHead e s rule → frame_format.says e s (faulty (Invalid rule))
 unfolding frame_format
 frame_breaks e s rule broken = in_head rule broken
-
--- a head that `?` refuses by its rule
-pub named_states : {H V : Type 0} (IsSaid : List ℕ → Verdict V → Type 0) (Knows : H → ℕ → List ℕ → Type 0) (s : List ℕ) (rule : Rule) (result : Result (H × ℕ) PcapError)
-    → IsSaid s (faulty (Invalid rule)) → IsErrAnd result (Names rule) → StatesRest IsSaid Knows s result
-named_states IsSaid Knows s rule (Err e) stands named = named_shows (λ fault. IsSaid s (faulty fault)) rule e stands named
-named_states IsSaid Knows s rule (Ok x) stands named = absurd named
-
--- what is read of bytes that were filled, refused by `?` for its rule
-pub named_settles : {X V : Type 0} (IsSaid : Verdict V → Type 0) (view : X → V) (rule : Rule) (result : Result X PcapError) → IsSaid (faulty (Invalid rule)) → IsErrAnd result (Names rule) → TellsSettled IsSaid view result
-named_settles IsSaid view rule (Err e) stands named = named_shows (λ fault. IsSaid (faulty fault)) rule e stands named
-named_settles IsSaid view rule (Ok x) stands named = absurd named
 
 -- how long what follows a head is
 pub tail_length : (head : FrameHead) (b : Framed) (s rest : List ℕ) → TailOf head b s rest → length s + 8 ≡ head.len + length rest

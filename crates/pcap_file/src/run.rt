@@ -45,7 +45,7 @@ fn rest_of(error: PcapError) -> ResultParsing<Rest>
         PcapError::IncompleteBuffer(n) => Ok(Rest::Needs(n)),
         PcapError::OutOfMemory(e) => Err(PcapError::OutOfMemory(e)),
         PcapError::IoError(e) => Ok(Rest::Refused(PcapError::IoError(e))),
-        PcapError::InvalidField(text) => Ok(Rest::Refused(PcapError::InvalidField(text))),
+        PcapError::InvalidField(message) => Ok(Rest::Refused(PcapError::InvalidField(message))),
         PcapError::Utf8Error(e) => Ok(Rest::Refused(PcapError::Utf8Error(e))),
         PcapError::FromUtf8Error(e) => Ok(Rest::Refused(PcapError::FromUtf8Error(e))),
         PcapError::WriterFailed => Ok(Rest::Refused(PcapError::WriterFailed)),

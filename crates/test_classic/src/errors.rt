@@ -1,4 +1,4 @@
-//! The texts of errors, and the errors that others become.
+//! The messages of errors, and the errors that others become.
 
 use pcap_classic::pcap::{Packet, PcapHeader, PcapParser, PcapReader, PcapWriter};
 use pcap_classic::rules::Rule;
@@ -65,7 +65,7 @@ fn variants(rt: HostRuntime) -> Result<(), Fail> {
 #[test]
 fn wrong_magic(rt: HostRuntime) {
     match PcapParser::new(&[0xff; 24]) {
-        Err(PcapError::InvalidField(text)) => assert_eq!(rt; text, "PcapHeader wrong magic number"),
+        Err(PcapError::InvalidField(message)) => assert_eq!(rt; message, "PcapHeader wrong magic number"),
         _ => assert!(rt; false, "no fault"),
     }
 }

@@ -1,14 +1,11 @@
 -- What the head of an item states.
 use Rattle.std.proofs.Common.{◌≡◌, ℕ, ◌<◌, ◌+◌, List, [], ◌∷◌, ◌++◌, length, drop, refl, sym, ap, subst, ◌∙◌, append-nil, length-append, arith, inl, inr, Bool, Option, Some, None, Result, Ok, Err}
-use Rattle.std.proofs.lemmas.List.{drop_at}
+use Rattle.std.proofs.lemmas.List.{drop_at, nil_from_length}
 use Rattle.pcap_core.specs.declared.errors.PcapError.{PcapError}
-use Rattle.std.specs.Result.{IsErrAnd}
 use Rattle.byteorder.specs.Endian.{big_number}
-use Rattle.pcap_core.specs.declared.rules.Rule.{Rule}
-use Rattle.pcap_core.specs.Answer.{Number, Verdict, whole, lacks, faulty}
-use Rattle.pcap_core.specs.Faults.{Fault, Invalid, Names}
+use Rattle.pcap_core.specs.Answer.{Number, whole, lacks, faulty}
+use Rattle.pcap_core.specs.Faults.{Fault}
 use Rattle.pcap_core.specs.Headed.{HeadReading, good, bad}
-use Rattle.pcap_core.proofs.Refusals.{named_shows}
 use Rattle.pcap_core.specs.Filling.{IsSettled, Stated, StatesRest, FillsHeaded, TakesStated, TakesHeaded}
 use Rattle.pcap_core.specs.Reading.{Takes, Pulls}
 use Rattle.test_formats.specs.declared.samples.Head.{Head}
@@ -17,10 +14,6 @@ use Rattle.test_formats.specs.Samples.{Item, Announced, meaning, HeadReads, Know
 pub sample_head : sample_format.head ≡ 4
 unfolding sample_format
 sample_head = refl
-
-no_bytes : (l : List ℕ) → length l ≡ 0 → l ≡ []
-no_bytes [] e = refl
-no_bytes (b ∷ l) e = absurd (omega (arith, e))
 
 -- a head and as many bytes as it states are an item
 pub item_stands : (size : ℕ) (head : Head) (front body s : List ℕ) → KnowsHead size head (length body) front → length front ≡ 4 → s ≡ front ++ body
@@ -83,11 +76,5 @@ items_taken body_of size before after failed (Err e) taken = taken
 pub head_reads : (size kind number : ℕ) (s after end : List ℕ) (h : HeadReading Announced) → length s ≡ 4 → Number big_number 2 kind s after → length after + 2 ≡ length s
     → Number big_number 2 number after end → length end + 2 ≡ length after → meaning size kind number ≡ h → HeadReads size s h
 head_reads size kind number s after end h long first first_rest second second_rest means =
-    let none : end ≡ [] = no_bytes end (omega (arith, long, first_rest, second_rest)) in
+    let none : end ≡ [] = nil_from_length end (omega (arith, long, first_rest, second_rest)) in
     record { kind = kind; number = number; after = after; kind_is = first; number_is = subst (λ (l : List ℕ). Number big_number 2 number after l) none second; means = means }
-
--- a head that `?` refuses by its rule
-pub named_states : {H V : Type 0} (IsSaid : List ℕ → Verdict V → Type 0) (Knows : H → ℕ → List ℕ → Type 0) (s : List ℕ) (rule : Rule) (result : Result (H × ℕ) PcapError)
-    → IsSaid s (faulty (Invalid rule)) → IsErrAnd result (Names rule) → StatesRest IsSaid Knows s result
-named_states IsSaid Knows s rule (Err e) stands named = named_shows (λ fault. IsSaid s (faulty fault)) rule e stands named
-named_states IsSaid Knows s rule (Ok x) stands named = absurd named

@@ -96,7 +96,7 @@ pub(crate) fn refusal(alloc: Global, error: &PcapError) -> ResultParsing<String>
         PcapError::IncompleteBuffer(lacking) => write!(told, "needs {lacking}")?,
         PcapError::IoError(_) => write!(told, "io")?,
         PcapError::Utf8Error(_) => write!(told, "utf8")?,
-        PcapError::InvalidField(text) => write!(told, "invalid {text}")?,
+        PcapError::InvalidField(message) => write!(told, "invalid {message}")?,
         PcapError::OutOfMemory(_) => write!(told, "out of memory")?,
         _ => write!(told, "another error")?,
     }

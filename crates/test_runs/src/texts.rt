@@ -39,7 +39,7 @@ pub(crate) fn push_refusal(told: &mut String, error: &PcapError) -> ResultParsin
         PcapError::IncompleteBuffer(n) => write!(told, "needs {n}")?,
         PcapError::IoError(_) => write!(told, "io")?,
         PcapError::Utf8Error(_) => write!(told, "utf8")?,
-        PcapError::InvalidField(text) => write!(told, "invalid {text}")?,
+        PcapError::InvalidField(message) => write!(told, "invalid {message}")?,
         PcapError::OutOfMemory(_) => write!(told, "out of memory")?,
         _ => write!(told, "another error")?,
     }

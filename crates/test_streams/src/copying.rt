@@ -26,7 +26,7 @@ fn is_io(copied: &Copied) -> bool {
 
 fn names(copied: &Copied, rule: &str) -> bool {
     match copied.fault {
-        Some(PcapError::InvalidField(text)) => text == rule,
+        Some(PcapError::InvalidField(message)) => message == rule,
         _ => false,
     }
 }

@@ -37,7 +37,7 @@ fn is_io(item: &Option<ResultParsing<Packet<'static>>>) -> bool {
 
 fn names(item: &Option<ResultParsing<Packet<'static>>>, rule: &str) -> bool {
     match item {
-        Some(Err(PcapError::InvalidField(text))) => *text == rule,
+        Some(Err(PcapError::InvalidField(message))) => *message == rule,
         _ => false,
     }
 }
@@ -94,8 +94,8 @@ fn wrong_headers(rt: HostRuntime) -> Result<(), Fail> {
     for step in [1, 9] {
         let mut wrong = Halting::new(rt.alloc(), &[0xff; 24], step)?;
         match PcapHeader::from_reader(&mut wrong) {
-            Err(PcapError::InvalidField(text)) => assert_eq!(rt;
-                text,
+            Err(PcapError::InvalidField(message)) => assert_eq!(rt;
+                message,
                 "PcapHeader wrong magic number"
             ),
             _ => assert!(rt; false, "no fault"),

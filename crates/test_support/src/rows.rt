@@ -1,7 +1,7 @@
 //! Tables of bytes, and of what calls give for them.
 //!
-//! A row of a table is bytes as hexadecimal digits, an arrow, and what a call gives for them as text: the remainder and
-//! the value, or the refusal. These texts were written by hand, from the bytes and the rules of the formats.
+//! A row of a table is bytes as hexadecimal digits, an arrow, and what a call gives for them as it is shown: the remainder and
+//! the value, or the refusal. These lines were written by hand, from the bytes and the rules of the formats.
 
 use pcap_core::{PcapError, ResultParsing};
 use std::alloc::Global;
@@ -66,11 +66,11 @@ pub fn told_alone<T: Debug + Drop>(
     }
 }
 
-// Why a call gives no value: the text of an `InvalidField`, or the kind of the error. Bytes that are too few are an early
+// Why a call gives no value: the message of an `InvalidField`, or the kind of the error. Bytes that are too few are an early
 // end.
 fn refusal(error: &PcapError) -> &'static str {
     match error {
-        PcapError::InvalidField(text) => *text,
+        PcapError::InvalidField(message) => *message,
         PcapError::IoError(error) if error.kind() == ErrorKind::UnexpectedEof => "IoError",
         PcapError::Utf8Error(_) => "Utf8Error",
         PcapError::OutOfMemory(_) => "OutOfMemory",

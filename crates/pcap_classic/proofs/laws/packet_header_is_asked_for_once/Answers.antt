@@ -1,6 +1,6 @@
 use Rattle.std.proofs.Common.{arith, ◌++◌, length-append}
 use Rattle.std.proofs.lemmas.List.{nil_from_length}
-use Rattle.pcap_classic.proofs.Texts.{head_length}
+use Rattle.pcap_classic.proofs.FieldNumbers.{head_length}
 use Rattle.pcap_classic.proofs.laws.packet_header_is_asked_for_once.Goals as goal
 
 pub returns : goal.returns

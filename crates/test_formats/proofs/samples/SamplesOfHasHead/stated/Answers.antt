@@ -2,7 +2,8 @@ use Rattle.std.proofs.Common.{◌≡◌, ◌∙◌, ◌+◌, length, arith}
 use Rattle.pcap_core.specs.Faults.{Invalid}
 use Rattle.pcap_core.specs.Headed.{good, bad}
 use Rattle.test_formats.specs.Samples.{Announced, HeadReads, KnowsHead, sample_format}
-use Rattle.test_formats.proofs.StatedSamples.{sample_head, head_reads, head_states, head_refused, named_states}
+use Rattle.test_formats.proofs.StatedSamples.{sample_head, head_reads, head_states, head_refused}
+use Rattle.pcap_core.proofs.Refusals.{named_states}
 use Rattle.test_formats.proofs.samples.SamplesOfHasHead.stated.Goals as goal
 
 pub split_u16-kind-requires : goal.split_u16-kind-requires

@@ -1,4 +1,5 @@
 use Rattle.std.proofs.Common.{◌≡◌, ◌<◌, ◌∙◌, ℕ, List, [], true, false, length, arith, refl, subst, append-nil, sym, inl}
+use Rattle.std.proofs.lemmas.List.{nil_from_length}
 use Rattle.std.proofs.lemmas.Grind.{common_steps}
 use Rattle.std.proofs.lemmas.Result.{err_from_is_err_and}
 use Rattle.pcap_core.specs.declared.rules.Rule.TheVariants.{CaptureMagic}
@@ -7,10 +8,10 @@ use Rattle.pcap_classic.specs.Magic.{is_magic, order_of, resolution_of}
 use Rattle.pcap_classic.specs.PacketText.{packet_limit, PacketHeaderText}
 use Rattle.pcap_classic.specs.Packets.{reader_format}
 use Rattle.pcap_classic.proofs.Packets.{reader_refuses, reader_lawful}
-use Rattle.pcap_classic.proofs.Texts.{head_length}
+use Rattle.pcap_classic.proofs.FieldNumbers.{head_length}
 use Rattle.pcap_core.proofs.Refusals.{named_shows}
 use Rattle.pcap_classic.specs.StatedPackets.{KnowsHeader}
-use Rattle.pcap_classic.proofs.StatedPackets.{reader_head, no_bytes, packet_stands, packet_lacks, header_refused}
+use Rattle.pcap_classic.proofs.StatedPackets.{reader_head, packet_stands, packet_lacks, header_refused}
 use Rattle.pcap_classic.proofs.pcap.stated.PacketsUnderHasHead.stated.Goals as goal
 
 pub returns-then-not-has_valid_magic : goal.returns-then-not-has_valid_magic
@@ -41,7 +42,7 @@ returns c =
     let valid : is_magic header.magic_number ≡ true = grind (arith, common_steps) in
     let long : length bytes ≡ 16 = c.requires ∙ reader_head header valid in
     let text : PacketHeaderText packet_limit order r head bytes rest = c.in_ok-head.ensures.tells in
-    let none : rest ≡ [] = no_bytes rest (omega (arith, long, head_length order text.head bytes rest text.text)) in
+    let none : rest ≡ [] = nil_from_length rest (omega (arith, long, head_length order text.head bytes rest text.text)) in
     let knows : KnowsHeader header head head.incl_len bytes = record { valid = valid; text = subst (λ (l : List ℕ). PacketHeaderText packet_limit order r head bytes l) none text; follows = refl } in (
       knows,
       λ zero. inl (record { header = head; bytes = [] }, packet_stands header head head.incl_len bytes [] bytes knows (sym (append-nil bytes)) (sym zero)),

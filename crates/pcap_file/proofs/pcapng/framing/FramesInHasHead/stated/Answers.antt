@@ -1,7 +1,8 @@
 use Rattle.std.proofs.Common.{◌≡◌, ◌∙◌, ◌-◌, length, arith}
 use Rattle.pcap_file.specs.Frames.{frame_format}
 use Rattle.pcap_file.specs.StatedFrames.{KnowsFrame}
-use Rattle.pcap_file.proofs.StatedFrames.{frame_head, frame_lacks, frame_settled, frame_breaks, named_states}
+use Rattle.pcap_file.proofs.StatedFrames.{frame_head, frame_lacks, frame_settled, frame_breaks}
+use Rattle.pcap_core.proofs.Refusals.{named_states}
 use Rattle.pcap_file.proofs.pcapng.framing.FramesInHasHead.stated.Goals as goal
 
 pub split_head-requires : goal.split_head-requires
