@@ -45,6 +45,7 @@ fn steps(rt: HostRuntime) -> Result<(), Fail> {
     );
     assert!(rt; fill.held() == front(bytes.as_slice(), 65_541));
     assert!(rt; matches!(fill.step(100_000), Ok(34_459)));
+    assert_eq!(rt; fill.get_ref().calls, 3);
     assert!(rt; fill.held() == bytes.as_slice());
     assert!(rt; matches!(fill.step(1), Ok(0)) && !fill.failed());
     Ok(())
