@@ -4,6 +4,7 @@
 
 mod bodies;
 mod captures;
+mod pieces;
 
 use pcap_classic::ResultParsing;
 use std::alloc::Global;
@@ -15,7 +16,10 @@ fn passes_of(alloc: Global, call: &str, passes: u64, bytes: &[u8]) -> Option<Res
     if let Some(body) = bodies::named(call) {
         return Some(bodies::parse(alloc, body, passes, bytes));
     }
-    captures::passes_of(alloc, call, passes, bytes)
+    if let Some(sum) = captures::passes_of(alloc, call, passes, bytes) {
+        return Some(sum);
+    }
+    pieces::passes_of(alloc, call, passes, bytes)
 }
 
 fn unknown(message: &'static str) -> io::Error {

@@ -19,7 +19,7 @@ use Rattle.pcap_core.specs.Format.{Format, Front, IsLawful, state_after}
 use Rattle.pcap_core.specs.Laws.{IsStable}
 use Rattle.pcap_core.specs.Pieces.{AfterEach, Came, HoldsItems, IsFed, IsOpening, Reaches, TakesPart, joined_pieces}
 use Rattle.pcap_core.specs.Run.{IsRest}
-use Rattle.pcap_core.specs.Waiting.{IsDue, error_after, progress_after, progress_with, rest_after_more}
+use Rattle.pcap_core.specs.Waiting.{IsDue, progress_with}
 use Rattle.pcap_core.proofs.Formats.{front_same, nil_of_length, shorter, state_push, texts_more, texts_push}
 use Rattle.pcap_core.proofs.Fronts.{said_not_refused}
 use Rattle.pcap_core.proofs.Refusals.{shows_more}
@@ -50,6 +50,22 @@ pieces_more pieces i d lt =
     ap joined_pieces (take_more pieces i d lt) ∙ sym (flat_map_more (λ (piece : Bor (List ℕ)). piece.now) [] (take i pieces) (get_or pieces i d))
 
 -- ---- what stays known
+
+-- the error after so many bytes more: fewer are missing, and where all that were missing came nothing is known; any other error stays
+abbrev pub error_after : PcapError → ℕ → Option PcapError
+error_after (errors.IncompleteBuffer n) more = if nat_lt more n then Some (errors.IncompleteBuffer (n - more)) else None
+error_after error more = Some error
+
+-- what is said of the rest after so many bytes more, where it is known
+abbrev pub rest_after_more : Rest → ℕ → Option Rest
+rest_after_more Clean more = if more == 0 then Some Clean else None
+rest_after_more (Needs n) more = if nat_lt more n then Some (Needs (n - more)) else None
+rest_after_more (Refused error) more = Some (Refused error)
+
+-- how far a capture came after so many bytes more, where it is known
+abbrev pub progress_after : {P : Type 0} → Progress P → ℕ → Option (Progress P)
+progress_after (Before error) more = option_map Before (error_after error more)
+progress_after (Within parser rest) more = option_map (Within parser) (rest_after_more rest more)
 
 if_some : {X : Type 0} (b : Bool) (x y : X) → (if b then Some x else None) ≡ Some y → (b ≡ true) × (x ≡ y)
 if_some true x y e = (refl, cc)

@@ -33,14 +33,16 @@ loop-piece-preserved g c =
     let was = progress_with old c.loop-piece.missing in
     let now = progress_with c.if-piece-missing.progress c.if-piece-missing.missing in
     let fed : IsFed p.opens p.format p.part p.state (before ++ piece.now) now c.if-piece-missing.held.items (map p.view c.if-piece-missing.items.items) =
-    elim c.if-piece-missing.branch [ then-piece-missing w ↦
-      let known = waits_for old c.loop-piece.missing (length piece.now) w.if-piece-missing.true c.loop-piece.invariant.due in
-      rw (w.progress-is, w.missing-is, w.held-is, w.items-is, c.in_ok-hold.ensures.held)
+    elim c.if-piece-missing.branch [
+      | then-piece-missing w ↦
+          let known = waits_for old c.loop-piece.missing (length piece.now) w.if-piece-missing.true c.loop-piece.invariant.due in
+          rw (w.progress-is, w.missing-is, w.held-is, w.items-is, c.in_ok-hold.ensures.held)
           (fed_waits p.opens c.requires.opening p.format c.requires.lawful p.part p.state before piece.now was (progress_with old (c.loop-piece.missing - length piece.now)) c.loop-piece.held.items ws known c.loop-piece.invariant.fed)
-    | else-piece-missing+in_ok-progress-2 w ↦
-      let came = came_same p.opens p.format p.part p.state (before ++ piece.now) old c.loop-piece.missing _ ws
+      | else-piece-missing+in_ok-progress-2 w ↦
+          let came = came_same p.opens p.format p.part p.state (before ++ piece.now) old c.loop-piece.missing _ ws
           (fed_came p.opens c.requires.opening p.format c.requires.lawful p.part p.state before piece.now was c.loop-piece.held.items ws c.loop-piece.invariant.fed) in
-      rw (w.progress-is, w.missing-is, w.held-is, w.items-is, w.due-missing-else-piece-missing.ensures.same) (w.in_ok-progress-2.ensures.fed (before ++ piece.now) (rw c.in_ok-hold.ensures.held came)) ] in
+          rw (w.progress-is, w.missing-is, w.held-is, w.items-is, w.due-missing-else-piece-missing.ensures.same) (w.in_ok-progress-2.ensures.fed (before ++ piece.now) (rw c.in_ok-hold.ensures.held came))
+    ] in
     let due : IsDue c.if-piece-missing.progress c.if-piece-missing.missing =
     elim c.if-piece-missing.branch [ then-piece-missing w ↦ rw (w.progress-is, w.missing-is) (due_less old c.loop-piece.missing (length piece.now) c.loop-piece.invariant.due) | else-piece-missing+in_ok-progress-2 w ↦ rw (w.progress-is, w.missing-is) w.due-missing-else-piece-missing.ensures.due ] in
     let owned : All p.owned c.if-piece-missing.items.items =
