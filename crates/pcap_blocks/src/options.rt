@@ -1,6 +1,6 @@
 //! The options that every kind of block has, and the list of them.
 
-ghost use Rattle.std.specs.Prelude.{◌≡◌, length, map, All, IsOk, IfOk, IfSome, IfErr};
+ghost use Rattle.std.specs.Prelude.{◌≡◌, [], ◌∷◌, ◌++◌, length, map, All, IsOk, IfOk, IfSome, IfErr, OnOk};
 ghost use Rattle.std.specs.Option.{option_map};
 ghost use Rattle.pcap_core.specs.Answer.{TellsAll};
 ghost use Rattle.pcap_blocks.specs.Refusal.{Finds, FindsWhere, FindsAll};
@@ -250,6 +250,18 @@ fn option_from_slice<'a, O: PcapNgOption<'a>, B: ByteOrder>(
     Ok((rest, Some(option)))
 }
 
+// Puts an option behind the others; the first one makes room for a few, so that most lists grow once.
+#[inline(always)]
+fn append<O: Drop>(options: &mut Vec<O>, option: O) -> Result<(), AllocError>
+    ensures items { OnOk result (options.new.items ≡ options.old.items ++ option ∷ []) }
+{
+    if options.is_empty() {
+        options.reserve(8)?;
+    }
+    options.push(option)?;
+    Ok(())
+}
+
 // The list of options at the front of a slice, and what follows it.
 pub(crate) fn options_from_slice<'a, O: PcapNgOption<'a> + Drop, B: ByteOrder>(
     alloc: Global,
@@ -265,7 +277,7 @@ pub(crate) fn options_from_slice<'a, O: PcapNgOption<'a> + Drop, B: ByteOrder>(
         rest = after;
         match option {
             None => return Ok((rest, options)),
-            Some(option) => options.push(option)?,
+            Some(option) => append(&mut options, option)?,
         }
     }
     Ok((rest, options))

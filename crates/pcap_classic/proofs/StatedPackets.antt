@@ -7,7 +7,9 @@ use Rattle.pcap_classic.specs.declared.pcap.packet.PacketHeader.{PacketHeader}
 use Rattle.pcap_core.specs.Answer.{number_in, whole, lacks, faulty, Refuses}
 use Rattle.pcap_core.specs.Faults.{Fault, Shows}
 use Rattle.pcap_core.specs.Format.{Format}
-use Rattle.pcap_classic.specs.Magic.{is_magic, order_of, resolution_of}
+use Rattle.pcap_core.specs.declared.common.Endianness.{Endianness}
+use Rattle.pcap_classic.specs.declared.common.TsResolution.{TsResolution}
+use Rattle.pcap_classic.specs.Magic.{kind_of, is_magic, order_of, resolution_of}
 use Rattle.pcap_classic.specs.PacketText.{packet_limit, Captured, PacketHeaderText, PacketText, LacksHead, HasHeadFault}
 use Rattle.pcap_core.specs.Reading.{Takes, Pulls}
 use Rattle.pcap_classic.specs.Packets.{packet_format, refusing_format, choice, reader_format}
@@ -16,6 +18,15 @@ use Rattle.pcap_core.proofs.Refusals.{refuses_shows, shows_more}
 use Rattle.pcap_classic.proofs.Stable.{packet_header_more}
 use Rattle.pcap_core.specs.Filling.{Stated, FillsHeaded, TakesStated}
 use Rattle.pcap_classic.specs.StatedPackets.{KnowsHeader, held_packet}
+
+-- what a kind says of a magic number
+pub kind_is : (magic : ℕ) (e : Endianness) (r : TsResolution) → kind_of magic ≡ Some (e, r) → (is_magic magic ≡ true) × (order_of magic ≡ e) × (resolution_of magic ≡ r)
+unfolding is_magic order_of resolution_of
+kind_is magic e r k = rw k (refl, refl, refl)
+
+pub no_kind : (magic : ℕ) → kind_of magic ≡ None → is_magic magic ≡ false
+unfolding is_magic
+no_kind magic k = rw k refl
 
 chosen_head : (b : Bool) (f g : Format (Unit {0}) Captured) → b ≡ true → (choice b f g).head ≡ f.head
 chosen_head true f g e = refl

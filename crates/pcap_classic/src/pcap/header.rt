@@ -102,6 +102,21 @@ impl PcapHeader {
         )
     }
 
+    // What the magic number says, where it is valid: the order of the numbers and the resolution of the times.
+    #[inline(always)]
+    #[tactic(auto, unfolding(crate::specs::Magic::kind_of))]
+    pub(crate) fn kind(&self) -> Option<(Endianness, TsResolution)>
+        ensures { result ≡ kind_of self.now.magic_number }
+    {
+        match self.magic_number {
+            0xa1b2c3d4 => Some((Endianness::Big, TsResolution::MicroSecond)),
+            0xa1b23c4d => Some((Endianness::Big, TsResolution::NanoSecond)),
+            0xd4c3b2a1 => Some((Endianness::Little, TsResolution::MicroSecond)),
+            0x4d3cb2a1 => Some((Endianness::Little, TsResolution::NanoSecond)),
+            _ => None,
+        }
+    }
+
     /// The order of the capture's numbers. The magic number has to be valid.
     #[tactic(auto, unfolding(crate::specs::Magic::kind_of, crate::specs::Magic::is_magic, crate::specs::Magic::order_of))]
     pub fn endianness(&self) -> Endianness

@@ -1,15 +1,15 @@
 //! Packets as items with a head.
 
-ghost use Rattle.std.specs.Prelude.{◌≡◌, false, [], length, IsTrue, OnOk};
+ghost use Rattle.std.specs.Prelude.{◌≡◌, false, [], length, OnOk};
 ghost use Rattle.pcap_core.specs.Answer.{Tells, number_in, whole};
 ghost use Rattle.pcap_core.specs.Fill.{held_of, stream_of, has_failed};
-ghost use Rattle.pcap_classic.specs.Magic.{is_magic, order_of, resolution_of};
 ghost use Rattle.pcap_classic.specs.Packets.{reader_format};
 ghost use Rattle.pcap_classic.specs.PacketText.{packet_limit, content_of, PacketHeaderSays};
 ghost use Rattle.pcap_core.specs.Reading.{Pulls};
 ghost use Rattle.pcap_core.specs.Filling.{Stated};
 ghost use Rattle.pcap_classic.specs.StatedPackets.{KnowsHeader};
 
+use crate::common::TsResolution;
 use crate::pcap::{Packet, PacketHeader, PcapHeader};
 use byteorder::{BigEndian, LittleEndian};
 use pcap_core::rules::Rule;
@@ -22,15 +22,16 @@ pub(crate) struct PacketsUnder<'a> {
     pub(crate) header: &'a PcapHeader,
 }
 
-// The packet's header at the front of a slice, and what follows it.
+// The packet's header at the front of a slice, in this order and resolution, and what follows it.
 #[inline(always)]
-fn header_under<'a>(header: &PcapHeader, slice: &'a [u8]) -> ResultParsing<(&'a [u8], PacketHeader)>
-    requires { IsTrue (is_magic header.now.magic_number) }
-    ensures tells { let magic = header.now.magic_number in
-        Tells (PacketHeaderSays packet_limit (number_in (order_of magic)) (resolution_of magic) slice.now) (λ head. head) result }
+fn header_in(
+    endianness: Endianness,
+    ts_resolution: TsResolution,
+    slice: &[u8],
+) -> ResultParsing<(&[u8], PacketHeader)>
+    ensures tells { Tells (PacketHeaderSays packet_limit (number_in endianness) ts_resolution slice.now) (λ head. head) result }
 {
-    let ts_resolution = header.ts_resolution();
-    match header.endianness() {
+    match endianness {
         Endianness::Big => PacketHeader::from_slice::<BigEndian>(slice, ts_resolution),
         Endianness::Little => PacketHeader::from_slice::<LittleEndian>(slice, ts_resolution),
     }
@@ -58,10 +59,10 @@ impl HasHead for PacketsUnder<'_> {
 
     #[inline(always)]
     fn stated(&self, bytes: &[u8]) -> ResultParsing<(PacketHeader, usize)> {
-        if !self.header.has_valid_magic() {
+        let Some((endianness, ts_resolution)) = self.header.kind() else {
             return Err(PcapError::from(Rule::CaptureMagic));
-        }
-        let (_, head) = header_under(self.header, bytes)?;
+        };
+        let (_, head) = header_in(endianness, ts_resolution, bytes)?;
         Ok((head, head.incl_len as usize))
     }
 }

@@ -28,16 +28,16 @@ impl Held {
         }
     }
 
-    // Nothing yet, with memory for so many bytes.
-    pub(crate) fn with_capacity(alloc: Global, n: usize) -> ResultParsing<Held>
+    // Nothing yet, with room for so many bytes.
+    #[inline(always)]
+    pub(crate) fn with_room(alloc: Global, n: usize) -> ResultParsing<Held>
         ensures held { IfOk result (λ made. held_bytes made ≡ []) }
-        ensures room { IfOk result (λ made. room_of made ≡ 0) }
+        ensures room { IfOk result (λ made. room_of made ≡ n) }
         ensures memory { IfErr result IsMemory }
     {
-        Ok(Held {
-            room: Vec::with_capacity(alloc, n)?,
-            len: 0,
-        })
+        let mut room = Vec::with_capacity(alloc, n)?;
+        room.resize(n, 0)?;
+        Ok(Held { room, len: 0 })
     }
 
     /// The bytes that are held.

@@ -96,7 +96,7 @@ pub fn take_bytes<T: Read>(
     if n == 0 {
         return Ok(Vec::new(alloc));
     }
-    let mut held = Held::with_capacity(alloc, n.min(MOST_AT_ONCE))?;
+    let mut held = Held::with_room(alloc, n.min(MOST_AT_ONCE))?;
     if !read_exactly(stream, has_failed, &mut held, n)? {
         return Err(ended_early());
     }

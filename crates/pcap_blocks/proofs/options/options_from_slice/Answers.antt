@@ -16,15 +16,15 @@ returns-in_err-after-clause-tells g c =
 pub returns-in-None-clause-tells : goal.returns-in-None-clause-tells
 returns-in-None-clause-tells g c = marked _ c.loop-rest.invariant.so_far (rw c.in-None.is at c.in_ok-after.ensures.tells)
 
-pub returns-in_err-push-in-Some-clause-tells : goal.returns-in_err-push-in-Some-clause-tells
-returns-in_err-push-in-Some-clause-tells g c =
-    let p = err_from_is_err_and c.from_residual-in_err-push-in-Some.result c.from_residual-in_err-push-in-Some.ensures.1 in
+pub returns-in_err-append-in-Some-clause-tells : goal.returns-in_err-append-in-Some-clause-tells
+returns-in_err-append-in-Some-clause-tells g c =
+    let p = err_from_is_err_and c.from_residual-in_err-append-in-Some.result c.from_residual-in_err-append-in-Some.ensures.1 in
     rw (p.1, p.2) (begins_with (OptionText g.B.ByteOrder.number_of g.O.PcapNgOption.kind) _ _ _ _ _ c.loop-rest.invariant.so_far (rw c.in-Some.is at c.in_ok-after.ensures.tells))
 
 pub loop-rest-preserved : goal.loop-rest-preserved
 loop-rest-preserved g c = record {
-  so_far = rw (c.in_ok-push-in-Some.ensures.items, map-append) (chain_more (OptionText g.B.ByteOrder.number_of g.O.PcapNgOption.kind) _ _ _ _ _ c.loop-rest.invariant.so_far (rw c.in-Some.is at c.in_ok-after.ensures.tells));
-  borrowed = rw c.in_ok-push-in-Some.ensures.items (All-push g.O.PcapNgOption.is_borrowed _ _ c.loop-rest.invariant.borrowed (rw c.in-Some.is at c.in_ok-after.ensures.borrowed));
+  so_far = rw (c.in_ok-append-in-Some.ensures.items, map-append) (chain_more (OptionText g.B.ByteOrder.number_of g.O.PcapNgOption.kind) _ _ _ _ _ c.loop-rest.invariant.so_far (rw c.in-Some.is at c.in_ok-after.ensures.tells));
+  borrowed = rw c.in_ok-append-in-Some.ensures.items (All-push g.O.PcapNgOption.is_borrowed _ _ c.loop-rest.invariant.borrowed (rw c.in-Some.is at c.in_ok-after.ensures.borrowed));
 }
 
 pub returns-clause-tells : goal.returns-clause-tells
