@@ -65,7 +65,7 @@ impl PieceParser for PcapParser {
 /// before it hold, 0 while the capture's header isn't whole. Empty pieces are pieces too.
 ///
 /// The pieces' lengths together fit `usize`, which `pieces_fit` tests. Only bytes that no packet has taken are kept, and
-/// each packet is parsed twice at most, so the cost is linear in the bytes and the pieces.
+/// the parser is asked about each packet three times at most, so the cost is linear in the bytes and the pieces.
 ///
 /// Where the header is refused, that refusal, and `IncompleteBuffer` where it isn't whole. `OutOfMemory` where something
 /// can't grow.

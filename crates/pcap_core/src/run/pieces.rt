@@ -135,8 +135,8 @@ fn hold(held: &mut Vec<u8>, piece: &[u8]) -> ResultParsing<()>
     Ok(())
 }
 
-// How many bytes have to come before the parser is asked: as many as are missing, so that each item is parsed twice at most;
-// any one behind a whole item; and after a refusal more than can come.
+// How many bytes have to come before the parser is asked: as many as are missing, any one behind a whole item, and after a
+// refusal more than can come. So it is asked about each item three times at most: at its first byte, its head and its end.
 fn due<P>(progress: &Progress<P>) -> usize
     ensures same { progress_with progress.now result ≡ progress.now }
     ensures due { IsDue progress.now result }

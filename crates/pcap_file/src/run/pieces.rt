@@ -65,7 +65,7 @@ impl PieceParser for PcapNgParser {
 /// it and those before it hold, 0 while the first one isn't whole. Empty pieces are pieces too.
 ///
 /// The pieces' lengths together fit `usize`, which `pieces_fit` tests. Only bytes that no block has taken are kept, and
-/// each block is parsed twice at most, so the cost is linear in the bytes and the pieces.
+/// the parser is asked about each block three times at most, so the cost is linear in the bytes and the pieces.
 ///
 /// The errors are those of `PcapNgParser::new` on the first block, with `IncompleteBuffer` where it isn't whole.
 /// `OutOfMemory` where something can't grow.
