@@ -24,7 +24,7 @@ packet_then : (order : Order) → IsNumbersThen order (Invalid EnhancedTooShort)
 packet_then order = record {
   text_to = λ b s rest h. ((b.interface_id, (b.drop_count, tt)), h.after_drops, (h.after_interface, h.interface_is, (h.after_drops, h.drops_are, refl)), b.packet, refl, h.packet_is);
   text_from = λ ns packet s after rest n h.
-    record { after_interface = n.0; after_drops = after; interface_is = n.1; drops_are = subst (λ (x : List ℕ). Number order 2 ns.1.0 n.0 x) n.2.2 n.2.1; packet_is = h };
+      record { after_interface = n.0; after_drops = after; interface_is = n.1; drops_are = subst (λ (x : List ℕ). Number order 2 ns.1.0 n.0 x) n.2.2 n.2.1; packet_is = h };
   fault_to = λ fault s h. fault_to order fault s h;
   short_from = λ s lt. short (omega (arith, lt));
   fault_from = λ fault s after behind h. in_packet fault after behind h;

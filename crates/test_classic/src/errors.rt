@@ -65,7 +65,10 @@ fn variants(rt: HostRuntime) -> Result<(), Fail> {
 #[test]
 fn wrong_magic(rt: HostRuntime) {
     match PcapParser::new(&[0xff; 24]) {
-        Err(PcapError::InvalidField(message)) => assert_eq!(rt; message, "PcapHeader wrong magic number"),
+        Err(PcapError::InvalidField(message)) => assert_eq!(rt;
+            message,
+            "PcapHeader wrong magic number"
+        ),
         _ => assert!(rt; false, "no fault"),
     }
 }
