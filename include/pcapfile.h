@@ -9,7 +9,9 @@
  *  - each pointer is aligned, not null, and points at a value of its type that no other pointer of the same call reaches;
  *  - `ptr` of a pcapfile_bytes is not null, even where `len` is 0 (PCAPFILE_NO_BYTES), `len` is below 2^63, all of these
  *    bytes can be read, and nobody changes them while a call runs;
- *  - a struct that a call fills has been given a value before, as PCAPFILE_PACKET_INIT.
+ *  - a struct that a call fills has been given a value before, as PCAPFILE_PACKET_INIT;
+ *  - malloc, realloc and free are those of one allocator, which aligns blocks as C's does; and the calls of PcapNg are made
+ *    neither in a signal handler nor in the forked child of a process with threads.
  * Bytes that a call lends lie in the capture: they are valid as long as the capture is.
  */
 #ifndef PCAPFILE_H
