@@ -22,8 +22,8 @@ struct Stored<'a> {
     bytes: &'a [u8],
 }
 
-/// The packet of a block. None where the block isn't one of a packet.
-fn packet_in<'a>(block: &'a ParsedBlock<'_>) -> Option<Stored<'a>> {
+/// The packet of a block, if it is one of a packet. Of simple packets `snaplen` bytes are stored at most, 0 is no limit.
+fn packet_in<'a>(block: &'a ParsedBlock<'_>, snaplen: u32) -> Option<Stored<'a>> {
     match block {
         ParsedBlock::EnhancedPacket(packet) => Some(Stored {
             interface: packet.interface_id as usize,
@@ -41,7 +41,7 @@ fn packet_in<'a>(block: &'a ParsedBlock<'_>) -> Option<Stored<'a>> {
             interface: 0,
             units: None,
             original_len: packet.original_len,
-            bytes: packet.data_.as_slice(),
+            bytes: packet.stored(snaplen),
         }),
         _ => None,
     }
@@ -103,7 +103,8 @@ fn main(rt: HostRuntime) -> Result<()> {
         };
         let block = reader.block(header?);
         let parsed = block.parsed(rt.alloc())?;
-        let Some(packet) = packet_in(&parsed) else {
+        let snaplen = reader.interfaces().first().map_or(0, |it| it.snaplen);
+        let Some(packet) = packet_in(&parsed, snaplen) else {
             continue;
         };
         let interface = reader
