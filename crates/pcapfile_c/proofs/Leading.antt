@@ -1,5 +1,5 @@
 -- What a block puts in force, as a struct shows it.
-use Rattle.std.proofs.Common.{◌≡◌, ◌≢◌, ◌+◌, ◌-◌, ◌^◌, ℕ, List, [], ◌∷◌, ◌++◌, length, min, T, Bool, if◌then◌else◌, is_some, true, Result, Ok, Err, Some, None, refl, sym, ap, subst, ◌∙◌, inl, inr, arith}
+use Rattle.std.proofs.Common.{◌≡◌, ◌+◌, ◌-◌, ◌^◌, ℕ, List, [], ◌∷◌, ◌++◌, length, min, T, Bool, if◌then◌else◌, is_some, true, Result, Ok, Err, Some, None, refl, sym, ap, subst, ◌∙◌, inl, inr, arith}
 use Rattle.std.specs.Prelude.{IsSome, Option}
 use Rattle.std.proofs.lemmas.Bool.{ne_eqb}
 use Rattle.std.proofs.lemmas.List.{length-append}
@@ -16,7 +16,7 @@ use Rattle.pcap_core.proofs.Refusals.{named_refuses}
 use Rattle.pcap_blocks.specs.declared.block_type.BlockType.{BlockType}
 use Rattle.pcap_blocks.specs.declared.block_type.BlockType.TheVariants as types
 use Rattle.pcap_blocks.specs.InterfaceDescription.{Interface}
-use Rattle.pcap_blocks.specs.ParsedBlock.{Body, SectionBody, InterfaceBody, BodySays}
+use Rattle.pcap_blocks.specs.ParsedBlock.{Body, SectionBody, BodySays}
 use Rattle.pcap_blocks.specs.SectionHeader.{Section, SectionSays, SectionMayGrow, magic_order}
 use Rattle.pcap_file.specs.Bodies.{SaysOfBody, GrowsInBody}
 use Rattle.pcap_file.specs.Frames.{Framed}

@@ -1,5 +1,5 @@
 -- What the call that takes a block answers.
-use Rattle.std.specs.Prelude.{◌≡◌, ◌≢◌, ◌-◌, ◌^◌, ◌⊎◌, ◌==◌, if◌then◌else◌, ℕ, ℤ, pos, List, [], length, min, Option, Some, None, IsSome, Result, Ok, Err}
+use Rattle.std.specs.Prelude.{◌≡◌, ◌-◌, ◌^◌, ◌⊎◌, ◌==◌, if◌then◌else◌, ℕ, ℤ, pos, List, length, min, Option, Some, IsSome, Result, Ok, Err}
 use Rattle.std.specs.Borrow.{Bor}
 use Rattle.pcap_core.specs.declared.common.Endianness.{Endianness}
 use Rattle.pcap_core.specs.declared.common.Endianness.TheVariants.{Big}

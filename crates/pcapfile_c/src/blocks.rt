@@ -13,8 +13,8 @@ ghost use Rattle.pcapfile_c.specs.Blocks.{ShowsState, ShowsBlock, number_of_type
 use crate::errors::{PcapfileError, tell};
 use crate::shown::PcapfileBytes;
 use pcap_core::rules::Rule;
-use pcap_core::{CowBytes, Endianness, PcapError, ResultParsing};
 use pcap_file::pcapng::{Block, BlockType, SectionHeaderBlock};
+use pcap_file::{CowBytes, Endianness, PcapError, ResultParsing};
 use std::alloc::Global;
 
 /// What a walk over the blocks of a capture keeps between two of them. In C: `pcapfile_section`.

@@ -15,8 +15,8 @@ use crate::blocks::{PcapfileBlock, PcapfileSection};
 use crate::errors::{PcapfileError, tell};
 use byteorder::{BigEndian, LittleEndian};
 use pcap_core::rules::Rule;
-use pcap_core::{CowBytes, Endianness, PcapError, ResultParsing};
 use pcap_file::pcapng::{BlockType, Clock, InterfaceDescriptionBlock, ParsedBlock, TimeUnit};
+use pcap_file::{CowBytes, Endianness, PcapError, ResultParsing};
 use std::alloc::Global;
 
 /// An interface: the link type and the snaplen of its packets, and how it counts time. In C: `pcapfile_interface`.

@@ -10,8 +10,8 @@ ghost use Rattle.pcapfile_c.specs.Shown.{shown_header, captured};
 
 use crate::errors::{PcapfileError, tell};
 use crate::shown::{PcapfileBytes, PcapfileHeader, PcapfilePacket};
-use pcap_classic::pcap::{PcapHeader, PcapParser};
-use pcap_core::ResultParsing;
+use pcap_file::ResultParsing;
+use pcap_file::pcap::{PcapHeader, PcapParser};
 
 /// Takes the header at the front of `left`.
 #[unsafe(no_mangle)]

@@ -5,8 +5,8 @@ ghost use Rattle.pcap_core.specs.Bytes.{IsBorrowed};
 ghost use Rattle.pcap_classic.specs.PacketText.{content_of};
 ghost use Rattle.pcapfile_c.specs.Shown.{shown_header, captured};
 
-use pcap_classic::pcap::{Packet, PcapHeader};
-use pcap_core::{CowBytes, DataLink};
+use pcap_file::pcap::{Packet, PcapHeader};
+use pcap_file::{CowBytes, DataLink};
 
 /// Bytes that lie elsewhere. In C: `pcapfile_bytes`, a pointer and a length.
 #[repr(C)]
