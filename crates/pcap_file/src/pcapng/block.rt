@@ -82,10 +82,7 @@ impl<'a> Block<'a> {
     ///
     /// `IncompleteBuffer` where bytes are missing, of the first 12 or then of the whole block. `InvalidField` for the first
     /// rule that its frame breaks.
-    pub fn from_slice(
-        order: Endianness,
-        slice: &'a [u8],
-    ) -> ResultParsing<(&'a [u8], Block<'a>)>
+    pub fn from_slice(order: Endianness, slice: &'a [u8]) -> ResultParsing<(&'a [u8], Block<'a>)>
         ensures tells { Tells (FrameSays order slice.now) framed_of result }
         ensures borrowed { IfOk result (λ x. IsBorrowed x.1.body) }
     {
