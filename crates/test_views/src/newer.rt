@@ -16,7 +16,7 @@ fn secrets_of_both_orders(rt: HostRuntime) -> Result<(), Fail> {
         ),
     ] {
         let body = bytes(rt.alloc(), digits)?;
-        let block = UnknownBlock::new(BlockType::Unknown(10), body.len() as u32, body.as_slice());
+        let block = UnknownBlock::new(BlockType::Unknown(10), 0, body.as_slice());
         let secrets = block.decryption_secrets(order).ok_or("no secrets")?;
         assert_eq!(rt; secrets.secrets_type, 0x544c_534b);
         assert_eq!(rt; secrets.secrets, b"abc".as_slice());
