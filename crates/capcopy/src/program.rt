@@ -1,9 +1,11 @@
 //! The program over its words and its standard streams.
 
-use capcopy_run::Exit;
+use capcopy_run::{Exit, Uninterrupted};
 use std::alloc::Global;
+use std::cell::RefCell;
 use std::env::{Env, FillError};
-use std::io::{BufReader, BufWriter, Write};
+use std::io;
+use std::io::{BufReader, BufWriter, ErrorKind, Read, Write};
 use std::str;
 
 /// The most lines or packets of one run.
@@ -14,6 +16,47 @@ const BUFFER: usize = 65536;
 
 /// A longer word is none that the program knows.
 const LONGEST_WORD: usize = 64;
+
+// An output that the input flushes too.
+#[derive(Drop)]
+struct Shared<'a, W> {
+    output: &'a RefCell<W>,
+}
+
+fn in_use() -> io::Error {
+    io::Error::new(ErrorKind::Other, "the output is in use")
+}
+
+impl<W: Write> Write for Shared<'_, W> {
+    #[inline(always)]
+    fn write(&mut self, buf: &[u8]) -> io::Result<usize> {
+        match self.output.try_borrow_mut() {
+            Ok(mut output) => output.write(buf),
+            Err(_) => Err(in_use()),
+        }
+    }
+
+    fn flush(&mut self) -> io::Result<()> {
+        match self.output.try_borrow_mut() {
+            Ok(mut output) => output.flush(),
+            Err(_) => Err(in_use()),
+        }
+    }
+}
+
+// A stream before each read of which an output is flushed: what was written is out before the program waits for more.
+#[derive(Drop)]
+struct Flushing<'a, R, W> {
+    stream: R,
+    output: &'a RefCell<W>,
+}
+
+impl<R: Read, W: Write> Read for Flushing<'_, R, W> {
+    fn read(&mut self, buf: &mut [u8]) -> io::Result<usize> {
+        Shared { output: self.output }.flush()?;
+        self.stream.read(buf)
+    }
+}
 
 fn word(alloc: Global, text: &[u8]) -> Result<String, Exit> {
     match str::from_utf8(text) {
@@ -42,12 +85,18 @@ fn run_buffered(rt: &HostRuntime) -> Result<Exit, Exit> {
     for word in &words {
         names.push(word.as_str())?;
     }
-    let Ok(mut input) = BufReader::with_capacity(rt.alloc(), BUFFER, rt.stdin()) else {
+    let Ok(buffered) = BufWriter::with_capacity(rt.alloc(), BUFFER, rt.stdout()) else {
         return Err(Exit::Memory);
     };
-    let Ok(mut output) = BufWriter::with_capacity(rt.alloc(), BUFFER, rt.stdout()) else {
+    let shared = RefCell::new(buffered);
+    let flushing = Flushing {
+        stream: Uninterrupted::new(rt.stdin()),
+        output: &shared,
+    };
+    let Ok(mut input) = BufReader::with_capacity(rt.alloc(), BUFFER, flushing) else {
         return Err(Exit::Memory);
     };
+    let mut output = Shared { output: &shared };
     let exit = capcopy_run::run(rt.alloc(), names.as_slice(), &mut input, &mut output, MOST);
     output.flush()?;
     Ok(exit)

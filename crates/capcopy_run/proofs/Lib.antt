@@ -4,3 +4,4 @@ mod Listing
 mod PacketLists
 mod PacketLines
 mod Exits
+mod Kept

@@ -5,4 +5,5 @@ pub mod Exits
 pub mod Lines
 pub mod Listing
 pub mod PacketLines
+pub mod Uninterrupted
 pub mod Words

@@ -8,6 +8,8 @@ mod exit;
 mod line;
 mod list;
 mod output;
+mod uninterrupted;
 
 pub use commands::run;
 pub use exit::Exit;
+pub use uninterrupted::Uninterrupted;

@@ -1,6 +1,6 @@
 //! The program over an input and an output that fail.
 
-use capcopy_run::run;
+use capcopy_run::{Uninterrupted, run};
 use std::io::ErrorKind;
 use std::test::Fail;
 use test_support::captures::{SECTIONS, big, front};
@@ -28,6 +28,29 @@ fn interrupted_reads(rt: HostRuntime) -> Result<(), Fail> {
         let exit = run(rt.alloc(), &[word], &mut input, &mut output, 9);
         assert_eq!(rt; exit.status(), 3);
         assert_eq!(rt; output.as_slice(), written);
+    }
+    Ok(())
+}
+
+#[test]
+fn repeated_reads(rt: HostRuntime) -> Result<(), Fail> {
+    let bytes = big(rt.alloc())?;
+    let rows: [(&str, &[u8], &[u8]); 3] = [
+        ("list", bytes.as_slice(), LINE.as_bytes()),
+        ("copy", bytes.as_slice(), bytes.as_slice()),
+        ("blocks", &SECTIONS, LINES.as_bytes()),
+    ];
+    for (word, given, written) in rows {
+        for fails_at in 1..9 {
+            let mut stream = Halting::new(rt.alloc(), given, 20)?;
+            stream.fails_at = fails_at;
+            stream.kind = ErrorKind::Interrupted;
+            let mut input = Uninterrupted::new(stream);
+            let mut output = Vec::new(rt.alloc());
+            let exit = run(rt.alloc(), &[word], &mut input, &mut output, 9);
+            assert!(rt; exit.status() == 0, "{word} at {fails_at}");
+            assert_eq!(rt; output.as_slice(), written);
+        }
     }
     Ok(())
 }

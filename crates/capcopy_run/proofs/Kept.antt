@@ -1,0 +1,11 @@
+-- Bytes that a read which failed left.
+use Rattle.std.proofs.Common.{ℕ, List, Some, None, sym, ◌∙◌}
+use Rattle.std.specs.Prelude.{Option}
+use Rattle.std.specs.Io.KnownBytes.{Consumes, Keeps}
+
+-- what is taken after it was kept
+pub kept_taken : (a b c : Option (List ℕ)) (t : List ℕ) → Keeps a b → Consumes b c t → Consumes a c t
+kept_taken None b c t kept took = tt
+kept_taken (Some x) None c t kept took = absurd kept
+kept_taken (Some x) (Some y) None t kept took = absurd took
+kept_taken (Some x) (Some y) (Some z) t kept took = sym kept ∙ took
