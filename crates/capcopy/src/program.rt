@@ -4,9 +4,8 @@ use capcopy_run::{Exit, Uninterrupted};
 use std::alloc::Global;
 use std::cell::RefCell;
 use std::env::{Env, FillError};
-use std::io;
 use std::io::{BufReader, BufWriter, ErrorKind, Read, Write};
-use std::str;
+use std::{io, str};
 
 /// The most lines or packets of one run.
 const MOST: u64 = 4_294_967_295;
@@ -53,7 +52,10 @@ struct Flushing<'a, R, W> {
 
 impl<R: Read, W: Write> Read for Flushing<'_, R, W> {
     fn read(&mut self, buf: &mut [u8]) -> io::Result<usize> {
-        Shared { output: self.output }.flush()?;
+        Shared {
+            output: self.output,
+        }
+        .flush()?;
         self.stream.read(buf)
     }
 }

@@ -90,13 +90,11 @@ fn next_header(alloc: Global) -> ResultParsing<()> {
             Some(Err(error)) => {
                 let is_left = is_in_force(reader.section(), reader.interfaces(), count);
                 let lends_nothing = reader.body().is_empty();
-                return Err(
-                    if is_left && lends_nothing && reader.next_header().is_none() {
-                        error
-                    } else {
-                        changed()
-                    },
-                );
+                return Err(if is_left && lends_nothing && reader.next_header().is_none() {
+                    error
+                } else {
+                    changed()
+                });
             }
         }
     }
