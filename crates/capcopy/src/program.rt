@@ -81,16 +81,9 @@ fn words(alloc: Global, env: &impl Env) -> Result<Vec<String>, Exit> {
     Ok(words)
 }
 
-fn run_buffered(rt: &HostRuntime) -> Result<Exit, Exit> {
-    let words = words(rt.alloc(), rt)?;
-    let mut names = Vec::new(rt.alloc());
-    for word in &words {
-        names.push(word.as_str())?;
-    }
-    let Ok(buffered) = BufWriter::with_capacity(rt.alloc(), BUFFER, rt.stdout()) else {
-        return Err(Exit::Memory);
-    };
-    let shared = RefCell::new(buffered);
+// A run that flushes the output before it waits for input.
+fn run_live<W: Write + Drop>(rt: &HostRuntime, words: &[&str], output: W) -> Result<Exit, Exit> {
+    let shared = RefCell::new(output);
     let flushing = Flushing {
         stream: Uninterrupted::new(rt.stdin()),
         output: &shared,
@@ -99,9 +92,39 @@ fn run_buffered(rt: &HostRuntime) -> Result<Exit, Exit> {
         return Err(Exit::Memory);
     };
     let mut output = Shared { output: &shared };
-    let exit = capcopy_run::run(rt.alloc(), names.as_slice(), &mut input, &mut output, MOST);
+    let exit = capcopy_run::run(rt.alloc(), words, &mut input, &mut output, MOST);
     output.flush()?;
     Ok(exit)
+}
+
+// A run whose output goes out where its buffer is full. A cell around it costs a copy of small packets half as much again.
+fn run_straight<W: Write + Drop>(
+    rt: &HostRuntime,
+    words: &[&str],
+    mut output: W,
+) -> Result<Exit, Exit> {
+    let stdin = Uninterrupted::new(rt.stdin());
+    let Ok(mut input) = BufReader::with_capacity(rt.alloc(), BUFFER, stdin) else {
+        return Err(Exit::Memory);
+    };
+    let exit = capcopy_run::run(rt.alloc(), words, &mut input, &mut output, MOST);
+    output.flush()?;
+    Ok(exit)
+}
+
+fn run_buffered(rt: &HostRuntime) -> Result<Exit, Exit> {
+    let words = words(rt.alloc(), rt)?;
+    let mut names = Vec::new(rt.alloc());
+    for word in &words {
+        names.push(word.as_str())?;
+    }
+    let Ok(output) = BufWriter::with_capacity(rt.alloc(), BUFFER, rt.stdout()) else {
+        return Err(Exit::Memory);
+    };
+    match names.as_slice() {
+        ["copy", ..] => run_straight(rt, names.as_slice(), output),
+        _ => run_live(rt, names.as_slice(), output),
+    }
 }
 
 /// Does what the program's words ask for. What was written is flushed on every way out, and a flush that fails is `Io`.
