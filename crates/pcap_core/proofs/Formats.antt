@@ -159,6 +159,17 @@ module _ {S V : Type 0} (f : Format S V) (laws : IsLawful f) where
   texts_more q (v ∷ vs) s rest more texts =
       (texts.0 ++ more, (laws.stable q).text s more texts.0 v texts.1, texts_more (f.goes q v) vs texts.0 rest more texts.2)
 
+  -- the items' texts alone
+  pub texts_own : (q : S) (vs : List V) (s rest : List ℕ) → Texts f q vs s rest → (t : List ℕ) × (s ≡ t ++ rest) × Texts f q vs t []
+  texts_own q [] s rest texts = ([], texts, refl)
+  texts_own q (v ∷ vs) s rest texts =
+      let one = laws.own q s texts.0 v texts.1 in
+      let more = texts_own (f.goes q v) vs texts.0 rest texts.2 in (
+        one.0 ++ more.0,
+        one.1 ∙ ap (λ (t : List ℕ). one.0 ++ t) more.1 ∙ sym (append_assoc one.0 more.0 rest),
+        (more.0, (laws.stable q).text one.0 more.0 [] v one.2, more.2),
+      )
+
   pub front_grows : (q : S) (vs ws : List V) (s more a b : List ℕ) → Front f q vs s a → Front f q ws (s ++ more) b
       → (new : List V) × (ws ≡ vs ++ new) × Front f (state_after f q vs) new (a ++ more) b
   front_grows q vs ws s more a b x y = front_goes_on q vs ws (s ++ more) (a ++ more) b (texts_more q vs s a more x.texts) y
@@ -304,6 +315,11 @@ module _ {S V : Type 0} (f : Format S V) (laws : IsLawful f) where
 pub texts_push : {S V : Type 0} (f : Format S V) (q : S) (vs : List V) (v : V) (s mid rest : List ℕ) → Texts f q vs s mid → f.says (state_after f q vs) mid (whole v rest) → Texts f q (vs ++ v ∷ []) s rest
 texts_push f q [] v s mid rest texts text = (rest, subst (λ (t : List ℕ). f.says q t (whole v rest)) (sym texts) text, refl)
 texts_push f q (x ∷ vs) v s mid rest texts text = (texts.0, texts.1, texts_push f (f.goes q x) vs v texts.0 mid rest texts.2 text)
+
+-- items behind items
+pub texts_all : {S V : Type 0} (f : Format S V) (q : S) (vs ws : List V) (s mid rest : List ℕ) → Texts f q vs s mid → Texts f (state_after f q vs) ws mid rest → Texts f q (vs ++ ws) s rest
+texts_all f q [] ws s mid rest texts more = subst (λ (t : List ℕ). Texts f q ws t rest) (sym texts) more
+texts_all f q (v ∷ vs) ws s mid rest texts more = (texts.0, texts.1, texts_all f (f.goes q v) vs ws texts.0 mid rest texts.2 more)
 
 pub state_push : {S V : Type 0} (f : Format S V) (q : S) (vs : List V) (v : V) → state_after f q (vs ++ v ∷ []) ≡ f.goes (state_after f q vs) v
 state_push f q [] v = refl

@@ -1,12 +1,11 @@
 -- Bytes that come in pieces, over any format.
-use Rattle.std.proofs.Common.{◌≡◌, ◌<◌, ◌≤◌, ◌+◌, ◌-◌, ℕ, List, [], ◌∷◌, ◌++◌, length, take, drop, get_or, Bool, true, false, Result, Ok, Err, refl, sym, ap, subst, ◌∙◌, arith, append_assoc, append-nil, length-append, length-drop, inl, inr}
-use Rattle.std.specs.Prelude.{Option, Some, None, IfOk, nat_lt, ◌==◌, if◌then◌else◌}
-use Rattle.std.specs.Option.{option_map}
+use Rattle.std.proofs.Common.{◌≡◌, ◌<◌, ◌≤◌, ◌+◌, ◌-◌, ℕ, List, [], ◌∷◌, ◌++◌, suc, zero, length, take, drop, false, Result, Ok, Err, refl, sym, ap, subst, ◌∙◌, arith, append_assoc, append-nil, length-append, length-drop, inl, inr}
+use Rattle.std.specs.Prelude.{All, IfOk, max, replicate, ◌==◌}
 use Rattle.std.specs.Borrow.{Bor}
-use Rattle.std.proofs.lemmas.Bool.{lt-ltb, ltb-true}
 use Rattle.std.proofs.lemmas.Bool.Decides.{nat_tests}
-use Rattle.std.proofs.lemmas.List.{length-map, take-append-drop, map_push, take_more, flat_map_more}
-use Rattle.std.proofs.Math.Seq.{drop-append_seam}
+use Rattle.std.proofs.lemmas.Grind.{flat_map-append}
+use Rattle.std.proofs.lemmas.List.{length-map, take-append-drop, map_push}
+use Rattle.std.proofs.Math.Seq.{drop-append_seam, take-add}
 use Rattle.pcap_core.specs.declared.errors.PcapError.{PcapError}
 use Rattle.pcap_core.specs.declared.errors.PcapError.TheVariants as errors
 use Rattle.pcap_core.specs.declared.rest.Rest.{Rest}
@@ -18,9 +17,8 @@ use Rattle.pcap_core.specs.Faults.{Invalid, Io, Utf8}
 use Rattle.pcap_core.specs.Format.{Format, Front, IsLawful, state_after}
 use Rattle.pcap_core.specs.Laws.{IsStable}
 use Rattle.pcap_core.specs.Pieces.{AfterEach, Came, HoldsItems, IsFed, IsOpening, Reaches, TakesPart, joined_pieces}
-use Rattle.pcap_core.specs.Run.{IsRest}
-use Rattle.pcap_core.specs.Waiting.{IsDue, progress_with}
-use Rattle.pcap_core.proofs.Formats.{front_same, nil_of_length, shorter, state_push, texts_more, texts_push}
+use Rattle.pcap_core.specs.Waiting.{IsAsked, IsWaiting, error_with, progress_shown, progress_with, rest_with}
+use Rattle.pcap_core.proofs.Formats.{front_same, lacks_no_text, shorter, state_push, texts_more, texts_push}
 use Rattle.pcap_core.proofs.Fronts.{said_not_refused}
 use Rattle.pcap_core.proofs.Refusals.{shows_more}
 use Rattle.pcap_core.proofs.Requested.{texts_long}
@@ -28,14 +26,31 @@ use Rattle.pcap_core.proofs.Showing.{rest_no_text}
 
 -- ---- numbers, one for each piece
 
--- one piece more
-pub after_each_push : (Holds : List ℕ → ℕ → Type 0) (before : List ℕ) (pieces : List (Bor (List ℕ))) (piece : Bor (List ℕ)) (ns : List ℕ) (n : ℕ) → AfterEach Holds before pieces ns
-    → Holds ((before ++ joined_pieces pieces) ++ piece.now) n → AfterEach Holds before (pieces ++ piece ∷ []) (ns ++ n ∷ [])
-after_each_push Holds before [] piece [] n each holds = (subst (λ (s : List ℕ). Holds (s ++ piece.now) n) (append-nil before) holds, tt)
-after_each_push Holds before [] piece (m ∷ ns) n each holds = absurd each
-after_each_push Holds before (p ∷ pieces) piece [] n each holds = absurd each
-after_each_push Holds before (p ∷ pieces) piece (m ∷ ns) n each holds =
-    (each.0, after_each_push Holds (before ++ p.now) pieces piece ns n each.1 (subst (λ (s : List ℕ). Holds (s ++ piece.now) n) (sym (append_assoc before p.now (joined_pieces pieces))) holds))
+-- more pieces
+pub after_each_join : (Holds : List ℕ → ℕ → Type 0) (before : List ℕ) (pieces more : List (Bor (List ℕ))) (ns ms : List ℕ) → AfterEach Holds before pieces ns
+    → AfterEach Holds (before ++ joined_pieces pieces) more ms → AfterEach Holds before (pieces ++ more) (ns ++ ms)
+after_each_join Holds before [] more [] ms each further = subst (λ (s : List ℕ). AfterEach Holds s more ms) (append-nil before) further
+after_each_join Holds before [] more (n ∷ ns) ms each further = absurd each
+after_each_join Holds before (p ∷ pieces) more [] ms each further = absurd each
+after_each_join Holds before (p ∷ pieces) more (n ∷ ns) ms each further =
+    (each.0, after_each_join Holds (before ++ p.now) pieces more ns ms each.1 (subst (λ (s : List ℕ). AfterEach Holds s more ms) (sym (append_assoc before p.now (joined_pieces pieces))) further))
+
+-- pieces with the same number: it holds of each beginning of their bytes
+pub after_each_same : (Holds : List ℕ → ℕ → Type 0) (before : List ℕ) (pieces : List (Bor (List ℕ))) (n : ℕ) → ((s t : List ℕ) → joined_pieces pieces ≡ s ++ t → Holds (before ++ s) n)
+    → AfterEach Holds before pieces (replicate (length pieces) n)
+after_each_same Holds before [] n holds = tt
+after_each_same Holds before (p ∷ pieces) n holds = (
+  holds p.now (joined_pieces pieces) refl,
+  after_each_same Holds (before ++ p.now) pieces n
+      (λ s t e. subst (λ (l : List ℕ). Holds l n) (sym (append_assoc before p.now s)) (holds (p.now ++ s) t (ap (λ (l : List ℕ). p.now ++ l) e ∙ sym (append_assoc p.now s t)))),
+)
+
+-- and one piece
+pub after_each_one : (Holds : List ℕ → ℕ → Type 0) (before : List ℕ) (pieces : List (Bor (List ℕ))) (n : ℕ) → length pieces ≡ 1 → Holds (before ++ joined_pieces pieces) n
+    → AfterEach Holds before pieces (replicate (length pieces) n)
+after_each_one Holds before [] n one holds = tt
+after_each_one Holds before (p ∷ []) n one holds = (subst (λ (s : List ℕ). Holds (before ++ s) n) (append-nil p.now) holds, tt)
+after_each_one Holds before (p ∷ q ∷ pieces) n one holds = absurd (omega (arith, one))
 
 -- what follows from the fact that holds, holds too
 pub after_each_more : (P Q : List ℕ → ℕ → Type 0) → ((s : List ℕ) (n : ℕ) → P s n → Q s n) → (before : List ℕ) (pieces : List (Bor (List ℕ))) (ns : List ℕ) → AfterEach P before pieces ns → AfterEach Q before pieces ns
@@ -44,65 +59,57 @@ after_each_more P Q step before [] (n ∷ ns) each = absurd each
 after_each_more P Q step before (p ∷ pieces) [] each = absurd each
 after_each_more P Q step before (p ∷ pieces) (n ∷ ns) each = (step (before ++ p.now) n each.0, after_each_more P Q step (before ++ p.now) pieces ns each.1)
 
--- the pieces up to one
-pub pieces_more : (pieces : List (Bor (List ℕ))) (i : ℕ) (d : Bor (List ℕ)) → i < length pieces → joined_pieces (take (i + 1) pieces) ≡ joined_pieces (take i pieces) ++ (get_or pieces i d).now
-pieces_more pieces i d lt =
-    ap joined_pieces (take_more pieces i d lt) ∙ sym (flat_map_more (λ (piece : Bor (List ℕ)). piece.now) [] (take i pieces) (get_or pieces i d))
+-- the pieces up to some more
+pub pieces_more : (pieces : List (Bor (List ℕ))) (i k : ℕ) → joined_pieces (take (i + k) pieces) ≡ joined_pieces (take i pieces) ++ joined_pieces (take k (drop i pieces))
+pieces_more pieces i k = ap joined_pieces (take-add i k pieces) ∙ flat_map-append (λ (piece : Bor (List ℕ)). piece.now) (take i pieces) (take k (drop i pieces))
+
+-- pieces of one byte have as many bytes
+pub single_length : (pieces : List (Bor (List ℕ))) → All (λ piece. length piece.now ≡ 1) pieces → length (joined_pieces pieces) ≡ length pieces
+single_length [] single = refl
+single_length (p ∷ pieces) single =
+    omega (arith, single 0 p (omega arith), single_length pieces (λ k d less. single (suc k) d (omega (arith, less))), length-append p.now (joined_pieces pieces))
+
+-- a run of such pieces is one where no byte is missing behind it
+pub one_piece : (left run : List (Bor (List ℕ))) (k missing : ℕ) → run ≡ take (max k 1) left → length run ≡ max k 1 → All (λ piece. length piece.now ≡ 1) (take k left)
+    → k ≤ missing - 1 → missing ≤ length (joined_pieces run) → length run ≡ 1
+one_piece left run zero missing run_is size single waiting due = size
+one_piece left run (suc zero) missing run_is size single waiting due = size
+one_piece left run (suc (suc k)) missing run_is size single waiting due =
+    let most : max (suc (suc k)) 1 ≡ suc (suc k) = omega arith in
+    absurd (omega (arith, size, most, waiting, due, single_length run (rw (run_is, most) single)))
+
+-- no more bytes than all of them
+pub pieces_within : (pieces : List (Bor (List ℕ))) (i k : ℕ) → length (joined_pieces (take i pieces)) + length (joined_pieces (take k (drop i pieces))) ≤ length (joined_pieces pieces)
+pieces_within pieces i k =
+    let all = ap (λ (l : List (Bor (List ℕ))). length (joined_pieces l)) (take-append-drop (i + k) pieces) in
+    let parts = ap length (flat_map-append (λ (piece : Bor (List ℕ)). piece.now) (take (i + k) pieces) (drop (i + k) pieces)) in
+    omega (
+      arith,
+      sym all ∙ parts,
+      length-append (joined_pieces (take (i + k) pieces)) (joined_pieces (drop (i + k) pieces)),
+      ap length (pieces_more pieces i k),
+      length-append (joined_pieces (take i pieces)) (joined_pieces (take k (drop i pieces))),
+    )
 
 -- ---- what stays known
 
--- the error after so many bytes more: fewer are missing, and where all that were missing came nothing is known; any other error stays
-abbrev pub error_after : PcapError → ℕ → Option PcapError
-error_after (errors.IncompleteBuffer n) more = if nat_lt more n then Some (errors.IncompleteBuffer (n - more)) else None
-error_after error more = Some error
-
--- what is said of the rest after so many bytes more, where it is known
-abbrev pub rest_after_more : Rest → ℕ → Option Rest
-rest_after_more Clean more = if more == 0 then Some Clean else None
-rest_after_more (Needs n) more = if nat_lt more n then Some (Needs (n - more)) else None
-rest_after_more (Refused error) more = Some (Refused error)
-
--- how far a capture came after so many bytes more, where it is known
-abbrev pub progress_after : {P : Type 0} → Progress P → ℕ → Option (Progress P)
-progress_after (Before error) more = option_map Before (error_after error more)
-progress_after (Within parser rest) more = option_map (Within parser) (rest_after_more rest more)
-
-if_some : {X : Type 0} (b : Bool) (x y : X) → (if b then Some x else None) ≡ Some y → (b ≡ true) × (x ≡ y)
-if_some true x y e = (refl, cc)
-if_some false x y e = absurd cc
-
-module _ {V : Type 0} (Of : List ℕ → Verdict V → Type 0) (stable : IsStable Of) (s more : List ℕ) where
+module _ {V : Type 0} (Of : List ℕ → Verdict V → Type 0) (stable : IsStable Of) (s more : List ℕ) (missing : ℕ) (less : length more < missing) where
   -- a refusal
-  pub refused_still : (error next : PcapError) → error_after error (length more) ≡ Some next → Refuses ⊥ (λ n. Of s (lacks n)) (λ fault. Of s (faulty fault)) error
-      → Refuses ⊥ (λ n. Of (s ++ more) (lacks n)) (λ fault. Of (s ++ more) (faulty fault)) next
-  refused_still (errors.IncompleteBuffer n) next e x =
-      let o = if_some (nat_lt (length more) n) (errors.IncompleteBuffer (n - length more)) next e in
-      subst (λ (error : PcapError). Refuses ⊥ (λ n. Of (s ++ more) (lacks n)) (λ fault. Of (s ++ more) (faulty fault)) error) o.1 (stable.request s more n (ltb-true (length more) n o.0) x)
-  refused_still (errors.InvalidField text) next e x =
-      let same : errors.InvalidField text ≡ next = cc in
-      subst (λ (error : PcapError). Refuses ⊥ (λ n. Of (s ++ more) (lacks n)) (λ fault. Of (s ++ more) (faulty fault)) error) same (x.0, x.1, stable.fault s more (Invalid x.0) x.2)
-  refused_still (errors.IoError io) next e x =
-      let same : errors.IoError io ≡ next = cc in
-      subst (λ (error : PcapError). Refuses ⊥ (λ n. Of (s ++ more) (lacks n)) (λ fault. Of (s ++ more) (faulty fault)) error) same (stable.fault s more Io x)
-  refused_still (errors.Utf8Error utf) next e x =
-      let same : errors.Utf8Error utf ≡ next = cc in
-      subst (λ (error : PcapError). Refuses ⊥ (λ n. Of (s ++ more) (lacks n)) (λ fault. Of (s ++ more) (faulty fault)) error) same (stable.fault s more Utf8 x)
-  refused_still (errors.FromUtf8Error utf) next e x = absurd x
-  refused_still (errors.OutOfMemory memory) next e x = absurd x
-  refused_still errors.WriterFailed next e x = absurd x
+  pub refused_still : (error : PcapError) → Refuses ⊥ (λ n. Of s (lacks n)) (λ fault. Of s (faulty fault)) (error_with error missing)
+      → Refuses ⊥ (λ n. Of (s ++ more) (lacks n)) (λ fault. Of (s ++ more) (faulty fault)) (error_with error (missing - length more))
+  refused_still (errors.IncompleteBuffer n) x = stable.request s more missing less x
+  refused_still (errors.InvalidField text) x = (x.0, x.1, stable.fault s more (Invalid x.0) x.2)
+  refused_still (errors.IoError io) x = stable.fault s more Io x
+  refused_still (errors.Utf8Error utf) x = stable.fault s more Utf8 x
+  refused_still (errors.FromUtf8Error utf) x = x
+  refused_still (errors.OutOfMemory memory) x = x
+  refused_still errors.WriterFailed x = x
 
-  -- and what is said of a rest
-  pub rest_still : (rest next : Rest) → rest_after_more rest (length more) ≡ Some next → IsRest Of s rest → IsRest Of (s ++ more) next
-  rest_still Clean next e x =
-      let o = if_some (length more == 0) Clean next e in
-      let none : length more ≡ 0 = grind (arith, nat_tests, o.0) in
-      subst (IsRest Of (s ++ more)) o.1 (nil_of_length (s ++ more) (omega (arith, none, ap length x, length-append s more)))
-  rest_still (Needs n) next e x =
-      let o = if_some (nat_lt (length more) n) (Needs (n - length more)) next e in
-      subst (IsRest Of (s ++ more)) o.1 (stable.request s more n (ltb-true (length more) n o.0) x.0, omega (arith, x.1, length-append s more))
-  rest_still (Refused error) next e x =
-      let same : Refused error ≡ next = cc in
-      subst (IsRest Of (s ++ more)) same (shows_more (λ fault stands. stable.fault s more fault stands) error x)
+  -- and what is said where an item is asked for
+  pub asked_still : (rest : Rest) → IsAsked Of s (rest_with rest missing) → IsAsked Of (s ++ more) (rest_with rest (missing - length more))
+  asked_still Clean x = x
+  asked_still (Needs n) x = stable.request s more missing less x
+  asked_still (Refused error) x = shows_more (λ fault stands. stable.fault s more fault stands) error x
 
 -- what follows the first bytes of a list is the list without them
 after_is_drop : (s t after : List ℕ) → s ≡ t ++ after → drop (length s - length after) s ≡ after
@@ -154,77 +161,62 @@ module _ {P S V W : Type 0} (opens : List ℕ → Verdict S → Type 0) (opening
   pub opening_within : (q : S) (s after : List ℕ) → opens s (whole q after) → length after ≤ length s
   opening_within q s after x = let o = opening.ends s after q x in omega (arith, ap length o.1, length-append o.0 after)
 
+  -- no item begins what is held
+  asked_no_text : (q : S) (left : List ℕ) (rest : Rest) → IsAsked (f.says q) left rest → (v : V) (after : List ℕ) → f.says q left (whole v after) → ⊥
+  asked_no_text q left Clean is v after text = is
+  asked_no_text q left (Needs n) is v after text = lacks_no_text f laws q n left is v after text
+  asked_no_text q left (Refused error) is v after text = rest_no_text f laws q left (Refused error) is v after text
+
   -- how many items there are
-  pub fed_holds : (s : List ℕ) (progress : Progress P) (held : List ℕ) (ws : List W) → IsFed opens f part state s progress held ws → HoldsItems opens f s (length ws)
-  fed_holds s (Before error) held ws fed =
-      let here : Refuses ⊥ (λ n. opens s (lacks n)) (λ fault. opens s (faulty fault)) error = fed.2 in
-      inr (λ q after x. said_not_refused (opens s) (opening.one s) q after x error here, ap length fed.1)
-  fed_holds s (Within parser rest) held ws fed =
-      let r : Reaches opens f part (state parser) ws s held = fed.0 in
-      let longest = rest_no_text f laws (state parser) held rest fed.1 in
+  pub waiting_holds : (s : List ℕ) (progress : Progress P) (held : List ℕ) (ws : List W) → IsWaiting opens f part state s progress held ws → HoldsItems opens f s (length ws)
+  waiting_holds s (Before error) held ws waiting =
+      let here : Refuses ⊥ (λ n. opens s (lacks n)) (λ fault. opens s (faulty fault)) error = waiting.2 in
+      inr (λ q after x. said_not_refused (opens s) (opening.one s) q after x error here, ap length waiting.1)
+  waiting_holds s (Within parser rest) held ws waiting =
+      let r : Reaches opens f part (state parser) ws s held = waiting.0 in
+      let longest = asked_no_text (state parser) held rest waiting.1 in
       let all : Front f r.first r.values r.after held = record { texts = r.texts; longest = λ v after x. longest v after (subst (λ (p : S). f.says p held (whole v after)) r.state_is x) } in
       inl (r.first, r.after, r.values, held, r.opening, all, ap length (sym r.parts) ∙ length-map r.values part)
 
   -- what is held is no more than what came
-  pub fed_within : (s : List ℕ) (progress : Progress P) (held : List ℕ) (ws : List W) → IsFed opens f part state s progress held ws → length held ≤ length s
-  fed_within s (Before error) held ws fed = omega (arith, ap length fed.0)
-  fed_within s (Within parser rest) held ws fed =
-      let r : Reaches opens f part (state parser) ws s held = fed.0 in
+  pub waiting_within : (s : List ℕ) (progress : Progress P) (held : List ℕ) (ws : List W) → IsWaiting opens f part state s progress held ws → length held ≤ length s
+  waiting_within s (Before error) held ws waiting = omega (arith, ap length waiting.0)
+  waiting_within s (Within parser rest) held ws waiting =
+      let r : Reaches opens f part (state parser) ws s held = waiting.0 in
       omega (arith, opening_within r.first s r.after r.opening, texts_long f laws r.first r.values r.after held r.texts)
 
-  -- pieces with which nothing has to be asked
-  pub fed_waits_before : (s more : List ℕ) (error next : PcapError) (held : List ℕ) (ws : List W) → error_after error (length more) ≡ Some next → IsFed opens f part state s (Before error) held ws
-      → IsFed opens f part state (s ++ more) (Before next) (held ++ more) ws
-  fed_waits_before s more error next held ws e fed = (ap (λ (l : List ℕ). l ++ more) fed.0, fed.1, refused_still opens opening.stable s more error next e fed.2)
+  -- fewer bytes than are missing
+  pub waits : (s more : List ℕ) (progress : Progress P) (missing : ℕ) (held : List ℕ) (ws : List W) → length more < missing → IsWaiting opens f part state s (progress_with progress missing) held ws
+      → IsWaiting opens f part state (s ++ more) (progress_with progress (missing - length more)) (held ++ more) ws
+  waits s more (Before error) missing held ws less waiting =
+      (ap (λ (l : List ℕ). l ++ more) waiting.0, waiting.1, refused_still opens opening.stable s more missing less error waiting.2)
+  waits s more (Within parser rest) missing held ws less waiting =
+      (reaches_more (state parser) ws s held more waiting.0, asked_still (f.says (state parser)) (laws.stable (state parser)) held more missing less rest waiting.1)
 
-  pub fed_waits_within : (s more : List ℕ) (parser : P) (rest next : Rest) (held : List ℕ) (ws : List W) → rest_after_more rest (length more) ≡ Some next → IsFed opens f part state s (Within parser rest) held ws
-      → IsFed opens f part state (s ++ more) (Within parser next) (held ++ more) ws
-  fed_waits_within s more parser rest next held ws e fed = (reaches_more (state parser) ws s held more fed.0, rest_still (f.says (state parser)) (laws.stable (state parser)) held more rest next e fed.1)
+  -- pieces with which fewer come: they have one number
+  pub waits_each : (before : List ℕ) (pieces : List (Bor (List ℕ))) (progress : Progress P) (missing : ℕ) (held : List ℕ) (ws : List W) → length (joined_pieces pieces) < missing
+      → IsWaiting opens f part state before (progress_with progress missing) held ws → AfterEach (HoldsItems opens f) before pieces (replicate (length pieces) (length ws))
+  waits_each before pieces progress missing held ws less waiting =
+      after_each_same (HoldsItems opens f) before pieces (length ws)
+      (λ s t e. waiting_holds (before ++ s) (progress_with progress (missing - length s)) (held ++ s) ws
+      (waits before s progress missing held ws (omega (arith, less, ap length e, length-append s t)) waiting))
 
-  option_of : {X Y : Type 0} (o : Option X) (g : X → Y) (y : Y) → option_map g o ≡ Some y → (x : X) × (o ≡ Some x) × (g x ≡ y)
-  option_of (Some x) g y e = (x, refl, cc)
-  option_of None g y e = absurd cc
+  -- any bytes
+  pub waiting_came : (s more : List ℕ) (progress : Progress P) (missing : ℕ) (held : List ℕ) (ws : List W) → IsWaiting opens f part state s (progress_with progress missing) held ws
+      → Came opens f part state (s ++ more) progress (held ++ more) ws
+  waiting_came s more (Before error) missing held ws waiting = (ap (λ (l : List ℕ). l ++ more) waiting.0, waiting.1)
+  waiting_came s more (Within parser rest) missing held ws waiting = reaches_more (state parser) ws s held more waiting.0
 
-  -- a piece with which nothing has to be asked, wherever the capture is
-  pub fed_waits : (s more : List ℕ) (progress next : Progress P) (held : List ℕ) (ws : List W) → progress_after progress (length more) ≡ Some next → IsFed opens f part state s progress held ws
-      → IsFed opens f part state (s ++ more) next (held ++ more) ws
-  fed_waits s more (Before error) next held ws e fed =
-      let o = option_of (error_after error (length more)) Before next e in
-      subst (λ (p : Progress P). IsFed opens f part state (s ++ more) p (held ++ more) ws) o.2 (fed_waits_before s more error o.0 held ws o.1 fed)
-  fed_waits s more (Within parser rest) next held ws e fed =
-      let o = option_of (rest_after_more rest (length more)) (Within parser) next e in
-      subst (λ (p : Progress P). IsFed opens f part state (s ++ more) p (held ++ more) ws) o.2 (fed_waits_within s more parser rest o.0 held ws o.1 fed)
-
-  -- and any other one
-  pub fed_came : (s more : List ℕ) (progress : Progress P) (held : List ℕ) (ws : List W) → IsFed opens f part state s progress held ws → Came opens f part state (s ++ more) progress (held ++ more) ws
-  fed_came s more (Before error) held ws fed = (ap (λ (l : List ℕ). l ++ more) fed.0, fed.1)
-  fed_came s more (Within parser rest) held ws fed = reaches_more (state parser) ws s held more fed.0
-
--- fewer bytes than are due leave what is known, with fewer missing
-pub waits_for : {P : Type 0} (progress : Progress P) (missing more : ℕ) → more < missing → IsDue progress missing → progress_after (progress_with progress missing) more ≡ Some (progress_with progress (missing - more))
-waits_for (Before (errors.IncompleteBuffer n)) missing more less due = rw (lt-ltb more missing less) refl
-waits_for (Before (errors.InvalidField text)) missing more less due = refl
-waits_for (Before (errors.IoError io)) missing more less due = refl
-waits_for (Before (errors.Utf8Error utf)) missing more less due = refl
-waits_for (Before (errors.FromUtf8Error utf)) missing more less due = refl
-waits_for (Before (errors.OutOfMemory memory)) missing more less due = refl
-waits_for (Before errors.WriterFailed) missing more less due = refl
-waits_for (Within parser Clean) missing more less due = let none : more ≡ 0 = omega (arith, less, due) in rw none refl
-waits_for (Within parser (Needs n)) missing more less due = rw (lt-ltb more missing less) refl
-waits_for (Within parser (Refused error)) missing more less due = refl
-
--- and then as few are due
-pub due_less : {P : Type 0} (progress : Progress P) (missing more : ℕ) → IsDue progress missing → IsDue progress (missing - more)
-due_less (Before error) missing more due = due
-due_less (Within parser Clean) missing more due = omega (arith, due)
-due_less (Within parser (Needs n)) missing more due = due
-due_less (Within parser (Refused error)) missing more due = due
-
--- how many bytes are missing says nothing of what came
-pub came_same : {P S V W : Type 0} (opens : List ℕ → Verdict S → Type 0) (f : Format S V) (part : V → W) (state : P → S) (s : List ℕ) (progress : Progress P) (missing : ℕ) (held : List ℕ) (ws : List W)
-    → Came opens f part state s (progress_with progress missing) held ws → Came opens f part state s progress held ws
-came_same opens f part state s (Before error) missing held ws came = came
-came_same opens f part state s (Within parser rest) missing held ws came = came
+  -- at the end
+  pub waiting_shown : (s : List ℕ) (progress : Progress P) (missing : ℕ) (held : List ℕ) (ws : List W) → IsWaiting opens f part state s (progress_with progress missing) held ws
+      → IsFed opens f part state s (progress_shown progress missing (length held)) held ws
+  waiting_shown s (Before error) missing held ws waiting = waiting
+  waiting_shown s (Within parser Clean) missing held ws waiting = absurd waiting.1
+  waiting_shown s (Within parser (Needs n)) missing [] ws waiting = (waiting.0, refl)
+  waiting_shown s (Within parser (Needs n)) missing (b ∷ held) ws waiting =
+      let some : (length (b ∷ held) == 0) ≡ false = grind (arith, nat_tests) in
+      rw some (waiting.0, (waiting.1, omega arith))
+  waiting_shown s (Within parser (Refused error)) missing held ws waiting = waiting
 
 -- the number of items of a front is one
 pub holds_same : {S V : Type 0} (opens : List ℕ → Verdict S → Type 0) → IsOpening opens → (f : Format S V) → IsLawful f → (s : List ℕ) (n m : ℕ) → HoldsItems opens f s n → HoldsItems opens f s m → n ≡ m

@@ -1,7 +1,7 @@
 -- The error that names a broken rule refuses the bytes that break it.
 use Rattle.std.proofs.Common.{ℕ, List, Result, Ok, Err}
 use Rattle.std.specs.Borrow.{Bor}
-use Rattle.std.specs.Prelude.{⊤, OnErr}
+use Rattle.std.specs.Prelude.{⊤, IfErr, OnErr}
 use Rattle.std.specs.Result.{IsErrAnd}
 use Rattle.pcap_core.specs.declared.errors.PcapError.{PcapError}
 use Rattle.pcap_core.specs.declared.errors.PcapError.TheVariants as errors
@@ -87,6 +87,17 @@ found_tells M IsSaid view (Err (errors.Utf8Error e)) tells = tells
 found_tells M IsSaid view (Err (errors.FromUtf8Error e)) tells = tells
 found_tells M IsSaid view (Err (errors.OutOfMemory e)) tells = tt
 found_tells M IsSaid view (Err errors.WriterFailed) tells = tells
+
+-- where it is an error, something may grow
+pub found_memory : {X V : Type 0} (M : Type 0) (IsSaid : Verdict V → Type 0) (view : X → V) (answer : Result (Bor (List ℕ) × X) PcapError) → TellsWhere M IsSaid view answer → IfErr (found_of answer) (λ e. M)
+found_memory M IsSaid view (Ok x) tells = tt
+found_memory M IsSaid view (Err (errors.IncompleteBuffer n)) tells = tt
+found_memory M IsSaid view (Err (errors.InvalidField text)) tells = tt
+found_memory M IsSaid view (Err (errors.IoError e)) tells = tt
+found_memory M IsSaid view (Err (errors.Utf8Error e)) tells = tt
+found_memory M IsSaid view (Err (errors.FromUtf8Error e)) tells = tt
+found_memory M IsSaid view (Err (errors.OutOfMemory e)) tells = tells
+found_memory M IsSaid view (Err errors.WriterFailed) tells = tt
 
 pub unless_found : {X : Type 0} (P : Type 0) (answer : Result X PcapError) → OnErr answer P → UnlessItem P (found_of answer)
 unless_found P (Ok x) holds = tt

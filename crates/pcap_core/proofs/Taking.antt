@@ -9,7 +9,7 @@ use Rattle.pcap_core.specs.Faults.{Fault}
 use Rattle.pcap_core.specs.Format.{Format, Texts, state_after, Front, IsLawful}
 use Rattle.pcap_core.specs.Reading.{HasCause, read_failed, no_memory, torn, refused, IsFaultOf, Takes}
 use Rattle.pcap_core.specs.Takes.{Stops, EndsFront, TakesTexts, TakesItems, ReadsFront}
-use Rattle.pcap_core.proofs.Formats.{lacks_no_text, fault_no_text, nothing_no_text, has_front, front_goes_on, texts_more, texts_push, nothing_more}
+use Rattle.pcap_core.proofs.Formats.{lacks_no_text, fault_no_text, nothing_no_text, has_front, front_goes_on, texts_more, texts_push, texts_all, nothing_more}
 use Rattle.pcap_core.proofs.Refusals.{shown_fault}
 
 pub takes_none : {S V : Type 0} (f : Format S V) (q : S) (known : Option (List ℕ)) → TakesTexts f q [] known known
@@ -23,6 +23,15 @@ module _ {S V : Type 0} (f : Format S V) (laws : IsLawful f) (q : S) where
     bytes = so_far.bytes ++ next.0;
     texts = texts_push f q vs v (so_far.bytes ++ next.0) next.0 [] (texts_more f laws q vs so_far.bytes [] next.0 so_far.texts) next.1;
     took = Consumes-trans before left after so_far.bytes next.0 so_far.took next.2;
+  }
+
+  -- items behind items
+  pub takes_all : (vs ws : List V) (before left after : Option (List ℕ)) → TakesTexts f q vs before left → TakesTexts f (state_after f q vs) ws left after
+      → TakesTexts f q (vs ++ ws) before after
+  takes_all vs ws before left after so_far more = record {
+    bytes = so_far.bytes ++ more.bytes;
+    texts = texts_all f q vs ws (so_far.bytes ++ more.bytes) more.bytes [] (texts_more f laws q vs so_far.bytes [] more.bytes so_far.texts) more.texts;
+    took = Consumes-trans before left after so_far.bytes more.bytes so_far.took more.took;
   }
 
   fault_none : (s : List ℕ) (fault : Fault) → f.says q s (faulty fault) ⊎ EarlyFault (f.says q) s fault → (v : V) (rest : List ℕ) → f.says q s (whole v rest) → ⊥

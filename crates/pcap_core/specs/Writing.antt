@@ -1,8 +1,10 @@
 -- What calls that write say.
-use Rattle.std.specs.Prelude.{◌≡◌, ◌<◌, ℕ, List, ◌++◌, length, Option, Result, Ok, Err}
+use Rattle.std.specs.Prelude.{◌≡◌, ◌<◌, ℕ, List, ◌++◌, length, take, Option, Result, Ok, Err}
 use Rattle.std.specs.Io.KnownBytes.{Appends}
 use Rattle.pcap_core.specs.declared.errors.PcapError.{PcapError}
 use Rattle.pcap_core.specs.declared.errors.PcapError.TheVariants.{IoError}
+use Rattle.pcap_core.specs.declared.stream.writing.Torn.{Torn}
+use Rattle.pcap_core.specs.Errors.{IsIo}
 
 -- A beginning of the bytes went out, and these are left.
 pub record Writes (bytes left : List ℕ) (before after : Option (List ℕ)) : Type 0 where
@@ -19,3 +21,8 @@ abbrev pub WritesAll : Option (List ℕ) → Option (List ℕ) → List ℕ → 
 WritesAll before after bytes (Ok u) = Appends before after bytes
 WritesAll before after bytes (Err (IoError e)) = AppendsPart before after bytes
 WritesAll before after bytes (Err _) = ⊥
+
+-- One call that writes bytes: all of them, or an IoError behind so many of them, and not all.
+abbrev pub WritesOrTears : Option (List ℕ) → Option (List ℕ) → List ℕ → Result (Unit {0}) Torn → Type 0
+WritesOrTears before after bytes (Ok u) = Appends before after bytes
+WritesOrTears before after bytes (Err torn) = IsIo torn.error × (torn.gone < length bytes) × Appends before after (take torn.gone bytes)

@@ -13,4 +13,4 @@ pub use held::Held;
 pub use reading::{fill_array, take_bytes};
 pub(crate) use reading::{read_exactly, read_once};
 pub use told::Told;
-pub use writing::put;
+pub use writing::{Torn, put, put_or_tear};

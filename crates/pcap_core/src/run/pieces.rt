@@ -1,12 +1,13 @@
 //! Items of a capture that comes in pieces.
 
-ghost use Rattle.std.specs.Prelude.{◌≡◌, ◌≤◌, ◌<◌, ◌^◌, ◌↔◌, ◌++◌, ℕ, List, [], length, drop, map, All, IsTrue, IfOk, IfErr};
+ghost use Rattle.std.specs.Prelude.{◌≡◌, ◌≤◌, ◌<◌, ◌+◌, ◌-◌, ◌^◌, ◌↔◌, ◌++◌, ℕ, List, [], length, drop, take, map, All, IsTrue, IfOk, IfErr};
+ghost use Rattle.std.specs.Vec.{vec_capacity, vec_len};
 ghost use Rattle.pcap_core.specs.Answer.{Verdict};
 ghost use Rattle.pcap_core.specs.Errors.{IsMemory};
 ghost use Rattle.pcap_core.specs.Format.{Format, IsLawful};
 ghost use Rattle.pcap_core.specs.Found.{IfItem};
-ghost use Rattle.pcap_core.specs.Pieces.{AfterEach, Came, HoldsItems, IsFed, IsFedUpTo, IsOpening, OpensWith, Reaches, TakesFront, joined_pieces};
-ghost use Rattle.pcap_core.specs.Waiting.{IsDue, IsDueBehind, error_with, progress_with, rest_with};
+ghost use Rattle.pcap_core.specs.Pieces.{AfterEach, Came, HoldsItems, IsFedUpTo, IsOpening, OpensWith, Reaches, TakesFront, joined_pieces};
+ghost use Rattle.pcap_core.specs.Waiting.{IsWaiting, error_with, progress_shown, progress_with, rest_shown, rest_with};
 
 use crate::run::Found;
 use crate::{PcapError, Rest, ResultParsing};
@@ -67,7 +68,7 @@ pub struct Pieces<P, T> {
     pub used: usize,
 }
 
-/// Feeds a parser with the pieces, one by one, and counts after each of them the items so far.
+/// Feeds a parser with the pieces, in order, and counts after each of them the items so far.
 ///
 /// `OutOfMemory` where something can't grow.
 pub fn feed_pieces<P: PieceParser>(
@@ -88,20 +89,24 @@ pub fn feed_pieces<P: PieceParser>(
     let mut missing = due(&progress);
     let mut numbers = Vec::with_capacity(alloc, pieces.len())?;
     let mut total = 0;
-    for piece in pieces {
-        hold(&mut held, piece)?;
-        if piece.len() < missing {
-            missing -= piece.len();
+    while numbers.len() < pieces.len() {
+        let left = pieces.split_at(numbers.len()).1;
+        let run = left.split_at(single_bytes(left, missing).max(1)).0;
+        let before = held.len();
+        held = hold(held, run)?;
+        let came = held.len() - before;
+        if came < missing {
+            missing -= came;
         } else {
-            progress = asked(alloc, progress, &mut held, &mut items)?;
+            asked(alloc, &mut progress, &mut held, &mut items)?;
             missing = due(&progress);
         }
-        numbers.push(items.as_slice().len())?;
-        total += piece.len();
+        numbers.resize(numbers.len() + run.len(), items.len())?;
+        total += came;
     }
     let used = total - held.len();
     Ok(Pieces {
-        progress: with_missing(progress, missing),
+        progress: shown(progress, missing, held.len()),
         items,
         numbers,
         used,
@@ -122,24 +127,54 @@ pub fn pieces_fit(pieces: &[&[u8]]) -> bool
     true
 }
 
-// Puts a piece behind what is held.
-#[inline(always)]
-fn hold(held: &mut Vec<u8>, piece: &[u8]) -> ResultParsing<()>
-    ensures held { IfOk result (λ _. held.new.items ≡ held.old.items ++ piece.now) }
-    ensures memory { IfErr result IsMemory }
+// How many of the next pieces have one byte each and leave bytes missing together.
+#[inline(never)]
+fn single_bytes(pieces: &[&[u8]], missing: usize) -> usize
+    ensures within { result ≤ length pieces.now }
+    ensures single { All (λ piece. length piece.now ≡ 1) (take result pieces.now) }
+    ensures waiting { result ≤ missing - 1 }
 {
-    match piece {
-        [byte] => held.push(*byte)?,
-        _ => held.extend_from_slice(piece)?,
+    let most = missing.saturating_sub(1).min(pieces.len());
+    let mut count = 0;
+    while count < most && pieces[count].len() == 1 {
+        count += 1;
     }
-    Ok(())
+    count
 }
 
-// How many bytes have to come before the parser is asked: as many as are missing, any one behind a whole item, and after a
-// refusal more than can come. So it is asked about each item three times at most: at its first byte, its head and its end.
+// Puts a piece behind what is held, or many of one byte each.
+fn hold(held: Vec<u8>, pieces: &[&[u8]]) -> ResultParsing<Vec<u8>>
+    requires { 1 < length pieces.now → All (λ piece. length piece.now ≡ 1) pieces.now }
+    ensures held { IfOk result (λ new. new.items ≡ held.items ++ joined_pieces pieces.now) }
+    ensures memory { IfErr result IsMemory }
+{
+    let mut held = held;
+    if let [piece] = pieces {
+        held.extend_from_slice(piece)?;
+        return Ok(held);
+    }
+    held.reserve(pieces.len())?;
+    Ok(push_bytes(held, pieces))
+}
+
+// Puts pieces of one byte each behind what is held, where there is room for them.
+#[inline(never)]
+fn push_bytes(held: Vec<u8>, pieces: &[&[u8]]) -> Vec<u8>
+    requires single { All (λ piece. length piece.now ≡ 1) pieces.now }
+    requires room { vec_len held + length pieces.now ≤ vec_capacity held }
+    ensures { result.items ≡ held.items ++ joined_pieces pieces.now }
+{
+    let mut held = held;
+    for piece in pieces {
+        held.push_reserved(piece[0]);
+    }
+    held
+}
+
+// How many bytes have to come before the parser is asked: as many as it told that are missing, and after a refusal more than
+// can come. So it is asked about each item three times at most: behind the item before it, at its head and at its end.
 fn due<P>(progress: &Progress<P>) -> usize
-    ensures same { progress_with progress.now result ≡ progress.now }
-    ensures due { IsDue progress.now result }
+    ensures { progress_with progress.now result ≡ progress.now }
 {
     match progress {
         Progress::Before(error) => due_before(error),
@@ -157,23 +192,21 @@ fn due_before(error: &PcapError) -> usize
 }
 
 fn due_within(rest: &Rest) -> usize
-    ensures same { rest_with rest.now result ≡ rest.now }
-    ensures due { IsDueBehind rest.now result }
+    ensures { rest_with rest.now result ≡ rest.now }
 {
     match rest {
-        Rest::Clean => 1,
         Rest::Needs(n) => *n,
-        Rest::Refused(_) => usize::MAX,
+        _ => usize::MAX,
     }
 }
 
-// The same with so many bytes missing, where it tells of missing ones.
-fn with_missing<P>(progress: Progress<P>, missing: usize) -> Progress<P>
-    ensures { result ≡ progress_with progress missing }
+// The same with so many bytes missing, where it tells of missing ones. Where no byte is held behind an item, the rest is clean.
+fn shown<P>(progress: Progress<P>, missing: usize, held: usize) -> Progress<P>
+    ensures { result ≡ progress_shown progress missing held }
 {
     match progress {
         Progress::Before(error) => Progress::Before(lacking(error, missing)),
-        Progress::Within(parser, rest) => Progress::Within(parser, needing(rest, missing)),
+        Progress::Within(parser, rest) => Progress::Within(parser, rest_of(rest, missing, held)),
     }
 }
 
@@ -186,12 +219,18 @@ fn lacking(error: PcapError, missing: usize) -> PcapError
     }
 }
 
-fn needing(rest: Rest, missing: usize) -> Rest
-    ensures { result ≡ rest_with rest missing }
+fn rest_of(rest: Rest, missing: usize, held: usize) -> Rest
+    ensures { result ≡ rest_shown rest missing held }
 {
     match rest {
         Rest::Clean => Rest::Clean,
-        Rest::Needs(_) => Rest::Needs(missing),
+        Rest::Needs(_) => {
+            if held == 0 {
+                Rest::Clean
+            } else {
+                Rest::Needs(missing)
+            }
+        }
         Rest::Refused(error) => Rest::Refused(error),
     }
 }
@@ -200,24 +239,27 @@ fn needing(rest: Rest, missing: usize) -> Rest
 #[inline(never)]
 fn asked<P: PieceParser>(
     alloc: Global,
-    progress: Progress<P>,
+    progress: &mut Progress<P>,
     held: &mut Vec<u8>,
     items: &mut Vec<P::Item>,
-) -> ResultParsing<Progress<P>>
+) -> ResultParsing<()>
     requires lawful { IsLawful P.format }
     requires opening { IsOpening P.opens }
-    ensures fed { IfOk result (λ new. (s : List ℕ) → Came P.opens P.format P.part P.state s progress held.old.items (map P.view items.old.items)
-        → IsFed P.opens P.format P.part P.state s new held.new.items (map P.view items.new.items)) }
+    ensures waiting { IfOk result (λ _. (s : List ℕ) → Came P.opens P.format P.part P.state s progress.old held.old.items (map P.view items.old.items)
+        → IsWaiting P.opens P.format P.part P.state s progress.new held.new.items (map P.view items.new.items)) }
     ensures owned { IfOk result (λ _. All P.owned items.old.items → All P.owned items.new.items) }
     ensures memory { IfErr result IsMemory }
 {
     match progress {
-        Progress::Before(_error) => opened(alloc, held, items),
-        Progress::Within(mut parser, _rest) => {
-            let rest = take_items(alloc, &mut parser, held, items)?;
-            Ok(Progress::Within(parser, rest))
+        Progress::Before(_) => *progress = opened(alloc, held, items)?,
+        Progress::Within(parser, _) => {
+            let told = take_items(alloc, parser, held, items)?;
+            if let Progress::Within(_, rest) = progress {
+                *rest = told;
+            }
         }
     }
+    Ok(())
 }
 
 // Opens the capture and takes its items, where it opens.
@@ -228,7 +270,7 @@ fn opened<P: PieceParser>(
 ) -> ResultParsing<Progress<P>>
     requires lawful { IsLawful P.format }
     requires opening { IsOpening P.opens }
-    ensures fed { IfOk result (λ new. map P.view items.old.items ≡ [] → IsFed P.opens P.format P.part P.state held.old.items new held.new.items (map P.view items.new.items)) }
+    ensures waiting { IfOk result (λ new. map P.view items.old.items ≡ [] → IsWaiting P.opens P.format P.part P.state held.old.items new held.new.items (map P.view items.new.items)) }
     ensures owned { IfOk result (λ _. All P.owned items.old.items → All P.owned items.new.items) }
     ensures memory { IfErr result IsMemory }
 {
@@ -244,7 +286,8 @@ fn opened<P: PieceParser>(
     }
 }
 
-// Takes the items that stand at the front of what is held, lets their bytes go, and tells what is left.
+// Takes the items that stand at the front of what is held, lets their bytes go, and tells what is said of those that are left,
+// also where there are none.
 fn take_items<P: PieceParser>(
     alloc: Global,
     parser: &mut P,
@@ -252,13 +295,13 @@ fn take_items<P: PieceParser>(
     items: &mut Vec<P::Item>,
 ) -> ResultParsing<Rest>
     requires lawful { IsLawful P.format }
-    ensures fed { IfOk result (λ rest. (s : List ℕ) → Reaches P.opens P.format P.part (P.state parser.old) (map P.view items.old.items) s held.old.items
-        → IsFed P.opens P.format P.part P.state s (Progress.Within parser.new rest) held.new.items (map P.view items.new.items)) }
+    ensures waiting { IfOk result (λ rest. (s : List ℕ) → Reaches P.opens P.format P.part (P.state parser.old) (map P.view items.old.items) s held.old.items
+        → IsWaiting P.opens P.format P.part P.state s (Progress.Within parser.new rest) held.new.items (map P.view items.new.items)) }
     ensures owned { IfOk result (λ _. All P.owned items.old.items → All P.owned items.new.items) }
     ensures memory { IfErr result IsMemory }
 {
     let mut at = 0;
-    while at < held.len() {
+    loop {
         match parser.take(alloc, held.as_slice().split_at(at).1)? {
             Found::Item((item, left)) => {
                 items.push(item)?;
@@ -274,8 +317,6 @@ fn take_items<P: PieceParser>(
             }
         }
     }
-    held.clear();
-    Ok(Rest::Clean)
 }
 
 // Lets the first so many bytes go.

@@ -1,15 +1,19 @@
-use Rattle.std.proofs.Common.{◌≡◌, [], length, take, map, All}
-use Rattle.pcap_core.specs.Pieces.{AfterEach, HoldsItems, IsFed, joined_pieces}
-use Rattle.pcap_core.specs.Waiting.{IsDue, progress_with}
+use Rattle.std.proofs.Common.{◌≡◌, ◌≤◌, ◌-◌, [], length, take, map, All}
+use Rattle.pcap_core.specs.Pieces.{AfterEach, HoldsItems, joined_pieces}
+use Rattle.pcap_core.specs.Waiting.{IsWaiting, progress_with}
 use Rattle.pcap_core.proofs.run.pieces.feed_pieces.Given as goal
 
-abbrev pub invariant-loop-piece : goal.invariant-loop-piece
-invariant-loop-piece g l =
+abbrev pub invariant-loop-alloc : goal.invariant-loop-alloc
+invariant-loop-alloc g l =
     let p = g.P.PieceParser in
+    let fed = take (length l.numbers.items) l.pieces in
     record {
-      fed : IsFed p.opens p.format p.part p.state (joined_pieces (take l.piece-index l.pieces)) (progress_with l.progress l.missing) l.held.items (map p.view l.items.items);
-      due : IsDue l.progress l.missing;
-      numbers : AfterEach (HoldsItems p.opens p.format) [] (take l.piece-index l.pieces) l.numbers.items;
-      total : l.total ≡ length (joined_pieces (take l.piece-index l.pieces));
+      waiting : IsWaiting p.opens p.format p.part p.state (joined_pieces fed) (progress_with l.progress l.missing) l.held.items (map p.view l.items.items);
+      numbers : AfterEach (HoldsItems p.opens p.format) [] fed l.numbers.items;
+      within : length l.numbers.items ≤ length l.pieces;
+      total : l.total ≡ length (joined_pieces fed);
       owned : All p.owned l.items.items;
     }
+
+abbrev pub decreases-loop-alloc : goal.decreases-loop-alloc
+decreases-loop-alloc g l = length l.pieces - length l.numbers.items

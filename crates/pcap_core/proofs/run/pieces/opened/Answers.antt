@@ -3,8 +3,8 @@ use Rattle.pcap_core.specs.Pieces.{Reaches}
 use Rattle.pcap_core.proofs.Pieces.{reaches_first}
 use Rattle.pcap_core.proofs.run.pieces.opened.Goals as goal
 
-pub returns-in_ok-rest-in-Item-clause-fed : goal.returns-in_ok-rest-in-Item-clause-fed
-returns-in_ok-rest-in-Item-clause-fed g c = λ empty.
+pub returns-in_ok-rest-in-Item-clause-waiting : goal.returns-in_ok-rest-in-Item-clause-waiting
+returns-in_ok-rest-in-Item-clause-waiting g c = λ empty.
     let s = c.args.held.now.items in
     let q = g.P.PieceParser.state c.in-Item.parser in
     let told = rw (c.in-Item.is, c.as_slice.ensures.value) at c.in_ok-parser.ensures in
@@ -13,4 +13,4 @@ returns-in_ok-rest-in-Item-clause-fed g c = λ empty.
     let len : c.len.result ≡ length s = c.len.ensures ∙ sym c.as_slice.ensures.len ∙ ap length c.as_slice.ensures.value in
     let count : length s - length told.0 ≡ c.len.result - c.in-Item.left = omega (arith, told.2, len) in
     let left : drop (length s - length told.0) s ≡ c.drop_front.new.held.items = ap (λ (n : ℕ). drop n s) count ∙ sym c.drop_front.ensures in
-    c.in_ok-rest-in-Item.ensures.fed s (rw (empty, ← left) first)
+    c.in_ok-rest-in-Item.ensures.waiting s (rw (empty, ← left) first)

@@ -2,8 +2,8 @@ use Rattle.std.proofs.Common.{◌≤◌, ◌-◌, ℕ, List, length, drop, map, 
 use Rattle.pcap_core.specs.Pieces.{Reaches}
 use Rattle.pcap_core.proofs.run.pieces.take_items.Given as goal
 
-abbrev pub invariant-loop-at : goal.invariant-loop-at
-invariant-loop-at g l =
+abbrev pub invariant-loop-item : goal.invariant-loop-item
+invariant-loop-item g l =
     let p = g.P.PieceParser in
     record {
       within : l.at ≤ length l.held.items;
@@ -12,5 +12,5 @@ invariant-loop-at g l =
       owned : All p.owned l.fn.items.items → All p.owned l.items.items;
     }
 
-abbrev pub decreases-loop-at : goal.decreases-loop-at
-decreases-loop-at g l = length l.held.items - l.at
+abbrev pub decreases-loop-item : goal.decreases-loop-item
+decreases-loop-item g l = length l.held.items - l.at

@@ -1,9 +1,5 @@
-use Rattle.std.proofs.lemmas.List.{take_rest}
-use Rattle.pcap_core.proofs.Writing.{writes_more}
+use Rattle.pcap_core.proofs.Writing.{tears_all}
 use Rattle.pcap_core.proofs.stream.writing.put.Goals as goal
 
-pub loop-rest-preserved : goal.loop-rest-preserved
-loop-rest-preserved g c = record {
-  so_far = rw take_rest (writes_more c.args.bytes.now c.loop-rest.rest.now _ _ _ c.in-Ok.n c.loop-rest.invariant.so_far c.in-Ok.ensures.bytes);
-  same = c.loop-rest.invariant.same;
-}
+pub returns-in-Err-clause-out : goal.returns-in-Err-clause-out
+returns-in-Err-clause-out g c = tears_all _ _ _ c.in-Err.torn c.in-Err.ensures.out

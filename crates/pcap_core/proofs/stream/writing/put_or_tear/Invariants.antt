@@ -1,6 +1,6 @@
 use Rattle.std.proofs.Common.{◌≡◌, length}
 use Rattle.pcap_core.specs.Writing.{Writes}
-use Rattle.pcap_core.proofs.stream.writing.put.Given as goal
+use Rattle.pcap_core.proofs.stream.writing.put_or_tear.Given as goal
 
 abbrev pub invariant-loop-rest : goal.invariant-loop-rest
 invariant-loop-rest g l = record {
