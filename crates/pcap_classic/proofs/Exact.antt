@@ -2,13 +2,15 @@
 use Rattle.std.proofs.Common.{◌≡◌, ◌≤◌, ◌+◌, ◌-◌, ℕ, List, [], ◌∷◌, ◌++◌, length, take, drop, map, refl, subst, ◌∙◌, arith, append_assoc, length-drop}
 use Rattle.std.proofs.lemmas.List.{length-take-le, length-map, take-append-drop}
 use Rattle.std.proofs.Math.Nat.{min-le_left, min-le_right}
-use Rattle.std.specs.Prelude.{min, ⊤}
+use Rattle.std.specs.Prelude.{min}
 use Rattle.pcap_core.specs.declared.errors.PcapError.{PcapError}
 use Rattle.pcap_core.specs.declared.errors.PcapError.TheVariants as errors
 use Rattle.pcap_classic.specs.declared.pcap.header.PcapHeader.{PcapHeader}
 use Rattle.pcap_classic.specs.declared.run.PcapRun.{PcapRun}
 use Rattle.pcap_core.specs.Answer.{Order, number_in, Refuses}
 use Rattle.pcap_classic.specs.Exact.{IsExact}
+use Rattle.pcap_classic.specs.Run.{BeginsWithPacket, HasPacket}
+use Rattle.pcap_core.specs.Errors.{IsMemory}
 use Rattle.pcap_core.specs.Faults.{Fault, Invalid, Io, Utf8}
 use Rattle.pcap_core.specs.Format.{IsLawful}
 use Rattle.pcap_classic.specs.HeaderText.{HeaderText, LacksHeader, HasHeaderFault}
@@ -39,15 +41,15 @@ fault_all : (bytes : List ℕ) (fault : Fault) → HasHeaderFault (take 24 bytes
 fault_all bytes fault x = subst (λ (t : List ℕ). HasHeaderFault t fault) (take-append-drop 24 bytes) (header_stable.fault (take 24 bytes) (drop 24 bytes) fault x)
 
 -- what refuses the first bytes refuses all of them
-pub header_refuses : (bytes : List ℕ) → 24 ≤ length bytes → (e : PcapError) → Refuses ⊥ (LacksHeader (take 24 bytes)) (HasHeaderFault (take 24 bytes)) e
-    → Refuses ⊤ (LacksHeader bytes) (HasHeaderFault bytes) e
-header_refuses bytes long (errors.IncompleteBuffer n) x = absurd (omega (arith, x.some, x.missing, length-take-le 24 bytes long))
-header_refuses bytes long (errors.InvalidField text) x = (x.0, x.1, fault_all bytes (Invalid x.0) x.2)
-header_refuses bytes long (errors.IoError e) x = fault_all bytes Io x
-header_refuses bytes long (errors.Utf8Error e) x = fault_all bytes Utf8 x
-header_refuses bytes long (errors.FromUtf8Error e) x = absurd x
-header_refuses bytes long (errors.OutOfMemory e) x = absurd x
-header_refuses bytes long errors.WriterFailed x = absurd x
+pub header_refuses : (MayGrow : Type 0) (bytes : List ℕ) → 24 ≤ length bytes → (e : PcapError) → Refuses ⊥ (LacksHeader (take 24 bytes)) (HasHeaderFault (take 24 bytes)) e
+    → Refuses MayGrow (LacksHeader bytes) (HasHeaderFault bytes) e
+header_refuses MayGrow bytes long (errors.IncompleteBuffer n) x = absurd (omega (arith, x.some, x.missing, length-take-le 24 bytes long))
+header_refuses MayGrow bytes long (errors.InvalidField text) x = (x.0, x.1, fault_all bytes (Invalid x.0) x.2)
+header_refuses MayGrow bytes long (errors.IoError e) x = fault_all bytes Io x
+header_refuses MayGrow bytes long (errors.Utf8Error e) x = fault_all bytes Utf8 x
+header_refuses MayGrow bytes long (errors.FromUtf8Error e) x = absurd x
+header_refuses MayGrow bytes long (errors.OutOfMemory e) x = absurd x
+header_refuses MayGrow bytes long errors.WriterFailed x = absurd x
 
 -- and so is a header
 pub header_all : (header : PcapHeader) (bytes rest : List ℕ) → 24 ≤ length bytes → HeaderText header (take 24 bytes) rest → HeaderText header bytes (drop 24 bytes)
@@ -83,3 +85,14 @@ packet_asks limit order r packet s rest ns text asked =
     let o = laws.own tt s rest packet text in
     let count : length o.0 ≡ 16 + length packet.bytes = omega (arith, packet_length order limit r packet o.0 [] o.2) in
     subst (λ (n : ℕ). HeadThenRest 16 n ns) count (item_asks f laws tt s ns packet o.0 rest o.1 o.2 asked)
+
+-- a run that took no memory for a packet
+pub no_memory : (header : PcapHeader) (bytes rest : List ℕ) → HeaderText header bytes rest → BeginsWithPacket header rest → (e : PcapError) → IsMemory e
+    → Refuses (HasPacket bytes) (LacksHeader bytes) (HasHeaderFault bytes) e
+no_memory header bytes rest text x (errors.OutOfMemory e) memory = (header, x.0, x.1, x.2, record { after = rest; header_text = text; front = x.3 })
+no_memory header bytes rest text x (errors.IncompleteBuffer n) memory = absurd memory
+no_memory header bytes rest text x (errors.InvalidField t) memory = absurd memory
+no_memory header bytes rest text x (errors.IoError e) memory = absurd memory
+no_memory header bytes rest text x (errors.Utf8Error e) memory = absurd memory
+no_memory header bytes rest text x (errors.FromUtf8Error e) memory = absurd memory
+no_memory header bytes rest text x errors.WriterFailed memory = absurd memory

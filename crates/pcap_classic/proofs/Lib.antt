@@ -13,6 +13,7 @@ pub mod Asked
 pub mod PacketStream
 pub mod Captures
 pub mod Copied
+pub mod Stretched
 pub mod Accepted
 pub mod StatedPackets
 pub mod Exact

@@ -1,5 +1,5 @@
 -- Of all bytes exactly one thing is said.
-use Rattle.std.proofs.Common.{◌≡◌, ℕ, ◌-◌, ◌≤◌, Bool, true, false, cond, List, length, Option, Some, None, refl, sym, ap, ◌∙◌, arith, inl, inr}
+use Rattle.std.proofs.Common.{◌≡◌, ℕ, ◌-◌, Bool, true, false, cond, List, length, Option, Some, None, refl, sym, ap, ◌∙◌, arith, inl, inr}
 use Rattle.std.specs.Prelude.{◌⊎◌, nat_lt, ℤ}
 use Rattle.std.proofs.lemmas.Bool.{cases_lt, ltb-false}
 use Rattle.byteorder.specs.Endian.{big_number}
@@ -9,7 +9,7 @@ use Rattle.pcap_classic.specs.declared.common.TsResolution.{TsResolution}
 use Rattle.pcap_core.specs.declared.link.DataLink.{DataLink}
 use Rattle.pcap_classic.specs.declared.pcap.header.PcapHeader.{PcapHeader}
 use Rattle.pcap_classic.specs.declared.pcap.packet.PacketHeader.{PacketHeader}
-use Rattle.pcap_core.specs.Answer.{Verdict, whole, lacks, faulty, Number, number_in}
+use Rattle.pcap_core.specs.Answer.{Verdict, whole, lacks, faulty, number_in}
 use Rattle.pcap_classic.specs.Magic.{is_magic, order_of}
 use Rattle.pcap_classic.specs.PacketText.{PacketHeaderSays, Head, RecordHeadText, IsGood, head_fault, spelled_header, nanoseconds, PacketHeaderText, LacksHead, HasHeadFault, Captured}
 use Rattle.pcap_classic.specs.HeaderText.{HeaderSays, FieldsText, HeaderText, HasHeaderFault}

@@ -13,6 +13,7 @@ pub mod LentStreams
 pub mod Writing
 pub mod Defaults
 pub mod Copies
+pub mod Stretches
 pub mod StatedPackets
 pub mod Exact
 pub mod Pieces

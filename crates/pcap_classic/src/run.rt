@@ -1,9 +1,11 @@
 //! Whole runs over a capture.
 
+mod buffered;
 mod copy;
 mod exact;
 mod find;
 mod pieces;
+mod stretch;
 
 ghost use Rattle.std.specs.Prelude.{◌≡◌, ◌⊎◌, ⊤, false, All, IfOk, IfErr, IfSome, map};
 ghost use Rattle.pcap_core.specs.Answer.{Refuses};
@@ -21,6 +23,7 @@ ghost use Rattle.pcap_classic.specs.Run.{IsRun, HasPacket};
 ghost use Rattle.pcap_core.specs.Run.{rest_after};
 
 use crate::pcap::{Packet, PcapHeader, PcapParser, PcapReader};
+pub use buffered::copy_buffered;
 pub use copy::{Copied, Under, copy_pcap};
 pub use exact::exact_pcap;
 pub use pcap_core::Rest;

@@ -93,31 +93,99 @@ fn every_cutting_gives_the_same(rt: HostRuntime) {
     }
 }
 
-// Each byte a piece, with an empty piece before and after each: how many pieces, how many of them hold no packet yet, how
-// many packets there are in the end, and how many bytes were taken.
-fn bytewise(alloc: Global, bytes: &[u8]) -> Option<(usize, usize, usize, usize)> {
+// What pieces give.
+#[derive(Debug, Drop, PartialEq)]
+struct Given {
+    // How many pieces there are, and how many of them hold no packet yet.
+    pieces: usize,
+    empty: usize,
+    // How many packets there are in the end, and how many bytes were taken.
+    packets: usize,
+    used: usize,
+    // How many bytes are missing behind them, or nothing where the rest is refused.
+    missing: Option<usize>,
+}
+
+// Each byte a piece, with an empty piece before them, behind each so many, and behind the last.
+fn bytewise(alloc: Global, bytes: &[u8], run: usize) -> Option<Given> {
     let mut pieces: Vec<&[u8]> = Vec::new(alloc);
     pieces.push(&[]).ok()?;
-    for byte in bytes.chunks(1) {
-        pieces.push(byte).ok()?;
+    for group in bytes.chunks(run.max(1)) {
+        for byte in group.chunks(1) {
+            pieces.push(byte).ok()?;
+        }
         pieces.push(&[]).ok()?;
     }
     if !pieces_fit(&pieces) {
         return None;
     }
     let (run, numbers) = pieces_pcap(alloc, &pieces).ok()?;
-    let none = numbers.iter().filter(|number| **number == 0).count();
-    Some((numbers.len(), none, run.packets.len(), run.used))
+    Some(Given {
+        pieces: numbers.len(),
+        empty: numbers.iter().filter(|number| **number == 0).count(),
+        packets: run.packets.len(),
+        used: run.used,
+        missing: match run.rest {
+            Rest::Clean => Some(0),
+            Rest::Needs(n) => Some(n),
+            Rest::Refused(_) => None,
+        },
+    })
 }
 
+// Each byte a piece: so many pieces, the first packet with the 138th byte, and so much missing behind it.
+fn one_packet(pieces: usize, empty: usize, missing: Option<usize>) -> Option<Given> {
+    Some(Given {
+        pieces,
+        empty,
+        packets: 1,
+        used: 138,
+        missing,
+    })
+}
+
+// The head ends with the 40th byte, and the packet with the last.
 #[test]
 fn bytes_are_pieces(rt: HostRuntime) {
     let alloc = rt.alloc();
     let bytes = whole(alloc).expect(&rt, "memory");
-    assert_eq!(rt; bytewise(alloc, &bytes), Some((277, 275, 1, 138)));
+    assert_eq!(rt; bytewise(alloc, &bytes, 1), one_packet(277, 275, Some(0)));
+    assert_eq!(rt; bytewise(alloc, &bytes, 39), one_packet(143, 141, Some(0)));
+    assert_eq!(rt; bytewise(alloc, &bytes, 40), one_packet(143, 141, Some(0)));
+    assert_eq!(rt; bytewise(alloc, &bytes, 41), one_packet(143, 141, Some(0)));
+    assert_eq!(rt; bytewise(alloc, &bytes, 137), one_packet(141, 139, Some(0)));
+    assert_eq!(rt; bytewise(alloc, &bytes, 138), one_packet(140, 138, Some(0)));
+}
+
+#[test]
+fn no_piece_lacks_the_header(rt: HostRuntime) {
+    let alloc = rt.alloc();
     let lacks = match pieces_pcap(alloc, &[]) {
         Err(PcapError::IncompleteBuffer(n)) => n,
         _ => 0,
     };
     assert_eq!(rt; lacks, 24);
+}
+
+// Ten bytes of the second packet's data came.
+#[test]
+fn bytes_end_within_a_packet(rt: HostRuntime) {
+    let alloc = rt.alloc();
+    let mut bytes = whole(alloc).expect(&rt, "memory");
+    bytes.extend_from_slice(&HEAD[24..]).expect(&rt, "memory");
+    bytes.extend_from_slice(&[0; 10]).expect(&rt, "memory");
+    assert_eq!(rt;
+        bytewise(alloc, &bytes, 164),
+        one_packet(166, 138, Some(88))
+    );
+}
+
+// The second packet states a length that none may have, and bytes go on behind its head.
+#[test]
+fn bytes_go_on_behind_a_refusal(rt: HostRuntime) {
+    let alloc = rt.alloc();
+    let mut bytes = whole(alloc).expect(&rt, "memory");
+    bytes.extend_from_slice(&[0xff; 16]).expect(&rt, "memory");
+    bytes.extend_from_slice(&[0; 30]).expect(&rt, "memory");
+    assert_eq!(rt; bytewise(alloc, &bytes, 184), one_packet(186, 138, None));
 }

@@ -1,9 +1,9 @@
 //! Copies of captures, from a reader to a writer.
 
-ghost use Rattle.std.specs.Prelude.{◌≡◌, ◌≤◌, ◌↔◌, true, IsTrue, IfSome, MatchResult};
+ghost use Rattle.std.specs.Prelude.{◌≡◌, ◌≤◌, ◌↔◌, true, false, IsTrue, IfSome, MatchResult};
 ghost use Rattle.pcap_core.specs.Filling.{Stated};
 ghost use Rattle.pcap_classic.specs.StatedPackets.{KnowsHeader};
-ghost use Rattle.pcap_classic.specs.Copies.{CanBeUnder, IsNew, outcome_of, CopyRun, CopyFront, CopiesBehind, WritesHeld, header_under};
+ghost use Rattle.pcap_classic.specs.Copies.{BeginsCopy, CanBeUnder, IsNew, outcome_of, CopyRun, CopyFront, CopiesOn, WritesHeld, header_under};
 ghost use Rattle.pcap_classic.specs.Magic.{is_magic};
 ghost use Rattle.pcap_classic.specs.Packets.{reader_format};
 ghost use Rattle.pcap_classic.specs.PacketText.{packet_limit};
@@ -41,6 +41,20 @@ pub struct Copied {
     pub read_failed: bool,
     /// Whether a write failed.
     pub write_failed: bool,
+}
+
+impl Copied {
+    // A copy of which nothing is done.
+    pub(crate) fn none() -> Copied
+        ensures { IsNew result }
+    {
+        Copied {
+            packets: 0,
+            fault: None,
+            read_failed: false,
+            write_failed: false,
+        }
+    }
 }
 
 impl Under {
@@ -94,12 +108,7 @@ pub fn copy_pcap<R: Read, W: Write>(
     ensures run { CopyRun under (R.remaining reader.old) (R.remaining reader.new) (W.contents writer.old) (W.contents writer.new) most result }
     ensures front { IfSome (R.remaining reader.old) (λ bytes. CopyFront under bytes (R.remaining reader.new) (W.contents writer.old) (W.contents writer.new) most result) }
 {
-    let mut copied = Copied {
-        packets: 0,
-        fault: None,
-        read_failed: false,
-        write_failed: false,
-    };
+    let mut copied = Copied::none();
     copied.fault = copy_under(alloc, reader, writer, under, most, &mut copied).err();
     copied
 }
@@ -116,17 +125,31 @@ fn copy_under<R: Read, W: Write>(
     requires { IsNew copied.old }
     ensures { CopyRun under (R.remaining reader.old) (R.remaining reader.new) (W.contents writer.old) (W.contents writer.new) most (outcome_of copied.new result) }
 {
+    let (header, out) = begin_copy(reader, writer, under, copied)?;
+    copy_packets(alloc, reader, writer, &header, &out, most, copied)
+}
+
+// Copies the header: the one that is read, and the one that goes out.
+pub(crate) fn begin_copy<R: Read, W: Write>(
+    reader: &mut R,
+    writer: &mut W,
+    under: Under,
+    copied: &mut Copied,
+) -> ResultParsing<(PcapHeader, PcapHeader)>
+    requires { IsNew copied.old }
+    ensures { BeginsCopy under (R.remaining reader.old) (R.remaining reader.new) (W.contents writer.old) (W.contents writer.new) copied.new result }
+{
     if !under.is_writable() {
         return Err(PcapError::from(Rule::CaptureMagic));
     }
     let header = read_header(reader, &mut copied.read_failed)?;
     let out = under.header(header);
     put_header(writer, &mut copied.write_failed, &out)?;
-    copy_packets(alloc, reader, writer, &header, &out, most, copied)
+    Ok((header, out))
 }
 
-// Copies the packets behind a header that was read, to behind one that went out.
-fn copy_packets<R: Read, W: Write>(
+// Copies packets behind a header that was read, to behind one that went out, until `most` are copied.
+pub(crate) fn copy_packets<R: Read, W: Write>(
     alloc: Global,
     reader: &mut R,
     writer: &mut W,
@@ -135,10 +158,12 @@ fn copy_packets<R: Read, W: Write>(
     most: u64,
     copied: &mut Copied,
 ) -> ResultParsing<()>
-    requires new { IsNew copied.old }
     requires read { IsTrue (is_magic header.now.magic_number) }
     requires written { IsTrue (is_magic out.now.magic_number) }
-    ensures { CopiesBehind header.now out.now (R.remaining reader.old) (R.remaining reader.new) (W.contents writer.old) (W.contents writer.new) most (outcome_of copied.new result) }
+    requires within { copied.old.packets ≤ most }
+    requires no_read_failed { copied.old.read_failed ≡ false }
+    requires no_write_failed { copied.old.write_failed ≡ false }
+    ensures { CopiesOn header.now out.now copied.old.packets (R.remaining reader.old) (R.remaining reader.new) (W.contents writer.old) (W.contents writer.new) most (outcome_of copied.new result) }
 {
     let mut held = Held::new(alloc);
     while copied.packets < most {

@@ -1,6 +1,6 @@
 //! Runs over a capture that is shown exactly as the parser asks for it.
 
-ghost use Rattle.std.specs.Prelude.{◌≡◌, ◌≤◌, ◌+◌, ◌<◌, ◌^◌, ⊤, All, IfOk, IfErr, map, drop};
+ghost use Rattle.std.specs.Prelude.{◌≡◌, ◌≤◌, ◌+◌, ◌<◌, ◌^◌, All, IfOk, IfErr, map, drop};
 ghost use Rattle.pcap_core.specs.Answer.{Refuses};
 ghost use Rattle.pcap_core.specs.Bytes.{IsBorrowed};
 ghost use Rattle.pcap_core.specs.Errors.{IsMemory};
@@ -13,6 +13,7 @@ ghost use Rattle.pcap_classic.specs.HeaderText.{LacksHeader, HasHeaderFault};
 ghost use Rattle.pcap_classic.specs.PacketText.{packet_limit, content_of};
 ghost use Rattle.pcap_classic.specs.Packets.{format_under};
 ghost use Rattle.pcap_classic.specs.Parser.{header_of};
+ghost use Rattle.pcap_classic.specs.Run.{BeginsWithPacket, HasPacket};
 
 use crate::pcap::{Packet, PcapParser};
 use crate::run::find::find_packet;
@@ -38,7 +39,7 @@ pub fn exact_pcap<'a>(alloc: Global, window: &mut Window<'a>) -> ResultParsing<(
     ensures bytes { bytes_of window.new ≡ bytes_of window.old }
     ensures run { IfOk result (λ x. IsExact x.0 x.1 (bytes_of window.old) (requests_made window.old) (requests_made window.new)) }
     ensures borrowed { IfOk result (λ x. All (λ packet. IsBorrowed packet.data_) x.0.packets.items) }
-    ensures refused { IfErr result (Refuses ⊤ (LacksHeader (bytes_of window.old)) (HasHeaderFault (bytes_of window.old))) }
+    ensures refused { IfErr result (Refuses (HasPacket (bytes_of window.old)) (LacksHeader (bytes_of window.old)) (HasHeaderFault (bytes_of window.old))) }
 {
     let shown = window.ask(HEADER_BYTES);
     if shown < HEADER_BYTES {
@@ -70,7 +71,7 @@ fn show_packets<'a>(
     ensures items { IfOk result (λ x. ExactItems (format_under packet_limit (header_of parser.now)) tt (map content_of x.0.items) (bytes_of window.old) (shown_of window.old) x.1 x.2
         (requests_made window.old) (requests_made window.new) requests.old requests.new) }
     ensures borrowed { IfOk result (λ x. All (λ packet. IsBorrowed packet.data_) x.0.items) }
-    ensures memory { IfErr result IsMemory }
+    ensures memory { IfErr result (λ e. IsMemory e × BeginsWithPacket (header_of parser.now) (drop (shown_of window.old) (bytes_of window.old))) }
 {
     let mut packets = Vec::new(alloc);
     while !window.is_done() {
@@ -97,7 +98,7 @@ fn show_packet<'a>(
     ensures found { IfOk result (FoundBefore ((format_under packet_limit (header_of parser.now)).says tt (drop (shown_of window.old) (bytes_of window.old)))
         content_of (drop (shown_of window.new) (bytes_of window.old))) }
     ensures borrowed { IfOk result (IfItem (λ packet. IsBorrowed packet.data_)) }
-    ensures memory { IfErr result IsMemory }
+    ensures fine { IfErr result (λ _. ⊥) }
 {
     let start = window.seen().len();
     'asking: loop {

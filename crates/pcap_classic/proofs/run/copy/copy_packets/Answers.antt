@@ -1,24 +1,22 @@
-use Rattle.std.proofs.Common.{◌∙◌, sym, arith, refl, inl, inr, subst, []}
+use Rattle.std.proofs.Common.{◌∙◌, arith, refl, inl, inr, []}
 use Rattle.std.proofs.lemmas.Result.{err_from_is_err_and}
 use Rattle.std.proofs.KnownBytes.{Keeps-refl}
-use Rattle.pcap_classic.specs.Copies.{Copying}
 use Rattle.pcap_core.specs.Held.{held_bytes}
 use Rattle.pcap_core.specs.Format.{Format}
 use Rattle.pcap_classic.specs.PacketText.{Captured, packet_limit}
 use Rattle.pcap_core.specs.Reading.{HasCause, TakesAsked}
-use Rattle.pcap_classic.proofs.Copied.{copying_none, copying_more, torn_write}
+use Rattle.pcap_classic.proofs.Copied.{on_none, on_more, torn_write}
 use Rattle.pcap_classic.proofs.Captures.{under_valid}
 use Rattle.pcap_classic.proofs.Packets.{reader_lawful, reader_whole}
 use Rattle.pcap_classic.proofs.run.copy.copy_packets.Goals as goal
 
 pub loop-copied-init : goal.loop-copied-init
 loop-copied-init g c = record {
-  so_far = subst (λ n. Copying c.args.header.now c.args.out.now (g.R.Read.remaining c.args.reader.now) (g.R.Read.remaining c.args.reader.now) (g.W.Write.contents c.args.writer.now) (g.W.Write.contents c.args.writer.now) n)
-      (sym c.requires.new.none) (copying_none _ _ _ _);
+  so_far = on_none _ _ _ _ _;
   between = c.new-held.ensures.held;
-  within = omega (arith, c.requires.new.none);
-  read = c.requires.new.no_read_failed;
-  wrote = c.requires.new.no_write_failed;
+  within = c.requires.within;
+  read = c.requires.no_read_failed;
+  wrote = c.requires.no_write_failed;
 }
 
 pub fill_item-requires-clause-lawful : goal.fill_item-requires-clause-lawful
@@ -90,7 +88,7 @@ loop-copied-preserved g c =
     let filled = rw c.in-Some.is at c.in_ok-head.ensures.fills in
     let wrote = c.in_ok-put_held.ensures.out in
     record {
-      so_far = copying_more _ _ _ _ _ _ _ _ _ wrote.0 c.loop-copied.invariant.so_far
+      so_far = on_more _ _ _ _ _ _ _ _ _ _ wrote.0 c.loop-copied.invariant.so_far
           (held_bytes c.fill_item.new.held, (reader_whole packet_limit c.args.header.now _ [] wrote.0 (rw c.as_slice.ensures at wrote.1)).1, filled.4) wrote.2;
       between = c.clear.ensures.held;
       within = omega (arith, c.loop-copied-test.true);

@@ -1,15 +1,8 @@
-use Rattle.std.proofs.Common.{inl, inr}
 use Rattle.std.proofs.lemmas.Result.{err_from_is_err_and}
-use Rattle.std.proofs.KnownBytes.{Keeps-refl}
+use Rattle.pcap_classic.proofs.Copied.{not_begun}
 use Rattle.pcap_classic.proofs.run.copy.copy_under.Goals as goal
 
 pub returns-in_err-header : goal.returns-in_err-header
 returns-in_err-header g c =
     let p = err_from_is_err_and c.from_residual.result c.from_residual.ensures.1 in
-    inr (inl (record {
-      valid = c.is_writable.ensures.0 c.if-not-is_writable.false;
-      refused = rw (p.1, p.2) c.in_err-header.ensures;
-      none = c.requires.none;
-      no_write_failed = c.requires.no_write_failed;
-      out = Keeps-refl _;
-    }))
+    rw (p.1, p.2) (not_begun _ _ _ _ _ c.args.most _ c.in_err-header.ensures)

@@ -1,10 +1,13 @@
 use Rattle.std.proofs.Common.{◌≡◌, ◌≤◌, ◌<◌, ◌∷◌, [], ◌++◌, length, drop, map, refl, ap, ◌∙◌, arith, length-drop}
 use Rattle.std.proofs.lemmas.Grind.{common_steps}
+use Rattle.std.proofs.lemmas.Result.{err_from_is_err_and}
 use Rattle.std.proofs.lemmas.List.{map_push, length-take-le}
 use Rattle.std.proofs.lemmas.List.Elements.{All-push}
 use Rattle.pcap_core.specs.Bytes.{IsBorrowed}
 use Rattle.pcap_core.specs.Window.{bytes_of, shown_of}
 use Rattle.pcap_core.proofs.Formats.{shorter}
+use Rattle.pcap_core.proofs.Fronts.{front_some}
+use Rattle.pcap_core.proofs.Requested.{item_texts}
 use Rattle.pcap_core.proofs.Showing.{exacting_item, exacting_rest, exacting_few, exacting_long}
 use Rattle.pcap_classic.specs.PacketText.{packet_limit, content_of}
 use Rattle.pcap_classic.specs.Packets.{format_under}
@@ -70,3 +73,13 @@ returns-in-Refused-clause-items c =
     let some : 0 < length (drop shown bytes) = omega (arith, left, ap length c.loop-window.invariant.bytes, length-drop shown bytes) in
     let used : length c.seen-used.result.now ≡ shown = ap length c.seen-used.ensures.seen ∙ length-take-le _ _ c.seen-used.ensures.within in
     rw used (exacting_rest c.loop-window.invariant.items refl refl within some asked found)
+
+pub returns-in_err-push-in-Item-clause-memory : goal.returns-in_err-push-in-Item-clause-memory
+returns-in_err-push-in-Item-clause-memory c =
+    let f = format_under packet_limit (header_of c.args.parser.now) in
+    let laws = under_lawful packet_limit (header_of c.args.parser.now) in
+    let packets = map content_of c.loop-window.packets.items in
+    let found = rw (c.in-Item.is, c.loop-window.invariant.bytes) at c.in_ok-packet.ensures.found in
+    let p = err_from_is_err_and c.from_residual-in_err-push-in-Item.result c.from_residual-in_err-push-in-Item.ensures.1 in
+    let texts = item_texts f tt packets _ _ _ c.loop-window.invariant.items.items in
+    rw (p.1, p.2) (tt, front_some f laws tt packets (content_of c.in-Item.packet) _ _ _ texts found)

@@ -1,0 +1,218 @@
+-- Packets that lie one behind the other in a buffer, and go out from there.
+use Rattle.std.proofs.Common.{◌≡◌, ◌≤◌, ◌<◌, ℕ, ◌+◌, ◌-◌, List, [], ◌∷◌, ◌++◌, length, take, drop, refl, ap, sym, ◌∙◌, subst, arith, append_assoc, append-nil, length-append, take-append-drop, length-drop, Bool, Some, None, ◌⊎◌, inl, inr}
+use Rattle.std.specs.Prelude.{Option, IfSome}
+use lib.Seq.{take-append_seam}
+use Rattle.std.proofs.Math.Seq.{drop-append_seam}
+use Rattle.std.proofs.lemmas.Bool.{cases_lt}
+use Rattle.std.proofs.lemmas.List.{append_cancel_right, length-take}
+use Rattle.std.proofs.lemmas.List.Elements.{All-take}
+use Rattle.std.proofs.lemmas.Grind.{flat_map-append}
+use Rattle.std.specs.List.{flat_map}
+use Rattle.std.specs.Io.KnownBytes.{Consumes, Appends, IsAtEnd}
+use Rattle.std.proofs.KnownBytes.{Appends-trans}
+use Rattle.pcap_core.specs.declared.errors.PcapError.{PcapError}
+use Rattle.pcap_classic.specs.declared.pcap.header.PcapHeader.{PcapHeader}
+use Rattle.pcap_core.specs.Answer.{number_in, whole, lacks, faulty, Refuses}
+use Rattle.pcap_core.specs.Bytes.{IsBytes}
+use Rattle.pcap_core.specs.Format.{Texts}
+use Rattle.pcap_core.specs.Reading.{Takes}
+use Rattle.pcap_classic.specs.Copies.{PacketIsSaid, Copying}
+use Rattle.pcap_classic.specs.Magic.{order_of, resolution_of}
+use Rattle.pcap_classic.specs.Packets.{format_under, packet_format}
+use Rattle.pcap_classic.specs.PacketText.{Captured, PacketSays, packet_limit}
+use Rattle.pcap_classic.specs.Stretches.{TakesWhole, SendsWhole, SendsTorn, Sends}
+use Rattle.pcap_classic.specs.Written.{written_under}
+use Rattle.pcap_core.proofs.Formats.{beginning, nil_of_length, text_same, nothing_no_text, texts_more, texts_own, texts_push}
+use Rattle.pcap_core.proofs.Fronts.{stops}
+use Rattle.pcap_classic.proofs.Concrete.{back_bytes, packet_written, packets_written}
+use Rattle.pcap_classic.proofs.Copied.{lawful_under}
+use Rattle.pcap_classic.proofs.Packets.{packets_refuse}
+
+-- what went out in two parts
+appends_apart : (a c : Option (List ℕ)) (first second : List ℕ) → Appends a c (first ++ second) → (b : Option (List ℕ)) × Appends a b first × Appends b c second
+appends_apart None c first second out = (None, tt, tt)
+appends_apart (Some x) None first second out = absurd out
+appends_apart (Some x) (Some z) first second out = (Some (x ++ first), refl, out ∙ sym (append_assoc x first second))
+
+-- what came in two parts
+consumes_apart : (a c : Option (List ℕ)) (first second : List ℕ) → Consumes a c (first ++ second) → (b : Option (List ℕ)) × Consumes a b first × Consumes b c second
+consumes_apart None c first second took = (None, tt, tt)
+consumes_apart (Some x) None first second took = absurd took
+consumes_apart (Some x) (Some z) first second took = (Some (second ++ z), took ∙ append_assoc first second z, refl)
+
+-- the front of bytes that are it and a rest
+front_of : (bytes front rest : List ℕ) (n : ℕ) → bytes ≡ front ++ rest → n + length rest ≡ length bytes → take n bytes ≡ front
+front_of bytes front rest n split count =
+    let long : n ≡ length front = omega (arith, count, ap length split, length-append front rest) in
+    rw (long, split) (take-append_seam front rest)
+
+-- the rest behind a front
+rest_of : (bytes front rest : List ℕ) (n : ℕ) → bytes ≡ front ++ rest → n + length rest ≡ length bytes → drop n bytes ≡ rest
+rest_of bytes front rest n split count =
+    let long : n ≡ length front = omega (arith, count, ap length split, length-append front rest) in
+    rw (long, split) (drop-append_seam front rest)
+
+-- a reader that shows nothing is at its end
+pub shows_nothing : (a : Option (List ℕ)) (n : ℕ) → n ≡ 0 → IfSome a (λ xs. n ≡ 0 → xs ≡ []) → IsAtEnd a
+shows_nothing None n none end = tt
+shows_nothing (Some xs) n none end = end none
+
+module _ (header : PcapHeader) where
+  -- bytes that are refused begin with no packet
+  pub refused_none : (bytes : List ℕ) (e : PcapError)
+      → Refuses ⊥ (λ n. PacketSays packet_limit (number_in (order_of header.magic_number)) (resolution_of header.magic_number) bytes (lacks n))
+      (λ fault. PacketSays packet_limit (number_in (order_of header.magic_number)) (resolution_of header.magic_number) bytes (faulty fault)) e
+      → (packet : Captured) (after : List ℕ) → PacketIsSaid header bytes (whole packet after) → ⊥
+  refused_none bytes e refuses packet after text =
+      let f = format_under packet_limit header in
+      elim (cases_lt 0 (length bytes)) [
+        | inl some ↦ (stops f (lawful_under header) tt bytes e some (packets_refuse packet_limit (number_in (order_of header.magic_number)) (resolution_of header.magic_number) tt bytes e refuses)).longest packet after text
+        | inr none ↦ nothing_no_text f (lawful_under header) tt packet after (subst (λ (s : List ℕ). PacketIsSaid header s (whole packet after)) (nil_of_length bytes (omega (arith, none))) text)
+      ]
+
+  -- the rest lies in the bytes
+  pub rest_within : (bytes rest : List ℕ) (packets : List Captured) → Texts (format_under packet_limit header) tt packets bytes rest → length rest ≤ length bytes
+  rest_within bytes rest packets texts =
+      let own = texts_own (format_under packet_limit header) (lawful_under header) tt packets bytes rest texts in
+      omega (arith, ap length own.1, length-append own.0 rest)
+
+  -- of two rows of packets at the front of the same bytes, that which leaves fewer is longer, and goes on with a packet
+  goes_on : (ks ps : List Captured) (s mid rest : List ℕ) → Texts (format_under packet_limit header) tt ks s mid → Texts (format_under packet_limit header) tt ps s rest
+      → length rest < length mid → (packet : Captured) × (after : List ℕ) × PacketIsSaid header mid (whole packet after) × (length ks < length ps)
+  goes_on [] [] s mid rest x y less = absurd (omega (arith, less, ap length x, ap length y))
+  goes_on [] (p ∷ ps) s mid rest x y less = (p, y.0, subst (λ (t : List ℕ). PacketIsSaid header t (whole p y.0)) x y.1, omega arith)
+  goes_on (k ∷ ks) [] s mid rest x y less = absurd (omega (arith, less, rest_within s mid (k ∷ ks) x, ap length y))
+  goes_on (k ∷ ks) (p ∷ ps) s mid rest x y less =
+      let one = text_same (format_under packet_limit header) (lawful_under header) tt p k s y.0 x.0 y.1 x.1 in
+      let more = goes_on ks ps x.0 mid rest x.2 (subst (λ (t : List ℕ). Texts (format_under packet_limit header) tt ps t rest) one.1 y.2) less in
+      (more.0, more.1, more.2, omega (arith, more.3))
+
+  -- one packet more
+  pub sends_more : (text : Captured → List ℕ) (bytes rest after : List ℕ) (a b c : Option (List ℕ)) (n : ℕ) (packet : Captured) → SendsWhole header text bytes rest a b n
+      → PacketIsSaid header rest (whole packet after) → Appends b c (text packet) → SendsWhole header text bytes after a c (n + 1)
+  sends_more text bytes rest after a b c n packet so_far next out =
+      let goes : flat_map text (so_far.packets ++ packet ∷ []) ≡ flat_map text so_far.packets ++ text packet =
+      flat_map-append text so_far.packets (packet ∷ []) ∙ ap (λ l. flat_map text so_far.packets ++ l) (append-nil (text packet)) in
+      record {
+        packets = so_far.packets ++ packet ∷ [];
+        count = length-append so_far.packets (packet ∷ []) ∙ omega (arith, so_far.count);
+        texts = texts_push (format_under packet_limit header) tt so_far.packets packet bytes rest after so_far.texts next;
+        out = subst (λ l. Appends a c l) (sym goes) (Appends-trans a b c (flat_map text so_far.packets) (text packet) so_far.out out);
+      }
+
+  -- where one packet stands, it is the one that is taken
+  one_taken : (middle rest after : List ℕ) (n : ℕ) (packet : Captured) (qs : List Captured) → length qs ≡ n → Texts (format_under packet_limit header) tt qs middle rest → n ≤ 1
+      → (n ≡ 1) ⊎ ((p : Captured) (r : List ℕ) → PacketIsSaid header rest (whole p r) → ⊥) → PacketIsSaid header middle (whole packet after) → after ≡ rest
+  one_taken middle rest after n packet [] count texts within ends text =
+      elim ends [ inl one ↦ absurd (omega (arith, one, count)) | inr none ↦ absurd (none packet after (subst (λ (t : List ℕ). PacketIsSaid header t (whole packet after)) texts text)) ]
+  one_taken middle rest after n packet (q ∷ []) count texts within ends text =
+      (text_same (format_under packet_limit header) (lawful_under header) tt packet q middle after texts.0 text texts.1).1 ∙ texts.2
+  one_taken middle rest after n packet (q ∷ r ∷ qs) count texts within ends text = absurd (omega (arith, count, within))
+
+  -- all packets of a row went out
+  pub all_sent : (bytes rest : List ℕ) (a b : Option (List ℕ)) (most n used : ℕ) → IsBytes bytes → (all : TakesWhole header bytes rest most n) → used + length rest ≡ length bytes
+      → Appends a b (take used bytes) → SendsWhole header (written_under header) bytes rest a b n
+  all_sent bytes rest a b most n used fits all count out =
+      let written = packets_written packet_limit (order_of header.magic_number) (resolution_of header.magic_number) all.packets bytes rest fits all.texts in
+      record {
+        packets = all.packets;
+        count = all.count;
+        texts = all.texts;
+        out = subst (λ (l : List ℕ). Appends a b l) (front_of bytes (flat_map (written_under header) all.packets) rest used written count) out;
+      }
+
+  packet_bytes : (s rest : List ℕ) (packet : Captured) → IsBytes s → PacketIsSaid header s (whole packet rest) → s ≡ written_under header packet ++ rest
+  unfolding packet_format
+  packet_bytes s rest packet fits text = (packet_written packet_limit (order_of header.magic_number) (resolution_of header.magic_number) packet s rest fits text).0
+
+  -- a write failed among the packets of a row, behind so many bytes: those that went out whole, and the next, which is torn
+  pub torn_sent : (bytes rest begun behind : List ℕ) (a b : Option (List ℕ)) (most n k j used gone : ℕ) → IsBytes bytes → TakesWhole header bytes rest most n → used + length rest ≡ length bytes
+      → gone < used → Appends a b (take gone bytes) → TakesWhole header (take gone bytes) begun most k → TakesWhole header (drop (gone - length begun) bytes) behind 1 j
+      → SendsTorn header (written_under header) bytes behind a b k × (k < most)
+  torn_sent bytes rest begun behind a b most n k j used gone fits all count less out whole_ones one =
+      let f = format_under packet_limit header in
+      let laws = lawful_under header in
+      let e = order_of header.magic_number in
+      let r = resolution_of header.magic_number in
+      let front = take gone bytes in
+      let back = drop gone bytes in
+      let middle = begun ++ back in
+      let split : front ++ back ≡ bytes = take-append-drop gone bytes in
+      let texts : Texts f tt whole_ones.packets bytes middle = subst (λ (s : List ℕ). Texts f tt whole_ones.packets s middle) split (texts_more f laws tt whole_ones.packets front begun back whole_ones.texts) in
+      let own = texts_own f laws tt whole_ones.packets bytes middle texts in
+      let front_length : length front ≡ gone = omega (arith, count, less, length-take gone bytes) in
+      let back_length : gone + length back ≡ length bytes = omega (arith, count, less, length-drop gone bytes) in
+      let begun_within = rest_within front begun whole_ones.packets whole_ones.texts in
+      let middle_length : length middle ≡ length begun + length back = length-append begun back in
+      let next = goes_on whole_ones.packets all.packets bytes middle rest texts all.texts (omega (arith, count, less, back_length, middle_length)) in
+      let fewer : k < most = omega (arith, next.3, all.within, all.count, whole_ones.count) in
+      let longest : (p : Captured) (s : List ℕ) → PacketIsSaid header begun (whole p s) → ⊥ = elim whole_ones.stops [ inl full ↦ absurd (omega (arith, full, fewer)) | inr none ↦ none ] in
+      let at : drop (gone - length begun) bytes ≡ middle =
+      rest_of bytes own.0 middle (gone - length begun) own.1 (omega (arith, back_length, middle_length, front_length, begun_within)) in
+      let taken : TakesWhole header middle behind 1 j = subst (λ (s : List ℕ). TakesWhole header s behind 1 j) at one in
+      let after_is = one_taken middle behind next.1 j next.0 taken.packets taken.count taken.texts taken.within taken.stops next.2 in
+      let text : PacketIsSaid header middle (whole next.0 behind) = subst (λ (s : List ℕ). PacketIsSaid header middle (whole next.0 s)) after_is next.2 in
+      let whole_fits : IsBytes middle = back_bytes own.0 middle (subst IsBytes own.1 fits) in
+      let written = packet_bytes middle behind next.0 whole_fits text in
+      let alone : PacketIsSaid header (written_under header next.0) (whole next.0 []) =
+      let o = laws.own tt middle behind next.0 text in
+      subst (λ (s : List ℕ). PacketIsSaid header s (whole next.0 [])) (append_cancel_right o.0 (written_under header next.0) behind (sym o.1 ∙ written)) o.2 in
+      let longer : length begun < length (written_under header next.0) = elim (cases_lt (length begun) (length (written_under header next.0))) [
+        | inl lt ↦ lt
+        | inr ge ↦
+            let z = beginning (written_under header next.0) behind begun back (sym written) ge in
+            absurd (longest next.0 z.0 (subst (λ (s : List ℕ). PacketIsSaid header s (whole next.0 z.0)) (sym z.1) ((laws.stable tt).text (written_under header next.0) z.0 [] next.0 alone)))
+      ] in
+      let w = beginning begun back (written_under header next.0) behind written (omega (arith, longer)) in
+      let front_written = packets_written packet_limit e r whole_ones.packets front begun (All-take (λ byte. byte < 256) gone bytes fits) whole_ones.texts in
+      let apart = appends_apart a b (flat_map (written_under header) whole_ones.packets) begun (subst (λ (l : List ℕ). Appends a b l) front_written out) in (
+        record {
+          middle = middle;
+          mid = apart.0;
+          whole_ones = record { packets = whole_ones.packets; count = whole_ones.count; texts = texts; out = apart.1 };
+          packet = next.0;
+          next = text;
+          out = (w.0, omega (arith, longer, ap length w.1, length-append begun w.0), record { gone = begun; split = w.1; out = apart.2 });
+        },
+        fewer,
+      )
+
+  pub sends_within : (text : Captured → List ℕ) (bytes rest : List ℕ) (a b : Option (List ℕ)) (most n : ℕ) (old new : Bool) (fault : Option PcapError)
+      → Sends header text bytes rest a b most n old new fault → length rest ≤ length bytes
+  sends_within text bytes rest a b most n old new None sends = rest_within bytes rest sends.0.packets sends.0.texts
+  sends_within text bytes rest a b most n old new (Some e) sends =
+      let torn = sends.0 in
+      rest_within bytes rest (torn.whole_ones.packets ++ torn.packet ∷ []) (texts_push (format_under packet_limit header) tt torn.whole_ones.packets torn.packet bytes torn.middle rest torn.whole_ones.texts torn.next)
+
+  module _ (out : PcapHeader) where
+    -- what went out whole was taken
+    pub whole_taken : (shown rest : List ℕ) (a c p q : Option (List ℕ)) (n used : ℕ) → used + length rest ≡ length shown → Consumes a c (take used shown)
+        → SendsWhole header (written_under out) shown rest p q n → Copying header out a c p q n
+    whole_taken shown rest a c p q n used count took sent =
+        let own = texts_own (format_under packet_limit header) (lawful_under header) tt sent.packets shown rest sent.texts in
+        record {
+          packets = sent.packets;
+          count = sent.count;
+          took = record { bytes = own.0; texts = own.2; took = subst (λ (l : List ℕ). Consumes a c l) (front_of shown own.0 rest used own.1 count) took };
+          out = sent.out;
+        }
+
+    -- and so was the packet that was torn
+    pub torn_taken : (shown rest : List ℕ) (a c p q : Option (List ℕ)) (n used : ℕ) → used + length rest ≡ length shown → Consumes a c (take used shown)
+        → (sent : SendsTorn header (written_under out) shown rest p q n) → (b : Option (List ℕ)) × Copying header out a b p sent.mid n × Takes (PacketIsSaid header) b c sent.packet
+    torn_taken shown rest a c p q n used count took sent =
+        let f = format_under packet_limit header in
+        let laws = lawful_under header in
+        let own = texts_own f laws tt sent.whole_ones.packets shown sent.middle sent.whole_ones.texts in
+        let next = laws.own tt sent.middle rest sent.packet sent.next in
+        let split : shown ≡ (own.0 ++ next.0) ++ rest = own.1 ∙ ap (λ l. own.0 ++ l) next.1 ∙ sym (append_assoc own.0 next.0 rest) in
+        let apart = consumes_apart a c own.0 next.0 (subst (λ (l : List ℕ). Consumes a c l) (front_of shown (own.0 ++ next.0) rest used split count) took) in (
+          apart.0,
+          record {
+            packets = sent.whole_ones.packets;
+            count = sent.whole_ones.count;
+            took = record { bytes = own.0; texts = own.2; took = apart.1 };
+            out = sent.whole_ones.out;
+          },
+          (next.0, next.2, apart.2),
+        )

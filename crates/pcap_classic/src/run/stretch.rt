@@ -1,0 +1,131 @@
+//! Whole packets that lie one behind the other in a buffer, and go out from there.
+
+ghost use Rattle.std.specs.Prelude.{◌≡◌, ◌≤◌, ◌<◌, ◌+◌, ◌-◌, length, take, IsTrue};
+ghost use Rattle.pcap_core.specs.Bytes.{IsBytes};
+ghost use Rattle.pcap_classic.specs.Magic.{is_magic};
+ghost use Rattle.pcap_classic.specs.Stretches.{TakesWhole, Sends};
+ghost use Rattle.pcap_classic.specs.Written.{written_under};
+
+use crate::pcap::{PcapHeader, packet_under, put_packet};
+use pcap_core::PcapError;
+use pcap_core::stream::{Torn, put_or_tear};
+use std::io::Write;
+
+// What of a buffer went out.
+pub(crate) struct Sent<'a> {
+    // How many whole packets.
+    pub(crate) packets: u64,
+    // What follows them, and the packet in which a write failed.
+    pub(crate) rest: &'a [u8],
+    // The write that failed.
+    pub(crate) fault: Option<PcapError>,
+}
+
+// Writes the whole packets at the front of a buffer, at most so many.
+pub(crate) fn put_shown<'a, W: Write>(
+    writer: &mut W,
+    has_failed: &mut bool,
+    header: &PcapHeader,
+    out: &PcapHeader,
+    shown: &'a [u8],
+    most: u64,
+) -> Sent<'a>
+    requires read { IsTrue (is_magic header.now.magic_number) }
+    requires written { IsTrue (is_magic out.now.magic_number) }
+    ensures { Sends header.now (written_under out.now) shown.now result.rest.now (W.contents writer.old) (W.contents writer.new) most result.packets has_failed.old has_failed.new result.fault }
+{
+    if header.magic_number == out.magic_number {
+        put_stretch(writer, has_failed, header, shown, most)
+    } else {
+        put_each(writer, has_failed, header, out, shown, most)
+    }
+}
+
+// Writes them one by one.
+fn put_each<'a, W: Write>(
+    writer: &mut W,
+    has_failed: &mut bool,
+    header: &PcapHeader,
+    out: &PcapHeader,
+    shown: &'a [u8],
+    most: u64,
+) -> Sent<'a>
+    requires read { IsTrue (is_magic header.now.magic_number) }
+    requires written { IsTrue (is_magic out.now.magic_number) }
+    ensures { Sends header.now (written_under out.now) shown.now result.rest.now (W.contents writer.old) (W.contents writer.new) most result.packets has_failed.old has_failed.new result.fault }
+{
+    let mut packets = 0;
+    let mut rest = shown;
+    while packets < most {
+        let Ok((after, packet)) = packet_under(header, rest) else {
+            return Sent {
+                packets,
+                rest,
+                fault: None,
+            };
+        };
+        rest = after;
+        if let Err(error) = put_packet(writer, has_failed, out, &packet) {
+            return Sent {
+                packets,
+                rest,
+                fault: Some(error),
+            };
+        }
+        packets += 1;
+    }
+    Sent {
+        packets,
+        rest,
+        fault: None,
+    }
+}
+
+// Writes them at once, as they came.
+fn put_stretch<'a, W: Write>(
+    writer: &mut W,
+    has_failed: &mut bool,
+    header: &PcapHeader,
+    shown: &'a [u8],
+    most: u64,
+) -> Sent<'a>
+    requires read { IsTrue (is_magic header.now.magic_number) }
+    ensures { Sends header.now (written_under header.now) shown.now result.rest.now (W.contents writer.old) (W.contents writer.new) most result.packets has_failed.old has_failed.new result.fault }
+{
+    let (packets, rest) = whole_packets(header, shown, most);
+    let stretch = &shown[..shown.len() - rest.len()];
+    match put_or_tear(writer, has_failed, stretch) {
+        Ok(()) => Sent {
+            packets,
+            rest,
+            fault: None,
+        },
+        Err(Torn { gone, error }) => {
+            let (packets, begun) = whole_packets(header, &shown[..gone], most);
+            let (_, rest) = whole_packets(header, &shown[gone - begun.len()..], 1);
+            Sent {
+                packets,
+                rest,
+                fault: Some(error),
+            }
+        }
+    }
+}
+
+// The whole packets at the front of the bytes, at most so many: how many these are, and what follows them.
+#[inline(always)]
+fn whole_packets<'a>(header: &PcapHeader, bytes: &'a [u8], most: u64) -> (u64, &'a [u8])
+    requires { IsTrue (is_magic header.now.magic_number) }
+    ensures { TakesWhole header.now bytes.now result.1.now most result.0 }
+{
+    let mut packets = 0;
+    let mut rest = bytes;
+    while packets < most {
+        let Ok((after, _)) = packet_under(header, rest) else {
+            return (packets, rest);
+        };
+        rest = after;
+        packets += 1;
+    }
+    (packets, rest)
+}
