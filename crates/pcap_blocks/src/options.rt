@@ -252,13 +252,15 @@ fn option_from_slice<'a, O: PcapNgOption<'a>, B: ByteOrder>(
 
 // Puts an option behind the others; the first one makes room for a few, so that most lists grow once.
 #[inline(always)]
-fn append<O: Drop>(options: &mut Vec<O>, option: O) -> Result<(), AllocError>
+fn append<O: Drop>(alloc: Global, options: &mut Vec<O>, option: O) -> Result<(), AllocError>
     ensures items { OnOk result (options.new.items ≡ options.old.items ++ option ∷ []) }
 {
     if options.is_empty() {
-        options.reserve(8)?;
+        *options = Vec::with_capacity(alloc, 8)?;
+        options.push_reserved(option);
+    } else {
+        options.push(option)?;
     }
-    options.push(option)?;
     Ok(())
 }
 
@@ -277,7 +279,7 @@ pub(crate) fn options_from_slice<'a, O: PcapNgOption<'a> + Drop, B: ByteOrder>(
         rest = after;
         match option {
             None => return Ok((rest, options)),
-            Some(option) => append(&mut options, option)?,
+            Some(option) => append(alloc, &mut options, option)?,
         }
     }
     Ok((rest, options))
