@@ -1,7 +1,8 @@
 -- What refuses a block's frame off a stream refuses the block.
-use Rattle.std.proofs.Common.{◌≡◌, ℕ, List, [], take, Bool, false, Some, None, Ok, Err, subst, inl, inr, ◌⊎◌}
+use Rattle.std.proofs.Common.{◌≡◌, ℕ, List, [], take, Bool, false, Some, None, Ok, Err, subst, inl, inr, ◌⊎◌, arith}
 use Rattle.std.specs.Prelude.{Option, IfSome, Result, ⊤}
-use Rattle.std.specs.Io.KnownBytes.{Consumes}
+use Rattle.std.specs.Io.KnownBytes.{Consumes, Keeps}
+use Rattle.std.proofs.KnownBytes.{Consumes-nil, Consumes-kept}
 use Rattle.pcap_core.specs.declared.errors.PcapError.{PcapError}
 use Rattle.pcap_core.specs.declared.common.Endianness.{Endianness}
 use Rattle.pcap_core.specs.declared.common.Endianness.TheVariants.{Big}
@@ -117,6 +118,15 @@ opening_refused before failed e (read_failed io is) = inl io
 opening_refused before failed e (no_memory memory is) = inr (inl memory)
 opening_refused before failed e (torn io is rest) = inl io
 opening_refused before failed e (refused shown is) = inr (inr (shows_more (opening_fault before) e shown))
+
+-- no more was taken of the first block than was asked for
+pub opening_asked : (before after : Option (List ℕ)) → TakesAsked (block_format.says opening) before after → TakesAsked OpeningSays before after
+unfolding block_format
+opening_asked before after x = record { taken = x.taken; from_stream = x.from_stream; asked = λ n less. record { n = (x.asked n less).n; lack = (x.asked n less).lack } }
+
+-- nothing of it was taken
+pub opening_kept : (before after : Option (List ℕ)) → Keeps before after → TakesAsked OpeningSays before after
+opening_kept before after kept = record { taken = []; from_stream = Consumes-kept _ _ _ [] (Consumes-nil before) kept; asked = λ n less. absurd (omega (arith, less)) }
 
 -- what is said of the first block, by the format of all blocks
 pub opening_says : (M : Type 0) (held : List ℕ) (e : PcapError) → Refuses M (λ n. ⊥) (λ f. OpeningSays held (faulty f)) e → Refuses M (λ n. ⊥) (λ f. block_format.says opening held (faulty f)) e

@@ -1,11 +1,13 @@
 -- What is said of a first block, from what is said of blocks.
-use Rattle.std.proofs.Common.{◌≡◌, ℕ, List, refl, ap, ◌∙◌}
+use Rattle.std.proofs.Common.{◌≡◌, ◌++◌, ℕ, List, refl, ap, ◌∙◌}
 use Rattle.pcap_core.specs.Answer.{Verdict, whole, lacks, faulty}
 use Rattle.pcap_core.specs.Laws.{ExactlyOne, IsStable}
-use Rattle.pcap_file.specs.Blocks.{Item, BlockSays, block_format}
+use Rattle.pcap_file.specs.Blocks.{Item, BlockSays, MayGrow, block_format}
+use Rattle.pcap_file.specs.Frames.{frame_format}
 use Rattle.pcap_file.specs.Opening.{OpeningSays}
-use Rattle.pcap_file.specs.State.{State, opening}
+use Rattle.pcap_file.specs.State.{State, opening, order_at}
 use Rattle.pcap_file.proofs.BlockFormat.{block_one, blocks_lawful}
+use Rattle.pcap_file.proofs.HeadedFrames.{frames_lawful}
 
 -- the verdict of a block, with the state after it alone
 state_verdict : Verdict Item → Verdict State
@@ -37,6 +39,11 @@ opening_one s =
 pub block_stable : (q : State) → IsStable (BlockSays q)
 unfolding block_format
 block_stable q = blocks_lawful.stable q
+
+-- what may grow may also grow before more bytes
+pub grows_more : (q : State) (s more : List ℕ) → MayGrow q s → MayGrow q (s ++ more)
+unfolding frame_format
+grows_more q s more x = record { block = x.block; rest = x.rest ++ more; frame = (frames_lawful.stable (order_at q)).text s more x.rest x.block x.frame; grows = x.grows }
 
 pub opening_stable : IsStable OpeningSays
 opening_stable =

@@ -1,7 +1,7 @@
 -- What a reader of blocks shows.
 use Rattle.std.specs.Prelude.{◌≡◌, ℕ, List, map, Bool, false, Option, Some, Result, Ok, Err}
 use Rattle.pcap_core.specs.declared.errors.PcapError.{PcapError}
-use Rattle.pcap_core.specs.Fill as fill
+use Rattle.pcap_core.specs.Held.{held_bytes}
 use Rattle.pcap_core.specs.Reading.{Takes}
 use Rattle.pcap_blocks.specs.SectionHeader.{Section, section_of}
 use Rattle.pcap_blocks.specs.InterfaceDescription.{Interface, interface_of}
@@ -26,11 +26,11 @@ state_of reader = within (section_in_force reader) (interfaces_in_force reader)
 
 -- the stream that a reader wraps
 abbrev pub stream_of : {T : Type 0} → PcapNgReader T → T
-stream_of reader = fill.stream_of reader.fill
+stream_of reader = reader.inner
 
 -- a read of it failed
 abbrev pub has_failed : {T : Type 0} → PcapNgReader T → Bool
-has_failed reader = fill.has_failed reader.fill
+has_failed reader = reader.has_failed
 
 -- the reader has refused something
 abbrev pub is_done : {T : Type 0} → PcapNgReader T → Bool
@@ -38,11 +38,11 @@ is_done reader = reader.is_done
 
 -- the body that a reader lends: that of the block that it holds
 abbrev pub body_of : {T : Type 0} → PcapNgReader T → List ℕ
-body_of reader = body_in (fill.held_of reader.fill)
+body_of reader = body_in (held_bytes reader.held)
 
 -- the block of this header and the body that a reader lends, and what is in force after it
 abbrev pub lent_item : {T : Type 0} → PcapNgReader T → BlockHeader → Item
-lent_item reader header = held_item (state_of reader) (fill.held_of reader.fill) header
+lent_item reader header = held_item (state_of reader) (held_bytes reader.held) header
 
 -- one call that makes a reader: the first block's text was taken and no more, and nothing failed; or the call is refused
 abbrev pub OpensReader : {T : Type 0} → (T → Option (List ℕ)) → T → Result (PcapNgReader T) PcapError → Type 0

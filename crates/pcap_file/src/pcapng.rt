@@ -8,6 +8,7 @@ mod framing;
 mod parser;
 mod reader;
 mod state;
+mod taking;
 
 pub use block::Block;
 pub use block_header::BlockHeader;

@@ -4,20 +4,22 @@ mod exact;
 mod find;
 mod pieces;
 
-ghost use Rattle.std.specs.Prelude.{◌≡◌, ⊤, false, All, IfOk, IfErr, IfSome, map};
+ghost use Rattle.std.specs.Prelude.{◌≡◌, false, All, IfOk, IfErr, IfSome, map};
 ghost use Rattle.pcap_file.specs.Frames.{framed_of};
 ghost use Rattle.pcap_file.specs.Reader.{state_of, stream_of, has_failed, is_done};
 ghost use Rattle.pcap_file.specs.Reads.{TakesBlocks, TakesNg, ReadsNg};
 ghost use Rattle.pcap_core.specs.Answer.{Refuses, lacks, faulty};
 ghost use Rattle.pcap_core.specs.Bytes.{IsBorrowed};
 ghost use Rattle.pcap_file.specs.Opening.{OpeningSays, RefusesOpening};
+ghost use Rattle.pcap_file.specs.Blocks.{MayGrow};
 ghost use Rattle.pcap_file.specs.Run.{IsRun, RestTells};
+ghost use Rattle.pcap_file.specs.State.{opening};
 
 use crate::pcapng::{Block, PcapNgParser, PcapNgReader};
 pub use exact::exact_pcapng;
 pub use pcap_classic::run::{
-    Copied, PcapRead, PcapRun, Rest, Under, Window, copy_pcap, exact_pcap, parse_pcap, pieces_fit,
-    pieces_pcap, read_pcap,
+    Copied, PcapRead, PcapRun, Rest, Under, Window, copy_buffered, copy_pcap, exact_pcap,
+    parse_pcap, pieces_fit, pieces_pcap, read_pcap,
 };
 use pcap_core::{PcapError, ResultParsing};
 pub use pieces::pieces_pcapng;
@@ -59,7 +61,7 @@ fn rest_of(error: PcapError) -> ResultParsing<Rest>
 pub fn parse_pcapng<'a>(alloc: Global, bytes: &'a [u8]) -> ResultParsing<NgRun<'a>>
     ensures front { IfOk result (λ run. IsRun run bytes.now) }
     ensures borrowed { IfOk result (λ run. All (λ block. IsBorrowed block.body) run.blocks.items) }
-    ensures refused { IfErr result (Refuses ⊤ (λ n. OpeningSays bytes.now (lacks n)) (λ fault. OpeningSays bytes.now (faulty fault))) }
+    ensures refused { IfErr result (Refuses (MayGrow opening bytes.now) (λ n. OpeningSays bytes.now (lacks n)) (λ fault. OpeningSays bytes.now (faulty fault))) }
 {
     let (after_first, mut parser) = PcapNgParser::new(alloc, bytes)?;
     let mut blocks = Vec::new(alloc);

@@ -10,4 +10,6 @@ mod reader;
 #[cfg(test)]
 mod runs;
 #[cfg(test)]
+mod taking;
+#[cfg(test)]
 mod told;

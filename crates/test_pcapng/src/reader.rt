@@ -108,6 +108,19 @@ fn most_blocks(rt: HostRuntime) -> Result<(), Fail> {
     Ok(())
 }
 
+/// Blocks behind a section and an interface that are refused, and what a call tells of them.
+pub const REFUSED_BLOCKS: &str = r#"
+    000000ff 0000000d => UnexpectedEof
+    000000ff fffffffc 00000000 => UnexpectedEof
+    000000ff 0000000d 00000000 => InvalidField("Block: (initial_len % 4) != 0")
+    000000ff 00000008 00000000 => InvalidField("Block: initial_len < 12")
+    000000ff 0000000c 00000010 => InvalidField("Block initial_length != trailer_length")
+    00000001 00000010 00000001 00000010 00 => InvalidField("InterfaceDescriptionBlock: block length < 8")
+    0a0d0d0a 10000000 4d3c2b1a 10000000 => InvalidField("SectionHeaderBlock: block length < 16")
+    00000001 0000001c 0001 0000 00040000 0bac 0003 616263 00 0000001c => UnexpectedEof
+    => None
+"#;
+
 // Whether no reader is made of a stream.
 fn makes_none<T: Read + Drop>(alloc: Global, stream: T) -> bool {
     PcapNgReader::new(alloc, stream).is_err()
@@ -156,19 +169,8 @@ fn next(alloc: Global, reader: &mut PcapNgReader<Halting>) -> Result<String, Fai
 
 #[test]
 fn refused_blocks(rt: HostRuntime) -> Result<(), Fail> {
-    let table = r#"
-        000000ff 0000000d => UnexpectedEof
-        000000ff fffffffc 00000000 => UnexpectedEof
-        000000ff 0000000d 00000000 => InvalidField("Block: (initial_len % 4) != 0")
-        000000ff 00000008 00000000 => InvalidField("Block: initial_len < 12")
-        000000ff 0000000c 00000010 => InvalidField("Block initial_length != trailer_length")
-        00000001 00000010 00000001 00000010 00 => InvalidField("InterfaceDescriptionBlock: block length < 8")
-        0a0d0d0a 10000000 4d3c2b1a 10000000 => InvalidField("SectionHeaderBlock: block length < 16")
-        00000001 0000001c 0001 0000 00040000 0bac 0003 616263 00 0000001c => UnexpectedEof
-        => None
-    "#;
     for step in [1, 100] {
-        for (digits, told) in rows(rt.alloc(), table)? {
+        for (digits, told) in rows(rt.alloc(), REFUSED_BLOCKS)? {
             let mut all = bytes(rt.alloc(), "00000001 00000014 0001 0000 00040000 00000014")?;
             all.extend_from_slice(bytes(rt.alloc(), digits)?.as_slice())?;
             let mut whole = Vec::from_slice(rt.alloc(), &SECTION)?;

@@ -1,20 +1,24 @@
 //! A parser of a capture that comes in slices.
 
-ghost use Rattle.std.specs.Prelude.{◌≡◌, IfOk, OnErr, map, option_map, slice_get};
+ghost use Rattle.std.specs.Prelude.{◌≡◌, IfOk, IfErr, OnErr, map, option_map, slice_get};
 ghost use Rattle.pcap_core.specs.Answer.{TellsWhere};
 ghost use Rattle.pcap_core.specs.Bytes.{IsBorrowed};
+ghost use Rattle.pcap_core.specs.Reading.{Takes, TakesAsked};
 ghost use Rattle.pcap_blocks.specs.InterfaceDescription.{interface_of};
 ghost use Rattle.pcap_blocks.specs.SectionHeader.{section_of};
 ghost use Rattle.pcap_file.specs.Blocks.{item_of, BlockSays, MayGrow};
-ghost use Rattle.pcap_file.specs.Opening.{OpeningSays};
-ghost use Rattle.pcap_file.specs.Parser.{state_of, section_in_force, interfaces_in_force};
-ghost use Rattle.pcap_file.specs.State.{opening};
+ghost use Rattle.pcap_file.specs.Opening.{OpeningSays, RefusesOpening};
+ghost use Rattle.pcap_file.specs.Parser.{state_of, section_in_force, interfaces_in_force, ReadsBlock};
+ghost use Rattle.pcap_file.specs.State.{opening, StaysUnlessTaken};
 
 use crate::pcapng::block::Block;
 use crate::pcapng::state::InForce;
+use crate::pcapng::taking::{open, pull};
 use pcap_blocks::{EnhancedPacketBlock, InterfaceDescriptionBlock, SectionHeaderBlock};
+use pcap_core::stream::Held;
 use pcap_core::{Endianness, ResultParsing};
 use std::alloc::Global;
+use std::io::Read;
 
 /// Parser of a PcapNg capture: it holds the section in force and its interfaces, and gives a block for each slice that
 /// begins with one.
@@ -39,6 +43,22 @@ impl PcapNgParser {
         Ok((rest, PcapNgParser { alloc, in_force }))
     }
 
+    /// The parser after the section header at the front of a stream, of which exactly that block is taken. A refused call has
+    /// taken no more than was missing.
+    ///
+    /// The refusals are those of `new`, but where that one would ask for bytes: `IoError` where the stream ended early, or a
+    /// read failed. `OutOfMemory` where something can't grow.
+    pub fn from_reader<R: Read>(alloc: Global, reader: &mut R) -> ResultParsing<PcapNgParser>
+        ensures takes { IfOk result (λ parser. Takes OpeningSays (R.remaining reader.old) (R.remaining reader.new) (state_of parser)) }
+        ensures refused { IfErr result (RefusesOpening (R.remaining reader.old)) }
+        ensures asked { OnErr result (TakesAsked OpeningSays (R.remaining reader.old) (R.remaining reader.new)) }
+    {
+        let mut has_failed = false;
+        let mut held = Held::new(alloc);
+        let in_force = open(alloc, reader, &mut has_failed, &mut held)?;
+        Ok(PcapNgParser { alloc, in_force })
+    }
+
     /// The block at the front of a slice, and what follows it. Its body is borrowed from the slice. A section header
     /// becomes the section in force, with no interface yet; an interface description is one interface more.
     ///
@@ -55,6 +75,27 @@ impl PcapNgParser {
         let kept = self.in_force.kept(self.alloc, &block)?;
         self.in_force.accept(kept)?;
         Ok((rest, block))
+    }
+
+    /// The block at the front of a stream, with a body of its own. None where the stream ends before it. What it puts in force
+    /// is said at `next_block`. Exactly its bytes are taken; a refused call has taken no more than was missing, and leaves the
+    /// section and its interfaces as they are.
+    ///
+    /// The refusals are those of `next_block`, but where that one would ask for bytes: `IoError` where the stream ended inside
+    /// the block, or a read failed. `OutOfMemory` where its bytes can't be held, or what stays in force can't be kept.
+    pub fn read_block<R: Read>(&mut self, reader: &mut R) -> ResultParsing<Option<Block<'static>>>
+        ensures reads { ReadsBlock (state_of self.old) (state_of self.new) (R.remaining reader.old) (R.remaining reader.new) result }
+        ensures stays { StaysUnlessTaken (state_of self.old) (state_of self.new) result }
+    {
+        let mut has_failed = false;
+        let mut held = Held::new(self.alloc);
+        pull(
+            self.alloc,
+            &mut self.in_force,
+            reader,
+            &mut has_failed,
+            &mut held,
+        )
     }
 
     /// The section in force.

@@ -1,30 +1,23 @@
 //! A reader of the blocks of a stream.
 
-ghost use Rattle.std.specs.Prelude.{◌≡◌, false, [], IfOk, IfErr, IfNone, OnOk, map, option_map, slice_get};
-ghost use Rattle.pcap_core.specs.declared.common.Endianness.TheVariants.{Big};
-ghost use Rattle.pcap_core.specs.Errors.{IsIo};
-ghost use Rattle.pcap_core.specs.Fill.{held_of, stream_of as source_of, has_failed as source_failed};
-ghost use Rattle.pcap_core.specs.Filling.{Stated};
-ghost use Rattle.pcap_core.specs.Reading.{NextGives, Pulls, Takes};
+ghost use Rattle.std.specs.Prelude.{◌≡◌, false, [], map, option_map, slice_get};
+ghost use Rattle.pcap_core.specs.Held.{held_bytes};
+ghost use Rattle.pcap_core.specs.Reading.{NextGives};
 ghost use Rattle.pcap_blocks.specs.InterfaceDescription.{interface_of};
 ghost use Rattle.pcap_blocks.specs.SectionHeader.{section_of};
 ghost use Rattle.pcap_file.specs.Blocks.{item_of, block_format};
-ghost use Rattle.pcap_file.specs.Opening.{OpeningSays, OpensHeld, RefusesOpening};
-ghost use Rattle.pcap_file.specs.Frames.{framed_of, frame_format};
-ghost use Rattle.pcap_file.specs.Lent.{framed_around, body_in, held_item};
-ghost use Rattle.pcap_file.specs.StatedFrames.{KnowsFrame};
-ghost use Rattle.pcap_file.specs.State.{state_in, StaysUnlessTaken};
+ghost use Rattle.pcap_file.specs.Frames.{framed_of};
+ghost use Rattle.pcap_file.specs.Lent.{framed_around};
 
 use crate::pcapng::block::Block;
 use crate::pcapng::block_header::BlockHeader;
-use crate::pcapng::framing::{FrameHead, FramesIn};
 use crate::pcapng::state::InForce;
+use crate::pcapng::taking::{hold, open, pull};
 use pcap_blocks::{EnhancedPacketBlock, InterfaceDescriptionBlock, SectionHeaderBlock};
-use pcap_core::stream::{Fill, Told};
-use pcap_core::{Endianness, PcapError, ResultParsing};
+use pcap_core::ResultParsing;
+use pcap_core::stream::Held;
 use std::alloc::Global;
-use std::io;
-use std::io::{ErrorKind, Read};
+use std::io::Read;
 
 /// Reads the blocks of a capture off a stream, one for each call of `next`, or of `next_header`, which takes no memory for
 /// each of them. The first section header isn't one of them: it is the section that is in force from the start.
@@ -36,96 +29,11 @@ use std::io::{ErrorKind, Read};
 pub struct PcapNgReader<T> {
     alloc: Global,
     in_force: InForce,
-    fill: Fill<T>,
+    inner: T,
+    has_failed: bool,
+    held: Held,
     is_done: bool,
-    ghost unfailed: { is_done ≡ false → source_failed fill ≡ false },
-}
-
-// Takes the next block. Nothing is held before it, nor after an `Ok`; what is in force moves only where a block comes.
-fn pull<T: Read>(
-    alloc: Global,
-    in_force: &mut InForce,
-    fill: &mut Fill<T>,
-) -> ResultParsing<Option<Block<'static>>>
-    requires between { held_of fill.old ≡ [] }
-    requires unfailed { source_failed fill.old ≡ false }
-    ensures pulls { Pulls (block_format.says (state_in in_force.old)) (item_of (state_in in_force.new)) (T.remaining (source_of fill.old)) (T.remaining (source_of fill.new)) (source_failed fill.new) result }
-    ensures stays { StaysUnlessTaken (state_in in_force.old) (state_in in_force.new) result }
-    ensures between { OnOk result (held_of fill.new ≡ []) }
-{
-    let order = in_force.order();
-    let frames = FramesIn { order };
-    let Some(head) = fill.item(&frames)? else {
-        return Ok(None);
-    };
-    let block = frames.block(head, fill.held())?;
-    let kept = in_force.kept(alloc, &block)?;
-    let own = block.into_owned(alloc)?;
-    in_force.accept(kept)?;
-    fill.clear();
-    Ok(Some(own))
-}
-
-// Holds the next block. Nothing is held before it, nor where none comes; what is in force moves only where one does.
-fn hold<T: Read>(
-    alloc: Global,
-    in_force: &mut InForce,
-    fill: &mut Fill<T>,
-) -> ResultParsing<Option<BlockHeader>>
-    requires between { held_of fill.old ≡ [] }
-    requires unfailed { source_failed fill.old ≡ false }
-    ensures pulls { Pulls (block_format.says (state_in in_force.old)) (held_item (state_in in_force.new) (held_of fill.new)) (T.remaining (source_of fill.old)) (T.remaining (source_of fill.new)) (source_failed fill.new) result }
-    ensures stays { StaysUnlessTaken (state_in in_force.old) (state_in in_force.new) result }
-    ensures none { IfOk result (λ header. IfNone header (held_of fill.new ≡ [])) }
-{
-    let order = in_force.order();
-    let frames = FramesIn { order };
-    let Some(head) = fill.item(&frames)? else {
-        return Ok(None);
-    };
-    let block = frames.block(head, fill.held())?;
-    let news = in_force.kept(alloc, &block)?;
-    let header = BlockHeader::of(&block);
-    in_force.accept(news)?;
-    Ok(Some(header))
-}
-
-// What is in force after the first block, which has this head and is these bytes.
-fn opened(alloc: Global, head: FrameHead, bytes: &[u8]) -> ResultParsing<InForce>
-    requires { Stated (KnowsFrame Big) frame_format.head head bytes.now }
-    ensures { OpensHeld bytes.now result }
-{
-    let frames = FramesIn {
-        order: Endianness::Big,
-    };
-    let block = frames.block(head, bytes)?;
-    InForce::after(alloc, &block)
-}
-
-// Takes the first block. Nothing is held before it, nor after an `Ok`.
-fn open<T: Read>(alloc: Global, fill: &mut Fill<T>) -> ResultParsing<InForce>
-    requires between { held_of fill.old ≡ [] }
-    requires unfailed { source_failed fill.old ≡ false }
-    ensures takes { IfOk result (λ in_force. Takes OpeningSays (T.remaining (source_of fill.old)) (T.remaining (source_of fill.new)) (state_in in_force)) }
-    ensures refused { IfErr result (RefusesOpening (T.remaining (source_of fill.old))) }
-    ensures between { OnOk result (held_of fill.new ≡ []) }
-    ensures unfailed { OnOk result (source_failed fill.new ≡ false) }
-{
-    let frames = FramesIn {
-        order: Endianness::Big,
-    };
-    let Some(head) = fill.item(&frames)? else {
-        return Err(ended_early());
-    };
-    let in_force = opened(alloc, head, fill.held())?;
-    fill.clear();
-    Ok(in_force)
-}
-
-fn ended_early() -> PcapError
-    ensures { IsIo result }
-{
-    PcapError::IoError(io::Error::new(ErrorKind::UnexpectedEof, "the stream ended early"))
+    ghost unfailed: { is_done ≡ false → has_failed ≡ false },
 }
 
 impl<T: Read + Drop> PcapNgReader<T> {
@@ -137,15 +45,18 @@ impl<T: Read + Drop> PcapNgReader<T> {
     ///
     /// The refusals are those of `PcapNgParser::new`, but where that one would ask for bytes: `IoError` where the stream
     /// ended early, or a read failed. `OutOfMemory` where something can't grow.
-    pub fn new(alloc: Global, reader: T) -> ResultParsing<PcapNgReader<T>>
+    pub fn new(alloc: Global, mut reader: T) -> ResultParsing<PcapNgReader<T>>
         ensures { OpensReader T.remaining reader result }
     {
-        let mut fill = Fill::new(alloc, Told::new(reader));
-        let in_force = open(alloc, &mut fill)?;
+        let mut has_failed = false;
+        let mut held = Held::new(alloc);
+        let in_force = open(alloc, &mut reader, &mut has_failed, &mut held)?;
         Ok(PcapNgReader {
             alloc,
             in_force,
-            fill,
+            inner: reader,
+            has_failed,
+            held,
             is_done: false,
         })
     }
@@ -174,14 +85,20 @@ impl<T: Read + Drop> PcapNgReader<T> {
         ensures next { NextGives (block_format.says (state_of self.old)) (lent_item self.new) (T.remaining (stream_of self.old)) (T.remaining (stream_of self.new)) (is_done self.old) (is_done self.new) (has_failed self.old) (has_failed self.new) result }
         ensures let_go { LetsGo result (body_of self.new) }
     {
-        self.fill.clear();
+        self.held.clear();
         if self.is_done {
             return None;
         }
-        let header = hold(self.alloc, &mut self.in_force, &mut self.fill);
+        let header = hold(
+            self.alloc,
+            &mut self.in_force,
+            &mut self.inner,
+            &mut self.has_failed,
+            &mut self.held,
+        );
         self.is_done = header.is_err();
         if self.is_done {
-            self.fill.clear();
+            self.held.clear();
         }
         header.transpose()
     }
@@ -195,7 +112,7 @@ impl<T> PcapNgReader<T> {
     pub fn body(&self) -> &[u8]
         ensures { result.now ≡ body_of self.now }
     {
-        let bytes = self.fill.held();
+        let bytes = self.held.as_slice();
         if bytes.len() < 12 {
             return &[];
         }
@@ -240,14 +157,14 @@ impl<T> PcapNgReader<T> {
     pub fn get_ref(&self) -> &T
         ensures { result.now ≡ stream_of self.now }
     {
-        self.fill.get_ref()
+        &self.inner
     }
 
     /// Whether a read of the wrapped stream failed.
     pub fn failed(&self) -> bool
         ensures { result ≡ has_failed self.now }
     {
-        self.fill.failed()
+        self.has_failed
     }
 }
 
@@ -261,16 +178,23 @@ impl<T: Read + Drop> Iterator for PcapNgReader<T> {
         × (body_of t ≡ []) };
 
     fn next(&mut self) -> Option<ResultParsing<Block<'static>>> {
-        self.fill.clear();
+        self.held.clear();
         if self.is_done {
             return None;
         }
-        match pull(self.alloc, &mut self.in_force, &mut self.fill) {
+        let taken = pull(
+            self.alloc,
+            &mut self.in_force,
+            &mut self.inner,
+            &mut self.has_failed,
+            &mut self.held,
+        );
+        match taken {
             Ok(None) => None,
             Ok(Some(block)) => Some(Ok(block)),
             Err(e) => {
                 self.is_done = true;
-                self.fill.clear();
+                self.held.clear();
                 Some(Err(e))
             }
         }

@@ -1,13 +1,13 @@
 //! Runs over a PcapNg capture that is shown exactly as the parser asks for it.
 
-ghost use Rattle.std.specs.Prelude.{◌≡◌, ◌≤◌, ◌+◌, ◌<◌, ◌^◌, ⊤, All, IfOk, IfErr, map, drop};
+ghost use Rattle.std.specs.Prelude.{◌≡◌, ◌≤◌, ◌+◌, ◌<◌, ◌^◌, All, IfOk, IfErr, map, drop};
 ghost use Rattle.pcap_core.specs.Answer.{Refuses, lacks, faulty};
 ghost use Rattle.pcap_core.specs.Bytes.{IsBorrowed};
 ghost use Rattle.pcap_core.specs.Errors.{IsMemory};
 ghost use Rattle.pcap_core.specs.Found.{FoundBefore, IfItem, UnlessItem};
 ghost use Rattle.pcap_core.specs.Requested.{AsksItem};
 ghost use Rattle.pcap_core.specs.Window.{bytes_of, shown_of, requests_made};
-ghost use Rattle.pcap_file.specs.Blocks.{item_of, block_format, BlockSays};
+ghost use Rattle.pcap_file.specs.Blocks.{item_of, block_format, BlockSays, MayGrow};
 ghost use Rattle.pcap_file.specs.Exact.{ExactBlocks, IsExact};
 ghost use Rattle.pcap_file.specs.Frames.{framed_of};
 ghost use Rattle.pcap_file.specs.Opening.{OpeningSays};
@@ -35,7 +35,7 @@ pub fn exact_pcapng<'a>(alloc: Global, window: &mut Window<'a>) -> ResultParsing
     ensures bytes { bytes_of window.new ≡ bytes_of window.old }
     ensures run { IfOk result (λ x. IsExact x.0 x.1 (bytes_of window.old) (requests_made window.old) (requests_made window.new)) }
     ensures borrowed { IfOk result (λ x. All (λ block. IsBorrowed block.body) x.0.blocks.items) }
-    ensures refused { IfErr result (Refuses ⊤ (λ n. OpeningSays (bytes_of window.old) (lacks n)) (λ fault. OpeningSays (bytes_of window.old) (faulty fault))) }
+    ensures refused { IfErr result (Refuses (MayGrow opening (bytes_of window.old)) (λ n. OpeningSays (bytes_of window.old) (lacks n)) (λ fault. OpeningSays (bytes_of window.old) (faulty fault))) }
 {
     let mut requests = 0;
     match show_first(alloc, window, &mut requests)? {
@@ -65,7 +65,7 @@ fn show_first(
     ensures bytes { bytes_of window.new ≡ bytes_of window.old }
     ensures asked { IfOk result (λ found. AsksItem block_format opening (bytes_of window.old) (requests_made window.old) (requests_made window.new) 0 requests.new) }
     ensures found { IfOk result (FoundBefore (OpeningSays (bytes_of window.old)) state_of (drop (shown_of window.new) (bytes_of window.old))) }
-    ensures memory { IfErr result IsMemory }
+    ensures memory { IfErr result (λ e. IsMemory e × MayGrow opening (bytes_of window.old)) }
 {
     'asking: loop {
         match find_first(alloc, window.seen())? {

@@ -1,11 +1,12 @@
 //! What a parser finds at the front of a slice.
 
-ghost use Rattle.std.specs.Prelude.{◌≡◌, IfOk};
+ghost use Rattle.std.specs.Prelude.{◌≡◌, IfOk, IfErr};
 ghost use Rattle.pcap_core.specs.Bytes.{IsBorrowed};
 ghost use Rattle.pcap_core.specs.Found.{FindsWhere, IfItem, UnlessItem};
-ghost use Rattle.pcap_file.specs.Blocks.{item_of, BlockSays};
+ghost use Rattle.pcap_file.specs.Blocks.{item_of, BlockSays, MayGrow};
 ghost use Rattle.pcap_file.specs.Opening.{OpeningSays};
 ghost use Rattle.pcap_file.specs.Parser.{state_of};
+ghost use Rattle.pcap_file.specs.State.{opening};
 
 use crate::pcapng::{Block, PcapNgParser};
 use pcap_core::ResultParsing;
@@ -29,7 +30,8 @@ pub(crate) fn find_first<'a>(
     alloc: Global,
     slice: &'a [u8],
 ) -> ResultParsing<Found<(&'a [u8], PcapNgParser)>>
-    ensures { FindsWhere (OpeningSays slice.now) state_of result }
+    ensures finds { FindsWhere (OpeningSays slice.now) state_of result }
+    ensures memory { IfErr result (λ _. MayGrow opening slice.now) }
 {
     found_in(PcapNgParser::new(alloc, slice))
 }

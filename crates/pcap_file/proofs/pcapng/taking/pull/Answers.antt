@@ -1,14 +1,14 @@
 use Rattle.std.proofs.lemmas.Result.{err_from_is_err_and}
-use Rattle.pcap_core.specs.Fill.{held_of}
+use Rattle.pcap_core.specs.Held.{held_bytes}
 use Rattle.pcap_core.proofs.Filled.{held_refused}
 use Rattle.pcap_file.specs.Frames.{framed_of, frame_format}
 use Rattle.pcap_file.specs.State.{state_in, led, kept_of, CanGrow}
 use Rattle.pcap_file.proofs.HeadedFrames.{frames_lawful}
 use Rattle.pcap_file.proofs.Causes.{pull_frame, pull_room, pull_held, body_refused, pull_item}
-use Rattle.pcap_file.proofs.pcapng.reader.pull.Goals as goal
+use Rattle.pcap_file.proofs.pcapng.taking.pull.Goals as goal
 
-pub item-requires-clause-lawful : goal.item-requires-clause-lawful
-item-requires-clause-lawful g c = frames_lawful
+pub fill_item-requires-clause-lawful : goal.fill_item-requires-clause-lawful
+fill_item-requires-clause-lawful g c = frames_lawful
 
 pub returns-in_err-head-clause-pulls : goal.returns-in_err-head-clause-pulls
 returns-in_err-head-clause-pulls g c =
@@ -19,19 +19,19 @@ pub returns-in_err-block-clause-pulls : goal.returns-in_err-block-clause-pulls
 returns-in_err-block-clause-pulls g c =
     let p = err_from_is_err_and c.from_residual-in_err-block.result c.from_residual-in_err-block.ensures.1 in
     let filled = rw c.in-Some.is at c.in_ok-head.ensures.fills in
-    let shown = rw c.held.ensures at c.in_err-block.ensures in
+    let shown = rw c.as_slice.ensures at c.in_err-block.ensures in
     let e = c.in_err-block.field-0.0 in
-    let x = held_refused frame_format frames_lawful c.order-order.result e (held_of c.item.new.self) _ _ _ (record { came = filled.4; asked = filled.3 }) filled.0 shown in
+    let x = held_refused frame_format frames_lawful c.order-order.result e (held_bytes c.fill_item.new.held) _ _ _ (record { came = filled.4; asked = filled.3 }) filled.0 shown in
     rw (p.1, p.2) (pull_frame (state_in c.args.in_force.now) c.order-order.result c.order-order.ensures _ _ _ e x)
 
 pub returns-in_err-kept-clause-pulls : goal.returns-in_err-kept-clause-pulls
 returns-in_err-kept-clause-pulls g c =
     let q = state_in c.args.in_force.now in
     let b = framed_of c.in_ok-block.block in
-    let held = held_of c.item.new.self in
+    let held = held_bytes c.fill_item.new.held in
     let p = err_from_is_err_and c.from_residual-in_err-kept.result c.from_residual-in_err-kept.ensures.1 in
     let filled = rw c.in-Some.is at c.in_ok-head.ensures.fills in
-    let text = rw c.held.ensures at c.in_ok-block.ensures in
+    let text = rw c.as_slice.ensures at c.in_ok-block.ensures in
     let e = c.in_err-kept.field-0.0 in
     let x = body_refused q c.order-order.result c.order-order.ensures b held text (CanGrow q b) e c.in_err-kept.ensures in
     rw (p.1, p.2) (pull_held q c.order-order.result c.order-order.ensures held _ _ _ filled.0 filled.4 filled.3 (CanGrow q b) e x)
@@ -40,20 +40,20 @@ pub returns-in_err-own-clause-pulls : goal.returns-in_err-own-clause-pulls
 returns-in_err-own-clause-pulls g c =
     let p = err_from_is_err_and c.from_residual-in_err-own.result c.from_residual-in_err-own.ensures.1 in
     let filled = rw c.in-Some.is at c.in_ok-head.ensures.fills in
-    rw (p.1, p.2) (pull_room (state_in c.args.in_force.now) c.order-order.result c.order-order.ensures (held_of c.item.new.self) _ _ _ filled.0 filled.4 filled.3 c.in_err-own.field-0.0 c.in_err-own.ensures.memory)
+    rw (p.1, p.2) (pull_room (state_in c.args.in_force.now) c.order-order.result c.order-order.ensures (held_bytes c.fill_item.new.held) _ _ _ filled.0 filled.4 filled.3 c.in_err-own.field-0.0 c.in_err-own.ensures.memory)
 
 pub returns-in_err-accept-clause-pulls : goal.returns-in_err-accept-clause-pulls
 returns-in_err-accept-clause-pulls g c =
     let p = err_from_is_err_and c.from_residual-in_err-accept.result c.from_residual-in_err-accept.ensures.1 in
     let filled = rw c.in-Some.is at c.in_ok-head.ensures.fills in
-    rw (p.1, p.2) (pull_room (state_in c.args.in_force.now) c.order-order.result c.order-order.ensures (held_of c.item.new.self) _ _ _ filled.0 filled.4 filled.3 c.in_err-accept.field-0.0 c.in_err-accept.ensures.memory)
+    rw (p.1, p.2) (pull_room (state_in c.args.in_force.now) c.order-order.result c.order-order.ensures (held_bytes c.fill_item.new.held) _ _ _ filled.0 filled.4 filled.3 c.in_err-accept.field-0.0 c.in_err-accept.ensures.memory)
 
 pub returns-clause-pulls : goal.returns-clause-pulls
 returns-clause-pulls g c =
     let q = state_in c.args.in_force.now in
-    let held = held_of c.item.new.self in
+    let held = held_bytes c.fill_item.new.held in
     let b = framed_of c.in_ok-block.block in
     let filled = rw c.in-Some.is at c.in_ok-head.ensures.fills in
-    let text = rw c.held.ensures at c.in_ok-block.ensures in
+    let text = rw c.as_slice.ensures at c.in_ok-block.ensures in
     let item = pull_item q c.order-order.result c.order-order.ensures b held text (framed_of c.in_ok-own.own) (state_in c.accept.new.self) (led q (kept_of c.in_ok-kept.kept)) c.in_ok-own.ensures.same c.in_ok-accept.ensures.moves c.in_ok-kept.ensures.0 in
-    rw c.clear.ensures.told (filled.0, (held, item, filled.4))
+    (filled.0, (held, item, filled.4))

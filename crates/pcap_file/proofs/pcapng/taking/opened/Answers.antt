@@ -1,7 +1,7 @@
 use Rattle.std.proofs.lemmas.Result.{err_from_is_err_and}
 use Rattle.pcap_file.specs.Frames.{framed_of}
 use Rattle.pcap_file.proofs.Causes.{frame_opens, body_opens}
-use Rattle.pcap_file.proofs.pcapng.reader.opened.Goals as goal
+use Rattle.pcap_file.proofs.pcapng.taking.opened.Goals as goal
 
 pub returns-in_err-block : goal.returns-in_err-block
 returns-in_err-block c =

@@ -1,6 +1,6 @@
 use Rattle.std.proofs.Common.{◌≡◌}
 use Rattle.std.proofs.lemmas.Result.{err_from_is_err_and}
-use Rattle.pcap_core.specs.Fill.{held_of}
+use Rattle.pcap_core.specs.Held.{held_bytes}
 use Rattle.pcap_core.proofs.Filled.{held_refused}
 use Rattle.pcap_file.specs.Frames.{framed_of, frame_format}
 use Rattle.pcap_file.specs.Lent.{framed_around, body_in}
@@ -8,10 +8,10 @@ use Rattle.pcap_file.specs.State.{state_in, led, kept_of, CanGrow}
 use Rattle.pcap_file.proofs.HeadedFrames.{frames_lawful}
 use Rattle.pcap_file.proofs.Causes.{pull_frame, pull_room, pull_held, body_refused, pull_item}
 use Rattle.pcap_file.proofs.Lent.{held_block}
-use Rattle.pcap_file.proofs.pcapng.reader.hold.Goals as goal
+use Rattle.pcap_file.proofs.pcapng.taking.hold.Goals as goal
 
-pub item-requires-clause-lawful : goal.item-requires-clause-lawful
-item-requires-clause-lawful g c = frames_lawful
+pub fill_item-requires-clause-lawful : goal.fill_item-requires-clause-lawful
+fill_item-requires-clause-lawful g c = frames_lawful
 
 pub returns-in_err-head-clause-pulls : goal.returns-in_err-head-clause-pulls
 returns-in_err-head-clause-pulls g c =
@@ -22,19 +22,19 @@ pub returns-in_err-block-clause-pulls : goal.returns-in_err-block-clause-pulls
 returns-in_err-block-clause-pulls g c =
     let p = err_from_is_err_and c.from_residual-in_err-block.result c.from_residual-in_err-block.ensures.1 in
     let filled = rw c.in-Some.is at c.in_ok-head.ensures.fills in
-    let shown = rw c.held.ensures at c.in_err-block.ensures in
+    let shown = rw c.as_slice.ensures at c.in_err-block.ensures in
     let e = c.in_err-block.field-0.0 in
-    let x = held_refused frame_format frames_lawful c.order-order.result e (held_of c.item.new.self) _ _ _ (record { came = filled.4; asked = filled.3 }) filled.0 shown in
+    let x = held_refused frame_format frames_lawful c.order-order.result e (held_bytes c.fill_item.new.held) _ _ _ (record { came = filled.4; asked = filled.3 }) filled.0 shown in
     rw (p.1, p.2) (pull_frame (state_in c.args.in_force.now) c.order-order.result c.order-order.ensures _ _ _ e x)
 
 pub returns-in_err-news-clause-pulls : goal.returns-in_err-news-clause-pulls
 returns-in_err-news-clause-pulls g c =
     let q = state_in c.args.in_force.now in
     let b = framed_of c.in_ok-block.block in
-    let held = held_of c.item.new.self in
+    let held = held_bytes c.fill_item.new.held in
     let p = err_from_is_err_and c.from_residual-in_err-news.result c.from_residual-in_err-news.ensures.1 in
     let filled = rw c.in-Some.is at c.in_ok-head.ensures.fills in
-    let text = rw c.held.ensures at c.in_ok-block.ensures in
+    let text = rw c.as_slice.ensures at c.in_ok-block.ensures in
     let e = c.in_err-news.field-0.0 in
     let x = body_refused q c.order-order.result c.order-order.ensures b held text (CanGrow q b) e c.in_err-news.ensures in
     rw (p.1, p.2) (pull_held q c.order-order.result c.order-order.ensures held _ _ _ filled.0 filled.4 filled.3 (CanGrow q b) e x)
@@ -43,16 +43,16 @@ pub returns-in_err-accept-clause-pulls : goal.returns-in_err-accept-clause-pulls
 returns-in_err-accept-clause-pulls g c =
     let p = err_from_is_err_and c.from_residual-in_err-accept.result c.from_residual-in_err-accept.ensures.1 in
     let filled = rw c.in-Some.is at c.in_ok-head.ensures.fills in
-    rw (p.1, p.2) (pull_room (state_in c.args.in_force.now) c.order-order.result c.order-order.ensures (held_of c.item.new.self) _ _ _ filled.0 filled.4 filled.3 c.in_err-accept.field-0.0 c.in_err-accept.ensures.memory)
+    rw (p.1, p.2) (pull_room (state_in c.args.in_force.now) c.order-order.result c.order-order.ensures (held_bytes c.fill_item.new.held) _ _ _ filled.0 filled.4 filled.3 c.in_err-accept.field-0.0 c.in_err-accept.ensures.memory)
 
 pub returns-clause-pulls : goal.returns-clause-pulls
 returns-clause-pulls g c =
     let q = state_in c.args.in_force.now in
     let order = c.order-order.result in
-    let held = held_of c.item.new.self in
+    let held = held_bytes c.fill_item.new.held in
     let b = framed_of c.in_ok-block.block in
     let filled = rw c.in-Some.is at c.in_ok-head.ensures.fills in
-    let text = rw c.held.ensures at c.in_ok-block.ensures in
+    let text = rw c.as_slice.ensures at c.in_ok-block.ensures in
     let lent = framed_around c.of-header.result (body_in held) in
     let same : lent ≡ b = rw c.of-header.ensures (held_block order b held text) in
     let item = pull_item q order c.order-order.ensures b held text lent (state_in c.accept.new.self) (led q (kept_of c.in_ok-news.news)) same c.in_ok-accept.ensures.moves c.in_ok-news.ensures.0 in
