@@ -5,3 +5,4 @@ mod PacketLists
 mod PacketLines
 mod Exits
 mod Kept
+mod Turns

@@ -1,27 +1,50 @@
 -- Packets that are listed.
-use Rattle.std.proofs.Common.{IfSome, ℕ, List, Option, Result}
+use Rattle.std.proofs.Common.{◌≡◌, ◌<◌, ◌⊎◌, IfSome, true, false, ℕ, List, [], Option, Result, Err, inl, inr, refl, subst}
+use Rattle.std.specs.Prelude.{⊤}
 use Rattle.std.proofs.KnownBytes.{Appends-nil}
+use Rattle.pcap_core.specs.declared.common.Endianness.{Endianness}
+use Rattle.pcap_classic.specs.declared.common.TsResolution.{TsResolution}
 use Rattle.pcap_classic.specs.declared.pcap.header.PcapHeader.{PcapHeader}
-use Rattle.pcap_core.specs.Answer.{number_in}
-use Rattle.pcap_core.specs.Format.{Format}
-use Rattle.pcap_core.specs.Reading.{Takes}
+use Rattle.pcap_core.specs.Answer.{Order, number_in, whole}
+use Rattle.pcap_core.specs.declared.errors.PcapError.{PcapError}
+use Rattle.pcap_core.specs.Errors.{IsIo, IsMemory}
+use Rattle.pcap_core.specs.Faults.{Shows}
+use Rattle.pcap_core.specs.Reading.{IsFaultOf, Takes, read_failed, no_memory, refused}
 use Rattle.pcap_classic.specs.HeaderText.{HeaderSays}
 use Rattle.pcap_classic.specs.Magic.{order_of, resolution_of}
-use Rattle.pcap_classic.specs.PacketText.{packet_limit, Captured}
-use Rattle.pcap_classic.specs.Packets.{reader_format}
-use Rattle.pcap_classic.proofs.Captures.{under_valid}
+use Rattle.pcap_classic.specs.PacketText.{packet_limit, Captured, PacketSays}
+use Rattle.pcap_classic.specs.Packets.{packet_format}
 use Rattle.pcap_classic.proofs.HeadedPackets.{packets_lawful}
+use Rattle.pcap_classic.proofs.Packets.{packets_say}
 use Rattle.pcap_classic.proofs.Stable.{header_stable}
 use Rattle.capcopy_run.specs.declared.exit.Exit.{Exit}
-use Rattle.capcopy_run.specs.Exits.{exit_of}
-use Rattle.capcopy_run.specs.Listing.{ListsItems, ListsUntil}
+use Rattle.capcopy_run.specs.Exits.{EndsAt, exit_of}
+use Rattle.capcopy_run.specs.Listing.{LinesEnd, ListsItems, ListsUntil}
 use Rattle.capcopy_run.specs.PacketLines.{IsPacketLine, packet_lines}
-use Rattle.capcopy_run.proofs.Listing.{lists_known}
+use Rattle.capcopy_run.proofs.Listing.{ends_refused, lists_known}
 
--- a capture whose header was taken, and whose packets were listed
-pub packets_known : (header : PcapHeader) (bytes known before : Option (List ℕ)) → Takes HeaderSays bytes known header → (most : ℕ) (after : Option (List ℕ)) (result : Result (Unit {0}) Exit)
-    → ListsItems IsPacketLine (reader_format packet_limit header) tt known before after most result → IfSome bytes (λ s. ListsUntil packet_lines most s before after (exit_of result))
-packets_known header bytes known before took most after result run =
+-- a packet that was read off a stream
+pub packet_took : (order : Order) (r : TsResolution) (left now : Option (List ℕ)) (packet : Captured) → Takes (PacketSays packet_limit order r) left now packet → Takes ((packet_format packet_limit order r).says tt) left now packet
+packet_took order r left now packet took = (took.0, packets_say packet_limit order r tt took.0 (whole packet []) took.1, took.2)
+
+-- a refusal of a packet that was to be read off a stream ends the lines
+pub packet_unread : (order : Order) (r : TsResolution) (left mid : Option (List ℕ)) (n most : ℕ) → n < most → (e : PcapError) (exit : Exit)
+    → IsIo e ⊎ (⊤ × IsMemory e) ⊎ Shows (IsFaultOf (PacketSays packet_limit order r) left) e → EndsAt e exit → LinesEnd IsPacketLine ((packet_format packet_limit order r).says tt) left mid mid n most (Err exit)
+unfolding packet_format
+packet_unread order r left mid n most fewer e exit cause ends =
+    let IsSaid = PacketSays packet_limit order r in
+    elim cause [
+      | inl io ↦ ends_refused IsPacketLine IsSaid left mid n most fewer true e exit (read_failed io refl) ends
+      | inr (inl memory) ↦ ends_refused IsPacketLine IsSaid left mid n most fewer false e exit (no_memory memory.1 refl) ends
+      | inr (inr shown) ↦ ends_refused IsPacketLine IsSaid left mid n most fewer false e exit (refused shown refl) ends
+    ]
+
+-- a capture whose header was taken, and whose packets were listed in its order and resolution
+pub packets_known : (header : PcapHeader) (order : Endianness) (r : TsResolution) (bytes known before : Option (List ℕ)) → order ≡ order_of header.magic_number → r ≡ resolution_of header.magic_number
+    → Takes HeaderSays bytes known header → (most : ℕ) (after : Option (List ℕ)) (result : Result (Unit {0}) Exit)
+    → ListsItems IsPacketLine (packet_format packet_limit (number_in order) r) tt known before after most result → IfSome bytes (λ s. ListsUntil packet_lines most s before after (exit_of result))
+packets_known header order r bytes known before is_order is_resolution took most after result run =
     let laws = packets_lawful packet_limit (number_in (order_of header.magic_number)) (resolution_of header.magic_number) in
-    let under = under_valid packet_limit header (took.1).valid (λ (f : Format (Unit {0}) Captured). ListsItems IsPacketLine f tt known before after most result) run in
+    let ordered = subst (λ (e : Endianness). ListsItems IsPacketLine (packet_format packet_limit (number_in e) r) tt known before after most result) is_order run in
+    let under = subst (λ (t : TsResolution). ListsItems IsPacketLine (packet_format packet_limit (number_in (order_of header.magic_number)) t) tt known before after most result) is_resolution ordered in
     lists_known packet_lines header_stable header laws bytes known before before took (Appends-nil before) most after result under

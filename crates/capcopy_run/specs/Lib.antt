@@ -5,5 +5,6 @@ pub mod Exits
 pub mod Lines
 pub mod Listing
 pub mod PacketLines
+pub mod Turns
 pub mod Uninterrupted
 pub mod Words

@@ -1,43 +1,45 @@
 //! The word `blocks`: a line for the first section of a PcapNg capture, and one for each of its blocks.
 
-ghost use Rattle.std.specs.Prelude.{◌≡◌, false, [], Some, IfSome, IfErr, OnOk, IsSome, MatchResult, string_bytes};
+ghost use Rattle.std.specs.Prelude.{◌≡◌, ◌≤◌, ◌+◌, ◌++◌, [], drop, IfSome, IfErr, OnOk, IsSome, MatchResult, string_bytes};
 ghost use Rattle.pcap_blocks.specs.SectionHeader.{section_of, magic_order};
-ghost use Rattle.pcap_file.specs.Blocks.{block_format};
+ghost use Rattle.pcap_file.specs.Blocks.{Item, block_format};
 ghost use Rattle.pcap_file.specs.Frames.{framed_of};
-ghost use Rattle.pcap_file.specs.Reader.{state_of, stream_of, has_failed, is_done};
+ghost use Rattle.pcap_file.specs.Parser.{state_of};
+ghost use Rattle.pcap_file.specs.State.{State};
 ghost use Rattle.capcopy_run.specs.declared.exit.Exit.TheVariants as exits;
 ghost use Rattle.capcopy_run.specs.BlockLines.{order_of, section_line, kind_name, IsBodyWord, IsBlockLine, IsItemLine, block_lines};
 ghost use Rattle.capcopy_run.specs.Exits.{IsOfKnownWord, exit_of};
 ghost use Rattle.capcopy_run.specs.Lines.{WritesLine};
-ghost use Rattle.capcopy_run.specs.Listing.{ListsItems, ListsUntil};
+ghost use Rattle.capcopy_run.specs.Listing.{ListsUntil};
 ghost use Rattle.capcopy_run.specs.Words.{order_word};
 
 use crate::Exit;
+use crate::items::{Lister, list_items};
+use crate::line::{ROOM, put_byte, put_number, put_word};
 use crate::output::put_line;
-use pcap_file::pcapng::{Block, BlockType, PcapNgReader, SectionHeaderBlock};
+use pcap_file::pcapng::{Block, BlockType, PcapNgParser, SectionHeaderBlock};
 use pcap_file::{Endianness, PcapError};
 use std::alloc::{AllocError, Global};
-use std::fmt;
-use std::io::{Read, Write};
+use std::io::{BufRead, Write};
 
-// The kind of a block, as its line names it.
-#[derive(Clone, Copy)]
-struct Kind(BlockType);
-
-impl fmt::Display for Kind {
-    ghost output = { λ kind. Some (kind_name kind.0) };
-
-    fn fmt<W: fmt::Write>(&self, f: &mut fmt::Formatter<W>) -> fmt::Result {
-        match self.0 {
-            BlockType::SectionHeader => f.write_str("section"),
-            BlockType::InterfaceDescription => f.write_str("interface"),
-            BlockType::Packet => f.write_str("packet"),
-            BlockType::SimplePacket => f.write_str("simple"),
-            BlockType::NameResolution => f.write_str("names"),
-            BlockType::InterfaceStatistics => f.write_str("statistics"),
-            BlockType::EnhancedPacket => f.write_str("enhanced"),
-            BlockType::SystemdJournalExport => f.write_str("journal"),
-            BlockType::Unknown(number) => write!(f, "unknown:{number}"),
+// Puts the name of a block's kind before the text that begins at `end`, and returns where it begins then.
+fn put_kind(room: &mut [u8; ROOM], end: usize, type_: BlockType) -> usize
+    requires { (28 ≤ end) × (end ≤ 105) }
+    ensures start { (result ≤ end) × (end ≤ result + 28) }
+    ensures text { drop result room.new ≡ kind_name type_ ++ drop end room.old }
+{
+    match type_ {
+        BlockType::SectionHeader => put_word(room, end, "section"),
+        BlockType::InterfaceDescription => put_word(room, end, "interface"),
+        BlockType::Packet => put_word(room, end, "packet"),
+        BlockType::SimplePacket => put_word(room, end, "simple"),
+        BlockType::NameResolution => put_word(room, end, "names"),
+        BlockType::InterfaceStatistics => put_word(room, end, "statistics"),
+        BlockType::EnhancedPacket => put_word(room, end, "enhanced"),
+        BlockType::SystemdJournalExport => put_word(room, end, "journal"),
+        BlockType::Unknown(number) => {
+            let start = put_number(room, end, u64::from(number));
+            put_word(room, start, "unknown:")
         }
     }
 }
@@ -87,60 +89,95 @@ fn body_word(alloc: Global, block: &Block) -> Result<&'static str, Exit>
     }
 }
 
-// Makes the line of the block at this index.
-fn push_block(line: &mut String, index: u64, block: &Block, word: &str) -> Result<(), AllocError>
-    requires empty { string_bytes line.old ≡ [] }
-    requires word { IsBodyWord (framed_of block.now) word.now }
-    ensures { OnOk result (IsBlockLine index (framed_of block.now) (string_bytes line.new)) }
+// Makes the line of the block at this index at the end of the room, and returns where it begins.
+fn make_block_line(room: &mut [u8; ROOM], index: u64, block: &Block, word: &str) -> usize
+    requires { IsBodyWord (framed_of block.now) word.now }
+    ensures within { result ≤ 105 }
+    ensures line { IsBlockLine index (framed_of block.now) (drop result room.new) }
 {
-    let kind = Kind(block.type_);
-    let len = block.initial_len;
-    writeln!(line, "{index} {kind} {len} {word}")
+    let start = put_byte(room, ROOM, b'\n');
+    let start = put_word(room, start, word);
+    let start = put_byte(room, start, b' ');
+    let start = put_number(room, start, u64::from(block.initial_len));
+    let start = put_byte(room, start, b' ');
+    let start = put_kind(room, start, block.type_);
+    let start = put_byte(room, start, b' ');
+    put_number(room, start, index)
 }
 
 // Writes the line of the block at this index.
 fn write_block<W: Write>(
     alloc: Global,
     output: &mut W,
-    line: &mut String,
+    room: &mut [u8; ROOM],
     index: u64,
     block: &Block,
 ) -> Result<(), Exit>
-    requires { string_bytes line.old ≡ [] }
     ensures { WritesLine (IsBlockLine index (framed_of block.now)) (W.contents output.old) (W.contents output.new) result }
 {
     let word = body_word(alloc, block)?;
-    push_block(line, index, block, word)?;
-    put_line(output, line.as_bytes())
+    let start = make_block_line(room, index, block, word);
+    put_line(output, &room[start..])
 }
 
-// Writes a line for each block that the reader gives, before it is asked for the next one.
-fn list_blocks<T: Read + Drop, W: Write>(
-    alloc: Global,
-    reader: &mut PcapNgReader<T>,
-    output: &mut W,
-    most: u64,
-) -> Result<(), Exit>
-    requires ready { is_done reader.old ≡ false }
-    requires unfailed { has_failed reader.old ≡ false }
-    ensures { ListsItems IsItemLine block_format (state_of reader.old) (T.remaining (stream_of reader.old)) (W.contents output.old) (W.contents output.new) most result }
-{
-    let mut line = String::new(alloc);
-    for turn in 0..most {
-        line.clear();
-        match reader.next() {
-            None => return Ok(()),
-            Some(Ok(block)) => write_block(alloc, output, &mut line, turn + 1, &block)?,
-            Some(Err(error)) => return Err(Exit::from(error)),
+impl Lister for PcapNgParser {
+    ghost Setting = { Unit {0} };
+
+    ghost State = { State };
+
+    ghost Value = { Item };
+
+    ghost is_line = { IsItemLine };
+
+    ghost format = { λ setting. block_format };
+
+    ghost setting = { λ parser. tt };
+
+    ghost state = { state_of };
+
+    fn list_shown<W: Write>(
+        &mut self,
+        alloc: Global,
+        shown: &[u8],
+        output: &mut W,
+        listed: &mut u64,
+        most: u64,
+    ) -> Result<usize, Exit> {
+        let mut room = [0; ROOM];
+        let mut rest = shown;
+        while *listed < most {
+            let Ok((after, block)) = self.next_block(rest) else {
+                break;
+            };
+            write_block(alloc, output, &mut room, *listed + 1, &block)?;
+            *listed += 1;
+            rest = after;
         }
+        Ok(shown.len() - rest.len())
     }
-    Err(Exit::Most)
+
+    fn list_torn<R: BufRead, W: Write>(
+        &mut self,
+        alloc: Global,
+        input: &mut R,
+        output: &mut W,
+        listed: &mut u64,
+        most: u64,
+    ) -> Result<bool, Exit> {
+        let Some(block) = self.read_block(input)? else {
+            return Ok(false);
+        };
+        let mut room = [0; ROOM];
+        write_block(alloc, output, &mut room, *listed + 1, &block)?;
+        *listed += 1;
+        Ok(true)
+    }
 }
 
 /// Writes a line for the first section of the capture that the input holds, and then one for each block, `most` at most.
 ///
 /// What refuses the rest is told after the lines of the blocks before it.
-pub(crate) fn blocks<R: Read, W: Write>(
+pub(crate) fn blocks<R: BufRead, W: Write>(
     alloc: Global,
     input: &mut R,
     output: &mut W,
@@ -149,7 +186,7 @@ pub(crate) fn blocks<R: Read, W: Write>(
     ensures known { IfErr result IsOfKnownWord }
     ensures lists { IfSome (R.remaining input.old) (λ s. ListsUntil block_lines most s (W.contents output.old) (W.contents output.new) (exit_of result)) }
 {
-    let mut reader = PcapNgReader::new(alloc, input)?;
-    write_section(alloc, output, reader.section())?;
-    list_blocks(alloc, &mut reader, output, most)
+    let mut parser = PcapNgParser::from_reader(alloc, input)?;
+    write_section(alloc, output, parser.section())?;
+    list_items(alloc, &mut parser, input, output, most)
 }

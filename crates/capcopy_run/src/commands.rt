@@ -19,7 +19,7 @@ use crate::list::list;
 use pcap_file::run::Under;
 use pcap_file::{Endianness, TsResolution};
 use std::alloc::Global;
-use std::io::{Read, Write};
+use std::io::{BufRead, Write};
 
 // What the program is asked to do.
 pub(crate) enum Command {
@@ -53,7 +53,7 @@ fn asked_for(words: &[&str]) -> Option<Command>
 /// capture, which is no one of the `most` lines, and then a line for each block after it: `index kind length ok|refused`,
 /// where length is that of the whole block in bytes, and the last word says whether its body could be read. Lines and
 /// packets before a fault are written. Other words are `Usage`, and then nothing is read or written.
-pub fn run<R: Read, W: Write>(
+pub fn run<R: BufRead, W: Write>(
     alloc: Global,
     words: &[&str],
     input: &mut R,

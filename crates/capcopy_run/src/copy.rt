@@ -5,14 +5,14 @@ ghost use Rattle.capcopy_run.specs.Copying.{CopiesUntil};
 ghost use Rattle.capcopy_run.specs.Exits.{exit_of, IsOfKnownWord};
 
 use crate::Exit;
-use pcap_file::run::{Copied, Under, copy_pcap};
+use pcap_file::run::{Copied, Under, copy_buffered};
 use std::alloc::Global;
-use std::io::{Read, Write};
+use std::io::{BufRead, Write};
 
 /// Writes the capture that the input holds, and `most` packets of it at most.
 ///
 /// What refuses the rest is told after the packets before it.
-pub(crate) fn copy<R: Read, W: Write>(
+pub(crate) fn copy<R: BufRead, W: Write>(
     alloc: Global,
     input: &mut R,
     output: &mut W,
@@ -22,7 +22,7 @@ pub(crate) fn copy<R: Read, W: Write>(
     ensures known { IfErr result IsOfKnownWord }
     ensures copied { CopiesUntil under (R.remaining input.old) (R.remaining input.new) (W.contents output.old) (W.contents output.new) most (exit_of result) }
 {
-    let Copied { packets, fault, .. } = copy_pcap(alloc, input, output, under, most);
+    let Copied { packets, fault, .. } = copy_buffered(alloc, input, output, under, most);
     match fault {
         Some(error) => Err(Exit::from(error)),
         None if packets == most => Err(Exit::Most),

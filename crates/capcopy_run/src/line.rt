@@ -1,6 +1,6 @@
-//! The line of a packet, made from its end to its beginning, with no memory of its own.
+//! Lines that are made from their end to their beginning, with no memory of their own.
 
-ghost use Rattle.std.specs.Prelude.{◌≡◌, ◌+◌, ◌<◌, ◌≤◌, ◌∷◌, ◌++◌, drop};
+ghost use Rattle.std.specs.Prelude.{◌≡◌, ◌+◌, ◌<◌, ◌≤◌, ◌∷◌, ◌++◌, drop, length};
 ghost use Rattle.std.specs.Fmt.{decimal};
 ghost use Rattle.capcopy_run.specs.PacketLines.{nine_digits, packet_line};
 
@@ -10,8 +10,19 @@ use pcap_file::pcap::PacketHeader;
 /// Room for the longest line: five numbers of at most twenty digits, and a byte after each.
 pub(crate) const ROOM: usize = 105;
 
+// Puts a word before the text that begins at `end`, and returns where it begins then.
+pub(crate) fn put_word(room: &mut [u8; ROOM], end: usize, word: &str) -> usize
+    requires { (length word.now ≤ end) × (end ≤ 105) }
+    ensures start { result + length word.now ≡ end }
+    ensures text { drop result room.new ≡ word.now ++ drop end room.old }
+{
+    let start = end - word.len();
+    room[start..end].copy_from_slice(word.as_bytes());
+    start
+}
+
 // Puts a byte before the text that begins at `end`, and returns where it begins then.
-fn put_byte(room: &mut [u8; ROOM], end: usize, byte: u8) -> usize
+pub(crate) fn put_byte(room: &mut [u8; ROOM], end: usize, byte: u8) -> usize
     requires { (0 < end) × (end ≤ 105) }
     ensures start { result + 1 ≡ end }
     ensures text { drop result room.new ≡ byte ∷ drop end room.old }
@@ -22,7 +33,7 @@ fn put_byte(room: &mut [u8; ROOM], end: usize, byte: u8) -> usize
 }
 
 // Puts a number before the text that begins at `end`, and returns where it begins then.
-fn put_number(room: &mut [u8; ROOM], end: usize, number: u64) -> usize
+pub(crate) fn put_number(room: &mut [u8; ROOM], end: usize, number: u64) -> usize
     requires { (20 ≤ end) × (end ≤ 105) }
     ensures start { (result ≤ end) × (end ≤ result + 20) }
     ensures text { drop result room.new ≡ decimal number ++ drop end room.old }

@@ -1,5 +1,6 @@
 //! The word `blocks` over inputs and outputs in memory.
 
+use crate::inputs::{ROOMS, buffered, taken};
 use capcopy_run::{Exit, run};
 use std::test::Fail;
 use test_support::captures::{SECTIONS, front};
@@ -73,11 +74,12 @@ const ROWS: [(&str, &str, &str); 12] = [
 
 #[test]
 fn blocks(rt: HostRuntime) -> Result<(), Fail> {
-    for step in [1, 1000] {
+    for room in ROOMS {
         for (digits, lines, end) in ROWS {
             let mut capture = Vec::from_slice(rt.alloc(), front(&SECTIONS, 28))?;
             capture.extend_from_slice(bytes(rt.alloc(), digits)?.as_slice())?;
-            let mut input = Halting::new(rt.alloc(), capture.as_slice(), step)?;
+            let stream = Halting::new(rt.alloc(), capture.as_slice(), 1000)?;
+            let mut input = buffered(rt.alloc(), room, stream)?;
             let mut output = Vec::new(rt.alloc());
             let exit = run(rt.alloc(), &["blocks"], &mut input, &mut output, ALL);
             let wanted = format!(in rt.alloc(); "{SECTION_LINE}{lines}")?;
@@ -101,7 +103,11 @@ fn first_blocks(rt: HostRuntime) -> Result<(), Fail> {
     ];
     for (digits, status) in rows {
         let bytes = bytes(rt.alloc(), digits)?;
-        let mut input = Halting::new(rt.alloc(), bytes.as_slice(), 7)?;
+        let mut input = buffered(
+            rt.alloc(),
+            16,
+            Halting::new(rt.alloc(), bytes.as_slice(), 7)?,
+        )?;
         let mut output = Vec::new(rt.alloc());
         let exit = run(rt.alloc(), &["blocks"], &mut input, &mut output, ALL);
         assert!(rt; exit.status() == status && output.is_empty(), "at {digits}");
@@ -121,13 +127,14 @@ fn most_blocks(rt: HostRuntime) -> Result<(), Fail> {
             96,
         ),
     ];
-    for step in [1, 1000] {
-        for (most, lines, taken) in rows {
-            let mut input = Halting::new(rt.alloc(), &SECTIONS, step)?;
+    for room in ROOMS {
+        for (most, lines, wanted_bytes) in rows {
+            let stream = Halting::new(rt.alloc(), &SECTIONS, 1000)?;
+            let mut input = buffered(rt.alloc(), room, stream)?;
             let mut output = Vec::new(rt.alloc());
             let exit = run(rt.alloc(), &["blocks"], &mut input, &mut output, most);
             assert!(rt;
-                matches!(exit, Exit::Most) && input.taken == taken,
+                matches!(exit, Exit::Most) && taken(&input) == wanted_bytes,
                 "{most} lines"
             );
             let wanted = format!(in rt.alloc(); "{SECTION_LINE}{lines}")?;

@@ -1,5 +1,6 @@
 //! The program over an input and an output that fail.
 
+use crate::inputs::{ROOMS, buffered};
 use capcopy_run::{Uninterrupted, run};
 use std::io::ErrorKind;
 use std::test::Fail;
@@ -20,14 +21,17 @@ fn interrupted_reads(rt: HostRuntime) -> Result<(), Fail> {
         ("copy", bytes.as_slice(), 139, bytes.as_slice()),
         ("blocks", &SECTIONS, 97, LINES.as_bytes()),
     ];
-    for (word, given, fails_at, written) in rows {
-        let mut input = Halting::new(rt.alloc(), given, 1)?;
-        input.fails_at = fails_at;
-        input.kind = ErrorKind::Interrupted;
-        let mut output = Vec::new(rt.alloc());
-        let exit = run(rt.alloc(), &[word], &mut input, &mut output, 9);
-        assert_eq!(rt; exit.status(), 3);
-        assert_eq!(rt; output.as_slice(), written);
+    for room in ROOMS {
+        for (word, given, fails_at, written) in rows {
+            let mut stream = Halting::new(rt.alloc(), given, 1)?;
+            stream.fails_at = fails_at;
+            stream.kind = ErrorKind::Interrupted;
+            let mut input = buffered(rt.alloc(), room, stream)?;
+            let mut output = Vec::new(rt.alloc());
+            let exit = run(rt.alloc(), &[word], &mut input, &mut output, 9);
+            assert!(rt; exit.status() == 3, "{word} behind {room}");
+            assert_eq!(rt; output.as_slice(), written);
+        }
     }
     Ok(())
 }
@@ -45,7 +49,7 @@ fn repeated_reads(rt: HostRuntime) -> Result<(), Fail> {
             let mut stream = Halting::new(rt.alloc(), given, 20)?;
             stream.fails_at = fails_at;
             stream.kind = ErrorKind::Interrupted;
-            let mut input = Uninterrupted::new(stream);
+            let mut input = buffered(rt.alloc(), 40, Uninterrupted::new(stream))?;
             let mut output = Vec::new(rt.alloc());
             let exit = run(rt.alloc(), &[word], &mut input, &mut output, 9);
             assert!(rt; exit.status() == 0, "{word} at {fails_at}");
@@ -64,9 +68,8 @@ fn narrow_outputs(rt: HostRuntime) -> Result<(), Fail> {
         ("blocks", &SECTIONS, LINES.as_bytes()),
     ];
     for (word, given, written) in rows {
-        let mut input = Halting::new(rt.alloc(), given, 1000)?;
         for room in 0..written.len() {
-            input.taken = 0;
+            let mut input = buffered(rt.alloc(), 40, Halting::new(rt.alloc(), given, 1000)?)?;
             let mut output = Narrow::new(rt.alloc(), room, false);
             let exit = run(rt.alloc(), &[word], &mut input, &mut output, 9);
             assert!(rt; exit.status() == 3, "{word} at {room}");

@@ -6,4 +6,6 @@ mod blocks;
 #[cfg(test)]
 mod failing;
 #[cfg(test)]
+mod inputs;
+#[cfg(test)]
 mod words;

@@ -1,5 +1,6 @@
 //! The program over inputs and outputs in memory.
 
+use crate::inputs::{ROOMS, buffered, taken};
 use capcopy_run::{Exit, run};
 use pcap_classic::PcapError;
 use std::io::ErrorKind;
@@ -19,9 +20,6 @@ const BIG_MICRO: [u8; 40] = [
     0, 1, 0, 0, 0, 0, 0, 0, 0, 0, 0, 0, 0, 0,
 ];
 
-/// The most bytes that one read of the input gives.
-const STEPS: [usize; 2] = [1, 1000];
-
 /// The most lines or packets of a run that asks for all.
 const ALL: u64 = 4_294_967_295;
 
@@ -39,9 +37,13 @@ fn lists(rt: HostRuntime) -> Result<(), Fail> {
         (big(rt.alloc())?, "1 1335958313.152630000 98/98\n"),
         (little(rt.alloc())?, "1 1331901000.000000000 117/117\n"),
     ];
-    for step in STEPS {
+    for room in ROOMS {
         for (bytes, lines) in &rows {
-            let mut input = Halting::new(rt.alloc(), bytes.as_slice(), step)?;
+            let mut input = buffered(
+                rt.alloc(),
+                room,
+                Halting::new(rt.alloc(), bytes.as_slice(), 1000)?,
+            )?;
             let mut output = Vec::new(rt.alloc());
             let exit = run(rt.alloc(), &["list"], &mut input, &mut output, ALL);
             assert!(rt; matches!(exit, Exit::Done));
@@ -53,12 +55,34 @@ fn lists(rt: HostRuntime) -> Result<(), Fail> {
 }
 
 #[test]
+fn lists_at_each_cut(rt: HostRuntime) -> Result<(), Fail> {
+    // three packets of no, five and one byte behind BIG_NANO's header, at 1, 2 and 3 seconds
+    let mut whole = Vec::from_slice(rt.alloc(), &BIG_NANO)?;
+    whole.extend_from_slice(&[
+        0, 0, 0, 2, 0, 0, 0, 0, 0, 0, 0, 5, 0, 0, 0, 5, 1, 2, 3, 4, 5,
+    ])?;
+    whole.extend_from_slice(&[0, 0, 0, 3, 0, 0, 0, 7, 0, 0, 0, 1, 0, 0, 0, 9, 6])?;
+    let lines = "1 1.000000999 0/0\n2 2.000000000 5/5\n3 3.000000007 1/9\n";
+    for room in 1..80 {
+        for step in [7, 1000] {
+            let stream = Halting::new(rt.alloc(), whole.as_slice(), step)?;
+            let mut input = buffered(rt.alloc(), room, stream)?;
+            let mut output = Vec::new(rt.alloc());
+            let exit = run(rt.alloc(), &["list"], &mut input, &mut output, ALL);
+            assert!(rt; matches!(exit, Exit::Done), "behind {room}");
+            assert_eq!(rt; output.as_slice(), lines.as_bytes(), "behind {room}");
+        }
+    }
+    Ok(())
+}
+
+#[test]
 fn lists_of_torn_captures(rt: HostRuntime) -> Result<(), Fail> {
     let whole = big(rt.alloc())?;
-    for step in STEPS {
+    for room in ROOMS {
         for end in [0, 10, 40, 137] {
             let bytes = front(whole.as_slice(), end);
-            let mut input = Halting::new(rt.alloc(), bytes, step)?;
+            let mut input = buffered(rt.alloc(), room, Halting::new(rt.alloc(), bytes, 1000)?)?;
             let mut output = Vec::new(rt.alloc());
             let exit = run(rt.alloc(), &["list"], &mut input, &mut output, ALL);
             assert!(rt; is_early_end(&exit), "at {end}");
@@ -74,14 +98,14 @@ fn most_lines(rt: HostRuntime) -> Result<(), Fail> {
     let mut whole = big(rt.alloc())?;
     whole.extend_from_slice(&[0xff; 16])?;
     for end in [154, 138] {
-        for step in STEPS {
+        for room in ROOMS {
             let bytes = front(whole.as_slice(), end);
-            let mut input = Halting::new(rt.alloc(), bytes, step)?;
+            let mut input = buffered(rt.alloc(), room, Halting::new(rt.alloc(), bytes, 1000)?)?;
             let mut output = Vec::new(rt.alloc());
             let exit = run(rt.alloc(), &["list"], &mut input, &mut output, 1);
             assert!(rt; matches!(exit, Exit::Most));
             assert_eq!(rt; exit.status(), 1);
-            assert_eq!(rt; input.taken, 138);
+            assert_eq!(rt; taken(&input), 138);
             assert_eq!(rt;
                 output.as_slice(),
                 b"1 1335958313.152630000 98/98\n".as_slice()
@@ -95,9 +119,9 @@ fn most_lines(rt: HostRuntime) -> Result<(), Fail> {
 fn refused_captures(rt: HostRuntime) -> Result<(), Fail> {
     let mut whole = big(rt.alloc())?;
     whole.extend_from_slice(&[0, 0, 0, 1, 0, 0, 0, 0, 0, 0, 0, 2, 0, 0, 0, 1])?;
-    for step in STEPS {
+    for room in ROOMS {
         let bytes = whole.as_slice();
-        let mut input = Halting::new(rt.alloc(), bytes, step)?;
+        let mut input = buffered(rt.alloc(), room, Halting::new(rt.alloc(), bytes, 1000)?)?;
         let mut output = Vec::new(rt.alloc());
         let exit = run(rt.alloc(), &["list"], &mut input, &mut output, ALL);
         assert_eq!(rt;
@@ -140,13 +164,13 @@ fn copies(rt: HostRuntime) -> Result<(), Fail> {
         ),
         (&["copy", "big", "micro"], &BIG_NANO, &BIG_MICRO),
     ];
-    for step in STEPS {
+    for room in ROOMS {
         for (words, bytes, copy) in rows {
             let mut output = Vec::new(rt.alloc());
             let exit = run(
                 rt.alloc(),
                 words,
-                &mut Halting::new(rt.alloc(), bytes, step)?,
+                &mut buffered(rt.alloc(), room, Halting::new(rt.alloc(), bytes, 1000)?)?,
                 &mut output,
                 ALL,
             );
@@ -156,7 +180,7 @@ fn copies(rt: HostRuntime) -> Result<(), Fail> {
             let exit = run(
                 rt.alloc(),
                 words,
-                &mut Halting::new(rt.alloc(), bytes, step)?,
+                &mut buffered(rt.alloc(), room, Halting::new(rt.alloc(), bytes, 1000)?)?,
                 &mut output,
                 1,
             );
@@ -174,13 +198,13 @@ fn largest_packet(rt: HostRuntime) -> Result<(), Fail> {
     whole.resize(262_184, 7)?;
     let bytes = whole.as_slice();
     let rows: [(&str, &[u8]); 2] = [("list", b"1 1.000002000 262144/262144\n"), ("copy", bytes)];
-    for step in STEPS {
+    for room in ROOMS {
         for (word, written) in rows {
             let mut output = Vec::new(rt.alloc());
             let exit = run(
                 rt.alloc(),
                 &[word],
-                &mut Halting::new(rt.alloc(), bytes, step)?,
+                &mut buffered(rt.alloc(), room, Halting::new(rt.alloc(), bytes, 1000)?)?,
                 &mut output,
                 ALL,
             );
@@ -194,14 +218,14 @@ fn largest_packet(rt: HostRuntime) -> Result<(), Fail> {
 #[test]
 fn copies_of_torn_captures(rt: HostRuntime) -> Result<(), Fail> {
     let whole = big(rt.alloc())?;
-    for step in STEPS {
+    for room in ROOMS {
         for (end, written) in [(0, 0), (10, 0), (40, 24), (137, 24)] {
             let bytes = front(whole.as_slice(), end);
             let mut output = Vec::new(rt.alloc());
             let exit = run(
                 rt.alloc(),
                 &["copy"],
-                &mut Halting::new(rt.alloc(), bytes, step)?,
+                &mut buffered(rt.alloc(), room, Halting::new(rt.alloc(), bytes, 1000)?)?,
                 &mut output,
                 ALL,
             );
@@ -225,15 +249,15 @@ fn usage(rt: HostRuntime) -> Result<(), Fail> {
         &["block"],
         &["blocks", "list"],
     ];
-    for step in STEPS {
+    for room in ROOMS {
         for words in rows {
             let bytes = whole.as_slice();
-            let mut input = Halting::new(rt.alloc(), bytes, step)?;
+            let mut input = buffered(rt.alloc(), room, Halting::new(rt.alloc(), bytes, 1000)?)?;
             let mut output = Vec::new(rt.alloc());
             let exit = run(rt.alloc(), words, &mut input, &mut output, ALL);
             assert!(rt; matches!(exit, Exit::Usage));
             assert_eq!(rt; exit.status(), 2);
-            assert!(rt; input.calls == 0 && output.is_empty());
+            assert!(rt; input.get_ref().calls == 0 && output.is_empty());
         }
     }
     Ok(())

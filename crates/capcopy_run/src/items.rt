@@ -1,0 +1,104 @@
+//! Items of a capture that are listed, one line each.
+
+ghost use Rattle.std.specs.Prelude.{◌≡◌, ◌≤◌, ◌<◌, ◌+◌, ℕ, List, length, true, IfOk};
+ghost use Rattle.pcap_core.specs.Format.{Format};
+ghost use Rattle.capcopy_run.specs.Listing.{ListsItems};
+ghost use Rattle.capcopy_run.specs.Turns.{TurnGives, WalkGives};
+
+use crate::Exit;
+use std::alloc::Global;
+use std::io::{BufRead, Write};
+
+/// What writes a line for each item of one kind.
+pub(crate) trait Lister {
+    ghost Setting: { Type 0 };
+
+    ghost State: { Type 0 };
+
+    ghost Value: { Type 0 };
+
+    ghost is_line: { ℕ → Value → List ℕ → Type 0 };
+
+    ghost format: { Setting → Format State Value };
+
+    ghost setting: { Self → Setting };
+
+    ghost state: { Self → State };
+
+    /// Writes a line for each item that lies whole at the front of these bytes, and returns how many bytes these are.
+    fn list_shown<W: Write>(
+        &mut self,
+        alloc: Global,
+        shown: &[u8],
+        output: &mut W,
+        listed: &mut u64,
+        most: u64,
+    ) -> Result<usize, Exit>
+        requires { listed.old ≤ most }
+        ensures same { setting self.new ≡ setting self.old }
+        ensures counts { (listed.old ≤ listed.new) × (listed.new ≤ most) }
+        ensures within { IfOk result (λ used. used ≤ length shown.now) }
+        ensures walks { WalkGives is_line (format (setting self.old)) (state self.old) (state self.new) shown.now (W.contents output.old) (W.contents output.new) listed.old listed.new most result };
+
+    /// Writes the line of the item at the front of the input, and says whether there was one.
+    fn list_torn<R: BufRead, W: Write>(
+        &mut self,
+        alloc: Global,
+        input: &mut R,
+        output: &mut W,
+        listed: &mut u64,
+        most: u64,
+    ) -> Result<bool, Exit>
+        requires { listed.old < most }
+        ensures same { setting self.new ≡ setting self.old }
+        ensures counts { IfOk result (λ more. (more ≡ true → listed.new ≡ listed.old + 1)) }
+        ensures turn { TurnGives is_line (format (setting self.old)) (state self.old) (state self.new) (R.remaining input.old) (R.remaining input.new) (W.contents output.old) (W.contents output.new) listed.old listed.new most result };
+}
+
+// Writes the lines of the items that lie whole in the input's buffer, else that of the item which is torn at its end. Before
+// the input waits, the lines so far are out.
+fn list_some<L: Lister, R: BufRead, W: Write>(
+    alloc: Global,
+    lister: &mut L,
+    input: &mut R,
+    output: &mut W,
+    listed: &mut u64,
+    most: u64,
+) -> Result<bool, Exit>
+    requires { listed.old < most }
+    ensures same { L.setting lister.new ≡ L.setting lister.old }
+    ensures counts { IfOk result (λ more. (more ≡ true → (listed.old < listed.new) × (listed.new ≤ most))) }
+    ensures turn { TurnGives L.is_line (L.format (L.setting lister.old)) (L.state lister.old) (L.state lister.new) (R.remaining input.old) (R.remaining input.new) (W.contents output.old) (W.contents output.new) listed.old listed.new most result }
+{
+    output.flush()?;
+    let shown = input.fill_buf()?;
+    if shown.is_empty() {
+        return Ok(false);
+    }
+    let before = *listed;
+    let used = lister.list_shown(alloc, shown, output, listed, most)?;
+    input.consume(used);
+    if *listed > before {
+        return Ok(true);
+    }
+    lister.list_torn(alloc, input, output, listed, most)
+}
+
+/// Writes a line for each item of the input, `most` of them at most.
+pub(crate) fn list_items<L: Lister, R: BufRead, W: Write>(
+    alloc: Global,
+    lister: &mut L,
+    input: &mut R,
+    output: &mut W,
+    most: u64,
+) -> Result<(), Exit>
+    ensures { ListsItems L.is_line (L.format (L.setting lister.old)) (L.state lister.old) (R.remaining input.old) (W.contents output.old) (W.contents output.new) most result }
+{
+    let mut listed = 0;
+    while listed < most {
+        if !list_some(alloc, lister, input, output, &mut listed, most)? {
+            return Ok(());
+        }
+    }
+    Err(Exit::Most)
+}
