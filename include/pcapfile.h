@@ -188,6 +188,7 @@ typedef struct pcapfile_interface {
 
 /* A packet of an interface. */
 typedef struct pcapfile_ng_packet {
+    uint32_t type;         /* of its block: 6 enhanced, 3 simple, 2 obsolete */
     uint32_t interface_id; /* the number of its interface, from 0 on in their order; none of the section need have it */
     uint32_t orig_len;     /* how many bytes it had on the wire */
     uint64_t timestamp;    /* in units of the interface, for pcapfile_time_of; 0 for a simple packet, which has no time */
@@ -195,7 +196,7 @@ typedef struct pcapfile_ng_packet {
                               at most orig_len and the interface's snaplen of them are the packet's, and the rest is padding */
 } pcapfile_ng_packet;
 
-#define PCAPFILE_NG_PACKET_INIT { 0, 0, 0, PCAPFILE_NO_BYTES }
+#define PCAPFILE_NG_PACKET_INIT { 0, 0, 0, 0, PCAPFILE_NO_BYTES }
 
 /* A time. */
 typedef struct pcapfile_time {
@@ -225,6 +226,16 @@ int32_t pcapfile_read_interface(const pcapfile_section *section, const pcapfile_
 /* As pcapfile_read_interface, for the packet that a block of type 2, 3 or 6 is. */
 int32_t pcapfile_read_packet(const pcapfile_section *section, const pcapfile_block *block, pcapfile_ng_packet *packet,
                              pcapfile_error *error);
+
+/* Takes the packets at the front of `left` as pcapfile_take_block and pcapfile_read_packet do, and passes over the other blocks
+ * between them, until `room` of them are in `packets`, or no bytes are left, or a section header or an interface follows, or
+ * what is left is refused. Of `section` only the magic number matters; it stays in force, since no such block is taken.
+ * `*taken` is how many they are; `packets` from there on is unchanged. The status is PCAPFILE_OK; or PCAPFILE_NOTHING where
+ * `left` begins with a section header or an interface, which pcapfile_take_block takes; or that of the refusal, of a frame, or of
+ * a packet's body, which pcapfile_take_block passes over. PCAPFILE_INVALID with rule 6 where section->magic_number is no
+ * section's. */
+int32_t pcapfile_take_ng_packets(const pcapfile_section *section, pcapfile_bytes *left, pcapfile_ng_packet *packets, size_t room,
+                                 size_t *taken, pcapfile_error *error);
 
 /* Fills `time` with the time of so many units of an interface. Of `interface` only what begins with ts_ matters; any
  * ts_base but 2 is 10. PCAPFILE_NOTHING where the seconds pass 64 bits; then `time` is unchanged. */

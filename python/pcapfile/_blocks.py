@@ -1,10 +1,11 @@
 """Captures in the PcapNg format."""
 
 import ctypes
-from typing import Dict, Iterator, NamedTuple, Optional
+import struct
+from typing import Dict, Iterator, NamedTuple, Optional, Tuple
 
 from . import _library
-from ._capture import Bytes, Data
+from ._capture import BATCH, Bytes, Data
 from ._errors import error_of
 
 
@@ -50,7 +51,29 @@ class BlockPacket(NamedTuple):
         return None if self.interface is None else self.interface.link
 
 
-SIMPLE_PACKET = 3
+_SIMPLE_PACKET = 3
+
+# A packet as the library fills it in: its block's type, interface, original length, units of time, and where its bytes lie.
+_PACKET = struct.Struct("@IIIQPN")
+
+
+class _Known:
+    """An interface of the section in force, and how its units of time are told. Those from a tenth down to a thousand-millionth
+    of a second, with nothing added, are divided here: `per_second` of them, each of so many `nanoseconds`. All others are for
+    the library, and there `per_second` is 0."""
+
+    def __init__(self, shown: _library.Interface) -> None:
+        self.interface = Interface(*(getattr(shown, name) for name, _ in shown._fields_))
+        self._shown, self._time = shown, _library.Time()
+        is_plain = shown.ts_base == 10 and 1 <= shown.ts_exponent <= 9 and shown.ts_offset == 0
+        self.per_second = 10**shown.ts_exponent if is_plain else 0
+        self.nanoseconds = 10 ** (9 - shown.ts_exponent) if is_plain else 0
+
+    def time(self, units: int) -> Tuple[Optional[int], int]:
+        """Seconds and nanoseconds, or None and 0 where the seconds pass 64 bits."""
+        if _library.time_of(self._shown, units, self._time) != _library.OK:
+            return None, 0
+        return self._time.seconds, self._time.nanoseconds
 
 
 class _Walk:
@@ -60,9 +83,7 @@ class _Walk:
         self.left, self.total = left, total
         self.section, self.error = _library.Section(), _library.Error()
         self.block = _library.Block(0, _library.no_bytes())
-        self.packet = _library.NgPacket(0, 0, 0, _library.no_bytes())
-        self.shown: Dict[int, _library.Interface] = {}
-        self.interfaces: Dict[int, Interface] = {}
+        self.known: Dict[int, _Known] = {}
 
     def take(self) -> None:
         """Takes the next block, and of an interface what is needed of it."""
@@ -71,27 +92,14 @@ class _Walk:
         if status != _library.OK:
             raise error_of(status, self.error, self.total - self.left.len)
         if self.section.interfaces == 0:
-            self.shown.clear()
-            self.interfaces.clear()
+            self.known.clear()
         elif self.section.interfaces != before:
             self._keep(before)
 
     def _keep(self, number: int) -> None:
         shown = _library.Interface()
         if _library.read_interface(self.section, self.block, shown, self.error) == _library.OK:
-            self.shown[number] = shown
-            self.interfaces[number] = Interface(*(getattr(shown, name) for name, _ in shown._fields_))
-
-    def reads_packet(self) -> bool:
-        """Whether the block is a packet that can be read, which `packet` then is."""
-        return _library.read_packet(self.section, self.block, self.packet, self.error) == _library.OK
-
-    def time(self, into: _library.Time) -> bool:
-        """Whether the packet has a time, which `into` then is."""
-        shown = self.shown.get(self.packet.interface_id)
-        if shown is None or self.block.type == SIMPLE_PACKET:
-            return False
-        return _library.time_of(shown, self.packet.timestamp, into) == _library.OK
+            self.known[number] = _Known(shown)
 
 
 class BlockCapture(Bytes):
@@ -106,26 +114,30 @@ class BlockCapture(Bytes):
         return _Walk(self._from(0), len(self._bytes))
 
     def __iter__(self) -> Iterator[BlockPacket]:
-        walk, time = self._walk(), _library.Time()
+        walk, taken = self._walk(), ctypes.c_size_t()
+        packets = (_library.NgPacket * BATCH)(*[_library.NgPacket(0, 0, 0, 0, _library.no_bytes())] * BATCH)
+        fields = memoryview(packets).cast("B")
         while walk.left.len > 0:
             # A closed capture raises here, before the library would look at its bytes.
             len(self._bytes)
-            walk.take()
-            if walk.reads_packet():
-                yield self._packet(walk, time)
-
-    def _packet(self, walk: _Walk, time: _library.Time) -> BlockPacket:
-        packet, has_time = walk.packet, walk.time(time)
-        at = packet.bytes.ptr - self._start
-        return BlockPacket(
-            time.seconds if has_time else None,
-            time.nanoseconds if has_time else 0,
-            packet.orig_len,
-            self._bytes[at : at + packet.bytes.len],
-            packet.timestamp,
-            packet.interface_id,
-            walk.interfaces.get(packet.interface_id),
-        )
+            status = _library.take_ng_packets(walk.section, walk.left, packets, BATCH, taken, walk.error)
+            data, start, kept = self._bytes, self._start, walk.known
+            for kind, number, original, units, at, length in _PACKET.iter_unpack(fields[: taken.value * _PACKET.size]):
+                known = kept.get(number)
+                seconds, nanoseconds = None, 0
+                if known is not None and kind != _SIMPLE_PACKET:
+                    if known.per_second:
+                        seconds, rest = divmod(units, known.per_second)
+                        nanoseconds = rest * known.nanoseconds
+                    else:
+                        seconds, nanoseconds = known.time(units)
+                at -= start
+                lent, interface = data[at : at + length], known and known.interface
+                yield BlockPacket(seconds, nanoseconds, original, lent, units, number, interface)
+            if status != _library.OK:
+                # A section, an interface, a packet that can't be read, or a refusal.
+                len(self._bytes)
+                walk.take()
 
     def __enter__(self) -> "BlockCapture":
         return self

@@ -9,7 +9,7 @@ from . import _library
 from ._errors import error_of
 
 # How many packets one call into the library takes.
-_BATCH = 512
+BATCH = 512
 
 # A packet as the library fills it in: seconds, nanoseconds, original length, and where its bytes lie.
 _PACKET = struct.Struct("@IIIPN")
@@ -100,13 +100,13 @@ class Capture(Bytes):
 
     def __iter__(self) -> Iterator[Packet]:
         left = self._from(self._after_header)
-        packets = (_library.Packet * _BATCH)(*[_library.Packet(0, 0, 0, _library.no_bytes())] * _BATCH)
+        packets = (_library.Packet * BATCH)(*[_library.Packet(0, 0, 0, _library.no_bytes())] * BATCH)
         fields = memoryview(packets).cast("B")
         taken, error, link = ctypes.c_size_t(), _library.Error(), self.link
         while left.len > 0:
             # A closed capture raises here, before the library would look at its bytes.
             total = len(self._bytes)
-            status = _library.take_packets(self._header, left, packets, _BATCH, taken, error)
+            status = _library.take_packets(self._header, left, packets, BATCH, taken, error)
             data, start = self._bytes, self._start
             for seconds, nanoseconds, original, at, length in _PACKET.iter_unpack(fields[: taken.value * _PACKET.size]):
                 at -= start

@@ -59,6 +59,7 @@ class Interface(ctypes.Structure):
 
 class NgPacket(ctypes.Structure):
     _fields_ = [
+        ("type", ctypes.c_uint32),
         ("interface_id", ctypes.c_uint32),
         ("orig_len", ctypes.c_uint32),
         ("timestamp", ctypes.c_uint64),
@@ -102,6 +103,17 @@ read_interface.restype = ctypes.c_int32
 read_packet = _library.pcapfile_read_packet
 read_packet.argtypes = [_to(Section), _to(Block), _to(NgPacket), _to(Error)]
 read_packet.restype = ctypes.c_int32
+
+take_ng_packets = _library.pcapfile_take_ng_packets
+take_ng_packets.argtypes = [
+    _to(Section),
+    _to(Bytes),
+    _to(NgPacket),
+    ctypes.c_size_t,
+    _to(ctypes.c_size_t),
+    _to(Error),
+]
+take_ng_packets.restype = ctypes.c_int32
 
 time_of = _library.pcapfile_time_of
 time_of.argtypes = [_to(Interface), ctypes.c_uint64, _to(Time)]

@@ -76,6 +76,13 @@ class Blocks(unittest.TestCase):
         self.assertEqual((first.time_ns, first.original_length, first.link), (7_000_008_000, 60, 113))
         self.assertEqual((second.time_ns, second.interface.snaplen, second.link), (7_000_008, 0, 1))
 
+    def test_more_packets_than_a_batch(self):
+        others = block(99, b"") + block(6, b"tooshort")
+        data = SECTION + INTERFACE + b"".join(enhanced(0, n, bytes([n % 256])) + others * (n % 3 == 0) for n in range(2000))
+        with pcapfile.parse(data) as capture:
+            wanted = [(n, n // 10**6, n % 10**6 * 1000, n % 256) for n in range(2000)]
+            self.assertEqual([(p.timestamp, p.seconds, p.nanoseconds, p.data[0]) for p in capture], wanted)
+
     def test_bytes_lie_in_the_file(self):
         with tempfile.TemporaryDirectory() as folder:
             path = Path(folder, "capture.pcapng")

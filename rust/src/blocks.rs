@@ -94,7 +94,7 @@ impl<'a> Block<'a> {
     /// The packet that it is. None where its body is good and of another type.
     pub fn packet(&self) -> Result<Option<BlockPacket<'a>>, Error> {
         let none = calls::Bytes::of(b"");
-        let mut packet = calls::NgPacket { interface_id: 0, orig_len: 0, timestamp: 0, bytes: none };
+        let mut packet = calls::NgPacket { type_: 0, interface_id: 0, orig_len: 0, timestamp: 0, bytes: none };
         let mut error = calls::Error::default();
         // SAFETY: each pointer is that of a value of its own, and the body is a slice's.
         match unsafe { calls::pcapfile_read_packet(&self.section, &self.raw(), &mut packet, &mut error) } {

@@ -32,6 +32,7 @@ pub struct Block {
 #[repr(C)]
 #[derive(Clone, Copy)]
 pub struct NgPacket {
+    pub type_: u32,
     pub interface_id: u32,
     pub orig_len: u32,
     pub timestamp: u64,

@@ -2,6 +2,7 @@
  *
  *   blocks FILE          a line for the first section, and one for each block after it
  *   blocks -p FILE       a line for each packet: block, interface, ticks, seconds, link type, stored and original length, bytes
+ *   blocks -n FILE       the same by batches, without the blocks' numbers
  *   blocks -f FILE       of every front of the file: its blocks, and then the status
  *   blocks -t FILE       counts, and prints packets and nanoseconds a packet, the best of ten rounds
  */
@@ -13,7 +14,7 @@
 #include <string.h>
 #include <time.h>
 
-enum { INTERFACES = 64, REFUSED = 1, USAGE = 2, ENDED_EARLY = 3, NO_MEMORY = 4, NO_FILE = 4 };
+enum { INTERFACES = 64, BATCH = 3, REFUSED = 1, USAGE = 2, ENDED_EARLY = 3, NO_MEMORY = 4, NO_FILE = 4 };
 
 /* A walk, and what it needs of the interfaces of its section. */
 struct walk {
@@ -92,21 +93,26 @@ static void print_time(const struct walk *walk, const pcapfile_ng_packet *packet
         return;
     }
     const pcapfile_interface *interface = &walk->interfaces[packet->interface_id];
-    int has_time = walk->block.type != PCAPFILE_BLOCK_SIMPLE_PACKET;
+    int has_time = packet->type != PCAPFILE_BLOCK_SIMPLE_PACKET;
     if (has_time && pcapfile_time_of(interface, packet->timestamp, &time) == PCAPFILE_OK)
         printf("%" PRId64 ".%09" PRIu32 " %" PRIu32 " ", time.seconds, time.nanoseconds, interface->link);
     else
         printf("none %" PRIu32 " ", interface->link);
 }
 
+static void print_fields(const struct walk *walk, const pcapfile_ng_packet *packet) {
+    printf("%" PRIu32 " %" PRIu64 " ", packet->interface_id, packet->timestamp);
+    print_time(walk, packet);
+    printf("%zu/%" PRIu32 " ", packet->bytes.len, packet->orig_len);
+    for (size_t i = 0; i < packet->bytes.len; i++) printf("%02x", packet->bytes.ptr[i]);
+    printf("\n");
+}
+
 static void print_packet(struct walk *walk) {
     pcapfile_ng_packet packet = PCAPFILE_NG_PACKET_INIT;
     if (pcapfile_read_packet(&walk->section, &walk->block, &packet, &walk->error) != PCAPFILE_OK) return;
-    printf("%" PRIu64 " %" PRIu32 " %" PRIu64 " ", walk->index, packet.interface_id, packet.timestamp);
-    print_time(walk, &packet);
-    printf("%zu/%" PRIu32 " ", packet.bytes.len, packet.orig_len);
-    for (size_t i = 0; i < packet.bytes.len; i++) printf("%02x", packet.bytes.ptr[i]);
-    printf("\n");
+    printf("%" PRIu64 " ", walk->index);
+    print_fields(walk, &packet);
 }
 
 static int32_t list_packets(struct walk *walk) {
@@ -115,6 +121,19 @@ static int32_t list_packets(struct walk *walk) {
         status = next_block(walk);
         if (status == PCAPFILE_OK) print_packet(walk);
         walk->index++;
+    }
+    return status;
+}
+
+/* What stops a batch is taken as a block: a section, an interface, a packet that can't be read, or a refusal. */
+static int32_t list_batches(struct walk *walk) {
+    pcapfile_ng_packet packets[BATCH] = { PCAPFILE_NG_PACKET_INIT, PCAPFILE_NG_PACKET_INIT, PCAPFILE_NG_PACKET_INIT };
+    int32_t status = PCAPFILE_OK;
+    while (status == PCAPFILE_OK && walk->left.len > 0) {
+        size_t taken = 0;
+        int32_t ended = pcapfile_take_ng_packets(&walk->section, &walk->left, packets, BATCH, &taken, &walk->error);
+        for (size_t i = 0; i < taken; i++) print_fields(walk, &packets[i]);
+        if (ended != PCAPFILE_OK) status = next_block(walk);
     }
     return status;
 }
@@ -192,6 +211,7 @@ int main(int argc, char **argv) {
     int status = USAGE;
     if (!strcmp(way, "-b")) status = tell(list_blocks(&walk), &walk.error);
     if (!strcmp(way, "-p")) status = tell(list_packets(&walk), &walk.error);
+    if (!strcmp(way, "-n")) status = tell(list_batches(&walk), &walk.error);
     if (!strcmp(way, "-f")) status = list_fronts(all);
     if (!strcmp(way, "-t")) status = count(all);
     free((void *)(uintptr_t)all.ptr);

@@ -152,7 +152,7 @@ static void bodies(void) {
     EXPECT(pcapfile_read_packet(&section, &block, &packet, &error) == PCAPFILE_NOTHING);
     EXPECT(pcapfile_take_block(&section, &left, &block, &error) == PCAPFILE_OK && left.len == 0);
     EXPECT(pcapfile_read_packet(&section, &block, &packet, &error) == PCAPFILE_OK);
-    EXPECT(packet.interface_id == 0 && packet.orig_len == 5 && packet.timestamp == 7);
+    EXPECT(packet.type == 6 && packet.interface_id == 0 && packet.orig_len == 5 && packet.timestamp == 7);
     EXPECT(packet.bytes.ptr == blocks + 96 && packet.bytes.len == 3);
     block.body.len = 19;
     packet.orig_len = 99;
@@ -160,6 +160,56 @@ static void bodies(void) {
     section.magic_number = 0;
     EXPECT(pcapfile_read_packet(&section, &block, &packet, &error) == PCAPFILE_INVALID);
     EXPECT(error.rule == PCAPFILE_RULE_SECTION_MAGIC && packet.orig_len == 99);
+}
+
+static void ng_batches(void) {
+    pcapfile_section section = PCAPFILE_SECTION_INIT;
+    pcapfile_bytes left = { blocks, sizeof blocks }, before = left;
+    pcapfile_block block = PCAPFILE_BLOCK_INIT;
+    pcapfile_ng_packet packets[2] = { PCAPFILE_NG_PACKET_INIT, PCAPFILE_NG_PACKET_INIT };
+    pcapfile_error error = PCAPFILE_ERROR_INIT;
+    size_t taken = 9;
+    EXPECT(pcapfile_take_ng_packets(&section, &left, packets, 2, &taken, &error) == PCAPFILE_INVALID && taken == 0);
+    EXPECT(error.rule == PCAPFILE_RULE_SECTION_MAGIC && !memcmp(&left, &before, sizeof left));
+    EXPECT(pcapfile_take_block(&section, &left, &block, &error) == PCAPFILE_OK);
+    EXPECT(pcapfile_take_ng_packets(&section, &left, packets, 2, &taken, &error) == PCAPFILE_NOTHING && taken == 0);
+    EXPECT(left.ptr == blocks + 28 && packets[0].type == 0);
+    EXPECT(pcapfile_take_block(&section, &left, &block, &error) == PCAPFILE_OK && section.interfaces == 1);
+    EXPECT(pcapfile_take_ng_packets(&section, &left, packets, 0, &taken, &error) == PCAPFILE_OK && left.len == 36);
+    left.len = 35;
+    EXPECT(pcapfile_take_ng_packets(&section, &left, packets, 2, &taken, &error) == PCAPFILE_INCOMPLETE && taken == 0);
+    EXPECT(error.missing == 1 && left.ptr == blocks + 68 && left.len == 35 && packets[0].type == 0);
+    left.len = 36;
+    EXPECT(pcapfile_take_ng_packets(&section, &left, packets, 2, &taken, &error) == PCAPFILE_OK && taken == 1 && left.len == 0);
+    EXPECT(packets[0].type == 6 && packets[0].interface_id == 0 && packets[0].orig_len == 5 && packets[0].timestamp == 7);
+    EXPECT(packets[0].bytes.ptr == blocks + 96 && packets[0].bytes.len == 3 && packets[1].type == 0);
+    EXPECT(pcapfile_take_ng_packets(&section, &left, packets, 2, &taken, &error) == PCAPFILE_OK && taken == 0);
+    EXPECT(section.interfaces == 1 && section.magic_number == 0x4d3c2b1a);
+}
+
+/* Two enhanced packets of no bytes, with a block of an unknown type before each and one behind, and then a packet whose body says
+ * that it has 1 byte and has none. */
+static void passed_blocks(void) {
+    static const uint8_t unknown[] = { 99, 0, 0, 0, 12, 0, 0, 0, 12, 0, 0, 0 };
+    uint8_t packet[32] = { 6, 0, 0, 0, 32, [28] = 32 }, bytes[3 * 12 + 3 * 32];
+    pcapfile_section section = { 0x4d3c2b1a, 1, 0, 1 };
+    pcapfile_ng_packet packets[4] = { PCAPFILE_NG_PACKET_INIT, PCAPFILE_NG_PACKET_INIT, PCAPFILE_NG_PACKET_INIT, PCAPFILE_NG_PACKET_INIT };
+    pcapfile_bytes left = { bytes, sizeof bytes };
+    pcapfile_block block = PCAPFILE_BLOCK_INIT;
+    pcapfile_error error = PCAPFILE_ERROR_INIT;
+    size_t taken = 9;
+    for (uint8_t i = 0; i < 3; i++) {
+        packet[12] = i;
+        packet[20] = packet[24] = i == 2;
+        memcpy(bytes + 44 * i, unknown, 12);
+        memcpy(bytes + 44 * i + 12, packet, 32);
+    }
+    EXPECT(pcapfile_take_ng_packets(&section, &left, packets, 1, &taken, &error) == PCAPFILE_OK && taken == 1);
+    EXPECT(left.len == sizeof bytes - 44 && packets[0].type == 6 && packets[1].type == 0);
+    left = (pcapfile_bytes){ bytes, sizeof bytes };
+    EXPECT(pcapfile_take_ng_packets(&section, &left, packets, 4, &taken, &error) == PCAPFILE_INVALID && taken == 2);
+    EXPECT(left.len == 32 && packets[1].type == 6 && packets[2].type == 0 && error.rule > 0);
+    EXPECT(pcapfile_take_block(&section, &left, &block, &error) == PCAPFILE_OK && left.len == 0);
 }
 
 static void times(void) {
@@ -201,6 +251,8 @@ int main(void) {
     writes();
     first_blocks();
     bodies();
+    ng_batches();
+    passed_blocks();
     times();
     rules();
     return failures > 0;

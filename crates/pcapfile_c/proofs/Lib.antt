@@ -1,3 +1,4 @@
 pub mod Refused
 pub mod Many
 pub mod Leading
+pub mod Passages

@@ -4,3 +4,4 @@ pub mod Calls
 pub mod Writing
 pub mod Blocks
 pub mod Bodies
+pub mod Batches

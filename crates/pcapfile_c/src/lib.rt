@@ -4,6 +4,7 @@
 //! requires anything of its arguments' values.
 #![tactic(auto)]
 
+mod batches;
 mod blocks;
 mod bodies;
 mod errors;
