@@ -1,6 +1,7 @@
-/* walk CALL PASSES < CAPTURE: takes each packet of a classic capture by the library's C header, so many times over, and prints
- * the sum of their nanoseconds and stored bytes, as `measured_calls next_packet` does. CALL is take_packet, or take_packets
- * for 256 in one call. */
+/* walk CALL PASSES < CAPTURE: takes each packet of a capture by the library's C header, so many times over, and prints a sum: of
+ * a classic capture that of their nanoseconds and stored bytes, as `measured_calls next_packet` does, and of a PcapNg one that
+ * of their units of time and stored bytes. CALL is take_packet or take_ng_packet for one in a call, or take_packets or
+ * take_ng_packets for 256. */
 #include "pcapfile.h"
 
 #include <inttypes.h>
@@ -35,13 +36,54 @@ static int32_t add_packets(pcapfile_bytes left, uint64_t *sum) {
     return status;
 }
 
+static int32_t add_ng_packets(pcapfile_bytes left, uint64_t *sum) {
+    pcapfile_section section = PCAPFILE_SECTION_INIT;
+    pcapfile_block block = PCAPFILE_BLOCK_INIT;
+    pcapfile_ng_packet packet = PCAPFILE_NG_PACKET_INIT;
+    pcapfile_error error = PCAPFILE_ERROR_INIT;
+    int32_t status = PCAPFILE_OK;
+    while (status == PCAPFILE_OK && left.len > 0)
+        if ((status = pcapfile_take_block(&section, &left, &block, &error)) == PCAPFILE_OK &&
+            pcapfile_read_packet(&section, &block, &packet, &error) == PCAPFILE_OK)
+            *sum += packet.timestamp + packet.bytes.len;
+    return status;
+}
+
+static int32_t add_ng_batches(pcapfile_bytes left, uint64_t *sum) {
+    static pcapfile_ng_packet packets[BATCH];
+    pcapfile_section section = PCAPFILE_SECTION_INIT;
+    pcapfile_block block = PCAPFILE_BLOCK_INIT;
+    pcapfile_error error = PCAPFILE_ERROR_INIT;
+    int32_t status = PCAPFILE_OK;
+    for (size_t i = 0; i < BATCH; i++) packets[i] = (pcapfile_ng_packet)PCAPFILE_NG_PACKET_INIT;
+    while (status == PCAPFILE_OK && left.len > 0) {
+        size_t taken = 0;
+        int32_t ended = pcapfile_take_ng_packets(&section, &left, packets, BATCH, &taken, &error);
+        for (size_t i = 0; i < taken; i++) *sum += packets[i].timestamp + packets[i].bytes.len;
+        if (ended != PCAPFILE_OK) status = pcapfile_take_block(&section, &left, &block, &error);
+    }
+    return status;
+}
+
+static const struct {
+    const char *name;
+    int32_t (*add)(pcapfile_bytes, uint64_t *);
+} calls[] = {
+    { "take_packet", add_packets },
+    { "take_packets", add_batches },
+    { "take_ng_packet", add_ng_packets },
+    { "take_ng_packets", add_ng_batches },
+};
+
 int main(int argc, char **argv) {
     size_t len = 0, room = 1 << 20, more;
     uint8_t *bytes = malloc(room);
     uint64_t sum = 0;
     int32_t status = PCAPFILE_OK;
-    if (argc != 3 || (strcmp(argv[1], "take_packet") && strcmp(argv[1], "take_packets"))) return 2;
-    int32_t (*add)(pcapfile_bytes, uint64_t *) = strcmp(argv[1], "take_packet") ? add_batches : add_packets;
+    int32_t (*add)(pcapfile_bytes, uint64_t *) = NULL;
+    for (size_t i = 0; argc == 3 && i < sizeof calls / sizeof *calls; i++)
+        if (!strcmp(argv[1], calls[i].name)) add = calls[i].add;
+    if (!add) return 2;
     while (bytes && (more = fread(bytes + len, 1, room - len, stdin)) > 0)
         if ((len += more) == room) bytes = realloc(bytes, room *= 2);
     for (long passes = atol(argv[2]); bytes && passes > 0 && status == PCAPFILE_OK; passes--)
