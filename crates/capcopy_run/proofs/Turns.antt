@@ -8,6 +8,7 @@ use Rattle.pcap_core.specs.Answer.{whole}
 use Rattle.pcap_core.specs.Format.{Format, IsLawful}
 use Rattle.pcap_core.specs.Reading.{Takes}
 use Rattle.capcopy_run.specs.declared.exit.Exit.{Exit}
+use Rattle.capcopy_run.specs.declared.exit.Exit.TheVariants.{Memory}
 use Rattle.capcopy_run.specs.Listing.{Listing, LinesEnd}
 use Rattle.capcopy_run.specs.Lines.{WritesLine}
 use Rattle.capcopy_run.specs.Turns.{GoesOn, Ends, TurnGives, WalkGives}
@@ -72,6 +73,12 @@ module _ {S V : Type 0} (IsLine : ℕ → V → List ℕ → Type 0) (f : Format
       let count : length walked.front ≡ used = omega (arith, ap length walked.split, length-append walked.front rest) in
       let back : drop used shown ≡ rest = ap (drop used) walked.split ∙ drop_at walked.front rest used count in
       rw back walked.on
+
+  -- it ends before the rest, since memory was refused
+  pub walked_refused : (from here to : S) (shown rest : List ℕ) (start mid : Option (List ℕ)) (first n m most : ℕ) → Walked from here shown rest start mid first n → n < most
+      → WalkGives IsLine f from to shown start mid first m most (Err Memory)
+  walked_refused from here to shown rest start mid first n m most walked fewer = λ behind q before out so_far.
+      ends_here IsLine f here (prepend_known rest behind) mid mid n most (Err Memory) (fewer, Keeps-refl mid) q before out (walked.on behind q before out so_far)
 
   -- at an item that stands at the front of the rest
   module _ (laws : IsLawful f) (from here : S) (shown rest after : List ℕ) (start mid : Option (List ℕ)) (first n : ℕ) (walked : Walked from here shown rest start mid first n) (item : V)

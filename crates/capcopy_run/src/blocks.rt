@@ -146,12 +146,15 @@ impl Lister for PcapNgParser {
         let mut room = [0; ROOM];
         let mut rest = shown;
         while *listed < most {
-            let Ok((after, block)) = self.next_block(rest) else {
-                break;
-            };
-            write_block(alloc, output, &mut room, *listed + 1, &block)?;
-            *listed += 1;
-            rest = after;
+            match self.next_block(rest) {
+                Ok((after, block)) => {
+                    write_block(alloc, output, &mut room, *listed + 1, &block)?;
+                    *listed += 1;
+                    rest = after;
+                }
+                Err(PcapError::OutOfMemory(_)) => return Err(Exit::Memory),
+                Err(_) => break,
+            }
         }
         Ok(shown.len() - rest.len())
     }
