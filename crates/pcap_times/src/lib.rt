@@ -4,6 +4,7 @@
 #![tactic(auto)]
 
 mod clock;
+pub mod laws;
 mod unit;
 
 pub use clock::{Clock, Timestamp};

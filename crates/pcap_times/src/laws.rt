@@ -1,0 +1,26 @@
+//! Laws that hold of times.
+
+ghost use Rattle.std.specs.Prelude.{◌≡◌, ◌↔◌, IsTrue};
+
+use crate::{Clock, TimeUnit, Timestamp};
+
+/// Units are equal where they are the same.
+pub fn units_are_equal(left: TimeUnit, right: TimeUnit) -> bool
+    ensures { IsTrue result ↔ (left ≡ right) }
+{
+    left == right
+}
+
+/// Clocks are equal where their units and offsets are.
+pub fn clocks_are_equal(left: Clock, right: Clock) -> bool
+    ensures { IsTrue result ↔ (left ≡ right) }
+{
+    left == right
+}
+
+/// Times are equal where their seconds and nanoseconds are.
+pub fn times_are_equal(left: Timestamp, right: Timestamp) -> bool
+    ensures { IsTrue result ↔ (left ≡ right) }
+{
+    left == right
+}
