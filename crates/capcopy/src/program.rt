@@ -9,7 +9,8 @@ use std::str;
 /// The most lines or packets of one run.
 const MOST: u64 = 4_294_967_295;
 
-/// The size of the buffer over standard input, in bytes. A packet that its end cuts is copied out of it.
+/// The size of the buffer over standard input, in bytes. What its end cuts is held by itself: a packet to be copied, a block to
+/// be listed.
 const INPUT: usize = 262_144;
 
 /// The size of the buffer before standard output, in bytes.

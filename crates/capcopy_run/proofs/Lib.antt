@@ -3,6 +3,7 @@ mod Lines
 mod Listing
 mod PacketLists
 mod PacketLines
+mod Skipping
 mod Exits
 mod Kept
 mod Turns

@@ -1,10 +1,11 @@
 -- Packets that are listed.
-use Rattle.std.proofs.Common.{◌≡◌, ◌<◌, ◌⊎◌, IfSome, true, false, ℕ, List, [], Option, Result, Err, inl, inr, refl, subst}
+use Rattle.std.proofs.Common.{◌≡◌, ◌<◌, ◌⊎◌, IfSome, true, false, ℕ, List, [], ◌++◌, Option, Result, Err, inl, inr, refl, subst}
 use Rattle.std.specs.Prelude.{⊤}
-use Rattle.std.proofs.KnownBytes.{Appends-nil}
+use Rattle.std.proofs.KnownBytes.{Appends-nil, Consumes-trans}
 use Rattle.pcap_core.specs.declared.common.Endianness.{Endianness}
 use Rattle.pcap_classic.specs.declared.common.TsResolution.{TsResolution}
 use Rattle.pcap_classic.specs.declared.pcap.header.PcapHeader.{PcapHeader}
+use Rattle.pcap_classic.specs.declared.pcap.packet.PacketHeader.{PacketHeader}
 use Rattle.pcap_core.specs.Answer.{Order, number_in, whole}
 use Rattle.pcap_core.specs.declared.errors.PcapError.{PcapError}
 use Rattle.pcap_core.specs.Errors.{IsIo, IsMemory}
@@ -12,20 +13,29 @@ use Rattle.pcap_core.specs.Faults.{Shows}
 use Rattle.pcap_core.specs.Reading.{IsFaultOf, Takes, read_failed, no_memory, refused}
 use Rattle.pcap_classic.specs.HeaderText.{HeaderSays}
 use Rattle.pcap_classic.specs.Magic.{order_of, resolution_of}
-use Rattle.pcap_classic.specs.PacketText.{packet_limit, Captured, PacketSays}
+use Rattle.pcap_classic.specs.PacketText.{packet_limit, Captured, PacketHeaderSays, PacketSays}
 use Rattle.pcap_classic.specs.Packets.{packet_format}
 use Rattle.pcap_classic.proofs.HeadedPackets.{packets_lawful}
+use Rattle.pcap_classic.proofs.PacketStream.{packet_joined}
 use Rattle.pcap_classic.proofs.Packets.{packets_say}
 use Rattle.pcap_classic.proofs.Stable.{header_stable}
 use Rattle.capcopy_run.specs.declared.exit.Exit.{Exit}
 use Rattle.capcopy_run.specs.Exits.{EndsAt, exit_of}
 use Rattle.capcopy_run.specs.Listing.{LinesEnd, ListsItems, ListsUntil}
 use Rattle.capcopy_run.specs.PacketLines.{IsPacketLine, packet_lines}
+use Rattle.capcopy_run.specs.Skipping.{TakesExactly}
 use Rattle.capcopy_run.proofs.Listing.{ends_refused, lists_known}
 
--- a packet that was read off a stream
-pub packet_took : (order : Order) (r : TsResolution) (left now : Option (List ℕ)) (packet : Captured) → Takes (PacketSays packet_limit order r) left now packet → Takes ((packet_format packet_limit order r).says tt) left now packet
-packet_took order r left now packet took = (took.0, packets_say packet_limit order r tt took.0 (whole packet []) took.1, took.2)
+-- a packet whose header was read off a stream, and whose data was skipped
+pub packet_skipped : (order : Order) (r : TsResolution) (left mid now : Option (List ℕ)) (header : PacketHeader) → Takes (PacketHeaderSays packet_limit order r) left mid header
+    → (skipped : TakesExactly header.incl_len mid now) → Takes ((packet_format packet_limit order r).says tt) left now (record { header = header; bytes = skipped.0 })
+packet_skipped order r left mid now header took skipped =
+    let packet : Captured = record { header = header; bytes = skipped.0 } in
+    let bytes = took.0 ++ skipped.0 in (
+      bytes,
+      packets_say packet_limit order r tt bytes (whole packet []) (packet_joined packet_limit order r header took.0 skipped.0 took.1 skipped.2),
+      Consumes-trans left mid now took.0 skipped.0 took.2 skipped.1,
+    )
 
 -- a refusal of a packet that was to be read off a stream ends the lines
 pub packet_unread : (order : Order) (r : TsResolution) (left mid : Option (List ℕ)) (n most : ℕ) → n < most → (e : PcapError) (exit : Exit)

@@ -5,6 +5,7 @@ pub mod Exits
 pub mod Lines
 pub mod Listing
 pub mod PacketLines
+pub mod Skipping
 pub mod Turns
 pub mod Uninterrupted
 pub mod Words

@@ -5,6 +5,7 @@ mod blocks;
 mod commands;
 mod copy;
 mod exit;
+mod input;
 mod items;
 mod line;
 mod list;
