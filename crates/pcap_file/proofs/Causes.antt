@@ -103,9 +103,9 @@ module _ (q : State) (order : Endianness) (is : order ≡ order_at q) (b : Frame
   pub body_refused : (M : Type 0) (e : PcapError) → Refuses M (λ n. ⊥) (λ f. Means q b (bad f)) e → Refuses M (λ n. ⊥) (λ f. block_format.says q held (faulty f)) e
   body_refused M e x = refuses_wider M M (λ f. Means q b (bad f)) (λ f. block_format.says q held (faulty f)) (λ m. m) body_shows e x
 
-  pub pull_item : (own : Framed) (next there : State) → own ≡ b → next ≡ there → Means q b (good there) → block_format.says q held (whole (record { block = own; after = next }) [])
+  pub pull_item : (own : Framed) (next : State) → own ≡ b → Means q b (good next) → block_format.says q held (whole (record { block = own; after = next }) [])
   unfolding frame_format block_format
-  pull_item own next there same moved means = rw (same, moved) (record { frame = subst (λ (o : Endianness). FrameSays o held (whole b [])) is text; means = means })
+  pull_item own next same means = rw same (record { frame = subst (λ (o : Endianness). FrameSays o held (whole b [])) is text; means = means })
 
 opening_fault : (known : Option (List ℕ)) (f : Fault) → IsFaultOf (BlockSays opening) known f → IsFaultOf OpeningSays known f
 opening_fault None f x = record { bytes = x.bytes; stands = x.stands; some = x.some; shown = tt }

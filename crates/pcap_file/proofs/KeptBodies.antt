@@ -12,7 +12,7 @@ use Rattle.pcap_blocks.specs.SectionHeader.{Section, SectionSays, section_of, ma
 use Rattle.pcap_blocks.specs.InterfaceDescription.{Interface, InterfaceSays, interface_of}
 use Rattle.pcap_blocks.specs.ParsedBlock.{SectionBody, InterfaceBody, BodySays}
 use Rattle.pcap_file.specs.Frames.{Framed}
-use Rattle.pcap_file.specs.State.{State, within, is_kept, is_read, MeansIf, Means, AreKept, CanGrow}
+use Rattle.pcap_file.specs.State.{State, within, is_kept, is_read, MeansIf, Means}
 
 pub read_means : (q : State) (b : Framed) (r : HeadReading State) → is_read q b.type_ ≡ true → MeansIf true q b r → Means q b r
 read_means q b r is x = subst (λ (t : Bool). MeansIf t q b r) (sym is) x
@@ -31,15 +31,3 @@ module _ (section : Section) (interfaces : List Interface) (b : Framed) where
       let said : BodySays (number_in b.endianness) types.InterfaceDescription b.body (whole (InterfaceBody (interface_of kept)) rest) = (interface_of parsed, ap InterfaceBody same, subst (λ (s : List ℕ). InterfaceSays (number_in b.endianness) s (whole (interface_of parsed) rest)) bytes text) in
       let there : BodySays (number_in b.endianness) b.type_ b.body (whole (InterfaceBody (interface_of kept)) rest) = subst (λ (t : BlockType). BodySays (number_in b.endianness) t b.body (whole (InterfaceBody (interface_of kept)) rest)) (sym type) said in
       read_means (within section interfaces) b (good (within section (interfaces ++ interface_of kept ∷ []))) (ap is_kept type) (InterfaceBody (interface_of kept), rest, there, refl)
-
-  pub section_grows : b.type_ ≡ types.SectionHeader → CanGrow (within section interfaces) b
-  section_grows type = subst AreKept (sym type) tt
-
-  pub interface_grows : b.type_ ≡ types.InterfaceDescription → CanGrow (within section interfaces) b
-  interface_grows type = subst AreKept (sym type) tt
-
-order_some : (o : Option Endianness) (e : Endianness) → o ≡ Some e → IsSome o
-order_some o e is = rw is refl
-
-pub names_order : (kept parsed : SectionHeaderBlock) (body rest : List ℕ) → SectionSays body (whole (section_of parsed) rest) → section_of kept ≡ section_of parsed → IsSome (magic_order kept.magic)
-names_order kept parsed body rest text same = order_some (magic_order kept.magic) text.endianness (ap (λ (s : Section). magic_order s.magic) same ∙ text.names)

@@ -13,8 +13,6 @@ use Rattle.pcap_blocks.specs.SectionHeader.{Section, section_of, magic_order}
 use Rattle.pcap_blocks.specs.InterfaceDescription.{Interface, interface_of}
 use Rattle.pcap_blocks.specs.ParsedBlock.{Body, SectionBody, InterfaceBody}
 use Rattle.pcap_file.specs.declared.pcapng.state.InForce.{InForce}
-use Rattle.pcap_file.specs.declared.pcapng.state.Kept.{Kept}
-use Rattle.pcap_file.specs.declared.pcapng.state.Kept.TheVariants as kept
 use Rattle.pcap_file.specs.Bodies.{GrowsInBody, SaysOfBody}
 use Rattle.pcap_file.specs.Frames.{Framed}
 
@@ -64,16 +62,6 @@ MeansIf false q b (bad fault) = ⊥
 abbrev pub Means : State → Framed → HeadReading State → Type 0
 Means q b = MeansIf (is_read q b.type_) q b
 
--- the state of a reading, or this one
-abbrev pub good_or : State → HeadReading State → State
-good_or q (good next) = next
-good_or q (bad fault) = q
-
--- the state after a body, if one was read
-abbrev pub led : State → Option Body → State
-led q None = q
-led q (Some body) = good_or q (leads q body)
-
 -- what is in force
 abbrev pub state_in : InForce → State
 state_in f = within (section_of f.section) (map interface_of f.interfaces.items)
@@ -89,22 +77,10 @@ abbrev pub CanGrow : State → Framed → Type 0
 CanGrow opening b = AreKept b.type_ ⊎ GrowsInBody b
 CanGrow (within section interfaces) b = AreKept b.type_
 
--- the body that is kept, if one is
-abbrev pub kept_of : Kept → Option Body
-kept_of (kept.Section b) = Some (SectionBody (section_of b))
-kept_of (kept.Interface b) = Some (InterfaceBody (interface_of b))
-kept_of kept.Nothing = None
-
--- a section that is kept names an order
-abbrev pub NamesOrder : Kept → Type 0
-NamesOrder (kept.Section b) = IsSome (magic_order b.magic)
-NamesOrder (kept.Interface b) = Unit {0}
-NamesOrder kept.Nothing = Unit {0}
-
--- what is kept of a block: it leads on, or the block is refused
-abbrev pub KeptTells : State → Framed → Result Kept PcapError → Type 0
-KeptTells q b (Ok k) = Means q b (good (led q (kept_of k))) × NamesOrder k × ((k ≡ kept.Nothing) ⊎ CanGrow q b)
-KeptTells q b (Err e) = Refuses (CanGrow q b) (λ n. ⊥) (λ fault. Means q b (bad fault)) e
+-- what following a block tells: it leads to the new state, or is refused and the state stays
+abbrev pub FollowTells : State → State → Framed → Result (Unit {0}) PcapError → Type 0
+FollowTells old new b (Ok x) = Means old b (good new)
+FollowTells old new b (Err e) = (new ≡ old) × Refuses (CanGrow old b) (λ n. ⊥) (λ fault. Means old b (bad fault)) e
 
 -- what is in force after a first block
 abbrev pub OpensTells : Framed → Result InForce PcapError → Type 0

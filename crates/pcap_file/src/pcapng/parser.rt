@@ -72,8 +72,7 @@ impl PcapNgParser {
         ensures unchanged { OnErr result (state_of self.new ≡ state_of self.old) }
     {
         let (rest, block) = Block::from_slice(self.in_force.order(), slice)?;
-        let kept = self.in_force.kept(self.alloc, &block)?;
-        self.in_force.accept(kept)?;
+        self.in_force.follow(self.alloc, &block)?;
         Ok((rest, block))
     }
 

@@ -20,23 +20,11 @@ pub(crate) struct InForce {
     pub ghost valid: { IsSome (magic_order section.magic) },
 }
 
-/// What a block puts in force.
-#[derive(Drop)]
-pub(crate) enum Kept {
-    /// This section, and no interface of it yet.
-    Section(SectionHeaderBlock<'static>),
-    /// One interface more.
-    Interface(InterfaceDescriptionBlock<'static>),
-    /// Nothing new.
-    Nothing,
-}
-
 impl InForce {
-    ghost use Rattle.std.specs.Prelude.{◌≡◌, IsOk, IfErr, OnOk, OnErr, map, option_map, slice_get};
-    ghost use Rattle.pcap_core.specs.Errors.{IsMemory};
+    ghost use Rattle.std.specs.Prelude.{◌≡◌, map, option_map, slice_get};
     ghost use Rattle.pcap_blocks.specs.SectionHeader.{section_of};
     ghost use Rattle.pcap_file.specs.Frames.{framed_of};
-    ghost use Rattle.pcap_file.specs.State.{state_in, order_at, led, kept_of, NamesOrder, KeptTells, OpensTells};
+    ghost use Rattle.pcap_file.specs.State.{state_in, order_at, FollowTells, OpensTells};
 
     // What is in force after a first block.
     pub(crate) fn after(alloc: Global, block: &Block) -> ResultParsing<InForce>
@@ -81,46 +69,34 @@ impl InForce {
         self.interfaces.get(number as usize)
     }
 
-    // What a block puts in force, kept beyond its bytes.
-    pub(crate) fn kept(&self, alloc: Global, block: &Block) -> ResultParsing<Kept>
-        ensures { KeptTells (state_in self.now) (framed_of block.now) result }
+    // Puts in force what a block says, where it is a section or an interface. A refused call changes nothing.
+    pub(crate) fn follow(&mut self, alloc: Global, block: &Block) -> ResultParsing<()>
+        ensures { FollowTells (state_in self.old) (state_in self.new) (framed_of block.now) result }
     {
         match block.type_ {
-            BlockType::SectionHeader => {
-                let (_rest, section) = SectionHeaderBlock::from_slice(
-                    alloc,
-                    block.body.as_slice(),
-                )?;
-                Ok(Kept::Section(section.into_owned(alloc)?))
-            }
-            BlockType::InterfaceDescription => {
-                let (_rest, interface) = interface_in(
-                    block.endianness(),
-                    alloc,
-                    block.body.as_slice(),
-                )?;
-                Ok(Kept::Interface(interface.into_owned(alloc)?))
-            }
-            _ => Ok(Kept::Nothing),
+            BlockType::SectionHeader => self.begin_section(alloc, block),
+            BlockType::InterfaceDescription => self.add_interface(alloc, block),
+            _ => Ok(()),
         }
     }
 
-    // Puts in force what is kept of a block.
-    pub(crate) fn accept(&mut self, kept: Kept) -> ResultParsing<()>
-        requires { NamesOrder kept }
-        ensures moves { OnOk result (state_in self.new ≡ led (state_in self.old) (kept_of kept)) }
-        ensures unchanged { OnErr result (state_in self.new ≡ state_in self.old) }
-        ensures memory { IfErr result IsMemory }
-        ensures none { kept ≡ Kept.Nothing → IsOk result }
+    fn begin_section(&mut self, alloc: Global, block: &Block) -> ResultParsing<()>
+        requires { block.now.type_ ≡ BlockType.SectionHeader }
+        ensures { FollowTells (state_in self.old) (state_in self.new) (framed_of block.now) result }
     {
-        match kept {
-            Kept::Section(section) => {
-                self.section = section;
-                self.interfaces.clear();
-            }
-            Kept::Interface(interface) => self.interfaces.push(interface)?,
-            Kept::Nothing => {}
-        }
+        let (_rest, section) = SectionHeaderBlock::from_slice(alloc, block.body.as_slice())?;
+        self.section = section.into_owned(alloc)?;
+        self.interfaces.clear();
+        Ok(())
+    }
+
+    fn add_interface(&mut self, alloc: Global, block: &Block) -> ResultParsing<()>
+        requires { block.now.type_ ≡ BlockType.InterfaceDescription }
+        ensures { FollowTells (state_in self.old) (state_in self.new) (framed_of block.now) result }
+    {
+        let (_rest, interface) = interface_in(block.endianness(), alloc, block.body.as_slice())?;
+        let own = interface.into_owned(alloc)?;
+        self.interfaces.push(own)?;
         Ok(())
     }
 }

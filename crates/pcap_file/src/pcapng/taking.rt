@@ -43,9 +43,8 @@ pub(crate) fn pull<T: Read>(
         return Ok(None);
     };
     let block = frames.block(head, held.as_slice())?;
-    let kept = in_force.kept(alloc, &block)?;
     let own = block.into_owned(alloc)?;
-    in_force.accept(kept)?;
+    in_force.follow(alloc, &own)?;
     held.clear();
     Ok(Some(own))
 }
@@ -70,9 +69,8 @@ pub(crate) fn hold<T: Read>(
         return Ok(None);
     };
     let block = frames.block(head, held.as_slice())?;
-    let news = in_force.kept(alloc, &block)?;
     let header = BlockHeader::of(&block);
-    in_force.accept(news)?;
+    in_force.follow(alloc, &block)?;
     Ok(Some(header))
 }
 

@@ -4,7 +4,7 @@ use Rattle.pcap_core.specs.Held.{held_bytes}
 use Rattle.pcap_core.proofs.Filled.{held_refused}
 use Rattle.pcap_file.specs.Frames.{framed_of, frame_format}
 use Rattle.pcap_file.specs.Lent.{framed_around, body_in}
-use Rattle.pcap_file.specs.State.{state_in, led, kept_of, CanGrow}
+use Rattle.pcap_file.specs.State.{state_in, CanGrow}
 use Rattle.pcap_file.proofs.HeadedFrames.{frames_lawful}
 use Rattle.pcap_file.proofs.Causes.{pull_frame, pull_room, pull_held, body_refused, pull_item}
 use Rattle.pcap_file.proofs.Lent.{held_block}
@@ -27,23 +27,17 @@ returns-in_err-block-clause-pulls g c =
     let x = held_refused frame_format frames_lawful c.order-order.result e (held_bytes c.fill_item.new.held) _ _ _ (record { came = filled.4; asked = filled.3 }) filled.0 shown in
     rw (p.1, p.2) (pull_frame (state_in c.args.in_force.now) c.order-order.result c.order-order.ensures _ _ _ e x)
 
-pub returns-in_err-news-clause-pulls : goal.returns-in_err-news-clause-pulls
-returns-in_err-news-clause-pulls g c =
+pub returns-in_err-follow-clause-pulls : goal.returns-in_err-follow-clause-pulls
+returns-in_err-follow-clause-pulls g c =
     let q = state_in c.args.in_force.now in
     let b = framed_of c.in_ok-block.block in
     let held = held_bytes c.fill_item.new.held in
-    let p = err_from_is_err_and c.from_residual-in_err-news.result c.from_residual-in_err-news.ensures.1 in
+    let p = err_from_is_err_and c.from_residual-in_err-follow.result c.from_residual-in_err-follow.ensures.1 in
     let filled = rw c.in-Some.is at c.in_ok-head.ensures.fills in
     let text = rw c.as_slice.ensures at c.in_ok-block.ensures in
-    let e = c.in_err-news.field-0.0 in
-    let x = body_refused q c.order-order.result c.order-order.ensures b held text (CanGrow q b) e c.in_err-news.ensures in
+    let e = c.in_err-follow.field-0.0 in
+    let x = body_refused q c.order-order.result c.order-order.ensures b held text (CanGrow q b) e c.in_err-follow.ensures.1 in
     rw (p.1, p.2) (pull_held q c.order-order.result c.order-order.ensures held _ _ _ filled.0 filled.4 filled.3 (CanGrow q b) e x)
-
-pub returns-in_err-accept-clause-pulls : goal.returns-in_err-accept-clause-pulls
-returns-in_err-accept-clause-pulls g c =
-    let p = err_from_is_err_and c.from_residual-in_err-accept.result c.from_residual-in_err-accept.ensures.1 in
-    let filled = rw c.in-Some.is at c.in_ok-head.ensures.fills in
-    rw (p.1, p.2) (pull_room (state_in c.args.in_force.now) c.order-order.result c.order-order.ensures (held_bytes c.fill_item.new.held) _ _ _ filled.0 filled.4 filled.3 c.in_err-accept.field-0.0 c.in_err-accept.ensures.memory)
 
 pub returns-clause-pulls : goal.returns-clause-pulls
 returns-clause-pulls g c =
@@ -55,5 +49,5 @@ returns-clause-pulls g c =
     let text = rw c.as_slice.ensures at c.in_ok-block.ensures in
     let lent = framed_around c.of-header.result (body_in held) in
     let same : lent ≡ b = rw c.of-header.ensures (held_block order b held text) in
-    let item = pull_item q order c.order-order.ensures b held text lent (state_in c.accept.new.self) (led q (kept_of c.in_ok-news.news)) same c.in_ok-accept.ensures.moves c.in_ok-news.ensures.0 in
+    let item = pull_item q order c.order-order.ensures b held text lent (state_in c.follow.new.self) same c.in_ok-follow.ensures in
     (filled.0, (held, item, filled.4))

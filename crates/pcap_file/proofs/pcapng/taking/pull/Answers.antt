@@ -1,8 +1,9 @@
+use Rattle.std.proofs.Common.{refl}
 use Rattle.std.proofs.lemmas.Result.{err_from_is_err_and}
 use Rattle.pcap_core.specs.Held.{held_bytes}
 use Rattle.pcap_core.proofs.Filled.{held_refused}
 use Rattle.pcap_file.specs.Frames.{framed_of, frame_format}
-use Rattle.pcap_file.specs.State.{state_in, led, kept_of, CanGrow}
+use Rattle.pcap_file.specs.State.{state_in, CanGrow}
 use Rattle.pcap_file.proofs.HeadedFrames.{frames_lawful}
 use Rattle.pcap_file.proofs.Causes.{pull_frame, pull_room, pull_held, body_refused, pull_item}
 use Rattle.pcap_file.proofs.pcapng.taking.pull.Goals as goal
@@ -24,36 +25,30 @@ returns-in_err-block-clause-pulls g c =
     let x = held_refused frame_format frames_lawful c.order-order.result e (held_bytes c.fill_item.new.held) _ _ _ (record { came = filled.4; asked = filled.3 }) filled.0 shown in
     rw (p.1, p.2) (pull_frame (state_in c.args.in_force.now) c.order-order.result c.order-order.ensures _ _ _ e x)
 
-pub returns-in_err-kept-clause-pulls : goal.returns-in_err-kept-clause-pulls
-returns-in_err-kept-clause-pulls g c =
-    let q = state_in c.args.in_force.now in
-    let b = framed_of c.in_ok-block.block in
-    let held = held_bytes c.fill_item.new.held in
-    let p = err_from_is_err_and c.from_residual-in_err-kept.result c.from_residual-in_err-kept.ensures.1 in
-    let filled = rw c.in-Some.is at c.in_ok-head.ensures.fills in
-    let text = rw c.as_slice.ensures at c.in_ok-block.ensures in
-    let e = c.in_err-kept.field-0.0 in
-    let x = body_refused q c.order-order.result c.order-order.ensures b held text (CanGrow q b) e c.in_err-kept.ensures in
-    rw (p.1, p.2) (pull_held q c.order-order.result c.order-order.ensures held _ _ _ filled.0 filled.4 filled.3 (CanGrow q b) e x)
-
 pub returns-in_err-own-clause-pulls : goal.returns-in_err-own-clause-pulls
 returns-in_err-own-clause-pulls g c =
     let p = err_from_is_err_and c.from_residual-in_err-own.result c.from_residual-in_err-own.ensures.1 in
     let filled = rw c.in-Some.is at c.in_ok-head.ensures.fills in
     rw (p.1, p.2) (pull_room (state_in c.args.in_force.now) c.order-order.result c.order-order.ensures (held_bytes c.fill_item.new.held) _ _ _ filled.0 filled.4 filled.3 c.in_err-own.field-0.0 c.in_err-own.ensures.memory)
 
-pub returns-in_err-accept-clause-pulls : goal.returns-in_err-accept-clause-pulls
-returns-in_err-accept-clause-pulls g c =
-    let p = err_from_is_err_and c.from_residual-in_err-accept.result c.from_residual-in_err-accept.ensures.1 in
+pub returns-in_err-follow-clause-pulls : goal.returns-in_err-follow-clause-pulls
+returns-in_err-follow-clause-pulls g c =
+    let q = state_in c.args.in_force.now in
+    let b = framed_of c.in_ok-own.own in
+    let held = held_bytes c.fill_item.new.held in
+    let p = err_from_is_err_and c.from_residual-in_err-follow.result c.from_residual-in_err-follow.ensures.1 in
     let filled = rw c.in-Some.is at c.in_ok-head.ensures.fills in
-    rw (p.1, p.2) (pull_room (state_in c.args.in_force.now) c.order-order.result c.order-order.ensures (held_bytes c.fill_item.new.held) _ _ _ filled.0 filled.4 filled.3 c.in_err-accept.field-0.0 c.in_err-accept.ensures.memory)
+    let text = rw c.as_slice.ensures at c.in_ok-block.ensures in
+    let e = c.in_err-follow.field-0.0 in
+    let x = body_refused q c.order-order.result c.order-order.ensures b held (rw c.in_ok-own.ensures.same text) (CanGrow q b) e c.in_err-follow.ensures.1 in
+    rw (p.1, p.2) (pull_held q c.order-order.result c.order-order.ensures held _ _ _ filled.0 filled.4 filled.3 (CanGrow q b) e x)
 
 pub returns-clause-pulls : goal.returns-clause-pulls
 returns-clause-pulls g c =
     let q = state_in c.args.in_force.now in
     let held = held_bytes c.fill_item.new.held in
-    let b = framed_of c.in_ok-block.block in
+    let b = framed_of c.in_ok-own.own in
     let filled = rw c.in-Some.is at c.in_ok-head.ensures.fills in
     let text = rw c.as_slice.ensures at c.in_ok-block.ensures in
-    let item = pull_item q c.order-order.result c.order-order.ensures b held text (framed_of c.in_ok-own.own) (state_in c.accept.new.self) (led q (kept_of c.in_ok-kept.kept)) c.in_ok-own.ensures.same c.in_ok-accept.ensures.moves c.in_ok-kept.ensures.0 in
+    let item = pull_item q c.order-order.result c.order-order.ensures b held (rw c.in_ok-own.ensures.same text) b (state_in c.follow.new.self) refl c.in_ok-follow.ensures in
     (filled.0, (held, item, filled.4))

@@ -13,19 +13,19 @@ returns-in_err-rest-clause-tells c =
     let p = err_from_is_err_and c.from_residual.result c.from_residual.ensures.1 in
     rw (p.1, p.2) (frame_refuses q s (MayGrow q s) c.in_err-rest.field-0.0 (rw (← c.order.ensures) c.in_err-rest.ensures.tells))
 
-pub returns-in_err-kept-clause-tells : goal.returns-in_err-kept-clause-tells
-returns-in_err-kept-clause-tells c =
+pub returns-in_err-follow-clause-tells : goal.returns-in_err-follow-clause-tells
+returns-in_err-follow-clause-tells c =
     let q = state_of c.args.self.now in
     let s = c.args.slice.now in
     let b = framed_of c.in_ok-rest.block in
-    let p = err_from_is_err_and c.from_residual-in_err-kept.result c.from_residual-in_err-kept.ensures.1 in
+    let p = err_from_is_err_and c.from_residual-in_err-follow.result c.from_residual-in_err-follow.ensures.1 in
     let frame : FrameText (order_at q) b s c.in_ok-rest.rest.now = rw (← c.order.ensures) c.in_ok-rest.ensures.tells in
-    rw (p.1, p.2) (body_refuses q s b c.in_ok-rest.rest.now frame c.in_err-kept.field-0.0 c.in_err-kept.ensures)
+    rw (p.1, p.2) (body_refuses q s b c.in_ok-rest.rest.now frame c.in_err-follow.field-0.0 c.in_err-follow.ensures.1)
 
 pub returns-clause-tells : goal.returns-clause-tells
 returns-clause-tells c =
     let q = state_of c.args.self.now in
     record {
       frame = rw (← c.order.ensures) c.in_ok-rest.ensures.tells;
-      means = rw c.in_ok-accept.ensures.moves c.in_ok-kept.ensures.0;
+      means = c.in_ok-follow.ensures;
     }
