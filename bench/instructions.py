@@ -4,8 +4,9 @@ import os
 import re
 import subprocess
 
-# Else a long copy would be one instruction on some machines and many on others.
-COUNTED = dict(os.environ, GLIBC_TUNABLES="glibc.cpu.x86_rep_movsb_threshold=100000000")
+# Else a long copy or clearing would be one instruction on some machines and many on others.
+LONGEST = ":".join(f"glibc.cpu.x86_rep_{way}_threshold=100000000" for way in ("movsb", "stosb"))
+COUNTED = dict(os.environ, GLIBC_TUNABLES=LONGEST)
 
 
 def count(command, given):

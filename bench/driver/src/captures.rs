@@ -10,7 +10,7 @@ pub fn passes_of(call: &str, passes: u64, bytes: &[u8]) -> Sum {
         "next_packet" => next_packet(passes, bytes),
         "next" | "next_header" => next(passes, bytes),
         "write_packet" => write_packet(passes, bytes),
-        "copy" => copy(passes, bytes),
+        "copy" | "copy_buffered" => copy(passes, bytes),
         "memcpy" => memcpy(passes, bytes),
         _ => Err(PcapError::InvalidField("no call has this name")),
     }

@@ -2,8 +2,12 @@
 
 use pcap_classic::ResultParsing;
 use pcap_classic::pcap::{PcapParser, PcapReader, PcapWriter};
-use pcap_classic::run::{Copied, Under, copy_pcap};
+use pcap_classic::run::{Copied, Under, copy_buffered, copy_pcap};
 use std::alloc::Global;
+use std::io::BufReader;
+
+// The reader's buffer of `copy_buffered`, in bytes.
+const ROOM: usize = 65536;
 
 // The sum over the values of all passes, or nothing where no call has this name.
 pub(crate) fn passes_of(
@@ -18,6 +22,7 @@ pub(crate) fn passes_of(
         "next_header" => Some(next_header(alloc, passes, bytes)),
         "write_packet" => Some(write_packet(alloc, passes, bytes)),
         "copy" => Some(copy(alloc, passes, bytes)),
+        "copy_buffered" => Some(copy_out_of_a_buffer(alloc, passes, bytes)),
         "memcpy" => Some(memcpy(alloc, passes, bytes)),
         _ => None,
     }
@@ -133,6 +138,28 @@ fn copy(alloc: Global, passes: u64, bytes: &[u8]) -> ResultParsing<u64> {
         out.clear();
         let mut input = bytes;
         let Copied { fault, .. } = copy_pcap(alloc, &mut input, &mut out, Under::Same, u64::MAX);
+        if let Some(error) = fault {
+            return Err(error);
+        }
+        sum = sum.wrapping_add(out.len() as u64);
+    }
+    Ok(sum)
+}
+
+// The reader's buffer is made anew for each pass.
+fn copy_out_of_a_buffer(alloc: Global, passes: u64, bytes: &[u8]) -> ResultParsing<u64> {
+    let mut out: Vec<u8> = Vec::with_capacity(alloc, bytes.len())?;
+    let mut sum = 0u64;
+    for _ in 0..passes {
+        out.clear();
+        let mut input = BufReader::with_capacity(alloc, ROOM, bytes)?;
+        let Copied { fault, .. } = copy_buffered(
+            alloc,
+            &mut input,
+            &mut out,
+            Under::Same,
+            u64::MAX,
+        );
         if let Some(error) = fault {
             return Err(error);
         }

@@ -1,11 +1,11 @@
 -- Packets that are copied, one after another.
-use Rattle.std.proofs.Common.{◌≡◌, ◌≤◌, ℕ, List, [], ◌∷◌, ◌++◌, ◌+◌, refl, ap, sym, ◌∙◌, subst, arith, length-append, append-nil, false, Err, Some, None, inl, inr}
+use Rattle.std.proofs.Common.{◌≡◌, ◌≤◌, ℕ, List, [], ◌∷◌, ◌++◌, ◌+◌, refl, ap, sym, ◌∙◌, subst, arith, length-append, append-nil, Err, Some, None, inl, inr}
 use Rattle.std.specs.Prelude.{Option, IfSome}
 use Rattle.std.specs.Option.{IsSomeAnd}
 use Rattle.std.specs.List.{flat_map}
 use Rattle.std.proofs.lemmas.Grind.{flat_map-append}
-use Rattle.std.specs.Io.KnownBytes.{Consumes, Appends, Keeps, IsAtEnd}
-use Rattle.std.proofs.KnownBytes.{Appends-nil, Appends-trans, Appends-kept, Consumes-kept}
+use Rattle.std.specs.Io.KnownBytes.{Consumes, Appends, IsAtEnd}
+use Rattle.std.proofs.KnownBytes.{Appends-nil, Appends-trans}
 use Rattle.pcap_core.specs.declared.errors.PcapError.{PcapError}
 use Rattle.pcap_core.specs.declared.errors.PcapError.TheVariants as errors
 use Rattle.pcap_classic.specs.declared.pcap.header.PcapHeader.{PcapHeader}
@@ -59,14 +59,6 @@ copying_all header under a b c p q r n m so_far more = record {
       (Appends-trans p q r (flat_map (written_under under) so_far.packets) (flat_map (written_under under) more.packets) so_far.out more.out);
 }
 
-copying_kept : (header under : PcapHeader) (a b c p q r : Option (List ℕ)) (n : ℕ) → Copying header under a b p q n → Keeps b c → Keeps q r → Copying header under a c p r n
-copying_kept header under a b c p q r n so_far taken out = record {
-  packets = so_far.packets;
-  count = so_far.count;
-  took = record { bytes = so_far.took.bytes; texts = so_far.took.texts; took = Consumes-kept a b c so_far.took.bytes so_far.took.took taken };
-  out = Appends-kept p q r (flat_map (written_under under) so_far.packets) so_far.out out;
-}
-
 module _ (header under : PcapHeader) (n : ℕ) where
   pub on_none : (a p : Option (List ℕ)) → CopyingOn header under n a a p p n
   on_none a p = record { more = 0; count = omega arith; these = copying_none header under a p }
@@ -87,60 +79,11 @@ module _ (header under : PcapHeader) (n : ℕ) where
     these = copying_all header under a b c p q r so_far.more more.more so_far.these more.these;
   }
 
-  pub on_kept : (a b c p q r : Option (List ℕ)) (total : ℕ) → CopyingOn header under n a b p q total → Keeps b c → Keeps q r → CopyingOn header under n a c p r total
-  on_kept a b c p q r total so_far taken out =
-      record { more = so_far.more; count = so_far.count; these = copying_kept header under a b c p q r so_far.more so_far.these taken out }
-
-  -- a step that ends ends what was so far; where it was to copy fewer, no end for their number is taken for one
-  pub copies_on : (a b now p q out : Option (List ℕ)) (m fewer most : ℕ) (copied : Copied) → fewer ≤ most → (copied.fault ≡ None → copied.packets ≡ fewer → copied.packets ≡ most)
-      → CopyingOn header under n a b p q m → CopiesOn header under m b now q out fewer copied → CopiesOn header under n a now p out most copied
-  copies_on a b now p q out m fewer most copied within full so_far on = record {
-    left = on.left;
-    mid = on.mid;
-    so_far = on_all a b on.left p q on.mid m copied.packets so_far on.so_far;
-    ends = elim on.ends [
-      | inl ended ↦ inl (record {
-        fine = ended.fine;
-        within = omega (arith, within, ended.within);
-        no_read_failed = ended.no_read_failed;
-        no_write_failed = ended.no_write_failed;
-        taken = ended.taken;
-        out = ended.out;
-        why = elim ended.why [ inl end ↦ inl end | inr is ↦ inr (full ended.fine is) ];
-      })
-      | inr not ↦ elim not [
-        | inl tear ↦ inr (inl (record {
-          packet = tear.packet;
-          next = tear.next;
-          fewer = omega (arith, within, tear.fewer);
-          refused = tear.refused;
-          no_read_failed = tear.no_read_failed;
-          write_failed = tear.write_failed;
-          out = tear.out;
-        }))
-        | inr refused ↦ inr (inr (record {
-          fewer = omega (arith, within, refused.fewer);
-          refused = refused.refused;
-          part = refused.part;
-          no_write_failed = refused.no_write_failed;
-          out = refused.out;
-        }))
-      ]
-    ];
-  }
-
-none_refused : (fault : Option PcapError) (P : PcapError → Type 0) → fault ≡ None → IsSomeAnd fault P → ⊥
-none_refused None P none is = is
-none_refused (Some e) P none is = absurd cc
-
--- a step that ended without a refusal, before the copy did
-pub ended_on : (header under : PcapHeader) (n : ℕ) (b now q out : Option (List ℕ)) (most : ℕ) (copied : Copied) → copied.fault ≡ None → CopiesOn header under n b now q out most copied
-    → CopyingOn header under n b now q out copied.packets × (copied.packets ≤ most) × (copied.read_failed ≡ false) × (copied.write_failed ≡ false)
-ended_on header under n b now q out most copied fine on =
-    elim on.ends [
-      | inl ended ↦ (on_kept header under n b on.left now q on.mid out copied.packets on.so_far ended.taken ended.out, ended.within, ended.no_read_failed, ended.no_write_failed)
-      | inr not ↦ elim not [ inl tear ↦ absurd (none_refused copied.fault _ fine tear.refused) | inr refused ↦ absurd (none_refused copied.fault _ fine refused.refused) ]
-    ]
+  -- a step that ends ends what was so far
+  pub copies_on : (a b now p q out : Option (List ℕ)) (m most : ℕ) (copied : Copied) → CopyingOn header under n a b p q m → CopiesOn header under m b now q out most copied
+      → CopiesOn header under n a now p out most copied
+  copies_on a b now p q out m most copied so_far on =
+      record { left = on.left; mid = on.mid; so_far = on_all a b on.left p q on.mid m copied.packets so_far on.so_far; ends = on.ends }
 
 -- a write is refused only where it failed
 pub torn_write : (bytes : List ℕ) (mid out : Option (List ℕ)) (e : PcapError) → WritesAll mid out bytes (Err e) → IsIo e × AppendsPart mid out bytes

@@ -18,15 +18,15 @@ use Rattle.pcap_core.specs.Format.{Texts}
 use Rattle.pcap_core.specs.Reading.{Takes}
 use Rattle.pcap_classic.specs.Copies.{PacketIsSaid, Copying}
 use Rattle.pcap_classic.specs.Magic.{order_of, resolution_of}
-use Rattle.pcap_classic.specs.Packets.{format_under, packet_format}
+use Rattle.pcap_classic.specs.Packets.{format_under, packet_format, reader_format}
 use Rattle.pcap_classic.specs.PacketText.{Captured, PacketSays, packet_limit}
 use Rattle.pcap_classic.specs.Stretches.{TakesWhole, SendsWhole, SendsTorn, Sends}
-use Rattle.pcap_classic.specs.Written.{written_under}
+use Rattle.pcap_classic.specs.Written.{number_bytes, record_bytes, written_under}
 use Rattle.pcap_core.proofs.Formats.{beginning, nil_of_length, text_same, nothing_no_text, texts_more, texts_own, texts_push}
 use Rattle.pcap_core.proofs.Fronts.{stops}
 use Rattle.pcap_classic.proofs.Concrete.{back_bytes, packet_written, packets_written}
 use Rattle.pcap_classic.proofs.Copied.{lawful_under}
-use Rattle.pcap_classic.proofs.Packets.{packets_refuse}
+use Rattle.pcap_classic.proofs.Packets.{packets_refuse, reader_whole}
 
 -- what went out in two parts
 appends_apart : (a c : Option (List ℕ)) (first second : List ℕ) → Appends a c (first ++ second) → (b : Option (List ℕ)) × Appends a b first × Appends b c second
@@ -124,6 +124,13 @@ module _ (header : PcapHeader) where
   packet_bytes : (s rest : List ℕ) (packet : Captured) → IsBytes s → PacketIsSaid header s (whole packet rest) → s ≡ written_under header packet ++ rest
   unfolding packet_format
   packet_bytes s rest packet fits text = (packet_written packet_limit (order_of header.magic_number) (resolution_of header.magic_number) packet s rest fits text).0
+
+  -- held bytes that are a packet are its text, under each header with the same magic number
+  pub held_written : (out : PcapHeader) (held : List ℕ) (packet : Captured) → header.magic_number ≡ out.magic_number → IsBytes held
+      → (reader_format packet_limit header).says tt held (whole packet []) → written_under out packet ≡ held
+  held_written out held packet same fits says =
+      let written = packet_bytes held [] packet fits (reader_whole packet_limit header held [] packet says).1 in
+      ap (λ n. record_bytes (number_bytes (order_of n)) (resolution_of n) packet) (sym same) ∙ sym (append-nil (written_under header packet)) ∙ sym written
 
   -- a write failed among the packets of a row, behind so many bytes: those that went out whole, and the next, which is torn
   pub torn_sent : (bytes rest begun behind : List ℕ) (a b : Option (List ℕ)) (most n k j used gone : ℕ) → IsBytes bytes → TakesWhole header bytes rest most n → used + length rest ≡ length bytes

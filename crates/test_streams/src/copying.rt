@@ -207,19 +207,24 @@ fn torn_packets(rt: HostRuntime) -> Result<(), Fail> {
 #[test]
 fn interrupted_writes(rt: HostRuntime) -> Result<(), Fail> {
     let whole = big(rt.alloc())?;
+    let under = Under::Order(Endianness::Little, TsResolution::MicroSecond);
+    let stream = Halting::new(rt.alloc(), whole.as_slice(), 200)?;
+    let mut wanted = Vec::new(rt.alloc());
+    let done = copy(rt.alloc(), 0, stream, &mut wanted, under, 9)?;
+    assert!(rt; is_whole(&done.copied, 1));
     for (call, gone) in CALLS {
         for (is_idle, kind) in [
             (false, ErrorKind::Interrupted),
             (true, ErrorKind::WriteZero),
         ] {
-            for buffer in [0, 1, 100] {
+            for buffer in [0, 1, 100, 65536] {
                 let stream = Halting::new(rt.alloc(), whole.as_slice(), 200)?;
                 let mut output = Narrow::halting(rt.alloc(), call, is_idle);
-                let done = copy(rt.alloc(), buffer, stream, &mut output, Under::Same, 9)?;
+                let done = copy(rt.alloc(), buffer, stream, &mut output, under, 9)?;
                 let copied = done.copied;
                 assert!(rt; copied.packets == 0 && copied.write_failed && !copied.read_failed);
                 assert_eq!(rt; kind_of(copied.fault), Some(kind), "at call {call}");
-                assert_eq!(rt; output.out.as_slice(), front(whole.as_slice(), gone));
+                assert_eq!(rt; output.out.as_slice(), front(wanted.as_slice(), gone));
             }
         }
     }
@@ -231,16 +236,20 @@ fn interrupted_stretches(rt: HostRuntime) -> Result<(), Fail> {
     let whole = big(rt.alloc())?;
     // the 24 bytes of the header go out in three calls, and then ten bytes of the packet in each
     for (call, gone) in [(3, 20), (4, 24), (5, 34), (6, 44), (14, 124), (15, 134)] {
-        for is_idle in [false, true] {
-            let stream = Halting::new(rt.alloc(), whole.as_slice(), 200)?;
-            let mut output = Narrow::halting(rt.alloc(), call, is_idle);
-            let done = copy(rt.alloc(), 65536, stream, &mut output, Under::Same, 9)?;
-            assert!(rt;
-                done.copied.packets == 0 && done.copied.write_failed,
-                "at call {call}"
-            );
-            assert_eq!(rt; output.out.as_slice(), front(whole.as_slice(), gone));
-            assert_eq!(rt; output.calls, call);
+        for (is_idle, kind) in [
+            (false, ErrorKind::Interrupted),
+            (true, ErrorKind::WriteZero),
+        ] {
+            for buffer in [0, 1, 100, 65536] {
+                let stream = Halting::new(rt.alloc(), whole.as_slice(), 200)?;
+                let mut output = Narrow::halting(rt.alloc(), call, is_idle);
+                let done = copy(rt.alloc(), buffer, stream, &mut output, Under::Same, 9)?;
+                let copied = done.copied;
+                assert!(rt; copied.packets == 0 && copied.write_failed && !copied.read_failed);
+                assert_eq!(rt; kind_of(copied.fault), Some(kind), "at call {call}");
+                assert_eq!(rt; output.out.as_slice(), front(whole.as_slice(), gone));
+                assert_eq!(rt; output.calls, call);
+            }
         }
     }
     Ok(())

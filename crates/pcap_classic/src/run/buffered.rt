@@ -5,9 +5,10 @@ ghost use Rattle.pcap_classic.specs.Copies.{IsNew, outcome_of, CopyRun, CopyFron
 ghost use Rattle.pcap_classic.specs.Magic.{is_magic};
 
 use crate::pcap::PcapHeader;
-use crate::run::copy::{begin_copy, copy_packets};
+use crate::run::copy::{begin_copy, copy_next};
 use crate::run::stretch::{Sent, put_shown};
 use crate::run::{Copied, Under};
+use pcap_core::stream::Held;
 use pcap_core::{PcapError, ResultParsing};
 use std::alloc::Global;
 use std::io::{BufRead, Write};
@@ -66,13 +67,15 @@ fn copy_buffers<R: BufRead, W: Write>(
     requires no_write_failed { copied.old.write_failed ≡ false }
     ensures { CopiesOn header.now out.now copied.old.packets (R.remaining reader.old) (R.remaining reader.new) (W.contents writer.old) (W.contents writer.new) most (outcome_of copied.new result) }
 {
+    let mut held = Held::new(alloc);
     while copied.packets < most {
         if !copy_shown(reader, writer, header, out, most, copied)? {
             return Ok(());
         }
-        let next = most.min(copied.packets.saturating_add(1));
-        copy_packets(alloc, reader, writer, header, out, next, copied)?;
-        if copied.packets < next {
+        if copied.packets == most {
+            return Ok(());
+        }
+        if !copy_next(reader, writer, header, out, copied, &mut held)? {
             return Ok(());
         }
     }

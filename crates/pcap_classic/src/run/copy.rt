@@ -1,9 +1,10 @@
 //! Copies of captures, from a reader to a writer.
 
-ghost use Rattle.std.specs.Prelude.{◌≡◌, ◌≤◌, ◌↔◌, true, false, IsTrue, IfSome, MatchResult};
+ghost use Rattle.std.specs.Prelude.{◌≡◌, ◌≤◌, ◌<◌, ◌+◌, ◌^◌, ◌↔◌, ℕ, [], true, false, IsTrue, IfSome, IfOk, OnOk, MatchResult};
 ghost use Rattle.pcap_core.specs.Filling.{Stated};
+ghost use Rattle.pcap_core.specs.Held.{held_bytes};
 ghost use Rattle.pcap_classic.specs.StatedPackets.{KnowsHeader};
-ghost use Rattle.pcap_classic.specs.Copies.{BeginsCopy, CanBeUnder, IsNew, outcome_of, CopyRun, CopyFront, CopiesOn, WritesHeld, header_under};
+ghost use Rattle.pcap_classic.specs.Copies.{BeginsCopy, CanBeUnder, IsNew, outcome_of, CopyRun, CopyFront, CopiesOn, StepsOn, WritesHeld, header_under};
 ghost use Rattle.pcap_classic.specs.Magic.{is_magic};
 ghost use Rattle.pcap_classic.specs.Packets.{reader_format};
 ghost use Rattle.pcap_classic.specs.PacketText.{packet_limit};
@@ -14,7 +15,7 @@ use crate::pcap::{
     PacketHeader, PacketsUnder, PcapHeader, packet_of, put_header, put_packet, read_header,
 };
 use pcap_core::rules::Rule;
-use pcap_core::stream::{Held, fill_item};
+use pcap_core::stream::{Held, fill_item, put};
 use pcap_core::{Endianness, PcapError, ResultParsing};
 use std::alloc::Global;
 use std::io::{Read, Write};
@@ -149,7 +150,7 @@ pub(crate) fn begin_copy<R: Read, W: Write>(
 }
 
 // Copies packets behind a header that was read, to behind one that went out, until `most` are copied.
-pub(crate) fn copy_packets<R: Read, W: Write>(
+fn copy_packets<R: Read, W: Write>(
     alloc: Global,
     reader: &mut R,
     writer: &mut W,
@@ -167,25 +168,52 @@ pub(crate) fn copy_packets<R: Read, W: Write>(
 {
     let mut held = Held::new(alloc);
     while copied.packets < most {
-        let packets = PacketsUnder { header };
-        let Some(head) = fill_item(&packets, reader, &mut copied.read_failed, &mut held)? else {
+        if !copy_next(reader, writer, header, out, copied, &mut held)? {
             return Ok(());
-        };
-        put_held(
-            writer,
-            &mut copied.write_failed,
-            header,
-            out,
-            head,
-            held.as_slice(),
-        )?;
-        held.clear();
-        copied.packets += 1;
+        }
     }
     Ok(())
 }
 
-// Writes the packet of this header that the bytes are, lent from them.
+// Copies the next packet, which is held meanwhile, and says whether there was one.
+#[inline(always)]
+pub(crate) fn copy_next<R: Read, W: Write>(
+    reader: &mut R,
+    writer: &mut W,
+    header: &PcapHeader,
+    out: &PcapHeader,
+    copied: &mut Copied,
+    held: &mut Held,
+) -> ResultParsing<bool>
+    requires read { IsTrue (is_magic header.now.magic_number) }
+    requires written { IsTrue (is_magic out.now.magic_number) }
+    requires countable { copied.old.packets + 1 < 2 ^ 64 }
+    requires no_read_failed { copied.old.read_failed ≡ false }
+    requires no_write_failed { copied.old.write_failed ≡ false }
+    requires between { held_bytes held.old ≡ [] }
+    ensures steps { (most : ℕ) → copied.old.packets < most → StepsOn header.now out.now copied.old.packets (R.remaining reader.old) (R.remaining reader.new) (W.contents writer.old) (W.contents writer.new) most copied.new result }
+    ensures counts { IfOk result (λ is_copied. IsTrue is_copied → copied.new.packets ≡ copied.old.packets + 1) }
+    ensures between { OnOk result (held_bytes held.new ≡ []) }
+{
+    let packets = PacketsUnder { header };
+    let Some(head) = fill_item(&packets, reader, &mut copied.read_failed, held)? else {
+        return Ok(false);
+    };
+    put_held(
+        writer,
+        &mut copied.write_failed,
+        header,
+        out,
+        head,
+        held.as_slice(),
+    )?;
+    held.clear();
+    copied.packets += 1;
+    Ok(true)
+}
+
+// Writes the packet of this header that the bytes are: as they came where the magic number stays the same, or lent from them.
+#[inline(always)]
 fn put_held<W: Write>(
     writer: &mut W,
     has_failed: &mut bool,
@@ -199,5 +227,9 @@ fn put_held<W: Write>(
     ensures out { WritesHeld ((reader_format packet_limit header.now).says tt) (written_under out.now) held.now (W.contents writer.old) (W.contents writer.new) result }
     ensures told { MatchResult result (λ _. has_failed.new ≡ has_failed.old) (λ _. has_failed.new ≡ true) }
 {
-    put_packet(writer, has_failed, out, &packet_of(header, head, held))
+    if header.magic_number == out.magic_number {
+        put(writer, has_failed, held)
+    } else {
+        put_packet(writer, has_failed, out, &packet_of(header, head, held))
+    }
 }

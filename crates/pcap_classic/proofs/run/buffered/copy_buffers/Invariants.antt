@@ -1,10 +1,12 @@
-use Rattle.std.proofs.Common.{◌≡◌, ◌≤◌, ◌-◌, false}
+use Rattle.std.proofs.Common.{◌≡◌, ◌≤◌, ◌-◌, [], false}
 use Rattle.pcap_classic.specs.Copies.{CopyingOn}
+use Rattle.pcap_core.specs.Held.{held_bytes}
 use Rattle.pcap_classic.proofs.run.buffered.copy_buffers.Given as goal
 
 abbrev pub invariant-loop-copied : goal.invariant-loop-copied
 invariant-loop-copied g l = record {
   so_far : CopyingOn l.header l.out l.fn.copied.packets (g.R.Read.remaining l.fn.reader) (g.R.Read.remaining l.reader) (g.W.Write.contents l.fn.writer) (g.W.Write.contents l.writer) l.copied.packets;
+  between : held_bytes l.held ≡ [];
   within : l.copied.packets ≤ l.most;
   read : l.copied.read_failed ≡ false;
   wrote : l.copied.write_failed ≡ false;
