@@ -1,14 +1,12 @@
 -- What is kept of a section or an interface leads on as its body does.
-use Rattle.std.proofs.Common.{◌≡◌, ℕ, List, [], ◌∷◌, ◌++◌, true, Bool, Option, Some, refl, sym, ap, subst, ◌∙◌}
-use Rattle.std.specs.Prelude.{IsSome}
-use Rattle.pcap_core.specs.declared.common.Endianness.{Endianness}
+use Rattle.std.proofs.Common.{◌≡◌, ℕ, List, [], ◌∷◌, ◌++◌, true, Bool, refl, sym, ap, subst}
 use Rattle.pcap_core.specs.Answer.{number_in, whole}
 use Rattle.pcap_core.specs.Headed.{HeadReading, good}
 use Rattle.pcap_blocks.specs.declared.block_type.BlockType.{BlockType}
 use Rattle.pcap_blocks.specs.declared.block_type.BlockType.TheVariants as types
 use Rattle.pcap_blocks.specs.declared.section_header.SectionHeaderBlock.{SectionHeaderBlock}
 use Rattle.pcap_blocks.specs.declared.interface_description.InterfaceDescriptionBlock.{InterfaceDescriptionBlock}
-use Rattle.pcap_blocks.specs.SectionHeader.{Section, SectionSays, section_of, magic_order}
+use Rattle.pcap_blocks.specs.SectionHeader.{Section, SectionSays, section_of}
 use Rattle.pcap_blocks.specs.InterfaceDescription.{Interface, InterfaceSays, interface_of}
 use Rattle.pcap_blocks.specs.ParsedBlock.{SectionBody, InterfaceBody, BodySays}
 use Rattle.pcap_file.specs.Frames.{Framed}

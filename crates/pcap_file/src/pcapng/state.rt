@@ -70,6 +70,7 @@ impl InForce {
     }
 
     // Puts in force what a block says, where it is a section or an interface. A refused call changes nothing.
+    #[inline(always)]
     pub(crate) fn follow(&mut self, alloc: Global, block: &Block) -> ResultParsing<()>
         ensures { FollowTells (state_in self.old) (state_in self.new) (framed_of block.now) result }
     {
@@ -80,6 +81,7 @@ impl InForce {
         }
     }
 
+    #[inline(never)]
     fn begin_section(&mut self, alloc: Global, block: &Block) -> ResultParsing<()>
         requires { block.now.type_ ≡ BlockType.SectionHeader }
         ensures { FollowTells (state_in self.old) (state_in self.new) (framed_of block.now) result }
@@ -90,6 +92,7 @@ impl InForce {
         Ok(())
     }
 
+    #[inline(never)]
     fn add_interface(&mut self, alloc: Global, block: &Block) -> ResultParsing<()>
         requires { block.now.type_ ≡ BlockType.InterfaceDescription }
         ensures { FollowTells (state_in self.old) (state_in self.new) (framed_of block.now) result }

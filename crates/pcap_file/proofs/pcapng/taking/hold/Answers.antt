@@ -6,7 +6,7 @@ use Rattle.pcap_file.specs.Frames.{framed_of, frame_format}
 use Rattle.pcap_file.specs.Lent.{framed_around, body_in}
 use Rattle.pcap_file.specs.State.{state_in, CanGrow}
 use Rattle.pcap_file.proofs.HeadedFrames.{frames_lawful}
-use Rattle.pcap_file.proofs.Causes.{pull_frame, pull_room, pull_held, body_refused, pull_item}
+use Rattle.pcap_file.proofs.Causes.{pull_frame, pull_held, body_refused, pull_item}
 use Rattle.pcap_file.proofs.Lent.{held_block}
 use Rattle.pcap_file.proofs.pcapng.taking.hold.Goals as goal
 
