@@ -6,3 +6,5 @@ mod PacketLines
 mod Exits
 mod Kept
 mod Turns
+mod Digits
+mod FixedPoint
