@@ -7,44 +7,40 @@ use Rattle.capcopy_run.proofs.Digits.{nine_split}
 
 -- a hundred times the fraction of a number in fixed point
 abbrev pub next : ℕ → ℕ
-next x = x % 144115188075855872 * 100
+next x = x % 2 ^ 57 * 100
 
 -- a number's hundred-millionths in fixed point
 abbrev pub first : ℕ → ℕ
 first n = n * 1441151881
 
 -- x is r over a power of ten in fixed point, and too large by less than its last digit: its whole part, and what is next
-eight_left : (r m x : ℕ) → 100000000 * x ≡ r * 144115188075855872 + m → m < 144115188075855872
-    → (x / 144115188075855872 ≡ r / 100000000) × (1000000 * (x % 144115188075855872 * 100) ≡ (r % 100000000) * 144115188075855872 + m)
+eight_left : (r m x : ℕ) → 10 ^ 8 * x ≡ r * 2 ^ 57 + m → m < 2 ^ 57 → (x / 2 ^ 57 ≡ r / 10 ^ 8) × (10 ^ 6 * next x ≡ (r % 10 ^ 8) * 2 ^ 57 + m)
 eight_left r m x e small = (omega (arith, e, small), omega (arith, e, small))
 
-six_left : (r m x : ℕ) → 1000000 * x ≡ r * 144115188075855872 + m → m < 144115188075855872
-    → (x / 144115188075855872 ≡ r / 1000000) × (10000 * (x % 144115188075855872 * 100) ≡ (r % 1000000) * 144115188075855872 + m)
+six_left : (r m x : ℕ) → 10 ^ 6 * x ≡ r * 2 ^ 57 + m → m < 2 ^ 57 → (x / 2 ^ 57 ≡ r / 10 ^ 6) × (10 ^ 4 * next x ≡ (r % 10 ^ 6) * 2 ^ 57 + m)
 six_left r m x e small = (omega (arith, e, small), omega (arith, e, small))
 
-four_left : (r m x : ℕ) → 10000 * x ≡ r * 144115188075855872 + m → m < 144115188075855872
-    → (x / 144115188075855872 ≡ r / 10000) × (100 * (x % 144115188075855872 * 100) ≡ (r % 10000) * 144115188075855872 + m)
+four_left : (r m x : ℕ) → 10 ^ 4 * x ≡ r * 2 ^ 57 + m → m < 2 ^ 57 → (x / 2 ^ 57 ≡ r / 10 ^ 4) × (100 * next x ≡ (r % 10 ^ 4) * 2 ^ 57 + m)
 four_left r m x e small = (omega (arith, e, small), omega (arith, e, small))
 
-two_left : (r m x : ℕ) → 100 * x ≡ r * 144115188075855872 + m → m < 144115188075855872
-    → (x / 144115188075855872 ≡ r / 100) × (x % 144115188075855872 * 100 ≡ (r % 100) * 144115188075855872 + m)
+two_left : (r m x : ℕ) → 100 * x ≡ r * 2 ^ 57 + m → m < 2 ^ 57 → (x / 2 ^ 57 ≡ r / 100) × (next x ≡ (r % 100) * 2 ^ 57 + m)
 two_left r m x e small = (omega (arith, e, small), omega (arith, e, small))
 
-none_left : (r m x : ℕ) → x ≡ r * 144115188075855872 + m → m < 144115188075855872 → x / 144115188075855872 ≡ r
+none_left : (r m x : ℕ) → x ≡ r * 2 ^ 57 + m → m < 2 ^ 57 → x / 2 ^ 57 ≡ r
 none_left r m x e small = omega (arith, e, small)
 
 -- the whole parts of what is computed from a number are its digits, two by two
 pub pairs_fixed : (n : ℕ) → n < 2 ^ 32
-    → (first n / 144115188075855872 ≡ n / 10000 / 10000) × (next (first n) / 144115188075855872 ≡ n / 10000 % 10000 / 100)
-    × (next (next (first n)) / 144115188075855872 ≡ n / 10000 % 100) × (next (next (next (first n))) / 144115188075855872 ≡ n % 10000 / 100)
-    × (next (next (next (next (first n)))) / 144115188075855872 ≡ n % 100)
+    → (first n / 2 ^ 57 ≡ n / 10000 / 10000) × (next (first n) / 2 ^ 57 ≡ n / 10000 % 10000 / 100)
+    × (next (next (first n)) / 2 ^ 57 ≡ n / 10000 % 100) × (next (next (next (first n))) / 2 ^ 57 ≡ n % 10000 / 100)
+    × (next (next (next (next (first n)))) / 2 ^ 57 ≡ n % 100)
 pairs_fixed n small =
-    let too_large : n * 24144128 < 144115188075855872 = omega arith in
+    let too_large : n * 24144128 < 2 ^ 57 = omega arith in
     let a = eight_left n (n * 24144128) (first n) (omega arith) too_large in
-    let b = six_left (n % 100000000) (n * 24144128) (next (first n)) a.1 too_large in
-    let c = four_left (n % 100000000 % 1000000) (n * 24144128) (next (next (first n))) b.1 too_large in
-    let d = two_left (n % 100000000 % 1000000 % 10000) (n * 24144128) (next (next (next (first n)))) c.1 too_large in
-    let e = none_left (n % 100000000 % 1000000 % 10000 % 100) (n * 24144128) (next (next (next (next (first n))))) d.1 too_large in
+    let b = six_left (n % 10 ^ 8) (n * 24144128) (next (first n)) a.1 too_large in
+    let c = four_left (n % 10 ^ 8 % 10 ^ 6) (n * 24144128) (next (next (first n))) b.1 too_large in
+    let d = two_left (n % 10 ^ 8 % 10 ^ 6 % 10 ^ 4) (n * 24144128) (next (next (next (first n)))) c.1 too_large in
+    let e = none_left (n % 10 ^ 8 % 10 ^ 6 % 10 ^ 4 % 100) (n * 24144128) (next (next (next (next (first n))))) d.1 too_large in
     (a.0 ∙ omega arith, b.0 ∙ omega arith, c.0 ∙ omega arith, d.0 ∙ omega arith, e ∙ omega arith)
 
 -- four digits are two and two

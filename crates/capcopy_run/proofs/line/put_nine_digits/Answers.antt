@@ -1,4 +1,4 @@
-use Rattle.std.proofs.Common.{arith, rules, ◌≡◌, ◌/◌, ◌≤◌, length, append_assoc}
+use Rattle.std.proofs.Common.{arith, rules, ◌≡◌, ◌/◌, ◌^◌, ◌≤◌, length, append_assoc}
 use Rattle.std.specs.Fmt.{decimal}
 use Rattle.std.proofs.lemmas.Fmt.{length-decimal-le}
 use Rattle.capcopy_run.proofs.FixedPoint.{first, pairs_fixed, nine_pairs}
@@ -7,13 +7,13 @@ use Rattle.capcopy_run.proofs.line.put_nine_digits.Goals as goal
 pub write_digits-requires : goal.write_digits-requires
 write_digits-requires c =
     let same : c.from-first.result ≡ c.args.number = search rules in
-    let short : length (decimal (first c.from-first.result / 144115188075855872)) ≤ 2 = length-decimal-le 2 _ (omega arith) (omega (arith, same)) (omega (arith, same)) in
+    let short : length (decimal (first c.from-first.result / 2 ^ 57)) ≤ 2 = length-decimal-le 2 _ (omega arith) (omega (arith, same)) (omega (arith, same)) in
     (omega (arith, short), omega arith)
 
 pub returns-clause-start : goal.returns-clause-start
 returns-clause-start c =
     let same : c.from-first.result ≡ c.args.number = search rules in
-    let short : length (decimal (first c.from-first.result / 144115188075855872)) ≤ 2 = length-decimal-le 2 _ (omega arith) (omega (arith, same)) (omega (arith, same)) in
+    let short : length (decimal (first c.from-first.result / 2 ^ 57)) ≤ 2 = length-decimal-le 2 _ (omega arith) (omega (arith, same)) (omega (arith, same)) in
     (omega (arith, c.write_digits.ensures.start), omega (arith, c.write_digits.ensures.start, short))
 
 pub returns-clause-text : goal.returns-clause-text
