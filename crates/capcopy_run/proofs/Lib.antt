@@ -7,3 +7,5 @@ mod Skipping
 mod Exits
 mod Kept
 mod Turns
+mod Digits
+mod FixedPoint

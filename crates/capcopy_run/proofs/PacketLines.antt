@@ -1,5 +1,5 @@
 -- How the line of a packet is put together.
-use Rattle.std.proofs.Common.{◌≡◌, ◌∙◌, ℕ, List, [], ◌∷◌, ◌++◌, length, replicate, ◌-◌, ◌≤◌, max, ap, rules, arith}
+use Rattle.std.proofs.Common.{◌≡◌, ℕ, List, [], ◌∷◌, ◌++◌, rules}
 use Rattle.std.specs.Fmt.{decimal}
 use Rattle.std.proofs.lemmas.List.{append_assoc}
 use Rattle.pcap_classic.specs.declared.pcap.packet.PacketHeader.{PacketHeader}
@@ -13,10 +13,3 @@ pub line_made : (index original included seconds : ℕ) (header : PacketHeader) 
     → all ≡ packet_line index header
 line_made index original included seconds header l9 l8 l7 l6 l5 l4 l3 l2 l1 l0 all o i s e0 e1 e2 e3 e4 e5 e6 e7 e8 e9 e =
     rw (e, e9, e8, e7, e6, e5, e4, e3, e2, e1, e0, o, i, s) (search (rules, append_assoc))
-
--- zeros to nine digits
-pub zeros_made : (n digits : ℕ) (room rest : List ℕ) → length (decimal n) ≤ digits → digits ≤ max 9 (length (decimal n)) → 9 ≤ digits
-    → room ≡ replicate (digits - length (decimal n)) 48 ++ (decimal n ++ rest) → room ≡ nine_digits n ++ rest
-zeros_made n digits room rest long most done e =
-    let same : digits - length (decimal n) ≡ 9 - length (decimal n) = omega (arith, long, most, done) in
-    e ∙ ap (λ k. replicate k 48 ++ (decimal n ++ rest)) same ∙ search (rules, append_assoc)

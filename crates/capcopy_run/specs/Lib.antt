@@ -1,6 +1,7 @@
 pub mod BlockLines
 pub mod Commands
 pub mod Copying
+pub mod Digits
 pub mod Exits
 pub mod Lines
 pub mod Listing

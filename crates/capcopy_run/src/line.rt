@@ -2,6 +2,7 @@
 
 ghost use Rattle.std.specs.Prelude.{◌≡◌, ◌+◌, ◌<◌, ◌≤◌, ◌∷◌, ◌++◌, drop, length};
 ghost use Rattle.std.specs.Fmt.{decimal};
+ghost use Rattle.capcopy_run.specs.Digits.{last_digits};
 ghost use Rattle.capcopy_run.specs.PacketLines.{nine_digits, packet_line};
 
 use itoa::write_digits;
@@ -9,6 +10,16 @@ use pcap_file::pcap::PacketHeader;
 
 /// Room for the longest line: five numbers of at most twenty digits, and a byte after each.
 pub(crate) const ROOM: usize = 105;
+
+// The two digits of each number below a hundred.
+static TWO_DIGITS: [u8; 200] =
+    *b"00010203040506070809101112131415161718192021222324252627282930313233343536373839404142434445464748495051525354555657585960616263646566676869707172737475767778798081828384858687888990919293949596979899";
+
+// One in fixed point: a fraction has 57 bits.
+const ONE: u64 = 144_115_188_075_855_872;
+
+// The fraction above one hundred-millionth that is next to it.
+const HUNDRED_MILLIONTH: u64 = 1_441_151_881;
 
 // Puts a word before the text that begins at `end`, and returns where it begins then.
 pub(crate) fn put_word(room: &mut [u8; ROOM], end: usize, word: &str) -> usize
@@ -41,20 +52,53 @@ pub(crate) fn put_number(room: &mut [u8; ROOM], end: usize, number: u64) -> usiz
     write_digits(number, room, end)
 }
 
+// Puts the two digits of a number before the text that begins at `end`, and returns where it begins then.
+fn put_two_digits(room: &mut [u8; ROOM], end: usize, number: u64) -> usize
+    requires { (2 ≤ end) × (end ≤ 105) × (number < 100) }
+    ensures start { result + 2 ≡ end }
+    ensures text { drop result room.new ≡ last_digits 2 number ++ drop end room.old }
+{
+    let digits = number as usize * 2;
+    let start = end - 2;
+    room[start] = TWO_DIGITS[digits];
+    room[start + 1] = TWO_DIGITS[digits + 1];
+    start
+}
+
 // Puts a number before the text that begins at `end`, with zeros before it to nine digits.
 fn put_nine_digits(room: &mut [u8; ROOM], end: usize, number: u32) -> usize
     requires { (20 ≤ end) × (end ≤ 105) }
     ensures start { (result ≤ end) × (end ≤ result + 20) }
     ensures text { drop result room.new ≡ nine_digits number ++ drop end room.old }
 {
-    let mut start = write_digits(u64::from(number), room, end);
-    for _digits in end - start..9 {
-        start = put_byte(room, start, b'0');
+    // In fixed point: a hundred times the fraction has the next two digits before its point.
+    let first = u64::from(number) * HUNDRED_MILLIONTH;
+    let second = first % ONE * 100;
+    let third = second % ONE * 100;
+    let fourth = third % ONE * 100;
+    let fifth = fourth % ONE * 100;
+    let start = put_two_digits(room, end, fifth / ONE);
+    let start = put_two_digits(room, start, fourth / ONE);
+    let start = put_two_digits(room, start, third / ONE);
+    let start = put_two_digits(room, start, second / ONE);
+    write_digits(first / ONE, room, start)
+}
+
+// Puts seconds before the text that begins at `end`. Since 1974 they have nine digits or more.
+#[inline(always)]
+fn put_seconds(room: &mut [u8; ROOM], end: usize, seconds: u32) -> usize
+    requires { (20 ≤ end) × (end ≤ 105) }
+    ensures start { (result ≤ end) × (end ≤ result + 20) }
+    ensures text { drop result room.new ≡ decimal seconds ++ drop end room.old }
+{
+    if seconds < 100_000_000 {
+        return put_number(room, end, u64::from(seconds));
     }
-    start
+    put_nine_digits(room, end, seconds)
 }
 
 /// Makes the line of the packet at this index at the end of the room, and returns where it begins.
+#[inline(always)]
 pub(crate) fn make_line(room: &mut [u8; ROOM], index: u64, header: PacketHeader) -> usize
     ensures within { result ≤ 105 }
     ensures line { drop result room.new ≡ packet_line index header }
@@ -66,7 +110,7 @@ pub(crate) fn make_line(room: &mut [u8; ROOM], index: u64, header: PacketHeader)
     let start = put_byte(room, start, b' ');
     let start = put_nine_digits(room, start, header.ts_nsec);
     let start = put_byte(room, start, b'.');
-    let start = put_number(room, start, u64::from(header.ts_sec));
+    let start = put_seconds(room, start, header.ts_sec);
     let start = put_byte(room, start, b' ');
     put_number(room, start, index)
 }

@@ -1,4 +1,4 @@
-use Rattle.std.proofs.Common.{◌≡◌, ◌≤◌, [], length, rules, drop, drop_of_length-le}
+use Rattle.std.proofs.Common.{◌≡◌, ◌≤◌, [], length, refl, rules, drop, drop_of_length-le}
 use Rattle.capcopy_run.proofs.PacketLines.{line_made}
 use Rattle.capcopy_run.proofs.line.make_line.Goals as goal
 
@@ -8,7 +8,6 @@ returns-clause-line c =
     let none : drop 105 c.args.room.now ≡ [] = drop_of_length-le c.args.room.now {i = 105} long in
     let original : c.from.result ≡ c.args.header.orig_len = search rules in
     let included : c.from-2.result ≡ c.args.header.incl_len = search rules in
-    let seconds : c.from-3.result ≡ c.args.header.ts_sec = search rules in
-    line_made c.args.index _ _ _ c.args.header _ _ _ _ _ _ _ _ _ _ _ original included seconds none c.put_byte-start.ensures.text c.put_number-start.ensures.text c.put_byte-start-2.ensures.text
-    c.put_number-start-2.ensures.text c.put_byte-start-3.ensures.text c.put_nine_digits-start.ensures.text c.put_byte-start-4.ensures.text c.put_number-start-3.ensures.text
+    line_made c.args.index _ _ _ c.args.header _ _ _ _ _ _ _ _ _ _ _ original included refl none c.put_byte-start.ensures.text c.put_number-start.ensures.text c.put_byte-start-2.ensures.text
+    c.put_number-start-2.ensures.text c.put_byte-start-3.ensures.text c.put_nine_digits-start.ensures.text c.put_byte-start-4.ensures.text c.put_seconds-start.ensures.text
     c.put_byte-start-5.ensures.text c.put_number.ensures.text
