@@ -73,6 +73,7 @@ impl<'a> NameResolutionBlock<'a> {
 }
 
 // The records before the end, and what follows that.
+#[inline(never)]
 fn records_from_slice<'a, B: ByteOrder>(
     alloc: Global,
     slice: &'a [u8],

@@ -47,6 +47,7 @@ pub fn str_from_u8_null_terminated(src: &[u8]) -> ResultParsing<(&[u8], &str)>
 }
 
 // The names that all of a slice is.
+#[inline(never)]
 pub(crate) fn names_from_slice(alloc: Global, slice: &[u8]) -> Result<Vec<CowStr<'_>>, Refusal>
     ensures tells { FindsAllWhere (NamesMayGrow slice.now) (NamesSay slice.now) (λ names. map cow_str_bytes names.items) result }
     ensures borrowed { IfOk result (λ names. All IsBorrowedStr names.items) }
