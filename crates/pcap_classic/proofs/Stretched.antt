@@ -52,6 +52,9 @@ rest_of bytes front rest n split count =
     let long : n ≡ length front = omega (arith, count, ap length split, length-append front rest) in
     rw (long, split) (drop-append_seam front rest)
 
+some_left : (all gone left : List ℕ) → all ≡ gone ++ left → length gone < length all → 0 < length left
+some_left all gone left split longer = omega (arith, longer, ap length {x = all} {y = gone ++ left} split, length-append gone left)
+
 -- a reader that shows nothing is at its end
 pub shows_nothing : (a : Option (List ℕ)) (n : ℕ) → n ≡ 0 → IfSome a (λ xs. n ≡ 0 → xs ≡ []) → IsAtEnd a
 shows_nothing None n none end = tt
@@ -132,57 +135,74 @@ module _ (header : PcapHeader) where
       let written = packet_bytes held [] packet fits (reader_whole packet_limit header held [] packet says).1 in
       ap (λ n. record_bytes (number_bytes (order_of n)) (resolution_of n) packet) (sym same) ∙ sym (append-nil (written_under header packet)) ∙ sym written
 
+  -- of a packet's text bytes are gone in which no packet is whole: what is left of it
+  torn_text : (gone back behind : List ℕ) (packet : Captured) → IsBytes (gone ++ back) → ((p : Captured) (s : List ℕ) → PacketIsSaid header gone (whole p s) → ⊥)
+      → PacketIsSaid header (gone ++ back) (whole packet behind) → (left : List ℕ) × (written_under header packet ≡ gone ++ left) × (0 < length left)
+  torn_text gone back behind packet fits none text =
+      let laws = lawful_under header in
+      let bytes = written_under header packet in
+      let written : gone ++ back ≡ bytes ++ behind = packet_bytes (gone ++ back) behind packet fits text in
+      let own = laws.own tt (gone ++ back) behind packet text in
+      let alone : PacketIsSaid header bytes (whole packet []) =
+      subst (λ (s : List ℕ). PacketIsSaid header s (whole packet [])) (append_cancel_right own.0 bytes behind (sym own.1 ∙ written)) own.2 in
+      let longer : length gone < length bytes = elim (cases_lt (length gone) (length bytes)) [
+        | inl lt ↦ lt
+        | inr ge ↦
+            let z = beginning bytes behind gone back (sym written) ge in
+            absurd (none packet z.0 (subst (λ (s : List ℕ). PacketIsSaid header s (whole packet z.0)) (sym z.1) ((laws.stable tt).text bytes z.0 [] packet alone)))
+      ] in
+      let rest = beginning gone back bytes behind written (omega (arith, longer)) in
+      (rest.0, rest.1, some_left bytes gone rest.0 rest.1 longer)
+
+  -- behind the packets of a row that are whole in what went out stands a packet, of which a part went out
+  torn_behind : (front back begun behind after : List ℕ) (a b : Option (List ℕ)) (most k j : ℕ) (packet : Captured) → IsBytes front → IsBytes (front ++ back) → TakesWhole header front begun most k → k < most
+      → Appends a b front → TakesWhole header (begun ++ back) behind 1 j → PacketIsSaid header (begun ++ back) (whole packet after) → SendsTorn header (written_under header) (front ++ back) behind a b k
+  torn_behind front back begun behind after a b most k j packet front_fits fits ones fewer out one says =
+      let f = format_under packet_limit header in
+      let laws = lawful_under header in
+      let texts = texts_more f laws tt ones.packets front begun back ones.texts in
+      let own = texts_own f laws tt ones.packets (front ++ back) (begun ++ back) texts in
+      let none : (p : Captured) (s : List ℕ) → PacketIsSaid header begun (whole p s) → ⊥ = elim ones.stops [ inl full ↦ absurd (omega (arith, full, fewer)) | inr none ↦ none ] in
+      let after_is : after ≡ behind = one_taken (begun ++ back) behind after j packet one.packets one.count one.texts one.within one.stops says in
+      let text = subst (λ (s : List ℕ). PacketIsSaid header (begun ++ back) (whole packet s)) {x = after} {y = behind} after_is says in
+      let torn = torn_text begun back behind packet (back_bytes own.0 (begun ++ back) (subst IsBytes {x = front ++ back} {y = own.0 ++ (begun ++ back)} own.1 fits)) none text in
+      let written = packets_written packet_limit (order_of header.magic_number) (resolution_of header.magic_number) ones.packets front begun front_fits ones.texts in
+      let apart = appends_apart a b (flat_map (written_under header) ones.packets) begun (subst (λ (l : List ℕ). Appends a b l) {x = front} {y = flat_map (written_under header) ones.packets ++ begun} written out) in
+      record {
+        middle = begun ++ back;
+        mid = apart.0;
+        whole_ones = record { packets = ones.packets; count = ones.count; texts = texts; out = apart.1 };
+        packet = packet;
+        next = text;
+        out = (torn.0, torn.2, record { gone = begun; split = torn.1; out = apart.2 });
+      }
+
   -- a write failed among the packets of a row, behind so many bytes: those that went out whole, and the next, which is torn
   pub torn_sent : (bytes rest begun behind : List ℕ) (a b : Option (List ℕ)) (most n k j used gone : ℕ) → IsBytes bytes → TakesWhole header bytes rest most n → used + length rest ≡ length bytes
       → gone < used → Appends a b (take gone bytes) → TakesWhole header (take gone bytes) begun most k → TakesWhole header (drop (gone - length begun) bytes) behind 1 j
       → SendsTorn header (written_under header) bytes behind a b k × (k < most)
-  torn_sent bytes rest begun behind a b most n k j used gone fits all count less out whole_ones one =
+  torn_sent bytes rest begun behind a b most n k j used gone fits all count less out ones one =
       let f = format_under packet_limit header in
       let laws = lawful_under header in
-      let e = order_of header.magic_number in
-      let r = resolution_of header.magic_number in
       let front = take gone bytes in
       let back = drop gone bytes in
-      let middle = begun ++ back in
       let split : front ++ back ≡ bytes = take-append-drop gone bytes in
-      let texts : Texts f tt whole_ones.packets bytes middle = subst (λ (s : List ℕ). Texts f tt whole_ones.packets s middle) split (texts_more f laws tt whole_ones.packets front begun back whole_ones.texts) in
-      let own = texts_own f laws tt whole_ones.packets bytes middle texts in
+      let texts : Texts f tt ones.packets bytes (begun ++ back) =
+      subst (λ (s : List ℕ). Texts f tt ones.packets s (begun ++ back)) {x = front ++ back} {y = bytes} split (texts_more f laws tt ones.packets front begun back ones.texts) in
+      let own = texts_own f laws tt ones.packets bytes (begun ++ back) texts in
+      let begun_within = rest_within front begun ones.packets ones.texts in
       let front_length : length front ≡ gone = omega (arith, count, less, length-take gone bytes) in
       let back_length : gone + length back ≡ length bytes = omega (arith, count, less, length-drop gone bytes) in
-      let begun_within = rest_within front begun whole_ones.packets whole_ones.texts in
-      let middle_length : length middle ≡ length begun + length back = length-append begun back in
-      let next = goes_on whole_ones.packets all.packets bytes middle rest texts all.texts (omega (arith, count, less, back_length, middle_length)) in
-      let fewer : k < most = omega (arith, next.3, all.within, all.count, whole_ones.count) in
-      let longest : (p : Captured) (s : List ℕ) → PacketIsSaid header begun (whole p s) → ⊥ = elim whole_ones.stops [ inl full ↦ absurd (omega (arith, full, fewer)) | inr none ↦ none ] in
-      let at : drop (gone - length begun) bytes ≡ middle =
-      rest_of bytes own.0 middle (gone - length begun) own.1 (omega (arith, back_length, middle_length, front_length, begun_within)) in
-      let taken : TakesWhole header middle behind 1 j = subst (λ (s : List ℕ). TakesWhole header s behind 1 j) at one in
-      let after_is = one_taken middle behind next.1 j next.0 taken.packets taken.count taken.texts taken.within taken.stops next.2 in
-      let text : PacketIsSaid header middle (whole next.0 behind) = subst (λ (s : List ℕ). PacketIsSaid header middle (whole next.0 s)) after_is next.2 in
-      let whole_fits : IsBytes middle = back_bytes own.0 middle (subst IsBytes own.1 fits) in
-      let written = packet_bytes middle behind next.0 whole_fits text in
-      let alone : PacketIsSaid header (written_under header next.0) (whole next.0 []) =
-      let o = laws.own tt middle behind next.0 text in
-      subst (λ (s : List ℕ). PacketIsSaid header s (whole next.0 [])) (append_cancel_right o.0 (written_under header next.0) behind (sym o.1 ∙ written)) o.2 in
-      let longer : length begun < length (written_under header next.0) = elim (cases_lt (length begun) (length (written_under header next.0))) [
-        | inl lt ↦ lt
-        | inr ge ↦
-            let z = beginning (written_under header next.0) behind begun back (sym written) ge in
-            absurd (longest next.0 z.0 (subst (λ (s : List ℕ). PacketIsSaid header s (whole next.0 z.0)) (sym z.1) ((laws.stable tt).text (written_under header next.0) z.0 [] next.0 alone)))
-      ] in
-      let w = beginning begun back (written_under header next.0) behind written (omega (arith, longer)) in
-      let front_written = packets_written packet_limit e r whole_ones.packets front begun (All-take (λ byte. byte < 256) gone bytes fits) whole_ones.texts in
-      let apart = appends_apart a b (flat_map (written_under header) whole_ones.packets) begun (subst (λ (l : List ℕ). Appends a b l) front_written out) in (
-        record {
-          middle = middle;
-          mid = apart.0;
-          whole_ones = record { packets = whole_ones.packets; count = whole_ones.count; texts = texts; out = apart.1 };
-          packet = next.0;
-          next = text;
-          out = (w.0, omega (arith, longer, ap length w.1, length-append begun w.0), record { gone = begun; split = w.1; out = apart.2 });
-        },
-        fewer,
-      )
+      let middle_length : length (begun ++ back) ≡ length begun + length back = length-append begun back in
+      let next = goes_on ones.packets all.packets bytes (begun ++ back) rest texts all.texts (omega (arith, count, less, back_length, middle_length)) in
+      let fewer : k < most = omega (arith, next.3, all.within, all.count, ones.count) in
+      let at : drop (gone - length begun) bytes ≡ begun ++ back =
+      rest_of bytes own.0 (begun ++ back) (gone - length begun) own.1 (omega (arith, back_length, middle_length, front_length, begun_within)) in
+      let taken = subst (λ (s : List ℕ). TakesWhole header s behind 1 j) {x = drop (gone - length begun) bytes} {y = begun ++ back} at one in
+      let front_fits = All-take (λ byte. byte < 256) gone bytes fits in
+      let all_fits = subst IsBytes {x = bytes} {y = front ++ back} (sym split) fits in
+      let sent = torn_behind front back begun behind next.1 a b most k j next.0 front_fits all_fits ones fewer out taken next.2 in
+      (subst (λ (s : List ℕ). SendsTorn header (written_under header) s behind a b k) {x = front ++ back} {y = bytes} split sent, fewer)
 
   pub sends_within : (text : Captured → List ℕ) (bytes rest : List ℕ) (a b : Option (List ℕ)) (most n : ℕ) (old new : Bool) (fault : Option PcapError)
       → Sends header text bytes rest a b most n old new fault → length rest ≤ length bytes
