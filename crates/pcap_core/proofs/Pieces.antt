@@ -1,11 +1,13 @@
 -- Bytes that come in pieces, over any format.
-use Rattle.std.proofs.Common.{◌≡◌, ◌<◌, ◌≤◌, ◌+◌, ◌-◌, ℕ, List, [], ◌∷◌, ◌++◌, suc, zero, length, take, drop, false, Result, Ok, Err, refl, sym, ap, subst, ◌∙◌, arith, append_assoc, append-nil, length-append, length-drop, inl, inr}
-use Rattle.std.specs.Prelude.{All, IfOk, max, replicate, ◌==◌}
+use Rattle.std.proofs.Common.{◌≡◌, ◌<◌, ◌≤◌, ◌+◌, ◌-◌, ℕ, List, [], ◌∷◌, ◌++◌, suc, length, take, drop, false, Result, Ok, Err, refl, sym, ap, subst, ◌∙◌, arith, append_assoc, append-nil, length-append, length-drop, inl, inr}
+use Rattle.std.specs.Prelude.{All, IfOk, replicate, ◌==◌}
 use Rattle.std.specs.Borrow.{Bor}
 use Rattle.std.proofs.lemmas.Bool.Decides.{nat_tests}
 use Rattle.std.proofs.lemmas.Grind.{flat_map-append}
-use Rattle.std.proofs.lemmas.List.{length-map, take-append-drop, map_push}
-use Rattle.std.proofs.Math.Seq.{drop-append_seam, take-add}
+use Rattle.std.proofs.lemmas.List.{length-map, length-take-le, take-append-drop, map_push}
+use Rattle.std.proofs.lemmas.List.Elements.{All-push}
+use Rattle.std.proofs.Math.ListN.{get_or}
+use Rattle.std.proofs.Math.Seq.{drop-append_seam, take-add, take-suc}
 use Rattle.pcap_core.specs.declared.errors.PcapError.{PcapError}
 use Rattle.pcap_core.specs.declared.errors.PcapError.TheVariants as errors
 use Rattle.pcap_core.specs.declared.rest.Rest.{Rest}
@@ -45,13 +47,6 @@ after_each_same Holds before (p ∷ pieces) n holds = (
       (λ s t e. subst (λ (l : List ℕ). Holds l n) (sym (append_assoc before p.now s)) (holds (p.now ++ s) t (ap (λ (l : List ℕ). p.now ++ l) e ∙ sym (append_assoc p.now s t)))),
 )
 
--- and one piece
-pub after_each_one : (Holds : List ℕ → ℕ → Type 0) (before : List ℕ) (pieces : List (Bor (List ℕ))) (n : ℕ) → length pieces ≡ 1 → Holds (before ++ joined_pieces pieces) n
-    → AfterEach Holds before pieces (replicate (length pieces) n)
-after_each_one Holds before [] n one holds = tt
-after_each_one Holds before (p ∷ []) n one holds = (subst (λ (s : List ℕ). Holds (before ++ s) n) (append-nil p.now) holds, tt)
-after_each_one Holds before (p ∷ q ∷ pieces) n one holds = absurd (omega (arith, one))
-
 -- what follows from the fact that holds, holds too
 pub after_each_more : (P Q : List ℕ → ℕ → Type 0) → ((s : List ℕ) (n : ℕ) → P s n → Q s n) → (before : List ℕ) (pieces : List (Bor (List ℕ))) (ns : List ℕ) → AfterEach P before pieces ns → AfterEach Q before pieces ns
 after_each_more P Q step before [] [] each = each
@@ -59,37 +54,78 @@ after_each_more P Q step before [] (n ∷ ns) each = absurd each
 after_each_more P Q step before (p ∷ pieces) [] each = absurd each
 after_each_more P Q step before (p ∷ pieces) (n ∷ ns) each = (step (before ++ p.now) n each.0, after_each_more P Q step (before ++ p.now) pieces ns each.1)
 
--- the pieces up to some more
-pub pieces_more : (pieces : List (Bor (List ℕ))) (i k : ℕ) → joined_pieces (take (i + k) pieces) ≡ joined_pieces (take i pieces) ++ joined_pieces (take k (drop i pieces))
-pieces_more pieces i k = ap joined_pieces (take-add i k pieces) ∙ flat_map-append (λ (piece : Bor (List ℕ)). piece.now) (take i pieces) (take k (drop i pieces))
-
 -- pieces of one byte have as many bytes
 pub single_length : (pieces : List (Bor (List ℕ))) → All (λ piece. length piece.now ≡ 1) pieces → length (joined_pieces pieces) ≡ length pieces
 single_length [] single = refl
 single_length (p ∷ pieces) single =
     omega (arith, single 0 p (omega arith), single_length pieces (λ k d less. single (suc k) d (omega (arith, less))), length-append p.now (joined_pieces pieces))
 
--- a run of such pieces is one where no byte is missing behind it
-pub one_piece : (left run : List (Bor (List ℕ))) (k missing : ℕ) → run ≡ take (max k 1) left → length run ≡ max k 1 → All (λ piece. length piece.now ≡ 1) (take k left)
-    → k ≤ missing - 1 → missing ≤ length (joined_pieces run) → length run ≡ 1
-one_piece left run zero missing run_is size single waiting due = size
-one_piece left run (suc zero) missing run_is size single waiting due = size
-one_piece left run (suc (suc k)) missing run_is size single waiting due =
-    let most : max (suc (suc k)) 1 ≡ suc (suc k) = omega arith in
-    absurd (omega (arith, size, most, waiting, due, single_length run (rw (run_is, most) single)))
+-- also where they stand at the front of others
+pub single_front : (left : List (Bor (List ℕ))) (k : ℕ) → k ≤ length left → All (λ piece. length piece.now ≡ 1) (take k left) → length (joined_pieces (take k left)) ≡ k
+single_front left k within single = single_length (take k left) single ∙ length-take-le k left within
 
--- no more bytes than all of them
-pub pieces_within : (pieces : List (Bor (List ℕ))) (i k : ℕ) → length (joined_pieces (take i pieces)) + length (joined_pieces (take k (drop i pieces))) ≤ length (joined_pieces pieces)
-pieces_within pieces i k =
-    let all = ap (λ (l : List (Bor (List ℕ))). length (joined_pieces l)) (take-append-drop (i + k) pieces) in
-    let parts = ap length (flat_map-append (λ (piece : Bor (List ℕ)). piece.now) (take (i + k) pieces) (drop (i + k) pieces)) in
-    omega (
-      arith,
-      sym all ∙ parts,
-      length-append (joined_pieces (take (i + k) pieces)) (joined_pieces (drop (i + k) pieces)),
-      ap length (pieces_more pieces i k),
-      length-append (joined_pieces (take i pieces)) (joined_pieces (take k (drop i pieces))),
-    )
+-- one of them more
+piece_more : (pieces : List (Bor (List ℕ))) (i : ℕ) (d : Bor (List ℕ)) → i < length pieces → take (i + 1) pieces ≡ take i pieces ++ get_or pieces i d ∷ []
+piece_more pieces i d less = let next : i + 1 ≡ suc i = omega arith in ap (λ (n : ℕ). take n pieces) next ∙ take-suc pieces i d less
+
+pub single_more : (pieces : List (Bor (List ℕ))) (i : ℕ) (d : Bor (List ℕ)) → i < length pieces → length (get_or pieces i d).now ≡ 1
+    → All (λ piece. length piece.now ≡ 1) (take i pieces) → All (λ piece. length piece.now ≡ 1) (take (i + 1) pieces)
+single_more pieces i d less one single =
+    subst (λ (l : List (Bor (List ℕ))). All (λ piece. length piece.now ≡ 1) l) (sym (piece_more pieces i d less)) (All-push (λ (piece : Bor (List ℕ)). length piece.now ≡ 1) (take i pieces) (get_or pieces i d) single one)
+
+one_byte : (s : List ℕ) → length s ≡ 1 → s ≡ get_or s 0 0 ∷ []
+one_byte [] one = absurd (omega (arith, one))
+one_byte (b ∷ []) one = refl
+one_byte (b ∷ c ∷ s) one = absurd (omega (arith, one))
+
+pub byte_more : (pieces : List (Bor (List ℕ))) (i : ℕ) (d : Bor (List ℕ)) → i < length pieces → length (get_or pieces i d).now ≡ 1
+    → joined_pieces (take (i + 1) pieces) ≡ joined_pieces (take i pieces) ++ get_or (get_or pieces i d).now 0 0 ∷ []
+byte_more pieces i d less one =
+    let piece : Bor (List ℕ) = get_or pieces i d in
+    let fed = take i pieces in
+    ap joined_pieces (piece_more pieces i d less) ∙ flat_map-append (λ (x : Bor (List ℕ)). x.now) fed (piece ∷ []) ∙ ap (λ (l : List ℕ). joined_pieces fed ++ l) (append-nil piece.now ∙ one_byte piece.now one)
+
+-- some pieces, the next one, and some behind it
+module _ (pieces : List (Bor (List ℕ))) (n k : ℕ) (d : Bor (List ℕ)) (less : n < length pieces) where
+  turn_pieces : take (n + 1 + k) pieces ≡ (take n pieces ++ get_or pieces n d ∷ []) ++ take k (drop (n + 1) pieces)
+  turn_pieces = take-add (n + 1) k pieces ∙ ap (λ (l : List (Bor (List ℕ))). l ++ take k (drop (n + 1) pieces)) (piece_more pieces n d less)
+
+  joined_next : joined_pieces (take n pieces ++ get_or pieces n d ∷ []) ≡ joined_pieces (take n pieces) ++ (get_or pieces n d).now
+  joined_next =
+      let piece : Bor (List ℕ) = get_or pieces n d in
+      flat_map-append (λ (x : Bor (List ℕ)). x.now) (take n pieces) (piece ∷ []) ∙ ap (λ (l : List ℕ). joined_pieces (take n pieces) ++ l) (append-nil piece.now)
+
+  -- their bytes
+  pub turn_joined : joined_pieces (take (n + 1 + k) pieces) ≡ (joined_pieces (take n pieces) ++ (get_or pieces n d).now) ++ joined_pieces (take k (drop (n + 1) pieces))
+  turn_joined =
+      let run = take k (drop (n + 1) pieces) in
+      ap joined_pieces turn_pieces ∙ flat_map-append (λ (x : Bor (List ℕ)). x.now) (take n pieces ++ get_or pieces n d ∷ []) run ∙ ap (λ (l : List ℕ). l ++ joined_pieces run) joined_next
+
+  -- their numbers, where the last ones are the same
+  pub turn_numbers : (Holds : List ℕ → ℕ → Type 0) (ns : List ℕ) (m : ℕ) → AfterEach Holds [] (take n pieces) ns → Holds (joined_pieces (take n pieces) ++ (get_or pieces n d).now) m
+      → AfterEach Holds (joined_pieces (take n pieces) ++ (get_or pieces n d).now) (take k (drop (n + 1) pieces)) (replicate k m) → AfterEach Holds [] (take (n + 1 + k) pieces) ((ns ++ m ∷ []) ++ replicate k m)
+  turn_numbers Holds ns m each holds further =
+      let fed = take n pieces ++ get_or pieces n d ∷ [] in
+      let run = take k (drop (n + 1) pieces) in
+      let next : AfterEach Holds [] fed (ns ++ m ∷ []) = after_each_join Holds [] (take n pieces) (get_or pieces n d ∷ []) ns (m ∷ []) each (holds, tt) in
+      let behind : AfterEach Holds (joined_pieces fed) run (replicate k m) = subst (λ (s : List ℕ). AfterEach Holds s run (replicate k m)) (sym joined_next) further in
+      subst (λ (l : List (Bor (List ℕ))). AfterEach Holds [] l ((ns ++ m ∷ []) ++ replicate k m)) (sym turn_pieces) (after_each_join Holds [] fed run (ns ++ m ∷ []) (replicate k m) next behind)
+
+  -- no more bytes than all of them
+  pub turn_within : length (joined_pieces (take n pieces)) + (length (get_or pieces n d).now + length (joined_pieces (take k (drop (n + 1) pieces)))) ≤ length (joined_pieces pieces)
+  turn_within =
+      let run = take k (drop (n + 1) pieces) in
+      let m = n + 1 + k in
+      let all = ap (λ (l : List (Bor (List ℕ))). length (joined_pieces l)) (take-append-drop m pieces) in
+      let parts = ap length (flat_map-append (λ (piece : Bor (List ℕ)). piece.now) (take m pieces) (drop m pieces)) in
+      omega (
+        arith,
+        sym all ∙ parts,
+        length-append (joined_pieces (take m pieces)) (joined_pieces (drop m pieces)),
+        ap length turn_joined,
+        length-append (joined_pieces (take n pieces) ++ (get_or pieces n d).now) (joined_pieces run),
+        length-append (joined_pieces (take n pieces)) (get_or pieces n d).now,
+      )
 
 -- ---- what stays known
 
@@ -193,13 +229,21 @@ module _ {P S V W : Type 0} (opens : List ℕ → Verdict S → Type 0) (opening
   waits s more (Within parser rest) missing held ws less waiting =
       (reaches_more (state parser) ws s held more waiting.0, asked_still (f.says (state parser)) (laws.stable (state parser)) held more missing less rest waiting.1)
 
-  -- pieces with which fewer come: they have one number
-  pub waits_each : (before : List ℕ) (pieces : List (Bor (List ℕ))) (progress : Progress P) (missing : ℕ) (held : List ℕ) (ws : List W) → length (joined_pieces pieces) < missing
+  -- no more bytes than leave one missing, or none
+  pub waits_more : (s more : List ℕ) (progress : Progress P) (missing : ℕ) (held : List ℕ) (ws : List W) → length more ≤ missing - 1 → IsWaiting opens f part state s (progress_with progress missing) held ws
+      → IsWaiting opens f part state (s ++ more) (progress_with progress (missing - length more)) (held ++ more) ws
+  waits_more s [] progress missing held ws most waiting =
+      let same : missing - 0 ≡ missing = omega arith in
+      rw (append-nil s, append-nil held, same) waiting
+  waits_more s (b ∷ more) progress missing held ws most waiting = waits s (b ∷ more) progress missing held ws (omega (arith, most)) waiting
+
+  -- pieces with which no more come: they have one number
+  pub waits_each : (before : List ℕ) (pieces : List (Bor (List ℕ))) (progress : Progress P) (missing : ℕ) (held : List ℕ) (ws : List W) → length (joined_pieces pieces) ≤ missing - 1
       → IsWaiting opens f part state before (progress_with progress missing) held ws → AfterEach (HoldsItems opens f) before pieces (replicate (length pieces) (length ws))
-  waits_each before pieces progress missing held ws less waiting =
+  waits_each before pieces progress missing held ws most waiting =
       after_each_same (HoldsItems opens f) before pieces (length ws)
       (λ s t e. waiting_holds (before ++ s) (progress_with progress (missing - length s)) (held ++ s) ws
-      (waits before s progress missing held ws (omega (arith, less, ap length e, length-append s t)) waiting))
+      (waits_more before s progress missing held ws (omega (arith, most, ap length e, length-append s t)) waiting))
 
   -- any bytes
   pub waiting_came : (s more : List ℕ) (progress : Progress P) (missing : ℕ) (held : List ℕ) (ws : List W) → IsWaiting opens f part state s (progress_with progress missing) held ws

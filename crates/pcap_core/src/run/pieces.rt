@@ -1,6 +1,6 @@
 //! Items of a capture that comes in pieces.
 
-ghost use Rattle.std.specs.Prelude.{◌≡◌, ◌≤◌, ◌<◌, ◌+◌, ◌-◌, ◌^◌, ◌↔◌, ◌++◌, ℕ, List, [], length, drop, take, map, All, IsTrue, IfOk, IfErr};
+ghost use Rattle.std.specs.Prelude.{◌≡◌, ◌≤◌, ◌<◌, ◌+◌, ◌-◌, ◌^◌, ◌↔◌, ◌++◌, ℕ, List, [], length, drop, take, map, replicate, All, IsTrue, IfOk, IfErr};
 ghost use Rattle.std.specs.Vec.{vec_capacity, vec_len};
 ghost use Rattle.pcap_core.specs.Answer.{Verdict};
 ghost use Rattle.pcap_core.specs.Errors.{IsMemory};
@@ -90,19 +90,14 @@ pub fn feed_pieces<P: PieceParser>(
     let mut numbers = Vec::with_capacity(alloc, pieces.len())?;
     let mut total = 0;
     while numbers.len() < pieces.len() {
+        let piece = pieces[numbers.len()];
+        missing = feed_piece(alloc, piece, missing, &mut progress, &mut held, &mut items)?;
+        numbers.push_reserved(items.len());
         let left = pieces.split_at(numbers.len()).1;
-        let run = left.split_at(single_bytes(left, missing).max(1)).0;
-        let before = held.len();
-        held = hold(held, run)?;
-        let came = held.len() - before;
-        if came < missing {
-            missing -= came;
-        } else {
-            asked(alloc, &mut progress, &mut held, &mut items)?;
-            missing = due(&progress);
-        }
-        numbers.resize(numbers.len() + run.len(), items.len())?;
-        total += came;
+        let single;
+        (held, numbers, single) = hold_single(held, numbers, left, missing, items.len())?;
+        missing -= single;
+        total += piece.len() + single;
     }
     let used = total - held.len();
     Ok(Pieces {
@@ -127,48 +122,81 @@ pub fn pieces_fit(pieces: &[&[u8]]) -> bool
     true
 }
 
-// How many of the next pieces have one byte each and leave bytes missing together.
-#[inline(never)]
-fn single_bytes(pieces: &[&[u8]], missing: usize) -> usize
-    ensures within { result ≤ length pieces.now }
-    ensures single { All (λ piece. length piece.now ≡ 1) (take result pieces.now) }
-    ensures waiting { result ≤ missing - 1 }
-{
-    let most = missing.saturating_sub(1).min(pieces.len());
-    let mut count = 0;
-    while count < most && pieces[count].len() == 1 {
-        count += 1;
-    }
-    count
-}
-
-// Puts a piece behind what is held, or many of one byte each.
-fn hold(held: Vec<u8>, pieces: &[&[u8]]) -> ResultParsing<Vec<u8>>
-    requires { 1 < length pieces.now → All (λ piece. length piece.now ≡ 1) pieces.now }
-    ensures held { IfOk result (λ new. new.items ≡ held.items ++ joined_pieces pieces.now) }
+// Puts a piece behind what is held, and asks the parser once no byte is missing. Tells how many are missing then.
+fn feed_piece<P: PieceParser>(
+    alloc: Global,
+    piece: &[u8],
+    missing: usize,
+    progress: &mut Progress<P>,
+    held: &mut Vec<u8>,
+    items: &mut Vec<P::Item>,
+) -> ResultParsing<usize>
+    requires lawful { IsLawful P.format }
+    requires opening { IsOpening P.opens }
+    ensures waiting { IfOk result (λ due. (s : List ℕ) → IsWaiting P.opens P.format P.part P.state s (progress_with progress.old missing) held.old.items (map P.view items.old.items)
+        → IsWaiting P.opens P.format P.part P.state (s ++ piece.now) (progress_with progress.new due) held.new.items (map P.view items.new.items)) }
+    ensures owned { IfOk result (λ _. All P.owned items.old.items → All P.owned items.new.items) }
     ensures memory { IfErr result IsMemory }
 {
-    let mut held = held;
-    if let [piece] = pieces {
-        held.extend_from_slice(piece)?;
-        return Ok(held);
+    held.extend_from_slice(piece)?;
+    if piece.len() < missing {
+        return Ok(missing - piece.len());
     }
-    held.reserve(pieces.len())?;
-    Ok(push_bytes(held, pieces))
+    asked(alloc, progress, held, items)?;
+    Ok(due(progress))
 }
 
-// Puts pieces of one byte each behind what is held, where there is room for them.
+// Holds the pieces of one byte each that leave bytes missing together, with this number for each, and tells how many.
+fn hold_single(
+    held: Vec<u8>,
+    numbers: Vec<usize>,
+    pieces: &[&[u8]],
+    missing: usize,
+    number: usize,
+) -> ResultParsing<(Vec<u8>, Vec<usize>, usize)>
+    requires places { vec_len numbers + length pieces.now ≤ vec_capacity numbers }
+    ensures held { IfOk result (λ x. x.0.items ≡ held.items ++ joined_pieces (take x.2 pieces.now)) }
+    ensures numbers { IfOk result (λ x. x.1.items ≡ numbers.items ++ replicate x.2 number) }
+    ensures places { IfOk result (λ x. (vec_len x.1 ≡ vec_len numbers + x.2) × (vec_capacity x.1 ≡ vec_capacity numbers)) }
+    ensures single { IfOk result (λ x. All (λ piece. length piece.now ≡ 1) (take x.2 pieces.now)) }
+    ensures within { IfOk result (λ x. x.2 ≤ length pieces.now) }
+    ensures waiting { IfOk result (λ x. x.2 ≤ missing - 1) }
+    ensures memory { IfErr result IsMemory }
+{
+    let most = missing.saturating_sub(1).min(pieces.len());
+    if most == 0 || pieces[0].len() != 1 {
+        return Ok((held, numbers, 0));
+    }
+    let mut held = held;
+    held.reserve(most)?;
+    Ok(push_single(held, numbers, pieces.split_at(most).0, number))
+}
+
+// The same of pieces for which there is room. Both vectors are passed by value, so that their lengths stay in registers.
 #[inline(never)]
-fn push_bytes(held: Vec<u8>, pieces: &[&[u8]]) -> Vec<u8>
-    requires single { All (λ piece. length piece.now ≡ 1) pieces.now }
+fn push_single(
+    held: Vec<u8>,
+    numbers: Vec<usize>,
+    pieces: &[&[u8]],
+    number: usize,
+) -> (Vec<u8>, Vec<usize>, usize)
     requires room { vec_len held + length pieces.now ≤ vec_capacity held }
-    ensures { result.items ≡ held.items ++ joined_pieces pieces.now }
+    requires places { vec_len numbers + length pieces.now ≤ vec_capacity numbers }
+    ensures held { result.0.items ≡ held.items ++ joined_pieces (take result.2 pieces.now) }
+    ensures numbers { result.1.items ≡ numbers.items ++ replicate result.2 number }
+    ensures places { (vec_len result.1 ≡ vec_len numbers + result.2) × (vec_capacity result.1 ≡ vec_capacity numbers) }
+    ensures single { All (λ piece. length piece.now ≡ 1) (take result.2 pieces.now) }
+    ensures within { result.2 ≤ length pieces.now }
 {
     let mut held = held;
-    for piece in pieces {
-        held.push_reserved(piece[0]);
+    let mut numbers = numbers;
+    let mut count = 0;
+    while count < pieces.len() && pieces[count].len() == 1 {
+        held.push_reserved(pieces[count][0]);
+        numbers.push_reserved(number);
+        count += 1;
     }
-    held
+    (held, numbers, count)
 }
 
 // How many bytes have to come before the parser is asked: as many as it told that are missing, and after a refusal more than

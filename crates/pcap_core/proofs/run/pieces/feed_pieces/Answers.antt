@@ -1,72 +1,105 @@
-use Rattle.std.proofs.Common.{◌≡◌, ◌<◌, ◌+◌, ◌-◌, ℕ, List, [], ◌++◌, length, take, drop, map, ap, arith, length-append, length-drop, All, sym, ◌∙◌}
+use Rattle.std.proofs.Common.{◌≡◌, ◌<◌, ◌≤◌, ◌+◌, ◌-◌, ℕ, List, [], ◌∷◌, ◌++◌, length, take, drop, map, ap, subst, arith, length-append, length-drop, All, ◌∙◌}
 use Rattle.std.specs.Prelude.{replicate}
 use Rattle.std.specs.Borrow.{Bor}
-use Rattle.std.specs.Vec.{vec_len}
-use Rattle.std.proofs.Math.Seq.{take-add}
-use Rattle.std.proofs.lemmas.Grind.{flat_map-append}
-use Rattle.std.proofs.lemmas.List.{length-map, length-replicate, take_all}
-use Rattle.pcap_core.specs.Pieces.{AfterEach, Came, HoldsItems, IsFed, joined_pieces}
+use Rattle.std.proofs.Math.ListN.{get_or}
+use Rattle.std.proofs.lemmas.List.{length-map, length-take-le, take_all}
+use Rattle.pcap_core.specs.Pieces.{AfterEach, HoldsItems, IsFed, joined_pieces}
 use Rattle.pcap_core.specs.Waiting.{IsWaiting, progress_shown, progress_with}
-use Rattle.pcap_core.proofs.Pieces.{after_each_join, after_each_one, one_piece, waiting_came, waiting_holds, waiting_shown, waiting_within, waits, waits_each}
+use Rattle.pcap_core.proofs.Pieces.{single_front, turn_joined, turn_numbers, turn_within, waiting_holds, waiting_shown, waiting_within, waits_each, waits_more}
 use Rattle.pcap_core.proofs.run.pieces.feed_pieces.Goals as goal
-use Rattle.pcap_core.proofs.run.pieces.feed_pieces.Goals.{then-came-missing, else-came-missing+in_ok-asked}
+
+none : Bor (List ℕ)
+none = record { ref_ptr = (0, 0); now = [] }
+
+pub overflow_add-total : goal.overflow_add-total
+unfolding none
+overflow_add-total g c =
+    let now = c.loop-alloc in
+    let pieces = c.args.pieces.now in
+    let n = length now.numbers.items in
+    let k = c.in_ok-held.field-0-2 in
+    let at : c.len-in-loop-alloc.result ≡ n = omega (arith, c.len-in-loop-alloc.ensures, now.numbers.ok.0) in
+    let less : n < length pieces = omega (arith, c.loop-alloc-test.true, c.len.ensures, now.numbers.ok.0) in
+    let next : c.len-in-loop-alloc-3.result ≡ n + 1 = omega (arith, c.len-in-loop-alloc-3.ensures, c.push_reserved.ensures.len, now.numbers.ok.0) in
+    let left : c.split_at.result.1.now ≡ drop (n + 1) pieces = rw (← next) c.split_at.ensures.back in
+    let count : length (joined_pieces (take k (drop (n + 1) pieces))) ≡ k = rw (← left) (single_front c.split_at.result.1.now k c.in_ok-held.ensures.within c.in_ok-held.ensures.single) in
+    let size = ap (λ (j : ℕ). length (get_or pieces j none).now) at in
+    omega (arith, size, count, turn_within pieces n k none less, c.requires.fit)
+
+pub overflow_add-total-in-loop-alloc : goal.overflow_add-total-in-loop-alloc
+unfolding none
+overflow_add-total-in-loop-alloc g c =
+    let now = c.loop-alloc in
+    let pieces = c.args.pieces.now in
+    let n = length now.numbers.items in
+    let k = c.in_ok-held.field-0-2 in
+    let at : c.len-in-loop-alloc.result ≡ n = omega (arith, c.len-in-loop-alloc.ensures, now.numbers.ok.0) in
+    let less : n < length pieces = omega (arith, c.loop-alloc-test.true, c.len.ensures, now.numbers.ok.0) in
+    let next : c.len-in-loop-alloc-3.result ≡ n + 1 = omega (arith, c.len-in-loop-alloc-3.ensures, c.push_reserved.ensures.len, now.numbers.ok.0) in
+    let left : c.split_at.result.1.now ≡ drop (n + 1) pieces = rw (← next) c.split_at.ensures.back in
+    let count : length (joined_pieces (take k (drop (n + 1) pieces))) ≡ k = rw (← left) (single_front c.split_at.result.1.now k c.in_ok-held.ensures.within c.in_ok-held.ensures.single) in
+    let size = ap (λ (j : ℕ). length (get_or pieces j none).now) at in
+    omega (arith, size, count, turn_within pieces n k none less, c.requires.fit, now.invariant.total)
 
 pub loop-alloc-preserved : goal.loop-alloc-preserved
+unfolding none
 loop-alloc-preserved g c =
     let p = g.P.PieceParser in
     let now = c.loop-alloc in
-    let next = c.if-came-missing in
     let pieces = c.args.pieces.now in
     let n = length now.numbers.items in
-    let run = c.split_at-in-loop-alloc.result.0.now in
+    let k = c.in_ok-held.field-0-2 in
     let before = joined_pieces (take n pieces) in
+    let piece : Bor (List ℕ) = get_or pieces n none in
+    let run = take k (drop (n + 1) pieces) in
     let bytes = joined_pieces run in
-    let ws = map p.view now.items.items in
-    let taken = map p.view next.items.items in
+    let missing = c.in_ok-missing.missing in
+    let progress = c.feed_piece.new.progress in
+    let held = c.feed_piece.new.held.items in
+    let ws = map p.view c.feed_piece.new.items.items in
+    let m = length ws in
     let holds = HoldsItems p.opens p.format in
     let at : c.len-in-loop-alloc.result ≡ n = omega (arith, c.len-in-loop-alloc.ensures, now.numbers.ok.0) in
-    let left : c.split_at.result.1.now ≡ drop n pieces = rw (← at) c.split_at.ensures.back in
-    let size : length run ≡ c.max.result = c.split_at-in-loop-alloc.ensures.front_len in
-    let fed : take (n + length run) pieces ≡ take n pieces ++ run =
-    rw size (take-add n c.max.result pieces ∙ ap (λ (l : List (Bor (List ℕ))). take n pieces ++ take c.max.result l) (sym left) ∙ ap (λ (l : List (Bor (List ℕ))). take n pieces ++ l) (sym c.split_at-in-loop-alloc.ensures.front)) in
-    let more : joined_pieces (take (n + length run) pieces) ≡ before ++ bytes = ap joined_pieces fed ∙ flat_map-append (λ (piece : Bor (List ℕ)). piece.now) (take n pieces) run in
-    let held : c.in_ok-held.held.items ≡ now.held.items ++ bytes = c.in_ok-held.ensures.held in
-    let came : c.len-in-loop-alloc-2.result - c.len-before.result ≡ length bytes =
-    omega (arith, c.len-in-loop-alloc-2.ensures, c.len-before.ensures, c.in_ok-held.held.ok.0, now.held.ok.0, ap length held, length-append now.held.items bytes) in
-    let waiting : IsWaiting p.opens p.format p.part p.state (before ++ bytes) (progress_with next.progress next.missing) next.held.items taken =
-    elim next.branch [
-      | then-came-missing w ↦
-          let less : length bytes < now.missing = rw came at w.if-came-missing.true in
-          rw (w.progress-is, w.missing-is, w.held-is, w.items-is, held, came) (waits p.opens c.requires.opening p.format c.requires.lawful p.part p.state before bytes now.progress now.missing now.held.items ws less now.invariant.waiting)
-      | else-came-missing+in_ok-asked w ↦
-          let known : Came p.opens p.format p.part p.state (before ++ bytes) now.progress (now.held.items ++ bytes) ws =
-          waiting_came p.opens c.requires.opening p.format c.requires.lawful p.part p.state before bytes now.progress now.missing now.held.items ws now.invariant.waiting in
-          rw (w.progress-is, w.missing-is, w.held-is, w.items-is, w.due-missing-else-came-missing.ensures) (w.in_ok-asked.ensures.waiting (before ++ bytes) (rw held known))
-    ] in
-    let each : AfterEach holds before run (replicate (length run) (length taken)) =
-    elim next.branch [
-      | then-came-missing w ↦
-          let less : length bytes < now.missing = rw came at w.if-came-missing.true in
-          rw w.items-is (waits_each p.opens c.requires.opening p.format c.requires.lawful p.part p.state before run now.progress now.missing now.held.items ws less now.invariant.waiting)
-      | else-came-missing+in_ok-asked w ↦
-          let one : length run ≡ 1 =
-          one_piece c.split_at.result.1.now run c.single_bytes.result now.missing (rw c.max.ensures at c.split_at-in-loop-alloc.ensures.front) (rw c.max.ensures at size) c.single_bytes.ensures.single c.single_bytes.ensures.waiting (omega (arith, w.if-came-missing.false, came)) in
-          after_each_one holds before run (length taken) one (waiting_holds p.opens c.requires.opening p.format c.requires.lawful p.part p.state (before ++ bytes) (progress_with next.progress next.missing) next.held.items taken waiting)
-    ] in
-    let owned : All p.owned next.items.items =
-    elim next.branch [ then-came-missing w ↦ rw w.items-is now.invariant.owned | else-came-missing+in_ok-asked w ↦ rw w.items-is (w.in_ok-asked.ensures.owned now.invariant.owned) ] in
-    let old : c.len-in-loop-alloc-3.result ≡ n = omega (arith, c.len-in-loop-alloc-3.ensures, now.numbers.ok.0) in
-    let count : c.len-in-loop-alloc-4.result ≡ length taken = omega (arith, c.len-in-loop-alloc-4.ensures, next.items.ok.0, length-map next.items.items p.view) in
-    let kept : take (c.len-in-loop-alloc-3.result + length run) now.numbers.items ≡ now.numbers.items = take_all (c.len-in-loop-alloc-3.result + length run) now.numbers.items (omega (arith, old)) in
-    let room : c.len-in-loop-alloc-3.result + length run - vec_len now.numbers ≡ length run = omega (arith, old, now.numbers.ok.0) in
-    let grown : c.resize.new.self.items ≡ now.numbers.items ++ replicate (length run) (length taken) = rw (kept, room, count) at c.in_ok-resize.ensures.items in
-    let longer : length c.resize.new.self.items ≡ n + length run = omega (arith, ap length grown, length-append now.numbers.items (replicate (length run) (length taken)), length-replicate (length run) (length taken)) in
+    let less : n < length pieces = omega (arith, c.loop-alloc-test.true, c.len.ensures, now.numbers.ok.0) in
+    let next : c.len-in-loop-alloc-3.result ≡ n + 1 = omega (arith, c.len-in-loop-alloc-3.ensures, c.push_reserved.ensures.len, now.numbers.ok.0) in
+    let left : c.split_at.result.1.now ≡ drop (n + 1) pieces = rw (← next) c.split_at.ensures.back in
+    let single : All (λ (x : Bor (List ℕ)). length x.now ≡ 1) run = rw (← left) c.in_ok-held.ensures.single in
+    let within : k ≤ length (drop (n + 1) pieces) = rw (← left) c.in_ok-held.ensures.within in
+    let size : length run ≡ k = length-take-le k (drop (n + 1) pieces) within in
+    let count : length bytes ≡ k = single_front (drop (n + 1) pieces) k within single in
+    let most : length bytes ≤ missing - 1 = omega (arith, count, c.in_ok-held.ensures.waiting) in
+    let longer : length c.in_ok-held.field-0-1.items ≡ n + 1 + k = omega (arith, c.in_ok-held.ensures.places.0, c.in_ok-held.field-0-1.ok.0, c.push_reserved.ensures.len, now.numbers.ok.0) in
+    let first : c.len-in-loop-alloc-2.result ≡ m = omega (arith, c.len-in-loop-alloc-2.ensures, c.feed_piece.new.items.ok.0, length-map c.feed_piece.new.items.items p.view) in
+    let others : c.len-in-loop-alloc-4.result ≡ m = omega (arith, c.len-in-loop-alloc-4.ensures, c.feed_piece.new.items.ok.0, length-map c.feed_piece.new.items.items p.view) in
+    let pushed : c.push_reserved.new.self.items ≡ now.numbers.items ++ m ∷ [] = c.push_reserved.ensures.items ∙ ap (λ (j : ℕ). now.numbers.items ++ j ∷ []) first in
+    let numbers : c.in_ok-held.field-0-1.items ≡ (now.numbers.items ++ m ∷ []) ++ replicate k m =
+    c.in_ok-held.ensures.numbers ∙ ap (λ (j : ℕ). c.push_reserved.new.self.items ++ replicate k j) others ∙ ap (λ (l : List ℕ). l ++ replicate k m) pushed in
+    let grown : c.in_ok-held.field-0-0.items ≡ held ++ bytes = c.in_ok-held.ensures.held ∙ ap (λ (l : List (Bor (List ℕ))). held ++ joined_pieces (take k l)) left in
+    let fed = turn_joined pieces n k none less in
+    let told : IsWaiting p.opens p.format p.part p.state (before ++ piece.now) (progress_with progress missing) held ws =
+    subst (λ (j : ℕ). IsWaiting p.opens p.format p.part p.state (before ++ (get_or pieces j none).now) (progress_with progress missing) held ws) at (c.in_ok-missing.ensures.waiting before now.invariant.waiting) in
+    let waiting : IsWaiting p.opens p.format p.part p.state ((before ++ piece.now) ++ bytes) (progress_with progress (missing - k)) (held ++ bytes) ws =
+    subst (λ (j : ℕ). IsWaiting p.opens p.format p.part p.state ((before ++ piece.now) ++ bytes) (progress_with progress (missing - j)) (held ++ bytes) ws) count
+    (waits_more p.opens c.requires.opening p.format c.requires.lawful p.part p.state (before ++ piece.now) bytes progress missing held ws most told) in
+    let one : holds (before ++ piece.now) m = waiting_holds p.opens c.requires.opening p.format c.requires.lawful p.part p.state (before ++ piece.now) (progress_with progress missing) held ws told in
+    let each : AfterEach holds (before ++ piece.now) run (replicate k m) =
+    subst (λ (j : ℕ). AfterEach holds (before ++ piece.now) run (replicate j m)) size (waits_each p.opens c.requires.opening p.format c.requires.lawful p.part p.state (before ++ piece.now) run progress missing held ws most told) in
     record {
-      waiting = rw (longer, more) waiting;
-      numbers = rw (longer, fed, grown) (after_each_join holds [] (take n pieces) run now.numbers.items (replicate (length run) (length taken)) now.invariant.numbers each);
-      within = omega (arith, longer, size, c.max.ensures, c.single_bytes.ensures.within, ap length left, length-drop n pieces, c.loop-alloc-test.true, c.len.ensures, now.numbers.ok.0);
-      total = omega (arith, now.invariant.total, came, ap (λ (m : ℕ). length (joined_pieces (take m pieces))) longer, ap length more, length-append before bytes);
-      owned = owned;
+      waiting = rw (longer, fed, grown) waiting;
+      numbers = rw (longer, numbers) (turn_numbers pieces n k none less holds now.numbers.items m now.invariant.numbers one each);
+      within = omega (arith, longer, within, length-drop (n + 1) pieces, less);
+      places = omega (arith, c.in_ok-held.ensures.places.1, c.push_reserved.ensures.capacity, now.invariant.places);
+      total = omega (
+        arith,
+        now.invariant.total,
+        ap (λ (j : ℕ). length (get_or pieces j none).now) at,
+        count,
+        ap (λ (j : ℕ). length (joined_pieces (take j pieces))) longer,
+        ap length fed,
+        length-append (before ++ piece.now) bytes,
+        length-append before piece.now,
+      );
+      owned = c.in_ok-missing.ensures.owned now.invariant.owned;
     }
 
 pub overflow_sub-used : goal.overflow_sub-used

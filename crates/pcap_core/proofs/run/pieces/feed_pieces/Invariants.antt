@@ -1,4 +1,5 @@
 use Rattle.std.proofs.Common.{◌≡◌, ◌≤◌, ◌-◌, [], length, take, map, All}
+use Rattle.std.specs.Vec.{vec_capacity}
 use Rattle.pcap_core.specs.Pieces.{AfterEach, HoldsItems, joined_pieces}
 use Rattle.pcap_core.specs.Waiting.{IsWaiting, progress_with}
 use Rattle.pcap_core.proofs.run.pieces.feed_pieces.Given as goal
@@ -11,6 +12,7 @@ invariant-loop-alloc g l =
       waiting : IsWaiting p.opens p.format p.part p.state (joined_pieces fed) (progress_with l.progress l.missing) l.held.items (map p.view l.items.items);
       numbers : AfterEach (HoldsItems p.opens p.format) [] fed l.numbers.items;
       within : length l.numbers.items ≤ length l.pieces;
+      places : length l.pieces ≤ vec_capacity l.numbers;
       total : l.total ≡ length (joined_pieces fed);
       owned : All p.owned l.items.items;
     }
