@@ -5,7 +5,7 @@ import struct
 from typing import Dict, Iterator, NamedTuple, Optional, Tuple
 
 from . import _library
-from ._capture import BATCH, Bytes, Data
+from ._capture import BATCH, Bytes, Data, make
 from ._errors import error_of
 
 
@@ -57,7 +57,20 @@ _SIMPLE_PACKET = 3
 _PACKET = struct.Struct("@IIIQPN")
 
 
-class _Known:
+class _Unknown:
+    """An interface that isn't there: its packets have no time."""
+
+    interface: Optional[Interface] = None
+    per_second, nanoseconds = 0, 0
+
+    def time(self, units: int) -> Tuple[Optional[int], int]:
+        return None, 0
+
+
+_UNKNOWN = _Unknown()
+
+
+class _Known(_Unknown):
     """An interface of the section in force, and how its units of time are told. Those from a tenth down to a thousand-millionth
     of a second, with nothing added, are divided here: `per_second` of them, each of so many `nanoseconds`. All others are for
     the library, and there `per_second` is 0."""
@@ -121,19 +134,19 @@ class BlockCapture(Bytes):
             # A closed capture raises here, before the library would look at its bytes.
             len(self._bytes)
             status = _library.take_ng_packets(walk.section, walk.left, packets, BATCH, taken, walk.error)
-            data, start, kept = self._bytes, self._start, walk.known
+            data, start, last = self._bytes, self._start, None
             for kind, number, original, units, at, length in _PACKET.iter_unpack(fields[: taken.value * _PACKET.size]):
-                known = kept.get(number)
-                seconds, nanoseconds = None, 0
-                if known is not None and kind != _SIMPLE_PACKET:
-                    if known.per_second:
-                        seconds, rest = divmod(units, known.per_second)
-                        nanoseconds = rest * known.nanoseconds
-                    else:
-                        seconds, nanoseconds = known.time(units)
+                if number != last:
+                    last, known = number, walk.known.get(number, _UNKNOWN)
+                    interface, per_second, each = known.interface, known.per_second, known.nanoseconds
+                if kind == _SIMPLE_PACKET:
+                    seconds, nanoseconds = None, 0
+                elif per_second:
+                    seconds, nanoseconds = units // per_second, units % per_second * each
+                else:
+                    seconds, nanoseconds = known.time(units)
                 at -= start
-                lent, interface = data[at : at + length], known and known.interface
-                yield BlockPacket(seconds, nanoseconds, original, lent, units, number, interface)
+                yield make(BlockPacket, (seconds, nanoseconds, original, data[at : at + length], units, number, interface))
             if status != _library.OK:
                 # A section, an interface, a packet that can't be read, or a refusal.
                 len(self._bytes)

@@ -14,6 +14,9 @@ BATCH = 512
 # A packet as the library fills it in: seconds, nanoseconds, original length, and where its bytes lie.
 _PACKET = struct.Struct("@IIIPN")
 
+# Makes a packet of its fields. `Packet(..)` is a function in Python, and takes twice as long.
+make = tuple.__new__
+
 Data = Union[bytes, bytearray, memoryview, mmap.mmap]
 
 
@@ -110,7 +113,7 @@ class Capture(Bytes):
             data, start = self._bytes, self._start
             for seconds, nanoseconds, original, at, length in _PACKET.iter_unpack(fields[: taken.value * _PACKET.size]):
                 at -= start
-                yield Packet(seconds, nanoseconds, original, data[at : at + length], link)
+                yield make(Packet, (seconds, nanoseconds, original, data[at : at + length], link))
             if status != _library.OK:
                 raise error_of(status, error, total - left.len)
 

@@ -1,17 +1,21 @@
 //! Classic captures that lie in memory.
 
-ghost use Rattle.std.specs.Prelude.{◌≡◌, false, IsTrue};
-ghost use Rattle.pcap_classic.specs.Defaults.{default_header};
+ghost use Rattle.std.specs.Prelude.{◌≡◌, false, IsTrue, IfOk};
+ghost use Rattle.std.specs.Option.{MatchOption};
+ghost use Rattle.pcap_core.specs.Answer.{Tells, number_in};
+ghost use Rattle.pcap_core.specs.Bytes.{IsBorrowed};
 ghost use Rattle.pcap_classic.specs.HeaderText.{HeaderSays};
-ghost use Rattle.pcap_classic.specs.Magic.{is_magic};
-ghost use Rattle.pcap_classic.specs.Parser.{header_of, OpensParser};
+ghost use Rattle.pcap_classic.specs.Magic.{is_magic, order_of, resolution_of};
+ghost use Rattle.pcap_classic.specs.PacketText.{packet_limit, content_of, PacketSays};
 ghost use Rattle.pcapfile_c.specs.Calls.{Takes, TakesMany, RefusesMagic, PacketsSaid};
 ghost use Rattle.pcapfile_c.specs.Shown.{shown_header, captured};
 
 use crate::errors::{PcapfileError, tell};
 use crate::shown::{PcapfileBytes, PcapfileHeader, PcapfilePacket};
-use pcap_file::ResultParsing;
-use pcap_file::pcap::{PcapHeader, PcapParser};
+use byteorder::{BigEndian, LittleEndian};
+use pcap_core::rules::Rule;
+use pcap_file::pcap::{Packet, PcapHeader};
+use pcap_file::{Endianness, PcapError, ResultParsing, TsResolution};
 
 /// Takes the header at the front of `left`.
 #[unsafe(no_mangle)]
@@ -44,9 +48,11 @@ pub extern "C" fn pcapfile_take_packet<'a>(
         Takes (PacketsSaid header.now.magic_number) (λ found shown. captured shown ≡ found) left.old left.new packet.old packet.new error.old error.new result }
     ensures refused { is_magic header.now.magic_number ≡ false → RefusesMagic left.old left.new packet.old packet.new error.new result }
 {
-    match parser_under(header) {
-        Ok(parser) => next_packet(&parser, left, packet, error),
-        Err(e) => tell(&e, error),
+    match header.kind() {
+        Some((endianness, resolution)) => {
+            next_packet(header, endianness, resolution, left, packet, error)
+        }
+        None => take_slowly(header, left, packet, error),
     }
 }
 
@@ -66,12 +72,12 @@ pub extern "C" fn pcapfile_take_packets<'a>(
         (taken.new ≡ 0) × RefusesMagic left.old left.new packets.old packets.new error.new result }
 {
     *taken = 0;
-    let parser = match parser_under(header) {
-        Ok(parser) => parser,
-        Err(e) => return tell(&e, error),
+    let Some((endianness, resolution)) = header.kind() else {
+        return tell(&PcapError::from(Rule::CaptureMagic), error);
     };
     while *taken < packets.len() && !left.bytes.is_empty() {
-        let status = next_packet(&parser, left, &mut packets[*taken], error);
+        let packet = &mut packets[*taken];
+        let status = next_packet(header, endianness, resolution, left, packet, error);
         if status != 0 {
             return status;
         }
@@ -80,17 +86,62 @@ pub extern "C" fn pcapfile_take_packets<'a>(
     0
 }
 
-// Takes the packet at the front of `left`.
+// Takes the packet at the front of `left`, in the order and resolution that this header's magic number names.
 #[inline(always)]
 fn next_packet<'a>(
-    parser: &PcapParser,
+    header: &PcapfileHeader,
+    endianness: Endianness,
+    resolution: TsResolution,
     left: &mut PcapfileBytes<'a>,
     packet: &mut PcapfilePacket<'a>,
     error: &mut PcapfileError,
 ) -> i32
-    ensures { Takes (PacketsSaid (header_of parser.now).magic_number) (λ found shown. captured shown ≡ found) left.old left.new packet.old packet.new error.old error.new result }
+    requires valid { IsTrue (is_magic header.now.magic_number) }
+    requires order { order_of header.now.magic_number ≡ endianness }
+    requires resolution { resolution_of header.now.magic_number ≡ resolution }
+    ensures { Takes (PacketsSaid header.now.magic_number) (λ found shown. captured shown ≡ found) left.old left.new packet.old packet.new error.old error.new result }
 {
-    match parser.next_packet(left.bytes) {
+    match packet_at_front(endianness, resolution, left.bytes) {
+        Ok((rest, found)) => {
+            *packet = PcapfilePacket::new(found);
+            left.bytes = rest;
+            0
+        }
+        Err(_) => take_slowly(header, left, packet, error),
+    }
+}
+
+// As `pcapfile_take_packet`. It is called where a packet is refused, and parses it once more: so no error is made on the way
+// of a packet that is taken.
+#[cold]
+#[inline(never)]
+fn take_slowly<'a>(
+    header: &PcapfileHeader,
+    left: &mut PcapfileBytes<'a>,
+    packet: &mut PcapfilePacket<'a>,
+    error: &mut PcapfileError,
+) -> i32
+    ensures taken { IsTrue (is_magic header.now.magic_number) →
+        Takes (PacketsSaid header.now.magic_number) (λ found shown. captured shown ≡ found) left.old left.new packet.old packet.new error.old error.new result }
+    ensures refused { is_magic header.now.magic_number ≡ false → RefusesMagic left.old left.new packet.old packet.new error.new result }
+{
+    match header.kind() {
+        Some((endianness, resolution)) => take_or_tell(endianness, resolution, left, packet, error),
+        None => tell(&PcapError::from(Rule::CaptureMagic), error),
+    }
+}
+
+// Takes the packet at the front of `left`, in this order and resolution, or tells why there is none.
+fn take_or_tell<'a>(
+    endianness: Endianness,
+    resolution: TsResolution,
+    left: &mut PcapfileBytes<'a>,
+    packet: &mut PcapfilePacket<'a>,
+    error: &mut PcapfileError,
+) -> i32
+    ensures { Takes (PacketSays packet_limit (number_in endianness) resolution) (λ found shown. captured shown ≡ found) left.old left.new packet.old packet.new error.old error.new result }
+{
+    match packet_at_front(endianness, resolution, left.bytes) {
         Ok((rest, found)) => {
             *packet = PcapfilePacket::new(found);
             left.bytes = rest;
@@ -100,12 +151,36 @@ fn next_packet<'a>(
     }
 }
 
-// The parser of the packets behind this header: only the magic number matters to them.
-fn parser_under(header: &PcapfileHeader) -> ResultParsing<PcapParser>
-    ensures { OpensParser (record default_header { magic_number = header.now.magic_number }) result }
+// The packet at the front of a slice, in this order and resolution, and what follows it.
+#[inline(always)]
+fn packet_at_front(
+    endianness: Endianness,
+    resolution: TsResolution,
+    slice: &[u8],
+) -> ResultParsing<(&[u8], Packet<'_>)>
+    ensures tells { Tells (PacketSays packet_limit (number_in endianness) resolution slice.now) content_of result }
+    ensures borrowed { IfOk result (λ x. IsBorrowed x.1.data_) }
 {
-    PcapParser::with_header(PcapHeader {
-        magic_number: header.magic_number,
-        ..PcapHeader::default()
-    })
+    match endianness {
+        Endianness::Big => Packet::from_slice::<BigEndian>(slice, resolution),
+        Endianness::Little => Packet::from_slice::<LittleEndian>(slice, resolution),
+    }
+}
+
+impl PcapfileHeader {
+    // The order and the resolution that its magic number names. None where it names none.
+    #[inline(always)]
+    fn kind(&self) -> Option<(Endianness, TsResolution)>
+        ensures { let magic = self.now.magic_number in
+            MatchOption result (is_magic magic ≡ false) (λ kind. IsTrue (is_magic magic) × (order_of magic ≡ kind.0) × (resolution_of magic ≡ kind.1)) }
+    {
+        let header = PcapHeader {
+            magic_number: self.magic_number,
+            ..PcapHeader::default()
+        };
+        if !header.has_valid_magic() {
+            return None;
+        }
+        Some((header.endianness(), header.ts_resolution()))
+    }
 }
