@@ -138,12 +138,25 @@ fn feed_piece<P: PieceParser>(
     ensures owned { IfOk result (λ _. All P.owned items.old.items → All P.owned items.new.items) }
     ensures memory { IfErr result IsMemory }
 {
-    held.extend_from_slice(piece)?;
+    hold(held, piece)?;
     if piece.len() < missing {
         return Ok(missing - piece.len());
     }
     asked(alloc, progress, held, items)?;
     Ok(due(progress))
+}
+
+// Puts a piece behind what is held; one byte needs no copying.
+fn hold(held: &mut Vec<u8>, piece: &[u8]) -> ResultParsing<()>
+    ensures held { IfOk result (λ _. held.new.items ≡ held.old.items ++ piece.now) }
+    ensures memory { IfErr result IsMemory }
+{
+    if let [byte] = piece {
+        held.push(*byte)?;
+    } else {
+        held.extend_from_slice(piece)?;
+    }
+    Ok(())
 }
 
 // Holds the pieces of one byte each that leave bytes missing together, with this number for each, and tells how many.
@@ -264,7 +277,6 @@ fn rest_of(rest: Rest, missing: usize, held: usize) -> Rest
 }
 
 // Asks the parser for what stands at the front of what is held.
-#[inline(never)]
 fn asked<P: PieceParser>(
     alloc: Global,
     progress: &mut Progress<P>,

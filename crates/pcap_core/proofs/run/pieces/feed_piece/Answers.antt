@@ -8,7 +8,7 @@ returns-then-piece-missing-clause-waiting g c = λ s waiting.
     let p = g.P.PieceParser in
     let held = c.args.held.now.items in
     let more = c.args.piece.now in
-    let longer : c.extend_from_slice.new.self.items ≡ held ++ more = c.in_ok-extend_from_slice.ensures.items in
+    let longer : c.hold.new.held.items ≡ held ++ more = c.in_ok-hold.ensures.held in
     rw longer (waits p.opens c.requires.opening p.format c.requires.lawful p.part p.state s more c.args.progress.now c.args.missing held (map p.view c.args.items.now.items) c.if-piece-missing.true waiting)
 
 pub returns-clause-waiting : goal.returns-clause-waiting
@@ -17,7 +17,7 @@ returns-clause-waiting g c = λ s waiting.
     let held = c.args.held.now.items in
     let more = c.args.piece.now in
     let ws = map p.view c.args.items.now.items in
-    let longer : c.extend_from_slice.new.self.items ≡ held ++ more = c.in_ok-extend_from_slice.ensures.items in
+    let longer : c.hold.new.held.items ≡ held ++ more = c.in_ok-hold.ensures.held in
     let known : Came p.opens p.format p.part p.state (s ++ more) c.args.progress.now (held ++ more) ws =
     waiting_came p.opens c.requires.opening p.format c.requires.lawful p.part p.state s more c.args.progress.now c.args.missing held ws waiting in
     rw c.due.ensures (c.in_ok-asked.ensures.waiting (s ++ more) (rw longer known))
