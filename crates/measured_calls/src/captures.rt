@@ -147,6 +147,7 @@ fn copy(alloc: Global, passes: u64, bytes: &[u8]) -> ResultParsing<u64> {
 }
 
 // The reader's buffer is made anew for each pass.
+#[inline(never)]
 fn copy_out_of_a_buffer(alloc: Global, passes: u64, bytes: &[u8]) -> ResultParsing<u64> {
     let mut out: Vec<u8> = Vec::with_capacity(alloc, bytes.len())?;
     let mut sum = 0u64;
