@@ -24,7 +24,7 @@
 extern "C" {
 #endif
 
-/* What a call answers: 0, or the number of an error in docs/REFUSALS.md. */
+/* What a call answers: 0, the number of an error in docs/REFUSALS.md, or 8, which is none. */
 enum pcapfile_status {
     PCAPFILE_OK = 0,
     PCAPFILE_INCOMPLETE = 1, /* a beginning of it stands there: error.missing bytes are missing after it, at least */
@@ -32,7 +32,7 @@ enum pcapfile_status {
     PCAPFILE_INVALID = 3,    /* the bytes break the rule error.rule, and more bytes change nothing */
     PCAPFILE_NOT_UTF8 = 4,   /* of PcapNg: a string in the block is not UTF-8 */
     PCAPFILE_NO_MEMORY = 6,  /* of PcapNg: memory was refused */
-    PCAPFILE_NOTHING = 8     /* no error: what the call is asked to show is not there */
+    PCAPFILE_NOTHING = 8     /* no error: what the call is asked for is not there */
 };
 
 /* error.rule under PCAPFILE_INVALID: the first rule that the bytes break. pcapfile_rule_name and pcapfile_rule_text tell
@@ -91,7 +91,7 @@ typedef struct pcapfile_packet {
 
 #define PCAPFILE_PACKET_INIT { 0, 0, 0, PCAPFILE_NO_BYTES }
 
-/* Why a call was refused. Written where the status is not PCAPFILE_OK, and else left as it is. */
+/* Why a call was refused. Written where the status is neither PCAPFILE_OK nor PCAPFILE_NOTHING, and else left as it is. */
 typedef struct pcapfile_error {
     uint32_t rule;  /* of PCAPFILE_INVALID; else 0 */
     size_t missing; /* of PCAPFILE_INCOMPLETE: above 0; else 0 */
@@ -232,8 +232,8 @@ int32_t pcapfile_read_packet(const pcapfile_section *section, const pcapfile_blo
  * what is left is refused. Of `section` only the magic number matters; it stays in force, since no such block is taken.
  * `*taken` is how many they are; `packets` from there on is unchanged. The status is PCAPFILE_OK; or PCAPFILE_NOTHING where
  * `left` begins with a section header or an interface, which pcapfile_take_block takes; or that of the refusal, of a frame, or of
- * a packet's body, which pcapfile_take_block passes over. PCAPFILE_INVALID with rule 6 where section->magic_number is no
- * section's. */
+ * a packet's body, which pcapfile_take_block passes over; where that is PCAPFILE_NO_MEMORY the packet may be good, and the same
+ * call can be made once more. PCAPFILE_INVALID with rule 6 where section->magic_number is no section's. */
 int32_t pcapfile_take_ng_packets(const pcapfile_section *section, pcapfile_bytes *left, pcapfile_ng_packet *packets, size_t room,
                                  size_t *taken, pcapfile_error *error);
 

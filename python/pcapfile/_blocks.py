@@ -147,6 +147,8 @@ class BlockCapture(Bytes):
                     seconds, nanoseconds = known.time(units)
                 at -= start
                 yield make(BlockPacket, (seconds, nanoseconds, original, data[at : at + length], units, number, interface))
+            if status == _library.NO_MEMORY:
+                raise error_of(status, walk.error, walk.total - walk.left.len)
             if status != _library.OK:
                 # A section, an interface, a packet that can't be read, or a refusal.
                 len(self._bytes)

@@ -133,6 +133,7 @@ static int32_t list_batches(struct walk *walk) {
         size_t taken = 0;
         int32_t ended = pcapfile_take_ng_packets(&walk->section, &walk->left, packets, BATCH, &taken, &walk->error);
         for (size_t i = 0; i < taken; i++) print_fields(walk, &packets[i]);
+        if (ended == PCAPFILE_NO_MEMORY) return ended;
         if (ended != PCAPFILE_OK) status = next_block(walk);
     }
     return status;

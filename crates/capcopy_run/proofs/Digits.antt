@@ -1,4 +1,4 @@
--- Digits that are written two and four at a time.
+-- Digits that are written two at a time, and the last eight as four and four.
 use Rattle.std.proofs.Common.{◌≡◌, ◌∙◌, ℕ, zero, suc, ◌+◌, ◌-◌, ◌*◌, ◌/◌, ◌%◌, ◌^◌, ◌<◌, ◌≤◌, inl, inr, Bool, true, ◌&&◌, T, eqb, eqb→eq, [], ◌∷◌, ◌++◌, get_or, length, replicate, ap, sym, refl, arith, eq-zero-or-pos, append_assoc, length-append}
 use lib.Ieee.Fits.{and_l, and_r}
 use Rattle.std.specs.Fmt.{decimal}

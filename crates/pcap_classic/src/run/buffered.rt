@@ -15,7 +15,8 @@ use std::io::{BufRead, Write};
 
 /// Copies a capture as `copy_pcap` does, from a reader that shows its buffer: packets that lie whole in it are written from
 /// there and never copied, and where the magic number stays the same, all of them at once. The packet that ends outside of
-/// it is held, as all are by `copy_pcap`. A reader that shows no byte is at its end.
+/// it is held, as all are by `copy_pcap`. A reader that shows no byte is at its end; what its buffer holds and no packet took
+/// stays in it.
 ///
 /// It is refused as `copy_pcap` is.
 pub fn copy_buffered<R: BufRead, W: Write>(
