@@ -53,6 +53,9 @@ fn asked_for(words: &[&str]) -> Option<Command>
 /// capture, which is no one of the `most` lines, and then a line for each block after it: `index kind length ok|refused`,
 /// where length is that of the whole block in bytes, and the last word says whether its body could be read. Lines and
 /// packets before a fault are written. Other words are `Usage`, and then nothing is read or written.
+///
+/// The input shows its buffer (`BufRead`), since packets and blocks are lent from there. `list` and `blocks` flush the output
+/// each time before they ask the input for more; `copy` leaves that to the caller.
 pub fn run<R: BufRead, W: Write>(
     alloc: Global,
     words: &[&str],

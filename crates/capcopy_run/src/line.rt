@@ -84,7 +84,7 @@ fn put_nine_digits(room: &mut [u8; ROOM], end: usize, number: u32) -> usize
     write_digits(first / ONE, room, start)
 }
 
-// Puts seconds before the text that begins at `end`. Since 1974 they have nine digits or more.
+// Puts seconds before the text that begins at `end`. Since March 1973 they have nine digits or more.
 #[inline(always)]
 fn put_seconds(room: &mut [u8; ROOM], end: usize, seconds: u32) -> usize
     requires { (20 ≤ end) × (end ≤ 105) }

@@ -28,7 +28,8 @@ pub fn put<W: Write>(writer: &mut W, has_failed: &mut bool, bytes: &[u8]) -> Res
     }
 }
 
-/// Writes all of the bytes, or up to a call that fails or takes nothing of them, and tells then how many went out.
+/// Writes all of the bytes, or up to a call that fails or takes nothing of them: then tells how many went out, and the
+/// `IoError`.
 #[inline(always)]
 pub fn put_or_tear<W: Write>(
     writer: &mut W,

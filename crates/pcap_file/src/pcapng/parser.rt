@@ -1,4 +1,4 @@
-//! A parser of a capture that comes in slices.
+//! A parser of a capture that comes in slices, or block by block off streams that stay the caller's.
 
 ghost use Rattle.std.specs.Prelude.{◌≡◌, IfOk, IfErr, OnErr, map, option_map, slice_get};
 ghost use Rattle.pcap_core.specs.Answer.{TellsWhere};
@@ -20,8 +20,8 @@ use pcap_core::{Endianness, ResultParsing};
 use std::alloc::Global;
 use std::io::Read;
 
-/// Parser of a PcapNg capture: it holds the section in force and its interfaces, and gives a block for each slice that
-/// begins with one.
+/// Parser of a PcapNg capture: it holds the section in force and its interfaces, and gives a block for each slice or stream
+/// that begins with one.
 #[derive(Drop)]
 pub struct PcapNgParser {
     alloc: Global,
@@ -81,7 +81,8 @@ impl PcapNgParser {
     /// section and its interfaces as they are.
     ///
     /// The refusals are those of `next_block`, but where that one would ask for bytes: `IoError` where the stream ended inside
-    /// the block, or a read failed. `OutOfMemory` where its bytes can't be held, or what stays in force can't be kept.
+    /// the block, or a read failed. `OutOfMemory` where its bytes can't be held, or what stays in force can't be kept. What a
+    /// refused call took is gone: only behind a whole block that is refused does the stream stand before the next one.
     pub fn read_block<R: Read>(&mut self, reader: &mut R) -> ResultParsing<Option<Block<'static>>>
         ensures reads { ReadsBlock (state_of self.old) (state_of self.new) (R.remaining reader.old) (R.remaining reader.new) result }
         ensures stays { StaysUnlessTaken (state_of self.old) (state_of self.new) result }
