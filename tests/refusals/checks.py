@@ -1,0 +1,105 @@
+"""What the toolchain's check says of functions whose bodies are changed."""
+import os
+import re
+import shutil
+import subprocess
+import tempfile
+
+from edits import changed
+
+TOP = os.path.dirname(os.path.dirname(os.path.dirname(os.path.abspath(__file__))))
+KIT = os.path.dirname(os.path.dirname(os.path.realpath(shutil.which("rt") or "rt")))
+# How the check ends where it judged the functions that were asked for.
+ENDED = re.compile(r"^only=\d+ (?:proved=\d+|holes=\d+)", re.M)
+FUNCTION = re.compile(r"^fn (\S+): (.*)$", re.M)
+NOT_PROVED = ("not proved", "no proof")
+UNPROVED = re.compile(r"`search` did not prove (`[^`]+`(?:, `[^`]+`)*)")
+IN_ANSWER = re.compile(r"^\./proofs/(\S+)/(?:Answers|Invariants)\.antt:\d+:\d+: error: `([^`]+)`: (.*)$", re.M)
+# A written answer that names what the edit took away says nothing of a contract.
+OF_A_NAME = re.compile(r"has no field|is not in scope|has no `|was not admitted|is no name|no field")
+IN_SOURCE = re.compile(r"^(?:\./)?((?:src|specs)/\S+:\d+:\d+: error.*)$", re.M)
+
+
+class NoVerdict(Exception):
+    """The check did not come to judge the functions."""
+
+
+def libraries(name):
+    """The libraries that a crate names in crates.txt, and whether it is a static one."""
+    with open(f"{TOP}/crates.txt", encoding="utf-8") as lines:
+        for line in lines:
+            head, _, named = line.partition(":")
+            if head.split()[:1] == [name]:
+                return named.split(), "staticlib" in head
+    raise NoVerdict(f"crates.txt has no crate {name}")
+
+
+def words_of(name, named, is_static):
+    """The words for the crate's check over the libraries that were proved and built in this checkout."""
+    words = ["--crate-name", name, "src/lib.rt", "--extern", f"std={KIT}/rlibs/std.rlib", "-L", f"dependency={KIT}/rlibs"]
+    for library in named:
+        rlibs = f"{TOP}/crates/{library}/out/rlib" if os.path.isdir(f"{TOP}/crates/{library}") else f"{KIT}/rlibs"
+        if not os.path.exists(f"{rlibs}/{library}.rlib"):
+            raise NoVerdict(f"the library {library} isn't built: run 'rt ci' first, or 'rt check' in crates/{name}")
+        words += ["--extern", f"{library}={rlibs}/{library}.rlib", "-L", f"dependency={rlibs}"]
+    if is_static:
+        words += ["--crate-type", "staticlib"]
+    logic = ["--antt-project", f"{KIT}/rattle/logic/antt-project.json", "--logic-built", f"{KIT}/logic_built"]
+    return [*words, "--links", f"{name}=", *logic]
+
+
+def check(name, texts, functions, kept, uses=None):
+    """What a check of these functions says, over the crate with these texts; what it checks is kept for the next one."""
+    with tempfile.TemporaryDirectory(prefix="refusals-") as room:
+        for path, text in texts.items():
+            os.makedirs(os.path.dirname(f"{room}/{path}"), exist_ok=True)
+            with open(f"{room}/{path}", "w", encoding="utf-8") as it:
+                it.write(text)
+        words = [f"{KIT}/bin/rattle", "check", *words_of(name, *(uses or libraries(name))), "--incremental", kept, "--jobs", "1"]
+        words += [word for function in sorted(functions) for word in ("--only", function)]
+        how = {"cwd": room, "stdin": subprocess.DEVNULL, "stdout": subprocess.PIPE, "stderr": subprocess.STDOUT}
+        told = subprocess.run(words, text=True, errors="replace", **how).stdout
+    in_source = IN_SOURCE.search(told)
+    if not ENDED.search(told) or in_source:
+        raise NoVerdict(in_source[1][:200] if in_source else " ".join(told.strip().splitlines()[-1:])[:200])
+    return told
+
+
+def judged(name, texts, batch, kept, uses=None):
+    """Each edit of the batch with why it isn't refused as it says, or None. Where the batch can't be judged, each alone."""
+    now = texts
+    for edit in batch:
+        now = changed(now, edit)
+    try:
+        told = check(name, now, {edit.function for edit in batch}, kept, uses)
+    except NoVerdict as why:
+        if len(batch) == 1:
+            return [(batch[0], f"it isn't judged: {why}")]
+        return [it for edit in batch for it in judged(name, texts, [edit], kept, uses)]
+    return [(edit, fault_of(edit, told, name)) for edit in batch]
+
+
+def fault_of(edit, told, name):
+    """Why the check doesn't refuse the edited function as the edit says, or None."""
+    said = dict(FUNCTION.findall(told)).get(f"{name}::{edit.function}")
+    if said is None:
+        return f"nothing is said of {edit.function}"
+    if not said.startswith(NOT_PROVED):
+        return f"it is accepted: {said[:80]}"
+    goals, of_names = open_goals(told, said, edit.function)
+    missing = [goal for goal in edit.refused if goal not in goals]
+    if goals and not missing:
+        return None
+    if not goals:
+        return "it is refused for a name alone" if of_names else f"it is accepted: {said[:160]}"
+    return f"{' and '.join(missing)} is not among what stays open: {' '.join(sorted(goals))}"
+
+
+def open_goals(told, said, function):
+    """The function's own goals that stay open, and the answers that stumble over a name."""
+    goals = {goal for listed in UNPROVED.findall(said) for goal in re.findall(r"`([^`]+)`", listed)}
+    of_names = set()
+    for path, goal, why in IN_ANSWER.findall(told):
+        if path == function.replace("::", "/"):
+            (of_names if OF_A_NAME.search(why) else goals).add(goal)
+    return goals, of_names
