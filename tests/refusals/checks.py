@@ -24,38 +24,45 @@ class NoVerdict(Exception):
     """The check did not come to judge the functions."""
 
 
-def libraries(name):
-    """The libraries that a crate names in crates.txt, and whether it is a static one."""
+def crates():
+    """The libraries that each crate of the repository names in crates.txt, and whether it is a static one."""
     with open(f"{TOP}/crates.txt", encoding="utf-8") as lines:
-        for line in lines:
-            head, _, named = line.partition(":")
-            if head.split()[:1] == [name]:
-                return named.split(), "staticlib" in head
-    raise NoVerdict(f"crates.txt has no crate {name}")
+        rows = [line.split(":") for line in lines if not line.startswith("#")]
+    return {head.split()[0]: (named.split(), "staticlib" in head) for head, named in rows}
 
 
-def words_of(name, named, is_static):
+def below(names, known):
+    """These libraries and all that they stand on, of the repository."""
+    found = {name for name in names if name in known}
+    return found.union(*(below(known[name][0], known) for name in found))
+
+
+def words_of(name, named, is_static, known):
     """The words for the crate's check over the libraries that were proved and built in this checkout."""
     words = ["--crate-name", name, "src/lib.rt", "--extern", f"std={KIT}/rlibs/std.rlib", "-L", f"dependency={KIT}/rlibs"]
+    for library in sorted(below(named, known)):
+        if not os.path.exists(f"{TOP}/crates/{library}/out/rlib/{library}.rlib"):
+            raise NoVerdict(f"the library {library} isn't built: run 'rt ci', or 'rt check' in crates/{name}")
+        words += ["-L", f"dependency={TOP}/crates/{library}/out/rlib"]
     for library in named:
-        rlibs = f"{TOP}/crates/{library}/out/rlib" if os.path.isdir(f"{TOP}/crates/{library}") else f"{KIT}/rlibs"
-        if not os.path.exists(f"{rlibs}/{library}.rlib"):
-            raise NoVerdict(f"the library {library} isn't built: run 'rt ci' first, or 'rt check' in crates/{name}")
-        words += ["--extern", f"{library}={rlibs}/{library}.rlib", "-L", f"dependency={rlibs}"]
+        rlibs = f"{TOP}/crates/{library}/out/rlib" if library in known else f"{KIT}/rlibs"
+        words += ["--extern", f"{library}={rlibs}/{library}.rlib"]
     if is_static:
         words += ["--crate-type", "staticlib"]
     logic = ["--antt-project", f"{KIT}/rattle/logic/antt-project.json", "--logic-built", f"{KIT}/logic_built"]
     return [*words, "--links", f"{name}=", *logic]
 
 
-def check(name, texts, functions, kept, uses=None):
+def check(name, texts, functions, kept):
     """What a check of these functions says, over the crate with these texts; what it checks is kept for the next one."""
     with tempfile.TemporaryDirectory(prefix="refusals-") as room:
         for path, text in texts.items():
             os.makedirs(os.path.dirname(f"{room}/{path}"), exist_ok=True)
             with open(f"{room}/{path}", "w", encoding="utf-8") as it:
                 it.write(text)
-        words = [f"{KIT}/bin/rattle", "check", *words_of(name, *(uses or libraries(name))), "--incremental", kept, "--jobs", "1"]
+        known = crates()
+        words = words_of(name, *known.get(name, ([], False)), known)
+        words = [f"{KIT}/bin/rattle", "check", *words, "--incremental", kept, "--jobs", "1"]
         words += [word for function in sorted(functions) for word in ("--only", function)]
         how = {"cwd": room, "stdin": subprocess.DEVNULL, "stdout": subprocess.PIPE, "stderr": subprocess.STDOUT}
         told = subprocess.run(words, text=True, errors="replace", **how).stdout
@@ -65,17 +72,15 @@ def check(name, texts, functions, kept, uses=None):
     return told
 
 
-def judged(name, texts, batch, kept, uses=None):
-    """Each edit of the batch with why it isn't refused as it says, or None. Where the batch can't be judged, each alone."""
-    now = texts
-    for edit in batch:
-        now = changed(now, edit)
+def judged(name, texts, batch, now, kept):
+    """Each edit of the batch with why it isn't refused as it says, or None, where these texts have them all. Where the batch
+    can't be judged, each is put into the crate's texts alone."""
     try:
-        told = check(name, now, {edit.function for edit in batch}, kept, uses)
+        told = check(name, now, {edit.function for edit in batch}, kept)
     except NoVerdict as why:
         if len(batch) == 1:
             return [(batch[0], f"it isn't judged: {why}")]
-        return [it for edit in batch for it in judged(name, texts, [edit], kept, uses)]
+        return [it for edit in batch for it in judged(name, texts, [edit], changed(texts, edit), kept)]
     return [(edit, fault_of(edit, told, name)) for edit in batch]
 
 

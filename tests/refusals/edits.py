@@ -73,24 +73,44 @@ def places(texts, edit):
 
 
 def batches(texts, edits):
-    """The edits in as few batches as a first fit makes, no two of a batch in one function. One whose change reaches beyond
-    functions, as a type's or a lemma's, stands alone."""
+    """The edits in as few batches as a first fit makes, no two of a batch in one function, each batch with the texts that it
+    makes. One whose change reaches beyond functions, as a type's or a lemma's, stands alone. What earlier batches changed
+    in other functions stays so, since nothing of it has to be proved again."""
     made = []
     for edit in edits:
         touched = places(texts, edit)
-        for taken, batch, now in made if None not in touched else ():
-            if None in taken or taken & touched:
-                continue
-            try:
-                now.update(changed(now, edit))
-            except BadEdit:
-                continue
-            taken |= touched
-            batch.append(edit)
-            break
+        for taken, batch in made if None not in touched else ():
+            if None not in taken and not taken & touched and applies(texts, [*batch, edit]):
+                taken |= touched
+                batch.append(edit)
+                break
         else:
-            made.append((touched, [edit], changed(texts, edit)))
-    return [batch for _, batch, _ in made]
+            made.append((touched, [edit]))
+    return [(batch, together(texts, batch, [it for _, earlier in made[:at] for it in earlier])) for at, (_, batch) in enumerate(made)]
+
+
+def applies(texts, edits):
+    """Whether these edits can be put in one after the other."""
+    try:
+        for edit in edits:
+            texts = changed(texts, edit)
+    except BadEdit:
+        return False
+    return True
+
+
+def together(texts, batch, others):
+    """The texts with the batch in them, and of the other edits those that touch no function of it."""
+    now = texts
+    for edit in batch:
+        now = changed(now, edit)
+    taken = set().union(*(places(texts, edit) for edit in batch))
+    for edit in others:
+        touched = places(texts, edit)
+        if None not in touched and not taken & touched and applies(now, [edit]):
+            taken |= touched
+            now = changed(now, edit)
+    return now
 
 
 def edits_of(folder):
