@@ -3,13 +3,15 @@
 #   make                                     builds both; `rt` proves them first
 #   make check                               the tests of the library, through C, Python and Rust
 #   make install PREFIX=/usr DESTDIR=room    installs both, with header, man page and pkg-config's file
+#   make uninstall                           removes what that installed, by the same words
 #
-# `rt` of the Rattle toolchain has to be on the PATH. The first proof takes minutes.
+# `rt` of the Rattle toolchain has to be on the PATH. The first proof takes minutes; JOBS is how many jobs it may use.
 
 PREFIX ?= /usr/local
+libdir ?= $(PREFIX)/lib
 BINDIR = $(DESTDIR)$(PREFIX)/bin
 INCDIR = $(DESTDIR)$(PREFIX)/include
-LIBDIR = $(DESTDIR)$(PREFIX)/lib
+LIBDIR = $(DESTDIR)$(libdir)
 MANDIR = $(DESTDIR)$(PREFIX)/share/man/man1
 DOCDIR = $(DESTDIR)$(PREFIX)/share/doc/pcapfile
 
@@ -19,18 +21,24 @@ OUT = out
 KIT = $(shell dirname "$$(dirname "$$(readlink -f "$$(command -v rt)")")")
 PROVED = crates/pcapfile_c/out/libpcapfile_c.a
 PROGRAM = crates/capcopy/out/capcopy
-SOURCES = $(shell find crates.txt crates/*/src crates/*/specs crates/*/proofs -type f)
+LIBRARIES = pcap_core pcap_times pcap_classic pcap_blocks pcap_file
+JOBS_OF_RT = $(if $(JOBS),--jobs $(JOBS))
+sources_of = crates.txt $(shell find $(foreach crate,$(LIBRARIES) $(1),$(wildcard $(foreach part,src specs proofs,crates/$(crate)/$(part)))) -type f)
 
-.PHONY: all check install clean
+ifeq ($(shell command -v rt),)
+$(if $(filter clean uninstall,$(MAKECMDGOALS)),,$(error 'rt', the command of the Rattle toolchain, is not on the PATH; without it nothing is proved or built))
+endif
+
+.PHONY: all check install uninstall clean
 
 all: $(PROGRAM) $(OUT)/libpcapfile.a $(OUT)/libpcapfile.so.$(ABI)
 
-$(PROGRAM): $(SOURCES)
-	cd crates/capcopy && rt run -- list < stdin > /dev/null
+$(PROGRAM): $(call sources_of,capcopy_run capcopy)
+	cd crates/capcopy && rt run $(JOBS_OF_RT) -- list < stdin > /dev/null
 	touch $@
 
-$(PROVED): $(SOURCES)
-	cd crates/pcapfile_c && rt lib
+$(PROVED): $(call sources_of,pcapfile_c)
+	cd crates/pcapfile_c && rt lib $(JOBS_OF_RT)
 	touch $@
 
 # One object of all that the library needs, in which every other name than the header's is local.
@@ -58,12 +66,17 @@ install: all
 	install -m 644 $(OUT)/libpcapfile.a $(LIBDIR)/libpcapfile.a
 	install -m 755 $(OUT)/libpcapfile.so.$(ABI) $(LIBDIR)/libpcapfile.so.$(ABI)
 	ln -sf libpcapfile.so.$(ABI) $(LIBDIR)/libpcapfile.so
-	printf '%s\n' 'prefix=$(PREFIX)' 'includedir=$${prefix}/include' 'libdir=$${prefix}/lib' '' 'Name: pcapfile' \
+	printf '%s\n' 'prefix=$(PREFIX)' 'includedir=$${prefix}/include' 'libdir=$(libdir)' '' 'Name: pcapfile' \
 	    'Description: Reads and writes packet captures by a proved parser' 'Version: $(VERSION)' \
 	    'Cflags: -I$${includedir}' 'Libs: -L$${libdir} -lpcapfile' > $(LIBDIR)/pkgconfig/pcapfile.pc
 	chmod 644 $(LIBDIR)/pkgconfig/pcapfile.pc
 	install -m 644 capcopy.1 $(MANDIR)/capcopy.1
 	install -m 644 LICENSE $(DOCDIR)/LICENSE
+
+uninstall:
+	rm -f $(BINDIR)/capcopy $(INCDIR)/pcapfile.h $(LIBDIR)/libpcapfile.a $(LIBDIR)/libpcapfile.so.$(ABI)
+	rm -f $(LIBDIR)/libpcapfile.so $(LIBDIR)/pkgconfig/pcapfile.pc $(MANDIR)/capcopy.1
+	rm -rf $(DOCDIR)
 
 clean:
 	rm -rf $(OUT)

@@ -14,6 +14,8 @@ from ._capture import Capture, Header, Packet
 from ._errors import CaptureError, Incomplete, Invalid
 from ._open import open, parse
 
+__version__ = "0.1.0"
+
 __all__ = [
     "BlockCapture",
     "BlockPacket",

@@ -81,7 +81,18 @@ def _find() -> str:
     return named or ctypes.util.find_library("pcapfile") or "libpcapfile.so.0"
 
 
-_library = ctypes.CDLL(_find())
+def _load() -> ctypes.CDLL:
+    found = _find()
+    try:
+        return ctypes.CDLL(found)
+    except OSError as error:
+        raise ImportError(
+            f"pcapfile's library can't be loaded from {found!r} ({error}): PCAPFILE_LIBRARY names it, or it lies as "
+            f"libpcapfile.so in {Path(__file__).parent}, or where the system keeps libraries; 'make' builds it as out/libpcapfile.so"
+        ) from error
+
+
+_library = _load()
 _to = ctypes.POINTER
 
 take_header = _library.pcapfile_take_header

@@ -2,6 +2,7 @@
 
 import mmap
 import os
+import stat
 from builtins import open as _open
 from typing import Union
 
@@ -18,8 +19,12 @@ def parse(data: Data) -> Union[Capture, BlockCapture]:
 
 
 def open(path: Union[str, os.PathLike]) -> Union[Capture, BlockCapture]:
-    """The capture in this file, which is mapped and not read. It must not change while it is used."""
+    """The capture in this file.
+
+    A regular file is mapped and not read, and must not change while it is used. Anything else, as a pipe or a terminal, is
+    read to its end, and its capture is held in memory."""
     with _open(path, "rb") as file:
-        if os.fstat(file.fileno()).st_size == 0:
-            return Capture(b"")
-        return parse(mmap.mmap(file.fileno(), 0, access=mmap.ACCESS_READ))
+        status = os.fstat(file.fileno())
+        if stat.S_ISREG(status.st_mode) and status.st_size > 0:
+            return parse(mmap.mmap(file.fileno(), 0, access=mmap.ACCESS_READ))
+        return parse(file.read())

@@ -1,7 +1,11 @@
 """Tests of the package. Each expected value is worked out from the bytes beside it."""
 
+import os
 import struct
+import subprocess
+import sys
 import tempfile
+import threading
 import unittest
 from pathlib import Path
 
@@ -47,6 +51,29 @@ class Captures(unittest.TestCase):
             path.write_bytes(b"")
             with self.assertRaises(pcapfile.Incomplete) as told:
                 pcapfile.open(path)
+            self.assertEqual(told.exception.missing, 24)
+
+    def test_pipe(self):
+        with tempfile.TemporaryDirectory() as folder:
+            path = Path(folder, "pipe")
+            os.mkfifo(path)
+            # more than a pipe holds, so that it is read while it is written
+            data = HEADER + b"".join(packet(n, 0, bytes(1000)) for n in range(500))
+            writer = threading.Thread(target=path.write_bytes, args=(data,))
+            writer.start()
+            with pcapfile.open(path) as capture:
+                self.assertEqual([(p.seconds, len(p.data)) for p in capture], [(n, 1000) for n in range(500)])
+            writer.join()
+
+    def test_empty_pipe(self):
+        with tempfile.TemporaryDirectory() as folder:
+            path = Path(folder, "pipe")
+            os.mkfifo(path)
+            writer = threading.Thread(target=path.write_bytes, args=(b"",))
+            writer.start()
+            with self.assertRaises(pcapfile.Incomplete) as told:
+                pcapfile.open(path)
+            writer.join()
             self.assertEqual(told.exception.missing, 24)
 
     def test_bytes_that_can_be_written(self):
@@ -148,6 +175,15 @@ class Refusals(unittest.TestCase):
             list(packets)
         with self.assertRaises(ValueError):
             list(capture)
+
+
+class Library(unittest.TestCase):
+    def test_one_that_is_not_there(self):
+        named = {**os.environ, "PCAPFILE_LIBRARY": "/nowhere/libpcapfile.so"}
+        ran = subprocess.run([sys.executable, "-c", "import pcapfile"], env=named, capture_output=True, text=True)
+        self.assertEqual(ran.returncode, 1)
+        self.assertIn("ImportError: pcapfile's library can't be loaded from '/nowhere/libpcapfile.so'", ran.stderr)
+        self.assertIn("PCAPFILE_LIBRARY", ran.stderr)
 
 
 if __name__ == "__main__":
