@@ -137,6 +137,7 @@ fn most_blocks(rt: HostRuntime) -> Result<(), Fail> {
                 matches!(exit, Exit::Most) && taken(&input) == wanted_bytes,
                 "{most} lines"
             );
+            assert_eq!(rt; input.get_ref().ends, 0, "behind {room}");
             let wanted = format!(in rt.alloc(); "{SECTION_LINE}{lines}")?;
             assert_eq!(rt; output.as_slice(), wanted.as_bytes());
         }

@@ -1,16 +1,19 @@
 //! The program over an input and an output that fail.
 
 use crate::inputs::{ROOMS, buffered};
-use capcopy_run::{Uninterrupted, run};
+use capcopy_run::run;
 use std::io::ErrorKind;
 use std::test::Fail;
 use test_support::captures::{SECTIONS, big, front};
 use test_support::readers::Halting;
 use test_support::writers::Narrow;
 
-const LINE: &str = "1 1335958313.152630000 98/98\n";
+/// The line of the big-endian capture's packet.
+pub(crate) const LINE: &str = "1 1335958313.152630000 98/98\n";
 
-const LINES: &str = "section big 1.0\n1 interface 20 ok\n2 section 28 ok\n3 interface 20 ok\n";
+/// The lines of the capture with two sections.
+pub(crate) const LINES: &str =
+    "section big 1.0\n1 interface 20 ok\n2 section 28 ok\n3 interface 20 ok\n";
 
 #[test]
 fn interrupted_reads(rt: HostRuntime) -> Result<(), Fail> {
@@ -30,29 +33,6 @@ fn interrupted_reads(rt: HostRuntime) -> Result<(), Fail> {
             let mut output = Vec::new(rt.alloc());
             let exit = run(rt.alloc(), &[word], &mut input, &mut output, 9);
             assert!(rt; exit.status() == 3, "{word} behind {room}");
-            assert_eq!(rt; output.as_slice(), written);
-        }
-    }
-    Ok(())
-}
-
-#[test]
-fn repeated_reads(rt: HostRuntime) -> Result<(), Fail> {
-    let bytes = big(rt.alloc())?;
-    let rows: [(&str, &[u8], &[u8]); 3] = [
-        ("list", bytes.as_slice(), LINE.as_bytes()),
-        ("copy", bytes.as_slice(), bytes.as_slice()),
-        ("blocks", &SECTIONS, LINES.as_bytes()),
-    ];
-    for (word, given, written) in rows {
-        for fails_at in 1..9 {
-            let mut stream = Halting::new(rt.alloc(), given, 20)?;
-            stream.fails_at = fails_at;
-            stream.kind = ErrorKind::Interrupted;
-            let mut input = buffered(rt.alloc(), 40, Uninterrupted::new(stream))?;
-            let mut output = Vec::new(rt.alloc());
-            let exit = run(rt.alloc(), &[word], &mut input, &mut output, 9);
-            assert!(rt; exit.status() == 0, "{word} at {fails_at}");
             assert_eq!(rt; output.as_slice(), written);
         }
     }
