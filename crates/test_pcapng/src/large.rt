@@ -10,6 +10,7 @@ use test_support::rows::bytes;
 
 // How many interfaces there are, and how many bytes the block after them has: 20 MiB.
 const INTERFACES: usize = 2000;
+
 const LARGE: usize = 0x0140_0000;
 
 // All bytes: a section of 28, the interfaces of 20 each, and the block.
@@ -98,7 +99,9 @@ fn many_options(rt: HostRuntime) -> Result<(), Fail> {
     let section = format!(in rt.alloc();
         "0a0d0d0a 0000097c 1a2b3c4d 0001 0000 ffffffffffffffff {comments} 0000097c"
     )?;
-    let interface = format!(in rt.alloc(); "00000001 00000974 0001 0000 00040000 {comments} 00000974")?;
+    let interface = format!(in rt.alloc();
+        "00000001 00000974 0001 0000 00040000 {comments} 00000974"
+    )?;
     let mut whole = bytes(rt.alloc(), section.as_str())?;
     whole.extend_from_slice(bytes(rt.alloc(), interface.as_str())?.as_slice())?;
     let (rest, mut parser) = PcapNgParser::new(rt.alloc(), whole.as_slice())?;
