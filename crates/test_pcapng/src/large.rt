@@ -8,24 +8,27 @@ use test_support::captures::SECTION;
 use test_support::readers::Halting;
 use test_support::rows::bytes;
 
-// How many interfaces there are, and how many bytes the block after them has: 20 MiB.
+// How many interfaces there are.
 const INTERFACES: usize = 2000;
 
-const LARGE: usize = 0x0140_0000;
+// How many bytes the block after them has: 20 MiB.
+const LARGE: u32 = 0x0140_0000;
 
-// All bytes: a section of 28, the interfaces of 20 each, and the block.
+// All bytes: the section is 28, and each interface 20.
 const BYTES: usize = 21_011_548;
 
-// A big-endian section, its interfaces, and a block of an unknown type.
-fn large(alloc: Global) -> Result<Vec<u8>, Fail> {
+// A big-endian section, its interfaces, and a block of an unknown type and so many bytes.
+fn capture(alloc: Global, len: u32) -> Result<Vec<u8>, Fail> {
     let mut whole = Vec::from_slice(alloc, &SECTION)?;
     let interface = bytes(alloc, "00000001 00000014 0001 0000 00040000 00000014")?;
     for _turn in 0..INTERFACES {
         whole.extend_from_slice(interface.as_slice())?;
     }
-    whole.extend_from_slice(&[0, 0, 0, 0xff, 1, 0x40, 0, 0])?;
-    whole.resize(BYTES - 4, 7)?;
-    whole.extend_from_slice(&[1, 0x40, 0, 0])?;
+    whole.extend_from_slice(&[0, 0, 0, 0xff])?;
+    whole.extend_from_slice(&len.to_be_bytes())?;
+    let body = (len as usize).saturating_sub(12);
+    whole.resize(whole.len().saturating_add(body), 7)?;
+    whole.extend_from_slice(&len.to_be_bytes())?;
     Ok(whole)
 }
 
@@ -34,7 +37,7 @@ fn is_all(blocks: &[Block]) -> bool {
         None => 0,
         Some(block) => block.body.len(),
     };
-    blocks.len() == INTERFACES.saturating_add(1) && body == LARGE.saturating_sub(12)
+    blocks.len() == INTERFACES.saturating_add(1) && body == 20_971_508
 }
 
 fn is_run(run: &NgRun) -> bool {
@@ -46,7 +49,7 @@ fn is_run(run: &NgRun) -> bool {
 
 #[test]
 fn runs(rt: HostRuntime) -> Result<(), Fail> {
-    let whole = large(rt.alloc())?;
+    let whole = capture(rt.alloc(), LARGE)?;
     let all = whole.as_slice();
     let run = parse_pcapng(rt.alloc(), all)?;
     assert!(rt; is_run(&run));
@@ -74,11 +77,11 @@ fn lent(reader: &mut PcapNgReader<Halting>) -> usize {
 
 #[test]
 fn lent_blocks(rt: HostRuntime) -> Result<(), Fail> {
-    let whole = large(rt.alloc())?;
+    // a block of 2 MiB
+    let whole = capture(rt.alloc(), 0x0020_0000)?;
     let stream = Halting::new(rt.alloc(), whole.as_slice(), 1_000_000)?;
     let mut reader = PcapNgReader::new(rt.alloc(), stream)?;
-    // the first `None` lets the block go that came before it
-    assert!(rt; lent(&mut reader) == LARGE.saturating_sub(12));
+    assert!(rt; lent(&mut reader) == 2_097_140);
     assert!(rt; !reader.failed() && reader.interfaces().len() == INTERFACES);
     Ok(())
 }

@@ -2,7 +2,7 @@
 
 use crate::inputs::{ROOMS, buffered};
 use capcopy_run::run;
-use std::io::ErrorKind;
+use std::io::{BufWriter, ErrorKind};
 use std::test::Fail;
 use test_support::captures::{SECTIONS, big, front};
 use test_support::readers::Halting;
@@ -55,6 +55,46 @@ fn narrow_outputs(rt: HostRuntime) -> Result<(), Fail> {
             assert!(rt; exit.status() == 3, "{word} at {room}");
             assert_eq!(rt; output.out.as_slice(), front(written, room));
         }
+    }
+    Ok(())
+}
+
+// The input fails at its second read, and what was listed of the first one is out by then, though the output has a buffer.
+#[test]
+fn lines_are_out_before_the_input_fails(rt: HostRuntime) -> Result<(), Fail> {
+    let mut bytes = big(rt.alloc())?;
+    bytes.extend_from_slice(front(big(rt.alloc())?.as_slice(), 12))?;
+    // a word, its input, how many bytes the first read gives, and the lines of the items that are whole in them
+    let rows: [(&str, &[u8], usize, &str); 5] = [
+        ("list", bytes.as_slice(), 138, LINE),
+        ("list", bytes.as_slice(), 150, LINE),
+        ("blocks", &SECTIONS, 28, "section big 1.0\n"),
+        (
+            "blocks",
+            &SECTIONS,
+            48,
+            "section big 1.0\n1 interface 20 ok\n",
+        ),
+        (
+            "blocks",
+            &SECTIONS,
+            90,
+            "section big 1.0\n1 interface 20 ok\n2 section 28 ok\n",
+        ),
+    ];
+    for (word, given, step, written) in rows {
+        let mut stream = Halting::new(rt.alloc(), given, step)?;
+        stream.fails_at = 2;
+        let mut input = buffered(rt.alloc(), 65_536, stream)?;
+        let narrow = Narrow::new(rt.alloc(), 1000, true);
+        let mut output = BufWriter::with_capacity(rt.alloc(), 1000, narrow)?;
+        let exit = run(rt.alloc(), &[word], &mut input, &mut output, 9);
+        assert!(rt; exit.status() == 3, "{word} by {step}");
+        assert_eq!(rt;
+            output.get_ref().out.as_slice(),
+            written.as_bytes(),
+            "{word} by {step}"
+        );
     }
     Ok(())
 }
