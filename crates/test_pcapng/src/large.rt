@@ -17,7 +17,7 @@ const LARGE: u32 = 0x0140_0000;
 // All bytes: the section is 28, and each interface 20.
 const BYTES: usize = 21_011_548;
 
-// A big-endian section, its interfaces, and a block of an unknown type and so many bytes.
+// A big-endian section, its interfaces, and a block of an unknown type and so many bytes, a multiple of 4096.
 fn capture(alloc: Global, len: u32) -> Result<Vec<u8>, Fail> {
     let mut whole = Vec::from_slice(alloc, &SECTION)?;
     let interface = bytes(alloc, "00000001 00000014 0001 0000 00040000 00000014")?;
@@ -26,8 +26,11 @@ fn capture(alloc: Global, len: u32) -> Result<Vec<u8>, Fail> {
     }
     whole.extend_from_slice(&[0, 0, 0, 0xff])?;
     whole.extend_from_slice(&len.to_be_bytes())?;
-    let body = (len as usize).saturating_sub(12);
-    whole.resize(whole.len().saturating_add(body), 7)?;
+    // the body is a multiple of 4096 bytes and 4084 bytes
+    for _turn in 1..len / 4096 {
+        whole.extend_from_slice(&[7; 4096])?;
+    }
+    whole.extend_from_slice(&[7; 4084])?;
     whole.extend_from_slice(&len.to_be_bytes())?;
     Ok(whole)
 }

@@ -11,18 +11,18 @@ use std::test::Fail;
 use test_support::captures::{BIG_HEAD, front};
 use test_support::readers::Halting;
 
-// How many packets of 1024 bytes stand before the largest one, and how many bytes that has.
+// How many packets of 16 bytes stand before the largest one, and how many bytes that has.
 const PACKETS: usize = 2000;
 
 const LARGEST: usize = 262_144;
 
-// The capture: 24 bytes, 2000 packets of 1040, and one of 262160.
-const BYTES: usize = 2_342_184;
+// The capture: 24 bytes, 2000 packets of 32, and one of 262160.
+const BYTES: usize = 326_184;
 
 fn large(alloc: Global) -> Result<Vec<u8>, AllocError> {
     let mut bytes = Vec::from_slice(alloc, front(&BIG_HEAD, 24))?;
-    let mut packet = Vec::from_slice(alloc, &[0, 0, 0, 1, 0, 0, 0, 0, 0, 0, 4, 0, 0, 0, 4, 0])?;
-    packet.resize(1040, 6)?;
+    let mut packet = Vec::from_slice(alloc, &[0, 0, 0, 1, 0, 0, 0, 0, 0, 0, 0, 16, 0, 0, 0, 16])?;
+    packet.resize(32, 6)?;
     for _turn in 0..PACKETS {
         bytes.extend_from_slice(packet.as_slice())?;
     }
