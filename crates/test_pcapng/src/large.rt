@@ -113,7 +113,11 @@ fn many_options(rt: HostRuntime) -> Result<(), Fail> {
     let (rest, mut parser) = PcapNgParser::new(rt.alloc(), whole.as_slice())?;
     assert_eq!(rt; parser.section().options.len(), 300);
     let (rest, _block) = parser.next_block(rest)?;
-    assert!(rt; rest.is_empty() && parser.interfaces()[0].options.len() == 300);
+    let options = match parser.interfaces() {
+        [interface] => interface.options.len(),
+        _ => 0,
+    };
+    assert!(rt; rest.is_empty() && options == 300);
     let stream = Halting::new(rt.alloc(), whole.as_slice(), 1000)?;
     let read = read_pcapng(rt.alloc(), stream, 9)?;
     assert!(rt; read.fault.is_none() && read.reader.section().options.len() == 300);

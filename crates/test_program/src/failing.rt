@@ -63,7 +63,8 @@ fn narrow_outputs(rt: HostRuntime) -> Result<(), Fail> {
 #[test]
 fn lines_are_out_before_the_input_fails(rt: HostRuntime) -> Result<(), Fail> {
     let mut bytes = big(rt.alloc())?;
-    bytes.extend_from_slice(front(big(rt.alloc())?.as_slice(), 12))?;
+    let again = big(rt.alloc())?;
+    bytes.extend_from_slice(front(again.as_slice(), 12))?;
     // a word, its input, how many bytes the first read gives, and the lines of the items that are whole in them
     let rows: [(&str, &[u8], usize, &str); 5] = [
         ("list", bytes.as_slice(), 138, LINE),

@@ -101,7 +101,8 @@ fn owned_length(reader: &mut PcapReader<Halting>) -> Option<usize> {
 #[test]
 fn lent_data_stays_while_packets_are_owned(rt: HostRuntime) -> Result<(), Fail> {
     let mut bytes = big(rt.alloc())?;
-    bytes.extend_from_slice(back(packets(rt.alloc())?.as_slice(), 24))?;
+    let more = packets(rt.alloc())?;
+    bytes.extend_from_slice(back(more.as_slice(), 24))?;
     for step in [1, 200] {
         let stream = Halting::new(rt.alloc(), bytes.as_slice(), step)?;
         let mut reader = PcapReader::new(rt.alloc(), stream)?;
