@@ -1,6 +1,8 @@
 // Loaded into a program by LD_PRELOAD: makes allocations, reads and writes fail, or moves few bytes at once.
 //   HOSTILE_CALL=memory|read|write  HOSTILE_AT=n  the nth such call fails
 //   HOSTILE_ON=1                    and so does each later one
+//   HOSTILE_FOR=n                   or so many of them in a row do
+//   HOSTILE_ERROR=n                 the number of the error, in place of ENOMEM or EIO
 //   HOSTILE_CUT=n                   each read of standard input and write to standard output moves n bytes at most
 //   HOSTILE_MARK=file               is made once a call was refused, and says how many bytes the reads before it gave
 // Reads are those of standard input, writes those to standard output.
@@ -14,26 +16,28 @@
 void *__libc_malloc(size_t);
 void *__libc_realloc(void *, size_t);
 
-static long calls, at, cut, on, given;
+static long calls, at, cut, on, row = 1, number, given;
 static const char *kind = "";
 
 __attribute__((constructor)) static void start(void) {
     if (getenv("HOSTILE_CALL")) kind = getenv("HOSTILE_CALL");
     if (getenv("HOSTILE_AT")) at = atol(getenv("HOSTILE_AT"));
     if (getenv("HOSTILE_CUT")) cut = atol(getenv("HOSTILE_CUT"));
+    if (getenv("HOSTILE_FOR")) row = atol(getenv("HOSTILE_FOR"));
+    if (getenv("HOSTILE_ERROR")) number = atol(getenv("HOSTILE_ERROR"));
     on = getenv("HOSTILE_ON") != NULL;
 }
 
 static int is_refused(const char *call, int error) {
     if (!at || strcmp(call, kind)) return 0;
     calls++;
-    if (on ? calls < at : calls != at) return 0;
+    if (calls < at || (!on && calls - at >= row)) return 0;
     long mark = syscall(SYS_openat, AT_FDCWD, getenv("HOSTILE_MARK"), O_CREAT | O_WRONLY, 0600);
     if (mark >= 0) {
         syscall(SYS_write, mark, &given, sizeof given);
         syscall(SYS_close, mark);
     }
-    errno = error;
+    errno = number ? number : error;
     return 1;
 }
 

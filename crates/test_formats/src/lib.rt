@@ -3,5 +3,7 @@
 
 pub mod laws;
 #[cfg(test)]
+mod rooms;
+#[cfg(test)]
 mod rows;
 pub mod samples;

@@ -2,11 +2,15 @@
 #![tactic(auto)]
 
 #[cfg(test)]
+mod large;
+#[cfg(test)]
 mod lending;
 #[cfg(test)]
 mod parser;
 #[cfg(test)]
 mod reader;
+#[cfg(test)]
+mod rooms;
 #[cfg(test)]
 mod runs;
 #[cfg(test)]

@@ -13,11 +13,16 @@ const ALL: u64 = 4_294_967_295;
 const SECTION_LINE: &str = "section big 1.0\n";
 
 /// Bytes after a big-endian section header, the lines of their blocks, and the line of what ends them.
-const ROWS: [(&str, &str, &str); 12] = [
+const ROWS: [(&str, &str, &str); 13] = [
     ("", "", ""),
     (
         "00000006 0000000c 0000000c 000000ff 0000000c 0000000c",
         "1 enhanced 12 refused\n2 unknown:255 12 ok\n",
+        "",
+    ),
+    (
+        "00000006 00000028 0000000000000000000000000000000000000000 0bac 0003 616263 00 00000028 00000006 00000028 0000000000000000000000000000000000000000 0001 0001 ff 000000 00000028",
+        "1 enhanced 40 refused\n2 enhanced 40 refused\n",
         "",
     ),
     (
@@ -137,6 +142,7 @@ fn most_blocks(rt: HostRuntime) -> Result<(), Fail> {
                 matches!(exit, Exit::Most) && taken(&input) == wanted_bytes,
                 "{most} lines"
             );
+            assert_eq!(rt; input.get_ref().ends, 0, "behind {room}");
             let wanted = format!(in rt.alloc(); "{SECTION_LINE}{lines}")?;
             assert_eq!(rt; output.as_slice(), wanted.as_bytes());
         }

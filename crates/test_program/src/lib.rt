@@ -8,4 +8,6 @@ mod failing;
 #[cfg(test)]
 mod inputs;
 #[cfg(test)]
+mod interrupted;
+#[cfg(test)]
 mod words;

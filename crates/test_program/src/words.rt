@@ -106,10 +106,28 @@ fn most_lines(rt: HostRuntime) -> Result<(), Fail> {
             assert!(rt; matches!(exit, Exit::Most));
             assert_eq!(rt; exit.status(), 1);
             assert_eq!(rt; taken(&input), 138);
+            assert_eq!(rt; input.get_ref().ends, 0, "behind {room}");
             assert_eq!(rt;
                 output.as_slice(),
                 b"1 1335958313.152630000 98/98\n".as_slice()
             );
+        }
+    }
+    Ok(())
+}
+
+#[test]
+fn most_copies(rt: HostRuntime) -> Result<(), Fail> {
+    let whole = big(rt.alloc())?;
+    let rows: [&[&str]; 2] = [&["copy"], &["copy", "big", "micro"]];
+    for room in ROOMS {
+        for words in rows {
+            let bytes = whole.as_slice();
+            let mut input = buffered(rt.alloc(), room, Halting::new(rt.alloc(), bytes, 1000)?)?;
+            let mut output = Vec::new(rt.alloc());
+            let exit = run(rt.alloc(), words, &mut input, &mut output, 1);
+            assert!(rt; matches!(exit, Exit::Most) && output.as_slice() == bytes);
+            assert_eq!(rt; input.get_ref().ends, 0, "behind {room}");
         }
     }
     Ok(())
@@ -134,6 +152,26 @@ fn refused_captures(rt: HostRuntime) -> Result<(), Fail> {
             line.as_str(),
             "capcopy: Invalid field value: PacketHeader incl_len > orig_len"
         );
+    }
+    Ok(())
+}
+
+#[test]
+fn wrong_magic(rt: HostRuntime) -> Result<(), Fail> {
+    let rows: [&[&str]; 3] = [&["list"], &["copy"], &["copy", "big", "nano"]];
+    for room in ROOMS {
+        for words in rows {
+            let stream = Halting::new(rt.alloc(), &[0xff; 24], 1000)?;
+            let mut input = buffered(rt.alloc(), room, stream)?;
+            let mut output = Vec::new(rt.alloc());
+            let exit = run(rt.alloc(), words, &mut input, &mut output, ALL);
+            assert!(rt; exit.status() == 1 && output.is_empty());
+            let line = format!(in rt.alloc(); "{exit}")?;
+            assert_eq!(rt;
+                line.as_str(),
+                "capcopy: Invalid field value: PcapHeader wrong magic number"
+            );
+        }
     }
     Ok(())
 }

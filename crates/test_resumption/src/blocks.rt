@@ -91,3 +91,37 @@ fn every_cutting_gives_the_same(rt: HostRuntime) {
     }
     assert_eq!(rt; cut(alloc, &SECTIONS, 10, 60), Some((0, 1, 3, 96)));
 }
+
+#[test]
+fn no_piece_lacks_the_first_block(rt: HostRuntime) {
+    let lacks = match pieces_pcapng(rt.alloc(), &[]) {
+        Err(PcapError::IncompleteBuffer(n)) => n,
+        _ => 0,
+    };
+    assert_eq!(rt; lacks, 12);
+}
+
+// How many bytes of these are shown where no capture begins with them.
+fn shown_of_refused(alloc: Global, bytes: &[u8]) -> Option<usize> {
+    let mut window = Window::new(bytes);
+    match exact_pcapng(alloc, &mut window) {
+        Ok(_) => None,
+        Err(_) => Some(window.seen().len()),
+    }
+}
+
+// The head of a block is twelve bytes. A head that is refused shows no more, and a block no more than it states.
+#[test]
+fn nothing_is_asked_for_behind_a_refused_first_block(rt: HostRuntime) {
+    let alloc = rt.alloc();
+    let unaligned = [0, 0, 0, 0x99, 0, 0, 0, 0x0d, 0, 0, 0, 0, 7, 7, 7, 7];
+    assert_eq!(rt; shown_of_refused(alloc, &unaligned), Some(12));
+    let short = [0, 0, 0, 0x99, 0, 0, 0, 8, 0, 0, 0, 0, 7, 7, 7, 7];
+    assert_eq!(rt; shown_of_refused(alloc, &short), Some(12));
+    let no_section = [
+        0, 0, 0, 0x99, 0, 0, 0, 0x10, 0, 0, 0, 0, 0, 0, 0, 0x10, 7, 7, 7, 7,
+    ];
+    assert_eq!(rt; shown_of_refused(alloc, &no_section), Some(16));
+    let torn = [0, 0, 0, 0x99, 0, 0, 0, 0x10, 0, 0, 0, 0, 0];
+    assert_eq!(rt; shown_of_refused(alloc, &torn), Some(13));
+}

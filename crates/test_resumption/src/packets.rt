@@ -167,6 +167,14 @@ fn no_piece_lacks_the_header(rt: HostRuntime) {
     assert_eq!(rt; lacks, 24);
 }
 
+// Nothing is shown behind the 24 bytes of a header that is refused.
+#[test]
+fn nothing_is_asked_for_behind_a_refused_header(rt: HostRuntime) {
+    let mut window = Window::new(&[0xff; 40]);
+    assert!(rt; exact_pcap(rt.alloc(), &mut window).is_err());
+    assert_eq!(rt; window.seen().len(), 24);
+}
+
 // Ten bytes of the second packet's data came.
 #[test]
 fn bytes_end_within_a_packet(rt: HostRuntime) {

@@ -2,6 +2,8 @@
 #![tactic(auto)]
 
 #[cfg(test)]
+mod asking;
+#[cfg(test)]
 mod copying;
 #[cfg(test)]
 mod failing;
@@ -9,6 +11,8 @@ mod failing;
 mod filling;
 #[cfg(test)]
 mod kinds;
+#[cfg(test)]
+mod large;
 #[cfg(test)]
 mod lending;
 #[cfg(test)]

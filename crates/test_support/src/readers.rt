@@ -16,12 +16,18 @@ pub struct Halting {
     pub step: usize,
     /// The call that fails, counted from 1.
     pub fails_at: usize,
+    /// How many calls fail from that one on.
+    pub fails_for: usize,
     /// How the call fails.
     pub kind: ErrorKind,
     /// How many calls there were.
     pub calls: usize,
     /// The most room that a call was offered.
     pub most_room: usize,
+    /// How many calls found nothing left.
+    pub ends: usize,
+    /// How many calls were offered room that began with a zero, as new room does.
+    pub clear: usize,
 }
 
 impl Halting {
@@ -32,18 +38,39 @@ impl Halting {
             taken: 0,
             step,
             fails_at: 0,
+            fails_for: 1,
             kind: ErrorKind::Other,
             calls: 0,
             most_room: 0,
+            ends: 0,
+            clear: 0,
         })
+    }
+
+    // Whether this call, the latest one, is to fail.
+    fn fails(&self) -> bool {
+        self.fails_at > 0
+            && self.calls >= self.fails_at
+            && self.calls - self.fails_at < self.fails_for
+    }
+
+    // Notes what a call finds, and what it is offered.
+    fn note(&mut self, buf: &[u8]) {
+        self.calls = self.calls.saturating_add(1);
+        self.most_room = self.most_room.max(buf.len());
+        if buf.first() == Some(&0) {
+            self.clear = self.clear.saturating_add(1);
+        }
+        if self.taken >= self.bytes.len() {
+            self.ends = self.ends.saturating_add(1);
+        }
     }
 }
 
 impl Read for Halting {
     fn read(&mut self, buf: &mut [u8]) -> io::Result<usize> {
-        self.calls = self.calls.saturating_add(1);
-        self.most_room = self.most_room.max(buf.len());
-        if self.calls == self.fails_at {
+        self.note(buf);
+        if self.fails() {
             return Err(io::Error::from(self.kind));
         }
         let left = back(self.bytes.as_slice(), self.taken);

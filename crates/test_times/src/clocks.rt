@@ -32,6 +32,34 @@ fn offsets(rt: HostRuntime) {
     }
 }
 
+// Times from the earliest to the latest, by their seconds first.
+#[test]
+fn orders(rt: HostRuntime) {
+    let times = [
+        (-2i128, 999_999_999u32),
+        (-1, 0),
+        (-1, 1),
+        (0, 0),
+        (0, 999_999_999),
+        (1, 0),
+        (18_446_744_073_709_551_616, 0),
+    ];
+    for (later, (seconds, nanoseconds)) in times.into_iter().enumerate() {
+        let time = Timestamp {
+            seconds,
+            nanoseconds,
+        };
+        for (earlier, (seconds, nanoseconds)) in times.into_iter().enumerate() {
+            let other = Timestamp {
+                seconds,
+                nanoseconds,
+            };
+            assert_eq!(rt; other < time, earlier < later, "{earlier} and {later}");
+            assert_eq!(rt; other == time, earlier == later, "{earlier} and {later}");
+        }
+    }
+}
+
 // The options of an interface, their clock, and the time of 1577934245123456 units.
 #[test]
 fn clocks_of_interfaces(rt: HostRuntime) -> Result<(), Fail> {

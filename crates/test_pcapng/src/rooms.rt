@@ -1,0 +1,66 @@
+//! The room that blocks are held in, and what is asked after the most blocks.
+
+use pcap_file::pcapng::PcapNgReader;
+use pcap_file::run::read_pcapng;
+use std::alloc::Global;
+use std::test::Fail;
+use test_support::captures::SECTIONS;
+use test_support::readers::Halting;
+use test_support::rows::bytes;
+
+// A little-endian section and five blocks of an unknown type, of 20, 20, 16, 20 and 28 bytes. No block has a zero where it
+// begins, nor behind its first twelve bytes.
+fn blocks(alloc: Global) -> Result<Vec<u8>, Fail> {
+    bytes(
+        alloc,
+        "0a0d0d0a 1c000000 4d3c2b1a 0100 0000 ffffffffffffffff 1c000000
+        ff000001 14000000 0707070707070707 14000000
+        ff000001 14000000 0707070707070707 14000000
+        ff000001 10000000 07070707 10000000
+        ff000001 14000000 0707070707070707 14000000
+        ff000001 1c000000 07070707070707070707070707070707 1c000000",
+    )
+}
+
+// How many calls were offered room that began with a zero, and how many blocks came by then.
+fn clear(reader: &PcapNgReader<Halting>) -> usize {
+    reader.get_ref().clear
+}
+
+// Room that is new is offered for the head of the first block, and for the rest of it.
+#[test]
+fn lent_blocks_share_one_room(rt: HostRuntime) -> Result<(), Fail> {
+    let bytes = blocks(rt.alloc())?;
+    let stream = Halting::new(rt.alloc(), bytes.as_slice(), 200)?;
+    let mut reader = PcapNgReader::new(rt.alloc(), stream)?;
+    assert_eq!(rt; clear(&reader), 2);
+    for length in [8, 8, 4, 8, 16] {
+        assert!(rt; matches!(reader.next_header(), Some(Ok(_))));
+        assert_eq!(rt; reader.body().len(), length);
+        assert_eq!(rt; clear(&reader), 2);
+    }
+    Ok(())
+}
+
+#[test]
+fn owned_blocks_share_one_room(rt: HostRuntime) -> Result<(), Fail> {
+    let bytes = blocks(rt.alloc())?;
+    let stream = Halting::new(rt.alloc(), bytes.as_slice(), 200)?;
+    let read = read_pcapng(rt.alloc(), stream, 9)?;
+    assert!(rt; read.blocks.len() == 5 && read.fault.is_none());
+    assert_eq!(rt; clear(&read.reader), 2);
+    Ok(())
+}
+
+#[test]
+fn nothing_after_the_most_blocks(rt: HostRuntime) -> Result<(), Fail> {
+    for step in [1, 7, 200] {
+        for (most, taken) in [(0, 28), (1, 48), (2, 76), (3, 96)] {
+            let stream = Halting::new(rt.alloc(), &SECTIONS, step)?;
+            let read = read_pcapng(rt.alloc(), stream, most)?;
+            let stream = read.reader.get_ref();
+            assert_eq!(rt; (stream.taken, stream.ends), (taken, 0), "{most} by {step}");
+        }
+    }
+    Ok(())
+}

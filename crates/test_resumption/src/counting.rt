@@ -1,0 +1,123 @@
+//! How often a parser is asked for an item, however its bytes come.
+
+ghost use Rattle.pcap_core.specs.Bytes.{IsOwned};
+ghost use Rattle.pcap_classic.specs.declared.pcap.header.PcapHeader.{PcapHeader};
+ghost use Rattle.pcap_classic.specs.HeaderText.{HeaderSays};
+ghost use Rattle.pcap_classic.specs.PacketText.{packet_limit, Captured, content_of};
+ghost use Rattle.pcap_classic.specs.Packets.{capture_format};
+ghost use Rattle.pcap_classic.specs.Parser.{header_of};
+
+use pcap_core::ResultParsing;
+use pcap_core::run::{Found, PieceParser, Progress, feed_pieces, pieces_fit};
+use pcap_file::PcapParser;
+use pcap_file::pcap::Packet;
+use std::alloc::Global;
+
+// A parser of packets that counts how often it was asked for one.
+#[derive(Drop)]
+struct Counting {
+    parser: PcapParser,
+    calls: usize,
+}
+
+impl PieceParser for Counting {
+    type Item = Packet<'static>;
+
+    ghost State = { PcapHeader };
+
+    ghost Value = { Captured };
+
+    ghost Part = { Captured };
+
+    ghost opens = { HeaderSays };
+
+    ghost format = { capture_format packet_limit };
+
+    ghost state = { λ counting. header_of counting.parser };
+
+    ghost part = { λ packet. packet };
+
+    ghost view = { content_of };
+
+    ghost owned = { λ packet. IsOwned packet.data_ };
+
+    fn open(alloc: Global, held: &[u8]) -> ResultParsing<Found<(Counting, usize)>> {
+        match PcapParser::open(alloc, held)? {
+            Found::Item((parser, left)) => Ok(Found::Item((Counting { parser, calls: 0 }, left))),
+            Found::Needs(n) => Ok(Found::Needs(n)),
+            Found::Refused(e) => Ok(Found::Refused(e)),
+        }
+    }
+
+    fn take(
+        &mut self,
+        alloc: Global,
+        held: &[u8],
+    ) -> ResultParsing<Found<(Packet<'static>, usize)>> {
+        self.calls = self.calls.saturating_add(1);
+        self.parser.take(alloc, held)
+    }
+}
+
+// How many packets come in pieces of so many bytes, and how often the parser is asked.
+fn asked(alloc: Global, bytes: &[u8], size: usize) -> Option<(usize, usize)> {
+    let mut pieces: Vec<&[u8]> = Vec::new(alloc);
+    for piece in bytes.chunks(size.max(1)) {
+        pieces.push(piece).ok()?;
+    }
+    if !pieces_fit(&pieces) {
+        return None;
+    }
+    let fed = feed_pieces::<Counting>(alloc, &pieces).ok()?;
+    match fed.progress {
+        Progress::Before(_) => None,
+        Progress::Within(counting, _) => Some((fed.items.len(), counting.calls)),
+    }
+}
+
+// A header, a packet of 60 bytes, an empty one, and one of 44: 24, 76, 16 and 60 bytes.
+fn capture(alloc: Global) -> Option<Vec<u8>> {
+    let header = [
+        0xa1, 0xb2, 0xc3, 0xd4, 0, 2, 0, 4, 0, 0, 0, 0, 0, 0, 0, 0, 0, 0, 0xff, 0xff, 0, 0, 0, 1,
+    ];
+    let mut bytes = Vec::from_slice(alloc, &header).ok()?;
+    for (size, end) in [(60, 100), (0, 116), (44, 176)] {
+        bytes
+            .extend_from_slice(&[0, 0, 0, 1, 0, 0, 0, 0, 0, 0, 0, size, 0, 0, 0, size])
+            .ok()?;
+        bytes.resize(end, 7).ok()?;
+    }
+    Some(bytes)
+}
+
+// The parser is asked behind the header and behind each packet, and once more for a packet whose head came before its end;
+// and it gives each packet at a call of its own. So a packet costs three calls at most.
+#[test]
+fn no_piece_asks_anew(rt: HostRuntime) {
+    let alloc = rt.alloc();
+    let bytes = capture(alloc).expect(&rt, "memory");
+    // pieces of one and of four bytes end where each head and each packet does: the calls are behind the header; at the head of
+    // the first packet, at its end and behind it; at the end of the empty one and behind it; and so at the last one
+    assert_eq!(rt; asked(alloc, &bytes, 1), Some((3, 9)));
+    assert_eq!(rt; asked(alloc, &bytes, 4), Some((3, 9)));
+    assert_eq!(rt;
+        asked(alloc, &bytes[..bytes.len().min(172)], 4),
+        Some((2, 7))
+    );
+    // the same of pieces that end elsewhere
+    assert_eq!(rt; asked(alloc, &bytes, 10), Some((3, 9)));
+    // all at once: three packets, and behind them
+    assert_eq!(rt; asked(alloc, &bytes, 176), Some((3, 4)));
+}
+
+// A refused head ends the calls, however much comes behind it.
+#[test]
+fn nothing_is_asked_behind_a_refusal(rt: HostRuntime) {
+    let alloc = rt.alloc();
+    let mut bytes = capture(alloc).expect(&rt, "memory");
+    bytes.resize(192, 0xff).expect(&rt, "memory");
+    bytes.resize(300, 0).expect(&rt, "memory");
+    assert_eq!(rt; asked(alloc, &bytes, 1), Some((3, 10)));
+    assert_eq!(rt; asked(alloc, &bytes, 4), Some((3, 10)));
+    assert_eq!(rt; asked(alloc, &bytes, 300), Some((3, 4)));
+}
