@@ -1,6 +1,6 @@
 //! Block bodies by themselves.
 
-use crate::rows::{HasTexts, Owned, mismatch, mismatch_or_loan, text_with_clone};
+use crate::rows::{HasTexts, Owned, compare, compare_with_texts, tell};
 use crate::texts::record_owns_texts;
 use byteorder::{BigEndian, LittleEndian};
 use pcap_blocks::{
@@ -8,15 +8,15 @@ use pcap_blocks::{
     NameResolutionBlock, PacketBlock, SectionHeaderBlock, SimplePacketBlock,
     SystemdJournalExportBlock, UnknownBlock,
 };
+use pcap_core::ResultParsing;
 use std::alloc::Global;
 use std::test::*;
 use test_support::rows::bytes;
 
 impl Owned for SectionHeaderBlock<'static> {
-    fn owned(alloc: Global, digits: &str) -> Result<Self, Fail> {
-        let body = bytes(alloc, digits)?;
-        let (_rest, block) = SectionHeaderBlock::from_slice(alloc, body.as_slice())?;
-        Ok(block.into_owned(alloc)?)
+    fn owned(alloc: Global, body: &[u8]) -> ResultParsing<Self> {
+        let (_rest, block) = SectionHeaderBlock::from_slice(alloc, body)?;
+        block.into_owned(alloc)
     }
 }
 
@@ -27,13 +27,9 @@ impl HasTexts for SectionHeaderBlock<'static> {
 }
 
 impl Owned for InterfaceDescriptionBlock<'static> {
-    fn owned(alloc: Global, digits: &str) -> Result<Self, Fail> {
-        let body = bytes(alloc, digits)?;
-        let (_rest, block) = InterfaceDescriptionBlock::from_slice::<BigEndian>(
-            alloc,
-            body.as_slice(),
-        )?;
-        Ok(block.into_owned(alloc)?)
+    fn owned(alloc: Global, body: &[u8]) -> ResultParsing<Self> {
+        let (_rest, block) = InterfaceDescriptionBlock::from_slice::<BigEndian>(alloc, body)?;
+        block.into_owned(alloc)
     }
 }
 
@@ -44,10 +40,9 @@ impl HasTexts for InterfaceDescriptionBlock<'static> {
 }
 
 impl Owned for EnhancedPacketBlock<'static> {
-    fn owned(alloc: Global, digits: &str) -> Result<Self, Fail> {
-        let body = bytes(alloc, digits)?;
-        let (_rest, block) = EnhancedPacketBlock::from_slice::<BigEndian>(alloc, body.as_slice())?;
-        Ok(block.into_owned(alloc)?)
+    fn owned(alloc: Global, body: &[u8]) -> ResultParsing<Self> {
+        let (_rest, block) = EnhancedPacketBlock::from_slice::<BigEndian>(alloc, body)?;
+        block.into_owned(alloc)
     }
 }
 
@@ -58,10 +53,9 @@ impl HasTexts for EnhancedPacketBlock<'static> {
 }
 
 impl Owned for PacketBlock<'static> {
-    fn owned(alloc: Global, digits: &str) -> Result<Self, Fail> {
-        let body = bytes(alloc, digits)?;
-        let (_rest, block) = PacketBlock::from_slice::<LittleEndian>(alloc, body.as_slice())?;
-        Ok(block.into_owned(alloc)?)
+    fn owned(alloc: Global, body: &[u8]) -> ResultParsing<Self> {
+        let (_rest, block) = PacketBlock::from_slice::<LittleEndian>(alloc, body)?;
+        block.into_owned(alloc)
     }
 }
 
@@ -72,18 +66,16 @@ impl HasTexts for PacketBlock<'static> {
 }
 
 impl Owned for SimplePacketBlock<'static> {
-    fn owned(alloc: Global, digits: &str) -> Result<Self, Fail> {
-        let body = bytes(alloc, digits)?;
-        let (_rest, block) = SimplePacketBlock::from_slice::<BigEndian>(body.as_slice())?;
-        Ok(block.into_owned(alloc)?)
+    fn owned(alloc: Global, body: &[u8]) -> ResultParsing<Self> {
+        let (_rest, block) = SimplePacketBlock::from_slice::<BigEndian>(body)?;
+        block.into_owned(alloc)
     }
 }
 
 impl Owned for NameResolutionBlock<'static> {
-    fn owned(alloc: Global, digits: &str) -> Result<Self, Fail> {
-        let body = bytes(alloc, digits)?;
-        let (_rest, block) = NameResolutionBlock::from_slice::<BigEndian>(alloc, body.as_slice())?;
-        Ok(block.into_owned(alloc)?)
+    fn owned(alloc: Global, body: &[u8]) -> ResultParsing<Self> {
+        let (_rest, block) = NameResolutionBlock::from_slice::<BigEndian>(alloc, body)?;
+        block.into_owned(alloc)
     }
 }
 
@@ -94,13 +86,9 @@ impl HasTexts for NameResolutionBlock<'static> {
 }
 
 impl Owned for InterfaceStatisticsBlock<'static> {
-    fn owned(alloc: Global, digits: &str) -> Result<Self, Fail> {
-        let body = bytes(alloc, digits)?;
-        let (_rest, block) = InterfaceStatisticsBlock::from_slice::<LittleEndian>(
-            alloc,
-            body.as_slice(),
-        )?;
-        Ok(block.into_owned(alloc)?)
+    fn owned(alloc: Global, body: &[u8]) -> ResultParsing<Self> {
+        let (_rest, block) = InterfaceStatisticsBlock::from_slice::<LittleEndian>(alloc, body)?;
+        block.into_owned(alloc)
     }
 }
 
@@ -111,10 +99,9 @@ impl HasTexts for InterfaceStatisticsBlock<'static> {
 }
 
 impl Owned for SystemdJournalExportBlock<'static> {
-    fn owned(alloc: Global, digits: &str) -> Result<Self, Fail> {
-        let body = bytes(alloc, digits)?;
-        let (_rest, block) = SystemdJournalExportBlock::from_slice::<BigEndian>(body.as_slice())?;
-        Ok(block.into_owned(alloc)?)
+    fn owned(alloc: Global, body: &[u8]) -> ResultParsing<Self> {
+        let (_rest, block) = SystemdJournalExportBlock::from_slice::<BigEndian>(body)?;
+        block.into_owned(alloc)
     }
 }
 
@@ -204,80 +191,70 @@ const JOURNALS: [(&str, &str); 1] = [(
 
 #[test]
 fn sections_and_interfaces(rt: HostRuntime) -> Result<(), Fail> {
-    assert_eq!(rt;
-        mismatch_or_loan::<SectionHeaderBlock>(rt.alloc(), &SECTIONS)?.as_str(),
-        ""
-    );
-    assert_eq!(rt;
-        mismatch_or_loan::<InterfaceDescriptionBlock>(rt.alloc(), &INTERFACES)?.as_str(),
-        ""
-    );
-    assert_eq!(rt;
-        mismatch_or_loan::<InterfaceStatisticsBlock>(rt.alloc(), &STATISTICS)?.as_str(),
-        ""
-    );
+    let mut told = String::new(rt.alloc());
+    compare_with_texts::<SectionHeaderBlock>(rt.alloc(), "", &SECTIONS, &mut told)?;
+    compare_with_texts::<InterfaceDescriptionBlock>(rt.alloc(), "", &INTERFACES, &mut told)?;
+    compare_with_texts::<InterfaceStatisticsBlock>(rt.alloc(), "", &STATISTICS, &mut told)?;
+    assert_eq!(rt; told.as_str(), "");
     Ok(())
 }
 
 #[test]
 fn packets(rt: HostRuntime) -> Result<(), Fail> {
-    assert_eq!(rt;
-        mismatch_or_loan::<EnhancedPacketBlock>(rt.alloc(), &ENHANCED_PACKETS)?.as_str(),
-        ""
-    );
-    assert_eq!(rt;
-        mismatch_or_loan::<PacketBlock>(rt.alloc(), &PACKETS)?.as_str(),
-        ""
-    );
-    assert_eq!(rt;
-        mismatch::<SimplePacketBlock>(rt.alloc(), &SIMPLE_PACKETS)?.as_str(),
-        ""
-    );
+    let mut told = String::new(rt.alloc());
+    compare_with_texts::<EnhancedPacketBlock>(rt.alloc(), "", &ENHANCED_PACKETS, &mut told)?;
+    compare_with_texts::<PacketBlock>(rt.alloc(), "", &PACKETS, &mut told)?;
+    compare::<SimplePacketBlock>(rt.alloc(), "", &SIMPLE_PACKETS, &mut told)?;
+    assert_eq!(rt; told.as_str(), "");
     Ok(())
 }
 
 #[test]
 fn names_and_journals(rt: HostRuntime) -> Result<(), Fail> {
-    assert_eq!(rt;
-        mismatch_or_loan::<NameResolutionBlock>(rt.alloc(), &NAMES)?.as_str(),
-        ""
-    );
-    assert_eq!(rt;
-        mismatch::<SystemdJournalExportBlock>(rt.alloc(), &JOURNALS)?.as_str(),
-        ""
-    );
+    let mut told = String::new(rt.alloc());
+    compare_with_texts::<NameResolutionBlock>(rt.alloc(), "", &NAMES, &mut told)?;
+    compare::<SystemdJournalExportBlock>(rt.alloc(), "", &JOURNALS, &mut told)?;
+    assert_eq!(rt; told.as_str(), "");
     Ok(())
 }
 
-// The block of this type and length whose value these digits are, owned.
-fn unknown(
-    alloc: Global,
-    type_: BlockType,
+// A block of no type that is known here.
+struct UnknownRow {
+    type_: u32,
     len: u32,
-    digits: &str,
-) -> Result<UnknownBlock<'static>, Fail> {
-    let body = bytes(alloc, digits)?;
-    Ok(UnknownBlock::new(type_, len, body.as_slice()).into_owned(alloc)?)
+    digits: &'static str,
+    text: &'static str,
+}
+
+const UNKNOWN_BLOCKS: [UnknownRow; 2] = [
+    UnknownRow {
+        type_: 1,
+        len: 2,
+        digits: "aabb",
+        text: "UnknownBlock { type_: Unknown(1), length: 2, value: Owned([170, 187]) }",
+    },
+    UnknownRow {
+        type_: 255,
+        len: 0,
+        digits: "",
+        text: "UnknownBlock { type_: Unknown(255), length: 0, value: Owned([]) }",
+    },
+];
+
+// The block of a row, owned. Its bytes are dropped here.
+fn unknown(alloc: Global, row: &UnknownRow) -> Result<UnknownBlock<'static>, Fail> {
+    let body = bytes(alloc, row.digits)?;
+    let type_ = BlockType::Unknown(row.type_);
+    Ok(UnknownBlock::new(type_, row.len, body.as_slice()).into_owned(alloc)?)
 }
 
 #[test]
 fn unknown_blocks(rt: HostRuntime) -> Result<(), Fail> {
-    for (type_, len, digits, text) in [
-        (
-            BlockType::Unknown(1),
-            2,
-            "aabb",
-            "UnknownBlock { type_: Unknown(1), length: 2, value: Owned([170, 187]) }",
-        ),
-        (
-            BlockType::Unknown(255),
-            0,
-            "",
-            "UnknownBlock { type_: Unknown(255), length: 0, value: Owned([]) }",
-        ),
-    ] {
-        let block = unknown(rt.alloc(), type_, len, digits)?;
-        assert_eq!(rt; text_with_clone(rt.alloc(), &block)?.as_str(), text);
+    let mut told = String::new(rt.alloc());
+    for row in &UNKNOWN_BLOCKS {
+        let block = unknown(rt.alloc(), row)?;
+        tell(rt.alloc(), &block, row.text, &mut told)?;
     }
+    assert_eq!(rt; told.as_str(), "");
     Ok(())
 }

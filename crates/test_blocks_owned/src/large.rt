@@ -1,12 +1,12 @@
 //! Long lists, and long values.
 
-use crate::rows::text_with_clone;
+use crate::rows::tell;
 use byteorder::BigEndian;
 use pcap_blocks::{
     BlockType, EnhancedPacketBlock, EnhancedPacketOption, Ipv4Record, SectionHeaderBlock,
     SimplePacketBlock, SystemdJournalExportBlock, UnknownBlock,
 };
-use pcap_core::CowBytes;
+use pcap_core::{CowBytes, ResultParsing};
 use std::alloc::Global;
 use std::test::*;
 use test_support::captures::pattern;
@@ -35,72 +35,83 @@ fn is_hash(options: &[EnhancedPacketOption], bytes: &[u8], is_borrowed: bool) ->
     }
 }
 
+// The numbers from 10 to 109 as names of three characters, in digits: each between these.
+fn hundred_digits(alloc: Global, head: &str, before: &str, behind: &str) -> Result<Vec<u8>, Fail> {
+    let mut digits = String::from_str(alloc, head)?;
+    for k in 10..110 {
+        let (hundreds, tens, ones) = (48 + k / 100, 48 + k / 10 % 10, 48 + k % 10);
+        write!(
+            digits,
+            " {before} {hundreds:02x}{tens:02x}{ones:02x} {behind}"
+        )?;
+    }
+    bytes(alloc, digits.as_str())
+}
+
+// The same as text, parted by commas.
+fn hundred_texts(alloc: Global, before: &str, behind: &str) -> Result<String, Fail> {
+    let mut shown = String::new(alloc);
+    for k in 10..110 {
+        let comma = if k == 10 { "" } else { ", " };
+        write!(shown, "{comma}{before}\"{k:03}\"{behind}")?;
+    }
+    Ok(shown)
+}
+
+// Tells the text of the section of these bytes, lent and owned, where it is another one.
+fn tell_section(alloc: Global, body: &[u8], text: &str, told: &mut String) -> Result<(), Fail> {
+    let (rest, section) = SectionHeaderBlock::from_slice(alloc, body)?;
+    tell(alloc, &section, text, told)?;
+    tell(alloc, &section.into_owned(alloc)?, text, told)?;
+    tell(alloc, &rest.len(), "0", told)
+}
+
 #[test]
 fn hundred_options(rt: HostRuntime) -> Result<(), Fail> {
-    let mut digits = String::from_str(rt.alloc(), "1a2b3c4d 0001 0000 0000000000000010")?;
-    let mut shown = String::new(rt.alloc());
-    for k in 10..110 {
-        let option = format!(in rt.alloc();
-            " 0003 0003 {:02x}{:02x}{:02x} 00",
-            48 + k / 100,
-            48 + k / 10 % 10,
-            48 + k % 10
-        )?;
-        digits.push_str(option.as_str())?;
-        let option = format!(in rt.alloc(); "{}OS(\"{k:03}\")", if k == 10 { "" } else { ", " })?;
-        shown.push_str(option.as_str())?;
-    }
-    let shown = format!(in rt.alloc();
-        "SectionHeaderBlock {{ magic: 439041101, major_version: 1, minor_version: 0, section_length: 16, options: [{shown}] }}"
+    let head = "1a2b3c4d 0001 0000 0000000000000010";
+    let body = hundred_digits(rt.alloc(), head, "0003 0003", "00")?;
+    let options = hundred_texts(rt.alloc(), "OS(", ")")?;
+    let text = format!(in rt.alloc();
+        "SectionHeaderBlock {{ magic: 439041101, major_version: 1, minor_version: 0, section_length: 16, options: [{options}] }}"
     )?;
-    let body = bytes(rt.alloc(), digits.as_str())?;
-    let (rest, section) = SectionHeaderBlock::from_slice(rt.alloc(), body.as_slice())?;
-    assert!(rt; rest.is_empty());
-    assert_eq!(rt;
-        text_with_clone(rt.alloc(), &section)?.as_str(),
-        shown.as_str()
-    );
-    let section = section.into_owned(rt.alloc())?;
-    assert_eq!(rt;
-        text_with_clone(rt.alloc(), &section)?.as_str(),
-        shown.as_str()
-    );
+    let mut told = String::new(rt.alloc());
+    tell_section(rt.alloc(), body.as_slice(), text.as_str(), &mut told)?;
+    assert_eq!(rt; told.as_str(), "");
     Ok(())
+}
+
+// Tells the text of the record of these bytes, lent and owned, where it is another one.
+fn tell_record(alloc: Global, value: &[u8], text: &str, told: &mut String) -> Result<(), Fail> {
+    let record = Ipv4Record::from_slice(alloc, value)?;
+    tell(alloc, &record, text, told)?;
+    let text = text.replace(alloc, "Borrowed(", "Owned(")?;
+    tell(alloc, &record.into_owned(alloc)?, text.as_str(), told)
 }
 
 #[test]
 fn hundred_names(rt: HostRuntime) -> Result<(), Fail> {
-    let mut digits = String::from_str(rt.alloc(), "0a000001")?;
-    let mut shown = String::new(rt.alloc());
-    for k in 10..110 {
-        let name = format!(in rt.alloc();
-            " {:02x}{:02x}{:02x}00",
-            48 + k / 100,
-            48 + k / 10 % 10,
-            48 + k % 10
-        )?;
-        digits.push_str(name.as_str())?;
-        let name = format!(in rt.alloc(); "{}\"{k:03}\"", if k == 10 { "" } else { ", " })?;
-        shown.push_str(name.as_str())?;
-    }
-    let value = bytes(rt.alloc(), digits.as_str())?;
-    let record = Ipv4Record::from_slice(rt.alloc(), value.as_slice())?;
-    let lent = format!(in rt.alloc();
-        "Ipv4Record {{ ip_addr: Borrowed([10, 0, 0, 1]), names: [{shown}] }}"
+    let value = hundred_digits(rt.alloc(), "0a000001", "", "00")?;
+    let names = hundred_texts(rt.alloc(), "", "")?;
+    let text = format!(in rt.alloc();
+        "Ipv4Record {{ ip_addr: Borrowed([10, 0, 0, 1]), names: [{names}] }}"
     )?;
-    assert_eq!(rt;
-        text_with_clone(rt.alloc(), &record)?.as_str(),
-        lent.as_str()
-    );
-    let record = record.into_owned(rt.alloc())?;
-    let owned = format!(in rt.alloc();
-        "Ipv4Record {{ ip_addr: Owned([10, 0, 0, 1]), names: [{shown}] }}"
-    )?;
-    assert_eq!(rt;
-        text_with_clone(rt.alloc(), &record)?.as_str(),
-        owned.as_str()
-    );
+    let mut told = String::new(rt.alloc());
+    tell_record(rt.alloc(), value.as_slice(), text.as_str(), &mut told)?;
+    assert_eq!(rt; told.as_str(), "");
     Ok(())
+}
+
+// Whether these are one hash of these bytes, lent and then owned.
+fn are_hash(
+    alloc: Global,
+    options: Vec<EnhancedPacketOption>,
+    bytes: &[u8],
+) -> ResultParsing<bool> {
+    let mut is_hash_each = is_hash(options.as_slice(), bytes, true);
+    for option in options {
+        is_hash_each = is_hash_each && is_hash(&[option.into_owned(alloc)?], bytes, false);
+    }
+    Ok(is_hash_each)
 }
 
 #[test]
@@ -113,29 +124,53 @@ fn longest_options(rt: HostRuntime) -> Result<(), Fail> {
         list.as_slice(),
     )?;
     assert_eq!(rt; rest, [0xaa].as_slice());
-    assert!(rt; is_hash(options.as_slice(), value.as_slice(), true));
-    for option in options {
-        let option = option.into_owned(rt.alloc())?;
-        assert!(rt; is_hash(&[option], value.as_slice(), false));
-    }
+    assert!(rt; are_hash(rt.alloc(), options, value.as_slice())?);
     Ok(())
+}
+
+// Whether an entry, an unknown block and a simple packet each hold these bytes, lent and then owned.
+
+fn entry_holds(alloc: Global, value: &[u8]) -> ResultParsing<bool> {
+    let (_rest, entry) = SystemdJournalExportBlock::from_slice::<BigEndian>(value)?;
+    let is_lent = are(&entry.journal_entry, value, true);
+    Ok(is_lent && are(&entry.into_owned(alloc)?.journal_entry, value, false))
+}
+
+fn unknown_holds(alloc: Global, value: &[u8]) -> ResultParsing<bool> {
+    let block = UnknownBlock::new(BlockType::Unknown(77), 65_535, value);
+    let is_lent = are(&block.value, value, true);
+    Ok(is_lent && are(&block.into_owned(alloc)?.value, value, false))
+}
+
+fn simple_packet_holds(alloc: Global, body: &[u8], value: &[u8]) -> ResultParsing<bool> {
+    let (_rest, packet) = SimplePacketBlock::from_slice::<BigEndian>(body)?;
+    let is_lent = are(&packet.data_, value, true);
+    Ok(is_lent && are(&packet.into_owned(alloc)?.data_, value, false))
 }
 
 #[test]
 fn long_bodies(rt: HostRuntime) -> Result<(), Fail> {
     let value = pattern(rt.alloc(), 65_535)?;
     let value = value.as_slice();
-    let (_rest, entry) = SystemdJournalExportBlock::from_slice::<BigEndian>(value)?;
-    assert!(rt; are(&entry.journal_entry, value, true));
-    assert!(rt; are(&entry.into_owned(rt.alloc())?.journal_entry, value, false));
-    let block = UnknownBlock::new(BlockType::Unknown(77), 65_535, value);
-    assert!(rt; are(&block.value, value, true));
-    assert!(rt; are(&block.into_owned(rt.alloc())?.value, value, false));
+    assert!(rt; entry_holds(rt.alloc(), value)?);
+    assert!(rt; unknown_holds(rt.alloc(), value)?);
     let body = joined(rt.alloc(), "0000ffff", value)?;
-    let (_rest, packet) = SimplePacketBlock::from_slice::<BigEndian>(body.as_slice())?;
-    assert!(rt; are(&packet.data_, value, true));
-    assert!(rt; are(&packet.into_owned(rt.alloc())?.data_, value, false));
+    assert!(rt; simple_packet_holds(rt.alloc(), body.as_slice(), value)?);
     Ok(())
+}
+
+// Whether a packet holds these bytes as its data and as its one hash.
+fn packet_holds(packet: &EnhancedPacketBlock, value: &[u8], is_borrowed: bool) -> bool {
+    are(&packet.data_, value, is_borrowed) && is_hash(packet.options.as_slice(), value, is_borrowed)
+}
+
+// Whether the packet of this body holds these bytes, lent and then owned, and nothing is left.
+fn long_packet_holds(alloc: Global, body: &[u8], value: &[u8]) -> ResultParsing<bool> {
+    let (rest, packet) = EnhancedPacketBlock::from_slice::<BigEndian>(alloc, body)?;
+    let is_lent = rest.is_empty()
+        && packet.captured_len == 65_535
+        && packet_holds(&packet, value, true);
+    Ok(is_lent && packet_holds(&packet.into_owned(alloc)?, value, false))
 }
 
 #[test]
@@ -149,12 +184,6 @@ fn long_packets(rt: HostRuntime) -> Result<(), Fail> {
     body.extend_from_slice(&[0xff, 0, 3, 0xff, 0xff])?;
     body.extend_from_slice(value.as_slice())?;
     body.push(0xff)?;
-    let (rest, packet) = EnhancedPacketBlock::from_slice::<BigEndian>(rt.alloc(), body.as_slice())?;
-    assert!(rt; rest.is_empty() && packet.captured_len == 65_535);
-    assert!(rt; are(&packet.data_, value.as_slice(), true));
-    assert!(rt; is_hash(packet.options.as_slice(), value.as_slice(), true));
-    let packet = packet.into_owned(rt.alloc())?;
-    assert!(rt; are(&packet.data_, value.as_slice(), false));
-    assert!(rt; is_hash(packet.options.as_slice(), value.as_slice(), false));
+    assert!(rt; long_packet_holds(rt.alloc(), body.as_slice(), value.as_slice())?);
     Ok(())
 }

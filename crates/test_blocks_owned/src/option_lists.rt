@@ -1,6 +1,6 @@
 //! Options by themselves, of each kind of block.
 
-use crate::rows::{HasTexts, Owned, bytes_after, mismatch_or_loan};
+use crate::rows::{HasTexts, Owned, compare_with_texts};
 use crate::texts::{
     enhanced_owns_text, interface_owns_text, name_owns_text, packet_owns_text, section_owns_text,
     statistics_own_text,
@@ -11,16 +11,15 @@ use pcap_blocks::{
     InterfaceStatisticsBlock, InterfaceStatisticsOption, NameResolutionBlock, NameResolutionOption,
     PacketOption, SectionHeaderBlock, SectionHeaderOption,
 };
+use pcap_core::ResultParsing;
 use std::alloc::Global;
 use std::test::*;
-use test_support::rows::bytes;
 
 // The options of a list. Each is owned by its own call.
 
 impl Owned for Vec<SectionHeaderOption<'static>> {
-    fn owned(alloc: Global, digits: &str) -> Result<Self, Fail> {
-        let body = bytes_after(alloc, "1a2b3c4d 0001 0000 0000000000000010", digits)?;
-        let (_rest, block) = SectionHeaderBlock::from_slice(alloc, body.as_slice())?;
+    fn owned(alloc: Global, body: &[u8]) -> ResultParsing<Self> {
+        let (_rest, block) = SectionHeaderBlock::from_slice(alloc, body)?;
         let mut options = Vec::new(alloc);
         for option in block.options {
             options.push(option.into_owned(alloc)?)?;
@@ -36,12 +35,8 @@ impl HasTexts for Vec<SectionHeaderOption<'static>> {
 }
 
 impl Owned for Vec<InterfaceDescriptionOption<'static>> {
-    fn owned(alloc: Global, digits: &str) -> Result<Self, Fail> {
-        let body = bytes_after(alloc, "0001 0000 00040000", digits)?;
-        let (_rest, block) = InterfaceDescriptionBlock::from_slice::<BigEndian>(
-            alloc,
-            body.as_slice(),
-        )?;
+    fn owned(alloc: Global, body: &[u8]) -> ResultParsing<Self> {
+        let (_rest, block) = InterfaceDescriptionBlock::from_slice::<BigEndian>(alloc, body)?;
         let mut options = Vec::new(alloc);
         for option in block.options {
             options.push(option.into_owned(alloc)?)?;
@@ -57,9 +52,8 @@ impl HasTexts for Vec<InterfaceDescriptionOption<'static>> {
 }
 
 impl Owned for Vec<EnhancedPacketOption<'static>> {
-    fn owned(alloc: Global, digits: &str) -> Result<Self, Fail> {
-        let list = bytes(alloc, digits)?;
-        let (_rest, lent) = EnhancedPacketOption::from_slice::<BigEndian>(alloc, list.as_slice())?;
+    fn owned(alloc: Global, body: &[u8]) -> ResultParsing<Self> {
+        let (_rest, lent) = EnhancedPacketOption::from_slice::<BigEndian>(alloc, body)?;
         let mut options = Vec::new(alloc);
         for option in lent {
             options.push(option.into_owned(alloc)?)?;
@@ -75,9 +69,8 @@ impl HasTexts for Vec<EnhancedPacketOption<'static>> {
 }
 
 impl Owned for Vec<PacketOption<'static>> {
-    fn owned(alloc: Global, digits: &str) -> Result<Self, Fail> {
-        let list = bytes(alloc, digits)?;
-        let (_rest, lent) = PacketOption::from_slice::<BigEndian>(alloc, list.as_slice())?;
+    fn owned(alloc: Global, body: &[u8]) -> ResultParsing<Self> {
+        let (_rest, lent) = PacketOption::from_slice::<BigEndian>(alloc, body)?;
         let mut options = Vec::new(alloc);
         for option in lent {
             options.push(option.into_owned(alloc)?)?;
@@ -93,12 +86,8 @@ impl HasTexts for Vec<PacketOption<'static>> {
 }
 
 impl Owned for Vec<InterfaceStatisticsOption<'static>> {
-    fn owned(alloc: Global, digits: &str) -> Result<Self, Fail> {
-        let body = bytes_after(alloc, "00000001 00000002 00000003", digits)?;
-        let (_rest, block) = InterfaceStatisticsBlock::from_slice::<BigEndian>(
-            alloc,
-            body.as_slice(),
-        )?;
+    fn owned(alloc: Global, body: &[u8]) -> ResultParsing<Self> {
+        let (_rest, block) = InterfaceStatisticsBlock::from_slice::<BigEndian>(alloc, body)?;
         let mut options = Vec::new(alloc);
         for option in block.options {
             options.push(option.into_owned(alloc)?)?;
@@ -114,9 +103,8 @@ impl HasTexts for Vec<InterfaceStatisticsOption<'static>> {
 }
 
 impl Owned for Vec<NameResolutionOption<'static>> {
-    fn owned(alloc: Global, digits: &str) -> Result<Self, Fail> {
-        let body = bytes_after(alloc, "0000 0000", digits)?;
-        let (_rest, block) = NameResolutionBlock::from_slice::<BigEndian>(alloc, body.as_slice())?;
+    fn owned(alloc: Global, body: &[u8]) -> ResultParsing<Self> {
+        let (_rest, block) = NameResolutionBlock::from_slice::<BigEndian>(alloc, body)?;
         let mut options = Vec::new(alloc);
         for option in block.options {
             options.push(option.into_owned(alloc)?)?;
@@ -297,34 +285,40 @@ const OF_NAMES: [(&str, &str); 6] = [
 
 #[test]
 fn options_of_sections_and_interfaces(rt: HostRuntime) -> Result<(), Fail> {
-    assert_eq!(rt;
-        mismatch_or_loan::<Vec<SectionHeaderOption>>(rt.alloc(), &OF_SECTION)?.as_str(),
-        ""
-    );
-    assert_eq!(rt;
-        mismatch_or_loan::<Vec<InterfaceDescriptionOption>>(rt.alloc(), &OF_INTERFACE)?.as_str(),
-        ""
-    );
-    assert_eq!(rt;
-        mismatch_or_loan::<Vec<InterfaceStatisticsOption>>(rt.alloc(), &OF_STATISTICS)?.as_str(),
-        ""
-    );
+    let mut told = String::new(rt.alloc());
+    compare_with_texts::<Vec<SectionHeaderOption>>(
+        rt.alloc(),
+        "1a2b3c4d 0001 0000 0000000000000010",
+        &OF_SECTION,
+        &mut told,
+    )?;
+    compare_with_texts::<Vec<InterfaceDescriptionOption>>(
+        rt.alloc(),
+        "0001 0000 00040000",
+        &OF_INTERFACE,
+        &mut told,
+    )?;
+    compare_with_texts::<Vec<InterfaceStatisticsOption>>(
+        rt.alloc(),
+        "00000001 00000002 00000003",
+        &OF_STATISTICS,
+        &mut told,
+    )?;
+    assert_eq!(rt; told.as_str(), "");
     Ok(())
 }
 
 #[test]
 fn options_of_packets_and_names(rt: HostRuntime) -> Result<(), Fail> {
-    assert_eq!(rt;
-        mismatch_or_loan::<Vec<EnhancedPacketOption>>(rt.alloc(), &OF_ENHANCED_PACKET)?.as_str(),
-        ""
-    );
-    assert_eq!(rt;
-        mismatch_or_loan::<Vec<PacketOption>>(rt.alloc(), &OF_PACKET)?.as_str(),
-        ""
-    );
-    assert_eq!(rt;
-        mismatch_or_loan::<Vec<NameResolutionOption>>(rt.alloc(), &OF_NAMES)?.as_str(),
-        ""
-    );
+    let mut told = String::new(rt.alloc());
+    compare_with_texts::<Vec<EnhancedPacketOption>>(
+        rt.alloc(),
+        "",
+        &OF_ENHANCED_PACKET,
+        &mut told,
+    )?;
+    compare_with_texts::<Vec<PacketOption>>(rt.alloc(), "", &OF_PACKET, &mut told)?;
+    compare_with_texts::<Vec<NameResolutionOption>>(rt.alloc(), "0000 0000", &OF_NAMES, &mut told)?;
+    assert_eq!(rt; told.as_str(), "");
     Ok(())
 }

@@ -1,6 +1,6 @@
 //! Bodies of all types, and clones of bodies whose bytes are borrowed.
 
-use crate::rows::text_with_clone;
+use crate::rows::tell;
 use byteorder::BigEndian;
 use pcap_blocks::{BlockType, ParsedBlock};
 use std::alloc::Global;
@@ -14,16 +14,16 @@ fn owned(alloc: Global, type_: BlockType, digits: &str) -> Result<ParsedBlock<'s
     Ok(block.into_owned(alloc)?)
 }
 
-// The text of the body of these digits while its bytes are borrowed, as `text_with_clone` gives it.
-fn borrowed(alloc: Global, type_: BlockType, digits: &str) -> Result<String, Fail> {
-    let body = bytes(alloc, digits)?;
-    let (_rest, block) = ParsedBlock::from_slice::<BigEndian>(alloc, type_, body.as_slice())?;
-    text_with_clone(alloc, &block)
-}
-
-// The text of the same value with borrowed bytes.
-fn borrowed_text(alloc: Global, owned_text: &str) -> Result<String, Fail> {
-    Ok(owned_text.replace(alloc, "Owned(", "Borrowed(")?)
+// Tells the text of the body of these digits while its bytes are borrowed, where it is another one.
+fn tell_borrowed(
+    alloc: Global,
+    type_: BlockType,
+    body: &[u8],
+    text: &str,
+    told: &mut String,
+) -> Result<(), Fail> {
+    let (_rest, block) = ParsedBlock::from_slice::<BigEndian>(alloc, type_, body)?;
+    tell(alloc, &block, text, told)
 }
 
 const BODIES: [(BlockType, &str, &str); 10] = [
@@ -81,18 +81,23 @@ const BODIES: [(BlockType, &str, &str); 10] = [
 
 #[test]
 fn owned_bodies(rt: HostRuntime) -> Result<(), Fail> {
+    let mut told = String::new(rt.alloc());
     for (type_, digits, text) in BODIES {
         let block = owned(rt.alloc(), type_, digits)?;
-        assert_eq!(rt; text_with_clone(rt.alloc(), &block)?.as_str(), text);
+        tell(rt.alloc(), &block, text, &mut told)?;
     }
+    assert_eq!(rt; told.as_str(), "");
     Ok(())
 }
 
 #[test]
 fn borrowed_bodies(rt: HostRuntime) -> Result<(), Fail> {
+    let mut told = String::new(rt.alloc());
     for (type_, digits, text) in BODIES {
-        let shown = borrowed(rt.alloc(), type_, digits)?;
-        assert_eq!(rt; shown.as_str(), borrowed_text(rt.alloc(), text)?.as_str());
+        let body = bytes(rt.alloc(), digits)?;
+        let text = text.replace(rt.alloc(), "Owned(", "Borrowed(")?;
+        tell_borrowed(rt.alloc(), type_, body.as_slice(), text.as_str(), &mut told)?;
     }
+    assert_eq!(rt; told.as_str(), "");
     Ok(())
 }

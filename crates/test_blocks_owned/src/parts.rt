@@ -1,40 +1,35 @@
 //! The options that all kinds of blocks share, and bytes, by themselves.
 
-use crate::rows::{Owned, mismatch};
+use crate::rows::{Owned, compare};
 use byteorder::BigEndian;
 use pcap_blocks::{CustomBinaryOption, CustomUtf8Option, UnknownOption};
-use pcap_core::CowBytes;
+use pcap_core::{CowBytes, ResultParsing};
 use std::alloc::Global;
 use std::test::*;
-use test_support::rows::bytes;
 
 impl Owned for CustomUtf8Option<'static> {
-    fn owned(alloc: Global, digits: &str) -> Result<Self, Fail> {
-        let value = bytes(alloc, digits)?;
-        let option = CustomUtf8Option::from_slice::<BigEndian>(2988, value.as_slice())?;
-        Ok(option.into_owned(alloc)?)
+    fn owned(alloc: Global, body: &[u8]) -> ResultParsing<Self> {
+        let option = CustomUtf8Option::from_slice::<BigEndian>(2988, body)?;
+        option.into_owned(alloc)
     }
 }
 
 impl Owned for CustomBinaryOption<'static> {
-    fn owned(alloc: Global, digits: &str) -> Result<Self, Fail> {
-        let value = bytes(alloc, digits)?;
-        let option = CustomBinaryOption::from_slice::<BigEndian>(2989, value.as_slice())?;
-        Ok(option.into_owned(alloc)?)
+    fn owned(alloc: Global, body: &[u8]) -> ResultParsing<Self> {
+        let option = CustomBinaryOption::from_slice::<BigEndian>(2989, body)?;
+        option.into_owned(alloc)
     }
 }
 
 impl Owned for UnknownOption<'static> {
-    fn owned(alloc: Global, digits: &str) -> Result<Self, Fail> {
-        let value = bytes(alloc, digits)?;
-        Ok(UnknownOption::new(99, 2, value.as_slice()).into_owned(alloc)?)
+    fn owned(alloc: Global, body: &[u8]) -> ResultParsing<Self> {
+        UnknownOption::new(99, 2, body).into_owned(alloc)
     }
 }
 
 impl Owned for CowBytes<'static> {
-    fn owned(alloc: Global, digits: &str) -> Result<Self, Fail> {
-        let value = bytes(alloc, digits)?;
-        Ok(CowBytes::Borrowed(value.as_slice()).into_owned(alloc)?)
+    fn owned(alloc: Global, body: &[u8]) -> ResultParsing<Self> {
+        CowBytes::Borrowed(body).into_owned(alloc)
     }
 }
 
@@ -71,23 +66,18 @@ const BYTES: [(&str, &str); 9] = [
 
 #[test]
 fn shared_options(rt: HostRuntime) -> Result<(), Fail> {
-    assert_eq!(rt;
-        mismatch::<CustomUtf8Option>(rt.alloc(), &CUSTOM_TEXTS)?.as_str(),
-        ""
-    );
-    assert_eq!(rt;
-        mismatch::<CustomBinaryOption>(rt.alloc(), &CUSTOM_BYTES)?.as_str(),
-        ""
-    );
-    assert_eq!(rt;
-        mismatch::<UnknownOption>(rt.alloc(), &UNKNOWN_OPTIONS)?.as_str(),
-        ""
-    );
+    let mut told = String::new(rt.alloc());
+    compare::<CustomUtf8Option>(rt.alloc(), "", &CUSTOM_TEXTS, &mut told)?;
+    compare::<CustomBinaryOption>(rt.alloc(), "", &CUSTOM_BYTES, &mut told)?;
+    compare::<UnknownOption>(rt.alloc(), "", &UNKNOWN_OPTIONS, &mut told)?;
+    assert_eq!(rt; told.as_str(), "");
     Ok(())
 }
 
 #[test]
 fn owned_bytes(rt: HostRuntime) -> Result<(), Fail> {
-    assert_eq!(rt; mismatch::<CowBytes>(rt.alloc(), &BYTES)?.as_str(), "");
+    let mut told = String::new(rt.alloc());
+    compare::<CowBytes>(rt.alloc(), "", &BYTES, &mut told)?;
+    assert_eq!(rt; told.as_str(), "");
     Ok(())
 }

@@ -1,19 +1,17 @@
 //! Name records by themselves.
 
-use crate::rows::{HasTexts, Owned, mismatch, mismatch_or_loan};
+use crate::rows::{HasTexts, Owned, compare, compare_with_texts};
 use crate::texts::{are_owned, record_owns_texts};
 use byteorder::BigEndian;
 use pcap_blocks::{Ipv4Record, Ipv6Record, Record, UnknownRecord};
-use pcap_core::CowBytes;
+use pcap_core::{CowBytes, ResultParsing};
 use std::alloc::Global;
 use std::test::*;
-use test_support::rows::bytes;
 
 impl Owned for Record<'static> {
-    fn owned(alloc: Global, digits: &str) -> Result<Self, Fail> {
-        let slice = bytes(alloc, digits)?;
-        let (_rest, record) = Record::from_slice::<BigEndian>(alloc, slice.as_slice())?;
-        Ok(record.into_owned(alloc)?)
+    fn owned(alloc: Global, body: &[u8]) -> ResultParsing<Self> {
+        let (_rest, record) = Record::from_slice::<BigEndian>(alloc, body)?;
+        record.into_owned(alloc)
     }
 }
 
@@ -24,9 +22,8 @@ impl HasTexts for Record<'static> {
 }
 
 impl Owned for Ipv4Record<'static> {
-    fn owned(alloc: Global, digits: &str) -> Result<Self, Fail> {
-        let value = bytes(alloc, digits)?;
-        Ok(Ipv4Record::from_slice(alloc, value.as_slice())?.into_owned(alloc)?)
+    fn owned(alloc: Global, body: &[u8]) -> ResultParsing<Self> {
+        Ipv4Record::from_slice(alloc, body)?.into_owned(alloc)
     }
 }
 
@@ -37,9 +34,8 @@ impl HasTexts for Ipv4Record<'static> {
 }
 
 impl Owned for Ipv6Record<'static> {
-    fn owned(alloc: Global, digits: &str) -> Result<Self, Fail> {
-        let value = bytes(alloc, digits)?;
-        Ok(Ipv6Record::from_slice(alloc, value.as_slice())?.into_owned(alloc)?)
+    fn owned(alloc: Global, body: &[u8]) -> ResultParsing<Self> {
+        Ipv6Record::from_slice(alloc, body)?.into_owned(alloc)
     }
 }
 
@@ -50,14 +46,13 @@ impl HasTexts for Ipv6Record<'static> {
 }
 
 impl Owned for UnknownRecord<'static> {
-    fn owned(alloc: Global, digits: &str) -> Result<Self, Fail> {
-        let value = bytes(alloc, digits)?;
+    fn owned(alloc: Global, body: &[u8]) -> ResultParsing<Self> {
         let record = UnknownRecord {
             type_: 9,
             length: 1,
-            value: CowBytes::Borrowed(value.as_slice()),
+            value: CowBytes::Borrowed(body),
         };
-        Ok(record.into_owned(alloc)?)
+        record.into_owned(alloc)
     }
 }
 
@@ -108,21 +103,11 @@ const UNKNOWN_RECORDS: [(&str, &str); 1] = [(
 
 #[test]
 fn records(rt: HostRuntime) -> Result<(), Fail> {
-    assert_eq!(rt;
-        mismatch_or_loan::<Record>(rt.alloc(), &RECORDS)?.as_str(),
-        ""
-    );
-    assert_eq!(rt;
-        mismatch_or_loan::<Ipv4Record>(rt.alloc(), &IPV4_RECORDS)?.as_str(),
-        ""
-    );
-    assert_eq!(rt;
-        mismatch_or_loan::<Ipv6Record>(rt.alloc(), &IPV6_RECORDS)?.as_str(),
-        ""
-    );
-    assert_eq!(rt;
-        mismatch::<UnknownRecord>(rt.alloc(), &UNKNOWN_RECORDS)?.as_str(),
-        ""
-    );
+    let mut told = String::new(rt.alloc());
+    compare_with_texts::<Record>(rt.alloc(), "", &RECORDS, &mut told)?;
+    compare_with_texts::<Ipv4Record>(rt.alloc(), "", &IPV4_RECORDS, &mut told)?;
+    compare_with_texts::<Ipv6Record>(rt.alloc(), "", &IPV6_RECORDS, &mut told)?;
+    compare::<UnknownRecord>(rt.alloc(), "", &UNKNOWN_RECORDS, &mut told)?;
+    assert_eq!(rt; told.as_str(), "");
     Ok(())
 }

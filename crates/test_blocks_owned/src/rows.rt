@@ -1,5 +1,6 @@
 //! Rows: bytes written as hexadecimal digits, and the text of the value that they are.
 
+use pcap_core::ResultParsing;
 use std::alloc::Global;
 use std::fmt::Debug;
 use std::test::Fail;
@@ -7,8 +8,8 @@ use test_support::rows::bytes;
 
 // A value that outlives the bytes it was read from.
 pub(crate) trait Owned: Clone + Debug {
-    // The value of these digits, by its own `into_owned`. The bytes that it was read from are dropped before the end.
-    fn owned(alloc: Global, digits: &str) -> Result<Self, Fail>;
+    // The value of these bytes, by its own `into_owned`.
+    fn owned(alloc: Global, body: &[u8]) -> ResultParsing<Self>;
 }
 
 // Such a value, some of whose texts can be looked at. Its own text shows how bytes are held, and not how texts are.
@@ -17,29 +18,57 @@ pub(crate) trait HasTexts: Owned {
     fn owns_texts(&self) -> bool;
 }
 
-// The first row whose value, or its clone, has another text; the empty text where there is none.
-pub(crate) fn mismatch<T: Owned>(alloc: Global, rows: &[(&str, &str)]) -> Result<String, Fail> {
-    for (digits, text) in rows {
-        let value = T::owned(alloc, digits)?;
-        let shown = text_with_clone(alloc, &value)?;
-        if shown.as_str() != *text {
-            return Ok(shown);
-        }
-    }
-    Ok(String::new(alloc))
+// The value of these digits behind those of a head. The bytes that it was read from are dropped before the end.
+fn kept<T: Owned>(alloc: Global, head: &str, digits: &str) -> Result<T, Fail> {
+    let digits = format!(in alloc; "{head} {digits}")?;
+    let body = bytes(alloc, digits.as_str())?;
+    Ok(T::owned(alloc, body.as_slice())?)
 }
 
-// The same, or the first row whose value borrows a text.
-pub(crate) fn mismatch_or_loan<T: HasTexts>(
+// Tells the texts of the values, or of their clones, that are other ones than their rows say. Each row is the digits behind a
+// head, and a text.
+pub(crate) fn compare<T: Owned>(
     alloc: Global,
+    head: &str,
     rows: &[(&str, &str)],
-) -> Result<String, Fail> {
+    told: &mut String,
+) -> Result<(), Fail> {
     for (digits, text) in rows {
-        if !T::owned(alloc, digits)?.owns_texts() {
-            return Ok(format!(in alloc; "{text} borrows a text")?);
-        }
+        let value = kept::<T>(alloc, head, *digits)?;
+        tell(alloc, &value, *text, told)?;
     }
-    mismatch::<T>(alloc, rows)
+    Ok(())
+}
+
+// The same, and the rows whose values borrow a text.
+pub(crate) fn compare_with_texts<T: HasTexts>(
+    alloc: Global,
+    head: &str,
+    rows: &[(&str, &str)],
+    told: &mut String,
+) -> Result<(), Fail> {
+    for (digits, text) in rows {
+        let value = kept::<T>(alloc, head, *digits)?;
+        if !value.owns_texts() {
+            write!(told, "{text} borrows a text. ")?;
+        }
+        tell(alloc, &value, *text, told)?;
+    }
+    Ok(())
+}
+
+// Tells the text of a value where it, or that of its clone, is another one.
+pub(crate) fn tell<T: Clone + Debug>(
+    alloc: Global,
+    value: &T,
+    text: &str,
+    told: &mut String,
+) -> Result<(), Fail> {
+    let shown = text_with_clone(alloc, value)?;
+    if shown.as_str() != text {
+        write!(told, "{shown} in place of {text}. ")?;
+    }
+    Ok(())
 }
 
 // The text of a value, and that of its clone where it is another one. It tells owned bytes from borrowed ones, but not
@@ -53,9 +82,4 @@ pub(crate) fn text_with_clone<T: Clone + Debug>(alloc: Global, value: &T) -> Res
     } else {
         Ok(format!(in alloc; "{text} has the clone {text_of_clone}")?)
     }
-}
-
-// The bytes of these digits, after those of a head.
-pub(crate) fn bytes_after(alloc: Global, head: &str, digits: &str) -> Result<Vec<u8>, Fail> {
-    bytes(alloc, format!(in alloc; "{head} {digits}")?.as_str())
 }

@@ -29,43 +29,64 @@ fn is_lent(reader: &PcapNgReader<Halting>, header: BlockHeader, body: &[u8]) -> 
         && block.endianness() == header.endianness
 }
 
-fn header(type_: BlockType, initial_len: u32, endianness: Endianness) -> BlockHeader {
-    BlockHeader {
-        type_,
-        initial_len,
-        endianness,
-    }
+// A block that is lent: its header, where its body begins, and how many bytes are taken with it.
+struct LentBlock {
+    name: &'static str,
+    type_: BlockType,
+    initial_len: u32,
+    endianness: Endianness,
+    start: usize,
+    end: usize,
+}
+
+const BLOCKS: [LentBlock; 3] = [
+    LentBlock {
+        name: "the interface",
+        type_: BlockType::InterfaceDescription,
+        initial_len: 20,
+        endianness: Endianness::Big,
+        start: 36,
+        end: 48,
+    },
+    LentBlock {
+        name: "the second section",
+        type_: BlockType::SectionHeader,
+        initial_len: 28,
+        endianness: Endianness::Little,
+        start: 56,
+        end: 76,
+    },
+    LentBlock {
+        name: "its interface",
+        type_: BlockType::InterfaceDescription,
+        initial_len: 20,
+        endianness: Endianness::Little,
+        start: 84,
+        end: 96,
+    },
+];
+
+// Whether a reader lends the block of the row next.
+fn lends(reader: &mut PcapNgReader<Halting>, row: &LentBlock) -> bool {
+    let header = BlockHeader {
+        type_: row.type_,
+        initial_len: row.initial_len,
+        endianness: row.endianness,
+    };
+    let body = back(front(&SECTIONS, row.end.saturating_sub(4)), row.start);
+    given(reader) == Some(header)
+        && reader.get_ref().taken == row.end
+        && is_lent(reader, header, body)
 }
 
 #[test]
 fn lent_blocks(rt: HostRuntime) -> Result<(), Fail> {
-    // each block after the first: its header, where its body begins, and how many bytes are taken with it
-    let blocks = [
-        (
-            header(BlockType::InterfaceDescription, 20, Endianness::Big),
-            36,
-            48,
-        ),
-        (
-            header(BlockType::SectionHeader, 28, Endianness::Little),
-            56,
-            76,
-        ),
-        (
-            header(BlockType::InterfaceDescription, 20, Endianness::Little),
-            84,
-            96,
-        ),
-    ];
     for step in [1, 7, 200] {
         let stream = Halting::new(rt.alloc(), &SECTIONS, step)?;
         let mut reader = PcapNgReader::new(rt.alloc(), stream)?;
         assert!(rt; reader.body().is_empty());
-        for (header, start, end) in blocks {
-            assert!(rt; given(&mut reader) == Some(header));
-            assert!(rt; reader.get_ref().taken == end);
-            let body = back(front(&SECTIONS, end.saturating_sub(4)), start);
-            assert!(rt; is_lent(&reader, header, body));
+        for row in &BLOCKS {
+            assert!(rt; lends(&mut reader, row), "{} by {step}", row.name);
         }
         let state = state(rt.alloc(), reader.section(), reader.interfaces())?;
         assert_eq!(rt; state.as_str(), "Little 1.0 -1 [] with ETHERNET/262144/[]");
@@ -112,6 +133,19 @@ fn lent(alloc: Global, reader: &mut PcapNgReader<Halting>) -> Result<String, Fai
     refusal_text(alloc, &given)
 }
 
+// A reader of the capture of these digits, behind its interface.
+fn behind_interface(
+    alloc: Global,
+    digits: &str,
+    step: usize,
+) -> Result<PcapNgReader<Halting>, Fail> {
+    let whole = capture(alloc, digits)?;
+    let stream = Halting::new(alloc, whole.as_slice(), step)?;
+    let mut reader = PcapNgReader::new(alloc, stream)?;
+    let _interface = reader.next_header();
+    Ok(reader)
+}
+
 #[test]
 fn lent_bodies(rt: HostRuntime) -> Result<(), Fail> {
     let table = "
@@ -119,17 +153,24 @@ fn lent_bodies(rt: HostRuntime) -> Result<(), Fail> {
         00000003 00000014 00000001 61000000 00000014 => SimplePacket(SimplePacketBlock { original_len: 1, data_: Borrowed([97, 0, 0, 0]) })
         00000009 00000010 5f3d0a00 00000010 => SystemdJournalExport(SystemdJournalExportBlock { journal_entry: Borrowed([95, 61, 10, 0]) })
     ";
-    for step in [1, 100] {
-        for (digits, told) in rows(rt.alloc(), table)? {
-            let whole = capture(rt.alloc(), digits)?;
-            let stream = Halting::new(rt.alloc(), whole.as_slice(), step)?;
-            let mut reader = PcapNgReader::new(rt.alloc(), stream)?;
-            let _interface = lent(rt.alloc(), &mut reader)?;
+    for (digits, told) in rows(rt.alloc(), table)? {
+        for step in [1, 100] {
+            let mut reader = behind_interface(rt.alloc(), digits, step)?;
             let body = lent(rt.alloc(), &mut reader)?;
             assert_eq!(rt; body.as_str(), told, "at {digits}");
         }
     }
     Ok(())
+}
+
+// The refusal of a reader's next block, what comes behind it, how many bytes are lent then, and what is in force.
+fn refused(alloc: Global, reader: &mut PcapNgReader<Halting>) -> Result<String, Fail> {
+    let refusal = lent(alloc, reader)?;
+    let first = reader.body().len();
+    let after = lent(alloc, reader)?;
+    let second = reader.body().len();
+    let state = state(alloc, reader.section(), reader.interfaces())?;
+    Ok(format!(in alloc; "{refusal} {first}, {after} {second}, {state}")?)
 }
 
 #[test]
@@ -143,19 +184,14 @@ fn refused_lent_blocks(rt: HostRuntime) -> Result<(), Fail> {
         0a0d0d0a 10000000 4d3c2b1a 10000000 => InvalidField("SectionHeaderBlock: block length < 16")
         => None
     "#;
-    for step in [1, 100] {
-        for (digits, told) in rows(rt.alloc(), table)? {
-            let whole = capture(rt.alloc(), digits)?;
-            let stream = Halting::new(rt.alloc(), whole.as_slice(), step)?;
-            let mut reader = PcapNgReader::new(rt.alloc(), stream)?;
-            let _interface = lent(rt.alloc(), &mut reader)?;
-            for told in [told, "None"] {
-                let shown = lent(rt.alloc(), &mut reader)?;
-                assert_eq!(rt; shown.as_str(), told, "at {digits}");
-                assert!(rt; reader.body().is_empty());
-            }
-            let state = state(rt.alloc(), reader.section(), reader.interfaces())?;
-            assert_eq!(rt; state.as_str(), "Big 1.0 -1 [] with ETHERNET/262144/[]");
+    for (digits, told) in rows(rt.alloc(), table)? {
+        let told = format!(in rt.alloc();
+            "{told} 0, None 0, Big 1.0 -1 [] with ETHERNET/262144/[]"
+        )?;
+        for step in [1, 100] {
+            let mut reader = behind_interface(rt.alloc(), digits, step)?;
+            let shown = refused(rt.alloc(), &mut reader)?;
+            assert_eq!(rt; shown.as_str(), told.as_str(), "at {digits}");
         }
     }
     Ok(())
@@ -169,16 +205,19 @@ fn owned_length(reader: &mut PcapNgReader<Halting>) -> Option<usize> {
     }
 }
 
+// Whether a reader lends a body of this length, and then gives an owned one of that length, if any.
+fn lends_and_gives(reader: &mut PcapNgReader<Halting>, lent: usize, owned: Option<usize>) -> bool {
+    let is_given = given(reader).is_some() && reader.body().len() == lent;
+    is_given && owned_length(reader) == owned && reader.body().is_empty()
+}
+
 #[test]
 fn lent_and_owned_blocks(rt: HostRuntime) -> Result<(), Fail> {
     for step in [1, 100] {
         let stream = Halting::new(rt.alloc(), &SECTIONS, step)?;
         let mut reader = PcapNgReader::new(rt.alloc(), stream)?;
-        for (is_given, lent, owned) in [(true, 8, Some(16)), (true, 8, None)] {
-            assert!(rt; given(&mut reader).is_some() == is_given);
-            assert!(rt; reader.body().len() == lent);
-            assert!(rt; owned_length(&mut reader) == owned);
-            assert!(rt; reader.body().is_empty());
+        for owned in [Some(16), None] {
+            assert!(rt; lends_and_gives(&mut reader, 8, owned), "before {owned:?}");
         }
     }
     Ok(())

@@ -4,7 +4,6 @@ use crate::runs::{REFUSED, TORN};
 use crate::told::state;
 use pcap_file::pcapng::blocks::ParsedBlock;
 use pcap_file::pcapng::{Block, PcapNgParser};
-use pcap_file::{Endianness, PcapError};
 use std::alloc::Global;
 use std::test::Fail;
 use test_support::captures::{SECTION, SECTIONS, back, front};
@@ -30,7 +29,22 @@ fn packet_interface(alloc: Global, parser: &PcapNgParser, block: &Block) -> Resu
     }
 }
 
+// The same of the packet of these digits.
+fn interface_of(alloc: Global, parser: &mut PcapNgParser, digits: &str) -> Result<String, Fail> {
+    let slice = bytes(alloc, digits)?;
+    let (_rest, block) = parser.next_block(slice.as_slice())?;
+    packet_interface(alloc, parser, &block)
+}
+
 const LITTLE: &str = "Little 1.0 -1 [] with ETHERNET/262144/[]";
+
+// What a parser gives of these digits, as text, and what is in force then.
+fn refused(alloc: Global, parser: &mut PcapNgParser, digits: &str) -> Result<String, Fail> {
+    let slice = bytes(alloc, digits)?;
+    let error = parser.next_block(slice.as_slice()).err();
+    let state = state(alloc, parser.section(), parser.interfaces())?;
+    Ok(format!(in alloc; "{error:?} {state}")?)
+}
 
 #[test]
 fn refused_blocks_change_nothing(rt: HostRuntime) -> Result<(), Fail> {
@@ -45,14 +59,9 @@ fn refused_blocks_change_nothing(rt: HostRuntime) -> Result<(), Fail> {
         => IncompleteBuffer(12)
     "#;
     for (digits, told) in rows(rt.alloc(), table)? {
-        let slice = bytes(rt.alloc(), digits)?;
-        let shown = match parser.next_block(slice.as_slice()) {
-            Ok((_rest, block)) => format!(in rt.alloc(); "{block:?}")?,
-            Err(error) => format!(in rt.alloc(); "{error:?}")?,
-        };
-        assert_eq!(rt; shown.as_str(), told, "at {digits}");
-        let state = state(rt.alloc(), parser.section(), parser.interfaces())?;
-        assert_eq!(rt; state.as_str(), LITTLE);
+        let shown = refused(rt.alloc(), &mut parser, digits)?;
+        let told = format!(in rt.alloc(); "Some({told}) {LITTLE}")?;
+        assert_eq!(rt; shown.as_str(), told.as_str(), "at {digits}");
     }
     Ok(())
 }
@@ -66,33 +75,30 @@ fn interfaces_of_packets(rt: HostRuntime) -> Result<(), Fail> {
         06000000 20000000 ffffffff 00000000 00000000 00000000 00000000 20000000 => None
     ";
     for (digits, told) in rows(rt.alloc(), table)? {
-        let slice = bytes(rt.alloc(), digits)?;
-        let (_rest, block) = parser.next_block(slice.as_slice())?;
-        let interface = packet_interface(rt.alloc(), &parser, &block)?;
+        let interface = interface_of(rt.alloc(), &mut parser, digits)?;
         assert_eq!(rt; interface.as_str(), told, "at {digits}");
     }
-    let named = bytes(
-        rt.alloc(),
-        "01000000 20000000 0100 0000 00000400 0200 0100 61 000000 0000 0000 20000000",
-    )?;
-    let (_rest, _block) = parser.next_block(named.as_slice())?;
-    let state = state(rt.alloc(), parser.section(), parser.interfaces())?;
+    let named = "01000000 20000000 0100 0000 00000400 0200 0100 61 000000 0000 0000 20000000";
+    let shown = refused(rt.alloc(), &mut parser, named)?;
     assert_eq!(rt;
-        state.as_str(),
-        "Little 1.0 -1 [] with ETHERNET/262144/[] ETHERNET/262144/[IfName(\"a\")]"
+        shown.as_str(),
+        "None Little 1.0 -1 [] with ETHERNET/262144/[] ETHERNET/262144/[IfName(\"a\")]"
     );
     Ok(())
+}
+
+// Why no parser is made of these digits, if none is.
+fn no_parser(alloc: Global, digits: &str) -> Result<String, Fail> {
+    let slice = bytes(alloc, digits)?;
+    let error = PcapNgParser::new(alloc, slice.as_slice()).err();
+    Ok(format!(in alloc; "{error:?}")?)
 }
 
 #[test]
 fn first_blocks(rt: HostRuntime) -> Result<(), Fail> {
     for table in [REFUSED, TORN] {
         for (digits, told) in rows(rt.alloc(), table)? {
-            let slice = bytes(rt.alloc(), digits)?;
-            let shown = format!(in rt.alloc();
-                "{:?}",
-                PcapNgParser::new(rt.alloc(), slice.as_slice()).err()
-            )?;
+            let shown = no_parser(rt.alloc(), digits)?;
             let told = format!(in rt.alloc(); "Some({told})")?;
             assert_eq!(rt; shown.as_str(), told.as_str(), "at {digits}");
         }
@@ -102,8 +108,8 @@ fn first_blocks(rt: HostRuntime) -> Result<(), Fail> {
 
 // A block and its body, as text.
 fn lent(alloc: Global, block: &Block) -> Result<String, Fail> {
-    let body = format!(in alloc; "{:?}", block.parsed(alloc)?)?;
-    Ok(format!(in alloc; "{block:?} {body}")?)
+    let body = block.parsed(alloc)?;
+    Ok(format!(in alloc; "{block:?} {body:?}")?)
 }
 
 // The same, where both outlive the slice.
@@ -111,6 +117,17 @@ fn kept(alloc: Global, block: Block) -> Result<String, Fail> {
     let body = block.parsed(alloc)?.into_owned(alloc)?;
     let block = block.into_owned(alloc)?;
     Ok(format!(in alloc; "{block:?} {body:?}")?)
+}
+
+// A parser's next block, which takes all these digits, as text: what is left, its order, the block that is lent, and the
+// same owned.
+fn both(alloc: Global, parser: &mut PcapNgParser, digits: &str) -> Result<String, Fail> {
+    let slice = bytes(alloc, digits)?;
+    let (rest, block) = parser.next_block(slice.as_slice())?;
+    let lent = lent(alloc, &block)?;
+    let order = block.endianness();
+    let kept = kept(alloc, block)?;
+    Ok(format!(in alloc; "{rest:?} {order:?} {lent} {kept}")?)
 }
 
 #[test]
@@ -122,14 +139,10 @@ fn owned_blocks(rt: HostRuntime) -> Result<(), Fail> {
         00000009 00000010 5f3d0a00 00000010 => Block { type_: SystemdJournalExport, initial_len: 16, body: Borrowed([95, 61, 10, 0]), trailer_len: 16, endianness: Big } SystemdJournalExport(SystemdJournalExportBlock { journal_entry: Borrowed([95, 61, 10, 0]) })
     "#;
     for (digits, told) in rows(rt.alloc(), table)? {
-        let slice = bytes(rt.alloc(), digits)?;
-        let (rest, block) = parser.next_block(slice.as_slice())?;
-        assert!(rt; rest.is_empty() && block.endianness() == Endianness::Big);
-        let lent = lent(rt.alloc(), &block)?;
-        assert_eq!(rt; lent.as_str(), told, "at {digits}");
-        let kept = kept(rt.alloc(), block)?;
+        let shown = both(rt.alloc(), &mut parser, digits)?;
         let owned = told.replace(rt.alloc(), "Borrowed(", "Owned(")?;
-        assert_eq!(rt; kept.as_str(), owned.as_str(), "at {digits}");
+        let told = format!(in rt.alloc(); "[] Big {told} {owned}")?;
+        assert_eq!(rt; shown.as_str(), told.as_str(), "at {digits}");
     }
     Ok(())
 }

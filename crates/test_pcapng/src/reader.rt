@@ -44,14 +44,14 @@ fn every_beginning(rt: HostRuntime) -> Result<(), Fail> {
     for step in [1, 5, 100] {
         for end in 0..97 {
             let stream = Halting::new(rt.alloc(), front(&SECTIONS, end), step)?;
-            let read = read_pcapng(rt.alloc(), stream, 9);
             let (used, wanted) = beginning(end);
             let kind = if wanted == end {
                 None
             } else {
                 Some(ErrorKind::UnexpectedEof)
             };
-            assert!(rt; is_read(&read, used, kind, false), "at {end}");
+            let is_right = is_read(&read_pcapng(rt.alloc(), stream, 9), used, kind, false);
+            assert!(rt; is_right, "at {end}");
         }
     }
     Ok(())
@@ -65,44 +65,61 @@ fn every_failed_read(rt: HostRuntime) -> Result<(), Fail> {
             let mut stream = Halting::new(rt.alloc(), &SECTIONS, 1)?;
             stream.fails_at = end.saturating_add(1);
             stream.kind = kind;
-            let read = read_pcapng(rt.alloc(), stream, 9);
             let (used, _wanted) = beginning(end);
-            assert!(rt; is_read(&read, used, Some(kind), true), "at {end}");
+            let is_right = is_read(&read_pcapng(rt.alloc(), stream, 9), used, Some(kind), true);
+            assert!(rt; is_right, "at {end}");
         }
     }
     Ok(())
 }
 
+// A run that takes so many blocks at most, what comes, and how many bytes are taken.
+struct Most {
+    most: u64,
+    told: &'static str,
+    taken: usize,
+}
+
+const MOST: [Most; 4] = [
+    Most {
+        most: 0,
+        told: "Big 1.0 -1 [] with",
+        taken: 28,
+    },
+    Most {
+        most: 1,
+        told: "InterfaceDescription/20/20/Big Big 1.0 -1 [] with ETHERNET/262144/[]",
+        taken: 48,
+    },
+    Most {
+        most: 2,
+        told: "InterfaceDescription/20/20/Big SectionHeader/28/28/Little Little 1.0 -1 [] with",
+        taken: 76,
+    },
+    Most {
+        most: 3,
+        told: "InterfaceDescription/20/20/Big SectionHeader/28/28/Little InterfaceDescription/20/20/Little Little 1.0 -1 [] with ETHERNET/262144/[]",
+        taken: 96,
+    },
+];
+
+// A run that was refused nothing, as text: its blocks, what is in force after them, and how many bytes were taken.
+fn run(alloc: Global, step: usize, most: u64) -> Result<String, Fail> {
+    let stream = Halting::new(alloc, &SECTIONS, step)?;
+    let read = read_pcapng(alloc, stream, most)?;
+    let blocks = blocks(alloc, read.blocks.as_slice())?;
+    let state = state(alloc, read.reader.section(), read.reader.interfaces())?;
+    let taken = read.reader.get_ref().taken;
+    Ok(format!(in alloc; "{blocks}{state} {taken} {:?}", read.fault)?)
+}
+
 #[test]
 fn most_blocks(rt: HostRuntime) -> Result<(), Fail> {
-    // how many blocks are wanted, what comes, and how many bytes are taken
-    let rows = [
-        (0, "Big 1.0 -1 [] with", 28),
-        (
-            1,
-            "InterfaceDescription/20/20/Big Big 1.0 -1 [] with ETHERNET/262144/[]",
-            48,
-        ),
-        (
-            2,
-            "InterfaceDescription/20/20/Big SectionHeader/28/28/Little Little 1.0 -1 [] with",
-            76,
-        ),
-        (
-            3,
-            "InterfaceDescription/20/20/Big SectionHeader/28/28/Little InterfaceDescription/20/20/Little Little 1.0 -1 [] with ETHERNET/262144/[]",
-            96,
-        ),
-    ];
     for step in [1, 100] {
-        for (most, told, taken) in rows {
-            let stream = Halting::new(rt.alloc(), &SECTIONS, step)?;
-            let read = read_pcapng(rt.alloc(), stream, most)?;
-            let blocks = blocks(rt.alloc(), read.blocks.as_slice())?;
-            let state = state(rt.alloc(), read.reader.section(), read.reader.interfaces())?;
-            let shown = format!(in rt.alloc(); "{blocks}{state}")?;
-            assert_eq!(rt; shown.as_str(), told);
-            assert!(rt; read.fault.is_none() && read.reader.get_ref().taken == taken);
+        for row in &MOST {
+            let shown = run(rt.alloc(), step, row.most)?;
+            let told = format!(in rt.alloc(); "{} {} None", row.told, row.taken)?;
+            assert_eq!(rt; shown.as_str(), told.as_str());
         }
     }
     Ok(())
@@ -126,32 +143,40 @@ fn makes_none<T: Read + Drop>(alloc: Global, stream: T) -> bool {
     PcapNgReader::new(alloc, stream).is_err()
 }
 
+// Why no reader is made of these bytes, if none is.
+fn no_reader(alloc: Global, bytes: &[u8], step: usize) -> Result<Option<PcapError>, Fail> {
+    let stream = Halting::new(alloc, bytes, step)?;
+    Ok(PcapNgReader::new(alloc, stream).err())
+}
+
+// Whether no reader is made of these bytes and more, and no more than these are taken.
+fn takes_no_more(alloc: Global, bytes: &[u8], step: usize) -> Result<bool, Fail> {
+    let mut more = Vec::from_slice(alloc, bytes)?;
+    more.extend_from_slice(&SECTION)?;
+    let mut stream = Halting::new(alloc, more.as_slice(), step)?;
+    Ok(makes_none(alloc, &mut stream) && stream.taken <= bytes.len())
+}
+
 #[test]
 fn first_blocks(rt: HostRuntime) -> Result<(), Fail> {
-    for step in [1, 100] {
-        for (digits, told) in rows(rt.alloc(), REFUSED)? {
-            let bytes = bytes(rt.alloc(), digits)?;
-            let stream = Halting::new(rt.alloc(), bytes.as_slice(), step)?;
-            let error = PcapNgReader::new(rt.alloc(), stream).err();
+    for (digits, told) in rows(rt.alloc(), REFUSED)? {
+        let bytes = bytes(rt.alloc(), digits)?;
+        let told = format!(in rt.alloc(); "Some({told})")?;
+        for step in [1, 100] {
+            let error = no_reader(rt.alloc(), bytes.as_slice(), step)?;
             let shown = format!(in rt.alloc(); "{error:?}")?;
-            let told = format!(in rt.alloc(); "Some({told})")?;
             assert_eq!(rt; shown.as_str(), told.as_str(), "at {digits}");
-            let mut more = Vec::from_slice(rt.alloc(), bytes.as_slice())?;
-            more.extend_from_slice(&SECTION)?;
-            let mut stream = Halting::new(rt.alloc(), more.as_slice(), step)?;
             assert!(rt;
-                makes_none(rt.alloc(), &mut stream) && stream.taken <= bytes.len(),
+                takes_no_more(rt.alloc(), bytes.as_slice(), step)?,
                 "at {digits}"
             );
         }
-        for (digits, _told) in rows(rt.alloc(), TORN)? {
-            let bytes = bytes(rt.alloc(), digits)?;
-            let stream = Halting::new(rt.alloc(), bytes.as_slice(), step)?;
-            let error = PcapNgReader::new(rt.alloc(), stream).err();
-            assert!(rt;
-                kind_of(&error) == Some(ErrorKind::UnexpectedEof),
-                "at {digits}"
-            );
+    }
+    for (digits, _told) in rows(rt.alloc(), TORN)? {
+        let bytes = bytes(rt.alloc(), digits)?;
+        for step in [1, 100] {
+            let kind = kind_of(&no_reader(rt.alloc(), bytes.as_slice(), step)?);
+            assert!(rt; kind == Some(ErrorKind::UnexpectedEof), "at {digits}");
         }
     }
     Ok(())
@@ -167,29 +192,33 @@ fn next(alloc: Global, reader: &mut PcapNgReader<Halting>) -> Result<String, Fai
     }
 }
 
+// What a reader gives behind a section, as text: three times, then what is in force, and whether a read failed.
+fn three(alloc: Global, digits: &str, step: usize) -> Result<String, Fail> {
+    let mut whole = Vec::from_slice(alloc, &SECTION)?;
+    whole.extend_from_slice(bytes(alloc, digits)?.as_slice())?;
+    let stream = Halting::new(alloc, whole.as_slice(), step)?;
+    let mut reader = PcapNgReader::new(alloc, stream)?;
+    let mut shown = String::new(alloc);
+    for _turn in 0..3 {
+        write!(shown, "{} ", next(alloc, &mut reader)?)?;
+    }
+    let state = state(alloc, reader.section(), reader.interfaces())?;
+    write!(shown, "{state} {}", reader.failed())?;
+    Ok(shown)
+}
+
 #[test]
 fn refused_blocks(rt: HostRuntime) -> Result<(), Fail> {
-    for step in [1, 100] {
-        for (digits, told) in rows(rt.alloc(), REFUSED_BLOCKS)? {
-            let mut all = bytes(rt.alloc(), "00000001 00000014 0001 0000 00040000 00000014")?;
-            all.extend_from_slice(bytes(rt.alloc(), digits)?.as_slice())?;
-            let mut whole = Vec::from_slice(rt.alloc(), &SECTION)?;
-            whole.extend_from_slice(all.as_slice())?;
-            let stream = Halting::new(rt.alloc(), whole.as_slice(), step)?;
-            let mut reader = PcapNgReader::new(rt.alloc(), stream)?;
-            assert_eq!(rt;
-                next(rt.alloc(), &mut reader)?.as_str(),
-                "InterfaceDescription"
-            );
-            assert_eq!(rt;
-                next(rt.alloc(), &mut reader)?.as_str(),
-                told,
-                "at {digits}"
-            );
-            assert_eq!(rt; next(rt.alloc(), &mut reader)?.as_str(), "None");
-            let state = state(rt.alloc(), reader.section(), reader.interfaces())?;
-            assert_eq!(rt; state.as_str(), "Big 1.0 -1 [] with ETHERNET/262144/[]");
-            assert!(rt; !reader.failed());
+    for (digits, told) in rows(rt.alloc(), REFUSED_BLOCKS)? {
+        let digits = format!(in rt.alloc();
+            "00000001 00000014 0001 0000 00040000 00000014 {digits}"
+        )?;
+        let told = format!(in rt.alloc();
+            "InterfaceDescription {told} None Big 1.0 -1 [] with ETHERNET/262144/[] false"
+        )?;
+        for step in [1, 100] {
+            let shown = three(rt.alloc(), digits.as_str(), step)?;
+            assert_eq!(rt; shown.as_str(), told.as_str(), "at {digits}");
         }
     }
     Ok(())

@@ -139,9 +139,14 @@ fn is_run(run: &ResultParsing<NgRun>, used: usize, missing: usize) -> bool {
 #[test]
 fn every_beginning(rt: HostRuntime) -> Result<(), Fail> {
     for end in 0..97 {
-        let run = parse_pcapng(rt.alloc(), front(&SECTIONS, end));
         let (used, wanted) = beginning(end);
-        assert!(rt; is_run(&run, used, wanted.saturating_sub(end)), "at {end}");
+        let missing = wanted.saturating_sub(end);
+        let is_right = is_run(
+            &parse_pcapng(rt.alloc(), front(&SECTIONS, end)),
+            used,
+            missing,
+        );
+        assert!(rt; is_right, "at {end}");
     }
     Ok(())
 }

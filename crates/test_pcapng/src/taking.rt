@@ -95,42 +95,63 @@ fn every_failed_read(rt: HostRuntime) -> Result<(), Fail> {
     Ok(())
 }
 
+// Why no parser is made of a stream of these bytes and the others, and how many bytes are taken.
+fn first_of(
+    alloc: Global,
+    bytes: &[u8],
+    others: &[u8],
+    step: usize,
+) -> Result<(usize, String), Fail> {
+    let mut whole = Vec::from_slice(alloc, bytes)?;
+    whole.extend_from_slice(others)?;
+    let mut stream = Halting::new(alloc, whole.as_slice(), step)?;
+    let shown = first(alloc, &mut stream)?;
+    Ok((stream.taken, shown))
+}
+
 #[test]
 fn first_blocks(rt: HostRuntime) -> Result<(), Fail> {
-    for step in [1, 100] {
-        for (digits, told) in rows(rt.alloc(), REFUSED)? {
-            let bytes = bytes(rt.alloc(), digits)?;
-            let mut more = Vec::from_slice(rt.alloc(), bytes.as_slice())?;
-            more.extend_from_slice(&SECTION)?;
-            let mut stream = Halting::new(rt.alloc(), more.as_slice(), step)?;
-            let shown = first(rt.alloc(), &mut stream)?;
-            assert_eq!(rt; shown.as_str(), told, "at {digits}");
-            assert!(rt; stream.taken <= bytes.len(), "at {digits}");
+    for (digits, told) in rows(rt.alloc(), REFUSED)? {
+        let bytes = bytes(rt.alloc(), digits)?;
+        for step in [1, 100] {
+            let (taken, shown) = first_of(rt.alloc(), bytes.as_slice(), &SECTION, step)?;
+            assert!(rt;
+                shown.as_str() == told && taken <= bytes.len(),
+                "{shown} at {digits}"
+            );
         }
-        for (digits, _told) in rows(rt.alloc(), TORN)? {
-            let bytes = bytes(rt.alloc(), digits)?;
-            let mut stream = Halting::new(rt.alloc(), bytes.as_slice(), step)?;
-            let shown = first(rt.alloc(), &mut stream)?;
+    }
+    for (digits, _told) in rows(rt.alloc(), TORN)? {
+        let bytes = bytes(rt.alloc(), digits)?;
+        for step in [1, 100] {
+            let (_taken, shown) = first_of(rt.alloc(), bytes.as_slice(), &[], step)?;
             assert_eq!(rt; shown.as_str(), "UnexpectedEof", "at {digits}");
         }
     }
     Ok(())
 }
 
+// What a parser takes off a stream behind the interface and these digits, as text: two blocks, and what is in force then.
+fn two(alloc: Global, digits: &str, step: usize) -> Result<String, Fail> {
+    let mut whole = Vec::from_slice(alloc, front(&SECTIONS, 48))?;
+    whole.extend_from_slice(bytes(alloc, digits)?.as_slice())?;
+    let mut stream = Halting::new(alloc, whole.as_slice(), step)?;
+    let mut parser = PcapNgParser::from_reader(alloc, &mut stream)?;
+    let one = next(alloc, &mut parser, &mut stream)?;
+    let two = next(alloc, &mut parser, &mut stream)?;
+    let state = state(alloc, parser.section(), parser.interfaces())?;
+    Ok(format!(in alloc; "{one} {two} {state}")?)
+}
+
 #[test]
 fn refused_blocks(rt: HostRuntime) -> Result<(), Fail> {
-    for step in [1, 100] {
-        for (digits, told) in rows(rt.alloc(), REFUSED_BLOCKS)? {
-            let mut whole = Vec::from_slice(rt.alloc(), front(&SECTIONS, 48))?;
-            whole.extend_from_slice(bytes(rt.alloc(), digits)?.as_slice())?;
-            let mut stream = Halting::new(rt.alloc(), whole.as_slice(), step)?;
-            let mut parser = PcapNgParser::from_reader(rt.alloc(), &mut stream)?;
-            let one = next(rt.alloc(), &mut parser, &mut stream)?;
-            assert_eq!(rt; one.as_str(), "InterfaceDescription");
-            let two = next(rt.alloc(), &mut parser, &mut stream)?;
-            assert_eq!(rt; two.as_str(), told, "at {digits}");
-            let state = state(rt.alloc(), parser.section(), parser.interfaces())?;
-            assert_eq!(rt; state.as_str(), "Big 1.0 -1 [] with ETHERNET/262144/[]");
+    for (digits, told) in rows(rt.alloc(), REFUSED_BLOCKS)? {
+        let told = format!(in rt.alloc();
+            "InterfaceDescription {told} Big 1.0 -1 [] with ETHERNET/262144/[]"
+        )?;
+        for step in [1, 100] {
+            let shown = two(rt.alloc(), digits, step)?;
+            assert_eq!(rt; shown.as_str(), told.as_str(), "at {digits}");
         }
     }
     Ok(())
