@@ -1,6 +1,6 @@
 //! The word `blocks`: a line for the first section of a PcapNg capture, and one for each of its blocks.
 
-ghost use Rattle.std.specs.Prelude.{◌≡◌, ◌≤◌, ◌+◌, ◌++◌, [], drop, IfSome, IfErr, OnOk, IsSome, MatchResult, string_bytes};
+ghost use Rattle.std.specs.Prelude.{⊤, ◌≡◌, ◌≤◌, ◌+◌, ◌++◌, [], drop, IfSome, IfErr, OnOk, IsSome, MatchResult, string_bytes};
 ghost use Rattle.pcap_blocks.specs.SectionHeader.{section_of, magic_order};
 ghost use Rattle.pcap_file.specs.Blocks.{Item, block_format};
 ghost use Rattle.pcap_file.specs.Frames.{framed_of};
@@ -126,6 +126,8 @@ impl Lister for PcapNgParser {
     ghost State = { State };
 
     ghost Value = { Item };
+
+    ghost grows = { ⊤ };
 
     ghost is_line = { IsItemLine };
 

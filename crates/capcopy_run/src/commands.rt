@@ -7,7 +7,7 @@ ghost use Rattle.capcopy_run.specs.declared.exit.Exit.TheVariants as exits;
 ghost use Rattle.capcopy_run.specs.BlockLines.{block_lines};
 ghost use Rattle.capcopy_run.specs.Commands.{AsksFor};
 ghost use Rattle.capcopy_run.specs.Copying.{CopiesUntil};
-ghost use Rattle.capcopy_run.specs.Exits.{IsOfKnownWord, exit_of};
+ghost use Rattle.capcopy_run.specs.Exits.{IsMemoryExit, IsOfKnownWord, exit_of};
 ghost use Rattle.capcopy_run.specs.Listing.{ListsUntil};
 ghost use Rattle.capcopy_run.specs.PacketLines.{packet_lines};
 ghost use Rattle.capcopy_run.specs.Words.{AskForList, AskForBlocks, AskForCopy, AskForNothing};
@@ -65,6 +65,7 @@ pub fn run<R: BufRead, W: Write>(
 ) -> Exit
     ensures listed { AskForList words.now → IfSome (R.remaining input.old) (λ s.
         ListsUntil packet_lines most s (W.contents output.old) (W.contents output.new) result) }
+    ensures list_takes_no_memory { AskForList words.now → IsMemoryExit result → ⊥ }
     ensures blocks_listed { AskForBlocks words.now → IfSome (R.remaining input.old) (λ s.
         ListsUntil block_lines most s (W.contents output.old) (W.contents output.new) result) }
     ensures copied { (under : Under) → AskForCopy under words.now →
