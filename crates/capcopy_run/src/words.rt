@@ -78,10 +78,10 @@ impl Words for WordList<'_> {
         let Some(word) = self.words.get(index) else {
             return Err(FillError::NotPresent);
         };
-        let Some(front) = room.get_mut(..word.len()) else {
+        if room.len() < word.len() {
             return Err(FillError::TooLong);
-        };
-        front.copy_from_slice(word);
+        }
+        room[..word.len()].copy_from_slice(word);
         Ok(word.len())
     }
 }

@@ -1,5 +1,4 @@
-use Rattle.std.proofs.Common.{◌≡◌, ◌∙◌, ap}
-use Rattle.std.specs.Io.Buffered.{reader_remaining}
+use Rattle.std.proofs.Common.{◌∙◌, ap}
 use Rattle.capcopy_run.specs.Uninterrupted.{stream_of}
 use Rattle.capcopy_run.specs.Words.{texts_of}
 use Rattle.capcopy_run.proofs.AskedWords.{buffer_left, buffered_runs}
