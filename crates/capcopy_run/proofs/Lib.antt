@@ -9,3 +9,4 @@ mod Kept
 mod Turns
 mod Digits
 mod FixedPoint
+mod AskedWords

@@ -43,9 +43,15 @@ EndsAt (IoError e) exit = exit ≡ Io (IoError e)
 EndsAt (OutOfMemory e) exit = exit ≡ Memory
 EndsAt error exit = exit ≡ Refused error
 
+-- the exit is want of memory
+abbrev pub IsMemoryExit : Exit → Type 0
+IsMemoryExit Memory = ⊤
+IsMemoryExit exit = ⊥
+
 -- the exit is one of a known word, and an `Io` holds the error of a read, a write or an early end
 abbrev pub IsOfKnownWord : Exit → Type 0
 IsOfKnownWord Usage = ⊥
+IsOfKnownWord (Refused (IoError e)) = ⊥
 IsOfKnownWord (Io (IoError e)) = ⊤
 IsOfKnownWord (Io error) = ⊥
 IsOfKnownWord exit = ⊤

@@ -6,6 +6,7 @@ pub mod Exits
 pub mod Lines
 pub mod Listing
 pub mod PacketLines
+pub mod Runs
 pub mod Skipping
 pub mod Turns
 pub mod Uninterrupted

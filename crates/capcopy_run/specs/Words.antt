@@ -18,24 +18,24 @@ abbrev pub resolution_word : TsResolution → List ℕ
 resolution_word MicroSecond = codes "micro"
 resolution_word NanoSecond = codes "nano"
 
--- the texts of words, wherever they lie
+-- the words themselves, wherever they lie
 abbrev pub texts_of : List (Bor (List ℕ)) → List (List ℕ)
 texts_of words = map (λ word. word.now) words
 
 -- the words are the one word list
-abbrev pub AskForList : List (Bor (List ℕ)) → Type 0
-AskForList words = texts_of words ≡ codes "list" ∷ []
+abbrev pub AskForList : List (List ℕ) → Type 0
+AskForList words = words ≡ codes "list" ∷ []
 
 -- the words are the one word blocks
-abbrev pub AskForBlocks : List (Bor (List ℕ)) → Type 0
-AskForBlocks words = texts_of words ≡ codes "blocks" ∷ []
+abbrev pub AskForBlocks : List (List ℕ) → Type 0
+AskForBlocks words = words ≡ codes "blocks" ∷ []
 
 -- the words ask for a copy under this: the word copy, and for an order and a resolution the words of both after it
-abbrev pub AskForCopy : Under → List (Bor (List ℕ)) → Type 0
-AskForCopy Same words = texts_of words ≡ codes "copy" ∷ []
-AskForCopy (Order e r) words = texts_of words ≡ codes "copy" ∷ order_word e ∷ resolution_word r ∷ []
+abbrev pub AskForCopy : Under → List (List ℕ) → Type 0
+AskForCopy Same words = words ≡ codes "copy" ∷ []
+AskForCopy (Order e r) words = words ≡ codes "copy" ∷ order_word e ∷ resolution_word r ∷ []
 AskForCopy (Header header) words = ⊥
 
 -- the words are none that the program knows
-abbrev pub AskForNothing : List (Bor (List ℕ)) → Type 0
+abbrev pub AskForNothing : List (List ℕ) → Type 0
 AskForNothing words = (AskForList words → ⊥) × (AskForBlocks words → ⊥) × ((under : Under) → AskForCopy under words → ⊥)

@@ -1,8 +1,9 @@
 //! The word `blocks`: a line for the first section of a PcapNg capture, and one for each of its blocks.
 
-ghost use Rattle.std.specs.Prelude.{◌≡◌, ◌≤◌, ◌+◌, ◌++◌, [], drop, IfSome, IfErr, OnOk, IsSome, MatchResult, string_bytes};
+ghost use Rattle.std.specs.Prelude.{⊤, ◌≡◌, ◌≤◌, ◌+◌, ◌++◌, [], drop, IfSome, IfErr, OnOk, IsSome, MatchResult, string_bytes};
 ghost use Rattle.pcap_blocks.specs.SectionHeader.{section_of, magic_order};
 ghost use Rattle.pcap_file.specs.Blocks.{Item, block_format};
+ghost use Rattle.pcap_file.specs.Bodies.{GrowsInBody};
 ghost use Rattle.pcap_file.specs.Frames.{framed_of};
 ghost use Rattle.pcap_file.specs.Parser.{state_of};
 ghost use Rattle.pcap_file.specs.State.{State};
@@ -80,7 +81,7 @@ fn write_section<W: Write>(
 
 // Whether a block's body can be read.
 fn body_word(alloc: Global, block: &Block) -> Result<&'static str, Exit>
-    ensures { MatchResult result (λ word. IsBodyWord (framed_of block.now) word.now) (λ exit. exit ≡ exits.Memory) }
+    ensures { MatchResult result (λ word. IsBodyWord (framed_of block.now) word.now) (λ exit. (exit ≡ exits.Memory) × GrowsInBody (framed_of block.now)) }
 {
     match block.parsed(alloc) {
         Ok(_) => Ok("ok"),
@@ -126,6 +127,8 @@ impl Lister for PcapNgParser {
     ghost State = { State };
 
     ghost Value = { Item };
+
+    ghost grows = { ⊤ };
 
     ghost is_line = { IsItemLine };
 

@@ -7,10 +7,10 @@ ghost use Rattle.capcopy_run.specs.declared.exit.Exit.TheVariants as exits;
 ghost use Rattle.capcopy_run.specs.BlockLines.{block_lines};
 ghost use Rattle.capcopy_run.specs.Commands.{AsksFor};
 ghost use Rattle.capcopy_run.specs.Copying.{CopiesUntil};
-ghost use Rattle.capcopy_run.specs.Exits.{IsOfKnownWord, exit_of};
+ghost use Rattle.capcopy_run.specs.Exits.{IsMemoryExit, IsOfKnownWord, exit_of};
 ghost use Rattle.capcopy_run.specs.Listing.{ListsUntil};
 ghost use Rattle.capcopy_run.specs.PacketLines.{packet_lines};
-ghost use Rattle.capcopy_run.specs.Words.{AskForList, AskForBlocks, AskForCopy, AskForNothing};
+ghost use Rattle.capcopy_run.specs.Words.{texts_of, AskForList, AskForBlocks, AskForCopy, AskForNothing};
 
 use crate::Exit;
 use crate::blocks::blocks;
@@ -29,7 +29,7 @@ pub(crate) enum Command {
 }
 
 fn asked_for(words: &[&str]) -> Option<Command>
-    ensures { AsksFor words.now result }
+    ensures { AsksFor (texts_of words.now) result }
 {
     let under = match words {
         ["list"] => return Some(Command::List),
@@ -63,16 +63,17 @@ pub fn run<R: BufRead, W: Write>(
     output: &mut W,
     most: u64,
 ) -> Exit
-    ensures listed { AskForList words.now → IfSome (R.remaining input.old) (λ s.
+    ensures listed { AskForList (texts_of words.now) → IfSome (R.remaining input.old) (λ s.
         ListsUntil packet_lines most s (W.contents output.old) (W.contents output.new) result) }
-    ensures blocks_listed { AskForBlocks words.now → IfSome (R.remaining input.old) (λ s.
+    ensures list_takes_no_memory { AskForList (texts_of words.now) → IsMemoryExit result → ⊥ }
+    ensures blocks_listed { AskForBlocks (texts_of words.now) → IfSome (R.remaining input.old) (λ s.
         ListsUntil block_lines most s (W.contents output.old) (W.contents output.new) result) }
-    ensures copied { (under : Under) → AskForCopy under words.now →
+    ensures copied { (under : Under) → AskForCopy under (texts_of words.now) →
         CopiesUntil under (R.remaining input.old) (R.remaining input.new) (W.contents output.old) (W.contents output.new) most result }
-    ensures known { (AskForNothing words.now → ⊥) → IsOfKnownWord result }
-    ensures usage { AskForNothing words.now → result ≡ exits.Usage }
-    ensures unread { AskForNothing words.now → Keeps (R.remaining input.old) (R.remaining input.new) }
-    ensures unwritten { AskForNothing words.now → Keeps (W.contents output.old) (W.contents output.new) }
+    ensures known { (AskForNothing (texts_of words.now) → ⊥) → IsOfKnownWord result }
+    ensures usage { AskForNothing (texts_of words.now) → result ≡ exits.Usage }
+    ensures unread { AskForNothing (texts_of words.now) → Keeps (R.remaining input.old) (R.remaining input.new) }
+    ensures unwritten { AskForNothing (texts_of words.now) → Keeps (W.contents output.old) (W.contents output.new) }
 {
     match asked_for(words) {
         None => Exit::Usage,

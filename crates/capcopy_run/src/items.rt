@@ -1,6 +1,7 @@
 //! Items of a capture that are listed, one line each.
 
-ghost use Rattle.std.specs.Prelude.{◌≡◌, ◌≤◌, ◌<◌, ◌+◌, ℕ, List, length, true, IfOk};
+ghost use Rattle.std.specs.Prelude.{◌≡◌, ◌≤◌, ◌<◌, ◌+◌, ℕ, List, length, true, IfOk, IfErr};
+ghost use Rattle.capcopy_run.specs.Exits.{IsMemoryExit};
 ghost use Rattle.pcap_core.specs.Format.{Format};
 ghost use Rattle.capcopy_run.specs.Listing.{ListsItems};
 ghost use Rattle.capcopy_run.specs.Turns.{TurnGives, WalkGives};
@@ -16,6 +17,8 @@ pub(crate) trait Lister {
     ghost State: { Type 0 };
 
     ghost Value: { Type 0 };
+
+    ghost grows: { Type 0 };
 
     ghost is_line: { ℕ → Value → List ℕ → Type 0 };
 
@@ -38,6 +41,7 @@ pub(crate) trait Lister {
         ensures same { setting self.new ≡ setting self.old }
         ensures counts { (listed.old ≤ listed.new) × (listed.new ≤ most) }
         ensures within { IfOk result (λ used. used ≤ length shown.now) }
+        ensures memory { IfErr result (λ exit. IsMemoryExit exit → grows) }
         ensures walks { WalkGives is_line (format (setting self.old)) (state self.old) (state self.new) shown.now (W.contents output.old) (W.contents output.new) listed.old listed.new most result };
 
     /// Writes the line of the item at the front of the input, and says whether there was one.
@@ -52,6 +56,7 @@ pub(crate) trait Lister {
         requires { listed.old < most }
         ensures same { setting self.new ≡ setting self.old }
         ensures counts { IfOk result (λ more. (more ≡ true → listed.new ≡ listed.old + 1)) }
+        ensures memory { IfErr result (λ exit. IsMemoryExit exit → grows) }
         ensures turn { TurnGives is_line (format (setting self.old)) (state self.old) (state self.new) (R.remaining input.old) (R.remaining input.new) (W.contents output.old) (W.contents output.new) listed.old listed.new most result };
 }
 
@@ -68,6 +73,7 @@ fn list_some<L: Lister, R: BufRead, W: Write>(
     requires { listed.old < most }
     ensures same { L.setting lister.new ≡ L.setting lister.old }
     ensures counts { IfOk result (λ more. (more ≡ true → (listed.old < listed.new) × (listed.new ≤ most))) }
+    ensures memory { IfErr result (λ exit. IsMemoryExit exit → L.grows) }
     ensures turn { TurnGives L.is_line (L.format (L.setting lister.old)) (L.state lister.old) (L.state lister.new) (R.remaining input.old) (R.remaining input.new) (W.contents output.old) (W.contents output.new) listed.old listed.new most result }
 {
     output.flush()?;
@@ -92,7 +98,8 @@ pub(crate) fn list_items<L: Lister, R: BufRead, W: Write>(
     output: &mut W,
     most: u64,
 ) -> Result<(), Exit>
-    ensures { ListsItems L.is_line (L.format (L.setting lister.old)) (L.state lister.old) (R.remaining input.old) (W.contents output.old) (W.contents output.new) most result }
+    ensures memory { IfErr result (λ exit. IsMemoryExit exit → L.grows) }
+    ensures lists { ListsItems L.is_line (L.format (L.setting lister.old)) (L.state lister.old) (R.remaining input.old) (W.contents output.old) (W.contents output.new) most result }
 {
     let mut listed = 0;
     while listed < most {

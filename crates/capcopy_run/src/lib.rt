@@ -11,7 +11,9 @@ mod line;
 mod list;
 mod output;
 mod uninterrupted;
+mod words;
 
 pub use commands::run;
 pub use exit::Exit;
 pub use uninterrupted::Uninterrupted;
+pub use words::{Arguments, MOST, WordList, Words, run_words};

@@ -1,6 +1,7 @@
 //! What goes out.
 
-ghost use Rattle.std.specs.Prelude.{◌≡◌};
+ghost use Rattle.std.specs.Prelude.{◌≡◌, IfErr};
+ghost use Rattle.capcopy_run.specs.Exits.{IsMemoryExit};
 ghost use Rattle.capcopy_run.specs.Lines.{WritesLine};
 
 use crate::Exit;
@@ -9,7 +10,8 @@ use std::io::{ErrorKind, Write};
 
 // Writes all of a line, or up to a call that fails or takes nothing of it.
 pub(crate) fn put_line<W: Write>(output: &mut W, line: &[u8]) -> Result<(), Exit>
-    ensures { WritesLine (λ bytes. bytes ≡ line.now) (W.contents output.old) (W.contents output.new) result }
+    ensures writes { WritesLine (λ bytes. bytes ≡ line.now) (W.contents output.old) (W.contents output.new) result }
+    ensures no_memory { IfErr result (λ exit. IsMemoryExit exit → ⊥) }
 {
     let mut rest = line;
     while !rest.is_empty() {

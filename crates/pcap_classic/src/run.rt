@@ -9,7 +9,7 @@ mod stretch;
 
 ghost use Rattle.std.specs.Prelude.{◌≡◌, ◌⊎◌, ⊤, false, All, IfOk, IfErr, IfSome, map};
 ghost use Rattle.pcap_core.specs.Answer.{Refuses};
-ghost use Rattle.pcap_core.specs.Bytes.{IsBorrowed};
+ghost use Rattle.pcap_core.specs.Bytes.{IsBorrowed, IsOwned};
 ghost use Rattle.pcap_classic.specs.Captures.{TakesCapture, ReadsCapture};
 ghost use Rattle.pcap_core.specs.Errors.{IsMemory, IsIo};
 ghost use Rattle.pcap_core.specs.Faults.{Shows};
@@ -113,6 +113,7 @@ pub struct PcapRead {
 pub fn read_pcap<R: Read + Drop>(alloc: Global, reader: R, most: u64) -> ResultParsing<PcapRead>
     ensures taken { IfOk result (λ read. TakesCapture (R.remaining reader) most read) }
     ensures front { IfOk result (λ read. IfSome (R.remaining reader) (λ bytes. ReadsCapture bytes most read)) }
+    ensures owned { IfOk result (λ read. All (λ packet. IsOwned packet.data_) read.packets.items) }
     ensures refused { IfErr result (λ e. IsIo e ⊎ Shows (IsFaultOf HeaderSays (R.remaining reader)) e) }
 {
     let mut reader = PcapReader::new(alloc, reader)?;
@@ -134,6 +135,7 @@ fn take_packets<T: Read + Drop>(
     requires ready { is_done reader.old ≡ false }
     requires unfailed { has_failed reader.old ≡ false }
     ensures header { reader.new.header ≡ reader.old.header }
+    ensures owned { All (λ packet. IsOwned packet.data_) result.0.items }
     ensures taken { TakesItems (reader_format packet_limit reader.old.header) tt (T.remaining (stream_of reader.old)) (T.remaining (stream_of reader.new))
         (has_failed reader.new) most (map content_of result.0.items) result.1 }
 {

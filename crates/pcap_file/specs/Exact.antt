@@ -3,7 +3,7 @@ use Rattle.std.specs.Prelude.{◌≡◌, ◌≤◌, ◌+◌, ◌*◌, ℕ, List,
 use Rattle.pcap_core.specs.declared.rest.Rest.{Rest}
 use Rattle.pcap_core.specs.Exact.{ExactItems}
 use Rattle.pcap_core.specs.Format.{state_after}
-use Rattle.pcap_core.specs.Requested.{RunRequests}
+use Rattle.pcap_core.specs.Requested.{RunRequests, AsksItem}
 use Rattle.pcap_file.specs.declared.run.NgRun.{NgRun}
 use Rattle.pcap_file.specs.Blocks.{Item, block_format}
 use Rattle.pcap_file.specs.Frames.{Framed}
@@ -27,3 +27,7 @@ pub record IsExact (run : NgRun) (count : ℕ) (s earlier now : List ℕ) : Type
   pub grown : now ≡ earlier ++ requests
   pub counted : count ≡ length requests
   pub few : count ≤ 2 * length run.blocks.items + 4
+
+-- the requests for the first block of s stand after the earlier ones, and no other
+abbrev pub AsksFirst : List ℕ → List ℕ → List ℕ → Type 0
+AsksFirst s earlier now = (count : ℕ) × AsksItem block_format opening s earlier now 0 count

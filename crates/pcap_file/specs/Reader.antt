@@ -1,5 +1,5 @@
 -- What a reader of blocks shows.
-use Rattle.std.specs.Prelude.{◌≡◌, ℕ, List, map, Bool, false, Option, Some, Result, Ok, Err}
+use Rattle.std.specs.Prelude.{◌≡◌, ℕ, List, [], map, Bool, false, Option, Some, Result, Ok, Err}
 use Rattle.pcap_core.specs.declared.errors.PcapError.{PcapError}
 use Rattle.pcap_core.specs.Held.{held_bytes}
 use Rattle.pcap_core.specs.Reading.{Takes}
@@ -48,6 +48,7 @@ lent_item reader header = held_item (state_of reader) (held_bytes reader.held) h
 abbrev pub OpensReader : {T : Type 0} → (T → Option (List ℕ)) → T → Result (PcapNgReader T) PcapError → Type 0
 OpensReader remaining stream (Ok reader) =
     (is_done reader ≡ false) × (has_failed reader ≡ false) × Takes OpeningSays (remaining stream) (remaining (stream_of reader)) (state_of reader)
+    × (body_of reader ≡ [])
 OpensReader remaining stream (Err e) = RefusesOpening (remaining stream) e
 
 -- what is in force stays, unless a block came

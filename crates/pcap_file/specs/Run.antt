@@ -17,7 +17,7 @@ pub record IsRun (run : NgRun) (s : List ℕ) : Type 0 where
   pub used : run.used + length left ≡ length s
   pub rest : IsRest (block_format.says (state_of run.parser)) left run.rest
 
--- the rest at which an error came, where it was not for want of memory
+-- the rest at which an error came, where it was not for want of memory; want of memory is told as such, and nothing else is
 abbrev pub RestTells : PcapError → Result Rest PcapError → Type 0
 RestTells error (Ok rest) = (rest ≡ rest_after error) × (IsMemory error → ⊥)
-RestTells error (Err e) = IsMemory e
+RestTells error (Err e) = IsMemory error × IsMemory e

@@ -72,9 +72,14 @@ AreKept types.SectionHeader = ⊤
 AreKept types.InterfaceDescription = ⊤
 AreKept _ = ⊥
 
+-- blocks of this type are section headers
+abbrev pub IsHeader : BlockType → Type 0
+IsHeader types.SectionHeader = ⊤
+IsHeader _ = ⊥
+
 -- a whole block needs memory only where its body is kept, or is read and has something that is kept in a list
 abbrev pub CanGrow : State → Framed → Type 0
-CanGrow opening b = AreKept b.type_ ⊎ GrowsInBody b
+CanGrow opening b = IsHeader b.type_ ⊎ GrowsInBody b
 CanGrow (within section interfaces) b = AreKept b.type_
 
 -- what following a block tells: it leads to the new state, or is refused and the state stays

@@ -4,12 +4,12 @@ mod exact;
 mod find;
 mod pieces;
 
-ghost use Rattle.std.specs.Prelude.{◌≡◌, false, All, IfOk, IfErr, IfSome, map};
+ghost use Rattle.std.specs.Prelude.{◌≡◌, false, All, IfOk, IfErr, IfNone, IfSome, map};
 ghost use Rattle.pcap_file.specs.Frames.{framed_of};
 ghost use Rattle.pcap_file.specs.Reader.{state_of, stream_of, has_failed, is_done};
 ghost use Rattle.pcap_file.specs.Reads.{TakesBlocks, TakesNg, ReadsNg};
 ghost use Rattle.pcap_core.specs.Answer.{Refuses, lacks, faulty};
-ghost use Rattle.pcap_core.specs.Bytes.{IsBorrowed};
+ghost use Rattle.pcap_core.specs.Bytes.{IsBorrowed, IsOwned};
 ghost use Rattle.pcap_file.specs.Opening.{OpeningSays, RefusesOpening};
 ghost use Rattle.pcap_file.specs.Blocks.{MayGrow};
 ghost use Rattle.pcap_file.specs.Run.{IsRun, RestTells};
@@ -110,6 +110,8 @@ pub struct NgRead<R> {
 pub fn read_pcapng<R: Read + Drop>(alloc: Global, reader: R, most: u64) -> ResultParsing<NgRead<R>>
     ensures taken { IfOk result (λ read. TakesNg R.remaining (R.remaining reader) most read) }
     ensures front { IfOk result (λ read. IfSome (R.remaining reader) (λ bytes. ReadsNg bytes most read)) }
+    ensures owned { IfOk result (λ read. All (λ block. IsOwned block.body) read.blocks.items) }
+    ensures goes_on { IfOk result (λ read. IfNone read.fault (is_done read.reader ≡ false)) }
     ensures refused { IfErr result (RefusesOpening (R.remaining reader)) }
 {
     let mut reader = PcapNgReader::new(alloc, reader)?;
@@ -129,7 +131,9 @@ fn take_blocks<T: Read + Drop>(
 ) -> (Vec<Block<'static>>, Option<PcapError>)
     requires ready { is_done reader.old ≡ false }
     requires unfailed { has_failed reader.old ≡ false }
-    ensures { TakesBlocks (state_of reader.old) (state_of reader.new) (T.remaining (stream_of reader.old)) (T.remaining (stream_of reader.new))
+    ensures owned { All (λ block. IsOwned block.body) result.0.items }
+    ensures goes_on { IfNone result.1 (is_done reader.new ≡ false) }
+    ensures takes { TakesBlocks (state_of reader.old) (state_of reader.new) (T.remaining (stream_of reader.old)) (T.remaining (stream_of reader.new))
         (has_failed reader.new) most (map framed_of result.0.items) result.1 }
 {
     let mut blocks = Vec::new(alloc);

@@ -1,6 +1,6 @@
 //! Laws that hold of times.
 
-ghost use Rattle.std.specs.Prelude.{◌≡◌, ◌↔◌, IsTrue};
+ghost use Rattle.std.specs.Prelude.{◌≡◌, ◌↔◌, ◌⊎◌, ◌<◌, ◌<ℤ◌, IsTrue};
 
 use crate::{Clock, TimeUnit, Timestamp};
 
@@ -23,4 +23,11 @@ pub fn times_are_equal(left: Timestamp, right: Timestamp) -> bool
     ensures { IsTrue result ↔ (left ≡ right) }
 {
     left == right
+}
+
+/// Times go by their seconds, and where these are the same by their nanoseconds.
+pub fn times_are_ordered(left: Timestamp, right: Timestamp) -> bool
+    ensures { IsTrue result ↔ ((left.seconds <ℤ right.seconds) ⊎ ((left.seconds ≡ right.seconds) × (left.nanoseconds < right.nanoseconds))) }
+{
+    left < right
 }

@@ -17,3 +17,5 @@ mod runs;
 mod taking;
 #[cfg(test)]
 mod told;
+#[cfg(test)]
+mod unmarked;

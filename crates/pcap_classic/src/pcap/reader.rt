@@ -1,7 +1,7 @@
 //! Packets of a stream.
 
-ghost use Rattle.std.specs.Prelude.{◌≡◌, ◌≤◌, max, false, [], OnOk, IfOk, IfNone};
-ghost use Rattle.pcap_core.specs.Bytes.{IsBorrowed};
+ghost use Rattle.std.specs.Prelude.{◌≡◌, ◌≤◌, max, false, [], OnOk, IfOk, IfNone, IfSome};
+ghost use Rattle.pcap_core.specs.Bytes.{IsBorrowed, IsOwned};
 ghost use Rattle.std.specs.Borrow.{sem, Lends};
 ghost use Rattle.pcap_core.specs.Held.{held_bytes, room_of};
 ghost use Rattle.pcap_classic.specs.Packets.{reader_format};
@@ -60,6 +60,7 @@ fn pull<T: Read>(
     requires between { held_bytes held.old ≡ [] }
     requires unfailed { has_failed.old ≡ false }
     ensures pulls { Pulls ((reader_format packet_limit header.now).says tt) content_of (T.remaining stream.old) (T.remaining stream.new) has_failed.new result }
+    ensures owned { IfOk result (λ found. IfSome found (λ packet. IsOwned packet.data_)) }
     ensures between { OnOk result (held_bytes held.new ≡ []) }
     ensures room { room_of held.new ≤ max (room_of held.old) 16 }
 {
@@ -165,6 +166,7 @@ impl<T> PcapReader<T> {
         ensures stream { stream_of result ≡ stream }
         ensures unfailed { has_failed result ≡ false }
         ensures ready { is_done result ≡ false }
+        ensures nothing_lent { data_of result ≡ [] }
     {
         PcapReader {
             header,
@@ -208,12 +210,14 @@ impl<T> PcapReader<T> {
 }
 
 impl<T: Read + Drop> Iterator for PcapReader<T> {
-    ghost use Rattle.pcap_classic.specs.Reader.{stream_of, has_failed, is_done};
+    ghost use Rattle.pcap_classic.specs.Reader.{stream_of, has_failed, is_done, data_of};
 
     type Item = ResultParsing<Packet<'static>>;
 
     ghost next_gives = { λ s r t. (t.header ≡ s.header)
-        × NextGives ((reader_format packet_limit s.header).says tt) content_of (T.remaining (stream_of s)) (T.remaining (stream_of t)) (is_done s) (is_done t) (has_failed s) (has_failed t) r };
+        × NextGives ((reader_format packet_limit s.header).says tt) content_of (T.remaining (stream_of s)) (T.remaining (stream_of t)) (is_done s) (is_done t) (has_failed s) (has_failed t) r
+        × IfSome r (λ given. IfOk given (λ packet. IsOwned packet.data_))
+        × (data_of t ≡ data_of s) };
 
     fn next(&mut self) -> Option<ResultParsing<Packet<'static>>> {
         if self.is_done {

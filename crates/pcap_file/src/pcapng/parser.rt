@@ -1,8 +1,8 @@
 //! A parser of a capture that comes in slices, or block by block off streams that stay the caller's.
 
-ghost use Rattle.std.specs.Prelude.{◌≡◌, IfOk, IfErr, OnErr, map, option_map, slice_get};
+ghost use Rattle.std.specs.Prelude.{◌≡◌, IfOk, IfErr, IfSome, OnErr, map, option_map, slice_get};
 ghost use Rattle.pcap_core.specs.Answer.{TellsWhere};
-ghost use Rattle.pcap_core.specs.Bytes.{IsBorrowed};
+ghost use Rattle.pcap_core.specs.Bytes.{IsBorrowed, IsOwned};
 ghost use Rattle.pcap_core.specs.Reading.{Takes, TakesAsked};
 ghost use Rattle.pcap_blocks.specs.InterfaceDescription.{interface_of};
 ghost use Rattle.pcap_blocks.specs.SectionHeader.{section_of};
@@ -86,6 +86,7 @@ impl PcapNgParser {
     pub fn read_block<R: Read>(&mut self, reader: &mut R) -> ResultParsing<Option<Block<'static>>>
         ensures reads { ReadsBlock (state_of self.old) (state_of self.new) (R.remaining reader.old) (R.remaining reader.new) result }
         ensures stays { StaysUnlessTaken (state_of self.old) (state_of self.new) result }
+        ensures owned { IfOk result (λ found. IfSome found (λ block. IsOwned block.body)) }
     {
         let mut has_failed = false;
         let mut held = Held::new(self.alloc);

@@ -1,6 +1,7 @@
 //! A reader of the blocks of a stream.
 
-ghost use Rattle.std.specs.Prelude.{◌≡◌, false, [], map, option_map, slice_get};
+ghost use Rattle.std.specs.Prelude.{◌≡◌, false, [], IfOk, IfSome, map, option_map, slice_get};
+ghost use Rattle.pcap_core.specs.Bytes.{IsOwned};
 ghost use Rattle.pcap_core.specs.Held.{held_bytes};
 ghost use Rattle.pcap_core.specs.Reading.{NextGives};
 ghost use Rattle.pcap_blocks.specs.InterfaceDescription.{interface_of};
@@ -175,7 +176,7 @@ impl<T: Read + Drop> Iterator for PcapNgReader<T> {
 
     ghost next_gives = { λ s r t. StaysUnlessGiven (state_of s) (state_of t) r
         × NextGives (block_format.says (state_of s)) (item_of (state_of t)) (T.remaining (stream_of s)) (T.remaining (stream_of t)) (is_done s) (is_done t) (has_failed s) (has_failed t) r
-        × (body_of t ≡ []) };
+        × (body_of t ≡ []) × IfSome r (λ given. IfOk given (λ block. IsOwned block.body)) };
 
     fn next(&mut self) -> Option<ResultParsing<Block<'static>>> {
         self.held.clear();

@@ -1,6 +1,7 @@
 //! Blocks that are taken off a stream, over the parts of what reads them.
 
-ghost use Rattle.std.specs.Prelude.{◌≡◌, false, [], IfOk, IfErr, IfNone, OnOk, OnErr};
+ghost use Rattle.std.specs.Prelude.{◌≡◌, false, [], IfOk, IfErr, IfNone, IfSome, OnOk, OnErr};
+ghost use Rattle.pcap_core.specs.Bytes.{IsOwned};
 ghost use Rattle.pcap_core.specs.declared.common.Endianness.TheVariants.{Big};
 ghost use Rattle.pcap_core.specs.Errors.{IsIo};
 ghost use Rattle.pcap_core.specs.Filling.{Stated};
@@ -35,6 +36,7 @@ pub(crate) fn pull<T: Read>(
     requires unfailed { has_failed.old ≡ false }
     ensures pulls { Pulls (block_format.says (state_in in_force.old)) (item_of (state_in in_force.new)) (T.remaining stream.old) (T.remaining stream.new) has_failed.new result }
     ensures stays { StaysUnlessTaken (state_in in_force.old) (state_in in_force.new) result }
+    ensures owned { IfOk result (λ found. IfSome found (λ block. IsOwned block.body)) }
     ensures between { OnOk result (held_bytes held.new ≡ []) }
 {
     let order = in_force.order();

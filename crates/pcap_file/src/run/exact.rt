@@ -1,6 +1,6 @@
 //! Runs over a PcapNg capture that is shown exactly as the parser asks for it.
 
-ghost use Rattle.std.specs.Prelude.{◌≡◌, ◌≤◌, ◌+◌, ◌<◌, ◌^◌, All, IfOk, IfErr, map, drop};
+ghost use Rattle.std.specs.Prelude.{◌≡◌, ◌≤◌, ◌+◌, ◌<◌, ◌^◌, ◌⊎◌, All, IfOk, IfErr, map, drop};
 ghost use Rattle.pcap_core.specs.Answer.{Refuses, lacks, faulty};
 ghost use Rattle.pcap_core.specs.Bytes.{IsBorrowed};
 ghost use Rattle.pcap_core.specs.Errors.{IsMemory};
@@ -8,7 +8,7 @@ ghost use Rattle.pcap_core.specs.Found.{FoundBefore, IfItem, UnlessItem};
 ghost use Rattle.pcap_core.specs.Requested.{AsksItem};
 ghost use Rattle.pcap_core.specs.Window.{bytes_of, shown_of, requests_made};
 ghost use Rattle.pcap_file.specs.Blocks.{item_of, block_format, BlockSays, MayGrow};
-ghost use Rattle.pcap_file.specs.Exact.{ExactBlocks, IsExact};
+ghost use Rattle.pcap_file.specs.Exact.{AsksFirst, ExactBlocks, IsExact};
 ghost use Rattle.pcap_file.specs.Frames.{framed_of};
 ghost use Rattle.pcap_file.specs.Opening.{OpeningSays};
 ghost use Rattle.pcap_file.specs.Parser.{state_of};
@@ -28,13 +28,15 @@ use std::alloc::Global;
 /// of its total length ('General Block Structure'). Where fewer bytes are left than are asked for, the parser isn't asked
 /// again, and the rest is `Needs` of the difference. After the last block nothing is asked for.
 ///
-/// The errors are those of `PcapNgParser::new` on the first block, with `IncompleteBuffer` where it isn't whole.
-/// `OutOfMemory`, where something can't grow, is the answer wherever it comes. How many bytes were shown then is open.
+/// The errors are those of `PcapNgParser::new` on the first block, with `IncompleteBuffer` where it isn't whole; then the
+/// requests are those for that block alone. `OutOfMemory`, where something can't grow, is the answer wherever it comes, and
+/// how many bytes were shown then is open.
 pub fn exact_pcapng<'a>(alloc: Global, window: &mut Window<'a>) -> ResultParsing<(NgRun<'a>, u64)>
     requires { shown_of window.old ≡ 0 }
     ensures bytes { bytes_of window.new ≡ bytes_of window.old }
     ensures run { IfOk result (λ x. IsExact x.0 x.1 (bytes_of window.old) (requests_made window.old) (requests_made window.new)) }
     ensures borrowed { IfOk result (λ x. All (λ block. IsBorrowed block.body) x.0.blocks.items) }
+    ensures asked { IfErr result (λ e. IsMemory e ⊎ AsksFirst (bytes_of window.old) (requests_made window.old) (requests_made window.new)) }
     ensures refused { IfErr result (Refuses (MayGrow opening (bytes_of window.old)) (λ n. OpeningSays (bytes_of window.old) (lacks n)) (λ fault. OpeningSays (bytes_of window.old) (faulty fault))) }
 {
     let mut requests = 0;

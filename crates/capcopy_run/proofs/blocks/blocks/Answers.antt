@@ -20,4 +20,4 @@ returns-in_err-write_section-clause-lists g c =
 
 pub returns-clause-lists : goal.returns-clause-lists
 returns-clause-lists g c =
-    blocks_known (state_of c.in_ok-parser.parser) (section_of c.section.result.now) (ap section_line (sym c.section.ensures)) (g.R.Read.remaining c.args.input.now) (g.R.Read.remaining c.from_reader.new.reader) _ _ c.in_ok-parser.ensures.takes c.in_ok-write_section.ensures c.args.most _ c.list_items.result c.list_items.ensures
+    blocks_known (state_of c.in_ok-parser.parser) (section_of c.section.result.now) (ap section_line (sym c.section.ensures)) (g.R.Read.remaining c.args.input.now) (g.R.Read.remaining c.from_reader.new.reader) _ _ c.in_ok-parser.ensures.takes c.in_ok-write_section.ensures c.args.most _ c.list_items.result c.list_items.ensures.lists

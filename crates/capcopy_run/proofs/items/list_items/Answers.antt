@@ -2,8 +2,8 @@ use Rattle.std.proofs.Common.{arith}
 use Rattle.std.proofs.KnownBytes.{Keeps-refl}
 use Rattle.capcopy_run.proofs.items.list_items.Goals as goal
 
-pub returns : goal.returns
-returns g c = record {
+pub returns-clause-lists : goal.returns-clause-lists
+returns-clause-lists g c = record {
   n = c.loop-listed.listed;
   here = g.L.Lister.state c.loop-listed.lister;
   left = g.R.Read.remaining c.loop-listed.input;

@@ -21,7 +21,7 @@ returns-in_err-write_line-clause-walks g c =
     let packet = content_of c.in-Ok.packet in
     let stands = packets_say packet_limit order r tt rest (whole packet after) c.in-Ok.ensures.tells in
     let p = err_from_is_err_and c.from_residual.result c.from_residual.ensures.1 in
-    rw (p.1, p.2) (walked_torn IsPacketLine (packet_format packet_limit order r) (packets_lawful packet_limit order r) tt tt _ rest after _ _ _ c.loop-listed.listed c.loop-listed.invariant.walked packet stands tt _ c.loop-listed.listed c.args.most _ c.loop-listed-test.true c.in_err-write_line.ensures)
+    rw (p.1, p.2) (walked_torn IsPacketLine (packet_format packet_limit order r) (packets_lawful packet_limit order r) tt tt _ rest after _ _ _ c.loop-listed.listed c.loop-listed.invariant.walked packet stands tt _ c.loop-listed.listed c.args.most _ c.loop-listed-test.true c.in_err-write_line.ensures.writes)
 
 pub loop-listed-preserved : goal.loop-listed-preserved
 loop-listed-preserved g c =
@@ -32,7 +32,7 @@ loop-listed-preserved g c =
     let packet = content_of c.in-Ok.packet in
     let stands = packets_say packet_limit order r tt rest (whole packet after) c.in-Ok.ensures.tells in
     record {
-      walked = walked_more IsPacketLine (packet_format packet_limit order r) (packets_lawful packet_limit order r) tt tt _ rest after _ _ _ c.loop-listed.listed c.loop-listed.invariant.walked packet stands tt _ refl c.in_ok-write_line.ensures;
+      walked = walked_more IsPacketLine (packet_format packet_limit order r) (packets_lawful packet_limit order r) tt tt _ rest after _ _ _ c.loop-listed.listed c.loop-listed.invariant.walked packet stands tt _ refl c.in_ok-write_line.ensures.writes;
       more = omega (arith, c.loop-listed.invariant.more);
       within = omega (arith, c.loop-listed-test.true);
     }

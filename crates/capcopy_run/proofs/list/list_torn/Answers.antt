@@ -32,11 +32,11 @@ returns-in_err-write_line-clause-turn g c =
     let f = packet_format packet_limit order r in
     let took = packet_skipped order r _ _ _ c.in_ok-header.header c.in_ok-header.ensures c.in_ok-skip_exact.ensures.skipped in
     let p = err_from_is_err_and c.from_residual-in_err-write_line.result c.from_residual-in_err-write_line.ensures.1 in
-    rw (p.1, p.2) (ends_here IsPacketLine f tt _ _ _ _ _ _ (ends_torn IsPacketLine (f.says tt) _ _ c.args.listed.now c.args.most c.requires _ _ _ _ took c.in_err-write_line.ensures))
+    rw (p.1, p.2) (ends_here IsPacketLine f tt _ _ _ _ _ _ (ends_torn IsPacketLine (f.says tt) _ _ c.args.listed.now c.args.most c.requires _ _ _ _ took c.in_err-write_line.ensures.writes))
 
 pub returns-clause-turn : goal.returns-clause-turn
 returns-clause-turn g c =
     let order = g.B.ByteOrder.number_of in
     let r = c.args.ts_resolution in
     let took = packet_skipped order r _ _ _ c.in_ok-header.header c.in_ok-header.ensures c.in_ok-skip_exact.ensures.skipped in
-    turn_more IsPacketLine (packet_format packet_limit order r) (packets_lawful packet_limit order r) tt tt _ _ _ _ c.args.listed.now _ took refl c.in_ok-write_line.ensures
+    turn_more IsPacketLine (packet_format packet_limit order r) (packets_lawful packet_limit order r) tt tt _ _ _ _ c.args.listed.now _ took refl c.in_ok-write_line.ensures.writes

@@ -1,5 +1,7 @@
 use Rattle.std.proofs.Common.{◌≡◌, ◌∷◌, [], ◌++◌, length, map, ap, arith, length-append, ◌∙◌, subst}
 use Rattle.std.proofs.lemmas.List.{map_push}
+use Rattle.std.proofs.lemmas.List.Elements.{All-push}
+use Rattle.pcap_core.specs.Bytes.{IsOwned}
 use Rattle.pcap_classic.specs.declared.pcap.header.PcapHeader.{PcapHeader}
 use Rattle.pcap_classic.specs.PacketText.{packet_limit, content_of}
 use Rattle.pcap_classic.specs.Packets.{reader_format}
@@ -20,6 +22,7 @@ loop-turn-preserved g c =
     record {
       took = rw e (takes_more (reader_format packet_limit header) (reader_lawful packet_limit header) tt packets packet _ _ _ c.loop-turn.invariant.took takes);
       count = omega (arith, ap length e, length-append packets (packet ∷ []), c.loop-turn.invariant.count);
+      owned = rw (c.push_reserved.ensures.items, c.reserve.ensures.items) (All-push (λ packet. IsOwned packet.data_) c.loop-turn.packets.items c.in-Some-Ok.packet c.loop-turn.invariant.owned steps.2);
       ready = steps.1.0;
       unfailed = steps.1.1;
       same = steps.0 ∙ c.loop-turn.invariant.same;

@@ -8,5 +8,5 @@ returns-clause-front g c =
       after = g.R.Read.remaining (stream_of c.in_ok-reader.reader);
       first = state_of c.in_ok-reader.reader;
       opened = c.in_ok-reader.ensures.2;
-      blocks = c.take_blocks-blocks.ensures;
+      blocks = c.take_blocks-blocks.ensures.takes;
     })

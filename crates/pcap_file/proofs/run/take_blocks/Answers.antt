@@ -1,13 +1,15 @@
 use Rattle.std.proofs.Common.{◌≡◌, ◌<◌, ◌∷◌, [], ◌++◌, length, map, ap, arith, length-append, refl}
 use Rattle.std.proofs.lemmas.List.{map_push, length-map}
+use Rattle.std.proofs.lemmas.List.Elements.{All-push}
+use Rattle.pcap_core.specs.Bytes.{IsOwned}
 use Rattle.pcap_file.specs.Frames.{framed_of}
 use Rattle.pcap_file.specs.Blocks.{item_of}
 use Rattle.pcap_file.specs.Reader.{state_of, stream_of, has_failed}
 use Rattle.pcap_file.proofs.Taken.{taken_more, taken_stops}
 use Rattle.pcap_file.proofs.run.take_blocks.Goals as goal
 
-pub returns-in-Some-Err : goal.returns-in-Some-Err
-returns-in-Some-Err g c =
+pub returns-in-Some-Err-clause-takes : goal.returns-in-Some-Err-clause-takes
+returns-in-Some-Err-clause-takes g c =
     let blocks = map framed_of c.loop-turn.blocks.items in
     let steps = rw (c.loop-turn.invariant.ready, c.in-Some-Err.field-0-is) at c.in-Some-Err.ensures.steps in
     let few : length blocks < c.args.most = omega (arith, length-map c.loop-turn.blocks.items framed_of, c.loop-turn.invariant.count, c.loop-turn-test.true) in
@@ -25,6 +27,7 @@ loop-turn-preserved g c =
     record {
       took = rw e (taken_more (state_of c.args.reader.now) (state_of c.loop-turn.reader) (g.T.Read.remaining (stream_of c.args.reader.now)) (g.T.Read.remaining (stream_of c.loop-turn.reader)) (g.T.Read.remaining (stream_of c.next.new.self)) blocks item c.loop-turn.invariant.took steps.1.2);
       count = omega (arith, ap length all, length-append c.loop-turn.blocks.items (block ∷ []), c.loop-turn.invariant.count);
+      owned = rw (c.push_reserved.ensures.items, c.reserve.ensures.items) (All-push (λ block. IsOwned block.body) c.loop-turn.blocks.items block c.loop-turn.invariant.owned steps.3);
       ready = steps.1.0;
       unfailed = steps.1.1;
     }

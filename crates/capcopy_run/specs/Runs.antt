@@ -1,0 +1,59 @@
+-- What the program does that these words ask for.
+use Rattle.std.specs.Prelude.{◌≡◌, ◌<◌, ◌⊎◌, ⊤, ℕ, List, [], ◌∷◌, Option, None, Some, Result, Ok, Err, IfSome, IsUtf8, length, take}
+use Rattle.std.specs.declared.env.FillError.{FillError}
+use Rattle.std.specs.declared.env.FillError.TheVariants.{NotPresent, TooLong}
+use Rattle.std.specs.Io.KnownBytes.{Keeps}
+use Rattle.pcap_classic.specs.declared.run.copy.Under.{Under}
+use Rattle.capcopy_run.specs.declared.exit.Exit.{Exit}
+use Rattle.capcopy_run.specs.declared.exit.Exit.TheVariants.{Usage}
+use Rattle.capcopy_run.specs.declared.words.Place.{Place}
+use Rattle.capcopy_run.specs.declared.words.Place.TheVariants.{Empty, Unknown, Text}
+use Rattle.capcopy_run.specs.declared.words.Texts.{Texts}
+use Rattle.capcopy_run.specs.declared.words.Texts.TheVariants.{Nothing, One, Two, Three}
+use Rattle.capcopy_run.specs.BlockLines.{block_lines}
+use Rattle.capcopy_run.specs.Copying.{CopiesUntil}
+use Rattle.capcopy_run.specs.Exits.{IsMemoryExit, IsOfKnownWord}
+use Rattle.capcopy_run.specs.Listing.{ListsUntil}
+use Rattle.capcopy_run.specs.PacketLines.{packet_lines}
+use Rattle.capcopy_run.specs.Words.{AskForList, AskForBlocks, AskForCopy, AskForNothing}
+
+-- what a call answers that fetches the word at a place: the word stands at the front of the room, or is longer than it, or there is none
+abbrev pub TellsWord : Option (List ℕ) → Result ℕ FillError → List ℕ → Type 0
+TellsWord (Some word) (Ok n) room = take n room ≡ word
+TellsWord (Some word) (Err TooLong) room = length room < length word
+TellsWord None (Err NotPresent) room = ⊤
+TellsWord _ _ room = ⊥
+
+-- the word is none that the program knows, by its length or since it is no text
+abbrev pub IsStrange : List ℕ → Type 0
+IsStrange word = (64 < length word) ⊎ (IsUtf8 word → ⊥)
+
+-- what was found at the place of a word
+abbrev pub StandsAt : Option (List ℕ) → Place → Type 0
+StandsAt None Empty = ⊤
+StandsAt (Some word) (Text text) = text.now ≡ word
+StandsAt (Some word) Unknown = IsStrange word
+StandsAt _ _ = ⊥
+
+-- these are the words, or the words ask for nothing
+abbrev pub AreTexts : List (List ℕ) → Texts → Type 0
+AreTexts words Nothing = AskForNothing words
+AreTexts words (One first) = first.now ∷ [] ≡ words
+AreTexts words (Two first second) = first.now ∷ second.now ∷ [] ≡ words
+AreTexts words (Three first second third) = first.now ∷ second.now ∷ third.now ∷ [] ≡ words
+
+-- what a run does that these words ask for, with so many lines or packets at most
+pub record Runs (words : List (List ℕ)) (most : ℕ) (before now out_before out_now : Option (List ℕ)) (exit : Exit) : Type 0 where
+  pub listed : AskForList words → IfSome before (λ s. ListsUntil packet_lines most s out_before out_now exit)
+  pub list_takes_no_memory : AskForList words → IsMemoryExit exit → ⊥
+  pub blocks_listed : AskForBlocks words → IfSome before (λ s. ListsUntil block_lines most s out_before out_now exit)
+  pub copied : (under : Under) → AskForCopy under words → CopiesUntil under before now out_before out_now most exit
+  pub known : (AskForNothing words → ⊥) → IsOfKnownWord exit
+  pub usage : AskForNothing words → exit ≡ Usage
+  pub unread : AskForNothing words → Keeps before now
+  pub unwritten : AskForNothing words → Keeps out_before out_now
+
+-- such a run over an input behind a buffer of its own, or there was no memory for that buffer
+abbrev pub RunsBuffered : List (List ℕ) → ℕ → Option (List ℕ) → Option (List ℕ) → Option (List ℕ) → Exit → Type 0
+RunsBuffered words most before out_before out_now exit =
+    ((now : Option (List ℕ)) × Runs words most before now out_before out_now exit) ⊎ (IsMemoryExit exit × Keeps out_before out_now)
