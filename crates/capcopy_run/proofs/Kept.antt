@@ -1,7 +1,7 @@
--- Bytes that a read which failed left.
-use Rattle.std.proofs.Common.{ℕ, List, Some, None, sym, ◌∙◌}
+-- Bytes that a read or write which failed left.
+use Rattle.std.proofs.Common.{◌≡◌, ◌++◌, ℕ, List, Some, None, sym, subst, ◌∙◌}
 use Rattle.std.specs.Prelude.{Option}
-use Rattle.std.specs.Io.KnownBytes.{Consumes, Keeps}
+use Rattle.std.specs.Io.KnownBytes.{Appends, Consumes, Keeps}
 
 -- what is taken after it was kept
 pub kept_taken : (a b c : Option (List ℕ)) (t : List ℕ) → Keeps a b → Consumes b c t → Consumes a c t
@@ -9,3 +9,10 @@ kept_taken None b c t kept took = tt
 kept_taken (Some x) None c t kept took = absurd kept
 kept_taken (Some x) (Some y) None t kept took = absurd took
 kept_taken (Some x) (Some y) (Some z) t kept took = sym kept ∙ took
+
+-- what is appended after it was kept
+pub kept_appended : (a b c : Option (List ℕ)) (t : List ℕ) → Keeps a b → Appends b c t → Appends a c t
+kept_appended None b c t kept wrote = tt
+kept_appended (Some x) None c t kept wrote = absurd kept
+kept_appended (Some x) (Some y) None t kept wrote = absurd wrote
+kept_appended (Some x) (Some y) (Some z) t kept wrote = subst (λ before. z ≡ before ++ t) kept wrote

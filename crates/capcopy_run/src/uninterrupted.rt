@@ -1,22 +1,22 @@
-//! Reads that a signal interrupts.
+//! Reads and writes that a signal interrupts.
 
 ghost use Rattle.std.specs.Prelude.{◌≡◌, ◌≢◌, IfErr};
-ghost use Rattle.std.specs.Io.{ReadsAtMost};
-ghost use Rattle.std.specs.Io.KnownBytes.{ReadConsumes};
+ghost use Rattle.std.specs.Io.{ReadsAtMost, WritesAtMost};
+ghost use Rattle.std.specs.Io.KnownBytes.{ReadConsumes, WriteAppends, Keeps};
 ghost use Rattle.std.specs.IoError.{error_kind};
 ghost use Rattle.capcopy_run.specs.Uninterrupted.{stream_of};
 
 use std::io;
-use std::io::{ErrorKind, Read};
+use std::io::{ErrorKind, Read, Write};
 
-/// A stream whose read is repeated where a signal interrupts it.
+/// A stream whose reads and writes are repeated where a signal interrupts them.
 #[derive(Drop)]
 pub struct Uninterrupted<R> {
     stream: R,
 }
 
 impl<R> Uninterrupted<R> {
-    /// Reads of this stream, each repeated until it isn't interrupted.
+    /// Reads and writes of this stream, each repeated until it isn't interrupted.
     pub fn new(stream: R) -> Uninterrupted<R>
         ensures { stream_of result ≡ stream }
     {
@@ -36,6 +36,24 @@ impl<R: Read> Read for Uninterrupted<R> {
     }
 }
 
+impl<W: Write> Write for Uninterrupted<W> {
+    ghost contents = { λ t. W.contents (stream_of t) };
+
+    fn write(&mut self, buf: &[u8]) -> io::Result<usize>
+        ensures bound { WritesAtMost result buf.now }
+        ensures bytes { WriteAppends (W.contents (stream_of self.old)) (W.contents (stream_of self.new)) result buf.now }
+        ensures repeated { IfErr result (λ e. error_kind e ≢ ErrorKind.Interrupted) }
+    {
+        write_through(&mut self.stream, buf)
+    }
+
+    fn flush(&mut self) -> io::Result<()>
+        ensures { Keeps (W.contents (stream_of self.old)) (W.contents (stream_of self.new)) }
+    {
+        self.stream.flush()
+    }
+}
+
 fn read_through<R: Read>(stream: &mut R, buf: &mut [u8]) -> io::Result<usize>
     ensures bound { ReadsAtMost result buf.new }
     ensures bytes { ReadConsumes (R.remaining stream.old) (R.remaining stream.new) result buf.new }
@@ -52,4 +70,22 @@ fn read_through<R: Read>(stream: &mut R, buf: &mut [u8]) -> io::Result<usize>
         }
     }
     Err(io::Error::new(ErrorKind::TimedOut, "each read was interrupted"))
+}
+
+fn write_through<W: Write>(stream: &mut W, buf: &[u8]) -> io::Result<usize>
+    ensures bound { WritesAtMost result buf.now }
+    ensures bytes { WriteAppends (W.contents stream.old) (W.contents stream.new) result buf.now }
+    ensures repeated { IfErr result (λ e. error_kind e ≢ ErrorKind.Interrupted) }
+{
+    for _turn in 0..u64::MAX {
+        match stream.write(buf) {
+            Ok(n) => return Ok(n),
+            Err(error) => {
+                if error.kind() != ErrorKind::Interrupted {
+                    return Err(error);
+                }
+            }
+        }
+    }
+    Err(io::Error::new(ErrorKind::TimedOut, "each write was interrupted"))
 }
