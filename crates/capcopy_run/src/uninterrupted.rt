@@ -80,9 +80,9 @@ fn write_through<W: Write>(stream: &mut W, buf: &[u8]) -> io::Result<usize>
     for _turn in 0..u64::MAX {
         match stream.write(buf) {
             Ok(n) => return Ok(n),
-            Err(error) => {
-                if error.kind() != ErrorKind::Interrupted {
-                    return Err(error);
+            Err(failed) => {
+                if failed.kind() != ErrorKind::Interrupted {
+                    return Err(failed);
                 }
             }
         }
