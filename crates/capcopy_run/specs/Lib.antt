@@ -10,4 +10,5 @@ pub mod Runs
 pub mod Skipping
 pub mod Turns
 pub mod Uninterrupted
+pub mod WordPlaces
 pub mod Words

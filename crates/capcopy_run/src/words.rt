@@ -3,6 +3,7 @@
 ghost use Rattle.std.specs.Prelude.{◌≡◌, ◌⊎◌, ◌≢◌, ℕ, List, Option, None, IfSome, slice_get};
 ghost use Rattle.std.specs.Io.{WritesAtMost};
 ghost use Rattle.capcopy_run.specs.Runs.{AreTexts, RunsBuffered, StandsAt, TellsWord};
+ghost use Rattle.capcopy_run.specs.WordPlaces.{environment_of, words_in};
 ghost use Rattle.capcopy_run.specs.Words.{texts_of};
 
 use crate::{Exit, Uninterrupted, run};
@@ -43,7 +44,9 @@ pub struct Arguments<E> {
 
 impl<E: Env> Arguments<E> {
     /// The words behind the first of this environment.
-    pub fn new(env: E) -> Arguments<E> {
+    pub fn new(env: E) -> Arguments<E>
+        ensures { environment_of result ≡ env }
+    {
         Arguments { env }
     }
 }
@@ -63,7 +66,7 @@ pub struct WordList<'a> {
 impl<'a> WordList<'a> {
     /// These words.
     pub fn new(words: &'a [&'a [u8]]) -> WordList<'a>
-        ensures { result.words.now ≡ words.now }
+        ensures { words_in result ≡ texts_of words.now }
     {
         WordList { words }
     }
@@ -72,7 +75,7 @@ impl<'a> WordList<'a> {
 impl Words for WordList<'_> {
     ghost use Rattle.std.specs.Prelude.{Some};
 
-    ghost words = { λ list. Some (texts_of list.words.now) };
+    ghost words = { λ list. Some (words_in list) };
 
     fn word(&self, index: usize, room: &mut [u8]) -> Result<usize, FillError> {
         let Some(word) = self.words.get(index) else {
