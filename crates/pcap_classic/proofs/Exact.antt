@@ -1,34 +1,32 @@
 -- Runs over a capture that is shown as it is asked for.
-use Rattle.std.proofs.Common.{◌≡◌, ◌≤◌, ◌+◌, ◌-◌, ℕ, List, [], ◌∷◌, ◌++◌, length, take, drop, map, refl, subst, ◌∙◌, arith, append_assoc, length-drop}
-use Rattle.std.proofs.lemmas.List.{length-take-le, length-map, take-append-drop}
+use Rattle.std.proofs.Common.{◌≡◌, ◌≤◌, ◌+◌, ◌-◌, ℕ, List, [], ◌∷◌, ◌++◌, length, take, drop, map, refl, sym, subst, ◌∙◌, arith, append_assoc, length-drop}
+use Rattle.std.proofs.lemmas.List.{length-take-le, length-map, map-id, take-append-drop}
 use Rattle.std.proofs.Math.Nat.{min-le_left, min-le_right}
 use Rattle.std.specs.Prelude.{min}
 use Rattle.pcap_core.specs.declared.errors.PcapError.{PcapError}
 use Rattle.pcap_core.specs.declared.errors.PcapError.TheVariants as errors
+use Rattle.pcap_core.specs.declared.run.items.Ended.{Ended}
+use Rattle.pcap_core.specs.Answer.{Order, Refuses}
+use Rattle.pcap_core.specs.Exact.{ExactItems}
+use Rattle.pcap_core.specs.Faults.{Fault, Invalid, Io, Utf8}
+use Rattle.pcap_core.specs.Items.{GrowsIn, ShowsFault, rest_of}
+use Rattle.pcap_core.specs.Requested.{HeadThenRest, RequestsAt, RunRequests}
+use Rattle.pcap_core.proofs.Formats.{nil_of_length}
+use Rattle.pcap_core.proofs.Items.{grows_some}
+use Rattle.pcap_core.proofs.Requested.{item_asks}
+use Rattle.pcap_core.proofs.Showing.{exact_few, exact_leads}
+use Rattle.pcap_classic.specs.declared.common.TsResolution.{TsResolution}
 use Rattle.pcap_classic.specs.declared.pcap.header.PcapHeader.{PcapHeader}
 use Rattle.pcap_classic.specs.declared.run.PcapRun.{PcapRun}
-use Rattle.pcap_core.specs.Answer.{Order, number_in, Refuses}
 use Rattle.pcap_classic.specs.Exact.{IsExact}
-use Rattle.pcap_classic.specs.Run.{BeginsWithPacket, HasPacket}
-use Rattle.pcap_core.specs.Errors.{IsMemory}
-use Rattle.pcap_core.specs.Faults.{Fault, Invalid, Io, Utf8}
-use Rattle.pcap_core.specs.Format.{IsLawful}
 use Rattle.pcap_classic.specs.HeaderText.{HeaderText, LacksHeader, HasHeaderFault}
-use Rattle.pcap_classic.specs.Magic.{order_of, resolution_of}
-use Rattle.pcap_classic.specs.Packets.{format_under, packet_format}
-use Rattle.pcap_classic.specs.declared.common.TsResolution.{TsResolution}
-use Rattle.pcap_core.specs.Exact.{ExactItems}
-use Rattle.pcap_core.specs.Requested.{RequestsAt, HeadThenRest}
+use Rattle.pcap_classic.specs.Packets.{capture_format, format_under, packet_format}
 use Rattle.pcap_classic.specs.PacketText.{Captured, PacketText, packet_limit, content_of}
-use Rattle.pcap_core.proofs.Formats.{nil_of_length}
+use Rattle.pcap_classic.specs.Run.{HasPacket}
+use Rattle.pcap_classic.proofs.CaptureFormat.{capture_lawful, front_under, run_requests_under, run_under}
 use Rattle.pcap_classic.proofs.HeadedPackets.{packets_lawful}
-use Rattle.pcap_core.proofs.Requested.{item_asks}
-use Rattle.pcap_core.proofs.Showing.{exact_front, exact_few}
 use Rattle.pcap_classic.proofs.Stable.{header_stable}
 use Rattle.pcap_classic.proofs.Texts.{header_length, packet_length}
-
-pub under_lawful : (limit : ℕ) (header : PcapHeader) → IsLawful (format_under limit header)
-under_lawful limit header = packets_lawful limit (number_in (order_of header.magic_number)) (resolution_of header.magic_number)
 
 -- a first request that is met
 pub first_shown : (k shown before left : ℕ) → before ≡ 0 → k ≡ min 24 (left - before) → shown ≡ before + k → 24 ≤ k → (shown ≡ 24) × (24 ≤ left)
@@ -59,21 +57,28 @@ header_all header bytes rest long text =
     subst (λ (t : List ℕ). HeaderText header t (drop 24 bytes)) (take-append-drop 24 bytes) (header_stable.text (take 24 bytes) (drop 24 bytes) [] header alone)
 
 -- a run whose requests were counted
-pub exact_is : (run : PcapRun) (bytes earlier now : List ℕ) (count : ℕ) → HeaderText run.header bytes (drop 24 bytes)
-    → ExactItems (format_under packet_limit run.header) tt (map content_of run.packets.items) bytes 24 run.used run.rest (earlier ++ 24 ∷ []) now 1 count → IsExact run count bytes earlier now
-exact_is run bytes earlier now count text x = record {
-  run_is = record {
-    left = drop run.used bytes;
-    front = record { after = drop 24 bytes; header_text = text; front = exact_front (under_lawful packet_limit run.header) x };
-    used = omega (arith, x.within, length-drop run.used bytes);
-    rest = x.rest_is;
-  };
-  requests = 24 ∷ x.requests;
-  asked = record { after = drop 24 bytes; further = x.requests; header_text = text; run = x.asked; all = refl };
-  grown = x.grown ∙ append_assoc earlier (24 ∷ []) x.requests;
-  counted = omega (arith, x.counted);
-  few = omega (arith, exact_few x, length-map run.packets.items content_of);
-}
+pub exact_is : (run : PcapRun) (ended : Ended PcapError) (header : PcapHeader) (bytes earlier now : List ℕ) (count : ℕ) → HeaderText header bytes (drop 24 bytes) → run.rest ≡ rest_of ended
+    → ExactItems (capture_format packet_limit) (λ packet. packet) ShowsFault header run.header (map content_of run.packets.items) bytes 24 run.used ended (earlier ++ 24 ∷ []) now 1 count
+    → IsExact run count bytes earlier now
+exact_is run ended header bytes earlier now count text rest x =
+    let packets = map content_of run.packets.items in
+    let left = drop run.used bytes in
+    let u = run_under header run.header packets (drop 24 bytes) left ended (exact_leads x) x.ends in
+    let all : x.values ≡ packets = sym (map-id x.values) ∙ x.parts in
+    let requests = subst (λ (l : List Captured). RunRequests (format_under packet_limit header) tt l (drop 24 bytes) left x.requests) all (run_requests_under packet_limit header x.values (drop 24 bytes) left x.requests x.asked) in
+    record {
+      run_is = record {
+        left = left;
+        front = record { after = drop 24 bytes; header_text = rw (← u.same) text; front = rw (← u.same) u.front };
+        used = omega (arith, x.within, length-drop run.used bytes);
+        rest = rw (rest, ← u.same) u.rest;
+      };
+      requests = 24 ∷ x.requests;
+      asked = record { after = drop 24 bytes; further = x.requests; header_text = rw (← u.same) text; run = rw (← u.same) requests; all = refl };
+      grown = x.grown ∙ append_assoc earlier (24 ∷ []) x.requests;
+      counted = omega (arith, x.counted);
+      few = omega (arith, exact_few x, length-map run.packets.items content_of);
+    }
 
 -- a packet is asked for by its head and its data
 pub packet_asks : (limit : ℕ) (order : Order) (r : TsResolution) (packet : Captured) (s rest ns : List ℕ) → PacketText limit order r packet s rest
@@ -86,13 +91,8 @@ packet_asks limit order r packet s rest ns text asked =
     let count : length o.0 ≡ 16 + length packet.bytes = omega (arith, packet_length order limit r packet o.0 [] o.2) in
     subst (λ (n : ℕ). HeadThenRest 16 n ns) count (item_asks f laws tt s ns packet o.0 rest o.1 o.2 asked)
 
--- a run that took no memory for a packet
-pub no_memory : (header : PcapHeader) (bytes rest : List ℕ) → HeaderText header bytes rest → BeginsWithPacket header rest → (e : PcapError) → IsMemory e
-    → Refuses (HasPacket bytes) (LacksHeader bytes) (HasHeaderFault bytes) e
-no_memory header bytes rest text x (errors.OutOfMemory e) memory = (header, x.0, x.1, x.2, record { after = rest; header_text = text; front = x.3 })
-no_memory header bytes rest text x (errors.IncompleteBuffer n) memory = absurd memory
-no_memory header bytes rest text x (errors.InvalidField t) memory = absurd memory
-no_memory header bytes rest text x (errors.IoError e) memory = absurd memory
-no_memory header bytes rest text x (errors.Utf8Error e) memory = absurd memory
-no_memory header bytes rest text x (errors.FromUtf8Error e) memory = absurd memory
-no_memory header bytes rest text x errors.WriterFailed memory = absurd memory
+-- memory was wanted for a packet
+pub has_packet : (header : PcapHeader) (bytes rest : List ℕ) → HeaderText header bytes rest → GrowsIn (capture_format packet_limit) (λ _ _. ⊥) header rest → HasPacket bytes
+has_packet header bytes rest text grown =
+    let some = grows_some (capture_format packet_limit) (capture_lawful packet_limit) header rest grown in
+    (header, some.0, some.1, some.2, record { after = rest; header_text = text; front = front_under packet_limit header (some.0 ∷ some.1) rest some.2 some.3 })

@@ -16,5 +16,6 @@ pub mod Copied
 pub mod Stretched
 pub mod Accepted
 pub mod StatedPackets
+pub mod CaptureFormat
 pub mod Exact
 pub mod Pieces

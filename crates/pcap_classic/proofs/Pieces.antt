@@ -1,9 +1,8 @@
 -- A capture that comes in pieces.
-use Rattle.std.proofs.Common.{◌≡◌, ℕ, List, [], ◌∷◌, ◌++◌, length, map, refl, sym, ap, subst, ◌∙◌, arith, append_assoc, inl, inr}
+use Rattle.std.proofs.Common.{◌≡◌, ℕ, List, ◌++◌, length, map, sym, ap, ◌∙◌, append_assoc, inl, inr}
 use Rattle.std.proofs.lemmas.List.{map-id}
 use Rattle.byteorder.specs.Endian.{big_number}
-use Rattle.pcap_core.specs.Answer.{Order, Number, number_in, whole}
-use Rattle.pcap_core.specs.Format.{Front, IsLawful, Texts, state_after}
+use Rattle.pcap_core.specs.Answer.{Order, Number, number_in}
 use Rattle.pcap_core.specs.Pieces.{HoldsItems, IsFedUpTo, IsOpening, Reaches}
 use Rattle.pcap_core.specs.Run.{IsRest}
 use Rattle.pcap_classic.specs.declared.pcap.header.PcapHeader.{PcapHeader}
@@ -12,13 +11,13 @@ use Rattle.pcap_classic.specs.declared.run.PcapRun.{PcapRun}
 use Rattle.pcap_core.specs.declared.run.pieces.Progress.TheVariants.{Within}
 use Rattle.pcap_classic.specs.HeaderText.{HeaderSays, HeaderText, FieldsText}
 use Rattle.pcap_classic.specs.Magic.{order_of}
-use Rattle.pcap_classic.specs.Packets.{capture_format, format_under, packet_format}
-use Rattle.pcap_classic.specs.PacketText.{Captured, packet_limit, content_of}
+use Rattle.pcap_classic.specs.Packets.{capture_format, format_under}
+use Rattle.pcap_classic.specs.PacketText.{packet_limit, content_of}
 use Rattle.pcap_classic.specs.Parser.{header_of}
 use Rattle.pcap_classic.specs.Pieces.{HoldsPackets}
 use Rattle.pcap_classic.specs.Run.{IsRun}
 use Rattle.pcap_core.proofs.Showing.{rest_no_text}
-use Rattle.pcap_classic.proofs.Exact.{under_lawful}
+use Rattle.pcap_classic.proofs.CaptureFormat.{front_under, state_stays, texts_under, under_lawful}
 use Rattle.pcap_classic.proofs.One.{header_one}
 use Rattle.pcap_classic.proofs.OneFront.{front_one}
 use Rattle.pcap_classic.proofs.Stable.{header_stable}
@@ -53,35 +52,6 @@ header_behind s after header p =
 pub header_opening : IsOpening HeaderSays
 header_opening = record { one = header_one; stable = header_stable; ends = header_behind }
 
--- ---- packets after a header, which is the state
-
-pub capture_lawful : (limit : ℕ) → IsLawful (capture_format limit)
-unfolding packet_format
-capture_lawful limit = record {
-  one = λ header s. (under_lawful limit header).one tt s;
-  stable = λ header. (under_lawful limit header).stable tt;
-  own = λ header s rest packet x. (under_lawful limit header).own tt s rest packet x;
-  some = omega arith;
-  asks = λ header s n x. (under_lawful limit header).asks tt s n x;
-  short = λ header s n sum some. (under_lawful limit header).short tt s n sum some;
-  last = λ header s more n m long x count y. (under_lawful limit header).last tt s more n m long x count y;
-}
-
-state_stays : (limit : ℕ) (header : PcapHeader) (packets : List Captured) → state_after (capture_format limit) header packets ≡ header
-state_stays limit header [] = refl
-state_stays limit header (packet ∷ packets) = state_stays limit header packets
-
-texts_under : (limit : ℕ) (header : PcapHeader) (packets : List Captured) (s rest : List ℕ) → Texts (capture_format limit) header packets s rest → Texts (format_under limit header) tt packets s rest
-texts_under limit header [] s rest texts = texts
-texts_under limit header (packet ∷ packets) s rest texts = (texts.0, texts.1, texts_under limit header packets texts.0 rest texts.2)
-
--- the front of a capture, by its header as a state
-front_under : (limit : ℕ) (header : PcapHeader) (packets : List Captured) (s rest : List ℕ) → Front (capture_format limit) header packets s rest → Front (format_under limit header) tt packets s rest
-front_under limit header packets s rest front = record {
-  texts = texts_under limit header packets s rest front.texts;
-  longest = λ packet after x. front.longest packet after (subst (λ (h : PcapHeader). (capture_format limit).says h rest (whole packet after)) (sym (state_stays limit header packets)) x);
-}
-
 pub holds_packets : (s : List ℕ) (n : ℕ) → HoldsItems HeaderSays (capture_format packet_limit) s n → HoldsPackets s n
 holds_packets s n (inl x) = inl (x.0, x.2, x.3, record { after = x.1; header_text = x.4; front = front_under packet_limit x.0 x.2 x.1 x.3 x.5 }, x.6)
 holds_packets s n (inr x) = inr x
@@ -91,9 +61,9 @@ pub fed_run : (s : List ℕ) (parser : PcapParser) (run : PcapRun) → IsFedUpTo
     → run.header ≡ header_of parser → IsRun run s
 fed_run s parser run x same =
     let r : Reaches HeaderSays (capture_format packet_limit) (λ packet. packet) (header_of parser) (map content_of run.packets.items) s x.left = x.fed.0 in
-    let header : r.first ≡ run.header = sym (state_stays packet_limit r.first r.values) ∙ r.state_is ∙ sym same in
-    let packets : r.values ≡ map content_of run.packets.items = sym (map-id r.values) ∙ r.parts in
-    let texts = texts_under packet_limit r.first r.values r.after x.left r.texts in
+    let header : r.first ≡ run.header = sym (state_stays packet_limit r.first r.leads.values) ∙ r.leads.state_is ∙ sym same in
+    let packets : r.leads.values ≡ map content_of run.packets.items = sym (map-id r.leads.values) ∙ r.leads.parts in
+    let texts = texts_under packet_limit r.first r.leads.values r.after x.left r.leads.texts in
     let rest : IsRest ((format_under packet_limit run.header).says tt) x.left run.rest = rw same x.fed.1 in
     record {
       left = x.left;

@@ -5,7 +5,6 @@ use Rattle.pcap_classic.specs.declared.run.PcapRun.{PcapRun}
 use Rattle.pcap_classic.specs.PacketText.{packet_limit, Captured, content_of}
 use Rattle.pcap_classic.specs.Packets.{format_under}
 use Rattle.pcap_classic.specs.Front.{CaptureFront}
-use Rattle.pcap_core.specs.Format.{Front}
 use Rattle.pcap_core.specs.Run.{IsRest}
 
 -- The run is the front of s: its header and packets, its length, and what is said of its rest.
@@ -14,10 +13,6 @@ pub record IsRun (run : PcapRun) (s : List ℕ) : Type 0 where
   pub front : CaptureFront packet_limit run.header (map content_of run.packets.items) s left
   pub used : run.used + length left ≡ length s
   pub rest : IsRest ((format_under packet_limit run.header).says tt) left run.rest
-
--- at least one packet behind this header stands in front of s
-abbrev pub BeginsWithPacket : PcapHeader → List ℕ → Type 0
-BeginsWithPacket header s = (first : Captured) × (others : List Captured) × (rest : List ℕ) × Front (format_under packet_limit header) tt (first ∷ others) s rest
 
 -- a header and at least one packet stand in front of s
 abbrev pub HasPacket : List ℕ → Type 0

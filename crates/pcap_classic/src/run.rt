@@ -3,7 +3,7 @@
 mod buffered;
 mod copy;
 mod exact;
-mod find;
+mod items;
 mod pieces;
 mod stretch;
 
@@ -20,7 +20,6 @@ ghost use Rattle.pcap_classic.specs.Reader.{stream_of, has_failed, is_done};
 ghost use Rattle.pcap_core.specs.Reading.{IsFaultOf};
 ghost use Rattle.pcap_core.specs.Takes.{TakesItems};
 ghost use Rattle.pcap_classic.specs.Run.{IsRun, HasPacket};
-ghost use Rattle.pcap_core.specs.Run.{rest_after};
 
 use crate::pcap::{Packet, PcapHeader, PcapParser, PcapReader};
 pub use buffered::copy_buffered;
@@ -28,6 +27,7 @@ pub use copy::{Copied, Under, copy_pcap};
 pub use exact::exact_pcap;
 pub use pcap_core::Rest;
 pub use pcap_core::run::{Window, pieces_fit};
+use pcap_core::run::parse_items;
 use pcap_core::{PcapError, ResultParsing};
 pub use pieces::pieces_pcap;
 use std::alloc::Global;
@@ -46,16 +46,6 @@ pub struct PcapRun<'a> {
     pub rest: Rest,
 }
 
-// The rest at which the parser gave this error.
-fn rest_at(error: PcapError) -> Rest
-    ensures { result ≡ rest_after error }
-{
-    match error {
-        PcapError::IncompleteBuffer(n) => Rest::Needs(n),
-        error => Rest::Refused(error),
-    }
-}
-
 /// The whole run over one slice: its header, all packets of its longest front, and what is said of the rest.
 ///
 /// Where the header is refused, that refusal. `OutOfMemory` where the list of packets can't grow.
@@ -65,31 +55,13 @@ pub fn parse_pcap<'a>(alloc: Global, bytes: &'a [u8]) -> ResultParsing<PcapRun<'
     ensures refused { IfErr result (Refuses ⊤ (LacksHeader bytes.now) (HasHeaderFault bytes.now)) }
     ensures memory { IfErr result (λ e. IsMemory e → HasPacket bytes.now) }
 {
-    let (after_header, parser) = PcapParser::new(bytes)?;
-    let header = *parser.header();
-    let mut packets = Vec::new(alloc);
-    let mut left = after_header;
-    while !left.is_empty() {
-        match parser.next_packet(left) {
-            Ok((after, packet)) => {
-                packets.push(packet)?;
-                left = after;
-            }
-            Err(error) => {
-                return Ok(PcapRun {
-                    header,
-                    packets,
-                    used: bytes.len() - left.len(),
-                    rest: rest_at(error),
-                });
-            }
-        }
-    }
+    let (after_header, mut parser) = PcapParser::new(bytes)?;
+    let run = parse_items(alloc, &mut parser, after_header)?;
     Ok(PcapRun {
-        header,
-        packets,
-        used: bytes.len(),
-        rest: Rest::Clean,
+        header: *parser.header(),
+        packets: run.items,
+        used: bytes.len() - after_header.len() + run.used,
+        rest: Rest::from(run.ended),
     })
 }
 

@@ -17,6 +17,7 @@ pub mod Numbers
 pub mod OnePadded
 pub mod Kept
 pub mod Requested
+pub mod Items
 pub mod Showing
 pub mod EachRule
 pub mod Pieces

@@ -4,7 +4,7 @@ use Rattle.std.specs.Prelude.{All, IfOk, replicate, ◌==◌}
 use Rattle.std.specs.Borrow.{Bor}
 use Rattle.std.proofs.lemmas.Bool.Decides.{nat_tests}
 use Rattle.std.proofs.lemmas.Grind.{flat_map-append}
-use Rattle.std.proofs.lemmas.List.{length-map, length-take-le, take-append-drop, map_push}
+use Rattle.std.proofs.lemmas.List.{length-map, length-take-le, take-append-drop}
 use Rattle.std.proofs.lemmas.List.Elements.{All-push}
 use Rattle.std.proofs.Math.ListN.{get_or}
 use Rattle.std.proofs.Math.Seq.{drop-append_seam, take-add, take-suc}
@@ -16,12 +16,13 @@ use Rattle.pcap_core.specs.declared.run.pieces.Progress.{Progress}
 use Rattle.pcap_core.specs.declared.run.pieces.Progress.TheVariants.{Before, Within}
 use Rattle.pcap_core.specs.Answer.{Verdict, whole, lacks, faulty, Refuses}
 use Rattle.pcap_core.specs.Faults.{Invalid, Io, Utf8}
-use Rattle.pcap_core.specs.Format.{Format, Front, IsLawful, state_after}
+use Rattle.pcap_core.specs.Format.{Format, Front, IsLawful}
 use Rattle.pcap_core.specs.Laws.{IsStable}
 use Rattle.pcap_core.specs.Pieces.{AfterEach, Came, HoldsItems, IsFed, IsOpening, Reaches, TakesPart, joined_pieces}
 use Rattle.pcap_core.specs.Waiting.{IsAsked, IsWaiting, error_with, progress_shown, progress_with, rest_with}
-use Rattle.pcap_core.proofs.Formats.{front_same, lacks_no_text, shorter, state_push, texts_more, texts_push}
+use Rattle.pcap_core.proofs.Formats.{front_same, lacks_no_text, texts_more}
 use Rattle.pcap_core.proofs.Fronts.{said_not_refused}
+use Rattle.pcap_core.proofs.Items.{leads_more, leads_none, leads_shorter}
 use Rattle.pcap_core.proofs.Refusals.{shows_more}
 use Rattle.pcap_core.proofs.Requested.{texts_long}
 use Rattle.pcap_core.proofs.Showing.{rest_no_text}
@@ -158,22 +159,13 @@ module _ {S V W : Type 0} (opens : List ℕ → Verdict S → Type 0) (f : Forma
   pub reaches_item : (q next : S) (ws : List W) (w : W) (s held : List ℕ) (at count : ℕ) → Reaches opens f part q ws s (drop at held) → TakesPart f part q next w (drop at held) count
       → Reaches opens f part next (ws ++ w ∷ []) s (drop (length held - count) held)
   reaches_item q next ws w s held at count r t =
-      let o = laws.own q (drop at held) t.after t.value t.text in
-      let parts : held ≡ (take at held ++ o.0) ++ t.after = sym (take-append-drop at held) ∙ ap (λ (l : List ℕ). take at held ++ l) o.1 ∙ sym (append_assoc (take at held) o.0 t.after) in
-      let left : drop (length held - count) held ≡ t.after = ap (λ (n : ℕ). drop (length held - n) held) (sym t.count_is) ∙ after_is_drop held (take at held ++ o.0) t.after parts in
-      let here : f.says (state_after f r.first r.values) (drop at held) (whole t.value t.after) = subst (λ (p : S). f.says p (drop at held) (whole t.value t.after)) (sym r.state_is) t.text in
-      record {
-        first = r.first;
-        after = r.after;
-        values = r.values ++ t.value ∷ [];
-        opening = r.opening;
-        texts = rw left (texts_push f r.first r.values t.value r.after (drop at held) t.after r.texts here);
-        parts = map_push part r.values t.value ∙ ap (λ (l : List W). l ++ part t.value ∷ []) r.parts ∙ ap (λ (x : W). ws ++ x ∷ []) (sym t.part_is);
-        state_is = state_push f r.first r.values t.value ∙ ap (λ (p : S). f.goes p t.value) r.state_is ∙ sym t.goes;
-      }
+      let o = laws.own q (drop at held) t.0 t.1.value t.1.text in
+      let parts : held ≡ (take at held ++ o.0) ++ t.0 = sym (take-append-drop at held) ∙ ap (λ (l : List ℕ). take at held ++ l) o.1 ∙ sym (append_assoc (take at held) o.0 t.0) in
+      let left : drop (length held - count) held ≡ t.0 = ap (λ (n : ℕ). drop (length held - n) held) (sym t.2) ∙ after_is_drop held (take at held ++ o.0) t.0 parts in
+      record { first = r.first; after = r.after; opening = r.opening; leads = rw left (leads_more f part r.first q next ws w r.after (drop at held) t.0 r.leads t.1) }
 
   pub item_shorter : (q next : S) (w : W) (held : List ℕ) (at count : ℕ) → TakesPart f part q next w (drop at held) count → count < length held - at
-  item_shorter q next w held at count t = omega (arith, shorter f laws q t.value (drop at held) t.after t.text, t.count_is, length-drop at held)
+  item_shorter q next w held at count t = omega (arith, leads_shorter f part laws q next w (drop at held) t.0 t.1, t.2, length-drop at held)
 
 module _ {P S V W : Type 0} (opens : List ℕ → Verdict S → Type 0) (opening : IsOpening opens) (f : Format S V) (laws : IsLawful f) (part : V → W) (state : P → S) where
   -- a piece after items
@@ -181,18 +173,15 @@ module _ {P S V W : Type 0} (opens : List ℕ → Verdict S → Type 0) (opening
   reaches_more q ws s left more r = record {
     first = r.first;
     after = r.after ++ more;
-    values = r.values;
     opening = opening.stable.text s more r.after r.first r.opening;
-    texts = texts_more f laws r.first r.values r.after left more r.texts;
-    parts = r.parts;
-    state_is = r.state_is;
+    leads = record { values = r.leads.values; texts = texts_more f laws r.first r.leads.values r.after left more r.leads.texts; parts = r.leads.parts; state_is = r.leads.state_is };
   }
 
   -- a capture that opens
   pub reaches_first : (q : S) (s after : List ℕ) → opens s (whole q after) → Reaches opens f part q [] s (drop (length s - length after) s)
   reaches_first q s after x =
       let o = opening.ends s after q x in
-      record { first = q; after = after; values = []; opening = x; texts = sym (after_is_drop s o.0 after o.1); parts = refl; state_is = refl }
+      record { first = q; after = after; opening = x; leads = rw (after_is_drop s o.0 after o.1) (leads_none f part q after) }
 
   pub opening_within : (q : S) (s after : List ℕ) → opens s (whole q after) → length after ≤ length s
   opening_within q s after x = let o = opening.ends s after q x in omega (arith, ap length o.1, length-append o.0 after)
@@ -211,15 +200,16 @@ module _ {P S V W : Type 0} (opens : List ℕ → Verdict S → Type 0) (opening
   waiting_holds s (Within parser rest) held ws waiting =
       let r : Reaches opens f part (state parser) ws s held = waiting.0 in
       let longest = asked_no_text (state parser) held rest waiting.1 in
-      let all : Front f r.first r.values r.after held = record { texts = r.texts; longest = λ v after x. longest v after (subst (λ (p : S). f.says p held (whole v after)) r.state_is x) } in
-      inl (r.first, r.after, r.values, held, r.opening, all, ap length (sym r.parts) ∙ length-map r.values part)
+      let all : Front f r.first r.leads.values r.after held =
+      record { texts = r.leads.texts; longest = λ v after x. longest v after (subst (λ (p : S). f.says p held (whole v after)) r.leads.state_is x) } in
+      inl (r.first, r.after, r.leads.values, held, r.opening, all, ap length (sym r.leads.parts) ∙ length-map r.leads.values part)
 
   -- what is held is no more than what came
   pub waiting_within : (s : List ℕ) (progress : Progress P) (held : List ℕ) (ws : List W) → IsWaiting opens f part state s progress held ws → length held ≤ length s
   waiting_within s (Before error) held ws waiting = omega (arith, ap length waiting.0)
   waiting_within s (Within parser rest) held ws waiting =
       let r : Reaches opens f part (state parser) ws s held = waiting.0 in
-      omega (arith, opening_within r.first s r.after r.opening, texts_long f laws r.first r.values r.after held r.texts)
+      omega (arith, opening_within r.first s r.after r.opening, texts_long f laws r.first r.leads.values r.after held r.leads.texts)
 
   -- fewer bytes than are missing
   pub waits : (s more : List ℕ) (progress : Progress P) (missing : ℕ) (held : List ℕ) (ws : List W) → length more < missing → IsWaiting opens f part state s (progress_with progress missing) held ws

@@ -1,7 +1,7 @@
 -- The error that names a broken rule refuses the bytes that break it.
 use Rattle.std.proofs.Common.{ℕ, List, Result, Ok, Err}
 use Rattle.std.specs.Borrow.{Bor}
-use Rattle.std.specs.Prelude.{⊤, IfErr, OnErr}
+use Rattle.std.specs.Prelude.{⊤}
 use Rattle.std.specs.Result.{IsErrAnd}
 use Rattle.pcap_core.specs.declared.errors.PcapError.{PcapError}
 use Rattle.pcap_core.specs.declared.errors.PcapError.TheVariants as errors
@@ -9,7 +9,7 @@ use Rattle.pcap_core.specs.declared.rules.Rule.{Rule}
 use Rattle.pcap_core.specs.Answer.{Verdict, lacks, faulty, Refuses, TellsWhere}
 use Rattle.pcap_core.specs.Errors.{IsMemory}
 use Rattle.pcap_core.specs.Filling.{StatesRest, TellsSettled}
-use Rattle.pcap_core.specs.Found.{found_of, FindsWhere, UnlessItem}
+use Rattle.pcap_core.specs.Found.{found_of, FindsWhere}
 use Rattle.pcap_core.specs.Faults.{Fault, Invalid, Io, Utf8, Names, Shows}
 
 pub named_refuses : (M : Type 0) (L : ℕ → Type 0) (F : Fault → Type 0) (rule : Rule) (e : PcapError) → F (Invalid rule) → Names rule e → Refuses M L F e
@@ -78,36 +78,15 @@ shown_fault Stands (errors.OutOfMemory e) shown = absurd shown
 shown_fault Stands errors.WriterFailed shown = absurd shown
 
 -- what a parser tells, and what is found in its answer
-pub found_tells : {X V : Type 0} (M : Type 0) (IsSaid : Verdict V → Type 0) (view : X → V) (answer : Result (Bor (List ℕ) × X) PcapError) → TellsWhere M IsSaid view answer → FindsWhere IsSaid view (found_of answer)
+pub found_tells : {X V : Type 0} (M : Type 0) (IsSaid : Verdict V → Type 0) (view : X → V) (answer : Result (Bor (List ℕ) × X) PcapError) → TellsWhere M IsSaid view answer → FindsWhere M IsSaid view (found_of answer)
 found_tells M IsSaid view (Ok x) tells = tells
 found_tells M IsSaid view (Err (errors.IncompleteBuffer n)) tells = tells
 found_tells M IsSaid view (Err (errors.InvalidField text)) tells = tells
 found_tells M IsSaid view (Err (errors.IoError e)) tells = tells
 found_tells M IsSaid view (Err (errors.Utf8Error e)) tells = tells
 found_tells M IsSaid view (Err (errors.FromUtf8Error e)) tells = tells
-found_tells M IsSaid view (Err (errors.OutOfMemory e)) tells = tt
+found_tells M IsSaid view (Err (errors.OutOfMemory e)) tells = tells
 found_tells M IsSaid view (Err errors.WriterFailed) tells = tells
-
--- where it is an error, something may grow
-pub found_memory : {X V : Type 0} (M : Type 0) (IsSaid : Verdict V → Type 0) (view : X → V) (answer : Result (Bor (List ℕ) × X) PcapError) → TellsWhere M IsSaid view answer → IfErr (found_of answer) (λ e. M)
-found_memory M IsSaid view (Ok x) tells = tt
-found_memory M IsSaid view (Err (errors.IncompleteBuffer n)) tells = tt
-found_memory M IsSaid view (Err (errors.InvalidField text)) tells = tt
-found_memory M IsSaid view (Err (errors.IoError e)) tells = tt
-found_memory M IsSaid view (Err (errors.Utf8Error e)) tells = tt
-found_memory M IsSaid view (Err (errors.FromUtf8Error e)) tells = tt
-found_memory M IsSaid view (Err (errors.OutOfMemory e)) tells = tells
-found_memory M IsSaid view (Err errors.WriterFailed) tells = tt
-
-pub unless_found : {X : Type 0} (P : Type 0) (answer : Result X PcapError) → OnErr answer P → UnlessItem P (found_of answer)
-unless_found P (Ok x) holds = tt
-unless_found P (Err (errors.IncompleteBuffer n)) holds = holds
-unless_found P (Err (errors.InvalidField text)) holds = holds
-unless_found P (Err (errors.IoError e)) holds = holds
-unless_found P (Err (errors.Utf8Error e)) holds = holds
-unless_found P (Err (errors.FromUtf8Error e)) holds = holds
-unless_found P (Err (errors.OutOfMemory e)) holds = holds
-unless_found P (Err errors.WriterFailed) holds = holds
 
 -- a refusal without memory is one with it, and want of memory is one too
 pub refuses_grown : (L : ℕ → Type 0) (F : Fault → Type 0) (e : PcapError) → Refuses ⊥ L F e → Refuses ⊤ L F e

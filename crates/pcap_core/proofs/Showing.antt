@@ -1,20 +1,22 @@
 -- Bytes that are shown as they are asked for, after those of earlier items.
-use Rattle.std.proofs.Common.{◌≡◌, ◌<◌, ◌≤◌, ◌+◌, ◌-◌, ◌*◌, ℕ, List, [], ◌∷◌, ◌++◌, length, take, drop, refl, sym, ap, subst, ◌∙◌, arith, append_assoc, append-nil, length-append, length-drop, inl, inr}
-use Rattle.std.proofs.lemmas.List.{drop-take, drop-drop}
+use Rattle.std.proofs.Common.{◌≡◌, ◌<◌, ◌≤◌, ◌+◌, ◌-◌, ◌*◌, ℕ, List, [], ◌∷◌, ◌++◌, length, take, drop, map, refl, sym, ap, subst, ◌∙◌, arith, append_assoc, append-nil, length-append, length-drop, inl, inr}
+use Rattle.std.proofs.lemmas.List.{drop-take, drop-drop, length-map, map-append}
 use Rattle.std.specs.Prelude.{min}
 use Rattle.std.proofs.Math.Nat.{min-le_left, min-le_right, min-eq_left, min-eq_right}
 use Rattle.std.proofs.lemmas.Bool.{cases_lt}
-use Rattle.pcap_core.specs.declared.errors.PcapError.{PcapError}
-use Rattle.pcap_core.specs.Faults.{Fault, Shows}
+use Rattle.pcap_core.specs.declared.run.items.Ended.{Ended}
+use Rattle.pcap_core.specs.declared.run.items.Ended.TheVariants as ends
+use Rattle.pcap_core.specs.Faults.{Fault}
 use Rattle.pcap_core.specs.Answer.{Verdict, whole, lacks, faulty}
-use Rattle.pcap_core.specs.Format.{Format, Front, state_after, IsLawful}
+use Rattle.pcap_core.specs.Format.{Format, state_after, IsLawful}
 use Rattle.pcap_core.specs.Requested.{ItemRequests, AsksItem}
 use Rattle.pcap_core.specs.Exact.{ExactItems}
+use Rattle.pcap_core.specs.Items.{EndsWith, LeadsBy, LeadsTo}
 use Rattle.pcap_core.specs.Run.{IsRest}
 use Rattle.pcap_core.specs.declared.rest.Rest.{Rest}
 use Rattle.pcap_core.specs.declared.rest.Rest.TheVariants.{Clean, Needs, Refused}
-use Rattle.pcap_core.proofs.Formats.{lacks_no_text, fault_no_text, nothing_no_text, only, requests_left}
-use Rattle.pcap_core.proofs.Refusals.{shows_more, shown_fault}
+use Rattle.pcap_core.proofs.Formats.{lacks_no_text, fault_no_text, nothing_no_text, only, requests_left, state_push}
+use Rattle.pcap_core.proofs.Refusals.{shown_fault}
 use Rattle.pcap_core.proofs.Requested.{Asking, asking_none, asking_few, asking_more, asking_smaller, asking_item, asking_fault, asking_short, asking_told, asking_ended, items_push, items_few, item_texts, texts_long, run_few}
 
 -- fewer than were asked for are all that were left
@@ -110,13 +112,11 @@ module _ {S V : Type 0} {f : Format S V} {laws : IsLawful f} {q : S} {bytes : Li
       absurd cc
 
   -- a fault
-  pub showing_refused : (e : PcapError) → Shows (λ fault. f.says q (drop start (take shown bytes)) (faulty fault)) e → AsksItem f q (drop start bytes) earlier now first count
-  showing_refused e shows =
-      let stands : (fault : Fault) × f.says q (drop start (take shown bytes)) (faulty fault) = shown_fault _ e shows in
-      asked_told (λ n x. fault_lacks n stands.0 stands.1 x)
+  pub showing_refused : (fault : Fault) → f.says q (drop start (take shown bytes)) (faulty fault) → AsksItem f q (drop start bytes) earlier now first count
+  showing_refused fault stands = asked_told (λ n x. fault_lacks n fault stands x)
 
-  pub showing_fault : (e : PcapError) → Shows (λ fault. f.says q (drop start (take shown bytes)) (faulty fault)) e → Shows (λ fault. f.says q (drop start bytes) (faulty fault)) e
-  showing_fault e shows = shows_more (λ fault x. asking_fault f laws q (drop start bytes) a.m fault (said (faulty fault) x)) e shows
+  pub showing_fault : (fault : Fault) → f.says q (drop start (take shown bytes)) (faulty fault) → f.says q (drop start bytes) (faulty fault)
+  showing_fault fault stands = asking_fault f laws q (drop start bytes) a.m fault (said (faulty fault) stands)
 
   -- a request that is not met
   pub showing_ended : (n k : ℕ) → f.says q (drop start (take shown bytes)) (lacks n) → k ≡ min n (length bytes - shown) → k < n → AsksItem f q (drop start bytes) earlier (now ++ n ∷ []) first (count + 1)
@@ -136,60 +136,86 @@ module _ {S V : Type 0} {f : Format S V} {laws : IsLawful f} {q : S} {bytes : Li
 
 -- ---- whole runs
 
--- the requests for these items stand after the earlier ones and were counted
-pub record Exacting {S V : Type 0} (f : Format S V) (q : S) (vs : List V) (s left earlier now : List ℕ) (first count : ℕ) : Type 0 where
+-- the requests for items of which these parts are kept stand after the earlier ones and were counted, and the items lead from one state to the next
+pub record Exacting {S V W : Type 0} (f : Format S V) (part : V → W) (q next : S) (ws : List W) (s left earlier now : List ℕ) (first count : ℕ) : Type 0 where
+  pub values : List V
   pub ns : List ℕ
-  pub items : ItemRequests f q vs s left ns
+  pub items : ItemRequests f q values s left ns
+  pub parts : map part values ≡ ws
+  pub state_is : state_after f q values ≡ next
   pub grown : now ≡ earlier ++ ns
   pub counted : count ≡ first + length ns
 
-pub exacting_none : {S V : Type 0} (f : Format S V) (q : S) (s earlier : List ℕ) (first : ℕ) → Exacting f q [] s s earlier earlier first first
-exacting_none f q s earlier first = record { ns = []; items = (refl, refl); grown = sym (append-nil earlier); counted = omega arith }
+pub exacting_none : {S V W : Type 0} (f : Format S V) (part : V → W) (q : S) (s earlier : List ℕ) (first : ℕ) → Exacting f part q q [] s s earlier earlier first first
+exacting_none f part q s earlier first =
+    record { values = []; ns = []; items = (refl, refl); parts = refl; state_is = refl; grown = sym (append-nil earlier); counted = omega arith }
 
-module _ {S V : Type 0} {f : Format S V} {q : S} {vs : List V} {s mid earlier now : List ℕ} {first count : ℕ} (a : Exacting f q vs s mid earlier now first count) where
-  pub exacting_item : (v : V) {rest next : List ℕ} {more : ℕ} → AsksItem f (state_after f q vs) mid now next count more → f.says (state_after f q vs) mid (whole v rest) → Exacting f q (vs ++ v ∷ []) s rest earlier next first more
-  exacting_item v {rest = rest} asked text = record {
-    ns = a.ns ++ asked.requests;
-    items = items_push f q vs v s mid rest a.ns asked.requests a.items text asked.asked;
-    grown = asked.grown ∙ ap (λ (l : List ℕ). l ++ asked.requests) a.grown ∙ append_assoc earlier a.ns asked.requests;
-    counted = omega (arith, asked.counted, a.counted, length-append a.ns asked.requests);
-  }
+module _ {S V W : Type 0} {f : Format S V} {part : V → W} {q p : S} {ws : List W} {s mid earlier now : List ℕ} {first count : ℕ} (a : Exacting f part q p ws s mid earlier now first count) where
+  asks_here : {next : List ℕ} {more : ℕ} → AsksItem f p mid now next count more → AsksItem f (state_after f q a.values) mid now next count more
+  asks_here {next = next} {more = more} asked = subst (λ (r : S). AsksItem f r mid now next count more) (sym a.state_is) asked
+
+  pub exacting_texts : LeadsTo f part q p ws s mid
+  exacting_texts = record { values = a.values; texts = item_texts f q a.values s mid a.ns a.items; parts = a.parts; state_is = a.state_is }
+
+  pub exacting_item : {next : S} {w : W} {rest further : List ℕ} {more : ℕ} → AsksItem f p mid now further count more → LeadsBy f part p next w mid rest
+      → Exacting f part q next (ws ++ w ∷ []) s rest earlier further first more
+  exacting_item {next = next} {w = w} {rest = rest} asked by =
+      let here = asks_here asked in
+      let text : f.says (state_after f q a.values) mid (whole by.value rest) = subst (λ (r : S). f.says r mid (whole by.value rest)) (sym a.state_is) by.text in
+      record {
+        values = a.values ++ by.value ∷ [];
+        ns = a.ns ++ here.requests;
+        items = items_push f q a.values by.value s mid rest a.ns here.requests a.items text here.asked;
+        parts = map-append part a.values (by.value ∷ []) ∙ ap (λ (ps : List W). ps ++ part by.value ∷ []) a.parts ∙ ap (λ (x : W). ws ++ x ∷ []) (sym by.part_is);
+        state_is = state_push f q a.values by.value ∙ ap (λ (r : S). f.goes r by.value) a.state_is ∙ sym by.goes;
+        grown = here.grown ∙ ap (λ (l : List ℕ). l ++ here.requests) a.grown ∙ append_assoc earlier a.ns here.requests;
+        counted = omega (arith, here.counted, a.counted, length-append a.ns here.requests);
+      }
 
   -- the rest after them is refused, or lacks bytes
-  pub exacting_rest : {start used : ℕ} {bytes : List ℕ} {next : List ℕ} {more : ℕ} {rest : Rest} → s ≡ drop start bytes → mid ≡ drop used bytes → used ≤ length bytes
-      → 0 < length mid → AsksItem f (state_after f q vs) mid now next count more → IsRest (f.says (state_after f q vs)) mid rest → ExactItems f q vs bytes start used rest earlier next first more
-  exacting_rest {start = start} {used = used} {bytes = bytes} {rest = rest} from to within some asked is = record {
-    requests = a.ns ++ asked.requests;
-    asked = record {
-      for_items = a.ns;
-      at_rest = asked.requests;
-      items = rw (← from, ← to) a.items;
-      last = inr (rw (← to) some, rw (← to) asked.asked);
-      all = refl;
-    };
-    within = within;
-    rest_is = subst (λ (t : List ℕ). IsRest (f.says (state_after f q vs)) t rest) to is;
-    grown = asked.grown ∙ ap (λ (l : List ℕ). l ++ asked.requests) a.grown ∙ append_assoc earlier a.ns asked.requests;
-    counted = omega (arith, asked.counted, a.counted, length-append a.ns asked.requests);
-  }
+  pub exacting_rest : {E : Type 0} {ShowsIt : E → Fault → Type 0} {ended : Ended E} {start used : ℕ} {bytes : List ℕ} {further : List ℕ} {more : ℕ} → s ≡ drop start bytes → mid ≡ drop used bytes
+      → used ≤ length bytes → 0 < length mid → AsksItem f p mid now further count more → EndsWith ShowsIt (f.says p) mid ended → ExactItems f part ShowsIt q p ws bytes start used ended earlier further first more
+  exacting_rest {ShowsIt = ShowsIt} {ended = ended} from to within some asked ends =
+      let here = asks_here asked in
+      record {
+        values = a.values;
+        requests = a.ns ++ here.requests;
+        asked = record {
+          for_items = a.ns;
+          at_rest = here.requests;
+          items = rw (← from, ← to) a.items;
+          last = inr (rw (← to) some, rw (← to) here.asked);
+          all = refl;
+        };
+        parts = a.parts;
+        state_is = a.state_is;
+        within = within;
+        ends = subst (λ (t : List ℕ). EndsWith ShowsIt (f.says p) t ended) to ends;
+        grown = here.grown ∙ ap (λ (l : List ℕ). l ++ here.requests) a.grown ∙ append_assoc earlier a.ns here.requests;
+        counted = omega (arith, here.counted, a.counted, length-append a.ns here.requests);
+      }
 
   -- nothing is left after them
-  pub exacting_end : {start used : ℕ} {bytes : List ℕ} → s ≡ drop start bytes → mid ≡ drop used bytes → used ≤ length bytes → mid ≡ [] → ExactItems f q vs bytes start used Clean earlier now first count
+  pub exacting_end : {E : Type 0} {ShowsIt : E → Fault → Type 0} {start used : ℕ} {bytes : List ℕ} → s ≡ drop start bytes → mid ≡ drop used bytes → used ≤ length bytes → mid ≡ []
+      → ExactItems f part ShowsIt q p ws bytes start used ends.Clean earlier now first count
   exacting_end from to within none = record {
+    values = a.values;
     requests = a.ns;
     asked = record { for_items = a.ns; at_rest = []; items = rw (← from, ← to) a.items; last = inl (sym to ∙ none, refl); all = sym (append-nil a.ns) };
+    parts = a.parts;
+    state_is = a.state_is;
     within = within;
-    rest_is = sym to ∙ none;
+    ends = sym to ∙ none;
     grown = a.grown;
     counted = a.counted;
   }
 
   -- how many they are
-  pub exacting_few : count ≤ first + 2 * length vs
-  exacting_few = omega (arith, a.counted, items_few f q vs s mid a.ns a.items)
+  pub exacting_few : count ≤ first + 2 * length ws
+  exacting_few = omega (arith, a.counted, items_few f q a.values s mid a.ns a.items, length-map a.values part, ap length a.parts)
 
-  pub exacting_long : IsLawful f → length vs + length mid ≤ length s
-  exacting_long laws = texts_long f laws q vs s mid (item_texts f q vs s mid a.ns a.items)
+  pub exacting_long : IsLawful f → length ws + length mid ≤ length s
+  exacting_long laws = omega (arith, texts_long f laws q a.values s mid (item_texts f q a.values s mid a.ns a.items), length-map a.values part, ap length a.parts)
 
 -- no item's text begins a rest
 pub rest_no_text : {S V : Type 0} (f : Format S V) → IsLawful f → (q : S) (left : List ℕ) (rest : Rest) → IsRest (f.says q) left rest → (v : V) (after : List ℕ) → f.says q left (whole v after) → ⊥
@@ -199,16 +225,12 @@ rest_no_text f laws q left (Refused e) is v after text =
     let stands : (fault : Fault) × f.says q left (faulty fault) = shown_fault _ e is in
     fault_no_text f laws q stands.0 left stands.1 v after text
 
--- the items that were shown are the front
-pub exact_front : {S V : Type 0} {f : Format S V} {q : S} {vs : List V} {bytes : List ℕ} {start used : ℕ} {rest : Rest} {earlier now : List ℕ} {first count : ℕ} → IsLawful f
-    → ExactItems f q vs bytes start used rest earlier now first count → Front f q vs (drop start bytes) (drop used bytes)
-exact_front {f = f} {q = q} {vs = vs} {bytes = bytes} {start = start} {used = used} {rest = rest} laws x = record {
-  texts = item_texts f q vs (drop start bytes) (drop used bytes) x.asked.for_items x.asked.items;
-  longest = rest_no_text f laws (state_after f q vs) (drop used bytes) rest x.rest_is;
-}
+module _ {E S V W : Type 0} {f : Format S V} {part : V → W} {ShowsIt : E → Fault → Type 0} {q p : S} {ws : List W} {bytes : List ℕ} {start used : ℕ} {ended : Ended E} {earlier now : List ℕ}
+    {first count : ℕ} (x : ExactItems f part ShowsIt q p ws bytes start used ended earlier now first count) where
+  -- the items that were shown
+  pub exact_leads : LeadsTo f part q p ws (drop start bytes) (drop used bytes)
+  exact_leads = record { values = x.values; texts = item_texts f q x.values (drop start bytes) (drop used bytes) x.asked.for_items x.asked.items; parts = x.parts; state_is = x.state_is }
 
--- how many requests there are
-pub exact_few : {S V : Type 0} {f : Format S V} {q : S} {vs : List V} {bytes : List ℕ} {start used : ℕ} {rest : Rest} {earlier now : List ℕ} {first count : ℕ}
-    → ExactItems f q vs bytes start used rest earlier now first count → count ≤ first + 2 * length vs + 2
-exact_few {f = f} {q = q} {vs = vs} {bytes = bytes} {start = start} {used = used} x =
-    omega (arith, x.counted, run_few f q vs (drop start bytes) (drop used bytes) x.requests x.asked)
+  -- how many requests there are
+  pub exact_few : count ≤ first + 2 * length ws + 2
+  exact_few = omega (arith, x.counted, run_few f q x.values (drop start bytes) (drop used bytes) x.requests x.asked, length-map x.values part, ap length x.parts)

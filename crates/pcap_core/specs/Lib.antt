@@ -23,6 +23,7 @@ pub mod Requests
 pub mod Window
 pub mod Requested
 pub mod Found
+pub mod Items
 pub mod Exact
 pub mod Pieces
 pub mod Waiting

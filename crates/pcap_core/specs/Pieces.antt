@@ -1,5 +1,5 @@
 -- What is known of bytes that come in pieces, over any format.
-use Rattle.std.specs.Prelude.{◌≡◌, ◌+◌, ◌⊎◌, ℕ, List, [], ◌∷◌, ◌++◌, length, map, Result, Ok, Err}
+use Rattle.std.specs.Prelude.{◌≡◌, ◌+◌, ◌⊎◌, ℕ, List, [], ◌∷◌, ◌++◌, length, Result, Ok, Err}
 use Rattle.std.specs.Borrow.{Bor}
 use Rattle.std.specs.List.{flat_map}
 use Rattle.pcap_core.specs.declared.errors.PcapError.{PcapError}
@@ -10,7 +10,8 @@ use Rattle.pcap_core.specs.declared.run.pieces.Progress.TheVariants.{Before, Wit
 use Rattle.pcap_core.specs.Answer.{Verdict, whole, lacks, faulty, Refuses}
 use Rattle.pcap_core.specs.Errors.{IsMemory}
 use Rattle.pcap_core.specs.Faults.{Shows}
-use Rattle.pcap_core.specs.Format.{Format, Front, Texts, state_after}
+use Rattle.pcap_core.specs.Format.{Format, Front}
+use Rattle.pcap_core.specs.Items.{LeadsBy, LeadsTo}
 use Rattle.pcap_core.specs.Laws.{ExactlyOne, IsStable}
 use Rattle.pcap_core.specs.Run.{IsRest}
 
@@ -45,11 +46,8 @@ HoldsItems {S = S} {V = V} opens f s n =
 pub record Reaches {S V W : Type 0} (opens : List ℕ → Verdict S → Type 0) (f : Format S V) (part : V → W) (q : S) (ws : List W) (s left : List ℕ) : Type 0 where
   pub first : S
   pub after : List ℕ
-  pub values : List V
   pub opening : opens s (whole first after)
-  pub texts : Texts f first values after left
-  pub parts : map part values ≡ ws
-  pub state_is : state_after f first values ≡ q
+  pub leads : LeadsTo f part first q ws after left
 
 -- the bytes s came, and these are held: all of them where nothing opens a capture yet, and else those that no item has taken, which begin no item
 abbrev pub IsFed : {P S V W : Type 0} → (List ℕ → Verdict S → Type 0) → Format S V → (V → W) → (P → S) → List ℕ → Progress P → List ℕ → List W → Type 0
@@ -68,23 +66,18 @@ pub record IsFedUpTo {P S V W : Type 0} (opens : List ℕ → Verdict S → Type
   pub used_is : used + length left ≡ length s
 
 -- what a parser tells of bytes at whose front a capture opens: the parser after that, and how many bytes follow; or n bytes lack; or there is a fault; or it found no memory
-abbrev pub OpensWith : {P S : Type 0} → (List ℕ → Verdict S → Type 0) → (P → S) → List ℕ → Result (Found (P × ℕ)) PcapError → Type 0
+abbrev pub OpensWith : {P S : Type 0} → (List ℕ → Verdict S → Type 0) → (P → S) → List ℕ → Result (Found (P × ℕ) PcapError) PcapError → Type 0
 OpensWith opens state s (Ok (Item x)) = (after : List ℕ) × opens s (whole (state x.0) after) × (length after ≡ x.1)
 OpensWith opens state s (Ok (Needs n)) = opens s (lacks n)
 OpensWith opens state s (Ok (Refused error)) = Shows (λ fault. opens s (faulty fault)) error
 OpensWith opens state s (Err error) = IsMemory error
 
 -- an item of which this part is kept begins s, leads to the next state, and count bytes follow it
-pub record TakesPart {S V W : Type 0} (f : Format S V) (part : V → W) (q next : S) (w : W) (s : List ℕ) (count : ℕ) : Type 0 where
-  pub value : V
-  pub after : List ℕ
-  pub text : f.says q s (whole value after)
-  pub goes : next ≡ f.goes q value
-  pub part_is : w ≡ part value
-  pub count_is : length after ≡ count
+abbrev pub TakesPart : {S V W : Type 0} → Format S V → (V → W) → S → S → W → List ℕ → ℕ → Type 0
+TakesPart f part q next w s count = (after : List ℕ) × LeadsBy f part q next w s after × (length after ≡ count)
 
 -- what a parser tells of bytes where an item is asked for
-abbrev pub TakesFront : {X S V W : Type 0} → Format S V → (V → W) → (X → W) → S → S → List ℕ → Result (Found (X × ℕ)) PcapError → Type 0
+abbrev pub TakesFront : {X S V W : Type 0} → Format S V → (V → W) → (X → W) → S → S → List ℕ → Result (Found (X × ℕ) PcapError) PcapError → Type 0
 TakesFront f part view q next s (Ok (Item x)) = TakesPart f part q next (view x.0) s x.1
 TakesFront f part view q next s (Ok (Needs n)) = (next ≡ q) × f.says q s (lacks n)
 TakesFront f part view q next s (Ok (Refused error)) = (next ≡ q) × Shows (λ fault. f.says q s (faulty fault)) error

@@ -1,11 +1,15 @@
 //! What runs over bytes that are shown, or come, a few at a time share.
 
+mod exact;
 mod found;
+mod items;
 mod pieces;
 mod requests;
 mod window;
 
+pub use exact::show_items;
 pub use found::{Found, found_in};
+pub use items::{Ended, ItemRun, Items, parse_items};
 pub use pieces::{PieceParser, Pieces, Progress, feed_pieces, pieces_fit};
 pub use requests::{Request, Requests};
 pub use window::Window;

@@ -1,9 +1,8 @@
 -- Blocks of a capture that comes in pieces.
-use Rattle.std.proofs.Common.{◌≡◌, ℕ, List, ◌∷◌, length, map, refl, sym, ap, subst, ◌∙◌, inl, inr}
+use Rattle.std.proofs.Common.{◌≡◌, ℕ, List, length, map, refl, sym, ap, ◌∙◌, inl, inr}
 use Rattle.std.proofs.lemmas.List.{length-map}
 use Rattle.pcap_core.specs.declared.run.pieces.Progress.TheVariants.{Within}
-use Rattle.pcap_core.specs.Answer.{whole}
-use Rattle.pcap_core.specs.Format.{Front}
+use Rattle.pcap_core.specs.Format.{state_after}
 use Rattle.pcap_core.specs.Pieces.{HoldsItems, IsFedUpTo, IsOpening, OpensNone, Reaches}
 use Rattle.pcap_core.proofs.Showing.{rest_no_text}
 use Rattle.pcap_file.specs.declared.run.NgRun.{NgRun}
@@ -18,6 +17,7 @@ use Rattle.pcap_file.specs.State.{State, opening}
 use Rattle.pcap_file.proofs.BlockFormat.{blocks_lawful}
 use Rattle.pcap_file.proofs.CaptureFronts.{front_same_ng}
 use Rattle.pcap_file.proofs.FirstBlock.{opening_one, opening_stable}
+use Rattle.pcap_file.proofs.Running.{run_front}
 
 pub first_opening : IsOpening OpeningSays
 unfolding block_format
@@ -27,37 +27,22 @@ first_opening = record {
   ends = λ s rest q x. let o = blocks_lawful.own opening s rest (record { block = x.0; after = q }) x.1 in (o.0, o.1);
 }
 
--- the front after a first block is the front with it
-front_first : (q : State) (items : List Item) (s after rest : List ℕ) → (text : OpeningSays s (whole q after)) → Front block_format q items after rest
-    → Front block_format opening (record { block = text.0; after = q } ∷ items) s rest
-unfolding block_format
-front_first q items s after rest text front = record { texts = (after, text.1, front.texts); longest = front.longest }
-
 pub holds_blocks : (s : List ℕ) (n : ℕ) → HoldsItems OpeningSays block_format s n → HoldsBlocks s n
 unfolding block_format
 holds_blocks s n (inl x) =
-    let first : Item = record { block = x.4.0; after = x.0 } in
-    let front : NgFront _ _ s x.3 = record { first = first; items = x.2; front = front_first x.0 x.2 s x.1 x.3 x.4 x.5; blocks_are = refl; in_force = refl } in
-    inl (_, _, x.3, front, x.6 ∙ sym (length-map x.2 (λ (item : Item). item.block)))
+    let part : Item → Framed = λ item. item.block in
+    let now = state_after block_format x.0 x.2 in
+    let front = run_front x.0 now (map part x.2) s x.1 x.3 x.4 (record { values = x.2; texts = x.5.texts; parts = refl; state_is = refl }) x.5.longest in
+    inl (now, map part x.2, x.3, front, x.6 ∙ sym (length-map x.2 part))
 holds_blocks s n (inr x) = inr x
 
 -- a run over all pieces
 pub fed_run : (s : List ℕ) (run : NgRun) → IsFedUpTo OpeningSays block_format (λ (item : Item). item.block) state_of s (Within run.parser run.rest) run.used (map framed_of run.blocks.items) → IsRun run s
-unfolding block_format
 fed_run s run x =
     let r : Reaches OpeningSays block_format (λ (item : Item). item.block) (state_of run.parser) (map framed_of run.blocks.items) s x.left = x.fed.0 in
-    let longest = rest_no_text block_format blocks_lawful (state_of run.parser) x.left run.rest x.fed.1 in
-    let front : Front block_format r.first r.values r.after x.left =
-    record { texts = r.texts; longest = λ item after y. longest item after (subst (λ (q : State). block_format.says q x.left (whole item after)) r.state_is y) } in
     record {
       left = x.left;
-      front = record {
-        first = record { block = r.opening.0; after = r.first };
-        items = r.values;
-        front = front_first r.first r.values s r.after x.left r.opening front;
-        blocks_are = r.parts;
-        in_force = r.state_is;
-      };
+      front = run_front r.first (state_of run.parser) (map framed_of run.blocks.items) s r.after x.left r.opening r.leads (rest_no_text block_format blocks_lawful (state_of run.parser) x.left run.rest x.fed.1);
       used = x.used_is;
       rest = x.fed.1;
     }

@@ -1,22 +1,10 @@
 -- What a run tells over a capture that is shown exactly as it is asked for.
-use Rattle.std.specs.Prelude.{◌≡◌, ◌≤◌, ◌+◌, ◌*◌, ℕ, List, ◌∷◌, ◌++◌, length, map}
-use Rattle.pcap_core.specs.declared.rest.Rest.{Rest}
-use Rattle.pcap_core.specs.Exact.{ExactItems}
-use Rattle.pcap_core.specs.Format.{state_after}
+use Rattle.std.specs.Prelude.{◌≡◌, ◌≤◌, ◌+◌, ◌*◌, ℕ, List, ◌∷◌, ◌++◌, length}
 use Rattle.pcap_core.specs.Requested.{RunRequests, AsksItem}
 use Rattle.pcap_file.specs.declared.run.NgRun.{NgRun}
-use Rattle.pcap_file.specs.Blocks.{Item, block_format}
-use Rattle.pcap_file.specs.Frames.{Framed}
+use Rattle.pcap_file.specs.Blocks.{block_format}
 use Rattle.pcap_file.specs.Run.{IsRun}
-use Rattle.pcap_file.specs.State.{State, opening}
-
--- these are the blocks in bytes from start on, which end where used bytes do, and lead from one state to the next; this is said of the
--- rest; and the requests for all of it stand after the earlier ones, and a count that was first grew by their number
-pub record ExactBlocks (q next : State) (blocks : List Framed) (bytes : List ℕ) (start used : ℕ) (rest : Rest) (earlier now : List ℕ) (first count : ℕ) : Type 0 where
-  pub items : List Item
-  pub exact : ExactItems block_format q items bytes start used rest earlier now first count
-  pub blocks_are : map (λ (item : Item). item.block) items ≡ blocks
-  pub in_force : state_after block_format q items ≡ next
+use Rattle.pcap_file.specs.State.{opening}
 
 -- the run is the run over s; its requests, those for the first block too, stand after the earlier ones; and count is how many they
 -- are: at most two a block, and four ('General Block Structure')

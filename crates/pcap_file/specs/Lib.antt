@@ -14,3 +14,4 @@ pub mod Reads
 pub mod StatedFrames
 pub mod Exact
 pub mod Pieces
+pub mod Copies

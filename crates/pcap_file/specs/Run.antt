@@ -1,9 +1,6 @@
 -- What a run over a whole slice tells.
-use Rattle.std.specs.Prelude.{◌≡◌, ◌+◌, ℕ, List, length, map, Result, Ok, Err}
-use Rattle.pcap_core.specs.declared.errors.PcapError.{PcapError}
-use Rattle.pcap_core.specs.declared.rest.Rest.{Rest}
-use Rattle.pcap_core.specs.Errors.{IsMemory}
-use Rattle.pcap_core.specs.Run.{IsRest, rest_after}
+use Rattle.std.specs.Prelude.{◌≡◌, ◌+◌, ℕ, List, length, map}
+use Rattle.pcap_core.specs.Run.{IsRest}
 use Rattle.pcap_file.specs.declared.run.NgRun.{NgRun}
 use Rattle.pcap_file.specs.Front.{NgFront}
 use Rattle.pcap_file.specs.Frames.{framed_of}
@@ -16,8 +13,3 @@ pub record IsRun (run : NgRun) (s : List ℕ) : Type 0 where
   pub front : NgFront (state_of run.parser) (map framed_of run.blocks.items) s left
   pub used : run.used + length left ≡ length s
   pub rest : IsRest (block_format.says (state_of run.parser)) left run.rest
-
--- the rest at which an error came, where it was not for want of memory; want of memory is told as such, and nothing else is
-abbrev pub RestTells : PcapError → Result Rest PcapError → Type 0
-RestTells error (Ok rest) = (rest ≡ rest_after error) × (IsMemory error → ⊥)
-RestTells error (Err e) = IsMemory error × IsMemory e

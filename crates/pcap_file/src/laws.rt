@@ -1,12 +1,15 @@
 //! Laws of the grammar of blocks. Each contract is the law.
 
-ghost use Rattle.std.specs.Prelude.{◌≡◌, ◌≤◌, ℕ, List, [], ◌∷◌, ◌++◌, length, map};
+ghost use Rattle.std.specs.Prelude.{◌≡◌, ◌≤◌, ℕ, List, [], ◌∷◌, ◌++◌, length, map, Option, Some};
 ghost use Rattle.pcap_core.specs.declared.common.Endianness.{Endianness};
 ghost use Rattle.pcap_core.specs.Answer.{whole};
 ghost use Rattle.pcap_core.specs.Format.{Front, Texts, Asks, IsLawful, state_after};
 ghost use Rattle.pcap_core.specs.Laws.{ExactlyOne, IsStable};
 ghost use Rattle.pcap_core.specs.Requested.{HeadThenRest, RequestsAt, RunRequests};
 ghost use Rattle.pcap_file.specs.Blocks.{Item, BlockText, BlockSays, block_format};
+ghost use Rattle.pcap_file.specs.declared.pcapng.copying.NgCopied.{NgCopied};
+ghost use Rattle.std.specs.Io.KnownBytes.{Appends};
+ghost use Rattle.pcap_file.specs.Copies.{CopyNgRun, CopiesBytes, NothingFailed};
 ghost use Rattle.pcap_file.specs.Frames.{Framed, FrameSays};
 ghost use Rattle.pcap_file.specs.Front.{NgFront};
 ghost use Rattle.pcap_file.specs.MarkedLists.{marked_format};
@@ -93,4 +96,17 @@ pub fn block_requests_are()
 /// The number of blocks that bytes hold is one.
 pub fn blocks_held_are_one()
     ensures { (s : List ℕ) (n m : ℕ) → HoldsBlocks s n → HoldsBlocks s m → n ≡ m }
+{}
+
+/// A capture of blocks that is accepted whole is copied whole where nothing fails: its bytes, and all its blocks.
+pub fn accepted_capture_is_copied()
+    ensures { (q : State) (blocks : List Framed) (bytes : List ℕ) (now out out_now : Option (List ℕ)) (most : ℕ) (copied : NgCopied) →
+        NgFront q blocks bytes [] → length blocks ≤ most → NothingFailed copied →
+        CopyNgRun (Some bytes) now out out_now most copied → CopiesBytes bytes (length blocks) out out_now copied }
+{}
+
+/// Whatever is refused or fails, what a copy has written is a beginning of the capture.
+pub fn copy_is_a_beginning()
+    ensures { (bytes : List ℕ) (now out out_now : Option (List ℕ)) (most : ℕ) (copied : NgCopied) →
+        CopyNgRun (Some bytes) now out out_now most copied → (gone rest : List ℕ) × (bytes ≡ gone ++ rest) × Appends out out_now gone }
 {}

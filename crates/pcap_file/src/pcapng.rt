@@ -3,6 +3,7 @@
 mod block;
 mod block_header;
 pub mod blocks;
+pub(crate) mod copying;
 mod fields;
 mod framing;
 mod parser;

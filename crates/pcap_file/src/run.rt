@@ -2,6 +2,7 @@
 
 mod exact;
 mod find;
+mod items;
 mod pieces;
 
 ghost use Rattle.std.specs.Prelude.{◌≡◌, false, All, IfOk, IfErr, IfNone, IfSome, map};
@@ -12,15 +13,17 @@ ghost use Rattle.pcap_core.specs.Answer.{Refuses, lacks, faulty};
 ghost use Rattle.pcap_core.specs.Bytes.{IsBorrowed, IsOwned};
 ghost use Rattle.pcap_file.specs.Opening.{OpeningSays, RefusesOpening};
 ghost use Rattle.pcap_file.specs.Blocks.{MayGrow};
-ghost use Rattle.pcap_file.specs.Run.{IsRun, RestTells};
+ghost use Rattle.pcap_file.specs.Run.{IsRun};
 ghost use Rattle.pcap_file.specs.State.{opening};
 
+pub use crate::pcapng::copying::{NgCopied, copy_pcapng};
 use crate::pcapng::{Block, PcapNgParser, PcapNgReader};
 pub use exact::exact_pcapng;
 pub use pcap_classic::run::{
     Copied, PcapRead, PcapRun, Rest, Under, Window, copy_buffered, copy_pcap, exact_pcap,
     parse_pcap, pieces_fit, pieces_pcap, read_pcap,
 };
+use pcap_core::run::parse_items;
 use pcap_core::{PcapError, ResultParsing};
 pub use pieces::pieces_pcapng;
 use std::alloc::Global;
@@ -39,21 +42,6 @@ pub struct NgRun<'a> {
     pub rest: Rest,
 }
 
-// The rest at which the parser gave this error, unless it was for want of memory.
-fn rest_of(error: PcapError) -> ResultParsing<Rest>
-    ensures { RestTells error result }
-{
-    match error {
-        PcapError::IncompleteBuffer(n) => Ok(Rest::Needs(n)),
-        PcapError::OutOfMemory(e) => Err(PcapError::OutOfMemory(e)),
-        PcapError::IoError(e) => Ok(Rest::Refused(PcapError::IoError(e))),
-        PcapError::InvalidField(message) => Ok(Rest::Refused(PcapError::InvalidField(message))),
-        PcapError::Utf8Error(e) => Ok(Rest::Refused(PcapError::Utf8Error(e))),
-        PcapError::FromUtf8Error(e) => Ok(Rest::Refused(PcapError::FromUtf8Error(e))),
-        PcapError::WriterFailed => Ok(Rest::Refused(PcapError::WriterFailed)),
-    }
-}
-
 /// The whole run over one slice: all blocks of its longest front, and what is said of the rest.
 ///
 /// The errors are those of `PcapNgParser::new` on the first block. A later block that is refused ends the blocks, and is told
@@ -64,31 +52,12 @@ pub fn parse_pcapng<'a>(alloc: Global, bytes: &'a [u8]) -> ResultParsing<NgRun<'
     ensures refused { IfErr result (Refuses (MayGrow opening bytes.now) (λ n. OpeningSays bytes.now (lacks n)) (λ fault. OpeningSays bytes.now (faulty fault))) }
 {
     let (after_first, mut parser) = PcapNgParser::new(alloc, bytes)?;
-    let mut blocks = Vec::new(alloc);
-    let mut left = after_first;
-    while !left.is_empty() {
-        match parser.next_block(left) {
-            Ok((after, block)) => {
-                blocks.push(block)?;
-                left = after;
-            }
-            Err(error) => {
-                let rest = rest_of(error)?;
-                let used = bytes.len() - left.len();
-                return Ok(NgRun {
-                    blocks,
-                    parser,
-                    used,
-                    rest,
-                });
-            }
-        }
-    }
+    let run = parse_items(alloc, &mut parser, after_first)?;
     Ok(NgRun {
-        blocks,
+        blocks: run.items,
         parser,
-        used: bytes.len(),
-        rest: Rest::Clean,
+        used: bytes.len() - after_first.len() + run.used,
+        rest: Rest::from(run.ended),
     })
 }
 

@@ -1,2 +1,3 @@
 mod HeadedSamples
 mod StatedSamples
+mod LentSamples

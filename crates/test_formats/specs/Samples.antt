@@ -8,6 +8,7 @@ use Rattle.pcap_core.specs.Answer.{Number}
 use Rattle.pcap_core.specs.Faults.{Invalid}
 use Rattle.pcap_core.specs.Format.{Format}
 use Rattle.pcap_core.specs.Headed.{HeadReading, good, bad, Headed, headed}
+use Rattle.test_formats.specs.declared.lent.Lent.{Lent}
 use Rattle.test_formats.specs.declared.samples.Head.{Head}
 use Rattle.test_formats.specs.declared.samples.Head.TheVariants as heads
 
@@ -67,6 +68,10 @@ KnowsHead size head n s = HeadReads size s (good (record { head = head; follows 
 -- the item of this head and these bytes
 abbrev pub item_with : Head → List ℕ → Item
 item_with head bytes = record { head = head; bytes = bytes }
+
+-- the item that is lent
+abbrev pub item_of : Lent → Item
+item_of lent = item_with lent.head lent.bytes.now
 
 -- the item of this head whose head and bytes are held
 abbrev pub held_item : List ℕ → Head → Item

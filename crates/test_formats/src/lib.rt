@@ -3,6 +3,9 @@
 
 pub mod laws;
 #[cfg(test)]
+mod lending;
+pub mod lent;
+#[cfg(test)]
 mod rooms;
 #[cfg(test)]
 mod rows;

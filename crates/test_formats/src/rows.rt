@@ -9,12 +9,12 @@ use test_support::captures::{back, front};
 use test_support::readers::Halting;
 
 // Two bytes a sample, a sample of channel 7, no bytes, one of channel 8, three bytes, and one of channel 256.
-const LOG: [u8; 29] = [
+pub const LOG: [u8; 29] = [
     0, 1, 0, 2, 0, 2, 0, 7, 0xaa, 0xbb, 0, 1, 0, 0, 0, 2, 0, 8, 0, 1, 0, 3, 0, 2, 1, 0, 4, 5, 6,
 ];
 
 // Its items: the head, the bytes, and how many bytes of the log were taken behind it.
-const ITEMS: [(Head, &[u8], usize); 6] = [
+pub const ITEMS: [(Head, &[u8], usize); 6] = [
     (Head::Size(2), &[], 4),
     (Head::Sample(7), &[0xaa, 0xbb], 10),
     (Head::Size(0), &[], 14),

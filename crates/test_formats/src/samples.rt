@@ -40,7 +40,7 @@ pub struct SamplesOf {
 
 // What a kind and a number say, and how many bytes follow, where samples have this size.
 #[tactic(auto, unfolding(crate::specs::Samples::meaning))]
-fn head_of(size: u16, kind: u16, number: u16) -> Result<(Head, usize), Rule>
+pub(crate) fn head_of(size: u16, kind: u16, number: u16) -> Result<(Head, usize), Rule>
     ensures { HeadTells (meaning size kind number) result }
 {
     match kind {

@@ -20,6 +20,7 @@ fn main(rt: HostRuntime) -> io::Result<()> {
         pcapng::make_calls(&rt)?;
         resumption::make_calls(&rt)?;
         samples::make_calls(&rt)?;
+        pcapng::make_copies(&rt)?;
     }
     Ok(())
 }

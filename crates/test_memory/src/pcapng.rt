@@ -5,7 +5,7 @@ use crate::tell;
 use pcap_file::pcapng::{
     InterfaceDescriptionBlock, PcapNgParser, PcapNgReader, SectionHeaderBlock,
 };
-use pcap_file::run::{NgRead, parse_pcapng, read_pcapng};
+use pcap_file::run::{NgCopied, NgRead, copy_pcapng, parse_pcapng, read_pcapng};
 use pcap_file::{PcapError, ResultParsing};
 use std::alloc::{AllocError, Global};
 use std::io::{self, Cursor};
@@ -20,6 +20,11 @@ pub(crate) fn make_calls(rt: &HostRuntime) -> io::Result<()> {
     tell(rt, "Block::into_owned", into_owned(alloc))?;
     next_blocks(rt, "an interface", &INTERFACE_BLOCK)?;
     next_blocks(rt, "a section", &SECTION_BLOCK)
+}
+
+// Copies come last, so that the calls before them keep the numbers of their allocations.
+pub(crate) fn make_copies(rt: &HostRuntime) -> io::Result<()> {
+    tell(rt, "copy_pcapng", copy(rt.alloc()))
 }
 
 fn parse(alloc: Global) -> ResultParsing<()> {
@@ -39,6 +44,15 @@ fn read(alloc: Global) -> ResultParsing<()> {
         Some(_) if blocks.is_empty() && !reader.interfaces().is_empty() => {
             Err(PcapError::InvalidField("an interface was lost"))
         }
+        Some(error) => Err(error),
+    }
+}
+
+fn copy(alloc: Global) -> ResultParsing<()> {
+    let mut capture = Cursor::new(BLOCKS);
+    let NgCopied { fault, .. } = copy_pcapng(alloc, &mut capture, &mut io::sink(), 9);
+    match fault {
+        None => Ok(()),
         Some(error) => Err(error),
     }
 }

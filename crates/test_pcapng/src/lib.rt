@@ -2,6 +2,8 @@
 #![tactic(auto)]
 
 #[cfg(test)]
+mod copying;
+#[cfg(test)]
 mod large;
 #[cfg(test)]
 mod lending;

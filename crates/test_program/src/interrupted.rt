@@ -2,7 +2,7 @@
 
 use crate::failing::{LINE, LINES};
 use crate::inputs::buffered;
-use capcopy_run::{Exit, Uninterrupted, run};
+use capcopy_run::{Exit, Uninterrupted, WordList, run, run_words};
 use pcap_classic::PcapError;
 use std::io;
 use std::io::{ErrorKind, Read};
@@ -33,6 +33,23 @@ fn repeated_reads(rt: HostRuntime) -> Result<(), Fail> {
                 assert_eq!(rt; output.as_slice(), written);
             }
         }
+    }
+    Ok(())
+}
+
+#[test]
+fn repeated_reads_of_words(rt: HostRuntime) -> Result<(), Fail> {
+    let bytes = big(rt.alloc())?;
+    for fails_for in [1, 5] {
+        let mut stream = Halting::new(rt.alloc(), bytes.as_slice(), 20)?;
+        stream.fails_at = 3;
+        stream.fails_for = fails_for;
+        stream.kind = ErrorKind::Interrupted;
+        let words = [b"list".as_slice()];
+        let mut output = Vec::new(rt.alloc());
+        let exit = run_words(rt.alloc(), &WordList::new(&words), stream, &mut output);
+        assert!(rt; exit.status() == 0, "{fails_for}");
+        assert_eq!(rt; output.as_slice(), LINE.as_bytes());
     }
     Ok(())
 }

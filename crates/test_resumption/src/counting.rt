@@ -7,7 +7,7 @@ ghost use Rattle.pcap_classic.specs.PacketText.{packet_limit, Captured, content_
 ghost use Rattle.pcap_classic.specs.Packets.{capture_format};
 ghost use Rattle.pcap_classic.specs.Parser.{header_of};
 
-use pcap_core::ResultParsing;
+use pcap_core::{PcapError, ResultParsing};
 use pcap_core::run::{Found, PieceParser, Progress, feed_pieces, pieces_fit};
 use pcap_file::PcapParser;
 use pcap_file::pcap::Packet;
@@ -41,7 +41,7 @@ impl PieceParser for Counting {
 
     ghost owned = { λ packet. IsOwned packet.data_ };
 
-    fn open(alloc: Global, held: &[u8]) -> ResultParsing<Found<(Counting, usize)>> {
+    fn open(alloc: Global, held: &[u8]) -> ResultParsing<Found<(Counting, usize), PcapError>> {
         match PcapParser::open(alloc, held)? {
             Found::Item((parser, left)) => Ok(Found::Item((Counting { parser, calls: 0 }, left))),
             Found::Needs(n) => Ok(Found::Needs(n)),
@@ -53,7 +53,7 @@ impl PieceParser for Counting {
         &mut self,
         alloc: Global,
         held: &[u8],
-    ) -> ResultParsing<Found<(Packet<'static>, usize)>> {
+    ) -> ResultParsing<Found<(Packet<'static>, usize), PcapError>> {
         self.calls = self.calls.saturating_add(1);
         self.parser.take(alloc, held)
     }

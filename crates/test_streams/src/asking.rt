@@ -15,40 +15,55 @@ fn is_whole(copied: &Copied, packets: u64) -> bool {
     copied.packets == packets && copied.fault.is_none()
 }
 
+// Whether a copy of one packet asks its stream for nothing behind that.
+fn copies_one(alloc: Global, mut stream: Halting, under: Under) -> bool {
+    let mut out = Vec::new(alloc);
+    let copied = copy_pcap(alloc, &mut stream, &mut out, under, 1);
+    is_whole(&copied, 1) && stream.taken == 138 && stream.ends == 0
+}
+
+// The same where the copy reads through a buffer of this size.
+fn copies_one_buffered(alloc: Global, stream: Halting, under: Under, buffer: usize) -> bool {
+    let Ok(mut reader) = BufReader::with_capacity(alloc, buffer, stream) else {
+        return false;
+    };
+    let mut out = Vec::new(alloc);
+    let copied = copy_buffered(alloc, &mut reader, &mut out, under, 1);
+    is_whole(&copied, 1) && reader.get_ref().ends == 0
+}
+
 #[test]
 fn nothing_after_the_most_copies(rt: HostRuntime) -> Result<(), Fail> {
     let whole = big(rt.alloc())?;
-    let bytes = whole.as_slice();
-    for under in [
-        Under::Same,
-        Under::Order(Endianness::Little, TsResolution::MicroSecond),
-    ] {
+    let little = Under::Order(Endianness::Little, TsResolution::MicroSecond);
+    for under in [Under::Same, little] {
         for step in [1, 7, 200] {
-            let mut stream = Halting::new(rt.alloc(), bytes, step)?;
-            let mut out = Vec::new(rt.alloc());
-            let copied = copy_pcap(rt.alloc(), &mut stream, &mut out, under, 1);
-            assert!(rt; is_whole(&copied, 1));
-            assert_eq!(rt; (stream.taken, stream.ends), (138, 0), "by {step}");
+            let stream = Halting::new(rt.alloc(), whole.as_slice(), step)?;
+            assert!(rt; copies_one(rt.alloc(), stream, under));
             for buffer in [1, 24, 40, 100, 65_536] {
-                let stream = Halting::new(rt.alloc(), bytes, step)?;
-                let mut reader = BufReader::with_capacity(rt.alloc(), buffer, stream)?;
-                let copied = copy_buffered(rt.alloc(), &mut reader, &mut out, under, 1);
-                assert!(rt; is_whole(&copied, 1));
-                assert_eq!(rt; reader.get_ref().ends, 0, "by {buffer}");
+                let stream = Halting::new(rt.alloc(), whole.as_slice(), step)?;
+                assert!(rt; copies_one_buffered(rt.alloc(), stream, under, buffer));
             }
         }
     }
     Ok(())
 }
 
+// Whether a run of one packet asks its stream for nothing behind that.
+fn reads_one(alloc: Global, mut stream: Halting) -> bool {
+    let is_one = match &read_pcap(alloc, &mut stream, 1) {
+        Ok(read) => read.packets.len() == 1 && read.fault.is_none(),
+        Err(_) => false,
+    };
+    is_one && stream.taken == 138 && stream.ends == 0
+}
+
 #[test]
 fn nothing_after_the_most_packets(rt: HostRuntime) -> Result<(), Fail> {
     let whole = big(rt.alloc())?;
     for step in [1, 7, 200] {
-        let mut stream = Halting::new(rt.alloc(), whole.as_slice(), step)?;
-        let read = read_pcap(rt.alloc(), &mut stream, 1)?;
-        assert!(rt; read.packets.len() == 1 && read.fault.is_none());
-        assert_eq!(rt; (stream.taken, stream.ends), (138, 0), "by {step}");
+        let stream = Halting::new(rt.alloc(), whole.as_slice(), step)?;
+        assert!(rt; reads_one(rt.alloc(), stream));
     }
     Ok(())
 }
@@ -63,6 +78,12 @@ fn packets(alloc: Global) -> Result<Vec<u8>, AllocError> {
     Ok(bytes)
 }
 
+// Whether the next packet has this size, and no room is new since the first one.
+fn holds_the_next(reader: &mut PcapReader<Halting>, size: usize) -> bool {
+    let is_given = matches!(reader.next_header(), Some(Ok(_)));
+    is_given && reader.data().len() == size && reader.get_ref().clear == 3
+}
+
 #[test]
 fn held_packets_share_one_room(rt: HostRuntime) -> Result<(), Fail> {
     let bytes = packets(rt.alloc())?;
@@ -70,15 +91,19 @@ fn held_packets_share_one_room(rt: HostRuntime) -> Result<(), Fail> {
     let mut reader = PcapReader::new(rt.alloc(), stream)?;
     // room that is new is offered for the capture's header, the first packet's, and its data
     for size in [9, 9, 1, 5, 9] {
-        assert!(rt; matches!(reader.next_header(), Some(Ok(_))));
-        assert_eq!(rt; reader.data().len(), size);
-        assert_eq!(rt; reader.get_ref().clear, 3);
+        assert!(rt; holds_the_next(&mut reader, size));
     }
+    Ok(())
+}
+
+#[test]
+fn copied_packets_share_one_room(rt: HostRuntime) -> Result<(), Fail> {
+    let bytes = packets(rt.alloc())?;
     let mut stream = Halting::new(rt.alloc(), bytes.as_slice(), 200)?;
     let mut out = Vec::new(rt.alloc());
     let copied = copy_pcap(rt.alloc(), &mut stream, &mut out, Under::Same, 5);
     assert!(rt; is_whole(&copied, 5) && out.as_slice() == bytes.as_slice());
-    assert_eq!(rt; stream.clear, 3);
+    assert!(rt; stream.clear == 3);
     Ok(())
 }
 
@@ -98,25 +123,48 @@ fn owned_length(reader: &mut PcapReader<Halting>) -> Option<usize> {
     }
 }
 
+// Whether packets of these lengths come, or none, while the data that is lent stays.
+fn keeps_lent_data(reader: &mut PcapReader<Halting>, lengths: [Option<usize>; 6]) -> bool {
+    let mut is_kept = true;
+    for length in lengths {
+        is_kept &= owned_length(reader) == length && reader.data() == [7; 9].as_slice();
+    }
+    is_kept
+}
+
+// The capture, and the packets behind its own.
+fn six_packets(alloc: Global) -> Result<Vec<u8>, AllocError> {
+    let mut bytes = big(alloc)?;
+    let more = packets(alloc)?;
+    bytes.extend_from_slice(back(more.as_slice(), 24))?;
+    Ok(bytes)
+}
+
 #[test]
 fn lent_data_stays_while_packets_are_owned(rt: HostRuntime) -> Result<(), Fail> {
-    let mut bytes = big(rt.alloc())?;
-    let more = packets(rt.alloc())?;
-    bytes.extend_from_slice(back(more.as_slice(), 24))?;
+    let bytes = six_packets(rt.alloc())?;
     for step in [1, 200] {
         let stream = Halting::new(rt.alloc(), bytes.as_slice(), step)?;
         let mut reader = PcapReader::new(rt.alloc(), stream)?;
         assert!(rt; owned_length(&mut reader) == Some(98) && reader.data().is_empty());
         assert!(rt; given(&mut reader).is_some());
-        for length in [Some(9), Some(1), Some(5), Some(9), None, None] {
-            assert!(rt; owned_length(&mut reader) == length);
-            assert_eq!(rt; reader.data(), [7; 9].as_slice());
-        }
+        let lengths = [Some(9), Some(1), Some(5), Some(9), None, None];
+        assert!(rt; keeps_lent_data(&mut reader, lengths));
     }
     Ok(())
 }
 
-// 2000 empty packets that lie whole in the buffer go out in one write behind the header's.
+// Whether all of these 2000 packets go out in one write behind the header's.
+fn goes_out_together(alloc: Global, stream: Halting, bytes: &[u8]) -> bool {
+    let Ok(mut reader) = BufReader::with_capacity(alloc, 65_536, stream) else {
+        return false;
+    };
+    let mut output = Narrow::new(alloc, 65_536, true);
+    let copied = copy_buffered(alloc, &mut reader, &mut output, Under::Same, 9999);
+    is_whole(&copied, 2000) && output.out.as_slice() == bytes && output.calls == 2
+}
+
+// The packets are empty, and lie whole in the buffer.
 #[test]
 fn packets_go_out_together(rt: HostRuntime) -> Result<(), Fail> {
     let mut bytes = Vec::from_slice(rt.alloc(), front(&BIG_HEAD, 24))?;
@@ -124,10 +172,6 @@ fn packets_go_out_together(rt: HostRuntime) -> Result<(), Fail> {
         bytes.extend_from_slice(&[0, 0, 0, 1, 0, 0, 0, 0, 0, 0, 0, 0, 0, 0, 0, 0])?;
     }
     let stream = Halting::new(rt.alloc(), bytes.as_slice(), 65_536)?;
-    let mut reader = BufReader::with_capacity(rt.alloc(), 65_536, stream)?;
-    let mut output = Narrow::new(rt.alloc(), 65_536, true);
-    let copied = copy_buffered(rt.alloc(), &mut reader, &mut output, Under::Same, 9999);
-    assert!(rt; is_whole(&copied, 2000) && output.out.as_slice() == bytes.as_slice());
-    assert_eq!(rt; output.calls, 2);
+    assert!(rt; goes_out_together(rt.alloc(), stream, bytes.as_slice()));
     Ok(())
 }

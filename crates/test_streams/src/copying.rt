@@ -1,15 +1,13 @@
 //! Copies from streams to writers.
 
 use crate::failing::CALLS;
-use crate::kinds::kind_of;
 use pcap_classic::pcap::{PacketHeader, PcapHeader};
-use pcap_classic::run::{Copied, PcapRead, Under, copy_buffered, copy_pcap, read_pcap};
+use pcap_classic::run::{Copied, Under, copy_buffered, copy_pcap, read_pcap};
 use pcap_classic::{Endianness, PcapError, TsResolution};
 use std::alloc::{AllocError, Global};
-use std::io;
 use std::io::{BufReader, ErrorKind, Write};
 use std::test::Fail;
-use test_support::captures::{back, big, front};
+use test_support::captures::{BIG_HEAD, big, capture, front};
 use test_support::readers::Halting;
 use test_support::writers::Narrow;
 
@@ -19,119 +17,181 @@ const BUFFERS: [usize; 7] = [0, 1, 7, 24, 40, 100, 65536];
 // A packet of no bytes.
 const EMPTY: [u8; 16] = [0, 0, 0, 1, 0, 0, 0, 0, 0, 0, 0, 0, 0, 0, 0, 0];
 
-// A copy: how it ended, how many bytes it took, and how often the stream was called.
-#[derive(Drop)]
+// Why a copy ended.
+#[derive(Clone, Copy)]
+enum End {
+    Clean,
+    Io(ErrorKind),
+    Refused(&'static str),
+    Another,
+}
+
+// A copy: how it ended, how many bytes it took, and how often the stream was called. It holds nothing that is let go.
+#[derive(Clone, Copy)]
 struct Done {
-    copied: Copied,
+    packets: u64,
+    end: End,
+    read_failed: bool,
+    write_failed: bool,
     taken: usize,
     calls: usize,
 }
 
-// Copies through a buffer of this size.
+fn end_of(fault: &Option<PcapError>) -> End {
+    match fault {
+        None => End::Clean,
+        Some(PcapError::IoError(error)) => End::Io(error.kind()),
+        Some(PcapError::InvalidField(message)) => End::Refused(*message),
+        Some(_) => End::Another,
+    }
+}
+
+fn ended(copied: &Copied, taken: usize, calls: usize) -> Done {
+    Done {
+        packets: copied.packets,
+        end: end_of(&copied.fault),
+        read_failed: copied.read_failed,
+        write_failed: copied.write_failed,
+        taken,
+        calls,
+    }
+}
+
+// A copy that had no memory to begin.
+fn none() -> Done {
+    Done {
+        packets: 0,
+        end: End::Another,
+        read_failed: true,
+        write_failed: true,
+        taken: 0,
+        calls: 0,
+    }
+}
+
+// Copies these bytes through a buffer of this size. Each read gives so many at most, and one call fails, if not call 0.
 fn copy<W: Write>(
     alloc: Global,
+    bytes: &[u8],
+    (step, fails_at): (usize, usize),
     buffer: usize,
-    mut stream: Halting,
     output: &mut W,
     under: Under,
     most: u64,
-) -> io::Result<Done> {
+) -> Done {
+    let Ok(mut stream) = Halting::new(alloc, bytes, step) else {
+        return none();
+    };
+    stream.fails_at = fails_at;
+    stream.kind = ErrorKind::Interrupted;
     if buffer == 0 {
         let copied = copy_pcap(alloc, &mut stream, output, under, most);
-        return Ok(Done {
-            copied,
-            taken: stream.taken,
-            calls: stream.calls,
-        });
+        return ended(&copied, stream.taken, stream.calls);
     }
-    let mut reader = BufReader::with_capacity(alloc, buffer, stream)?;
+    let Ok(mut reader) = BufReader::with_capacity(alloc, buffer, stream) else {
+        return none();
+    };
     let copied = copy_buffered(alloc, &mut reader, output, under, most);
     let ahead = reader.buffer().len();
     let stream = reader.into_inner();
-    Ok(Done {
-        copied,
-        taken: stream.taken.saturating_sub(ahead),
-        calls: stream.calls,
-    })
+    ended(&copied, stream.taken.saturating_sub(ahead), stream.calls)
 }
 
 // Whether so many packets were copied, and nothing failed.
-fn is_whole(copied: &Copied, packets: u64) -> bool {
-    copied.packets == packets
-        && copied.fault.is_none()
-        && !copied.read_failed
-        && !copied.write_failed
+fn is_whole(done: Done, packets: u64) -> bool {
+    matches!(done.end, End::Clean)
+        && done.packets == packets
+        && !done.read_failed
+        && !done.write_failed
 }
 
-fn is_io(copied: &Copied) -> bool {
-    matches!(copied.fault, Some(PcapError::IoError(_)))
+// Whether a write failed, and no read.
+fn is_unwritten(done: Done, packets: u64) -> bool {
+    matches!(done.end, End::Io(_))
+        && done.packets == packets
+        && !done.read_failed
+        && done.write_failed
 }
 
-fn names(copied: &Copied, rule: &str) -> bool {
-    match copied.fault {
-        Some(PcapError::InvalidField(message)) => message == rule,
-        _ => false,
-    }
+// Whether no packet was copied, since the stream ended early.
+fn is_torn(done: Done) -> bool {
+    matches!(done.end, End::Io(_)) && done.packets == 0 && !done.read_failed && !done.write_failed
 }
 
-// Whether this is one packet, whose nanoseconds were cut.
-fn is_cut(read: &PcapRead) -> bool {
-    match read.packets.as_slice() {
-        [packet] => read.fault.is_none() && packet.header == PacketHeader::new(1, 0, 0, 0),
-        _ => false,
-    }
-}
-
-// The capture's header and then these bytes.
-fn after_header(alloc: Global, bytes: &[u8]) -> Result<Vec<u8>, AllocError> {
-    let whole = big(alloc)?;
-    let mut capture = Vec::from_slice(alloc, front(whole.as_slice(), 24))?;
+// A beginning of a capture and then these bytes.
+fn after(alloc: Global, beginning: &[u8], bytes: &[u8]) -> Result<Vec<u8>, AllocError> {
+    let mut capture = Vec::from_slice(alloc, beginning)?;
     capture.extend_from_slice(bytes)?;
     Ok(capture)
 }
 
+// What the capture begins with in the other order and in nanoseconds.
+const TURNED_HEAD: [u8; 40] = [
+    0x4d, 0x3c, 0xb2, 0xa1, 2, 0, 4, 0, 0, 0, 0, 0, 0, 0, 0, 0, 0xff, 0xff, 0, 0, 1, 0, 0, 0, 0x29,
+    0x1b, 0xa1, 0x4f, 0xf0, 0xf2, 0x18, 0x09, 0x62, 0, 0, 0, 0x62, 0, 0, 0,
+];
+
 #[test]
 fn other_orders(rt: HostRuntime) -> Result<(), Fail> {
     let whole = big(rt.alloc())?;
-    let head = [
-        0x4d, 0x3c, 0xb2, 0xa1, 2, 0, 4, 0, 0, 0, 0, 0, 0, 0, 0, 0, 0xff, 0xff, 0, 0, 1, 0, 0, 0,
-        0x29, 0x1b, 0xa1, 0x4f, 0xf0, 0xf2, 0x18, 0x09, 0x62, 0, 0, 0, 0x62, 0, 0, 0,
-    ];
+    let wanted = capture(rt.alloc(), &TURNED_HEAD, 98)?;
+    let under = Under::Order(Endianness::Little, TsResolution::NanoSecond);
     for buffer in BUFFERS {
         for step in [1, 200] {
-            let stream = Halting::new(rt.alloc(), whole.as_slice(), step)?;
             let mut out = Vec::new(rt.alloc());
-            let under = Under::Order(Endianness::Little, TsResolution::NanoSecond);
-            let done = copy(rt.alloc(), buffer, stream, &mut out, under, 9)?;
-            assert!(rt; is_whole(&done.copied, 1), "by {buffer}");
-            assert_eq!(rt; front(out.as_slice(), 40), head.as_slice());
-            assert_eq!(rt; back(out.as_slice(), 40), back(whole.as_slice(), 40));
+            let done = copy(
+                rt.alloc(),
+                whole.as_slice(),
+                (step, 0),
+                buffer,
+                &mut out,
+                under,
+                9,
+            );
+            assert!(rt; is_whole(done, 1) && out.as_slice() == wanted.as_slice());
         }
     }
     Ok(())
 }
 
+// A capture in nanoseconds, with a packet of no bytes.
+const NANOSECONDS: [u8; 40] = [
+    0xa1, 0xb2, 0x3c, 0x4d, 0, 2, 0, 4, 0, 0, 0, 0, 0, 0, 0, 0, 0, 0, 0xff, 0xff, 0, 0, 0, 1, 0, 0,
+    0, 1, 0, 0, 3, 0xe7, 0, 0, 0, 0, 0, 0, 0, 0,
+];
+
+// Whether these bytes are read as one packet, whose nanoseconds were cut.
+fn is_cut(alloc: Global, bytes: &[u8], step: usize) -> bool {
+    let Ok(stream) = Halting::new(alloc, bytes, step) else {
+        return false;
+    };
+    match &read_pcap(alloc, stream, 9) {
+        Ok(read) => match read.packets.as_slice() {
+            [packet] => read.fault.is_none() && packet.header == PacketHeader::new(1, 0, 0, 0),
+            _ => false,
+        },
+        Err(_) => false,
+    }
+}
+
 #[test]
 fn fractions_are_cut(rt: HostRuntime) -> Result<(), Fail> {
-    let nanoseconds = [0, 0, 0, 1, 0, 0, 3, 0xe7, 0, 0, 0, 0, 0, 0, 0, 0];
-    let whole = after_header(rt.alloc(), &nanoseconds)?;
-    let wanted = after_header(rt.alloc(), &EMPTY)?;
-    let mut bytes = Vec::from_slice(rt.alloc(), &[0xa1, 0xb2, 0x3c, 0x4d])?;
-    bytes.extend_from_slice(back(whole.as_slice(), 4))?;
+    let wanted = after(rt.alloc(), front(&BIG_HEAD, 24), &EMPTY)?;
+    let under = Under::Order(Endianness::Big, TsResolution::MicroSecond);
     for buffer in BUFFERS {
         for step in [1, 99] {
-            let stream = Halting::new(rt.alloc(), bytes.as_slice(), step)?;
             let mut out = Vec::new(rt.alloc());
-            let under = Under::Order(Endianness::Big, TsResolution::MicroSecond);
-            let done = copy(rt.alloc(), buffer, stream, &mut out, under, 9)?;
-            assert!(rt; is_whole(&done.copied, 1), "by {buffer}");
-            assert_eq!(rt; out.as_slice(), wanted.as_slice());
-            let read = read_pcap(
+            let done = copy(
                 rt.alloc(),
-                Halting::new(rt.alloc(), out.as_slice(), step)?,
+                &NANOSECONDS,
+                (step, 0),
+                buffer,
+                &mut out,
+                under,
                 9,
-            )?;
-            assert!(rt; is_cut(&read));
+            );
+            assert!(rt; is_whole(done, 1) && out.as_slice() == wanted.as_slice());
+            assert!(rt; is_cut(rt.alloc(), out.as_slice(), step));
         }
     }
     Ok(())
@@ -144,16 +204,12 @@ fn every_room(rt: HostRuntime) -> Result<(), Fail> {
     for (step, fails) in [(1, false), (50, false), (50, true), (200, false)] {
         for buffer in BUFFERS {
             for room in 0..138usize {
-                let stream = Halting::new(rt.alloc(), whole.as_slice(), step)?;
                 let mut output = Narrow::new(rt.alloc(), room, fails);
-                let done = copy(rt.alloc(), buffer, stream, &mut output, Under::Same, 9)?;
-                let copied = &done.copied;
-                assert!(rt;
-                    is_io(copied) && copied.write_failed,
-                    "at {room} by {buffer}"
-                );
-                assert!(rt; copied.packets == 0 && !copied.read_failed);
-                assert_eq!(rt; output.out.as_slice(), front(whole.as_slice(), room));
+                let bytes = whole.as_slice();
+                let same = Under::Same;
+                let done = copy(rt.alloc(), bytes, (step, 0), buffer, &mut output, same, 9);
+                assert!(rt; is_unwritten(done, 0));
+                assert!(rt; output.out.as_slice() == front(bytes, room));
             }
         }
     }
@@ -171,11 +227,27 @@ fn torn_at(room: usize) -> (u64, usize) {
     }
 }
 
+// The capture and two packets of no bytes.
+fn three_packets(alloc: Global) -> Result<Vec<u8>, AllocError> {
+    let mut bytes = big(alloc)?;
+    bytes.extend_from_slice(&EMPTY)?;
+    bytes.extend_from_slice(&EMPTY)?;
+    Ok(bytes)
+}
+
+// Whether a copy of three packets tells those that went out whole into this room.
+fn tears(alloc: Global, bytes: &[u8], buffer: usize, under: Under, room: usize) -> bool {
+    let mut output = Narrow::new(alloc, room, true);
+    let done = copy(alloc, bytes, (200, 0), buffer, &mut output, under, 9);
+    let (packets, taken) = torn_at(room);
+    let is_turned = under == Under::Order(Endianness::Little, TsResolution::MicroSecond);
+    let is_out = is_turned || output.out.as_slice() == front(bytes, room);
+    is_unwritten(done, packets) && done.taken == taken && is_out && output.out.len() == room
+}
+
 #[test]
 fn torn_packets(rt: HostRuntime) -> Result<(), Fail> {
-    let mut whole = big(rt.alloc())?;
-    whole.extend_from_slice(&EMPTY)?;
-    whole.extend_from_slice(&EMPTY)?;
+    let bytes = three_packets(rt.alloc())?;
     let orders = [
         Under::Same,
         Under::Order(Endianness::Big, TsResolution::MicroSecond),
@@ -184,47 +256,54 @@ fn torn_packets(rt: HostRuntime) -> Result<(), Fail> {
     for buffer in BUFFERS {
         for under in orders {
             for room in 24..170usize {
-                let stream = Halting::new(rt.alloc(), whole.as_slice(), 200)?;
-                let mut output = Narrow::new(rt.alloc(), room, true);
-                let done = copy(rt.alloc(), buffer, stream, &mut output, under, 9)?;
-                let (packets, taken) = torn_at(room);
-                assert!(rt;
-                    is_io(&done.copied) && done.copied.write_failed,
-                    "at {room} by {buffer}"
-                );
-                assert_eq!(rt; done.copied.packets, packets, "at {room} by {buffer}");
-                assert_eq!(rt; done.taken, taken, "at {room} by {buffer}");
-                assert_eq!(rt; output.out.len(), room);
-                if under != Under::Order(Endianness::Little, TsResolution::MicroSecond) {
-                    assert_eq!(rt; output.out.as_slice(), front(whole.as_slice(), room));
-                }
+                assert!(rt; tears(rt.alloc(), bytes.as_slice(), buffer, under, room));
             }
         }
     }
     Ok(())
 }
 
+// Whether a copy of the capture ends at this call of the writer, which is interrupted or takes nothing, and these bytes went
+// out.
+fn halts(
+    alloc: Global,
+    whole: &[u8],
+    buffer: usize,
+    under: Under,
+    (call, is_idle): (u64, bool),
+    gone: &[u8],
+) -> bool {
+    let mut output = Narrow::halting(alloc, call, is_idle);
+    let done = copy(alloc, whole, (200, 0), buffer, &mut output, under, 9);
+    let is_kind = match done.end {
+        End::Io(ErrorKind::WriteZero) => is_idle,
+        End::Io(ErrorKind::Interrupted) => !is_idle,
+        _ => false,
+    };
+    is_unwritten(done, 0) && is_kind && output.calls == call && output.out.as_slice() == gone
+}
+
 #[test]
 fn interrupted_writes(rt: HostRuntime) -> Result<(), Fail> {
     let whole = big(rt.alloc())?;
     let under = Under::Order(Endianness::Little, TsResolution::MicroSecond);
-    let stream = Halting::new(rt.alloc(), whole.as_slice(), 200)?;
     let mut wanted = Vec::new(rt.alloc());
-    let done = copy(rt.alloc(), 0, stream, &mut wanted, under, 9)?;
-    assert!(rt; is_whole(&done.copied, 1));
+    let done = copy(
+        rt.alloc(),
+        whole.as_slice(),
+        (200, 0),
+        0,
+        &mut wanted,
+        under,
+        9,
+    );
+    assert!(rt; is_whole(done, 1));
     for (call, gone) in CALLS {
-        for (is_idle, kind) in [
-            (false, ErrorKind::Interrupted),
-            (true, ErrorKind::WriteZero),
-        ] {
+        let gone = front(wanted.as_slice(), gone);
+        for is_idle in [false, true] {
             for buffer in [0, 1, 100, 65536] {
-                let stream = Halting::new(rt.alloc(), whole.as_slice(), 200)?;
-                let mut output = Narrow::halting(rt.alloc(), call, is_idle);
-                let done = copy(rt.alloc(), buffer, stream, &mut output, under, 9)?;
-                let copied = done.copied;
-                assert!(rt; copied.packets == 0 && copied.write_failed && !copied.read_failed);
-                assert_eq!(rt; kind_of(copied.fault), Some(kind), "at call {call}");
-                assert_eq!(rt; output.out.as_slice(), front(wanted.as_slice(), gone));
+                let bytes = whole.as_slice();
+                assert!(rt; halts(rt.alloc(), bytes, buffer, under, (call, is_idle), gone));
             }
         }
     }
@@ -234,52 +313,50 @@ fn interrupted_writes(rt: HostRuntime) -> Result<(), Fail> {
 #[test]
 fn interrupted_stretches(rt: HostRuntime) -> Result<(), Fail> {
     let whole = big(rt.alloc())?;
+    let bytes = whole.as_slice();
     // the 24 bytes of the header go out in three calls, and then ten bytes of the packet in each
     for (call, gone) in [(3, 20), (4, 24), (5, 34), (6, 44), (14, 124), (15, 134)] {
-        for (is_idle, kind) in [
-            (false, ErrorKind::Interrupted),
-            (true, ErrorKind::WriteZero),
-        ] {
+        for is_idle in [false, true] {
             for buffer in [0, 1, 100, 65536] {
-                let stream = Halting::new(rt.alloc(), whole.as_slice(), 200)?;
-                let mut output = Narrow::halting(rt.alloc(), call, is_idle);
-                let done = copy(rt.alloc(), buffer, stream, &mut output, Under::Same, 9)?;
-                let copied = done.copied;
-                assert!(rt; copied.packets == 0 && copied.write_failed && !copied.read_failed);
-                assert_eq!(rt; kind_of(copied.fault), Some(kind), "at call {call}");
-                assert_eq!(rt; output.out.as_slice(), front(whole.as_slice(), gone));
-                assert_eq!(rt; output.calls, call);
+                let gone = front(bytes, gone);
+                let same = Under::Same;
+                assert!(rt; halts(rt.alloc(), bytes, buffer, same, (call, is_idle), gone));
             }
         }
     }
     Ok(())
 }
 
+// How many bytes of the capture went out where a call of its stream fails, one byte a call.
+fn out_before(fails_at: usize) -> usize {
+    if fails_at <= 24 {
+        0
+    } else if fails_at < 139 {
+        24
+    } else {
+        138
+    }
+}
+
+// Whether this call of the stream failed, and no write.
+fn is_unread(done: Done, fails_at: usize) -> bool {
+    matches!(done.end, End::Io(_))
+        && done.read_failed
+        && !done.write_failed
+        && done.calls == fails_at
+}
+
 #[test]
 fn every_failed_read(rt: HostRuntime) -> Result<(), Fail> {
     let whole = big(rt.alloc())?;
+    let bytes = whole.as_slice();
     for buffer in BUFFERS {
         for fails_at in 1..140usize {
-            let mut stream = Halting::new(rt.alloc(), whole.as_slice(), 1)?;
-            stream.fails_at = fails_at;
-            stream.kind = ErrorKind::Interrupted;
             let mut out = Vec::new(rt.alloc());
-            let done = copy(rt.alloc(), buffer, stream, &mut out, Under::Same, 9)?;
-            let gone = if fails_at <= 24 {
-                0
-            } else if fails_at < 139 {
-                24
-            } else {
-                138
-            };
-            let copied = &done.copied;
-            assert!(rt; is_io(copied) && copied.read_failed && !copied.write_failed);
-            assert_eq!(rt; done.calls, fails_at);
-            assert_eq!(rt;
-                out.as_slice(),
-                front(whole.as_slice(), gone),
-                "at {fails_at} by {buffer}"
-            );
+            let same = Under::Same;
+            let done = copy(rt.alloc(), bytes, (1, fails_at), buffer, &mut out, same, 9);
+            assert!(rt; is_unread(done, fails_at));
+            assert!(rt; out.as_slice() == front(bytes, out_before(fails_at)));
         }
     }
     Ok(())
@@ -288,97 +365,109 @@ fn every_failed_read(rt: HostRuntime) -> Result<(), Fail> {
 #[test]
 fn one_end(rt: HostRuntime) -> Result<(), Fail> {
     let whole = big(rt.alloc())?;
+    let bytes = whole.as_slice();
     // a buffer, and how many reads there are: those of all 138 bytes, and one of the end
     for (buffer, calls) in [(24, 7), (40, 5), (100, 3), (65536, 2)] {
-        let stream = Halting::new(rt.alloc(), whole.as_slice(), 200)?;
         let mut out = Vec::new(rt.alloc());
-        let done = copy(rt.alloc(), buffer, stream, &mut out, Under::Same, 9)?;
-        assert!(rt; is_whole(&done.copied, 1));
-        assert!(rt; done.calls <= calls, "by {buffer}");
-        assert_eq!(rt; out.as_slice(), whole.as_slice());
+        let done = copy(
+            rt.alloc(),
+            bytes,
+            (200, 0),
+            buffer,
+            &mut out,
+            Under::Same,
+            9,
+        );
+        assert!(rt; is_whole(done, 1) && done.calls <= calls && out.as_slice() == bytes);
     }
     Ok(())
+}
+
+// A packet that says it was shorter before it was captured.
+const TOO_LONG: [u8; 16] = [0, 0, 0, 1, 0, 0, 0, 0, 0, 0, 0, 2, 0, 0, 0, 1];
+
+// Whether so many packets and bytes are copied where that many packets are asked for.
+fn copies(
+    alloc: Global,
+    bytes: &[u8],
+    step: usize,
+    buffer: usize,
+    (most, taken): (u64, usize),
+) -> bool {
+    let mut out = Vec::new(alloc);
+    let done = copy(alloc, bytes, (step, 0), buffer, &mut out, Under::Same, most);
+    is_whole(done, most) && done.taken == taken && out.as_slice() == front(bytes, taken)
+}
+
+// Whether one packet is copied, and the one behind it is refused.
+fn refuses_the_second(alloc: Global, bytes: &[u8], step: usize, buffer: usize) -> bool {
+    let mut out = Vec::new(alloc);
+    let done = copy(alloc, bytes, (step, 0), buffer, &mut out, Under::Same, 2);
+    let is_named = matches!(done.end, End::Refused("PacketHeader incl_len > orig_len"));
+    is_named && done.packets == 1 && out.as_slice() == front(bytes, 138)
 }
 
 #[test]
 fn most_packets(rt: HostRuntime) -> Result<(), Fail> {
     let whole = big(rt.alloc())?;
-    let mut bytes = big(rt.alloc())?;
-    bytes.extend_from_slice(&[0, 0, 0, 1, 0, 0, 0, 0, 0, 0, 0, 2, 0, 0, 0, 1])?;
+    let long = after(rt.alloc(), whole.as_slice(), &TOO_LONG)?;
+    let bytes = long.as_slice();
     for buffer in BUFFERS {
-        for (most, taken, step) in [(0, 24, 1), (0, 24, 200), (1, 138, 1), (1, 138, 200)] {
-            let stream = Halting::new(rt.alloc(), bytes.as_slice(), step)?;
-            let mut out = Vec::new(rt.alloc());
-            let done = copy(rt.alloc(), buffer, stream, &mut out, Under::Same, most)?;
-            assert!(rt; is_whole(&done.copied, most), "by {buffer}");
-            assert_eq!(rt; done.taken, taken, "by {buffer}");
-            assert_eq!(rt; out.as_slice(), front(whole.as_slice(), taken));
-        }
         for step in [1, 200] {
-            let stream = Halting::new(rt.alloc(), bytes.as_slice(), step)?;
-            let mut out = Vec::new(rt.alloc());
-            let done = copy(rt.alloc(), buffer, stream, &mut out, Under::Same, 2)?;
-            assert!(rt;
-                names(&done.copied, "PacketHeader incl_len > orig_len"),
-                "by {buffer}"
-            );
-            assert_eq!(rt; done.copied.packets, 1);
-            assert_eq!(rt; out.as_slice(), whole.as_slice());
+            assert!(rt; copies(rt.alloc(), bytes, step, buffer, (0, 24)));
+            assert!(rt; copies(rt.alloc(), bytes, step, buffer, (1, 138)));
+            assert!(rt; refuses_the_second(rt.alloc(), bytes, step, buffer));
         }
     }
     Ok(())
 }
 
 #[test]
-fn invalid_header(rt: HostRuntime) -> Result<(), Fail> {
-    let whole = big(rt.alloc())?;
+fn invalid_header(rt: HostRuntime) {
     let header = PcapHeader {
         magic_number: 0,
         ..PcapHeader::default()
     };
     for buffer in BUFFERS {
-        let stream = Halting::new(rt.alloc(), whole.as_slice(), 200)?;
         let mut out = Vec::new(rt.alloc());
         let under = Under::Header(header);
-        let done = copy(rt.alloc(), buffer, stream, &mut out, under, 9)?;
-        assert!(rt; names(&done.copied, "PcapHeader wrong magic number"));
-        assert!(rt; done.calls == 0 && out.is_empty() && !done.copied.read_failed);
+        let done = copy(rt.alloc(), &BIG_HEAD, (200, 0), buffer, &mut out, under, 9);
+        assert!(rt; matches!(done.end, End::Refused("PcapHeader wrong magic number")));
+        assert!(rt; done.calls == 0 && out.is_empty() && !done.read_failed);
     }
-    Ok(())
 }
 
 #[test]
-fn torn_headers(rt: HostRuntime) -> Result<(), Fail> {
-    let whole = big(rt.alloc())?;
+fn torn_headers(rt: HostRuntime) {
     for buffer in BUFFERS {
         for end in 0..24usize {
-            let stream = Halting::new(rt.alloc(), front(whole.as_slice(), end), 9)?;
             let mut out = Vec::new(rt.alloc());
-            let done = copy(rt.alloc(), buffer, stream, &mut out, Under::Same, 9)?;
-            let copied = &done.copied;
-            assert!(rt; is_io(copied) && copied.packets == 0, "at {end}");
-            assert!(rt; !copied.read_failed && !copied.write_failed, "at {end}");
-            assert!(rt; done.taken == end && out.is_empty());
+            let bytes = front(&BIG_HEAD, end);
+            let done = copy(rt.alloc(), bytes, (9, 0), buffer, &mut out, Under::Same, 9);
+            assert!(rt; is_torn(done) && done.taken == end && out.is_empty());
         }
     }
-    Ok(())
 }
 
 #[test]
-fn refused_headers(rt: HostRuntime) -> Result<(), Fail> {
-    let whole = big(rt.alloc())?;
+fn refused_headers(rt: HostRuntime) {
     for buffer in BUFFERS {
         for step in [1, 200] {
-            let stream = Halting::new(rt.alloc(), &[0xff; 30], step)?;
             let mut out = Vec::new(rt.alloc());
-            let done = copy(rt.alloc(), buffer, stream, &mut out, Under::Same, 9)?;
-            assert!(rt; names(&done.copied, "PcapHeader wrong magic number") && out.is_empty());
-            let stream = Halting::new(rt.alloc(), front(whole.as_slice(), 40), step)?;
-            let done = copy(rt.alloc(), buffer, stream, &mut out, Under::Same, 9)?;
-            let copied = &done.copied;
-            assert!(rt; is_io(copied) && !copied.read_failed && copied.packets == 0);
-            assert_eq!(rt; out.as_slice(), front(whole.as_slice(), 24));
+            let same = Under::Same;
+            let done = copy(
+                rt.alloc(),
+                &[0xff; 30],
+                (step, 0),
+                buffer,
+                &mut out,
+                same,
+                9,
+            );
+            assert!(rt; matches!(done.end, End::Refused("PcapHeader wrong magic number")));
+            assert!(rt; out.is_empty());
+            let done = copy(rt.alloc(), &BIG_HEAD, (step, 0), buffer, &mut out, same, 9);
+            assert!(rt; is_torn(done) && out.as_slice() == front(&BIG_HEAD, 24));
         }
     }
-    Ok(())
 }

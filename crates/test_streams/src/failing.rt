@@ -4,10 +4,10 @@ use crate::sample::packet;
 use pcap_classic::PcapError;
 use pcap_classic::pcap::{Packet, PcapHeader, PcapWriter};
 use pcap_classic::stream::Told;
-use std::alloc::{AllocError, Global};
+use std::alloc::Global;
 use std::io::Write;
 use std::test::Fail;
-use test_support::captures::{big, contents, front};
+use test_support::captures::{back, big, front};
 use test_support::writers::Narrow;
 
 /// Each call of a writer that takes ten bytes at most of the capture, and how many bytes went out before it.
@@ -44,16 +44,19 @@ fn fails_once(output: &mut Narrow, packet: &Packet<'_>, room: usize) -> bool {
     }
 }
 
+// Whether a writer fails once, and these bytes of the capture are what went out.
+fn leaves(mut output: Narrow, packet: &Packet<'_>, gone: &[u8]) -> bool {
+    fails_once(&mut output, packet, gone.len()) && output.out.as_slice() == gone
+}
+
 #[test]
 fn every_room(rt: HostRuntime) -> Result<(), Fail> {
     let whole = big(rt.alloc())?;
-    let contents = contents(rt.alloc())?;
-    let packet = packet(contents.as_slice());
+    let packet = packet(back(whole.as_slice(), 40));
     for fails in [false, true] {
         for room in 0..138usize {
-            let mut output = Narrow::new(rt.alloc(), room, fails);
-            assert!(rt; fails_once(&mut output, &packet, room), "at {room}");
-            assert_eq!(rt; output.out.as_slice(), front(whole.as_slice(), room));
+            let gone = front(whole.as_slice(), room);
+            assert!(rt; leaves(Narrow::new(rt.alloc(), room, fails), &packet, gone));
         }
     }
     Ok(())
@@ -62,14 +65,11 @@ fn every_room(rt: HostRuntime) -> Result<(), Fail> {
 #[test]
 fn interrupted_calls(rt: HostRuntime) -> Result<(), Fail> {
     let whole = big(rt.alloc())?;
-    let contents = contents(rt.alloc())?;
-    let packet = packet(contents.as_slice());
+    let packet = packet(back(whole.as_slice(), 40));
     for (call, gone) in CALLS {
-        for is_idle in [false, true] {
-            let mut output = Narrow::halting(rt.alloc(), call, is_idle);
-            assert!(rt; fails_once(&mut output, &packet, gone), "at call {call}");
-            assert_eq!(rt; output.out.as_slice(), front(whole.as_slice(), gone));
-        }
+        let gone = front(whole.as_slice(), gone);
+        assert!(rt; leaves(Narrow::halting(rt.alloc(), call, false), &packet, gone));
+        assert!(rt; leaves(Narrow::halting(rt.alloc(), call, true), &packet, gone));
     }
     Ok(())
 }
@@ -87,53 +87,83 @@ fn invalid_header(rt: HostRuntime) {
             Err(PcapError::InvalidField("PcapHeader wrong magic number"))
         )
     );
-    assert_eq!(rt; output.out.len(), 0);
-    assert_eq!(rt; output.calls, 0);
+    assert!(rt; output.out.is_empty() && output.calls == 0);
+}
+
+// Writes packets of no bytes to a writer that has room for one, and tells whether each call answered as it must.
+fn fits_one(writer: &mut PcapWriter<Narrow>) -> bool {
+    let is_written = writer.write(1, 0, &[], 0).is_ok();
+    let began = !writer.failed() && writer.get_ref().calls == 2;
+    let is_refused = matches!(writer.write(1, 0, &[], 0), Err(PcapError::IoError(_)));
+    is_written && began && is_refused && writer.failed()
 }
 
 #[test]
 fn empty_packet(rt: HostRuntime) -> Result<(), Fail> {
     let output = Narrow::new(rt.alloc(), 40, true);
     let mut writer = PcapWriter::with_header(PcapHeader::default(), output)?;
-    writer.write(1, 0, &[], 0)?;
-    assert!(rt; !writer.failed());
-    assert_eq!(rt; writer.get_ref().calls, 2);
-    assert!(rt; matches!(writer.write(1, 0, &[], 0), Err(PcapError::IoError(_))));
-    assert!(rt; writer.failed());
+    assert!(rt; fits_one(&mut writer));
     writer.get_mut().room = 1000;
     assert!(rt; matches!(writer.write(1, 0, &[], 0), Err(PcapError::WriterFailed)));
-    assert_eq!(rt; writer.get_ref().calls, 3);
+    assert!(rt; writer.get_ref().calls == 3);
     Ok(())
 }
 
+// How many bytes a write took, if it didn't fail.
+fn taken(told: &mut Told<Narrow>, bytes: &[u8]) -> Option<usize> {
+    match told.write(bytes) {
+        Ok(n) => Some(n),
+        Err(_) => None,
+    }
+}
+
+// Whether a writer with room for three bytes tells that a write failed, and none before.
+fn tells(told: &mut Told<Narrow>, fails: bool) -> bool {
+    let first = taken(told, &[1, 2]);
+    let empty = taken(told, &[]);
+    let is_flushed = told.flush().is_ok();
+    let second = taken(told, &[3, 4]);
+    let began = !told.failed();
+    let third = taken(told, &[4]);
+    let is_taken = first == Some(2) && empty == Some(0) && second == Some(1);
+    is_taken && is_flushed && began && third.is_none() == fails && told.failed()
+}
+
+// Whether it still says so where its writer has room again.
+fn still_tells(mut told: Told<Narrow>) -> bool {
+    let is_out = told.get_ref().out.as_slice() == [1, 2, 3].as_slice();
+    told.get_mut().room = 1;
+    let last = taken(&mut told, &[4]);
+    let is_told = told.failed();
+    let output = told.into_inner();
+    is_out && last == Some(1) && is_told && output.out.as_slice() == [1, 2, 3, 4].as_slice()
+}
+
+// Whether a writer with no room tells that a flush failed.
+fn tells_a_flush(alloc: Global, fails: bool) -> bool {
+    let mut full = Told::new(Narrow::new(alloc, 0, fails));
+    full.flush().is_err() == fails && full.failed() == fails
+}
+
+// Whether one call of a writer is made that is interrupted, or takes nothing, and it is told.
+fn tells_one_write(alloc: Global, is_idle: bool) -> bool {
+    let mut told = Told::new(Narrow::halting(alloc, 1, is_idle));
+    taken(&mut told, &[1]).is_some() == is_idle && told.failed() && told.get_ref().calls == 1
+}
+
+fn tells_one_flush(alloc: Global) -> bool {
+    let mut told = Told::new(Narrow::halting(alloc, 1, false));
+    told.flush().is_err() && told.failed() && told.get_ref().calls == 1
+}
+
 #[test]
-fn told_writers(rt: HostRuntime) -> Result<(), Fail> {
+fn told_writers(rt: HostRuntime) {
     for fails in [false, true] {
         let mut told = Told::new(Narrow::new(rt.alloc(), 3, fails));
-        assert!(rt; matches!(told.write(&[1, 2]), Ok(2)));
-        assert!(rt; matches!(told.write(&[]), Ok(0)));
-        assert!(rt; told.flush().is_ok());
-        assert!(rt; matches!(told.write(&[3, 4]), Ok(1)));
-        assert!(rt; !told.failed());
-        assert_eq!(rt; told.write(&[4]).is_err(), fails);
-        assert!(rt; told.failed());
-        assert_eq!(rt; told.get_ref().out.as_slice(), [1, 2, 3].as_slice());
-        told.get_mut().room = 1;
-        assert!(rt; matches!(told.write(&[4]), Ok(1)));
-        assert!(rt; told.failed());
-        assert_eq!(rt; told.into_inner().out.as_slice(), [1, 2, 3, 4].as_slice());
-        let mut full = Told::new(Narrow::new(rt.alloc(), 0, fails));
-        assert_eq!(rt; full.flush().is_err(), fails);
-        assert_eq!(rt; full.failed(), fails);
+        assert!(rt; tells(&mut told, fails));
+        assert!(rt; still_tells(told));
+        assert!(rt; tells_a_flush(rt.alloc(), fails));
+        assert!(rt; tells_one_write(rt.alloc(), fails));
     }
-    for is_idle in [false, true] {
-        let mut told = Told::new(Narrow::halting(rt.alloc(), 1, is_idle));
-        assert_eq!(rt; told.write(&[1]).is_ok(), is_idle);
-        assert!(rt; told.failed());
-        assert_eq!(rt; told.get_ref().calls, 1);
-    }
-    let mut told = Told::new(Narrow::halting(rt.alloc(), 1, false));
-    assert!(rt; told.flush().is_err() && told.failed());
-    assert_eq!(rt; told.get_ref().calls, 1);
-    Ok(())
+    assert!(rt; tells_one_flush(rt.alloc()));
 }

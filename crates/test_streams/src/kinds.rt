@@ -8,23 +8,23 @@ use pcap_classic::{PcapError, ResultParsing, TsResolution};
 use std::alloc::{AllocError, Global};
 use std::io::ErrorKind;
 use std::test::Fail;
-use test_support::captures::{back, big, contents, front};
+use test_support::captures::{BIG_HEAD, back, big, contents, front};
 use test_support::readers::Halting;
 use test_support::writers::Narrow;
 
-/// The kind of the error inside an `IoError`.
-pub fn kind_of(fault: Option<PcapError>) -> Option<ErrorKind> {
-    match &fault {
-        Some(PcapError::IoError(error)) => Some(error.kind()),
-        _ => None,
+/// Whether this is an `IoError` with an error of this kind inside.
+pub fn is_kind(fault: &Option<PcapError>, kind: ErrorKind) -> bool {
+    match fault {
+        Some(PcapError::IoError(error)) => error.kind() == kind,
+        _ => false,
     }
 }
 
-// The kind of the error that a reader gave.
-fn kind_of_item(item: Option<ResultParsing<Packet<'static>>>) -> Option<ErrorKind> {
-    match item {
-        Some(item) => kind_of(item.err()),
-        None => None,
+/// The same of what a call gave.
+pub fn fails_by<T>(outcome: &ResultParsing<T>, kind: ErrorKind) -> bool {
+    match outcome {
+        Err(PcapError::IoError(error)) => error.kind() == kind,
+        _ => false,
     }
 }
 
@@ -48,37 +48,58 @@ fn ending(
 fn values(rt: HostRuntime) -> Result<(), Fail> {
     let whole = big(rt.alloc())?;
     for end in ENDS {
-        let mut stream = ending(rt.alloc(), front(whole.as_slice(), 21), 7, end)?;
+        let mut stream = ending(rt.alloc(), front(&BIG_HEAD, 21), 7, end)?;
         let header = PcapHeader::from_reader(&mut stream);
-        assert_eq!(rt; kind_of(header.err()), Some(end.1));
+        assert!(rt; fails_by(&header, end.1));
         // ten bytes of the packet's header, its last six, and ten of its data
         let bytes = front(back(whole.as_slice(), 24), 26);
         let mut stream = ending(rt.alloc(), bytes, 10, end)?;
-        let packet = Packet::from_reader::<_, BigEndian>(
-            rt.alloc(),
-            &mut stream,
-            TsResolution::MicroSecond,
-        );
-        assert_eq!(rt; kind_of(packet.err()), Some(end.1));
+        let resolution = TsResolution::MicroSecond;
+        let packet = Packet::from_reader::<_, BigEndian>(rt.alloc(), &mut stream, resolution);
+        assert!(rt; fails_by(&packet, end.1));
     }
     Ok(())
 }
 
 #[test]
 fn headers(rt: HostRuntime) -> Result<(), Fail> {
-    let whole = big(rt.alloc())?;
     for end in ENDS {
         // three reads of a beginning of the capture's header, and of the packet's
-        let stream = ending(rt.alloc(), front(whole.as_slice(), 21), 7, end)?;
-        let reader = PcapReader::new(rt.alloc(), stream);
-        assert_eq!(rt; kind_of(reader.err()), Some(end.1));
-        let bytes = front(back(whole.as_slice(), 24), 15);
+        let stream = ending(rt.alloc(), front(&BIG_HEAD, 21), 7, end)?;
+        assert!(rt; fails_by(&PcapReader::new(rt.alloc(), stream), end.1));
+        let bytes = front(back(&BIG_HEAD, 24), 15);
         let mut stream = ending(rt.alloc(), bytes, 5, end)?;
         let resolution = TsResolution::MicroSecond;
         let header = PacketHeader::from_reader::<_, BigEndian>(&mut stream, resolution);
-        assert_eq!(rt; kind_of(header.err()), Some(end.1));
+        assert!(rt; fails_by(&header, end.1));
     }
     Ok(())
+}
+
+// Whether a reader's first packet fails by this kind.
+fn reader_fails(alloc: Global, stream: Halting, kind: ErrorKind) -> bool {
+    match PcapReader::new(alloc, stream) {
+        Ok(mut reader) => match &reader.next() {
+            Some(item) => fails_by(item, kind),
+            None => false,
+        },
+        Err(_) => false,
+    }
+}
+
+fn run_fails(alloc: Global, stream: Halting, kind: ErrorKind) -> bool {
+    match &read_pcap(alloc, stream, 9) {
+        Ok(read) => is_kind(&read.fault, kind),
+        Err(_) => false,
+    }
+}
+
+fn copy_fails(alloc: Global, mut stream: Halting, kind: ErrorKind) -> bool {
+    let mut out = Vec::new(alloc);
+    is_kind(
+        &copy_pcap(alloc, &mut stream, &mut out, Under::Same, 9).fault,
+        kind,
+    )
 }
 
 #[test]
@@ -87,16 +108,19 @@ fn captures(rt: HostRuntime) -> Result<(), Fail> {
     // the header, the packet's header, and ten bytes of its data
     let bytes = front(whole.as_slice(), 50);
     for end in ENDS {
-        let mut reader = PcapReader::new(rt.alloc(), ending(rt.alloc(), bytes, 50, end)?)?;
-        assert_eq!(rt; kind_of_item(reader.next()), Some(end.1));
-        let read = read_pcap(rt.alloc(), ending(rt.alloc(), bytes, 50, end)?, 9)?;
-        assert_eq!(rt; kind_of(read.fault), Some(end.1));
-        let mut stream = ending(rt.alloc(), bytes, 50, end)?;
-        let mut out = Vec::new(rt.alloc());
-        let copied = copy_pcap(rt.alloc(), &mut stream, &mut out, Under::Same, 9);
-        assert_eq!(rt; kind_of(copied.fault), Some(end.1));
+        assert!(rt; reader_fails(rt.alloc(), ending(rt.alloc(), bytes, 50, end)?, end.1));
+        assert!(rt; run_fails(rt.alloc(), ending(rt.alloc(), bytes, 50, end)?, end.1));
+        assert!(rt; copy_fails(rt.alloc(), ending(rt.alloc(), bytes, 50, end)?, end.1));
     }
     Ok(())
+}
+
+// Whether a writer fails at the capture's packet, by this kind.
+fn packet_fails(output: Narrow, packet: &Packet<'_>, kind: ErrorKind) -> bool {
+    match PcapWriter::with_header(PcapHeader::default(), output) {
+        Ok(mut writer) => fails_by(&writer.write_packet(packet), kind),
+        Err(_) => false,
+    }
 }
 
 #[test]
@@ -112,29 +136,31 @@ fn writers(rt: HostRuntime) -> Result<(), Fail> {
     for (fails, interrupted, kind) in rows {
         let mut output = Narrow::new(rt.alloc(), 50, fails);
         output.interrupted = interrupted;
-        let mut writer = PcapWriter::with_header(PcapHeader::default(), output)?;
-        assert_eq!(rt; kind_of(writer.write_packet(&packet).err()), Some(kind));
+        assert!(rt; packet_fails(output, &packet, kind));
     }
     Ok(())
 }
 
+// Whether headers that are written by themselves fail by this kind.
+fn headers_fail(alloc: Global, fails: bool, kind: ErrorKind) -> bool {
+    let mut output = Narrow::new(alloc, 10, fails);
+    let header = PcapHeader::default().write_to::<_, BigEndian>(&mut output);
+    let mut output = Narrow::new(alloc, 10, fails);
+    let resolution = TsResolution::MicroSecond;
+    let packet = PacketHeader::new(1, 2, 3, 4).write_to::<_, BigEndian>(&mut output, resolution);
+    fails_by(&header, kind) && fails_by(&packet, kind)
+}
+
 #[test]
-fn narrow_headers(rt: HostRuntime) -> Result<(), Fail> {
+fn narrow_headers(rt: HostRuntime) {
     let header = PcapHeader::default();
-    let packet = PacketHeader::new(1, 2, 3, 4);
     for (fails, kind) in [(false, ErrorKind::WriteZero), (true, ErrorKind::Other)] {
-        let made = PcapWriter::new(Narrow::new(rt.alloc(), 10, fails));
-        assert_eq!(rt; kind_of(made.err()), Some(kind));
-        let made = PcapWriter::with_header(header, Narrow::new(rt.alloc(), 10, fails));
-        assert_eq!(rt; kind_of(made.err()), Some(kind));
-        let mut output = Narrow::new(rt.alloc(), 10, fails);
-        let written = header.write_to::<_, BigEndian>(&mut output);
-        assert_eq!(rt; kind_of(written.err()), Some(kind));
-        let mut output = Narrow::new(rt.alloc(), 10, fails);
-        let written = packet.write_to::<_, BigEndian>(&mut output, TsResolution::MicroSecond);
-        assert_eq!(rt; kind_of(written.err()), Some(kind));
+        let output = Narrow::new(rt.alloc(), 10, fails);
+        assert!(rt; fails_by(&PcapWriter::new(output), kind));
+        let output = Narrow::new(rt.alloc(), 10, fails);
+        assert!(rt; fails_by(&PcapWriter::with_header(header, output), kind));
+        assert!(rt; headers_fail(rt.alloc(), fails, kind));
     }
-    Ok(())
 }
 
 #[test]
@@ -144,7 +170,7 @@ fn copies(rt: HostRuntime) -> Result<(), Fail> {
         let mut stream = Halting::new(rt.alloc(), whole.as_slice(), 200)?;
         let mut output = Narrow::new(rt.alloc(), 50, fails);
         let copied = copy_pcap(rt.alloc(), &mut stream, &mut output, Under::Same, 9);
-        assert_eq!(rt; kind_of(copied.fault), Some(kind));
+        assert!(rt; is_kind(&copied.fault, kind));
     }
     Ok(())
 }

@@ -43,32 +43,59 @@ fn is_run(run: &PcapRun) -> bool {
     is_all(run.packets.as_slice()) && run.used == BYTES && matches!(run.rest, Rest::Clean)
 }
 
+// Whether the runs over these bytes, in one piece and on requests, are all of the capture.
+fn parses(alloc: Global, all: &[u8]) -> bool {
+    matches!(&parse_pcap(alloc, all), Ok(run) if is_run(run))
+}
+
+fn parses_on_requests(alloc: Global, all: &[u8]) -> bool {
+    matches!(&exact_pcap(alloc, &mut Window::new(all)), Ok((run, _)) if is_run(run))
+}
+
+fn parses_pieces(alloc: Global, all: &[u8]) -> bool {
+    matches!(&pieces_pcap(alloc, &[all]), Ok((run, _)) if is_run(run))
+}
+
+// Whether a stream of them is read as all of it.
+fn reads(alloc: Global, stream: Halting) -> bool {
+    match &read_pcap(alloc, stream, 3000) {
+        Ok(read) => is_all(read.packets.as_slice()) && read.fault.is_none(),
+        Err(_) => false,
+    }
+}
+
 #[test]
 fn runs(rt: HostRuntime) -> Result<(), Fail> {
     let whole = large(rt.alloc())?;
     let all = whole.as_slice();
-    let run = parse_pcap(rt.alloc(), all)?;
-    assert!(rt; is_run(&run));
-    let (run, _requests) = exact_pcap(rt.alloc(), &mut Window::new(all))?;
-    assert!(rt; is_run(&run));
-    let (run, _numbers) = pieces_pcap(rt.alloc(), &[all])?;
-    assert!(rt; is_run(&run));
-    let read = read_pcap(rt.alloc(), Halting::new(rt.alloc(), all, 1_000_000)?, 3000)?;
-    assert!(rt; is_all(read.packets.as_slice()) && read.fault.is_none());
+    assert!(rt; parses(rt.alloc(), all));
+    assert!(rt; parses_on_requests(rt.alloc(), all));
+    assert!(rt; parses_pieces(rt.alloc(), all));
+    assert!(rt; reads(rt.alloc(), Halting::new(rt.alloc(), all, 1_000_000)?));
     Ok(())
+}
+
+// Whether a stream of them is copied whole.
+fn copies_all(alloc: Global, mut stream: Halting, all: &[u8]) -> bool {
+    let mut out = Vec::new(alloc);
+    let copied = copy_pcap(alloc, &mut stream, &mut out, Under::Same, 3000);
+    copied.packets == 2001 && out.as_slice() == all
+}
+
+fn copies_buffered(alloc: Global, stream: Halting, all: &[u8]) -> bool {
+    let Ok(mut reader) = BufReader::with_capacity(alloc, 65_536, stream) else {
+        return false;
+    };
+    let mut out = Vec::new(alloc);
+    let copied = copy_buffered(alloc, &mut reader, &mut out, Under::Same, 3000);
+    copied.packets == 2001 && out.as_slice() == all
 }
 
 #[test]
 fn copies(rt: HostRuntime) -> Result<(), Fail> {
     let whole = large(rt.alloc())?;
-    let mut stream = Halting::new(rt.alloc(), whole.as_slice(), 1_000_000)?;
-    let mut out = Vec::new(rt.alloc());
-    let copied = copy_pcap(rt.alloc(), &mut stream, &mut out, Under::Same, 3000);
-    assert!(rt; copied.packets == 2001 && out.as_slice() == whole.as_slice());
-    let stream = Halting::new(rt.alloc(), whole.as_slice(), 1_000_000)?;
-    let mut reader = BufReader::with_capacity(rt.alloc(), 65_536, stream)?;
-    let mut out = Vec::new(rt.alloc());
-    let copied = copy_buffered(rt.alloc(), &mut reader, &mut out, Under::Same, 3000);
-    assert!(rt; copied.packets == 2001 && out.as_slice() == whole.as_slice());
+    let all = whole.as_slice();
+    assert!(rt; copies_all(rt.alloc(), Halting::new(rt.alloc(), all, 1_000_000)?, all));
+    assert!(rt; copies_buffered(rt.alloc(), Halting::new(rt.alloc(), all, 1_000_000)?, all));
     Ok(())
 }

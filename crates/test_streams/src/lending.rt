@@ -19,23 +19,32 @@ fn is_lent(packet: &Packet<'_>, bytes: &[u8]) -> bool {
     packet.data_.is_borrowed() && packet.data_.as_slice() == bytes
 }
 
+// Whether a reader lends the capture's packet, of these bytes, and then nothing.
+fn lends(reader: &mut PcapReader<Halting>, contents: &[u8]) -> bool {
+    let expected = PacketHeader::new(0x4fa11b29, 152_630_000, 98, 98);
+    let is_first = reader.data().is_empty();
+    let is_given = given(reader) == Some(expected) && reader.data() == contents;
+    let is_lent = is_lent(&reader.packet(expected), contents);
+    let is_taken = reader.get_ref().taken == 138;
+    let is_last = given(reader).is_none() && reader.data().is_empty() && !reader.failed();
+    is_first && is_given && is_lent && is_taken && is_last
+}
+
 #[test]
 fn lent_packets(rt: HostRuntime) -> Result<(), Fail> {
     let whole = big(rt.alloc())?;
-    let contents = back(whole.as_slice(), 40);
-    let expected = PacketHeader::new(0x4fa11b29, 152_630_000, 98, 98);
     for step in [1, 7, 200] {
         let stream = Halting::new(rt.alloc(), whole.as_slice(), step)?;
         let mut reader = PcapReader::new(rt.alloc(), stream)?;
-        assert!(rt; reader.data().is_empty());
-        assert!(rt; given(&mut reader) == Some(expected));
-        assert!(rt; reader.data() == contents);
-        assert!(rt; is_lent(&reader.packet(expected), contents));
-        assert_eq!(rt; reader.get_ref().taken, 138);
-        assert!(rt; given(&mut reader).is_none());
-        assert!(rt; reader.data().is_empty() && !reader.failed());
+        assert!(rt; lends(&mut reader, back(whole.as_slice(), 40)));
     }
     Ok(())
+}
+
+// Whether a reader is refused a packet that is torn, lends nothing, and gives nothing after it.
+fn is_torn(reader: &mut PcapReader<Halting>) -> bool {
+    let is_refused = matches!(reader.next_header(), Some(Err(PcapError::IoError(_))));
+    is_refused && reader.data().is_empty() && reader.next_header().is_none()
 }
 
 #[test]
@@ -44,11 +53,7 @@ fn torn_lent_packets(rt: HostRuntime) -> Result<(), Fail> {
     for end in [25, 39, 40, 137] {
         let stream = Halting::new(rt.alloc(), front(whole.as_slice(), end), 9)?;
         let mut reader = PcapReader::new(rt.alloc(), stream)?;
-        let torn = reader.next_header();
-        assert!(rt; matches!(torn, Some(Err(PcapError::IoError(_)))));
-        assert!(rt; reader.data().is_empty());
-        let after = reader.next_header();
-        assert!(rt; after.is_none());
+        assert!(rt; is_torn(&mut reader));
     }
     Ok(())
 }

@@ -1,24 +1,17 @@
 //! Runs over a capture that is shown exactly as the parser asks for it.
 
-ghost use Rattle.std.specs.Prelude.{◌≡◌, ◌≤◌, ◌+◌, ◌<◌, ◌^◌, ◌⊎◌, ◌++◌, ◌∷◌, [], All, IfOk, IfErr, map, drop};
+ghost use Rattle.std.specs.Prelude.{◌≡◌, ◌⊎◌, ◌++◌, ◌∷◌, [], All, IfOk, IfErr};
 ghost use Rattle.pcap_core.specs.Answer.{Refuses};
 ghost use Rattle.pcap_core.specs.Bytes.{IsBorrowed};
 ghost use Rattle.pcap_core.specs.Errors.{IsMemory};
-ghost use Rattle.pcap_core.specs.Exact.{ExactItems};
-ghost use Rattle.pcap_core.specs.Found.{FoundBefore, IfItem};
-ghost use Rattle.pcap_core.specs.Requested.{AsksItem};
 ghost use Rattle.pcap_core.specs.Window.{bytes_of, shown_of, requests_made};
 ghost use Rattle.pcap_classic.specs.Exact.{IsExact};
 ghost use Rattle.pcap_classic.specs.HeaderText.{LacksHeader, HasHeaderFault};
-ghost use Rattle.pcap_classic.specs.PacketText.{packet_limit, content_of};
-ghost use Rattle.pcap_classic.specs.Packets.{format_under};
-ghost use Rattle.pcap_classic.specs.Parser.{header_of};
-ghost use Rattle.pcap_classic.specs.Run.{BeginsWithPacket, HasPacket};
+ghost use Rattle.pcap_classic.specs.Run.{HasPacket};
 
-use crate::pcap::{Packet, PcapParser};
-use crate::run::find::find_packet;
+use crate::pcap::PcapParser;
 use crate::run::{PcapRun, Rest, Window};
-use pcap_core::run::Found;
+use pcap_core::run::show_items;
 use pcap_core::{PcapError, ResultParsing};
 use std::alloc::Global;
 
@@ -46,73 +39,14 @@ pub fn exact_pcap<'a>(alloc: Global, window: &mut Window<'a>) -> ResultParsing<(
     if shown < HEADER_BYTES {
         return Err(PcapError::IncompleteBuffer(HEADER_BYTES - shown));
     }
-    let (_, parser) = PcapParser::new(window.seen())?;
+    let (_, mut parser) = PcapParser::new(window.seen())?;
     let mut requests = 1;
-    let (packets, used, rest) = show_packets(alloc, &parser, window, &mut requests)?;
+    let run = show_items(alloc, &mut parser, window, &mut requests)?;
     let run = PcapRun {
         header: *parser.header(),
-        packets,
-        used,
-        rest,
+        packets: run.items,
+        used: run.used,
+        rest: Rest::from(run.ended),
     };
     Ok((run, requests))
-}
-
-// Shows what the parser asks for of all packets, and of the rest after them: the packets, where the last one ends, and
-// what is said of the rest.
-fn show_packets<'a>(
-    alloc: Global,
-    parser: &PcapParser,
-    window: &mut Window<'a>,
-    requests: &mut u64,
-) -> ResultParsing<(Vec<Packet<'a>>, usize, Rest)>
-    requires first { requests.old ≡ 1 }
-    requires header { 24 ≤ shown_of window.old }
-    ensures bytes { bytes_of window.new ≡ bytes_of window.old }
-    ensures items { IfOk result (λ x. ExactItems (format_under packet_limit (header_of parser.now)) tt (map content_of x.0.items) (bytes_of window.old) (shown_of window.old) x.1 x.2
-        (requests_made window.old) (requests_made window.new) requests.old requests.new) }
-    ensures borrowed { IfOk result (λ x. All (λ packet. IsBorrowed packet.data_) x.0.items) }
-    ensures memory { IfErr result (λ e. IsMemory e × BeginsWithPacket (header_of parser.now) (drop (shown_of window.old) (bytes_of window.old))) }
-{
-    let mut packets = Vec::new(alloc);
-    while !window.is_done() {
-        let used = window.seen().len();
-        match show_packet(parser, window, requests)? {
-            Found::Item(packet) => packets.push(packet)?,
-            Found::Needs(n) => return Ok((packets, used, Rest::Needs(n))),
-            Found::Refused(e) => return Ok((packets, used, Rest::Refused(e))),
-        }
-    }
-    Ok((packets, window.seen().len(), Rest::Clean))
-}
-
-// Shows what the parser asks for of the next packet, and counts the requests.
-fn show_packet<'a>(
-    parser: &PcapParser,
-    window: &mut Window<'a>,
-    requests: &mut u64,
-) -> ResultParsing<Found<Packet<'a>>>
-    requires room { requests.old + 3 < 2 ^ 64 }
-    ensures bytes { bytes_of window.new ≡ bytes_of window.old }
-    ensures asked { IfOk result (λ found. AsksItem (format_under packet_limit (header_of parser.now)) tt (drop (shown_of window.old) (bytes_of window.old))
-        (requests_made window.old) (requests_made window.new) requests.old requests.new) }
-    ensures found { IfOk result (FoundBefore ((format_under packet_limit (header_of parser.now)).says tt (drop (shown_of window.old) (bytes_of window.old)))
-        content_of (drop (shown_of window.new) (bytes_of window.old))) }
-    ensures borrowed { IfOk result (IfItem (λ packet. IsBorrowed packet.data_)) }
-    ensures fine { IfErr result (λ _. ⊥) }
-{
-    let start = window.seen().len();
-    'asking: loop {
-        match find_packet(parser, window.seen_after(start))? {
-            Found::Item((_, packet)) => return Ok(Found::Item(packet)),
-            Found::Needs(n) => {
-                let shown = window.ask(n);
-                *requests += 1;
-                if shown < n {
-                    return Ok(Found::Needs(n - shown));
-                }
-            }
-            Found::Refused(e) => return Ok(Found::Refused(e)),
-        }
-    }
 }

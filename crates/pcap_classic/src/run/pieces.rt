@@ -14,9 +14,8 @@ ghost use Rattle.pcap_classic.specs.Run.{IsRun};
 
 use crate::pcap::{Packet, PcapParser};
 use crate::run::PcapRun;
-use crate::run::find::find_packet;
-use pcap_core::ResultParsing;
-use pcap_core::run::{Found, PieceParser, Pieces, Progress, feed_pieces, found_in};
+use pcap_core::run::{Found, Items, PieceParser, Pieces, Progress, feed_pieces, found_in};
+use pcap_core::{PcapError, ResultParsing};
 use std::alloc::Global;
 
 impl PieceParser for PcapParser {
@@ -40,7 +39,7 @@ impl PieceParser for PcapParser {
 
     ghost owned = { λ packet. IsOwned packet.data_ };
 
-    fn open(alloc: Global, held: &[u8]) -> ResultParsing<Found<(PcapParser, usize)>> {
+    fn open(alloc: Global, held: &[u8]) -> ResultParsing<Found<(PcapParser, usize), PcapError>> {
         match found_in(PcapParser::new(held))? {
             Found::Item((after, parser)) => Ok(Found::Item((parser, after.len()))),
             Found::Needs(n) => Ok(Found::Needs(n)),
@@ -52,8 +51,8 @@ impl PieceParser for PcapParser {
         &mut self,
         alloc: Global,
         held: &[u8],
-    ) -> ResultParsing<Found<(Packet<'static>, usize)>> {
-        match find_packet(self, held)? {
+    ) -> ResultParsing<Found<(Packet<'static>, usize), PcapError>> {
+        match self.next_item(held)? {
             Found::Item((after, packet)) => Ok(Found::Item((packet.to_owned(alloc)?, after.len()))),
             Found::Needs(n) => Ok(Found::Needs(n)),
             Found::Refused(e) => Ok(Found::Refused(e)),

@@ -37,11 +37,15 @@ pub trait PieceParser: Drop {
     ghost owned: { Self.Item → Type 0 };
 
     /// The parser after what opens a capture, and how many bytes follow that.
-    fn open(alloc: Global, held: &[u8]) -> ResultParsing<Found<(Self, usize)>>
+    fn open(alloc: Global, held: &[u8]) -> ResultParsing<Found<(Self, usize), PcapError>>
         ensures { OpensWith opens state held.now result };
 
     /// The item at the front, and how many bytes follow it.
-    fn take(&mut self, alloc: Global, held: &[u8]) -> ResultParsing<Found<(Self::Item, usize)>>
+    fn take(
+        &mut self,
+        alloc: Global,
+        held: &[u8],
+    ) -> ResultParsing<Found<(Self::Item, usize), PcapError>>
         ensures takes { TakesFront format part view (state self.old) (state self.new) held.now result }
         ensures owned { IfOk result (IfItem (λ x. owned x.0)) };
 }

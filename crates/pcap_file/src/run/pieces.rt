@@ -14,9 +14,9 @@ ghost use Rattle.pcap_file.specs.State.{State as BlockState};
 
 use crate::pcapng::{Block, PcapNgParser};
 use crate::run::NgRun;
-use crate::run::find::{find_block, find_first};
-use pcap_core::ResultParsing;
-use pcap_core::run::{Found, PieceParser, Pieces, Progress, feed_pieces};
+use crate::run::find::find_first;
+use pcap_core::run::{Found, Items, PieceParser, Pieces, Progress, feed_pieces};
+use pcap_core::{PcapError, ResultParsing};
 use std::alloc::Global;
 
 impl PieceParser for PcapNgParser {
@@ -40,7 +40,7 @@ impl PieceParser for PcapNgParser {
 
     ghost owned = { λ block. IsOwned block.body };
 
-    fn open(alloc: Global, held: &[u8]) -> ResultParsing<Found<(PcapNgParser, usize)>> {
+    fn open(alloc: Global, held: &[u8]) -> ResultParsing<Found<(PcapNgParser, usize), PcapError>> {
         match find_first(alloc, held)? {
             Found::Item((after, parser)) => Ok(Found::Item((parser, after.len()))),
             Found::Needs(n) => Ok(Found::Needs(n)),
@@ -52,8 +52,8 @@ impl PieceParser for PcapNgParser {
         &mut self,
         alloc: Global,
         held: &[u8],
-    ) -> ResultParsing<Found<(Block<'static>, usize)>> {
-        match find_block(self, held)? {
+    ) -> ResultParsing<Found<(Block<'static>, usize), PcapError>> {
+        match self.next_item(held)? {
             Found::Item((after, block)) => Ok(Found::Item((block.into_owned(alloc)?, after.len()))),
             Found::Needs(n) => Ok(Found::Needs(n)),
             Found::Refused(e) => Ok(Found::Refused(e)),

@@ -1,5 +1,6 @@
 use Rattle.pcap_classic.specs.PacketText.{packet_limit}
-use Rattle.pcap_classic.proofs.Pieces.{capture_lawful, header_opening}
+use Rattle.pcap_classic.proofs.CaptureFormat.{capture_lawful}
+use Rattle.pcap_classic.proofs.Pieces.{header_opening}
 use Rattle.test_resumption.proofs.counting.asked.Goals as goal
 
 pub feed_pieces-requires-clause-lawful : goal.feed_pieces-requires-clause-lawful

@@ -5,7 +5,8 @@ use Rattle.pcap_classic.specs.HeaderText.{HeaderSays}
 use Rattle.pcap_classic.specs.PacketText.{packet_limit}
 use Rattle.pcap_classic.specs.Packets.{capture_format}
 use Rattle.pcap_classic.specs.Pieces.{HoldsPackets}
-use Rattle.pcap_classic.proofs.Pieces.{capture_lawful, header_opening, holds_packets, fed_run}
+use Rattle.pcap_classic.proofs.CaptureFormat.{capture_lawful}
+use Rattle.pcap_classic.proofs.Pieces.{header_opening, holds_packets, fed_run}
 use Rattle.pcap_classic.proofs.run.pieces.pieces_pcap.Goals as goal
 
 pub feed_pieces-requires-clause-lawful : goal.feed_pieces-requires-clause-lawful

@@ -1,0 +1,95 @@
+//! The items of a log that lies in a slice, which lend their bytes from it.
+
+ghost use Rattle.std.specs.Prelude.{◌≡◌, ℕ, map, IfErr, IfOk};
+ghost use Rattle.pcap_core.specs.Faults.{Invalid};
+ghost use Rattle.pcap_core.specs.Items.{GrowsIn, RunsTo};
+ghost use Rattle.test_formats.specs.Samples.{Item, item_of, sample_format, size_after};
+
+use crate::samples::{Head, SamplesOf, head_of};
+use byteorder::BigEndian;
+use pcap_core::fields::split_u16;
+use pcap_core::rules::Rule;
+use pcap_core::run::{Found, ItemRun, Items, parse_items};
+use std::alloc::{AllocError, Global};
+
+/// An item of a log, with the bytes after its head.
+#[derive(Clone, Copy)]
+pub struct Lent<'a> {
+    /// What its head says.
+    pub head: Head,
+    /// The bytes after it.
+    pub bytes: &'a [u8],
+}
+
+// The size of the samples after such a head.
+fn after_head(size: u16, head: Head) -> u16
+    ensures { result ≡ size_after size head }
+{
+    match head {
+        Head::Size(n) => n,
+        Head::Sample(_) => size,
+    }
+}
+
+impl<'a> Items<'a> for SamplesOf {
+    type Item = Lent<'a>;
+
+    // A log's own fault is the rule, and no error of captures.
+    type Refusal = Rule;
+
+    ghost State = { ℕ };
+
+    ghost Value = { Item };
+
+    ghost Part = { Item };
+
+    ghost format = { sample_format };
+
+    ghost state = { λ samples. samples.size };
+
+    ghost part = { λ item. item };
+
+    ghost view = { item_of };
+
+    ghost lent = { λ _. Unit {0} };
+
+    ghost shows = { λ rule fault. fault ≡ Invalid rule };
+
+    ghost grows = { λ _ _. ⊥ };
+
+    fn next_item(
+        &mut self,
+        slice: &'a [u8],
+    ) -> Result<Found<(&'a [u8], Lent<'a>), Rule>, AllocError> {
+        if slice.len() < 4 {
+            return Ok(Found::Needs(4 - slice.len()));
+        }
+        let (front, after) = slice.split_at(4);
+        let (kind, rest) = split_u16::<BigEndian>(front);
+        let (number, _end) = split_u16::<BigEndian>(rest);
+        match head_of(self.size, kind, number) {
+            Err(rule) => Ok(Found::Refused(rule)),
+            Ok((_, n)) if after.len() < n => Ok(Found::Needs(n - after.len())),
+            Ok((head, n)) => {
+                let (bytes, after) = after.split_at(n);
+                self.size = after_head(self.size, head);
+                Ok(Found::Item((after, Lent { head, bytes })))
+            }
+        }
+    }
+}
+
+/// All items at the front of a log, and what is said of the rest; samples have the size after them that they leave.
+///
+/// Want of memory is that of the list of items.
+pub fn parse_log<'a>(
+    alloc: Global,
+    samples: &mut SamplesOf,
+    log: &'a [u8],
+) -> Result<ItemRun<Lent<'a>, Rule>, AllocError>
+    ensures front { IfOk result (λ run. RunsTo sample_format (λ item. item) (λ rule fault. fault ≡ Invalid rule) samples.old.size samples.new.size (map item_of run.items.items) log.now
+        run.used run.ended) }
+    ensures memory { IfErr result (λ _. GrowsIn sample_format (λ _ _. ⊥) samples.old.size log.now) }
+{
+    parse_items(alloc, samples, log)
+}
