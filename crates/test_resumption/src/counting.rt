@@ -7,8 +7,8 @@ ghost use Rattle.pcap_classic.specs.PacketText.{packet_limit, Captured, content_
 ghost use Rattle.pcap_classic.specs.Packets.{capture_format};
 ghost use Rattle.pcap_classic.specs.Parser.{header_of};
 
-use pcap_core::{PcapError, ResultParsing};
 use pcap_core::run::{Found, PieceParser, Progress, feed_pieces, pieces_fit};
+use pcap_core::{PcapError, ResultParsing};
 use pcap_file::PcapParser;
 use pcap_file::pcap::Packet;
 use std::alloc::Global;
