@@ -1,0 +1,45 @@
+-- Lists of options, one behind the other.
+use Rattle.std.proofs.Common.{◌≡◌, ℕ, ◌<◌, ◌+◌, List, [], ◌∷◌, ◌++◌, length, take, refl, sym, ap, subst, ◌∙◌, append_assoc, append-nil, arith, map, get_or}
+use Rattle.std.specs.Prelude.{All, Any}
+use Rattle.std.specs.List.{flat_map}
+use Rattle.std.proofs.lemmas.Grind.{flat_map-append}
+use Rattle.std.proofs.lemmas.List.{map_more, length-map, get_or-map}
+use Rattle.std.proofs.lemmas.List.Elements.{All-push}
+use Rattle.std.proofs.lemmas.List.Concat.{flat_map-cons}
+use Rattle.pcap_blocks.specs.Values.{Entry, Kind}
+use Rattle.pcap_written.specs.declared.unwritable.Unwritable.{Unwritable}
+use Rattle.pcap_written.specs.declared.unwritable.Unput.{Unput}
+use Rattle.pcap_written.specs.declared.unwritable.Unput.TheVariants.{Memory, Unfit}
+use Rattle.pcap_written.specs.Puts.{RefusesPut}
+use Rattle.pcap_written.specs.Codec.{Encoder}
+use Rattle.pcap_written.specs.Text.{option_text, end_mark, list_text}
+
+-- what stands against a part stands against the whole
+pub refuses_more : (P Q : Unwritable → Type 0) → ((flaw : Unwritable) → P flaw → Q flaw) → (e : Unput) → RefusesPut P e → RefusesPut Q e
+refuses_more P Q step (Memory e) x = tt
+refuses_more P Q step (Unfit flaw) x = step flaw x
+
+-- what holds of one of them
+pub any_at : {O E : Type 0} (view : O → E) (P : E → Type 0) (items : List O) (i : ℕ) (o : O) → i < length items → o ≡ get_or items i o → P (view o) → Any P (map view items)
+any_at view P items i o lt is here =
+    (i, view o, omega (arith, lt, length-map items view), get_or-map view items i o (view o) lt ∙ ap view (sym is), here)
+
+-- one option more was put
+pub puts_more : {O E : Type 0} (view : O → E) (f : E → List ℕ) (items : List O) (i : ℕ) (o : O) (before old new : List ℕ) → i < length items → o ≡ get_or items i o
+    → old ≡ before ++ flat_map f (map view (take i items)) → new ≡ old ++ f (view o) → new ≡ before ++ flat_map f (map view (take (i + 1) items))
+puts_more view f items i o before old new lt is so_far put =
+    let more : map view (take (i + 1) items) ≡ map view (take i items) ++ view o ∷ [] = map_more view items i o lt ∙ ap (λ y. map view (take i items) ++ view y ∷ []) (sym is) in
+    let goes : flat_map f (map view (take (i + 1) items)) ≡ flat_map f (map view (take i items)) ++ f (view o) =
+    ap (flat_map f) more ∙ flat_map-append f (map view (take i items)) (view o ∷ []) ∙ ap (λ (l : List ℕ). flat_map f (map view (take i items)) ++ l) (flat_map-cons f (view o) [] ∙ append-nil (f (view o))) in
+    put ∙ ap (λ (l : List ℕ). l ++ f (view o)) so_far ∙ append_assoc before (flat_map f (map view (take i items))) (f (view o)) ∙ ap (λ (l : List ℕ). before ++ l) (sym goes)
+
+-- and it is fit too
+pub fits_more : {O E : Type 0} (view : O → E) (P : E → Type 0) (items : List O) (i : ℕ) (o : O) → i < length items → o ≡ get_or items i o → All P (map view (take i items)) → P (view o) → All P (map view (take (i + 1) items))
+fits_more view P items i o lt is all one =
+    let more : map view (take (i + 1) items) ≡ map view (take i items) ++ view o ∷ [] = map_more view items i o lt ∙ ap (λ y. map view (take i items) ++ view y ∷ []) (sym is) in
+    subst (All P) (sym more) (All-push P (map view (take i items)) (view o) all one)
+
+-- all of them were put, and the mark
+pub puts_all : {O : Type 0} (view : O → Entry) (kind : Kind) (write : Encoder) (items : List O) → (items ≡ [] → ⊥) → flat_map (option_text write kind) (map view items) ++ end_mark write ≡ list_text write kind (map view items)
+puts_all view kind write [] some = absurd (some refl)
+puts_all view kind write (x ∷ xs) some = refl

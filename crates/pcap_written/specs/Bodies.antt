@@ -1,0 +1,133 @@
+-- The bodies of blocks, as they are written.
+use Rattle.std.specs.Prelude.{◌+◌, ℕ, List, [], ◌∷◌, ◌++◌, length, Option, Some}
+use Rattle.std.specs.Int.{w64, cast_unsigned}
+use Rattle.std.specs.List.{flat_map}
+use Rattle.byteorder.specs.Endian.{big_bytes}
+use Rattle.pcap_core.specs.declared.common.Endianness.{Endianness}
+use Rattle.pcap_core.specs.Link.{link_number}
+use Rattle.pcap_blocks.specs.declared.block_type.BlockType.{BlockType}
+use Rattle.pcap_blocks.specs.declared.block_type.BlockType.TheVariants as types
+use Rattle.pcap_blocks.specs.Values.{Kind}
+use Rattle.pcap_blocks.specs.StoredPacket.{Stored}
+use Rattle.pcap_blocks.specs.SectionHeader.{Section, section_header, magic_order}
+use Rattle.pcap_blocks.specs.InterfaceDescription.{Interface, interface_description}
+use Rattle.pcap_blocks.specs.InterfaceStatistics.{Statistics, interface_statistics}
+use Rattle.pcap_blocks.specs.EnhancedPacket.{Enhanced, enhanced_packet}
+use Rattle.pcap_blocks.specs.Packet.{PacketBody, packet_kind}
+use Rattle.pcap_blocks.specs.SimplePacket.{Simple}
+use Rattle.pcap_blocks.specs.NameResolution.{Resolution, name_resolution}
+use Rattle.pcap_blocks.specs.Record.{Address, NameRecord, End, Ipv4, Ipv6, Other}
+use Rattle.pcap_blocks.specs.ParsedBlock.{Body, SectionBody, InterfaceBody, OldPacketBody, SimpleBody, NamesBody, StatisticsBody, EnhancedBody, JournalBody, OtherBody}
+use Rattle.pcap_written.specs.Codec.{Encoder}
+use Rattle.pcap_written.specs.Text.{padded_bytes, time_bytes, coded_bytes, list_text}
+
+-- the version and the length of a section, and its options ('Section Header Block')
+abbrev pub after_magic_text : Encoder → Section → List ℕ
+after_magic_text write s = write 2 s.major_version ++ (write 2 s.minor_version ++ (write 8 (cast_unsigned w64 s.section_length) ++ list_text write section_header s.options))
+
+-- a section: its magic number, high byte first, and what follows it
+abbrev pub section_text : Encoder → Section → List ℕ
+section_text write s = big_bytes 4 s.magic ++ after_magic_text write s
+
+-- an interface ('Interface Description Block')
+abbrev pub interface_text : Encoder → Interface → List ℕ
+interface_text write i = write 2 (link_number i.linktype) ++ (write 2 i.reserved ++ (write 4 i.snaplen ++ list_text write interface_description i.options))
+
+-- the time and the two lengths of a packet
+abbrev pub stored_head : Encoder → Stored → List ℕ
+stored_head write p = time_bytes write p.timestamp ++ (write 4 p.captured_len ++ write 4 p.original_len)
+
+-- a packet that is stored: its head, its bytes with their padding, and its options
+abbrev pub stored_text : Encoder → Kind → Stored → List ℕ
+stored_text write kind p = stored_head write p ++ (padded_bytes p.bytes ++ list_text write kind p.options)
+
+-- an enhanced packet ('Enhanced Packet Block')
+abbrev pub enhanced_text : Encoder → Enhanced → List ℕ
+enhanced_text write x = write 4 x.interface_id ++ stored_text write enhanced_packet x.packet
+
+-- an obsolete packet ('Packet Block')
+abbrev pub packet_text : Encoder → PacketBody → List ℕ
+packet_text write p = write 2 p.interface_id ++ (write 2 p.drop_count ++ stored_text write packet_kind p.packet)
+
+-- a simple packet ('Simple Packet Block')
+abbrev pub simple_text : Encoder → Simple → List ℕ
+simple_text write p = write 4 p.original_len ++ padded_bytes p.bytes
+
+-- the statistics of an interface ('Interface Statistics Block')
+abbrev pub statistics_text : Encoder → Statistics → List ℕ
+statistics_text write s = write 4 s.interface_id ++ (time_bytes write s.timestamp ++ list_text write interface_statistics s.options)
+
+-- a name, and a zero byte ('Name Resolution Block')
+abbrev pub name_text : List ℕ → List ℕ
+name_text name = name ++ 0 ∷ []
+
+-- an address, and its names
+abbrev pub address_text : Address → List ℕ
+address_text a = a.bytes ++ flat_map name_text a.names
+
+-- a record
+abbrev pub record_text : Encoder → NameRecord → List ℕ
+record_text write End = coded_bytes write 0 []
+record_text write (Ipv4 a) = coded_bytes write 1 (address_text a)
+record_text write (Ipv6 a) = coded_bytes write 2 (address_text a)
+record_text write (Other type len v) = coded_bytes write type v
+
+-- records, their end, and options
+abbrev pub resolution_text : Encoder → Resolution → List ℕ
+resolution_text write b = flat_map (record_text write) b.records ++ (record_text write End ++ list_text write name_resolution b.options)
+
+-- the body of a block
+abbrev pub body_text : Encoder → Body → List ℕ
+body_text write (SectionBody s) = section_text write s
+body_text write (InterfaceBody i) = interface_text write i
+body_text write (OldPacketBody p) = packet_text write p
+body_text write (SimpleBody p) = simple_text write p
+body_text write (NamesBody b) = resolution_text write b
+body_text write (StatisticsBody s) = statistics_text write s
+body_text write (EnhancedBody x) = enhanced_text write x
+body_text write (JournalBody entry) = padded_bytes entry
+body_text write (OtherBody u) = padded_bytes u.bytes
+
+-- the number of a type ('Block Types')
+abbrev pub type_number : BlockType → ℕ
+type_number types.SectionHeader = 0x0A0D0D0A
+type_number types.InterfaceDescription = 1
+type_number types.Packet = 2
+type_number types.SimplePacket = 3
+type_number types.NameResolution = 4
+type_number types.InterfaceStatistics = 5
+type_number types.EnhancedPacket = 6
+type_number types.SystemdJournalExport = 9
+type_number (types.Unknown n) = n
+
+-- the type of a block by its body
+abbrev pub type_of : Body → BlockType
+type_of (SectionBody s) = types.SectionHeader
+type_of (InterfaceBody i) = types.InterfaceDescription
+type_of (OldPacketBody p) = types.Packet
+type_of (SimpleBody p) = types.SimplePacket
+type_of (NamesBody b) = types.NameResolution
+type_of (StatisticsBody s) = types.InterfaceStatistics
+type_of (EnhancedBody x) = types.EnhancedPacket
+type_of (JournalBody entry) = types.SystemdJournalExport
+type_of (OtherBody u) = u.type_
+
+-- the order that a block is written in: a section has its own
+abbrev pub order_for : Endianness → Body → Option Endianness
+order_for e (SectionBody s) = magic_order s.magic
+order_for e (InterfaceBody i) = Some e
+order_for e (OldPacketBody p) = Some e
+order_for e (SimpleBody p) = Some e
+order_for e (NamesBody b) = Some e
+order_for e (StatisticsBody s) = Some e
+order_for e (EnhancedBody x) = Some e
+order_for e (JournalBody entry) = Some e
+order_for e (OtherBody u) = Some e
+
+-- a block of this type number around a body: the number, the length of all of it, the body, and the length again ('General Block Structure')
+abbrev pub block_text : Encoder → ℕ → List ℕ → List ℕ
+block_text write type body = write 4 type ++ (write 4 (length body + 12) ++ (body ++ write 4 (length body + 12)))
+
+-- a block
+abbrev pub text_of : Encoder → Body → List ℕ
+text_of write body = block_text write (type_number (type_of body)) (body_text write body)

@@ -1,0 +1,108 @@
+-- What has a text that is read as it was.
+use Rattle.std.specs.Prelude.{◌≡◌, ◌≢◌, ◌<◌, ◌+◌, ◌^◌, ℕ, List, length, Ok, All, FitsSigned, Some}
+use Rattle.std.specs.Int.{w64}
+use Rattle.pcap_core.specs.declared.common.Endianness.{Endianness}
+use Rattle.pcap_core.specs.Answer.{Order, number_in}
+use Rattle.pcap_core.specs.Link.{link_number, IsPlain}
+use Rattle.pcap_blocks.specs.BlockType.{block_type}
+use Rattle.pcap_blocks.specs.Values.{Entry, Kind, shape_at, value_of}
+use Rattle.pcap_blocks.specs.StoredPacket.{Stored}
+use Rattle.pcap_blocks.specs.SectionHeader.{Section, section_header}
+use Rattle.pcap_blocks.specs.InterfaceDescription.{Interface, interface_description}
+use Rattle.pcap_blocks.specs.InterfaceStatistics.{Statistics, interface_statistics}
+use Rattle.pcap_blocks.specs.EnhancedPacket.{Enhanced, enhanced_packet}
+use Rattle.pcap_blocks.specs.Packet.{PacketBody, packet_kind}
+use Rattle.pcap_blocks.specs.SimplePacket.{Simple}
+use Rattle.pcap_blocks.specs.UnknownBlock.{UnknownBody}
+use Rattle.pcap_blocks.specs.ParsedBlock.{Body, SectionBody, InterfaceBody, OldPacketBody, SimpleBody, NamesBody, StatisticsBody, EnhancedBody, JournalBody, OtherBody}
+use Rattle.pcap_written.specs.Codec.{Encoder, number_bytes}
+use Rattle.pcap_written.specs.Text.{padded_bytes, option_value}
+use Rattle.pcap_written.specs.Bodies.{type_number, order_for, body_text}
+
+-- an option: its value is the one that its code's row of the kind's table reads
+pub record IsFitOption (order : Order) (write : Encoder) (kind : Kind) (o : Entry) : Type 0 where
+  pub code : o.code < 2 ^ 16
+  pub no_mark : o.code ≢ 0
+  pub short : length (option_value write kind o) < 2 ^ 16
+  pub kept : value_of order (shape_at kind o.code) (option_value write kind o) ≡ Ok o.value
+
+-- a list of options
+abbrev pub AreFit : Order → Encoder → Kind → List Entry → Type 0
+AreFit order write kind = All (IsFitOption order write kind)
+
+-- a section whose numbers have their widths
+pub record IsFitSection (order : Order) (write : Encoder) (s : Section) : Type 0 where
+  pub magic : s.magic < 2 ^ 32
+  pub major : s.major_version < 2 ^ 16
+  pub minor : s.minor_version < 2 ^ 16
+  pub length_fits : FitsSigned w64 s.section_length
+  pub options : AreFit order write section_header s.options
+
+-- an interface: its link type has a number of two bytes, and is what that number stands for
+pub record IsFitInterface (order : Order) (write : Encoder) (i : Interface) : Type 0 where
+  pub plain : IsPlain i.linktype
+  pub link : link_number i.linktype < 2 ^ 16
+  pub reserved : i.reserved < 2 ^ 16
+  pub snaplen : i.snaplen < 2 ^ 32
+  pub options : AreFit order write interface_description i.options
+
+-- a packet that is stored: its stored length is that of its bytes
+pub record IsFitStored (order : Order) (write : Encoder) (kind : Kind) (p : Stored) : Type 0 where
+  pub time : p.timestamp < 2 ^ 64
+  pub captured : length p.bytes ≡ p.captured_len
+  pub captured_fits : p.captured_len < 2 ^ 32
+  pub original_fits : p.original_len < 2 ^ 32
+  pub options : AreFit order write kind p.options
+
+-- an enhanced packet
+pub record IsFitEnhanced (order : Order) (write : Encoder) (x : Enhanced) : Type 0 where
+  pub interface : x.interface_id < 2 ^ 32
+  pub packet : IsFitStored order write enhanced_packet x.packet
+
+-- an obsolete packet
+pub record IsFitPacket (order : Order) (write : Encoder) (p : PacketBody) : Type 0 where
+  pub interface : p.interface_id < 2 ^ 16
+  pub drops : p.drop_count < 2 ^ 16
+  pub packet : IsFitStored order write packet_kind p.packet
+
+-- the statistics of an interface
+pub record IsFitStatistics (order : Order) (write : Encoder) (s : Statistics) : Type 0 where
+  pub interface : s.interface_id < 2 ^ 32
+  pub time : s.timestamp < 2 ^ 64
+  pub options : AreFit order write interface_statistics s.options
+
+-- a block of an unknown type: its number has no name, and the length is that of its bytes
+pub record IsFitUnknown (u : UnknownBody) : Type 0 where
+  pub number : type_number u.type_ < 2 ^ 32
+  pub unnamed : block_type (type_number u.type_) ≡ u.type_
+  pub whole : u.len ≡ length u.bytes
+
+-- a body
+abbrev pub IsFitBody : Order → Encoder → Body → Type 0
+IsFitBody order write (SectionBody s) = IsFitSection order write s
+IsFitBody order write (InterfaceBody i) = IsFitInterface order write i
+IsFitBody order write (OldPacketBody p) = IsFitPacket order write p
+IsFitBody order write (SimpleBody p) = p.original_len < 2 ^ 32
+IsFitBody order write (NamesBody b) = ⊥
+IsFitBody order write (StatisticsBody s) = IsFitStatistics order write s
+IsFitBody order write (EnhancedBody x) = IsFitEnhanced order write x
+IsFitBody order write (JournalBody entry) = Unit {0}
+IsFitBody order write (OtherBody u) = IsFitUnknown u
+
+-- a body as it is read where it was written: bytes that are the rest of a block have their padding
+abbrev pub kept_body : Body → Body
+kept_body (SimpleBody p) = SimpleBody (record { original_len = p.original_len; bytes = padded_bytes p.bytes })
+kept_body (JournalBody entry) = JournalBody (padded_bytes entry)
+kept_body (OtherBody u) = OtherBody (record { type_ = u.type_; len = length (padded_bytes u.bytes); bytes = padded_bytes u.bytes })
+kept_body (SectionBody s) = SectionBody s
+kept_body (InterfaceBody i) = InterfaceBody i
+kept_body (OldPacketBody p) = OldPacketBody p
+kept_body (NamesBody b) = NamesBody b
+kept_body (StatisticsBody s) = StatisticsBody s
+kept_body (EnhancedBody x) = EnhancedBody x
+
+-- a block in force under this order: the order it is written in, and its body fits there, in a length of four bytes
+pub record IsFitIn (current e : Endianness) (body : Body) : Type 0 where
+  pub named : order_for current body ≡ Some e
+  pub fit : IsFitBody (number_in e) (number_bytes e) body
+  pub short : length (body_text (number_bytes e) body) + 12 < 2 ^ 32

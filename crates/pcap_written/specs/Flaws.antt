@@ -1,0 +1,104 @@
+-- Why a block has no text, one for each reason.
+use Rattle.std.specs.Prelude.{◌≡◌, ◌≢◌, ◌≤◌, ◌+◌, ◌^◌, ◌⊎◌, ℕ, List, length, Err, Any, None, codes, Option, Some}
+use Rattle.pcap_core.specs.declared.common.Endianness.{Endianness}
+use Rattle.pcap_core.specs.Answer.{Order, number_in}
+use Rattle.pcap_core.specs.Faults.{Invalid, rule_message}
+use Rattle.pcap_core.specs.Link.{link_number, IsPlain}
+use Rattle.pcap_core.specs.declared.link.DataLink.{DataLink}
+use Rattle.pcap_core.specs.declared.rules.Rule.{Rule}
+use Rattle.pcap_core.specs.declared.rules.Rule.TheVariants.{SectionMagic}
+use Rattle.pcap_blocks.specs.BlockType.{block_type}
+use Rattle.pcap_blocks.specs.Values.{Value, Str, Bytes, Integer, CustomStr, CustomBytes, Unknown, Entry, Shape, string, bytes, some_bytes, fixed_bytes, byte, number, first_number, first_time, custom_string, custom_bytes, unknown, Kind, shape_at, value_of}
+use Rattle.pcap_blocks.specs.StoredPacket.{Stored}
+use Rattle.pcap_blocks.specs.SectionHeader.{section_header}
+use Rattle.pcap_blocks.specs.InterfaceDescription.{Interface, interface_description}
+use Rattle.pcap_blocks.specs.InterfaceStatistics.{interface_statistics}
+use Rattle.pcap_blocks.specs.EnhancedPacket.{enhanced_packet}
+use Rattle.pcap_blocks.specs.Packet.{packet_kind}
+use Rattle.pcap_blocks.specs.UnknownBlock.{UnknownBody}
+use Rattle.pcap_blocks.specs.ParsedBlock.{Body, SectionBody, InterfaceBody, OldPacketBody, SimpleBody, NamesBody, StatisticsBody, EnhancedBody, JournalBody, OtherBody}
+use Rattle.pcap_written.specs.declared.unwritable.Unwritable.{Unwritable}
+use Rattle.pcap_written.specs.declared.unwritable.Unwritable.TheVariants as flaws
+use Rattle.pcap_written.specs.Codec.{Encoder, number_bytes}
+use Rattle.pcap_written.specs.Text.{option_value}
+use Rattle.pcap_written.specs.Bodies.{type_number, order_for, body_text}
+
+-- the message that names a reason
+abbrev pub flaw_message : Unwritable → List ℕ
+flaw_message flaws.OptionTooLong = codes "Option: value length > 65535"
+flaw_message flaws.OptionMisplaced = codes "Option: value of another code"
+flaw_message flaws.OptionLengthDiffers = codes "UnknownOption: length != value.len()"
+flaw_message (flaws.Breaks rule) = rule_message rule
+flaw_message flaws.CapturedLengthDiffers = codes "EnhancedPacketBlock: captured_len != data.len()"
+flaw_message flaws.LinkTooLarge = codes "InterfaceDescriptionBlock: linktype > 65535"
+flaw_message flaws.LinkMisnamed = codes "InterfaceDescriptionBlock: linktype has a name"
+flaw_message flaws.TypeMisnamed = codes "UnknownBlock: type has a name"
+flaw_message flaws.BlockLengthDiffers = codes "UnknownBlock: length != value.len()"
+flaw_message flaws.BlockTooLong = codes "Block: length > 0xFFFFFFFF"
+flaw_message flaws.InterfaceMissing = codes "Block: interface_id is not described"
+flaw_message flaws.InterfacesFull = codes "SectionHeader: too many interfaces"
+
+-- a shape holds values of this form
+abbrev pub Suits : Shape → Value → Type 0
+Suits string (Str t) = Unit {0}
+Suits bytes (Bytes b) = Unit {0}
+Suits (some_bytes empty) (Bytes b) = Unit {0}
+Suits (fixed_bytes n wrong_length) (Bytes b) = Unit {0}
+Suits (byte wrong_length) (Integer n) = Unit {0}
+Suits (number w wrong_length) (Integer n) = Unit {0}
+Suits first_number (Integer n) = Unit {0}
+Suits first_time (Integer n) = Unit {0}
+Suits custom_string (CustomStr pen t) = Unit {0}
+Suits custom_bytes (CustomBytes pen b) = Unit {0}
+Suits unknown (Unknown len b) = Unit {0}
+Suits _ _ = ⊥
+
+-- an option whose code is the mark's, or holds values of another form
+abbrev pub IsMisplaced : Kind → Entry → Type 0
+IsMisplaced kind o = (o.code ≡ 0) ⊎ (Suits (shape_at kind o.code) o.value → ⊥)
+
+-- a value that states another length than its bytes have
+abbrev pub LengthDiffers : Value → Type 0
+LengthDiffers (Unknown len b) = length b ≢ len
+LengthDiffers _ = ⊥
+
+-- what stands against an option
+abbrev pub OptionFlaw : Order → Encoder → Kind → Unwritable → Entry → Type 0
+OptionFlaw order write kind flaws.OptionTooLong o = 2 ^ 16 ≤ length (option_value write kind o)
+OptionFlaw order write kind flaws.OptionMisplaced o = IsMisplaced kind o
+OptionFlaw order write kind flaws.OptionLengthDiffers o = LengthDiffers o.value
+OptionFlaw order write kind (flaws.Breaks rule) o = value_of order (shape_at kind o.code) (option_value write kind o) ≡ Err (Invalid rule)
+OptionFlaw order write kind _ o = ⊥
+
+-- what stands against a list of options: it stands against one of them
+abbrev pub ListFlaw : Order → Encoder → Kind → List Entry → Unwritable → Type 0
+ListFlaw order write kind os flaw = Any (OptionFlaw order write kind flaw) os
+
+-- what stands against a stored packet
+abbrev pub StoredFlaw : Order → Encoder → Kind → Stored → Unwritable → Type 0
+StoredFlaw order write kind p flaws.CapturedLengthDiffers = length p.bytes ≢ p.captured_len
+StoredFlaw order write kind p flaw = ListFlaw order write kind p.options flaw
+
+-- what stands against an interface
+abbrev pub InterfaceFlaw : Order → Encoder → Interface → Unwritable → Type 0
+InterfaceFlaw order write i flaws.LinkTooLarge = 2 ^ 16 ≤ link_number i.linktype
+InterfaceFlaw order write i flaws.LinkMisnamed = IsPlain i.linktype → ⊥
+InterfaceFlaw order write i flaw = ListFlaw order write interface_description i.options flaw
+
+-- what stands against a block of an unknown type
+abbrev pub UnknownFlaw : UnknownBody → Unwritable → Type 0
+UnknownFlaw u flaws.TypeMisnamed = block_type (type_number u.type_) ≢ u.type_
+UnknownFlaw u flaws.BlockLengthDiffers = u.len ≢ length u.bytes
+UnknownFlaw u _ = ⊥
+
+-- what stands against a body
+abbrev pub BodyFlaw : Order → Encoder → Body → Unwritable → Type 0
+BodyFlaw order write (SectionBody s) = ListFlaw order write section_header s.options
+BodyFlaw order write (InterfaceBody i) = InterfaceFlaw order write i
+BodyFlaw order write (OldPacketBody p) = StoredFlaw order write packet_kind p.packet
+BodyFlaw order write (SimpleBody p) = λ flaw. ⊥
+BodyFlaw order write (NamesBody b) = λ flaw. ⊥
+BodyFlaw order write (StatisticsBody s) = ListFlaw order write interface_statistics s.options
+BodyFlaw order write (EnhancedBody x) = StoredFlaw order write enhanced_packet x.packet
+BodyFlaw order write (JournalBody entry) = λ flaw. ⊥
+BodyFlaw order write (OtherBody u) = UnknownFlaw u

@@ -1,0 +1,7 @@
+pub mod Codec
+pub mod Text
+pub mod Bodies
+pub mod Fits
+pub mod Flaws
+pub mod Forms
+pub mod Puts

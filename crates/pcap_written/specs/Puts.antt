@@ -1,0 +1,15 @@
+-- What calls that put bytes behind others say.
+use Rattle.std.specs.Prelude.{◌≡◌, ℕ, List, ◌++◌, Result, Ok, Err}
+use Rattle.pcap_written.specs.declared.unwritable.Unwritable.{Unwritable}
+use Rattle.pcap_written.specs.declared.unwritable.Unput.{Unput}
+use Rattle.pcap_written.specs.declared.unwritable.Unput.TheVariants.{Memory, Unfit}
+
+-- why bytes were not put: memory ran out, or this stands against them
+abbrev pub RefusesPut : (Unwritable → Type 0) → Unput → Type 0
+RefusesPut Stands (Memory e) = Unit {0}
+RefusesPut Stands (Unfit flaw) = Stands flaw
+
+-- this text was put behind the others, and it is read as it was; or it was not
+abbrev pub Puts : Type 0 → (Unwritable → Type 0) → List ℕ → List ℕ → List ℕ → Result (Unit {0}) Unput → Type 0
+Puts IsFit Stands text old new (Ok u) = (new ≡ old ++ text) × IsFit
+Puts IsFit Stands text old new (Err e) = RefusesPut Stands e
