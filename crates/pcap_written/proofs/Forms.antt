@@ -83,8 +83,7 @@ option_put order write c kind o code len form told measured old a b d new code_p
     let long : length v ≡ len = ap length (sym text) ∙ measured.2 write c.wide in
     let is : new ≡ (((old ++ write 2 code) ++ write 2 len) ++ form_bytes write form) ++ padding len = padded ∙ ap (λ (s : List ℕ). s ++ padding len) (form_put ∙ ap (λ (s : List ℕ). s ++ form_bytes write form) (len_put ∙ ap (λ (s : List ℕ). s ++ write 2 len) code_put)) in
     let parts : (((old ++ write 2 code) ++ write 2 len) ++ form_bytes write form) ++ padding len ≡ old ++ (write 2 code ++ (write 2 len ++ (form_bytes write form ++ padding len))) = simp append_assoc in
-    let said : old ++ (write 2 code ++ (write 2 len ++ (form_bytes write form ++ padding len))) ≡ old ++ option_text write kind o = rw (told.0, text, long) refl in
-    (
+    let said : old ++ (write 2 code ++ (write 2 len ++ (form_bytes write form ++ padding len))) ≡ old ++ option_text write kind o = rw (told.0, text, long) refl in (
       is ∙ parts ∙ said,
       record {
         code = told.2;

@@ -1,3 +1,4 @@
 pub mod Codec
 pub mod Forms
 pub mod Lists
+pub mod Puts

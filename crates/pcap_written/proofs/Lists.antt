@@ -7,17 +7,8 @@ use Rattle.std.proofs.lemmas.List.{map_more, length-map, get_or-map}
 use Rattle.std.proofs.lemmas.List.Elements.{All-push}
 use Rattle.std.proofs.lemmas.List.Concat.{flat_map-cons}
 use Rattle.pcap_blocks.specs.Values.{Entry, Kind}
-use Rattle.pcap_written.specs.declared.unwritable.Unwritable.{Unwritable}
-use Rattle.pcap_written.specs.declared.unwritable.Unput.{Unput}
-use Rattle.pcap_written.specs.declared.unwritable.Unput.TheVariants.{Memory, Unfit}
-use Rattle.pcap_written.specs.Puts.{RefusesPut}
 use Rattle.pcap_written.specs.Codec.{Encoder}
 use Rattle.pcap_written.specs.Text.{option_text, end_mark, list_text}
-
--- what stands against a part stands against the whole
-pub refuses_more : (P Q : Unwritable → Type 0) → ((flaw : Unwritable) → P flaw → Q flaw) → (e : Unput) → RefusesPut P e → RefusesPut Q e
-refuses_more P Q step (Memory e) x = tt
-refuses_more P Q step (Unfit flaw) x = step flaw x
 
 -- what holds of one of them
 pub any_at : {O E : Type 0} (view : O → E) (P : E → Type 0) (items : List O) (i : ℕ) (o : O) → i < length items → o ≡ get_or items i o → P (view o) → Any P (map view items)

@@ -1,5 +1,5 @@
 -- The bodies of blocks, as they are written.
-use Rattle.std.specs.Prelude.{◌+◌, ℕ, List, [], ◌∷◌, ◌++◌, length, Option, Some}
+use Rattle.std.specs.Prelude.{◌+◌, ℕ, List, [], ◌∷◌, ◌++◌, length, Option, Some, None}
 use Rattle.std.specs.Int.{w64, cast_unsigned}
 use Rattle.std.specs.List.{flat_map}
 use Rattle.byteorder.specs.Endian.{big_bytes}
@@ -18,6 +18,7 @@ use Rattle.pcap_blocks.specs.SimplePacket.{Simple}
 use Rattle.pcap_blocks.specs.NameResolution.{Resolution, name_resolution}
 use Rattle.pcap_blocks.specs.Record.{Address, NameRecord, End, Ipv4, Ipv6, Other}
 use Rattle.pcap_blocks.specs.ParsedBlock.{Body, SectionBody, InterfaceBody, OldPacketBody, SimpleBody, NamesBody, StatisticsBody, EnhancedBody, JournalBody, OtherBody}
+use Rattle.pcap_written.specs.declared.block.BlockHead.{BlockHead}
 use Rattle.pcap_written.specs.Codec.{Encoder}
 use Rattle.pcap_written.specs.Text.{padded_bytes, time_bytes, coded_bytes, list_text}
 
@@ -34,12 +35,12 @@ abbrev pub interface_text : Encoder → Interface → List ℕ
 interface_text write i = write 2 (link_number i.linktype) ++ (write 2 i.reserved ++ (write 4 i.snaplen ++ list_text write interface_description i.options))
 
 -- the time and the two lengths of a packet
-abbrev pub stored_head : Encoder → Stored → List ℕ
-stored_head write p = time_bytes write p.timestamp ++ (write 4 p.captured_len ++ write 4 p.original_len)
+abbrev pub packet_head_text : Encoder → ℕ → ℕ → ℕ → List ℕ
+packet_head_text write timestamp captured_len original_len = time_bytes write timestamp ++ (write 4 captured_len ++ write 4 original_len)
 
 -- a packet that is stored: its head, its bytes with their padding, and its options
 abbrev pub stored_text : Encoder → Kind → Stored → List ℕ
-stored_text write kind p = stored_head write p ++ (padded_bytes p.bytes ++ list_text write kind p.options)
+stored_text write kind p = packet_head_text write p.timestamp p.captured_len p.original_len ++ (padded_bytes p.bytes ++ list_text write kind p.options)
 
 -- an enhanced packet ('Enhanced Packet Block')
 abbrev pub enhanced_text : Encoder → Enhanced → List ℕ
@@ -112,17 +113,38 @@ type_of (EnhancedBody x) = types.EnhancedPacket
 type_of (JournalBody entry) = types.SystemdJournalExport
 type_of (OtherBody u) = u.type_
 
--- the order that a block is written in: a section has its own
-abbrev pub order_for : Endianness → Body → Option Endianness
-order_for e (SectionBody s) = magic_order s.magic
-order_for e (InterfaceBody i) = Some e
-order_for e (OldPacketBody p) = Some e
-order_for e (SimpleBody p) = Some e
-order_for e (NamesBody b) = Some e
-order_for e (StatisticsBody s) = Some e
-order_for e (EnhancedBody x) = Some e
-order_for e (JournalBody entry) = Some e
-order_for e (OtherBody u) = Some e
+-- the magic number of a block that is a section
+abbrev pub magic_in : Body → Option ℕ
+magic_in (SectionBody s) = Some s.magic
+magic_in (InterfaceBody i) = None
+magic_in (OldPacketBody p) = None
+magic_in (SimpleBody p) = None
+magic_in (NamesBody b) = None
+magic_in (StatisticsBody s) = None
+magic_in (EnhancedBody x) = None
+magic_in (JournalBody entry) = None
+magic_in (OtherBody u) = None
+
+-- the interface that a block speaks of, by its number in the section
+abbrev pub interface_in : Body → Option ℕ
+interface_in (SectionBody s) = None
+interface_in (InterfaceBody i) = None
+interface_in (OldPacketBody p) = Some p.interface_id
+interface_in (SimpleBody p) = None
+interface_in (NamesBody b) = None
+interface_in (StatisticsBody s) = Some s.interface_id
+interface_in (EnhancedBody x) = Some x.interface_id
+interface_in (JournalBody entry) = None
+interface_in (OtherBody u) = None
+
+-- what is known of a block before its body is written
+abbrev pub head_of : Body → BlockHead
+head_of body = record { type_ = type_of body; magic = magic_in body; interface_id = interface_in body }
+
+-- the order that a block is written in: the one in force, or a section's own by its magic number
+abbrev pub order_under : Endianness → Option ℕ → Option Endianness
+order_under current None = Some current
+order_under current (Some magic) = magic_order magic
 
 -- a block of this type number around a body: the number, the length of all of it, the body, and the length again ('General Block Structure')
 abbrev pub block_text : Encoder → ℕ → List ℕ → List ℕ

@@ -1,8 +1,7 @@
 -- What has a text that is read as it was.
-use Rattle.std.specs.Prelude.{◌≡◌, ◌≢◌, ◌<◌, ◌+◌, ◌^◌, ℕ, List, length, Ok, All, FitsSigned, Some}
+use Rattle.std.specs.Prelude.{◌≡◌, ◌≢◌, ◌<◌, ◌^◌, ℕ, List, length, Ok, All, FitsSigned}
 use Rattle.std.specs.Int.{w64}
-use Rattle.pcap_core.specs.declared.common.Endianness.{Endianness}
-use Rattle.pcap_core.specs.Answer.{Order, number_in}
+use Rattle.pcap_core.specs.Answer.{Order}
 use Rattle.pcap_core.specs.Link.{link_number, IsPlain}
 use Rattle.pcap_blocks.specs.BlockType.{block_type}
 use Rattle.pcap_blocks.specs.Values.{Entry, Kind, shape_at, value_of}
@@ -15,9 +14,9 @@ use Rattle.pcap_blocks.specs.Packet.{PacketBody, packet_kind}
 use Rattle.pcap_blocks.specs.SimplePacket.{Simple}
 use Rattle.pcap_blocks.specs.UnknownBlock.{UnknownBody}
 use Rattle.pcap_blocks.specs.ParsedBlock.{Body, SectionBody, InterfaceBody, OldPacketBody, SimpleBody, NamesBody, StatisticsBody, EnhancedBody, JournalBody, OtherBody}
-use Rattle.pcap_written.specs.Codec.{Encoder, number_bytes}
+use Rattle.pcap_written.specs.Codec.{Encoder}
 use Rattle.pcap_written.specs.Text.{padded_bytes, option_value}
-use Rattle.pcap_written.specs.Bodies.{type_number, order_for, body_text}
+use Rattle.pcap_written.specs.Bodies.{type_number}
 
 -- an option: its value is the one that its code's row of the kind's table reads
 pub record IsFitOption (order : Order) (write : Encoder) (kind : Kind) (o : Entry) : Type 0 where
@@ -100,9 +99,3 @@ kept_body (OldPacketBody p) = OldPacketBody p
 kept_body (NamesBody b) = NamesBody b
 kept_body (StatisticsBody s) = StatisticsBody s
 kept_body (EnhancedBody x) = EnhancedBody x
-
--- a block in force under this order: the order it is written in, and its body fits there, in a length of four bytes
-pub record IsFitIn (current e : Endianness) (body : Body) : Type 0 where
-  pub named : order_for current body ≡ Some e
-  pub fit : IsFitBody (number_in e) (number_bytes e) body
-  pub short : length (body_text (number_bytes e) body) + 12 < 2 ^ 32

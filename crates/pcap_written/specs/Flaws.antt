@@ -1,12 +1,9 @@
 -- Why a block has no text, one for each reason.
-use Rattle.std.specs.Prelude.{◌≡◌, ◌≢◌, ◌≤◌, ◌+◌, ◌^◌, ◌⊎◌, ℕ, List, length, Err, Any, None, codes, Option, Some}
-use Rattle.pcap_core.specs.declared.common.Endianness.{Endianness}
-use Rattle.pcap_core.specs.Answer.{Order, number_in}
+use Rattle.std.specs.Prelude.{◌≡◌, ◌≢◌, ◌≤◌, ◌<◌, ◌^◌, ◌⊎◌, ℕ, List, length, Result, Ok, Err, Any, codes}
+use Rattle.pcap_core.specs.Answer.{Order}
 use Rattle.pcap_core.specs.Faults.{Invalid, rule_message}
-use Rattle.pcap_core.specs.Link.{link_number, IsPlain}
 use Rattle.pcap_core.specs.declared.link.DataLink.{DataLink}
-use Rattle.pcap_core.specs.declared.rules.Rule.{Rule}
-use Rattle.pcap_core.specs.declared.rules.Rule.TheVariants.{SectionMagic}
+use Rattle.pcap_core.specs.Link.{link_number, IsPlain}
 use Rattle.pcap_blocks.specs.BlockType.{block_type}
 use Rattle.pcap_blocks.specs.Values.{Value, Str, Bytes, Integer, CustomStr, CustomBytes, Unknown, Entry, Shape, string, bytes, some_bytes, fixed_bytes, byte, number, first_number, first_time, custom_string, custom_bytes, unknown, Kind, shape_at, value_of}
 use Rattle.pcap_blocks.specs.StoredPacket.{Stored}
@@ -19,9 +16,9 @@ use Rattle.pcap_blocks.specs.UnknownBlock.{UnknownBody}
 use Rattle.pcap_blocks.specs.ParsedBlock.{Body, SectionBody, InterfaceBody, OldPacketBody, SimpleBody, NamesBody, StatisticsBody, EnhancedBody, JournalBody, OtherBody}
 use Rattle.pcap_written.specs.declared.unwritable.Unwritable.{Unwritable}
 use Rattle.pcap_written.specs.declared.unwritable.Unwritable.TheVariants as flaws
-use Rattle.pcap_written.specs.Codec.{Encoder, number_bytes}
+use Rattle.pcap_written.specs.Codec.{Encoder}
 use Rattle.pcap_written.specs.Text.{option_value}
-use Rattle.pcap_written.specs.Bodies.{type_number, order_for, body_text}
+use Rattle.pcap_written.specs.Bodies.{type_number}
 
 -- the message that names a reason
 abbrev pub flaw_message : Unwritable → List ℕ
@@ -102,3 +99,10 @@ BodyFlaw order write (StatisticsBody s) = ListFlaw order write interface_statist
 BodyFlaw order write (EnhancedBody x) = StoredFlaw order write enhanced_packet x.packet
 BodyFlaw order write (JournalBody entry) = λ flaw. ⊥
 BodyFlaw order write (OtherBody u) = UnknownFlaw u
+
+-- the number of a link type, as an interface holds it, or what stands against it
+abbrev pub TellsLink : DataLink → Result ℕ Unwritable → Type 0
+TellsLink link (Ok n) = (n ≡ link_number link) × (n < 2 ^ 16) × IsPlain link
+TellsLink link (Err flaws.LinkTooLarge) = 2 ^ 16 ≤ link_number link
+TellsLink link (Err flaws.LinkMisnamed) = IsPlain link → ⊥
+TellsLink link (Err _) = ⊥

@@ -5,3 +5,4 @@ pub mod Fits
 pub mod Flaws
 pub mod Forms
 pub mod Puts
+pub mod Writing

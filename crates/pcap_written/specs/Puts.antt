@@ -1,8 +1,11 @@
 -- What calls that put bytes behind others say.
 use Rattle.std.specs.Prelude.{◌≡◌, ℕ, List, ◌++◌, Result, Ok, Err}
+use Rattle.pcap_core.specs.declared.errors.PcapError.{PcapError}
+use Rattle.pcap_core.specs.declared.errors.PcapError.TheVariants.{InvalidField, OutOfMemory}
 use Rattle.pcap_written.specs.declared.unwritable.Unwritable.{Unwritable}
 use Rattle.pcap_written.specs.declared.unwritable.Unput.{Unput}
 use Rattle.pcap_written.specs.declared.unwritable.Unput.TheVariants.{Memory, Unfit}
+use Rattle.pcap_written.specs.Flaws.{flaw_message}
 
 -- why bytes were not put: memory ran out, or this stands against them
 abbrev pub RefusesPut : (Unwritable → Type 0) → Unput → Type 0
@@ -13,3 +16,9 @@ RefusesPut Stands (Unfit flaw) = Stands flaw
 abbrev pub Puts : Type 0 → (Unwritable → Type 0) → List ℕ → List ℕ → List ℕ → Result (Unit {0}) Unput → Type 0
 Puts IsFit Stands text old new (Ok u) = (new ≡ old ++ text) × IsFit
 Puts IsFit Stands text old new (Err e) = RefusesPut Stands e
+
+-- the error that shows why bytes were not put
+abbrev pub IsShownAs : Unput → PcapError → Type 0
+IsShownAs (Memory e) (OutOfMemory shown) = shown ≡ e
+IsShownAs (Unfit flaw) (InvalidField message) = message.now ≡ flaw_message flaw
+IsShownAs _ _ = ⊥

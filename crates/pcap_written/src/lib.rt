@@ -1,10 +1,16 @@
 //! PcapNg as it is written: the text of each block, and a writer of blocks.
 #![tactic(auto)]
 
+mod block;
 mod form;
 mod kinds;
 mod options;
+mod place;
 mod put;
 mod unwritable;
+mod writer;
 
-pub use unwritable::Unwritable;
+pub use block::{BlockHead, PcapNgBlock, type_number};
+pub use place::Place;
+pub use unwritable::{Unput, Unwritable};
+pub use writer::PcapNgWriter;

@@ -1,6 +1,7 @@
 //! Numbers and bytes that are put behind others.
 
 ghost use Rattle.std.specs.Prelude.{◌≡◌, ◌++◌, OnOk};
+ghost use Rattle.std.specs.Int.{w64, cast_unsigned};
 ghost use Rattle.pcap_written.specs.Text.{padding, padded_bytes, time_bytes};
 
 use byteorder::ByteOrder;
@@ -28,6 +29,12 @@ pub(crate) fn put_u64<B: ByteOrder>(out: &mut Vec<u8>, n: u64) -> Result<(), All
     let mut bytes = [0; 8];
     B::write_u64(&mut bytes, n);
     out.extend_from_slice(&bytes)
+}
+
+pub(crate) fn put_i64<B: ByteOrder>(out: &mut Vec<u8>, n: i64) -> Result<(), AllocError>
+    ensures { OnOk result (out.new.items ≡ out.old.items ++ B.bytes_of 8 (cast_unsigned w64 n)) }
+{
+    put_u64::<B>(out, n.cast_unsigned())
 }
 
 // Puts a time, its high 4 bytes before its low 4.

@@ -2,6 +2,7 @@
 
 ghost use Rattle.std.specs.Prelude.{◌≡◌};
 ghost use Rattle.pcap_written.specs.Flaws.{flaw_message};
+ghost use Rattle.pcap_written.specs.Puts.{IsShownAs};
 
 use pcap_core::PcapError;
 use pcap_core::rules::Rule;
@@ -60,8 +61,10 @@ impl Unwritable {
 
 /// Why bytes were not put behind others.
 #[derive(Drop)]
-pub(crate) enum Unput {
+pub enum Unput {
+    /// A growth was refused.
     Memory(AllocError),
+    /// What was to be put has no text.
     Unfit(Unwritable),
 }
 
@@ -72,5 +75,26 @@ impl From<AllocError> for Unput {
 
     fn from(src: AllocError) -> Unput {
         Unput::Memory(src)
+    }
+}
+
+impl From<Unwritable> for Unput {
+    ghost use Rattle.pcap_written.specs.declared.unwritable.Unput.{Unput};
+
+    ghost from_gives = { λ flaw unput. unput ≡ Unput.Unfit flaw };
+
+    fn from(src: Unwritable) -> Unput {
+        Unput::Unfit(src)
+    }
+}
+
+impl From<Unput> for PcapError {
+    ghost from_gives = { IsShownAs };
+
+    fn from(src: Unput) -> PcapError {
+        match src {
+            Unput::Memory(e) => PcapError::OutOfMemory(e),
+            Unput::Unfit(flaw) => PcapError::InvalidField(flaw.message()),
+        }
     }
 }

@@ -3,7 +3,8 @@ use Rattle.std.proofs.lemmas.Result.{err_from_is_err_and}
 use Rattle.pcap_written.specs.Text.{option_text}
 use Rattle.pcap_written.specs.Fits.{IsFitOption}
 use Rattle.pcap_written.specs.Flaws.{OptionFlaw, ListFlaw}
-use Rattle.pcap_written.proofs.Lists.{any_at, puts_more, fits_more, refuses_more}
+use Rattle.pcap_written.proofs.Lists.{any_at, puts_more, fits_more}
+use Rattle.pcap_written.proofs.Puts.{refuses_more}
 use Rattle.pcap_written.proofs.options.put_options.Goals as goal
 
 pub returns-in_err-put_option : goal.returns-in_err-put_option

@@ -1,0 +1,107 @@
+-- What calls that write blocks say.
+use Rattle.std.specs.Prelude.{◌≡◌, ◌≤◌, ◌<◌, ◌+◌, ◌^◌, ◌⊎◌, ℕ, List, Bool, true, false, Option, Some, None, Result, Ok, Err, length}
+use Rattle.std.specs.Io.KnownBytes.{Appends, Keeps}
+use Rattle.pcap_core.specs.declared.common.Endianness.{Endianness}
+use Rattle.pcap_core.specs.declared.errors.PcapError.{PcapError}
+use Rattle.pcap_core.specs.declared.errors.PcapError.TheVariants as errors
+use Rattle.pcap_core.specs.declared.rules.Rule.TheVariants.{SectionMagic}
+use Rattle.pcap_core.specs.Answer.{Order, number_in}
+use Rattle.pcap_core.specs.Writing.{AppendsPart}
+use Rattle.pcap_blocks.specs.declared.block_type.BlockType.{BlockType}
+use Rattle.pcap_blocks.specs.declared.block_type.BlockType.TheVariants as types
+use Rattle.pcap_blocks.specs.ParsedBlock.{Body}
+use Rattle.pcap_written.specs.declared.block.BlockHead.{BlockHead}
+use Rattle.pcap_written.specs.declared.unwritable.Unwritable.{Unwritable}
+use Rattle.pcap_written.specs.declared.unwritable.Unwritable.TheVariants as flaws
+use Rattle.pcap_written.specs.declared.place.Place.{Place}
+use Rattle.pcap_written.specs.declared.writer.PcapNgWriter.{PcapNgWriter}
+use Rattle.pcap_written.specs.Codec.{Encoder, number_bytes}
+use Rattle.pcap_written.specs.Bodies.{body_text, head_of, order_under, text_of}
+use Rattle.pcap_written.specs.Fits.{IsFitBody}
+use Rattle.pcap_written.specs.Flaws.{BodyFlaw, flaw_message}
+
+-- so many interfaces are described behind a block of this type: a section has none yet
+abbrev pub interfaces_after : ℕ → BlockType → ℕ
+interfaces_after n types.SectionHeader = 0
+interfaces_after n types.InterfaceDescription = n + 1
+interfaces_after n _ = n
+
+-- a block may stand behind these: its magic number names an order, its interface is described, and the interfaces have room
+pub record IsPlaced (at : Place) (head : BlockHead) (order : Endianness) : Type 0 where
+  pub named : order_under at.endianness head.magic ≡ Some order
+  pub known : (id : ℕ) → head.interface_id ≡ Some id → id < at.interfaces
+  pub room : interfaces_after at.interfaces head.type_ < 2 ^ 32
+
+-- what stands against a block at this place
+abbrev pub PlaceFlaw : Place → BlockHead → Unwritable → Type 0
+PlaceFlaw at head (flaws.Breaks rule) = (rule ≡ SectionMagic) × (order_under at.endianness head.magic ≡ None)
+PlaceFlaw at head flaws.InterfaceMissing = (id : ℕ) × (head.interface_id ≡ Some id) × (at.interfaces ≤ id)
+PlaceFlaw at head flaws.InterfacesFull = 2 ^ 32 ≤ interfaces_after at.interfaces head.type_
+PlaceFlaw at head _ = ⊥
+
+-- the place behind a block that may stand here, or what stands against it
+abbrev pub TellsPlace : Place → BlockHead → Result Place Unwritable → Type 0
+TellsPlace at head (Ok behind) = IsPlaced at head behind.endianness × (behind.interfaces ≡ interfaces_after at.interfaces head.type_)
+TellsPlace at head (Err flaw) = PlaceFlaw at head flaw
+
+-- the body has a text by this order, in a block whose length has four bytes
+pub record IsFitBlock (order : Order) (write : Encoder) (body : Body) : Type 0 where
+  pub fit : IsFitBody order write body
+  pub short : length (body_text write body) + 12 < 2 ^ 32
+
+-- what stands against a block by this order
+abbrev pub FitFlaw : Order → Encoder → Body → Unwritable → Type 0
+FitFlaw order write body flaws.BlockTooLong = 2 ^ 32 ≤ length (body_text write body) + 12
+FitFlaw order write body flaw = BodyFlaw order write body flaw
+
+-- the same in an order by its name
+abbrev pub IsFitIn : Endianness → Body → Type 0
+IsFitIn e = IsFitBlock (number_in e) (number_bytes e)
+
+abbrev pub FlawIn : Endianness → Body → Unwritable → Type 0
+FlawIn e = FitFlaw (number_in e) (number_bytes e)
+
+-- a block can be written at this place, in this order
+pub record IsWritable (at : Place) (body : Body) (order : Endianness) : Type 0 where
+  pub placed : IsPlaced at (head_of body) order
+  pub fit : IsFitIn order body
+
+-- what stands against a block at this place
+abbrev pub BlockFlaw : Place → Body → Unwritable → Type 0
+BlockFlaw at body flaw = PlaceFlaw at (head_of body) flaw ⊎ ((order : Endianness) × IsPlaced at (head_of body) order × FlawIn order body flaw)
+
+-- the stream behind a writer
+abbrev pub stream_of : {W : Type 0} → PcapNgWriter W → W
+stream_of w = w.inner
+
+-- whether a write of it failed
+abbrev pub has_failed : {W : Type 0} → PcapNgWriter W → Bool
+has_failed w = w.has_failed
+
+-- what is in force behind the blocks that it wrote
+abbrev pub place_of : {W : Type 0} → PcapNgWriter W → Place
+place_of w = w.place
+
+-- nothing went out, and the writer stands where it stood
+pub record IsKept {W : Type 0} (contents : W → Option (List ℕ)) (old new : PcapNgWriter W) : Type 0 where
+  pub good : has_failed new ≡ false
+  pub place : place_of new ≡ place_of old
+  pub out : Keeps (contents (stream_of old)) (contents (stream_of new))
+
+-- One call that writes a block, which was not refused for an earlier failure. Something stands against the block, or memory ran
+-- out: nothing goes out. Else it went out whole, or a write failed behind a beginning of it.
+abbrev pub WritesGood : {W : Type 0} → (W → Option (List ℕ)) → PcapNgWriter W → PcapNgWriter W → Body → Result (Unit {0}) PcapError → Type 0
+WritesGood contents old new body (Err (errors.InvalidField message)) = IsKept contents old new × ((flaw : Unwritable) × (message.now ≡ flaw_message flaw) × BlockFlaw (place_of old) body flaw)
+WritesGood contents old new body (Err (errors.OutOfMemory e)) = IsKept contents old new
+WritesGood contents old new body (Err (errors.IoError e)) =
+    (has_failed new ≡ true) × (place_of new ≡ place_of old)
+    × ((order : Endianness) × IsWritable (place_of old) body order × AppendsPart (contents (stream_of old)) (contents (stream_of new)) (text_of (number_bytes order) body))
+WritesGood contents old new body (Err _) = ⊥
+WritesGood contents old new body (Ok u) =
+    (has_failed new ≡ false) × TellsPlace (place_of old) (head_of body) (Ok (place_of new)) × IsFitIn (place_of new).endianness body
+    × Appends (contents (stream_of old)) (contents (stream_of new)) (text_of (number_bytes (place_of new).endianness) body)
+
+-- One call that writes a block: an earlier write failed, and nothing goes out, or it is as above.
+abbrev pub WritesBlock : {W : Type 0} → (W → Option (List ℕ)) → PcapNgWriter W → PcapNgWriter W → Body → Result (Unit {0}) PcapError → Type 0
+WritesBlock contents old new body (Err errors.WriterFailed) = (has_failed old ≡ true) × (has_failed new ≡ true) × (place_of new ≡ place_of old) × Keeps (contents (stream_of old)) (contents (stream_of new))
+WritesBlock contents old new body result = (has_failed old ≡ false) × WritesGood contents old new body result

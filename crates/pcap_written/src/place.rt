@@ -1,0 +1,50 @@
+//! Where blocks stand in a capture.
+
+ghost use Rattle.pcap_written.specs.Writing.{TellsPlace};
+
+use crate::block::BlockHead;
+use crate::unwritable::Unwritable;
+use pcap_blocks::BlockType;
+use pcap_core::Endianness;
+use pcap_core::rules::Rule;
+
+/// What is in force behind some blocks of a capture.
+#[derive(Clone, Copy, Debug, PartialEq, Eq)]
+pub struct Place {
+    /// The order of the section.
+    pub endianness: Endianness,
+    /// How many interfaces the section has described.
+    pub interfaces: u32,
+}
+
+impl Place {
+    /// The place behind a block with this head, if it may stand here.
+    #[tactic(auto, unfolding(pcap_blocks::specs::SectionHeader::magic_order))]
+    pub(crate) fn behind(self, head: BlockHead) -> Result<Place, Unwritable>
+        ensures { TellsPlace self head result }
+    {
+        let endianness = match head.magic {
+            None => self.endianness,
+            Some(0x1A2B3C4D) => Endianness::Big,
+            Some(0x4D3C2B1A) => Endianness::Little,
+            Some(_) => return Err(Unwritable::Breaks(Rule::SectionMagic)),
+        };
+        if let Some(id) = head.interface_id {
+            if id >= self.interfaces {
+                return Err(Unwritable::InterfaceMissing);
+            }
+        }
+        let interfaces = match head.type_ {
+            BlockType::SectionHeader => 0,
+            BlockType::InterfaceDescription if self.interfaces == u32::MAX => {
+                return Err(Unwritable::InterfacesFull);
+            }
+            BlockType::InterfaceDescription => self.interfaces + 1,
+            _ => self.interfaces,
+        };
+        Ok(Place {
+            endianness,
+            interfaces,
+        })
+    }
+}

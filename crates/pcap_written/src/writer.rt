@@ -1,0 +1,123 @@
+//! A writer of blocks.
+
+ghost use Rattle.std.specs.Prelude.{◌≡◌, []};
+ghost use Rattle.pcap_written.specs.Bodies.{text_of};
+ghost use Rattle.pcap_written.specs.Codec.{number_bytes};
+ghost use Rattle.pcap_written.specs.Puts.{Puts};
+ghost use Rattle.pcap_written.specs.Writing.{stream_of, has_failed, place_of, IsFitBlock, FitFlaw, IsFitIn, FlawIn, WritesBlock};
+
+use crate::block::{PcapNgBlock, type_number};
+use crate::place::Place;
+use crate::put::put_u32;
+use crate::unwritable::{Unput, Unwritable};
+use byteorder::{BigEndian, ByteOrder, LittleEndian};
+use pcap_core::stream::put;
+use pcap_core::{Endianness, PcapError, ResultParsing};
+use std::io::Write;
+
+/// Writes a capture of blocks into a writer: sections, their interfaces, and packets and what else they hold.
+#[derive(Debug, Drop)]
+pub struct PcapNgWriter<W> {
+    inner: W,
+    has_failed: bool,
+    place: Place,
+    body: Vec<u8>,
+    text: Vec<u8>,
+}
+
+impl<W> PcapNgWriter<W> {
+    /// Gives the wrapped writer back.
+    pub fn into_writer(self) -> W
+        ensures { result ≡ stream_of self }
+    {
+        self.inner
+    }
+
+    /// The wrapped writer.
+    pub fn get_ref(&self) -> &W
+        ensures { result.now ≡ stream_of self.now }
+    {
+        &self.inner
+    }
+
+    /// Whether a write failed. From then on every block is refused.
+    pub fn failed(&self) -> bool
+        ensures { result ≡ has_failed self.now }
+    {
+        self.has_failed
+    }
+
+    /// The order of the section that is being written.
+    pub fn endianness(&self) -> Endianness
+        ensures { result ≡ (place_of self.now).endianness }
+    {
+        self.place.endianness
+    }
+
+    /// How many interfaces the section has described.
+    pub fn interfaces(&self) -> u32
+        ensures { result ≡ (place_of self.now).interfaces }
+    {
+        self.place.interfaces
+    }
+}
+
+impl<W: Write> PcapNgWriter<W> {
+    /// Writes a block. A section header begins a section of its own order and with no interface; each other block is written in
+    /// the order of the section.
+    ///
+    /// `WriterFailed` where an earlier write failed, else `InvalidField` where the block has no text here (see `Unwritable`),
+    /// or `OutOfMemory`: nothing is written then. `IoError` where a write failed: a beginning of the block has gone out then.
+    pub fn write_pcapng_block<B: PcapNgBlock>(&mut self, block: &B) -> ResultParsing<()>
+        ensures { WritesBlock W.contents self.old self.new (B.sees block.now) result }
+    {
+        if self.has_failed {
+            return Err(PcapError::WriterFailed);
+        }
+        let place = match self.place.behind(block.head()) {
+            Ok(place) => place,
+            Err(flaw) => return Err(PcapError::from(Unput::Unfit(flaw))),
+        };
+        encode(place.endianness, &mut self.body, &mut self.text, block)?;
+        put(&mut self.inner, &mut self.has_failed, self.text.as_slice())?;
+        self.place = place;
+        Ok(())
+    }
+}
+
+// Makes the text of a block in this order.
+fn encode<B: PcapNgBlock>(
+    order: Endianness,
+    body: &mut Vec<u8>,
+    text: &mut Vec<u8>,
+    block: &B,
+) -> Result<(), Unput>
+    ensures { Puts (IsFitIn order (B.sees block.now)) (FlawIn order (B.sees block.now)) (text_of (number_bytes order) (B.sees block.now)) [] text.new.items result }
+{
+    match order {
+        Endianness::Big => encode_in::<B, BigEndian>(body, text, block),
+        Endianness::Little => encode_in::<B, LittleEndian>(body, text, block),
+    }
+}
+
+// Makes the text of a block: its type, its length, its body, and its length again.
+fn encode_in<B: PcapNgBlock, O: ByteOrder>(
+    body: &mut Vec<u8>,
+    text: &mut Vec<u8>,
+    block: &B,
+) -> Result<(), Unput>
+    ensures { Puts (IsFitBlock O.number_of O.bytes_of (B.sees block.now)) (FitFlaw O.number_of O.bytes_of (B.sees block.now)) (text_of O.bytes_of (B.sees block.now)) [] text.new.items result }
+{
+    body.clear();
+    text.clear();
+    block.put_body::<O>(body)?;
+    if body.len() > 4_294_967_283 {
+        return Err(Unput::Unfit(Unwritable::BlockTooLong));
+    }
+    let len = (body.len() + 12) as u32;
+    put_u32::<O>(text, type_number(block.head().type_))?;
+    put_u32::<O>(text, len)?;
+    text.extend_from_slice(body.as_slice())?;
+    put_u32::<O>(text, len)?;
+    Ok(())
+}
