@@ -65,7 +65,7 @@ pub record RunsTo {E S V W : Type 0} (f : Format S V) (part : V → W) (ShowsIt 
   pub used_is : used + length left ≡ length s
   pub ends : EndsWith ShowsIt (f.says next) left ended
 
--- items stand at the front of s, and something grows: the list of items, since there is one, or what the parser keeps at the bytes behind them, or at a front of these
+-- items stand at the front of s, and something grows: the list of items, since there is one, or what the parser keeps, at a front of the bytes behind them
 pub record GrowsIn {S V : Type 0} (f : Format S V) (Grows : S → List ℕ → Type 0) (q : S) (s : List ℕ) : Type 0 where
   pub values : List V
   pub left : List ℕ
