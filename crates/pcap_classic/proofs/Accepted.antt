@@ -15,6 +15,7 @@ use Rattle.pcap_classic.specs.declared.run.copy.Copied.{Copied}
 use Rattle.pcap_classic.specs.declared.run.copy.Under.{Under}
 use Rattle.pcap_classic.specs.declared.run.copy.Under.TheVariants.{Same}
 use Rattle.pcap_core.specs.Answer.{number_in, whole, lacks, faulty}
+use Rattle.pcap_core.specs.Codec.{number_bytes}
 use Rattle.pcap_core.specs.Bytes.{IsBytes}
 use Rattle.pcap_classic.specs.Copies.{PacketIsSaid, StopsFront, CopiesFront, CopyFront, CanBeUnder, header_under, NothingFailed, CopiesAll}
 use Rattle.pcap_core.specs.Early.{EarlyFault}
@@ -27,7 +28,7 @@ use Rattle.pcap_classic.specs.Magic.{order_of, resolution_of}
 use Rattle.pcap_classic.specs.Packets.{packet_format, format_under}
 use Rattle.pcap_classic.specs.PacketText.{Captured, PacketText, packet_limit}
 use Rattle.pcap_core.specs.Reading.{HasCause, read_failed, no_memory, torn, refused, IsFaultOf, ReadsTold}
-use Rattle.pcap_classic.specs.Written.{number_bytes, record_bytes, capture, cut, IsWhole, IsWholeHeader}
+use Rattle.pcap_classic.specs.Written.{record_bytes, capture, cut, IsWhole, IsWholeHeader}
 use Rattle.pcap_classic.proofs.Concrete.{number_below, packet_written, header_written, front_written}
 use Rattle.pcap_classic.proofs.Copied.{lawful_under}
 use Rattle.pcap_core.proofs.Formats.{only}

@@ -10,7 +10,8 @@ use Rattle.pcap_core.specs.declared.common.Endianness.{Endianness}
 use Rattle.pcap_core.specs.declared.common.Endianness.TheVariants.{Big}
 use Rattle.pcap_classic.specs.declared.common.TsResolution.{TsResolution}
 use Rattle.pcap_classic.specs.declared.pcap.header.PcapHeader.{PcapHeader}
-use Rattle.pcap_core.specs.Answer.{Number, number_in}
+use Rattle.pcap_core.specs.Answer.{number_in}
+use Rattle.pcap_core.specs.Codec.{number_bytes}
 use Rattle.pcap_classic.specs.Magic.{order_of, resolution_of}
 use Rattle.pcap_classic.specs.HeaderText.{FieldsText, HeaderText}
 use Rattle.pcap_core.specs.Link.{link_number}
@@ -18,13 +19,11 @@ use Rattle.pcap_classic.specs.PacketText.{packet_limit, Captured}
 use Rattle.pcap_core.specs.Format.{Texts}
 use Rattle.pcap_classic.specs.Packets.{packet_format, format_under}
 use Rattle.pcap_classic.specs.Front.{CaptureFront}
-use Rattle.pcap_classic.specs.Written.{number_bytes, record_bytes, written_header, capture, cut, IsWhole, IsWholeHeader}
+use Rattle.pcap_classic.specs.Written.{record_bytes, written_header, capture, cut, IsWhole, IsWholeHeader}
+use Rattle.pcap_core.proofs.Codec.{codec, number_again}
 use Rattle.pcap_core.proofs.Formats.{nothing_no_text}
 use Rattle.pcap_classic.proofs.HeadedPackets.{packets_lawful}
-use Rattle.pcap_classic.proofs.ReadBack.{bytes_length, read_back, written_again}
-
-again : (e : Endianness) (w n : ℕ) (rest : List ℕ) → n < 256 ^ w → Number (number_in e) w n (number_bytes e w n ++ rest) rest
-again e w n rest lt = record { bytes = number_bytes e w n; text = refl; length_is = bytes_length e w n; value = read_back e w n lt }
+use Rattle.pcap_classic.proofs.ReadBack.{written_again}
 
 bits_below : (z : ℤ) → FitsSigned w32 z → cast_unsigned w32 z < 2 ^ 32
 bits_below z fits = omega (arith, ints)
@@ -32,6 +31,7 @@ bits_below z fits = omega (arith, ints)
 header_again : (h : PcapHeader) (rest : List ℕ) → IsWholeHeader h → HeaderText h (written_header h ++ rest) rest
 header_again h rest fits =
     let e = order_of h.magic_number in
+    let again = number_again (number_in e) (number_bytes e) (codec e) in
     let bits = cast_unsigned w32 h.ts_correction in
     let magic = big_bytes 4 h.magic_number in
     let major = number_bytes e 2 h.version_major in
@@ -50,16 +50,16 @@ header_again h rest fits =
       after_correction = accuracy ++ (snaplen ++ (link ++ rest));
       after_accuracy = snaplen ++ (link ++ rest);
       after_snaplen = link ++ rest;
-      major = again e 2 h.version_major (minor ++ (correction ++ (accuracy ++ (snaplen ++ (link ++ rest))))) fits.major;
-      minor = again e 2 h.version_minor (correction ++ (accuracy ++ (snaplen ++ (link ++ rest)))) fits.minor;
-      correction = again e 4 bits (accuracy ++ (snaplen ++ (link ++ rest))) (bits_below h.ts_correction fits.correction);
+      major = again 2 h.version_major (minor ++ (correction ++ (accuracy ++ (snaplen ++ (link ++ rest))))) fits.major;
+      minor = again 2 h.version_minor (correction ++ (accuracy ++ (snaplen ++ (link ++ rest)))) fits.minor;
+      correction = again 4 bits (accuracy ++ (snaplen ++ (link ++ rest))) (bits_below h.ts_correction fits.correction);
       correction_is = sym (to_z-of_z w32 h.ts_correction fits.correction);
-      accuracy = again e 4 h.ts_accuracy (snaplen ++ (link ++ rest)) fits.accuracy;
-      snaplen = again e 4 h.snaplen (link ++ rest) fits.snaplen;
-      link = again e 4 (link_number h.datalink) rest fits.link;
+      accuracy = again 4 h.ts_accuracy (snaplen ++ (link ++ rest)) fits.accuracy;
+      snaplen = again 4 h.snaplen (link ++ rest) fits.snaplen;
+      link = again 4 (link_number h.datalink) rest fits.link;
       link_is = record { number = refl; plain = fits.plain };
     } in
-    let text : HeaderText h (magic ++ behind) rest = record { after_magic = behind; valid = fits.valid; magic = again Big 4 h.magic_number behind fits.magic; fields = fields } in
+    let text : HeaderText h (magic ++ behind) rest = record { after_magic = behind; valid = fits.valid; magic = number_again (number_in Big) big_bytes (codec Big) 4 h.magic_number behind fits.magic; fields = fields } in
     subst (λ (s : List ℕ). HeaderText h s rest) (sym regrouped) text
 
 packets_again : (e : Endianness) (r : TsResolution) (packets : List Captured) → All IsWhole packets

@@ -2,21 +2,15 @@
 use Rattle.std.specs.Prelude.{◌<◌, ◌/◌, ◌++◌, ℕ, List, ◌≡◌, ◌≤◌, ◌^◌, length, IsTrue, FitsSigned}
 use Rattle.std.specs.Int.{w32, cast_unsigned}
 use Rattle.std.specs.List.{flat_map}
-use Rattle.byteorder.specs.Endian.{big_bytes, little_bytes}
-use Rattle.pcap_core.specs.declared.common.Endianness.{Endianness}
-use Rattle.pcap_core.specs.declared.common.Endianness.TheVariants.{Big, Little}
+use Rattle.byteorder.specs.Endian.{big_bytes}
 use Rattle.pcap_classic.specs.declared.common.TsResolution.{TsResolution}
 use Rattle.pcap_classic.specs.declared.common.TsResolution.TheVariants.{MicroSecond, NanoSecond}
 use Rattle.pcap_classic.specs.declared.pcap.header.PcapHeader.{PcapHeader}
 use Rattle.pcap_classic.specs.declared.pcap.packet.PacketHeader.{PacketHeader}
+use Rattle.pcap_core.specs.Codec.{Encoder, number_bytes}
 use Rattle.pcap_core.specs.Link.{link_number, IsPlain}
 use Rattle.pcap_classic.specs.Magic.{is_magic, order_of, resolution_of}
 use Rattle.pcap_classic.specs.PacketText.{Captured, packet_limit, nanoseconds}
-
--- the bytes of a number in an order
-abbrev pub number_bytes : Endianness → ℕ → ℕ → List ℕ
-number_bytes Big = big_bytes
-number_bytes Little = little_bytes
 
 -- the fraction that is written for these nanoseconds
 abbrev pub fraction_of : TsResolution → ℕ → ℕ
@@ -24,16 +18,16 @@ fraction_of MicroSecond nanoseconds = nanoseconds / 1000
 fraction_of NanoSecond nanoseconds = nanoseconds
 
 -- a packet's header as it is written by an order (pcap draft, 'Packet Record')
-abbrev pub packet_header_bytes : (ℕ → ℕ → List ℕ) → TsResolution → PacketHeader → List ℕ
+abbrev pub packet_header_bytes : Encoder → TsResolution → PacketHeader → List ℕ
 packet_header_bytes bytes r header =
     bytes 4 header.ts_sec ++ (bytes 4 (fraction_of r header.ts_nsec) ++ (bytes 4 header.incl_len ++ bytes 4 header.orig_len))
 
 -- a packet as it is written by an order: its header, and then its bytes (pcap draft, 'Packet Record')
-abbrev pub record_bytes : (ℕ → ℕ → List ℕ) → TsResolution → Captured → List ℕ
+abbrev pub record_bytes : Encoder → TsResolution → Captured → List ℕ
 record_bytes bytes r packet = packet_header_bytes bytes r packet.header ++ packet.bytes
 
 -- a header as it is written by an order, the magic number high byte first (pcap draft, 'File Header')
-abbrev pub header_bytes : (ℕ → ℕ → List ℕ) → PcapHeader → List ℕ
+abbrev pub header_bytes : Encoder → PcapHeader → List ℕ
 header_bytes bytes header =
     big_bytes 4 header.magic_number ++ (bytes 2 header.version_major ++ (bytes 2 header.version_minor
     ++ (bytes 4 (cast_unsigned w32 header.ts_correction) ++ (bytes 4 header.ts_accuracy ++ (bytes 4 header.snaplen

@@ -9,6 +9,7 @@ ghost use Rattle.pcap_classic.specs.declared.run.copy.Under.{Under};
 ghost use Rattle.pcap_classic.specs.declared.run.copy.Under.TheVariants.{Same};
 ghost use Rattle.pcap_core.specs.Answer.{Order, number_in, whole, lacks};
 ghost use Rattle.pcap_core.specs.Bytes.{IsBytes};
+ghost use Rattle.pcap_core.specs.Codec.{number_bytes};
 ghost use Rattle.pcap_classic.specs.Copies.{CanBeUnder, CopyFront, CopiesAll, NothingFailed, header_under};
 ghost use Rattle.pcap_core.specs.Format.{Front, Texts, Asks, IsLawful};
 ghost use Rattle.pcap_classic.specs.Front.{CaptureFront};
@@ -21,7 +22,7 @@ ghost use Rattle.pcap_classic.specs.PacketText.{packet_limit, PacketSays, Packet
 ghost use Rattle.pcap_classic.specs.Pieces.{HoldsPackets};
 ghost use Rattle.pcap_core.specs.Reading.{TakesAsked, TakesAtMost};
 ghost use Rattle.pcap_core.specs.Requested.{HeadThenRest, RequestsAt, RunRequests};
-ghost use Rattle.pcap_classic.specs.Written.{IsWhole, IsWholeHeader, number_bytes, capture, cut, record_bytes};
+ghost use Rattle.pcap_classic.specs.Written.{IsWhole, IsWholeHeader, capture, cut, record_bytes};
 
 use crate::common::{DataLink, Endianness, TsResolution};
 use crate::pcap::{PacketHeader, PcapHeader};

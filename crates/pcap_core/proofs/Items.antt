@@ -78,8 +78,9 @@ module _ {S V W : Type 0} (f : Format S V) (part : V → W) where
       record { values = r.values ++ x.value ∷ []; left = after; texts = all.texts; why = inl (omega (arith, length-append r.values (x.value ∷ []))) }
 
   -- and the parser behind items
-  pub grows_parser : (Grows : S → List ℕ → Type 0) (q here : S) (ws : List W) (s left t : List ℕ) → LeadsTo f part q here ws s left → Grows here t → GrowsIn f Grows q s
-  grows_parser Grows q here ws s left t r grows = record { values = r.values; left = left; texts = r.texts; why = inr (t, subst (λ (p : S). Grows p t) (sym r.state_is) grows) }
+  pub grows_parser : (Grows : S → List ℕ → Type 0) (q here : S) (ws : List W) (s left t more : List ℕ) → LeadsTo f part q here ws s left → left ≡ t ++ more → Grows here t
+      → GrowsIn f Grows q s
+  grows_parser Grows q here ws s left t more r front grows = record { values = r.values; left = left; texts = r.texts; why = inr (t, more, front, subst (λ (p : S). Grows p t) (sym r.state_is) grows) }
 
 -- no item begins what is left behind a run
 pub ended_no_text : {E S V : Type 0} (f : Format S V) → IsLawful f → (ShowsIt : E → Fault → Type 0) (q : S) (left : List ℕ) (ended : Ended E) → EndsWith ShowsIt (f.says q) left ended
@@ -101,9 +102,9 @@ pub grows_some : {S V : Type 0} (f : Format S V) → IsLawful f → (q : S) (s :
 grows_some {V = V} f laws q s grows =
     let front = has_front f laws q s in
     let on = front_goes_on f laws q grows.values front.0 s grows.left front.1 grows.texts front.2 in
-    some grows.values on.0 front.0 on.1 grows.why front.1 front.2
+    some grows.values on.0 front.0 grows.left on.1 grows.why front.1 front.2
   where
-    some : (vs more all : List V) → all ≡ vs ++ more → (0 < length vs) ⊎ ((t : List ℕ) × ⊥) → (rest : List ℕ) → Front f q all s rest → (first : V) × (others : List V) × (end : List ℕ) × Front f q (first ∷ others) s end
-    some vs more all e (inr x) rest front = absurd x.1
-    some [] more all e (inl less) rest front = absurd (omega (arith, less))
-    some (v ∷ vs) more all e (inl less) rest front = (v, vs ++ more, rest, subst (λ (l : List V). Front f q l s rest) e front)
+    some : (vs more all : List V) (left : List ℕ) → all ≡ vs ++ more → (0 < length vs) ⊎ ((t : List ℕ) × (after : List ℕ) × (left ≡ t ++ after) × ⊥) → (rest : List ℕ) → Front f q all s rest → (first : V) × (others : List V) × (end : List ℕ) × Front f q (first ∷ others) s end
+    some vs more all left e (inr x) rest front = absurd x.3
+    some [] more all left e (inl less) rest front = absurd (omega (arith, less))
+    some (v ∷ vs) more all left e (inl less) rest front = (v, vs ++ more, rest, subst (λ (l : List V). Front f q l s rest) e front)

@@ -14,6 +14,7 @@ pub mod Filled
 pub mod Padded
 pub mod Verdicts
 pub mod Numbers
+pub mod Codec
 pub mod OnePadded
 pub mod Kept
 pub mod Requested

@@ -1,6 +1,6 @@
 -- Bytes that are shown as they are asked for, after those of earlier items.
 use Rattle.std.proofs.Common.{◌≡◌, ◌<◌, ◌≤◌, ◌+◌, ◌-◌, ◌*◌, ℕ, List, [], ◌∷◌, ◌++◌, length, take, drop, map, refl, sym, ap, subst, ◌∙◌, arith, append_assoc, append-nil, length-append, length-drop, inl, inr}
-use Rattle.std.proofs.lemmas.List.{drop-take, drop-drop, length-map, map-append}
+use Rattle.std.proofs.lemmas.List.{drop-take, drop-drop, length-map, map-append, take-append-drop}
 use Rattle.std.specs.Prelude.{min}
 use Rattle.std.proofs.Math.Nat.{min-le_left, min-le_right, min-eq_left, min-eq_right}
 use Rattle.std.proofs.lemmas.Bool.{cases_lt}
@@ -60,6 +60,9 @@ module _ {S V : Type 0} {f : Format S V} {laws : IsLawful f} {q : S} {bytes : Li
 
   said : (v : Verdict V) → f.says q (drop start (take shown bytes)) v → f.says q (take a.m (drop start bytes)) v
   said v x = subst (λ (t : List ℕ). f.says q t v) held_is x
+
+  pub showing_split : (more : List ℕ) × (drop start bytes ≡ drop start (take shown bytes) ++ more)
+  showing_split = (drop a.m (drop start bytes), sym (take-append-drop a.m (drop start bytes)) ∙ ap (λ (t : List ℕ). t ++ drop a.m (drop start bytes)) (sym held_is))
 
   left_is : length bytes - shown ≡ length (drop start bytes) - a.m
   left_is = omega (arith, a.sum, length-drop start bytes)

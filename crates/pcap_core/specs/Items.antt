@@ -1,5 +1,5 @@
 -- What a parser of items tells, and what a run over them does, over any format.
-use Rattle.std.specs.Prelude.{◌≡◌, ◌<◌, ◌+◌, ◌⊎◌, ℕ, List, [], length, map, Result, Ok, Err}
+use Rattle.std.specs.Prelude.{◌≡◌, ◌<◌, ◌+◌, ◌⊎◌, ℕ, List, [], ◌++◌, length, map, Result, Ok, Err}
 use Rattle.std.specs.Borrow.{Bor}
 use Rattle.std.specs.declared.alloc.AllocError.{AllocError}
 use Rattle.pcap_core.specs.declared.errors.PcapError.{PcapError}
@@ -65,9 +65,9 @@ pub record RunsTo {E S V W : Type 0} (f : Format S V) (part : V → W) (ShowsIt 
   pub used_is : used + length left ≡ length s
   pub ends : EndsWith ShowsIt (f.says next) left ended
 
--- items stand at the front of s, and something grows: the list of items, since there is one, or what the parser keeps at some bytes behind them
+-- items stand at the front of s, and something grows: the list of items, since there is one, or what the parser keeps, at a front of the bytes behind them
 pub record GrowsIn {S V : Type 0} (f : Format S V) (Grows : S → List ℕ → Type 0) (q : S) (s : List ℕ) : Type 0 where
   pub values : List V
   pub left : List ℕ
   pub texts : Texts f q values s left
-  pub why : (0 < length values) ⊎ ((t : List ℕ) × Grows (state_after f q values) t)
+  pub why : (0 < length values) ⊎ ((t : List ℕ) × (more : List ℕ) × (left ≡ t ++ more) × Grows (state_after f q values) t)

@@ -2,6 +2,7 @@ pub mod Bytes
 pub mod Faults
 pub mod Rules
 pub mod Answer
+pub mod Codec
 pub mod Link
 pub mod Run
 pub mod Laws

@@ -8,8 +8,9 @@ ghost use Rattle.pcap_classic.specs.LentStreams.{writer_with};
 ghost use Rattle.pcap_classic.specs.Magic.{is_magic, order_of, resolution_of};
 ghost use Rattle.pcap_classic.specs.PacketText.{content_of};
 ghost use Rattle.pcap_classic.specs.Writing.{stream_of, has_failed, OpensWriter, WritesPacket};
+ghost use Rattle.pcap_core.specs.Codec.{number_bytes};
 ghost use Rattle.pcap_core.specs.Writing.{WritesAll};
-ghost use Rattle.pcap_classic.specs.Written.{written_header, written_under, packet_header_bytes, number_bytes};
+ghost use Rattle.pcap_classic.specs.Written.{written_header, written_under, packet_header_bytes};
 
 use crate::pcap::{Packet, PacketHeader, PcapHeader};
 use byteorder::{BigEndian, LittleEndian};

@@ -1,6 +1,6 @@
 //! Items of a capture that is shown exactly as its parser asks for it, over any format.
 
-ghost use Rattle.std.specs.Prelude.{◌≡◌, ◌≤◌, ◌+◌, ◌<◌, ◌^◌, ℕ, List, map, drop, All, IfOk, IfErr};
+ghost use Rattle.std.specs.Prelude.{◌≡◌, ◌≤◌, ◌+◌, ◌<◌, ◌^◌, ℕ, List, ◌++◌, map, drop, All, IfOk, IfErr};
 ghost use Rattle.pcap_core.specs.Exact.{ExactItems};
 ghost use Rattle.pcap_core.specs.Format.{IsLawful};
 ghost use Rattle.pcap_core.specs.Found.{IfItem};
@@ -73,7 +73,7 @@ fn show_item<'a, P: Items<'a>>(
     ensures found { IfOk result (FoundAt P.format P.part P.view P.shows (P.state parser.old) (P.state parser.new) (drop (shown_of window.old) (bytes_of window.old))
         (λ _. drop (shown_of window.new) (bytes_of window.old))) }
     ensures lent { IfOk result (IfItem P.lent) }
-    ensures memory { IfErr result (λ _. (t : List ℕ) × P.grows (P.state parser.old) t) }
+    ensures memory { IfErr result (λ _. (t : List ℕ) × (more : List ℕ) × (drop (shown_of window.old) (bytes_of window.old) ≡ t ++ more) × P.grows (P.state parser.old) t) }
 {
     let start = window.seen().len();
     'asking: loop {

@@ -1,8 +1,9 @@
 use Rattle.std.proofs.Common.{◌-◌, length, arith, ap, refl, ◌∙◌}
 use Rattle.std.proofs.Math.Nat.{min-le_right}
 use Rattle.std.proofs.lemmas.List.{length-take-le}
+use Rattle.std.proofs.lemmas.Result.{err_from_is_err_and}
 use Rattle.pcap_core.specs.Window.{bytes_of, shown_of, requests_made}
-use Rattle.pcap_core.proofs.Showing.{showing_none, showing_few, showing_more, showing_item, showing_text, showing_refused, showing_fault, showing_ended, showing_lack}
+use Rattle.pcap_core.proofs.Showing.{showing_none, showing_few, showing_more, showing_item, showing_text, showing_refused, showing_fault, showing_ended, showing_lack, showing_split}
 use Rattle.pcap_core.proofs.run.exact.show_item.Goals as goal
 
 pub asking-init : goal.asking-init
@@ -71,3 +72,10 @@ pub returns-in-Refused-clause-found : goal.returns-in-Refused-clause-found
 returns-in-Refused-clause-found g c =
     let told = rw (c.in-Refused.is, c.seen_after.ensures, c.asking.invariant.start_is, c.asking.invariant.bytes, c.asking.invariant.state) at c.in_ok-item.ensures.finds in
     (told.0, (told.1.0, told.1.1, showing_fault (c.asking.invariant.showing c.requires.lawful) told.1.0 told.1.2))
+
+pub returns-in_err-item-clause-memory : goal.returns-in_err-item-clause-memory
+returns-in_err-item-clause-memory g c =
+    let grown = rw (c.seen_after.ensures, c.asking.invariant.start_is, c.asking.invariant.bytes, c.asking.invariant.state) at c.in_err-item.ensures.finds in
+    let split = showing_split (c.asking.invariant.showing c.requires.lawful) in
+    let e = err_from_is_err_and c.from_residual.result c.from_residual.ensures.1 in
+    rw e.1 (_, split.0, split.1, grown)

@@ -97,10 +97,10 @@ pub returns-in_err-item-clause-memory : goal.returns-in_err-item-clause-memory
 returns-in_err-item-clause-memory g c =
     let p = g.P.Items in
     let bytes = bytes_of c.args.window.now in
-    let grown = c.in_err-item.ensures.memory in
+    let grown = rw c.loop-window.invariant.bytes at c.in_err-item.ensures.memory in
     let e = err_from_is_err_and c.from_residual.result c.from_residual.ensures.1 in
     rw e.1 (grows_parser p.format p.part p.grows (p.state c.args.parser.now) (p.state c.loop-window.parser) (map p.view c.loop-window.items.items) (drop (shown_of c.args.window.now) bytes)
-    (drop (shown_of c.loop-window.window) bytes) grown.0 (exacting_texts c.loop-window.invariant.exacting) grown.1)
+    (drop (shown_of c.loop-window.window) bytes) grown.0 grown.1 (exacting_texts c.loop-window.invariant.exacting) grown.2 grown.3)
 
 pub returns-in_err-push-in-Item-clause-memory : goal.returns-in_err-push-in-Item-clause-memory
 returns-in_err-push-in-Item-clause-memory g c =
