@@ -9,11 +9,11 @@ use Rattle.pcap_blocks.specs.Values.{Value, Str, Bytes, Integer, CustomStr, Cust
 use Rattle.pcap_blocks.proofs.Strings.{string_is}
 use Rattle.pcap_written.specs.declared.form.Form.{Form}
 use Rattle.pcap_written.specs.declared.form.Form.TheVariants as forms
-use Rattle.pcap_written.specs.Codec.{Encoder, IsCodec}
+use Rattle.pcap_core.specs.Codec.{Encoder, IsCodec}
 use Rattle.pcap_written.specs.Text.{padding, value_text, time_bytes, option_value, option_text}
 use Rattle.pcap_written.specs.Fits.{IsFitOption}
 use Rattle.pcap_written.specs.Forms.{IsForm, FitsForm, MeasuresForm, TellsCoded, form_bytes}
-use Rattle.pcap_written.proofs.Codec.{same_number}
+use Rattle.pcap_core.proofs.Codec.{number_again}
 
 -- the value's text is that of its form
 pub form_text : (write : Encoder) (shape : Shape) (value : Value) (form : Form) → IsForm shape value form → form_bytes write form ≡ value_text write shape value
@@ -32,14 +32,17 @@ form_text write unknown (Unknown len v) (forms.Unknown m b) x = x.1
 form_text write _ _ _ x = absurd x
 
 module _ (order : Order) (write : Encoder) (c : IsCodec order write) where
+  same_number : (w n : ℕ) → n < 256 ^ w → order w (write w n) ≡ n
+  same_number w n lt = (number_again order write c w n [] lt).value
+
   kept_number : (w n : ℕ) (wrong : Rule) → n < 256 ^ w → number_at order w wrong (write w n) ≡ Ok (Integer n)
-  kept_number w n wrong lt = rw (eq-eqb (length (write w n)) w (c.wide w n), same_number order write c w n lt) refl
+  kept_number w n wrong lt = rw (eq-eqb (length (write w n)) w (c.wide w n), same_number w n lt) refl
 
   custom_long : (pen : ℕ) (b : List ℕ) → nat_lt (length (write 4 pen ++ b)) 4 ≡ false
   custom_long pen b = le-ltb (length (write 4 pen ++ b)) 4 (omega (arith, length-append (write 4 pen) b, c.wide 4 pen))
 
   custom_pen : (pen : ℕ) (b : List ℕ) → pen < 2 ^ 32 → order 4 (take 4 (write 4 pen ++ b)) ≡ pen
-  custom_pen pen b lt = rw (take_at (write 4 pen) b 4 (c.wide 4 pen)) (same_number order write c 4 pen lt)
+  custom_pen pen b lt = rw (take_at (write 4 pen) b 4 (c.wide 4 pen)) (same_number 4 pen lt)
 
   custom_rest : (pen : ℕ) (b : List ℕ) → drop 4 (write 4 pen ++ b) ≡ b
   custom_rest pen b = drop_at (write 4 pen) b 4 (c.wide 4 pen)
@@ -51,12 +54,12 @@ module _ (order : Order) (write : Encoder) (c : IsCodec order write) where
       let long : nat_lt (length (time_bytes write n)) 8 ≡ false = le-ltb (length (time_bytes write n)) 8 (omega (arith, length-append (write 4 high) (write 4 low), c.wide 4 high, c.wide 4 low)) in
       let all : take 4 (write 4 low) ≡ write 4 low = take_all 4 (write 4 low) (omega (arith, c.wide 4 low)) in
       let both : high * 2 ^ 32 + low ≡ n = omega arith in
-      rw (long, take_at (write 4 high) (write 4 low) 4 (c.wide 4 high), drop_at (write 4 high) (write 4 low) 4 (c.wide 4 high), all, same_number order write c 4 high (omega (arith, lt)), same_number order write c 4 low (omega arith), both) refl
+      rw (long, take_at (write 4 high) (write 4 low) 4 (c.wide 4 high), drop_at (write 4 high) (write 4 low) 4 (c.wide 4 high), all, same_number 4 high (omega (arith, lt)), same_number 4 low (omega arith), both) refl
 
   kept_counter : (n : ℕ) → n < 2 ^ 64 → value_of order first_number (write 8 n) ≡ Ok (Integer n)
   kept_counter n lt =
       let long : nat_lt (length (write 8 n)) 8 ≡ false = le-ltb (length (write 8 n)) 8 (omega (arith, c.wide 8 n)) in
-      rw (long, take_all 8 (write 8 n) (omega (arith, c.wide 8 n)), same_number order write c 8 n lt) refl
+      rw (long, take_all 8 (write 8 n) (omega (arith, c.wide 8 n)), same_number 8 n lt) refl
 
   -- and it is read as it was
   pub form_kept : (shape : Shape) (value : Value) (form : Form) → IsForm shape value form → FitsForm form → value_of order shape (value_text write shape value) ≡ Ok value

@@ -1,4 +1,3 @@
-pub mod Codec
 pub mod Forms
 pub mod Lists
 pub mod Puts

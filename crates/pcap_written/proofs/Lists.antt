@@ -7,7 +7,7 @@ use Rattle.std.proofs.lemmas.List.{map_more, length-map, get_or-map}
 use Rattle.std.proofs.lemmas.List.Elements.{All-push}
 use Rattle.std.proofs.lemmas.List.Concat.{flat_map-cons}
 use Rattle.pcap_blocks.specs.Values.{Entry, Kind}
-use Rattle.pcap_written.specs.Codec.{Encoder}
+use Rattle.pcap_core.specs.Codec.{Encoder}
 use Rattle.pcap_written.specs.Text.{option_text, end_mark, list_text}
 
 -- what holds of one of them

@@ -11,7 +11,7 @@ use Rattle.pcap_written.specs.declared.unwritable.Unwritable.{Unwritable}
 use Rattle.pcap_written.specs.declared.unwritable.Unwritable.TheVariants as flaws
 use Rattle.pcap_written.specs.declared.unwritable.Unput.{Unput}
 use Rattle.pcap_written.specs.declared.unwritable.Unput.TheVariants.{Memory, Unfit}
-use Rattle.pcap_written.specs.Codec.{Encoder}
+use Rattle.pcap_core.specs.Codec.{Encoder}
 use Rattle.pcap_written.specs.Flaws.{ListFlaw, InterfaceFlaw}
 use Rattle.pcap_written.specs.Puts.{IsShownAs, Puts, RefusesPut}
 use Rattle.pcap_written.specs.declared.writer.PcapNgWriter.{PcapNgWriter}

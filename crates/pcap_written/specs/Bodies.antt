@@ -19,7 +19,7 @@ use Rattle.pcap_blocks.specs.NameResolution.{Resolution, name_resolution}
 use Rattle.pcap_blocks.specs.Record.{Address, NameRecord, End, Ipv4, Ipv6, Other}
 use Rattle.pcap_blocks.specs.ParsedBlock.{Body, SectionBody, InterfaceBody, OldPacketBody, SimpleBody, NamesBody, StatisticsBody, EnhancedBody, JournalBody, OtherBody}
 use Rattle.pcap_written.specs.declared.block.BlockHead.{BlockHead}
-use Rattle.pcap_written.specs.Codec.{Encoder}
+use Rattle.pcap_core.specs.Codec.{Encoder}
 use Rattle.pcap_written.specs.Text.{padded_bytes, time_bytes, coded_bytes, list_text}
 
 -- the version and the length of a section, and its options ('Section Header Block')

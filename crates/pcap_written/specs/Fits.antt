@@ -14,7 +14,7 @@ use Rattle.pcap_blocks.specs.Packet.{PacketBody, packet_kind}
 use Rattle.pcap_blocks.specs.SimplePacket.{Simple}
 use Rattle.pcap_blocks.specs.UnknownBlock.{UnknownBody}
 use Rattle.pcap_blocks.specs.ParsedBlock.{Body, SectionBody, InterfaceBody, OldPacketBody, SimpleBody, NamesBody, StatisticsBody, EnhancedBody, JournalBody, OtherBody}
-use Rattle.pcap_written.specs.Codec.{Encoder}
+use Rattle.pcap_core.specs.Codec.{Encoder}
 use Rattle.pcap_written.specs.Text.{padded_bytes, option_value}
 use Rattle.pcap_written.specs.Bodies.{type_number}
 

@@ -6,7 +6,7 @@ use Rattle.pcap_written.specs.declared.form.Form.{Form}
 use Rattle.pcap_written.specs.declared.form.Form.TheVariants as forms
 use Rattle.pcap_written.specs.declared.unwritable.Unwritable.{Unwritable}
 use Rattle.pcap_written.specs.declared.unwritable.Unwritable.TheVariants as flaws
-use Rattle.pcap_written.specs.Codec.{Encoder}
+use Rattle.pcap_core.specs.Codec.{Encoder}
 use Rattle.pcap_written.specs.Text.{time_bytes}
 use Rattle.pcap_written.specs.Flaws.{IsMisplaced}
 

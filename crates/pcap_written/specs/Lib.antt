@@ -1,4 +1,3 @@
-pub mod Codec
 pub mod Text
 pub mod Bodies
 pub mod Fits

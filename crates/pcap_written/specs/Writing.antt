@@ -15,7 +15,7 @@ use Rattle.pcap_written.specs.declared.unwritable.Unwritable.{Unwritable}
 use Rattle.pcap_written.specs.declared.unwritable.Unwritable.TheVariants as flaws
 use Rattle.pcap_written.specs.declared.place.Place.{Place}
 use Rattle.pcap_written.specs.declared.writer.PcapNgWriter.{PcapNgWriter}
-use Rattle.pcap_written.specs.Codec.{Encoder, number_bytes}
+use Rattle.pcap_core.specs.Codec.{Encoder, number_bytes}
 use Rattle.pcap_written.specs.Bodies.{body_text, head_of, order_under, text_of}
 use Rattle.pcap_written.specs.Fits.{IsFitBody}
 use Rattle.pcap_written.specs.Flaws.{BodyFlaw, flaw_message}

@@ -2,7 +2,7 @@
 
 ghost use Rattle.std.specs.Prelude.{◌≡◌, []};
 ghost use Rattle.pcap_written.specs.Bodies.{text_of};
-ghost use Rattle.pcap_written.specs.Codec.{number_bytes};
+ghost use Rattle.pcap_core.specs.Codec.{number_bytes};
 ghost use Rattle.pcap_written.specs.Puts.{Puts};
 ghost use Rattle.pcap_written.specs.Writing.{stream_of, has_failed, place_of, IsFitBlock, FitFlaw, IsFitIn, FlawIn, WritesBlock};
 

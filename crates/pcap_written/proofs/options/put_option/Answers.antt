@@ -1,4 +1,4 @@
-use Rattle.pcap_written.specs.Codec.{IsCodec}
+use Rattle.pcap_core.specs.Codec.{IsCodec}
 use Rattle.pcap_written.proofs.Forms.{option_put}
 use Rattle.pcap_written.proofs.options.put_option.Goals as goal
 
