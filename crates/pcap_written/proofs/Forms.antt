@@ -1,5 +1,5 @@
 -- Values in their forms are read as they were.
-use Rattle.std.proofs.Common.{◌≡◌, ℕ, ◌<◌, ◌≤◌, ◌+◌, ◌*◌, ◌/◌, ◌%◌, ◌^◌, List, [], ◌∷◌, ◌++◌, length, take, drop, refl, sym, ap, subst, ◌∙◌, length-append, append_assoc, arith, Ok}
+use Rattle.std.proofs.Common.{◌≡◌, ℕ, ◌<◌, ◌≤◌, ◌+◌, ◌*◌, ◌/◌, ◌%◌, ◌^◌, List, [], ◌∷◌, ◌++◌, length, take, drop, refl, sym, ap, subst, ◌∙◌, length-append, append_assoc, append-nil, arith, Ok}
 use Rattle.std.specs.Prelude.{nat_lt, false, Some}
 use Rattle.std.proofs.lemmas.Bool.{le-ltb, eq-eqb, ne_eqb}
 use Rattle.std.proofs.lemmas.List.{take_at, drop_at, take_all}
@@ -13,7 +13,6 @@ use Rattle.pcap_core.specs.Codec.{Encoder, IsCodec}
 use Rattle.pcap_written.specs.Text.{padding, value_text, time_bytes, option_value, option_text}
 use Rattle.pcap_written.specs.Fits.{IsFitOption}
 use Rattle.pcap_written.specs.Forms.{IsForm, FitsForm, MeasuresForm, TellsCoded, form_bytes}
-use Rattle.pcap_core.proofs.Codec.{number_again}
 
 -- the value's text is that of its form
 pub form_text : (write : Encoder) (shape : Shape) (value : Value) (form : Form) → IsForm shape value form → form_bytes write form ≡ value_text write shape value
@@ -33,7 +32,7 @@ form_text write _ _ _ x = absurd x
 
 module _ (order : Order) (write : Encoder) (c : IsCodec order write) where
   same_number : (w n : ℕ) → n < 256 ^ w → order w (write w n) ≡ n
-  same_number w n lt = (number_again order write c w n [] lt).value
+  same_number w n lt = ap (order w) (sym (append-nil (write w n))) ∙ c.again w n [] lt
 
   kept_number : (w n : ℕ) (wrong : Rule) → n < 256 ^ w → number_at order w wrong (write w n) ≡ Ok (Integer n)
   kept_number w n wrong lt = rw (eq-eqb (length (write w n)) w (c.wide w n), same_number w n lt) refl

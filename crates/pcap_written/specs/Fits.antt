@@ -1,10 +1,10 @@
 -- What has a text that is read as it was.
-use Rattle.std.specs.Prelude.{◌≡◌, ◌≢◌, ◌<◌, ◌^◌, ℕ, List, length, Ok, All, FitsSigned}
+use Rattle.std.specs.Prelude.{◌≡◌, ◌≢◌, ◌≤◌, ◌<◌, ◌+◌, ◌^◌, ℕ, List, length, Ok, All, FitsSigned}
 use Rattle.std.specs.Int.{w64}
 use Rattle.pcap_core.specs.Answer.{Order}
 use Rattle.pcap_core.specs.Link.{link_number, IsPlain}
 use Rattle.pcap_blocks.specs.BlockType.{block_type}
-use Rattle.pcap_blocks.specs.Values.{Entry, Kind, shape_at, value_of}
+use Rattle.pcap_blocks.specs.Values.{Entry, Kind, shape_at, string_at, value_of}
 use Rattle.pcap_blocks.specs.StoredPacket.{Stored}
 use Rattle.pcap_blocks.specs.SectionHeader.{Section, section_header}
 use Rattle.pcap_blocks.specs.InterfaceDescription.{Interface, interface_description}
@@ -12,11 +12,14 @@ use Rattle.pcap_blocks.specs.InterfaceStatistics.{Statistics, interface_statisti
 use Rattle.pcap_blocks.specs.EnhancedPacket.{Enhanced, enhanced_packet}
 use Rattle.pcap_blocks.specs.Packet.{PacketBody, packet_kind}
 use Rattle.pcap_blocks.specs.SimplePacket.{Simple}
+use Rattle.pcap_blocks.specs.Names.{HasNoZero}
+use Rattle.pcap_blocks.specs.Record.{Address, NameRecord, End, Ipv4, Ipv6, Other, form_of, any_value}
+use Rattle.pcap_blocks.specs.NameResolution.{Resolution, name_resolution}
 use Rattle.pcap_blocks.specs.UnknownBlock.{UnknownBody}
 use Rattle.pcap_blocks.specs.ParsedBlock.{Body, SectionBody, InterfaceBody, OldPacketBody, SimpleBody, NamesBody, StatisticsBody, EnhancedBody, JournalBody, OtherBody}
 use Rattle.pcap_core.specs.Codec.{Encoder}
 use Rattle.pcap_written.specs.Text.{padded_bytes, option_value}
-use Rattle.pcap_written.specs.Bodies.{type_number}
+use Rattle.pcap_written.specs.Bodies.{address_text, type_number}
 
 -- an option: its value is the one that its code's row of the kind's table reads
 pub record IsFitOption (order : Order) (write : Encoder) (kind : Kind) (o : Entry) : Type 0 where
@@ -70,6 +73,37 @@ pub record IsFitStatistics (order : Order) (write : Encoder) (s : Statistics) : 
   pub time : s.timestamp < 2 ^ 64
   pub options : AreFit order write interface_statistics s.options
 
+-- a name: a string without a zero byte
+pub record IsFitName (name : List ℕ) : Type 0 where
+  pub no_zero : HasNoZero name
+  pub string : string_at name ≡ Ok name
+
+-- an address of this width, and its names: there is one, and more than one where it is empty
+pub record IsFitAddress (width : ℕ) (a : Address) : Type 0 where
+  pub wide : length a.bytes ≡ width
+  pub names : All IsFitName a.names
+  pub some : width + 2 ≤ length (address_text a)
+  pub short : length (address_text a) < 2 ^ 16
+
+-- a record of another type: its number has no name, and the length is that of its value
+pub record IsFitOther (type len : ℕ) (v : List ℕ) : Type 0 where
+  pub fits : type < 2 ^ 16
+  pub unnamed : form_of type ≡ any_value type
+  pub whole : len ≡ length v
+  pub short : length v < 2 ^ 16
+
+-- a record; the end is written behind the records, and is none of them
+abbrev pub IsFitRecord : NameRecord → Type 0
+IsFitRecord End = ⊥
+IsFitRecord (Ipv4 a) = IsFitAddress 4 a
+IsFitRecord (Ipv6 a) = IsFitAddress 16 a
+IsFitRecord (Other type len v) = IsFitOther type len v
+
+-- names
+pub record IsFitResolution (order : Order) (write : Encoder) (b : Resolution) : Type 0 where
+  pub records : All IsFitRecord b.records
+  pub options : AreFit order write name_resolution b.options
+
 -- a block of an unknown type: its number has no name, and the length is that of its bytes
 pub record IsFitUnknown (u : UnknownBody) : Type 0 where
   pub number : type_number u.type_ < 2 ^ 32
@@ -82,7 +116,7 @@ IsFitBody order write (SectionBody s) = IsFitSection order write s
 IsFitBody order write (InterfaceBody i) = IsFitInterface order write i
 IsFitBody order write (OldPacketBody p) = IsFitPacket order write p
 IsFitBody order write (SimpleBody p) = p.original_len < 2 ^ 32
-IsFitBody order write (NamesBody b) = ⊥
+IsFitBody order write (NamesBody b) = IsFitResolution order write b
 IsFitBody order write (StatisticsBody s) = IsFitStatistics order write s
 IsFitBody order write (EnhancedBody x) = IsFitEnhanced order write x
 IsFitBody order write (JournalBody entry) = Unit {0}
