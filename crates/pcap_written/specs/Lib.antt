@@ -5,3 +5,5 @@ pub mod Flaws
 pub mod Forms
 pub mod Puts
 pub mod Writing
+pub mod Plain
+pub mod LentStreams
