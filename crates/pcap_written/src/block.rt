@@ -4,8 +4,9 @@ ghost use Rattle.std.specs.Prelude.{◌≡◌, ◌<◌, ◌^◌, ◌++◌, OnOk}
 ghost use Rattle.pcap_blocks.specs.EnhancedPacket.{enhanced_of};
 ghost use Rattle.pcap_blocks.specs.InterfaceDescription.{interface_of};
 ghost use Rattle.pcap_blocks.specs.InterfaceStatistics.{statistics_of};
+ghost use Rattle.pcap_blocks.specs.NameResolution.{names_of};
 ghost use Rattle.pcap_blocks.specs.Packet.{packet_of};
-ghost use Rattle.pcap_blocks.specs.ParsedBlock.{Body, SectionBody, InterfaceBody, OldPacketBody, SimpleBody, StatisticsBody, EnhancedBody, JournalBody, OtherBody};
+ghost use Rattle.pcap_blocks.specs.ParsedBlock.{Body, SectionBody, InterfaceBody, OldPacketBody, SimpleBody, NamesBody, StatisticsBody, EnhancedBody, JournalBody, OtherBody};
 ghost use Rattle.pcap_blocks.specs.SectionHeader.{section_of};
 ghost use Rattle.pcap_blocks.specs.SimplePacket.{simple_of};
 ghost use Rattle.pcap_blocks.specs.SystemdJournalExport.{journal_of};
@@ -15,15 +16,16 @@ ghost use Rattle.pcap_written.specs.Fits.{IsFitBody};
 ghost use Rattle.pcap_written.specs.Flaws.{BodyFlaw, TellsLink};
 ghost use Rattle.pcap_written.specs.Puts.{Puts};
 
+use crate::names::put_records;
 use crate::options::put_options;
 use crate::put::{put_i64, put_padded, put_time, put_u16, put_u32};
 use crate::unwritable::{Unput, Unwritable};
 use byteorder::{BigEndian, ByteOrder};
 use pcap_blocks::{
     BlockType, EnhancedPacketBlock, EnhancedPacketOption, InterfaceDescriptionBlock,
-    InterfaceDescriptionOption, InterfaceStatisticsBlock, InterfaceStatisticsOption, PacketBlock,
-    PacketOption, SectionHeaderBlock, SectionHeaderOption, SimplePacketBlock,
-    SystemdJournalExportBlock, UnknownBlock,
+    InterfaceDescriptionOption, InterfaceStatisticsBlock, InterfaceStatisticsOption,
+    NameResolutionBlock, NameResolutionOption, PacketBlock, PacketOption, SectionHeaderBlock,
+    SectionHeaderOption, SimplePacketBlock, SystemdJournalExportBlock, UnknownBlock,
 };
 use pcap_core::DataLink;
 use std::alloc::AllocError;
@@ -133,6 +135,21 @@ impl<'a> PcapNgBlock for SimplePacketBlock<'a> {
         put_u32::<B>(out, self.original_len)?;
         put_padded(out, self.data_.as_slice())?;
         Ok(())
+    }
+}
+
+impl<'a> PcapNgBlock for NameResolutionBlock<'a> {
+    ghost sees = { λ block. NamesBody (names_of block) };
+
+    fn head(&self) -> BlockHead {
+        BlockHead::of(BlockType::NameResolution)
+    }
+
+    fn put_body<B: ByteOrder>(&self, out: &mut Vec<u8>) -> Result<(), Unput> {
+        put_records::<B>(out, self.records.as_slice())?;
+        put_u16::<B>(out, 0)?;
+        put_u16::<B>(out, 0)?;
+        put_options::<NameResolutionOption, B>(out, self.options.as_slice())
     }
 }
 

@@ -4,6 +4,7 @@
 mod block;
 mod form;
 mod kinds;
+mod names;
 mod options;
 mod place;
 mod put;
