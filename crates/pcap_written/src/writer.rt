@@ -3,7 +3,7 @@
 ghost use Rattle.std.specs.Prelude.{◌≡◌, []};
 ghost use Rattle.std.specs.Borrow.{sem, Lends};
 ghost use Rattle.pcap_core.specs.declared.common.Endianness.TheVariants.{Little};
-ghost use Rattle.pcap_blocks.specs.ParsedBlock.{SectionBody};
+ghost use Rattle.pcap_blocks.specs.ParsedBlock.{SectionBody, body_of};
 ghost use Rattle.pcap_blocks.specs.SectionHeader.{section_of};
 ghost use Rattle.pcap_written.specs.contracts.writer.PcapNgWriter.{the_row as writer-row};
 ghost use Rattle.pcap_written.specs.LentStreams.{writer_with};
@@ -18,7 +18,7 @@ use crate::place::Place;
 use crate::put::put_u32;
 use crate::unwritable::{Unput, Unwritable};
 use byteorder::{BigEndian, ByteOrder, LittleEndian};
-use pcap_blocks::SectionHeaderBlock;
+use pcap_blocks::{ParsedBlock, SectionHeaderBlock};
 use pcap_core::stream::put;
 use pcap_core::{Endianness, PcapError, ResultParsing};
 use std::alloc::Global;
@@ -140,6 +140,13 @@ impl<W: Write + Drop> PcapNgWriter<W> {
 }
 
 impl<W: Write> PcapNgWriter<W> {
+    /// Writes a block of any type, as `write_pcapng_block` does.
+    pub fn write_block(&mut self, block: &ParsedBlock<'_>) -> ResultParsing<()>
+        ensures { WritesBlock W.contents self.old self.new (body_of block.now) result }
+    {
+        self.write_pcapng_block(block)
+    }
+
     /// Writes a block. A section header begins a section of its own order and with no interface; each other block is written in
     /// the order of the section.
     ///
