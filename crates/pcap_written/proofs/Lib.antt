@@ -1,3 +1,4 @@
 pub mod Forms
 pub mod Lists
 pub mod Puts
+pub mod Packets
