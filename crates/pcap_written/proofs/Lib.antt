@@ -1,3 +1,6 @@
 pub mod Forms
 pub mod Lists
 pub mod Puts
+pub mod OptionsAgain
+pub mod NamesAgain
+pub mod BodiesAgain

@@ -195,7 +195,8 @@ impl<'a> PcapNgBlock for UnknownBlock<'a> {
     }
 
     fn put_body<B: ByteOrder>(&self, out: &mut Vec<u8>) -> Result<(), Unput> {
-        if BlockType::from(type_number(self.type_)) != self.type_ {
+        let number = type_number(self.type_);
+        if BlockType::from(number) != BlockType::Unknown(number) {
             return Err(Unput::Unfit(Unwritable::TypeMisnamed));
         }
         if self.value.as_slice().len() != self.length as usize {
