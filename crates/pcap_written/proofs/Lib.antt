@@ -4,3 +4,4 @@ pub mod Puts
 pub mod OptionsAgain
 pub mod NamesAgain
 pub mod BodiesAgain
+pub mod Aligned
