@@ -5,3 +5,4 @@ pub mod OptionsAgain
 pub mod NamesAgain
 pub mod BodiesAgain
 pub mod Aligned
+pub mod Going
