@@ -1,11 +1,12 @@
 -- Lists of options, one behind the other.
-use Rattle.std.proofs.Common.{◌≡◌, ℕ, ◌<◌, ◌+◌, List, [], ◌∷◌, ◌++◌, length, take, refl, sym, ap, subst, ◌∙◌, append_assoc, append-nil, arith, map, get_or}
+use Rattle.std.proofs.Common.{◌≡◌, ℕ, ◌<◌, ◌≤◌, ◌+◌, List, [], ◌∷◌, ◌++◌, length, take, refl, sym, ap, subst, ◌∙◌, append_assoc, append-nil, arith, map, get_or}
 use Rattle.std.specs.Prelude.{All, Any}
 use Rattle.std.specs.List.{flat_map}
 use Rattle.std.proofs.lemmas.Grind.{flat_map-append}
-use Rattle.std.proofs.lemmas.List.{map_more, length-map, get_or-map}
+use Rattle.std.proofs.lemmas.List.{map_more, length-map, get_or-map, take-map}
 use Rattle.std.proofs.lemmas.List.Elements.{All-push}
 use Rattle.std.proofs.lemmas.List.Concat.{flat_map-cons}
+use Rattle.std.proofs.lemmas.List.Folds.{length-flat_map-take}
 use Rattle.pcap_blocks.specs.Values.{Entry, Kind}
 use Rattle.pcap_core.specs.Codec.{Encoder}
 use Rattle.pcap_written.specs.Text.{option_text, end_mark, list_text}
@@ -23,6 +24,14 @@ puts_more view f items i o before old new lt is so_far put =
     let goes : flat_map f (map view (take (i + 1) items)) ≡ flat_map f (map view (take i items)) ++ f (view o) =
     ap (flat_map f) more ∙ flat_map-append f (map view (take i items)) (view o ∷ []) ∙ ap (λ (l : List ℕ). flat_map f (map view (take i items)) ++ l) (flat_map-cons f (view o) [] ∙ append-nil (f (view o))) in
     put ∙ ap (λ (l : List ℕ). l ++ f (view o)) so_far ∙ append_assoc before (flat_map f (map view (take i items))) (f (view o)) ∙ ap (λ (l : List ℕ). before ++ l) (sym goes)
+
+-- what all of them take is at least what the first ones and one more take
+pub takes_one_more : {O E : Type 0} (view : O → E) (f : E → List ℕ) (items : List O) (i : ℕ) (o : O) → i < length items → o ≡ get_or items i o → length (flat_map f (map view (take i items))) + length (f (view o)) ≤ length (flat_map f (map view items))
+takes_one_more view f items i o lt is =
+    let all = map view items in
+    let here : get_or all i (view o) ≡ view o = get_or-map view items i o (view o) lt ∙ ap view (sym is) in
+    let most : length (flat_map f (take i all)) + length (f (get_or all i (view o))) ≤ length (flat_map f all) = length-flat_map-take f all i (view o) (omega (arith, lt, length-map items view)) in
+    rw (sym (take-map view i items)) (subst (λ y. length (flat_map f (take i all)) + length (f y) ≤ length (flat_map f all)) here most)
 
 -- and it is fit too
 pub fits_more : {O E : Type 0} (view : O → E) (P : E → Type 0) (items : List O) (i : ℕ) (o : O) → i < length items → o ≡ get_or items i o → All P (map view (take i items)) → P (view o) → All P (map view (take (i + 1) items))

@@ -1,6 +1,8 @@
 -- Why a block has no text, one for each reason.
-use Rattle.std.specs.Prelude.{◌≡◌, ◌≢◌, ◌≤◌, ◌<◌, ◌^◌, ◌⊎◌, ℕ, List, length, Result, Ok, Err, Any, codes}
+use Rattle.std.specs.Prelude.{◌≡◌, ◌≢◌, ◌≤◌, ◌<◌, ◌+◌, ◌^◌, ◌⊎◌, ℕ, List, length, Result, Ok, Err, Any, codes}
 use Rattle.pcap_core.specs.Answer.{Order}
+use Rattle.pcap_core.specs.declared.rules.Rule.{Rule}
+use Rattle.pcap_core.specs.declared.rules.Rule.TheVariants.{Ipv4RecordTooShort, Ipv6RecordTooShort}
 use Rattle.pcap_core.specs.Faults.{Invalid, rule_message}
 use Rattle.pcap_core.specs.declared.link.DataLink.{DataLink}
 use Rattle.pcap_core.specs.Link.{link_number, IsPlain}
@@ -13,13 +15,16 @@ use Rattle.pcap_blocks.specs.InterfaceDescription.{Interface, interface_descript
 use Rattle.pcap_blocks.specs.InterfaceStatistics.{interface_statistics}
 use Rattle.pcap_blocks.specs.EnhancedPacket.{enhanced_packet}
 use Rattle.pcap_blocks.specs.Packet.{packet_kind}
+use Rattle.pcap_blocks.specs.Names.{HasNoZero}
+use Rattle.pcap_blocks.specs.Record.{Address, NameRecord, End, Ipv4, Ipv6, Other, form_of, any_value}
+use Rattle.pcap_blocks.specs.NameResolution.{Resolution, name_resolution}
 use Rattle.pcap_blocks.specs.UnknownBlock.{UnknownBody}
 use Rattle.pcap_blocks.specs.ParsedBlock.{Body, SectionBody, InterfaceBody, OldPacketBody, SimpleBody, NamesBody, StatisticsBody, EnhancedBody, JournalBody, OtherBody}
 use Rattle.pcap_written.specs.declared.unwritable.Unwritable.{Unwritable}
 use Rattle.pcap_written.specs.declared.unwritable.Unwritable.TheVariants as flaws
 use Rattle.pcap_core.specs.Codec.{Encoder}
 use Rattle.pcap_written.specs.Text.{option_value}
-use Rattle.pcap_written.specs.Bodies.{type_number}
+use Rattle.pcap_written.specs.Bodies.{address_text, type_number}
 
 -- the message that names a reason
 abbrev pub flaw_message : Unwritable → List ℕ
@@ -30,6 +35,12 @@ flaw_message (flaws.Breaks rule) = rule_message rule
 flaw_message flaws.CapturedLengthDiffers = codes "EnhancedPacketBlock: captured_len != data.len()"
 flaw_message flaws.LinkTooLarge = codes "InterfaceDescriptionBlock: linktype > 65535"
 flaw_message flaws.LinkMisnamed = codes "InterfaceDescriptionBlock: linktype has a name"
+flaw_message flaws.EndMisplaced = codes "NameResolutionBlock: nrb_record_end among the records"
+flaw_message flaws.AddressLengthDiffers = codes "NameResolutionBlock: address of another length"
+flaw_message flaws.NameWithZero = codes "NameResolutionBlock: name with a zero byte"
+flaw_message flaws.RecordTooLong = codes "NameResolutionBlock: Record length > 65535"
+flaw_message flaws.RecordMisnamed = codes "UnknownRecord: type has a name"
+flaw_message flaws.RecordLengthDiffers = codes "UnknownRecord: length != value.len()"
 flaw_message flaws.TypeMisnamed = codes "UnknownBlock: type has a name"
 flaw_message flaws.BlockLengthDiffers = codes "UnknownBlock: length != value.len()"
 flaw_message flaws.BlockTooLong = codes "Block: length > 0xFFFFFFFF"
@@ -83,6 +94,31 @@ InterfaceFlaw order write i flaws.LinkTooLarge = 2 ^ 16 ≤ link_number i.linkty
 InterfaceFlaw order write i flaws.LinkMisnamed = IsPlain i.linktype → ⊥
 InterfaceFlaw order write i flaw = ListFlaw order write interface_description i.options flaw
 
+-- what stands against an address of this width and its names, too short by this rule
+abbrev pub AddressFlaw : ℕ → Rule → Address → Unwritable → Type 0
+AddressFlaw width too_short a flaws.AddressLengthDiffers = length a.bytes ≢ width
+AddressFlaw width too_short a flaws.NameWithZero = Any (λ name. HasNoZero name → ⊥) a.names
+AddressFlaw width too_short a flaws.RecordTooLong = 2 ^ 16 ≤ length (address_text a)
+AddressFlaw width too_short a (flaws.Breaks rule) = (rule ≡ too_short) × (length (address_text a) < width + 2)
+AddressFlaw width too_short a _ = ⊥
+
+-- what stands against a record of another type
+abbrev pub OtherFlaw : ℕ → ℕ → List ℕ → Unwritable → Type 0
+OtherFlaw type len v flaws.RecordMisnamed = form_of type ≢ any_value type
+OtherFlaw type len v flaws.RecordLengthDiffers = len ≢ length v
+OtherFlaw type len v _ = ⊥
+
+-- what stands against a record
+abbrev pub RecordFlaw : Unwritable → NameRecord → Type 0
+RecordFlaw flaw End = flaw ≡ flaws.EndMisplaced
+RecordFlaw flaw (Ipv4 a) = AddressFlaw 4 Ipv4RecordTooShort a flaw
+RecordFlaw flaw (Ipv6 a) = AddressFlaw 16 Ipv6RecordTooShort a flaw
+RecordFlaw flaw (Other type len v) = OtherFlaw type len v flaw
+
+-- what stands against names: it stands against a record, or against an option
+abbrev pub ResolutionFlaw : Order → Encoder → Resolution → Unwritable → Type 0
+ResolutionFlaw order write b flaw = Any (RecordFlaw flaw) b.records ⊎ ListFlaw order write name_resolution b.options flaw
+
 -- what stands against a block of an unknown type
 abbrev pub UnknownFlaw : UnknownBody → Unwritable → Type 0
 UnknownFlaw u flaws.TypeMisnamed = block_type (type_number u.type_) ≢ types.Unknown (type_number u.type_)
@@ -95,7 +131,7 @@ BodyFlaw order write (SectionBody s) = ListFlaw order write section_header s.opt
 BodyFlaw order write (InterfaceBody i) = InterfaceFlaw order write i
 BodyFlaw order write (OldPacketBody p) = StoredFlaw order write packet_kind p.packet
 BodyFlaw order write (SimpleBody p) = λ flaw. ⊥
-BodyFlaw order write (NamesBody b) = λ flaw. ⊥
+BodyFlaw order write (NamesBody b) = ResolutionFlaw order write b
 BodyFlaw order write (StatisticsBody s) = ListFlaw order write interface_statistics s.options
 BodyFlaw order write (EnhancedBody x) = StoredFlaw order write enhanced_packet x.packet
 BodyFlaw order write (JournalBody entry) = λ flaw. ⊥

@@ -6,3 +6,5 @@ pub mod Forms
 pub mod Capture
 pub mod Puts
 pub mod Writing
+pub mod Plain
+pub mod LentStreams

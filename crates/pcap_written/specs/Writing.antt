@@ -2,6 +2,7 @@
 use Rattle.std.specs.Prelude.{◌≡◌, ◌≤◌, ◌<◌, ◌+◌, ◌^◌, ◌⊎◌, ℕ, List, Bool, true, false, Option, Some, None, Result, Ok, Err, length}
 use Rattle.std.specs.Io.KnownBytes.{Appends, Keeps}
 use Rattle.pcap_core.specs.declared.common.Endianness.{Endianness}
+use Rattle.pcap_core.specs.declared.common.Endianness.TheVariants.{Little}
 use Rattle.pcap_core.specs.declared.errors.PcapError.{PcapError}
 use Rattle.pcap_core.specs.declared.errors.PcapError.TheVariants as errors
 use Rattle.pcap_core.specs.declared.rules.Rule.TheVariants.{SectionMagic}
@@ -105,3 +106,18 @@ WritesGood contents old new body (Ok u) =
 abbrev pub WritesBlock : {W : Type 0} → (W → Option (List ℕ)) → PcapNgWriter W → PcapNgWriter W → Body → Result (Unit {0}) PcapError → Type 0
 WritesBlock contents old new body (Err errors.WriterFailed) = (has_failed old ≡ true) × (has_failed new ≡ true) × (place_of new ≡ place_of old) × Keeps (contents (stream_of old)) (contents (stream_of new))
 WritesBlock contents old new body result = (has_failed old ≡ false) × WritesGood contents old new body result
+
+-- before its first section a capture has no interface; the order is the first section's
+abbrev pub opening_place : Place
+opening_place = record { endianness = Little; interfaces = 0 }
+
+-- One call that makes a writer: this section header went out, or something stands against it, or memory ran out, or a write
+-- failed.
+abbrev pub OpensWriter : {W : Type 0} → (W → Option (List ℕ)) → Body → W → Result (PcapNgWriter W) PcapError → Type 0
+OpensWriter contents body writer (Err (errors.InvalidField message)) = (flaw : Unwritable) × (message.now ≡ flaw_message flaw) × BlockFlaw opening_place body flaw
+OpensWriter contents body writer (Err (errors.OutOfMemory e)) = Unit {0}
+OpensWriter contents body writer (Err (errors.IoError e)) = (order : Endianness) × IsWritable opening_place body order
+OpensWriter contents body writer (Err _) = ⊥
+OpensWriter contents body writer (Ok made) =
+    (has_failed made ≡ false) × TellsPlace opening_place (head_of body) (Ok (place_of made)) × IsFitIn (place_of made).endianness body
+    × Appends (contents writer) (contents (stream_of made)) (text_of (number_bytes (place_of made).endianness) body)

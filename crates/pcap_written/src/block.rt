@@ -4,8 +4,9 @@ ghost use Rattle.std.specs.Prelude.{◌≡◌, ◌<◌, ◌^◌, ◌++◌, OnOk}
 ghost use Rattle.pcap_blocks.specs.EnhancedPacket.{enhanced_of};
 ghost use Rattle.pcap_blocks.specs.InterfaceDescription.{interface_of};
 ghost use Rattle.pcap_blocks.specs.InterfaceStatistics.{statistics_of};
+ghost use Rattle.pcap_blocks.specs.NameResolution.{names_of};
 ghost use Rattle.pcap_blocks.specs.Packet.{packet_of};
-ghost use Rattle.pcap_blocks.specs.ParsedBlock.{Body, SectionBody, InterfaceBody, OldPacketBody, SimpleBody, StatisticsBody, EnhancedBody, JournalBody, OtherBody};
+ghost use Rattle.pcap_blocks.specs.ParsedBlock.{Body, SectionBody, InterfaceBody, OldPacketBody, SimpleBody, NamesBody, StatisticsBody, EnhancedBody, JournalBody, OtherBody, body_of};
 ghost use Rattle.pcap_blocks.specs.SectionHeader.{section_of};
 ghost use Rattle.pcap_blocks.specs.SimplePacket.{simple_of};
 ghost use Rattle.pcap_blocks.specs.SystemdJournalExport.{journal_of};
@@ -15,15 +16,17 @@ ghost use Rattle.pcap_written.specs.Fits.{IsFitBody};
 ghost use Rattle.pcap_written.specs.Flaws.{BodyFlaw, TellsLink};
 ghost use Rattle.pcap_written.specs.Puts.{Puts};
 
+use crate::names::put_records;
 use crate::options::put_options;
 use crate::put::{put_i64, put_padded, put_time, put_u16, put_u32};
 use crate::unwritable::{Unput, Unwritable};
 use byteorder::{BigEndian, ByteOrder};
 use pcap_blocks::{
     BlockType, EnhancedPacketBlock, EnhancedPacketOption, InterfaceDescriptionBlock,
-    InterfaceDescriptionOption, InterfaceStatisticsBlock, InterfaceStatisticsOption, PacketBlock,
-    PacketOption, SectionHeaderBlock, SectionHeaderOption, SimplePacketBlock,
-    SystemdJournalExportBlock, UnknownBlock,
+    InterfaceDescriptionOption, InterfaceStatisticsBlock, InterfaceStatisticsOption,
+    NameResolutionBlock, NameResolutionOption, PacketBlock, PacketOption, ParsedBlock,
+    SectionHeaderBlock, SectionHeaderOption, SimplePacketBlock, SystemdJournalExportBlock,
+    UnknownBlock,
 };
 use pcap_core::DataLink;
 use std::alloc::AllocError;
@@ -136,6 +139,21 @@ impl<'a> PcapNgBlock for SimplePacketBlock<'a> {
     }
 }
 
+impl<'a> PcapNgBlock for NameResolutionBlock<'a> {
+    ghost sees = { λ block. NamesBody (names_of block) };
+
+    fn head(&self) -> BlockHead {
+        BlockHead::of(BlockType::NameResolution)
+    }
+
+    fn put_body<B: ByteOrder>(&self, out: &mut Vec<u8>) -> Result<(), Unput> {
+        put_records::<B>(out, self.records.as_slice())?;
+        put_u16::<B>(out, 0)?;
+        put_u16::<B>(out, 0)?;
+        put_options::<NameResolutionOption, B>(out, self.options.as_slice())
+    }
+}
+
 impl<'a> PcapNgBlock for InterfaceStatisticsBlock<'a> {
     ghost sees = { λ block. StatisticsBody (statistics_of block) };
 
@@ -204,6 +222,38 @@ impl<'a> PcapNgBlock for UnknownBlock<'a> {
         }
         put_padded(out, self.value.as_slice())?;
         Ok(())
+    }
+}
+
+impl<'a> PcapNgBlock for ParsedBlock<'a> {
+    ghost sees = { body_of };
+
+    fn head(&self) -> BlockHead {
+        match self {
+            Self::SectionHeader(block) => block.head(),
+            Self::InterfaceDescription(block) => block.head(),
+            Self::Packet(block) => block.head(),
+            Self::SimplePacket(block) => block.head(),
+            Self::NameResolution(block) => block.head(),
+            Self::InterfaceStatistics(block) => block.head(),
+            Self::EnhancedPacket(block) => block.head(),
+            Self::SystemdJournalExport(block) => block.head(),
+            Self::Unknown(block) => block.head(),
+        }
+    }
+
+    fn put_body<B: ByteOrder>(&self, out: &mut Vec<u8>) -> Result<(), Unput> {
+        match self {
+            Self::SectionHeader(block) => block.put_body::<B>(out),
+            Self::InterfaceDescription(block) => block.put_body::<B>(out),
+            Self::Packet(block) => block.put_body::<B>(out),
+            Self::SimplePacket(block) => block.put_body::<B>(out),
+            Self::NameResolution(block) => block.put_body::<B>(out),
+            Self::InterfaceStatistics(block) => block.put_body::<B>(out),
+            Self::EnhancedPacket(block) => block.put_body::<B>(out),
+            Self::SystemdJournalExport(block) => block.put_body::<B>(out),
+            Self::Unknown(block) => block.put_body::<B>(out),
+        }
     }
 }
 

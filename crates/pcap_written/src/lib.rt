@@ -5,6 +5,7 @@ mod block;
 mod form;
 mod kinds;
 pub mod laws;
+mod names;
 mod options;
 mod place;
 mod put;

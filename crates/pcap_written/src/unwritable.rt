@@ -25,6 +25,18 @@ pub enum Unwritable {
     LinkTooLarge,
     /// An unknown link type has the number of a known one.
     LinkMisnamed,
+    /// The end of the records stands among them.
+    EndMisplaced,
+    /// An address has another number of bytes than its record's type.
+    AddressLengthDiffers,
+    /// A name has a zero byte, which ends it.
+    NameWithZero,
+    /// A record's value has 65536 bytes or more.
+    RecordTooLong,
+    /// An unknown record has the type of a known one.
+    RecordMisnamed,
+    /// An unknown record states another length than its value has.
+    RecordLengthDiffers,
     /// An unknown block has the type number of a known one.
     TypeMisnamed,
     /// An unknown block states another length than its bytes have.
@@ -50,6 +62,12 @@ impl Unwritable {
             Unwritable::CapturedLengthDiffers => "EnhancedPacketBlock: captured_len != data.len()",
             Unwritable::LinkTooLarge => "InterfaceDescriptionBlock: linktype > 65535",
             Unwritable::LinkMisnamed => "InterfaceDescriptionBlock: linktype has a name",
+            Unwritable::EndMisplaced => "NameResolutionBlock: nrb_record_end among the records",
+            Unwritable::AddressLengthDiffers => "NameResolutionBlock: address of another length",
+            Unwritable::NameWithZero => "NameResolutionBlock: name with a zero byte",
+            Unwritable::RecordTooLong => "NameResolutionBlock: Record length > 65535",
+            Unwritable::RecordMisnamed => "UnknownRecord: type has a name",
+            Unwritable::RecordLengthDiffers => "UnknownRecord: length != value.len()",
             Unwritable::TypeMisnamed => "UnknownBlock: type has a name",
             Unwritable::BlockLengthDiffers => "UnknownBlock: length != value.len()",
             Unwritable::BlockTooLong => "Block: length > 0xFFFFFFFF",

@@ -1,18 +1,27 @@
 //! A writer of blocks.
 
 ghost use Rattle.std.specs.Prelude.{◌≡◌, []};
+ghost use Rattle.std.specs.Borrow.{sem, Lends};
+ghost use Rattle.pcap_core.specs.declared.common.Endianness.TheVariants.{Little};
+ghost use Rattle.pcap_blocks.specs.ParsedBlock.{SectionBody, body_of};
+ghost use Rattle.pcap_blocks.specs.SectionHeader.{section_of};
+ghost use Rattle.pcap_written.specs.contracts.writer.PcapNgWriter.{the_row as writer-row};
+ghost use Rattle.pcap_written.specs.LentStreams.{writer_with};
+ghost use Rattle.pcap_written.specs.Plain.{plain_section};
 ghost use Rattle.pcap_written.specs.Bodies.{text_of};
 ghost use Rattle.pcap_core.specs.Codec.{number_bytes};
 ghost use Rattle.pcap_written.specs.Puts.{Puts};
-ghost use Rattle.pcap_written.specs.Writing.{stream_of, has_failed, place_of, IsFitBlock, FitFlaw, IsFitIn, FlawIn, WritesBlock};
+ghost use Rattle.pcap_written.specs.Writing.{stream_of, has_failed, place_of, IsFitBlock, FitFlaw, IsFitIn, FlawIn, OpensWriter, WritesBlock};
 
 use crate::block::{PcapNgBlock, type_number};
 use crate::place::Place;
 use crate::put::put_u32;
 use crate::unwritable::{Unput, Unwritable};
 use byteorder::{BigEndian, ByteOrder, LittleEndian};
+use pcap_blocks::{ParsedBlock, SectionHeaderBlock};
 use pcap_core::stream::put;
 use pcap_core::{Endianness, PcapError, ResultParsing};
+use std::alloc::Global;
 use std::io::Write;
 
 /// Writes a capture of blocks into a writer: sections, their interfaces, and packets and what else they hold.
@@ -40,6 +49,14 @@ impl<W> PcapNgWriter<W> {
         &self.inner
     }
 
+    /// The wrapped writer. What is written to it directly is no part of this writer's capture.
+    pub fn get_mut(&mut self) -> &mut W
+        ensures value { result.now ≡ stream_of self.old }
+        ensures* writes_back { sem 𝓛 (Lends (writer-row W.row) W.row self.entry result (writer_with self.old)) }
+    {
+        &mut self.inner
+    }
+
     /// Whether a write failed. From then on every block is refused.
     pub fn failed(&self) -> bool
         ensures { result ≡ has_failed self.now }
@@ -62,7 +79,74 @@ impl<W> PcapNgWriter<W> {
     }
 }
 
+impl<W: Write + Drop> PcapNgWriter<W> {
+    /// Makes a writer, and writes the header of a section of little-endian numbers without options.
+    ///
+    /// It fails as `with_section_header` does.
+    pub fn new(alloc: Global, writer: W) -> ResultParsing<PcapNgWriter<W>>
+        ensures { OpensWriter W.contents (SectionBody (plain_section Little)) writer result }
+    {
+        PcapNgWriter::with_endianness(alloc, Endianness::Little, writer)
+    }
+
+    /// Makes a writer, and writes the header of a section of numbers in this order, without options. Its version is 1.0, and its
+    /// length is said not to be known.
+    ///
+    /// It fails as `with_section_header` does.
+    pub fn with_endianness(
+        alloc: Global,
+        endianness: Endianness,
+        writer: W,
+    ) -> ResultParsing<PcapNgWriter<W>>
+        ensures { OpensWriter W.contents (SectionBody (plain_section endianness)) writer result }
+    {
+        let section = SectionHeaderBlock {
+            magic: match endianness {
+                Endianness::Big => 0x1A2B3C4D,
+                Endianness::Little => 0x4D3C2B1A,
+            },
+            major_version: 1,
+            minor_version: 0,
+            section_length: -1,
+            options: Vec::new(alloc),
+        };
+        PcapNgWriter::with_section_header(alloc, &section, writer)
+    }
+
+    /// Makes a writer, and writes this section header in the order that its magic number names.
+    ///
+    /// `InvalidField` where the section has no text (see `Unwritable`), or `OutOfMemory`: nothing is written then. `IoError`
+    /// where a write failed: a beginning of the section header has gone out then.
+    pub fn with_section_header(
+        alloc: Global,
+        section: &SectionHeaderBlock<'_>,
+        writer: W,
+    ) -> ResultParsing<PcapNgWriter<W>>
+        ensures { OpensWriter W.contents (SectionBody (section_of section.now)) writer result }
+    {
+        let mut made = PcapNgWriter {
+            inner: writer,
+            has_failed: false,
+            place: Place {
+                endianness: Endianness::Little,
+                interfaces: 0,
+            },
+            body: Vec::new(alloc),
+            text: Vec::new(alloc),
+        };
+        made.write_pcapng_block(section)?;
+        Ok(made)
+    }
+}
+
 impl<W: Write> PcapNgWriter<W> {
+    /// Writes a block of any type, as `write_pcapng_block` does.
+    pub fn write_block(&mut self, block: &ParsedBlock<'_>) -> ResultParsing<()>
+        ensures { WritesBlock W.contents self.old self.new (body_of block.now) result }
+    {
+        self.write_pcapng_block(block)
+    }
+
     /// Writes a block. A section header begins a section of its own order and with no interface; each other block is written in
     /// the order of the section.
     ///
