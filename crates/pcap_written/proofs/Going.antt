@@ -8,7 +8,7 @@ use Rattle.pcap_written.specs.declared.place.Place.{Place}
 use Rattle.pcap_written.specs.declared.writer.PcapNgWriter.{PcapNgWriter}
 use Rattle.pcap_written.specs.Bodies.{text_of}
 use Rattle.pcap_written.specs.Capture.{AreWritten, IsWritten}
-use Rattle.pcap_written.specs.Writing.{WritesBlock, place_of, stream_of}
+use Rattle.pcap_written.specs.Writing.{OpensWriter, WritesBlock, opening_place, place_of, stream_of}
 
 -- one block more
 pub goes_on : (at mid end : Place) (bodies : List Body) (body : Body) (bytes text : List ℕ) → AreWritten at bodies bytes mid → IsWritten mid body text end → AreWritten at (bodies ++ body ∷ []) (bytes ++ text) end
@@ -22,3 +22,7 @@ goes_on at mid end (first ∷ bodies) body bytes text (behind, head, more, there
 pub good_call : (W : Type 0) (contents : W → Option (List ℕ)) (old new : PcapNgWriter W) (body : Body) (done : Unit {0}) → WritesBlock contents old new body (Ok done)
     → (text : List ℕ) × IsWritten (place_of old) body text (place_of new) × Appends (contents (stream_of old)) (contents (stream_of new)) text
 good_call W contents old new body done (good, (still, place, fit, out)) = (text_of (number_bytes (place_of new).endianness) body, record { place = place; fit = fit; text = refl }, out)
+
+pub good_opening : (W : Type 0) (contents : W → Option (List ℕ)) (writer : W) (made : PcapNgWriter W) (body : Body) → OpensWriter contents body writer (Ok made)
+    → (text : List ℕ) × IsWritten opening_place body text (place_of made) × Appends (contents writer) (contents (stream_of made)) text
+good_opening W contents writer made body (still, place, fit, out) = (text_of (number_bytes (place_of made).endianness) body, record { place = place; fit = fit; text = refl }, out)

@@ -12,7 +12,7 @@ ghost use Rattle.pcap_written.specs.Bodies.{body_text, magic_in, order_under, ty
 ghost use Rattle.pcap_written.specs.Capture.{AreWritten, IsWritten};
 ghost use Rattle.pcap_written.specs.Fits.{AreFit, IsFitOption, kept_body};
 ghost use Rattle.pcap_written.specs.Text.{list_text, option_text};
-ghost use Rattle.pcap_written.specs.Writing.{IsFitIn, WritesBlock, place_of, stream_of};
+ghost use Rattle.pcap_written.specs.Writing.{IsFitIn, OpensWriter, WritesBlock, opening_place, place_of, stream_of};
 ghost use Rattle.pcap_written.specs.declared.place.Place.{Place};
 ghost use Rattle.pcap_written.specs.declared.writer.PcapNgWriter.{PcapNgWriter};
 
@@ -46,4 +46,11 @@ pub fn written_blocks_go_on()
 pub fn good_calls_write_blocks<W>()
     ensures { (contents : W → Option (List ℕ)) (old new : PcapNgWriter W) (body : Body) (done : Unit {0}) → WritesBlock contents old new body (Ok done) →
         (text : List ℕ) × IsWritten (place_of old) body text (place_of new) × Appends (contents (stream_of old)) (contents (stream_of new)) text }
+{}
+
+/// What a call puts out that makes a writer is its section header, written before any other block, and the writer stands behind
+/// it.
+pub fn good_openings_write_sections<W>()
+    ensures { (contents : W → Option (List ℕ)) (writer : W) (made : PcapNgWriter W) (body : Body) → OpensWriter contents body writer (Ok made) →
+        (text : List ℕ) × IsWritten opening_place body text (place_of made) × Appends (contents writer) (contents (stream_of made)) text }
 {}
