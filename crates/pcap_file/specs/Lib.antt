@@ -15,3 +15,4 @@ pub mod StatedFrames
 pub mod Exact
 pub mod Pieces
 pub mod Copies
+pub mod Written

@@ -17,6 +17,13 @@ ghost use Rattle.pcap_file.specs.Opening.{OpeningSays};
 ghost use Rattle.pcap_file.specs.Pieces.{HoldsBlocks};
 ghost use Rattle.pcap_file.specs.Sections.{Leaves};
 ghost use Rattle.pcap_file.specs.State.{State, opening};
+ghost use Rattle.pcap_file.specs.Written.{IsBodyOf};
+ghost use Rattle.std.specs.List.{AllZip};
+ghost use Rattle.pcap_blocks.specs.ParsedBlock.{Body, SectionBody};
+ghost use Rattle.pcap_blocks.specs.SectionHeader.{Section};
+ghost use Rattle.pcap_written.specs.Capture.{AreWritten};
+ghost use Rattle.pcap_written.specs.Fits.{kept_body};
+ghost use Rattle.pcap_written.specs.declared.place.Place.{Place};
 
 /// Of each slice exactly one thing is said where a block in its frame is asked for: its text begins the slice, so many bytes
 /// are missing, or there is one fault.
@@ -109,4 +116,11 @@ pub fn accepted_capture_is_copied()
 pub fn copy_is_a_beginning()
     ensures { (bytes : List ℕ) (now out out_now : Option (List ℕ)) (most : ℕ) (copied : NgCopied) →
         CopyNgRun (Some bytes) now out out_now most copied → (gone rest : List ℕ) × (bytes ≡ gone ++ rest) × Appends out out_now gone }
+{}
+
+/// Blocks that are written one after the other, the first of them a section header, are in front of their bytes as a capture,
+/// with the bodies that were written, and nothing behind them. Where bytes are the rest of a block, they are read with the padding.
+pub fn written_capture_is_read()
+    ensures { (at end : Place) (section : Section) (bodies : List Body) (bytes : List ℕ) → AreWritten at (SectionBody section ∷ bodies) bytes end →
+        (items : List Item) × Front block_format opening items bytes [] × AllZip IsBodyOf items (map kept_body (SectionBody section ∷ bodies)) }
 {}

@@ -2,3 +2,8 @@ pub mod Forms
 pub mod Lists
 pub mod Puts
 pub mod Packets
+pub mod OptionsAgain
+pub mod NamesAgain
+pub mod BodiesAgain
+pub mod Aligned
+pub mod Going

@@ -3,6 +3,7 @@ use Rattle.std.specs.Prelude.{◌≡◌, ◌≢◌, ◌≤◌, ◌<◌, ◌+◌,
 use Rattle.std.specs.Int.{w64}
 use Rattle.pcap_core.specs.Answer.{Order}
 use Rattle.pcap_core.specs.Link.{link_number, IsPlain}
+use Rattle.pcap_blocks.specs.declared.block_type.BlockType.TheVariants as types
 use Rattle.pcap_blocks.specs.BlockType.{block_type, type_number}
 use Rattle.pcap_blocks.specs.Values.{Entry, Kind, shape_at, string_at, value_of}
 use Rattle.pcap_blocks.specs.StoredPacket.{Stored}
@@ -11,7 +12,6 @@ use Rattle.pcap_blocks.specs.InterfaceDescription.{Interface, interface_descript
 use Rattle.pcap_blocks.specs.InterfaceStatistics.{Statistics, interface_statistics}
 use Rattle.pcap_blocks.specs.EnhancedPacket.{Enhanced, enhanced_packet}
 use Rattle.pcap_blocks.specs.Packet.{PacketBody, packet_kind}
-use Rattle.pcap_blocks.specs.SimplePacket.{Simple}
 use Rattle.pcap_blocks.specs.Names.{HasNoZero}
 use Rattle.pcap_blocks.specs.Record.{Address, NameRecord, End, Ipv4, Ipv6, Other, form_of, any_value}
 use Rattle.pcap_blocks.specs.NameResolution.{Resolution, name_resolution}
@@ -107,7 +107,7 @@ pub record IsFitResolution (order : Order) (write : Encoder) (b : Resolution) : 
 -- a block of an unknown type: its number has no name, and the length is that of its bytes
 pub record IsFitUnknown (u : UnknownBody) : Type 0 where
   pub number : type_number u.type_ < 2 ^ 32
-  pub unnamed : block_type (type_number u.type_) ≡ u.type_
+  pub unnamed : block_type (type_number u.type_) ≡ types.Unknown (type_number u.type_)
   pub whole : u.len ≡ length u.bytes
 
 -- a body

@@ -6,6 +6,7 @@ use Rattle.pcap_core.specs.declared.rules.Rule.TheVariants.{Ipv4RecordTooShort, 
 use Rattle.pcap_core.specs.Faults.{Invalid, rule_message}
 use Rattle.pcap_core.specs.declared.link.DataLink.{DataLink}
 use Rattle.pcap_core.specs.Link.{link_number, IsPlain}
+use Rattle.pcap_blocks.specs.declared.block_type.BlockType.TheVariants as types
 use Rattle.pcap_blocks.specs.BlockType.{block_type, type_number}
 use Rattle.pcap_blocks.specs.Values.{Value, Str, Bytes, Integer, CustomStr, CustomBytes, Unknown, Entry, Shape, string, bytes, some_bytes, fixed_bytes, byte, number, first_number, first_time, custom_string, custom_bytes, unknown, Kind, shape_at, value_of}
 use Rattle.pcap_blocks.specs.StoredPacket.{Stored}
@@ -120,7 +121,7 @@ ResolutionFlaw order write b flaw = Any (RecordFlaw flaw) b.records ⊎ ListFlaw
 
 -- what stands against a block of an unknown type
 abbrev pub UnknownFlaw : UnknownBody → Unwritable → Type 0
-UnknownFlaw u flaws.TypeMisnamed = block_type (type_number u.type_) ≢ u.type_
+UnknownFlaw u flaws.TypeMisnamed = block_type (type_number u.type_) ≢ types.Unknown (type_number u.type_)
 UnknownFlaw u flaws.BlockLengthDiffers = u.len ≢ length u.bytes
 UnknownFlaw u _ = ⊥
 

@@ -213,7 +213,8 @@ impl<'a> PcapNgBlock for UnknownBlock<'a> {
     }
 
     fn put_body<B: ByteOrder>(&self, out: &mut Vec<u8>) -> Result<(), Unput> {
-        if BlockType::from(u32::from(self.type_)) != self.type_ {
+        let number = u32::from(self.type_);
+        if BlockType::from(number) != BlockType::Unknown(number) {
             return Err(Unput::Unfit(Unwritable::TypeMisnamed));
         }
         if self.value.as_slice().len() != self.length as usize {

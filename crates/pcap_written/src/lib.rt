@@ -4,6 +4,7 @@
 mod block;
 mod form;
 mod kinds;
+pub mod laws;
 mod names;
 mod options;
 mod packet;
