@@ -87,16 +87,15 @@ refused_here contents w body flaw good kept stands _ is = absurd is
 pub went_out : {W : Type 0} (contents : W → Option (List ℕ)) (old new : PcapNgWriter W) (body : Body) → has_failed old ≡ false → place_of new ≡ place_of old → TellsPlace (place_of old) (head_of body) (Ok (place_of old)) → IsFitIn (place_of old).endianness body
     → (result : Result (Unit {0}) PcapError) → WritesAll (contents (stream_of old)) (contents (stream_of new)) (text_of (number_bytes (place_of old).endianness) body) result
     → MatchResult result (λ _. has_failed new ≡ has_failed old) (λ _. has_failed new ≡ true) → WritesBlock contents old new body result
-went_out contents old new body good same placed fit (Ok u) out told =
-    (
-      good,
-      (
-        told ∙ good,
-        subst (λ (p : Place). TellsPlace (place_of old) (head_of body) (Ok p)) (sym same) placed,
-        subst (λ (p : Place). IsFitIn p.endianness body) (sym same) fit,
-        subst (λ (p : Place). Appends (contents (stream_of old)) (contents (stream_of new)) (text_of (number_bytes p.endianness) body)) (sym same) out,
-      ),
-    )
+went_out contents old new body good same placed fit (Ok u) out told = (
+  good,
+  (
+    told ∙ good,
+    subst (λ (p : Place). TellsPlace (place_of old) (head_of body) (Ok p)) (sym same) placed,
+    subst (λ (p : Place). IsFitIn p.endianness body) (sym same) fit,
+    subst (λ (p : Place). Appends (contents (stream_of old)) (contents (stream_of new)) (text_of (number_bytes p.endianness) body)) (sym same) out,
+  ),
+)
 went_out contents old new body good same placed fit (Err (errors.IoError e)) out told = (good, (told, same, ((place_of old).endianness, record { placed = placed.0; fit = fit }, out)))
 went_out contents old new body good same placed fit (Err _) out told = absurd out
 
