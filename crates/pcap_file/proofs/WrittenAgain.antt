@@ -16,13 +16,13 @@ use Rattle.pcap_core.proofs.Codec.{codec, number_again}
 use Rattle.pcap_core.proofs.Formats.{nothing_no_text}
 use Rattle.pcap_blocks.specs.declared.block_type.BlockType.{BlockType}
 use Rattle.pcap_blocks.specs.declared.block_type.BlockType.TheVariants as types
-use Rattle.pcap_blocks.specs.BlockType.{block_type}
+use Rattle.pcap_blocks.specs.BlockType.{block_type, type_number}
 use Rattle.pcap_blocks.specs.InterfaceDescription.{Interface}
 use Rattle.pcap_blocks.specs.SectionHeader.{Section, magic_order}
 use Rattle.pcap_blocks.specs.UnknownBlock.{UnknownBody}
 use Rattle.pcap_blocks.specs.ParsedBlock.{Body, SectionBody, InterfaceBody, OldPacketBody, SimpleBody, NamesBody, StatisticsBody, EnhancedBody, JournalBody, OtherBody}
 use Rattle.pcap_written.specs.declared.place.Place.{Place}
-use Rattle.pcap_written.specs.Bodies.{after_magic_text, body_text, head_of, magic_in, order_under, section_text, text_of, type_number, type_of, block_text}
+use Rattle.pcap_written.specs.Bodies.{after_magic_text, body_text, head_of, magic_in, order_under, section_text, text_of, type_of, block_text}
 use Rattle.pcap_written.specs.Capture.{AreWritten, IsWritten}
 use Rattle.pcap_written.specs.Fits.{IsFitUnknown, kept_body}
 use Rattle.pcap_written.specs.Writing.{IsFitIn}

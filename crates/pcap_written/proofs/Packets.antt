@@ -1,12 +1,11 @@
 -- Packets that are written without memory.
-use Rattle.std.proofs.Common.{◌≡◌, ℕ, ◌<◌, ◌≤◌, ◌+◌, ◌-◌, ◌*◌, ◌/◌, ◌%◌, ◌^◌, List, [], ◌∷◌, ◌++◌, length, take, drop, refl, sym, ap, subst, ◌∙◌, append_assoc, append-nil, length-append, arith, zero, suc, Option, Some, None, Result, Ok, Err, inl, inr}
+use Rattle.std.proofs.Common.{◌≡◌, ℕ, ◌<◌, ◌≤◌, ◌+◌, ◌-◌, ◌/◌, ◌%◌, ◌^◌, List, [], ◌∷◌, ◌++◌, length, take, drop, refl, sym, subst, ◌∙◌, append_assoc, append-nil, length-append, arith, zero, suc, Option, Result, Ok, Err}
 use Rattle.std.specs.Prelude.{false, true, MatchResult}
 use Rattle.std.proofs.lemmas.List.{length-take-le}
 use Rattle.std.proofs.lemmas.Option.{same_Some}
 use Rattle.pcap_core.specs.declared.common.Endianness.{Endianness}
 use Rattle.pcap_core.specs.declared.errors.PcapError.{PcapError}
 use Rattle.pcap_core.specs.declared.errors.PcapError.TheVariants as errors
-use Rattle.pcap_core.specs.Answer.{Order, number_in}
 use Rattle.pcap_core.specs.Codec.{Encoder, number_bytes}
 use Rattle.pcap_core.specs.Padded.{up_to_4}
 use Rattle.pcap_core.proofs.Codec.{codec}
@@ -15,15 +14,14 @@ use Rattle.pcap_core.proofs.Writing.{first_fails, second_ends}
 use Rattle.std.specs.Io.KnownBytes.{Appends}
 use Rattle.pcap_blocks.specs.ParsedBlock.{Body, EnhancedBody}
 use Rattle.pcap_written.specs.declared.unwritable.Unwritable.{Unwritable}
-use Rattle.pcap_written.specs.declared.unwritable.Unwritable.TheVariants as flaws
 use Rattle.pcap_written.specs.declared.unwritable.Unput.TheVariants.{Unfit}
 use Rattle.pcap_written.specs.declared.place.Place.{Place}
 use Rattle.pcap_written.specs.declared.writer.PcapNgWriter.{PcapNgWriter}
 use Rattle.pcap_written.specs.Text.{padding}
-use Rattle.pcap_written.specs.Bodies.{body_text, enhanced_text, head_of, text_of}
+use Rattle.pcap_written.specs.Bodies.{enhanced_text, head_of, text_of}
 use Rattle.pcap_written.specs.Plain.{plain_head, plain_packet}
 use Rattle.pcap_written.specs.Puts.{IsShownAs}
-use Rattle.pcap_written.specs.Writing.{BlockFlaw, FlawIn, IsFitIn, IsKept, IsPlaced, TellsPlace, WritesBlock, has_failed, place_of, stream_of}
+use Rattle.pcap_written.specs.Writing.{BlockFlaw, IsFitIn, IsKept, TellsPlace, WritesBlock, has_failed, place_of, stream_of}
 
 -- of three zero bytes as many are left as the padding has
 pub tail_left : (m : ℕ) (w : List ℕ) → m ≤ 3 → drop (3 - m) (0 ∷ 0 ∷ 0 ∷ w) ≡ take m (0 ∷ 0 ∷ 0 ∷ []) ++ w

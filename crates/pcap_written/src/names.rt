@@ -34,11 +34,11 @@ pub(crate) fn put_records<B: ByteOrder>(
 }
 
 // Puts a record.
-fn put_record<B: ByteOrder>(out: &mut Vec<u8>, record: &Record<'_>) -> Result<(), Unput>
-    ensures { let r = name_record_of record.now in
+fn put_record<B: ByteOrder>(out: &mut Vec<u8>, entry: &Record<'_>) -> Result<(), Unput>
+    ensures { let r = name_record_of entry.now in
         Puts (IsFitRecord r) (λ flaw. RecordFlaw flaw r) (record_text B.bytes_of r) out.old.items out.new.items result }
 {
-    match record {
+    match entry {
         Record::End => Err(Unput::Unfit(Unwritable::EndMisplaced)),
         Record::Ipv4(it) => put_address::<B>(
             out,
@@ -144,19 +144,19 @@ fn put_names(out: &mut Vec<u8>, names: &[CowStr<'_>]) -> Result<(), AllocError>
 }
 
 // Puts a record of a type that has no name.
-fn put_other<B: ByteOrder>(out: &mut Vec<u8>, record: &UnknownRecord<'_>) -> Result<(), Unput>
-    ensures { let r = other_of record.now in
+fn put_other<B: ByteOrder>(out: &mut Vec<u8>, other: &UnknownRecord<'_>) -> Result<(), Unput>
+    ensures { let r = other_of other.now in
         Puts (IsFitRecord r) (λ flaw. RecordFlaw flaw r) (record_text B.bytes_of r) out.old.items out.new.items result }
 {
-    if record.type_ <= 2 {
+    if other.type_ <= 2 {
         return Err(Unput::Unfit(Unwritable::RecordMisnamed));
     }
-    let value = record.value.as_slice();
-    if value.len() != record.length as usize {
+    let value = other.value.as_slice();
+    if value.len() != other.length as usize {
         return Err(Unput::Unfit(Unwritable::RecordLengthDiffers));
     }
-    put_u16::<B>(out, record.type_)?;
-    put_u16::<B>(out, record.length)?;
+    put_u16::<B>(out, other.type_)?;
+    put_u16::<B>(out, other.length)?;
     put_padded(out, value)?;
     Ok(())
 }

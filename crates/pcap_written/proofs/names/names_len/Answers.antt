@@ -1,4 +1,4 @@
-use Rattle.std.proofs.Common.{◌≡◌, ◌+◌, ◌∙◌, [], ap, arith, length, length-append, map, refl, subst, sym, take, ◌∷◌}
+use Rattle.std.proofs.Common.{◌∙◌, [], ap, arith, length, length-append, map, refl, subst, take, ◌∷◌}
 use Rattle.std.specs.Prelude.{IsUtf8, List, ℕ}
 use Rattle.std.specs.Cow.{cow_str_bytes}
 use Rattle.std.specs.List.{flat_map}

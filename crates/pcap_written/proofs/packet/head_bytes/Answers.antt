@@ -1,4 +1,4 @@
-use Rattle.std.proofs.Common.{◌≡◌, ◌++◌, ◌+◌, ◌≤◌, ℕ, List, ap, append-nil, append_assoc, arith, drop, length, [], length-append, refl, sym, take, ◌∙◌}
+use Rattle.std.proofs.Common.{◌≡◌, ◌++◌, ℕ, List, ap, append-nil, append_assoc, arith, drop, length, [], length-append, refl, sym, take, ◌∙◌}
 use Rattle.std.proofs.lemmas.List.{drop_all, length-take}
 use borrow.Rule.Slice.PartMut.{put_mid}
 use Rattle.pcap_core.proofs.Filling.{filled_first, filled_next, filled_whole}

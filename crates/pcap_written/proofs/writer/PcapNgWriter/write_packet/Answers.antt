@@ -1,4 +1,4 @@
-use Rattle.std.proofs.Common.{◌≡◌, ◌+◌, ◌<◌, ◌≤◌, ◌^◌, ℕ, arith, inl, inr, length, refl, rules, subst, sym}
+use Rattle.std.proofs.Common.{arith, inl, inr, refl, rules, subst, sym}
 use Rattle.pcap_core.specs.declared.common.Endianness.{Endianness}
 use Rattle.pcap_core.specs.Writing.{WritesAll}
 use Rattle.pcap_core.specs.Codec.{number_bytes}
