@@ -1,5 +1,5 @@
 -- The text of a body has whole groups of four bytes.
-use Rattle.std.proofs.Common.{◌≡◌, ℕ, ◌+◌, ◌*◌, ◌/◌, ◌%◌, ◌^◌, List, [], ◌∷◌, ◌++◌, length, refl, ap, length-append, arith}
+use Rattle.std.proofs.Common.{◌≡◌, ℕ, ◌/◌, ◌%◌, ◌^◌, List, [], ◌∷◌, ◌++◌, length, refl, ap, length-append, arith}
 use Rattle.std.specs.Int.{w64, cast_unsigned}
 use Rattle.std.specs.List.{flat_map}
 use Rattle.std.proofs.lemmas.List.Concat.{flat_map-cons}
@@ -57,7 +57,8 @@ module _ (write : Encoder) (wide : (w n : ℕ) → length (write w n) ≡ w) whe
 
   head_aligned : (time captured original : ℕ) → length (packet_head_text write time captured original) % 4 ≡ 0
   head_aligned time captured original =
-      both_aligned (time_bytes write time) (write 4 captured ++ write 4 original) (time_aligned time) (both_aligned (write 4 captured) (write 4 original) (word_aligned captured) (word_aligned original))
+      both_aligned (time_bytes write time) (write 4 captured ++ write 4 original) (time_aligned time)
+      (both_aligned (write 4 captured) (write 4 original) (word_aligned captured) (word_aligned original))
 
   stored_aligned : (kind : Kind) (p : Stored) → length (stored_text write kind p) % 4 ≡ 0
   stored_aligned kind p =
