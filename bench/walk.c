@@ -1,7 +1,7 @@
 /* walk CALL PASSES < CAPTURE: takes each packet of a capture by the library's C header, so many times over, and prints a sum: of
  * a classic capture that of their nanoseconds and stored bytes, as `measured_calls next_packet` does, and of a PcapNg one that
- * of their units of time and stored bytes. CALL is take_packet or take_ng_packet for one in a call, or take_packets or
- * take_ng_packets for 256. */
+ * of their units of time and stored bytes. CALL is take_packet or take_ng_packet for one in a call, take_packets or
+ * take_ng_packets for 256, or push_next for one in a call of a capture that comes in pieces of 64 KiB. */
 #include "pcapfile.h"
 
 #include <inttypes.h>
@@ -9,7 +9,7 @@
 #include <stdlib.h>
 #include <string.h>
 
-enum { BATCH = 256 };
+enum { BATCH = 256, PIECE = 1 << 16 };
 
 static int32_t add_batches(pcapfile_bytes left, uint64_t *sum) {
     static pcapfile_packet packets[BATCH];
@@ -34,6 +34,26 @@ static int32_t add_packets(pcapfile_bytes left, uint64_t *sum) {
         if ((status = pcapfile_take_packet(&header, &left, &packet, &error)) == PCAPFILE_OK)
             *sum += packet.ts_nsec + packet.bytes.len;
     return status;
+}
+
+static int32_t add_pieces(pcapfile_bytes left, uint64_t *sum) {
+    static uint8_t room[1 << 19];
+    pcapfile_push push = PCAPFILE_PUSH_INIT;
+    pcapfile_packet packet = PCAPFILE_PACKET_INIT;
+    pcapfile_error error = PCAPFILE_ERROR_INIT;
+    int32_t status;
+    for (;;) {
+        while ((status = pcapfile_push_next(&push, room, sizeof room, &packet, &error)) == PCAPFILE_OK)
+            *sum += packet.ts_nsec + packet.bytes.len;
+        if (status != PCAPFILE_INCOMPLETE || left.len == 0) break;
+        pcapfile_push_space(&push, room, sizeof room, error.missing, &error);
+        size_t count = sizeof room - push.end < PIECE ? sizeof room - push.end : PIECE;
+        if (count > left.len) count = left.len;
+        memcpy(room + push.end, left.ptr, count);
+        left = (pcapfile_bytes){ left.ptr + count, left.len - count };
+        pcapfile_push_put(&push, room, sizeof room, count);
+    }
+    return status == PCAPFILE_INCOMPLETE && push.begin == push.end ? PCAPFILE_OK : status;
 }
 
 static int32_t add_ng_packets(pcapfile_bytes left, uint64_t *sum) {
@@ -71,6 +91,7 @@ static const struct {
 } calls[] = {
     { "take_packet", add_packets },
     { "take_packets", add_batches },
+    { "push_next", add_pieces },
     { "take_ng_packet", add_ng_packets },
     { "take_ng_packets", add_ng_batches },
 };

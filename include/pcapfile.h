@@ -1,5 +1,5 @@
-/* pcapfile.h: reads packet captures that lie in memory, pcap and PcapNg, by a proved parser, and writes pcap there. MIT
- * licence.
+/* pcapfile.h: reads packet captures that lie in memory, pcap and PcapNg, and pcap that comes in pieces, by a proved parser,
+ * and writes pcap there. MIT licence.
  *
  * For all bytes the calls return, and read and write nothing but what they are given. They keep nothing between calls, and
  * may be called from any thread. Those of PcapNg take memory by malloc where a block has options or names, and give it back
@@ -8,11 +8,15 @@
  * What the proofs take from the caller, and nothing checks:
  *  - each pointer is aligned, not null, and points at a value of its type that no other pointer of the same call reaches;
  *  - `ptr` of a pcapfile_bytes is not null, even where `len` is 0 (PCAPFILE_NO_BYTES), `len` is below 2^63, all of these
- *    bytes can be read, and nobody changes them while a call runs;
- *  - a struct that a call fills has been given a value before, as PCAPFILE_PACKET_INIT;
+ *    bytes can be read, and nobody changes them while a call runs; so of `room` and `room_len`, and what a call may write there
+ *    can be written;
+ *  - a struct that a call fills has been given a value before, as PCAPFILE_PACKET_INIT; bytes that it still shows of an earlier
+ *    call are not read;
  *  - malloc, realloc and free are those of one allocator, which aligns blocks as C's does; and the calls of PcapNg are made
  *    neither in a signal handler nor in the forked child of a process with threads.
- * Bytes that a call lends lie in the capture: they are valid as long as the capture is.
+ * Bytes that a call lends lie in the capture: they are valid as long as the capture is. Those of pcapfile_push_next lie in the
+ * room that it was given: they are valid until pcapfile_push_space is called with that room, or until the caller writes over
+ * them or frees it.
  */
 #ifndef PCAPFILE_H
 #define PCAPFILE_H
@@ -24,7 +28,7 @@
 extern "C" {
 #endif
 
-/* What a call answers: 0, the number of an error in docs/REFUSALS.md, or 8, which is none. */
+/* What a call answers: 0, the number of an error in docs/REFUSALS.md, or a number from 8 on, which is none. */
 enum pcapfile_status {
     PCAPFILE_OK = 0,
     PCAPFILE_INCOMPLETE = 1, /* a beginning of it stands there: error.missing bytes are missing after it, at least */
@@ -32,7 +36,9 @@ enum pcapfile_status {
     PCAPFILE_INVALID = 3,    /* the bytes break the rule error.rule, and more bytes change nothing */
     PCAPFILE_NOT_UTF8 = 4,   /* of PcapNg: a string in the block is not UTF-8 */
     PCAPFILE_NO_MEMORY = 6,  /* of PcapNg: memory was refused */
-    PCAPFILE_NOTHING = 8     /* no error: what the call is asked for is not there */
+    PCAPFILE_NOTHING = 8,    /* no error: what the call is asked for is not there */
+    PCAPFILE_NO_ROOM = 9,    /* no error: the room has to be error.missing bytes longer */
+    PCAPFILE_BAD_CALL = 10   /* a pcapfile_push, or the bytes that were put, do not fit the room: nothing was done */
 };
 
 /* error.rule under PCAPFILE_INVALID: the first rule that the bytes break. pcapfile_rule_name and pcapfile_rule_text tell
@@ -91,10 +97,11 @@ typedef struct pcapfile_packet {
 
 #define PCAPFILE_PACKET_INIT { 0, 0, 0, PCAPFILE_NO_BYTES }
 
-/* Why a call was refused. Written where the status is neither PCAPFILE_OK nor PCAPFILE_NOTHING, and else left as it is. */
+/* Why a call was refused. Left as it is where the status is PCAPFILE_OK, PCAPFILE_NOTHING or PCAPFILE_BAD_CALL, and else
+ * written. */
 typedef struct pcapfile_error {
     uint32_t rule;  /* of PCAPFILE_INVALID; else 0 */
-    size_t missing; /* of PCAPFILE_INCOMPLETE: above 0; else 0 */
+    size_t missing; /* of PCAPFILE_INCOMPLETE and PCAPFILE_NO_ROOM: above 0; else 0 */
 } pcapfile_error;
 
 #define PCAPFILE_ERROR_INIT { 0, 0 }
@@ -131,6 +138,44 @@ int32_t pcapfile_write_header(const pcapfile_header *header, uint8_t *room, size
  * As pcapfile_write_header otherwise, and PCAPFILE_INVALID with rule 3 where there are 2^32 bytes or more. */
 int32_t pcapfile_write_packet(const pcapfile_header *header, const pcapfile_packet *packet, uint8_t *room,
                               size_t room_len, size_t *written, pcapfile_error *error);
+
+/* A pcap capture that comes in pieces lies in room of the caller's, which each call is given: what came and wasn't taken yet is
+ * held there. After
+ *
+ *     pcapfile_push push = PCAPFILE_PUSH_INIT;
+ *
+ * a walk calls pcapfile_push_next as long as it gives packets. Under PCAPFILE_INCOMPLETE it makes space for error.missing
+ * bytes at least, writes bytes from room + push.end on, and puts them; where no more come, the capture has ended, cleanly
+ * where push.header.magic_number is not 0 and push.begin is push.end, and else within a header or a packet. docs/C.md has the
+ * whole loop. However the bytes are cut, the packets are those of the capture as a whole, where the caller leaves
+ * room[push.begin] to room[push.end - 1] between two calls as they are. */
+
+/* What is kept of such a capture between two calls. */
+typedef struct pcapfile_push {
+    pcapfile_header header; /* of the capture; its magic_number is 0 until it was taken */
+    size_t begin;           /* bytes are held from room[begin] on, */
+    size_t end;             /* up to room[end - 1]; more are written from room + end on */
+} pcapfile_push;
+
+#define PCAPFILE_PUSH_INIT { PCAPFILE_HEADER_INIT, 0, 0 }
+
+/* Makes space for `wanted` more bytes behind those that are held: push->end + wanted is at most `room_len` then. Where they
+ * don't fit, what is held moves to the front of the room, and push->begin is 0.
+ * PCAPFILE_NO_ROOM where they don't fit then either: the next calls may be given a room that is error.missing bytes longer at
+ * least, with the same bytes up to push->end. PCAPFILE_BAD_CALL where not push->begin <= push->end <= room_len; then `push`
+ * and `room` are unchanged. */
+int32_t pcapfile_push_space(pcapfile_push *push, uint8_t *room, size_t room_len, size_t wanted, pcapfile_error *error);
+
+/* Holds `count` bytes more, which the caller has written from room + push->end on: push->end grows by `count`.
+ * PCAPFILE_BAD_CALL where they pass the room, or as above; then `push` is unchanged. */
+int32_t pcapfile_push_put(pcapfile_push *push, const uint8_t *room, size_t room_len, size_t count);
+
+/* Takes the next packet from the front of what is held, which begins after it then. The capture's header is taken before the
+ * first packet, and is push->header from then on; it counts as not taken where push->header.magic_number is none of the four.
+ * PCAPFILE_INCOMPLETE and PCAPFILE_INVALID as pcapfile_take_packet, or pcapfile_take_header, has them: then `packet` is
+ * unchanged, and nothing but a header was taken. PCAPFILE_BAD_CALL as above; then `push` and `packet` are unchanged. */
+int32_t pcapfile_push_next(pcapfile_push *push, const uint8_t *room, size_t room_len, pcapfile_packet *packet,
+                           pcapfile_error *error);
 
 /* Captures in PcapNg are walked block by block. What a program needs of interfaces it keeps itself:
  *

@@ -106,6 +106,67 @@ static void writes(void) {
     EXPECT(written == 99 && !memcmp(room, before, sizeof room));
 }
 
+/* The capture above in room for 32 bytes: 24 come, then 16, then 3. */
+static void pushes(void) {
+    uint8_t room[32];
+    pcapfile_push push = PCAPFILE_PUSH_INIT;
+    pcapfile_packet packet = PCAPFILE_PACKET_INIT;
+    pcapfile_error error = PCAPFILE_ERROR_INIT;
+    EXPECT(pcapfile_push_next(&push, room, sizeof room, &packet, &error) == PCAPFILE_INCOMPLETE && error.missing == 24);
+    EXPECT(pcapfile_push_space(&push, room, sizeof room, 24, &error) == PCAPFILE_OK && push.begin == 0 && push.end == 0);
+    memcpy(room, capture, 24);
+    EXPECT(pcapfile_push_put(&push, room, sizeof room, 24) == PCAPFILE_OK && push.begin == 0 && push.end == 24);
+    EXPECT(push.header.magic_number == 0);
+    EXPECT(pcapfile_push_next(&push, room, sizeof room, &packet, &error) == PCAPFILE_INCOMPLETE && error.missing == 16);
+    EXPECT(push.header.magic_number == 0xd4c3b2a1 && push.header.ts_correction == -2 && push.header.snaplen == 65535);
+    EXPECT(push.header.link == PCAPFILE_LINK_ETHERNET && push.begin == 24 && push.end == 24 && packet.ts_sec == 0);
+    EXPECT(pcapfile_push_space(&push, room, sizeof room, 8, &error) == PCAPFILE_OK && push.begin == 24 && push.end == 24);
+    EXPECT(pcapfile_push_space(&push, room, sizeof room, 16, &error) == PCAPFILE_OK && push.begin == 0 && push.end == 0);
+    memcpy(room, capture + 24, 16);
+    EXPECT(pcapfile_push_put(&push, room, sizeof room, 16) == PCAPFILE_OK && push.end == 16);
+    EXPECT(pcapfile_push_next(&push, room, sizeof room, &packet, &error) == PCAPFILE_INCOMPLETE && error.missing == 3);
+    EXPECT(push.begin == 0 && push.end == 16 && packet.ts_sec == 0);
+    memcpy(room + 16, capture + 40, 3);
+    EXPECT(pcapfile_push_put(&push, room, sizeof room, 3) == PCAPFILE_OK);
+    EXPECT(pcapfile_push_next(&push, room, sizeof room, &packet, &error) == PCAPFILE_OK);
+    EXPECT(packet.ts_sec == 7 && packet.ts_nsec == 8000 && packet.orig_len == 5);
+    EXPECT(packet.bytes.ptr == room + 16 && packet.bytes.len == 3 && push.begin == 19 && push.end == 19);
+    EXPECT(pcapfile_push_next(&push, room, sizeof room, &packet, &error) == PCAPFILE_INCOMPLETE && error.missing == 16);
+    EXPECT(pcapfile_push_space(&push, room, sizeof room, 40, &error) == PCAPFILE_NO_ROOM && error.missing == 8);
+    EXPECT(error.rule == 0 && push.begin == 0 && push.end == 0 && packet.ts_sec == 7);
+}
+
+/* What is refused, with what is held left as it is. */
+static void refused_pushes(void) {
+    uint8_t room[43], before[43];
+    pcapfile_push push = { PCAPFILE_HEADER_INIT, 2, 43 }, other = push;
+    pcapfile_packet packet = PCAPFILE_PACKET_INIT;
+    pcapfile_error error = { 9, 9 };
+    memcpy(room, capture, sizeof room);
+    memcpy(before, room, sizeof room);
+    EXPECT(pcapfile_push_next(&push, room, 42, &packet, &error) == PCAPFILE_BAD_CALL);
+    EXPECT(pcapfile_push_space(&push, room, 42, 0, &error) == PCAPFILE_BAD_CALL);
+    EXPECT(pcapfile_push_put(&push, room, 42, 0) == PCAPFILE_BAD_CALL);
+    EXPECT(pcapfile_push_put(&push, room, sizeof room, 1) == PCAPFILE_BAD_CALL);
+    EXPECT(pcapfile_push_put(&push, room, sizeof room, (size_t)-1) == PCAPFILE_BAD_CALL);
+    EXPECT(!memcmp(&push, &other, sizeof push) && error.rule == 9 && error.missing == 9);
+    EXPECT(pcapfile_push_next(&push, room, sizeof room, &packet, &error) == PCAPFILE_INVALID);
+    EXPECT(error.rule == PCAPFILE_RULE_CAPTURE_MAGIC && error.missing == 0 && !memcmp(&push, &other, sizeof push));
+    push.begin = 44;
+    EXPECT(pcapfile_push_next(&push, room, sizeof room, &packet, &error) == PCAPFILE_BAD_CALL);
+    EXPECT(pcapfile_push_space(&push, room, sizeof room, 0, &error) == PCAPFILE_BAD_CALL);
+    EXPECT(pcapfile_push_put(&push, room, sizeof room, 0) == PCAPFILE_BAD_CALL && push.begin == 44 && push.end == 43);
+    EXPECT(!memcmp(room, before, sizeof room));
+    push.begin = 0;
+    room[32] = 6;
+    EXPECT(pcapfile_push_next(&push, room, sizeof room, &packet, &error) == PCAPFILE_INVALID);
+    EXPECT(error.rule == PCAPFILE_RULE_INCLUDED_PAST_ORIGINAL && push.header.magic_number == 0xd4c3b2a1 && push.begin == 24);
+    EXPECT(pcapfile_push_next(&push, room, sizeof room, &packet, &error) == PCAPFILE_INVALID && push.begin == 24);
+    EXPECT(packet.orig_len == 0);
+    EXPECT(pcapfile_push_space(&push, room, sizeof room, (size_t)-1, &error) == PCAPFILE_NO_ROOM);
+    EXPECT(error.missing == (size_t)-1 - 24 && push.begin == 0 && push.end == 19 && room[8] == 6);
+}
+
 /* A little-endian section, an interface of link type 113 that counts nanoseconds and adds 2 seconds, and an enhanced packet of
  * three bytes, five on the wire, at 7 nanoseconds. */
 static const uint8_t blocks[] = {
@@ -249,6 +310,8 @@ int main(void) {
     packets();
     batches();
     writes();
+    pushes();
+    refused_pushes();
     first_blocks();
     bodies();
     ng_batches();

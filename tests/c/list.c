@@ -5,24 +5,11 @@
  *   list -f FILE         of every front of the file: its lines, and then its status
  *   list -t FILE         counts in batches, and prints packets and nanoseconds a packet, the best of ten rounds
  */
-#include "pcapfile.h"
+#include "lines.h"
 
-#include <inttypes.h>
-#include <stdio.h>
-#include <stdlib.h>
-#include <string.h>
 #include <time.h>
 
-enum { BATCH = 256, REFUSED = 1, USAGE = 2, ENDED_EARLY = 3, NO_FILE = 4 };
-
-static int status_of(int32_t status) {
-    return status == PCAPFILE_OK ? 0 : status == PCAPFILE_INCOMPLETE ? ENDED_EARLY : REFUSED;
-}
-
-static void print_packet(uint64_t index, const pcapfile_packet *packet) {
-    printf("%" PRIu64 " %" PRIu32 ".%09" PRIu32 " %zu/%" PRIu32 "\n", index, packet->ts_sec, packet->ts_nsec,
-           packet->bytes.len, packet->orig_len);
-}
+enum { BATCH = 256 };
 
 static int32_t list_one_by_one(pcapfile_bytes left, pcapfile_error *error) {
     pcapfile_header header = PCAPFILE_HEADER_INIT;
@@ -48,31 +35,6 @@ static int32_t list_in_batches(pcapfile_bytes left, pcapfile_error *error) {
         for (size_t i = 0; i < taken; i++) print_packet(++index, &packets[i]);
     }
     return status;
-}
-
-static int tell(int32_t status, const pcapfile_error *error) {
-    pcapfile_bytes name = PCAPFILE_NO_BYTES, text = PCAPFILE_NO_BYTES;
-    if (status == PCAPFILE_INCOMPLETE) fprintf(stderr, "list: %zu bytes are missing\n", error->missing);
-    if (status == PCAPFILE_INVALID) {
-        pcapfile_rule_name(error->rule, &name);
-        pcapfile_rule_text(error->rule, &text);
-        fprintf(stderr, "list: rule %" PRIu32 ", %.*s: %.*s\n", error->rule, (int)name.len, (const char *)name.ptr,
-                (int)text.len, (const char *)text.ptr);
-    }
-    return status_of(status);
-}
-
-/* Each front in a block of its own, so that a read past its end is seen. */
-static int list_fronts(pcapfile_bytes all, pcapfile_error *error) {
-    for (size_t len = 0; len <= all.len; len++) {
-        uint8_t *front = malloc(len > 0 ? len : 1);
-        if (!front) return NO_FILE;
-        memcpy(front, all.ptr, len);
-        int32_t status = list_one_by_one((pcapfile_bytes){ front, len }, error);
-        printf("status %d\n", status_of(status));
-        free(front);
-    }
-    return 0;
 }
 
 static int count(pcapfile_bytes all, pcapfile_error *error) {
@@ -101,17 +63,6 @@ static int count(pcapfile_bytes all, pcapfile_error *error) {
     return 0;
 }
 
-static pcapfile_bytes read_file(const char *name) {
-    size_t len = 0, room = 1 << 16, more;
-    uint8_t *bytes = malloc(room);
-    FILE *in = fopen(name, "rb");
-    if (!in) return (pcapfile_bytes){ NULL, 0 };
-    while (bytes && (more = fread(bytes + len, 1, room - len, in)) > 0)
-        if ((len += more) == room) bytes = realloc(bytes, room *= 2);
-    fclose(in);
-    return (pcapfile_bytes){ bytes, len };
-}
-
 int main(int argc, char **argv) {
     const char *way = argc == 3 ? argv[1] : "-p";
     pcapfile_error error = PCAPFILE_ERROR_INIT;
@@ -121,7 +72,7 @@ int main(int argc, char **argv) {
     int status = USAGE;
     if (!strcmp(way, "-p")) status = tell(list_one_by_one(all, &error), &error);
     if (!strcmp(way, "-b")) status = tell(list_in_batches(all, &error), &error);
-    if (!strcmp(way, "-f")) status = list_fronts(all, &error);
+    if (!strcmp(way, "-f")) status = list_fronts(list_one_by_one, all, &error);
     if (!strcmp(way, "-t")) status = count(all, &error);
     free((void *)(uintptr_t)all.ptr);
     return status;

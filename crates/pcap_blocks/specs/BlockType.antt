@@ -15,3 +15,15 @@ block_type n =
     else if n == 6 then types.EnhancedPacket
     else if n == 9 then types.SystemdJournalExport
     else types.Unknown n
+
+-- the number of a type
+abbrev pub type_number : BlockType → ℕ
+type_number types.SectionHeader = 0x0A0D0D0A
+type_number types.InterfaceDescription = 1
+type_number types.Packet = 2
+type_number types.SimplePacket = 3
+type_number types.NameResolution = 4
+type_number types.InterfaceStatistics = 5
+type_number types.EnhancedPacket = 6
+type_number types.SystemdJournalExport = 9
+type_number (types.Unknown n) = n

@@ -1,7 +1,7 @@
 //! The types of blocks.
 
 ghost use Rattle.std.specs.Prelude.{◌≡◌};
-ghost use Rattle.pcap_blocks.specs.BlockType.{block_type};
+ghost use Rattle.pcap_blocks.specs.BlockType.{block_type, type_number};
 
 /// The type of a block ('Block Types').
 #[derive(Clone, Copy, Debug, PartialEq, Eq)]
@@ -32,6 +32,24 @@ impl From<u32> for BlockType {
             6 => BlockType::EnhancedPacket,
             9 => BlockType::SystemdJournalExport,
             _ => BlockType::Unknown(src),
+        }
+    }
+}
+
+impl From<BlockType> for u32 {
+    ghost from_gives = { λ type n. n ≡ type_number type };
+
+    fn from(src: BlockType) -> u32 {
+        match src {
+            BlockType::SectionHeader => 0x0A0D0D0A,
+            BlockType::InterfaceDescription => 1,
+            BlockType::Packet => 2,
+            BlockType::SimplePacket => 3,
+            BlockType::NameResolution => 4,
+            BlockType::InterfaceStatistics => 5,
+            BlockType::EnhancedPacket => 6,
+            BlockType::SystemdJournalExport => 9,
+            BlockType::Unknown(n) => n,
         }
     }
 }

@@ -4,7 +4,7 @@ ghost use Rattle.std.specs.Prelude.{◌≡◌, [], ◌∷◌, ◌++◌, length, 
 ghost use Rattle.std.specs.Option.{option_map};
 ghost use Rattle.pcap_core.specs.Answer.{TellsAll};
 ghost use Rattle.pcap_blocks.specs.Refusal.{Finds, FindsWhere, FindsAll};
-ghost use Rattle.pcap_blocks.specs.Values.{Entry, Kind, Unknown, shape_at, custom_string, custom_bytes, EntrySays, value_bytes, integer_in};
+ghost use Rattle.pcap_blocks.specs.Values.{Entry, Kind, CustomBytes, CustomStr, Unknown, shape_at, custom_string, custom_bytes, EntrySays, value_bytes, integer_in};
 ghost use Rattle.pcap_blocks.specs.Options.{may_end_with_body, OptionSays, ListSays, OptionsMayGrow};
 ghost use Rattle.pcap_blocks.specs.CommonOptions.{unknown_entry, custom_bytes_entry, custom_string_entry, UnknownIsBorrowed, CustomBytesIsBorrowed, CustomStringIsBorrowed, UnknownIsOwned, CustomBytesIsOwned, CustomStringIsOwned};
 ghost use Rattle.pcap_core.specs.Errors.{IsMemory};
@@ -83,6 +83,18 @@ pub struct CustomBinaryOption<'a> {
 }
 
 impl<'a> CustomBinaryOption<'a> {
+    /// The option of this code, number of an enterprise and value.
+    pub fn new(code: u16, pen: u32, value: &'a [u8]) -> Self
+        ensures option { custom_bytes_entry result ≡ record { code = code; value = CustomBytes pen value.now } }
+        ensures borrowed { CustomBytesIsBorrowed result }
+    {
+        CustomBinaryOption {
+            code,
+            pen,
+            value: CowBytes::Borrowed(value),
+        }
+    }
+
     pub(crate) fn read<B: ByteOrder>(code: u16, src: &'a [u8]) -> Result<Self, Refusal>
         ensures tells { FindsAll (EntrySays B.number_of custom_bytes code src.now) custom_bytes_entry result }
         ensures borrowed { IfOk result CustomBytesIsBorrowed }
@@ -151,6 +163,18 @@ pub struct CustomUtf8Option<'a> {
 }
 
 impl<'a> CustomUtf8Option<'a> {
+    /// The option of this code, number of an enterprise and string.
+    pub fn new(code: u16, pen: u32, value: &'a str) -> Self
+        ensures option { custom_string_entry result ≡ record { code = code; value = CustomStr pen value.now } }
+        ensures borrowed { CustomStringIsBorrowed result }
+    {
+        CustomUtf8Option {
+            code,
+            pen,
+            value: CowStr::Borrowed(value),
+        }
+    }
+
     pub(crate) fn read<B: ByteOrder>(code: u16, src: &'a [u8]) -> Result<Self, Refusal>
         ensures tells { FindsAll (EntrySays B.number_of custom_string code src.now) custom_string_entry result }
         ensures borrowed { IfOk result CustomStringIsBorrowed }

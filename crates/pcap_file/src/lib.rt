@@ -1,4 +1,4 @@
-//! Captures in both formats: classic pcap, read and written, and PcapNg, read.
+//! Captures in both formats, read and written.
 #![tactic(auto)]
 
 pub mod laws;
@@ -9,4 +9,4 @@ pub use pcap_classic::pcap::{PcapParser, PcapReader, PcapWriter};
 pub use pcap_classic::{TsResolution, pcap};
 pub use pcap_core::rules::Rule;
 pub use pcap_core::{CowBytes, DataLink, Endianness, PcapError, ResultParsing};
-pub use pcapng::{PcapNgParser, PcapNgReader};
+pub use pcapng::{PcapNgParser, PcapNgReader, PcapNgWriter};

@@ -1,4 +1,4 @@
-//! PcapNg captures: blocks in their frames, a parser and a reader of them, and their bodies.
+//! PcapNg captures: blocks in their frames, a parser, a reader and a writer of them, and their bodies.
 
 mod block;
 mod block_header;
@@ -23,4 +23,5 @@ pub use pcap_blocks::{
     SystemdJournalExportBlock, TimeUnit, Timestamp, UnknownBlock, UnknownOption, UnknownRecord,
     str_from_u8_null_terminated,
 };
+pub use pcap_written::{PcapNgBlock, PcapNgWriter, Unwritable};
 pub use reader::PcapNgReader;

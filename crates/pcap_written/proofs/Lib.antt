@@ -1,6 +1,7 @@
 pub mod Forms
 pub mod Lists
 pub mod Puts
+pub mod Packets
 pub mod OptionsAgain
 pub mod NamesAgain
 pub mod BodiesAgain

@@ -7,6 +7,7 @@ use Rattle.pcap_core.specs.declared.common.Endianness.{Endianness}
 use Rattle.pcap_core.specs.Link.{link_number}
 use Rattle.pcap_blocks.specs.declared.block_type.BlockType.{BlockType}
 use Rattle.pcap_blocks.specs.declared.block_type.BlockType.TheVariants as types
+use Rattle.pcap_blocks.specs.BlockType.{type_number}
 use Rattle.pcap_blocks.specs.Values.{Kind}
 use Rattle.pcap_blocks.specs.StoredPacket.{Stored}
 use Rattle.pcap_blocks.specs.SectionHeader.{Section, section_header, magic_order}
@@ -88,18 +89,6 @@ body_text write (StatisticsBody s) = statistics_text write s
 body_text write (EnhancedBody x) = enhanced_text write x
 body_text write (JournalBody entry) = padded_bytes entry
 body_text write (OtherBody u) = padded_bytes u.bytes
-
--- the number of a type ('Block Types')
-abbrev pub type_number : BlockType → ℕ
-type_number types.SectionHeader = 0x0A0D0D0A
-type_number types.InterfaceDescription = 1
-type_number types.Packet = 2
-type_number types.SimplePacket = 3
-type_number types.NameResolution = 4
-type_number types.InterfaceStatistics = 5
-type_number types.EnhancedPacket = 6
-type_number types.SystemdJournalExport = 9
-type_number (types.Unknown n) = n
 
 -- the type of a block by its body
 abbrev pub type_of : Body → BlockType

@@ -4,7 +4,7 @@ use Rattle.std.specs.Int.{w64}
 use Rattle.pcap_core.specs.Answer.{Order}
 use Rattle.pcap_core.specs.Link.{link_number, IsPlain}
 use Rattle.pcap_blocks.specs.declared.block_type.BlockType.TheVariants as types
-use Rattle.pcap_blocks.specs.BlockType.{block_type}
+use Rattle.pcap_blocks.specs.BlockType.{block_type, type_number}
 use Rattle.pcap_blocks.specs.Values.{Entry, Kind, shape_at, string_at, value_of}
 use Rattle.pcap_blocks.specs.StoredPacket.{Stored}
 use Rattle.pcap_blocks.specs.SectionHeader.{Section, section_header}
@@ -19,7 +19,7 @@ use Rattle.pcap_blocks.specs.UnknownBlock.{UnknownBody}
 use Rattle.pcap_blocks.specs.ParsedBlock.{Body, SectionBody, InterfaceBody, OldPacketBody, SimpleBody, NamesBody, StatisticsBody, EnhancedBody, JournalBody, OtherBody}
 use Rattle.pcap_core.specs.Codec.{Encoder}
 use Rattle.pcap_written.specs.Text.{padded_bytes, option_value}
-use Rattle.pcap_written.specs.Bodies.{address_text, type_number}
+use Rattle.pcap_written.specs.Bodies.{address_text}
 
 -- an option: its value is the one that its code's row of the kind's table reads
 pub record IsFitOption (order : Order) (write : Encoder) (kind : Kind) (o : Entry) : Type 0 where

@@ -7,7 +7,7 @@ use Rattle.pcap_core.specs.Faults.{Invalid, rule_message}
 use Rattle.pcap_core.specs.declared.link.DataLink.{DataLink}
 use Rattle.pcap_core.specs.Link.{link_number, IsPlain}
 use Rattle.pcap_blocks.specs.declared.block_type.BlockType.TheVariants as types
-use Rattle.pcap_blocks.specs.BlockType.{block_type}
+use Rattle.pcap_blocks.specs.BlockType.{block_type, type_number}
 use Rattle.pcap_blocks.specs.Values.{Value, Str, Bytes, Integer, CustomStr, CustomBytes, Unknown, Entry, Shape, string, bytes, some_bytes, fixed_bytes, byte, number, first_number, first_time, custom_string, custom_bytes, unknown, Kind, shape_at, value_of}
 use Rattle.pcap_blocks.specs.StoredPacket.{Stored}
 use Rattle.pcap_blocks.specs.SectionHeader.{section_header}
@@ -24,7 +24,7 @@ use Rattle.pcap_written.specs.declared.unwritable.Unwritable.{Unwritable}
 use Rattle.pcap_written.specs.declared.unwritable.Unwritable.TheVariants as flaws
 use Rattle.pcap_core.specs.Codec.{Encoder}
 use Rattle.pcap_written.specs.Text.{option_value}
-use Rattle.pcap_written.specs.Bodies.{address_text, type_number}
+use Rattle.pcap_written.specs.Bodies.{address_text}
 
 -- the message that names a reason
 abbrev pub flaw_message : Unwritable → List ℕ

@@ -1,6 +1,6 @@
 //! Bodies of blocks.
 
-ghost use Rattle.std.specs.Prelude.{◌≡◌, ◌<◌, ◌^◌, ◌++◌, OnOk};
+ghost use Rattle.std.specs.Prelude.{◌≡◌, ◌++◌, OnOk};
 ghost use Rattle.pcap_blocks.specs.EnhancedPacket.{enhanced_of};
 ghost use Rattle.pcap_blocks.specs.InterfaceDescription.{interface_of};
 ghost use Rattle.pcap_blocks.specs.InterfaceStatistics.{statistics_of};
@@ -11,7 +11,7 @@ ghost use Rattle.pcap_blocks.specs.SectionHeader.{section_of};
 ghost use Rattle.pcap_blocks.specs.SimplePacket.{simple_of};
 ghost use Rattle.pcap_blocks.specs.SystemdJournalExport.{journal_of};
 ghost use Rattle.pcap_blocks.specs.UnknownBlock.{unknown_of};
-ghost use Rattle.pcap_written.specs.Bodies.{body_text, head_of, packet_head_text, type_number as number_of_type};
+ghost use Rattle.pcap_written.specs.Bodies.{body_text, head_of, packet_head_text};
 ghost use Rattle.pcap_written.specs.Fits.{IsFitBody};
 ghost use Rattle.pcap_written.specs.Flaws.{BodyFlaw, TellsLink};
 ghost use Rattle.pcap_written.specs.Puts.{Puts};
@@ -213,7 +213,7 @@ impl<'a> PcapNgBlock for UnknownBlock<'a> {
     }
 
     fn put_body<B: ByteOrder>(&self, out: &mut Vec<u8>) -> Result<(), Unput> {
-        let number = type_number(self.type_);
+        let number = u32::from(self.type_);
         if BlockType::from(number) != BlockType::Unknown(number) {
             return Err(Unput::Unfit(Unwritable::TypeMisnamed));
         }
@@ -283,22 +283,4 @@ fn link_number(link: DataLink) -> Result<u16, Unwritable>
         return Err(Unwritable::LinkMisnamed);
     }
     Ok(number as u16)
-}
-
-/// The number of a type.
-pub fn type_number(type_: BlockType) -> u32
-    ensures number { result ≡ number_of_type type_ }
-    ensures fits { result < 2 ^ 32 }
-{
-    match type_ {
-        BlockType::SectionHeader => 0x0A0D0D0A,
-        BlockType::InterfaceDescription => 1,
-        BlockType::Packet => 2,
-        BlockType::SimplePacket => 3,
-        BlockType::NameResolution => 4,
-        BlockType::InterfaceStatistics => 5,
-        BlockType::EnhancedPacket => 6,
-        BlockType::SystemdJournalExport => 9,
-        BlockType::Unknown(n) => n,
-    }
 }

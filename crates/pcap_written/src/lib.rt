@@ -7,12 +7,13 @@ mod kinds;
 pub mod laws;
 mod names;
 mod options;
+mod packet;
 mod place;
 mod put;
 mod unwritable;
 mod writer;
 
-pub use block::{BlockHead, PcapNgBlock, type_number};
+pub use block::{BlockHead, PcapNgBlock};
 pub use place::Place;
 pub use unwritable::{Unput, Unwritable};
 pub use writer::PcapNgWriter;

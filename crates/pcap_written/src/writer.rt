@@ -1,19 +1,21 @@
 //! A writer of blocks.
 
-ghost use Rattle.std.specs.Prelude.{◌≡◌, []};
+ghost use Rattle.std.specs.Prelude.{◌≡◌, [], IfErr};
 ghost use Rattle.std.specs.Borrow.{sem, Lends};
+ghost use Rattle.pcap_core.specs.Errors.{IsMemory};
 ghost use Rattle.pcap_core.specs.declared.common.Endianness.TheVariants.{Little};
-ghost use Rattle.pcap_blocks.specs.ParsedBlock.{SectionBody, body_of};
+ghost use Rattle.pcap_blocks.specs.ParsedBlock.{EnhancedBody, SectionBody, body_of};
 ghost use Rattle.pcap_blocks.specs.SectionHeader.{section_of};
 ghost use Rattle.pcap_written.specs.contracts.writer.PcapNgWriter.{the_row as writer-row};
 ghost use Rattle.pcap_written.specs.LentStreams.{writer_with};
-ghost use Rattle.pcap_written.specs.Plain.{plain_section};
+ghost use Rattle.pcap_written.specs.Plain.{plain_packet, plain_section};
 ghost use Rattle.pcap_written.specs.Bodies.{text_of};
 ghost use Rattle.pcap_core.specs.Codec.{number_bytes};
 ghost use Rattle.pcap_written.specs.Puts.{Puts};
 ghost use Rattle.pcap_written.specs.Writing.{stream_of, has_failed, place_of, IsFitBlock, FitFlaw, IsFitIn, FlawIn, OpensWriter, WritesBlock};
 
-use crate::block::{PcapNgBlock, type_number};
+use crate::block::PcapNgBlock;
+use crate::packet::put_packet;
 use crate::place::Place;
 use crate::put::put_u32;
 use crate::unwritable::{Unput, Unwritable};
@@ -140,6 +142,56 @@ impl<W: Write + Drop> PcapNgWriter<W> {
 }
 
 impl<W: Write> PcapNgWriter<W> {
+    /// Writes an enhanced packet without options, and takes no memory: the number of its interface, its time in the units of the
+    /// interface's clock since 1970-01-01 00:00:00 UTC, its bytes, and its length on the wire in bytes.
+    ///
+    /// `WriterFailed` where an earlier write failed, else `InvalidField` where the section has not described the interface, or
+    /// the block would have 2^32 bytes or more: nothing is written then. `IoError` where a write failed: a beginning of the
+    /// block has gone out then.
+    pub fn write_packet(
+        &mut self,
+        interface_id: u32,
+        timestamp: u64,
+        bytes: &[u8],
+        original_len: u32,
+    ) -> ResultParsing<()>
+        ensures block { WritesBlock W.contents self.old self.new (EnhancedBody (plain_packet interface_id timestamp original_len bytes.now)) result }
+        ensures memory { IfErr result (λ e. IsMemory e → ⊥) }
+    {
+        if self.has_failed {
+            return Err(PcapError::WriterFailed);
+        }
+        if interface_id >= self.place.interfaces {
+            return Err(PcapError::from(Unput::Unfit(Unwritable::InterfaceMissing)));
+        }
+        if bytes.len() > 4_294_967_260 {
+            return Err(PcapError::from(Unput::Unfit(Unwritable::BlockTooLong)));
+        }
+        let (inner, has_failed) = (&mut self.inner, &mut self.has_failed);
+        match self.place.endianness {
+            Endianness::Big => {
+                put_packet::<W, BigEndian>(
+                    inner,
+                    has_failed,
+                    interface_id,
+                    timestamp,
+                    bytes,
+                    original_len,
+                )
+            }
+            Endianness::Little => {
+                put_packet::<W, LittleEndian>(
+                    inner,
+                    has_failed,
+                    interface_id,
+                    timestamp,
+                    bytes,
+                    original_len,
+                )
+            }
+        }
+    }
+
     /// Writes a block of any type, as `write_pcapng_block` does.
     pub fn write_block(&mut self, block: &ParsedBlock<'_>) -> ResultParsing<()>
         ensures { WritesBlock W.contents self.old self.new (body_of block.now) result }
@@ -199,7 +251,7 @@ fn encode_in<B: PcapNgBlock, O: ByteOrder>(
         return Err(Unput::Unfit(Unwritable::BlockTooLong));
     }
     let len = (body.len() + 12) as u32;
-    put_u32::<O>(text, type_number(block.head().type_))?;
+    put_u32::<O>(text, u32::from(block.head().type_))?;
     put_u32::<O>(text, len)?;
     text.extend_from_slice(body.as_slice())?;
     put_u32::<O>(text, len)?;

@@ -5,3 +5,5 @@ pub mod Writing
 pub mod Blocks
 pub mod Bodies
 pub mod Batches
+pub mod Push
+pub mod Pushes

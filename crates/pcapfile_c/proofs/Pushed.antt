@@ -1,0 +1,96 @@
+-- What is held of a capture that comes in pieces.
+use Rattle.std.proofs.Common.{◌≡◌, ◌≤◌, ◌+◌, ◌-◌, ℕ, ℤ, List, [], ◌++◌, length, take, drop, sym, ap, subst, ◌∙◌, arith, append_assoc, length-append, length-drop, inl, inr, refl}
+use Rattle.std.proofs.lemmas.List.{drop-take, drop-append-le, length-take-le, take-append-drop}
+use Rattle.std.proofs.lemmas.List.Edits.{drop-paste, take-paste}
+use Rattle.std.proofs.Math.Seq.{drop-append_seam, take-add}
+use Rattle.std.specs.List.{copy_within}
+use Rattle.pcap_core.specs.Answer.{whole, number_in}
+use Rattle.pcap_classic.specs.Magic.{order_of, resolution_of}
+use Rattle.pcap_classic.specs.PacketText.{Captured, packet_limit}
+use Rattle.pcap_classic.proofs.HeadedPackets.{packets_lawful}
+use Rattle.pcap_classic.proofs.Packets.{packets_say}
+use Rattle.pcap_classic.proofs.Pieces.{header_opening}
+use Rattle.pcapfile_c.specs.declared.errors.PcapfileError.{PcapfileError}
+use Rattle.pcapfile_c.specs.declared.push.PcapfilePush.{PcapfilePush}
+use Rattle.pcapfile_c.specs.declared.shown.PcapfileHeader.{PcapfileHeader}
+use Rattle.pcapfile_c.specs.declared.shown.PcapfilePacket.{PcapfilePacket}
+use Rattle.pcapfile_c.specs.Calls.{PacketsSaid}
+use Rattle.pcapfile_c.specs.Push.{LiesWithin, Opened, TakesFront, TakesNext, held_in}
+use Rattle.pcapfile_c.specs.Shown.{captured}
+
+-- what lies between two places of a room
+pub between_same : (b e : ℕ) (room : List ℕ) → b ≤ e → take (e - b) (drop b room) ≡ drop b (take e room)
+between_same b e room within =
+    let sum : b + (e - b) ≡ e = omega (arith, within) in
+    sym (ap (λ (n : ℕ). drop b (take n room)) (sym sum) ∙ drop-take b (e - b) room)
+
+-- more bytes are held
+pub put_held : (b e n : ℕ) (room : List ℕ) → b ≤ e → e + n ≤ length room → drop b (take (e + n) room) ≡ drop b (take e room) ++ take n (drop e room)
+put_held b e n room within fits =
+    let long : length (take e room) ≡ e = length-take-le e room (omega (arith, fits)) in
+    ap (drop b) (take-add e n room) ∙ drop-append-le b (take e room) (take n (drop e room)) (omega (arith, within, long))
+
+-- what is held, after it has moved
+pub moved_held : (b e : ℕ) (room : List ℕ) → b ≤ e → e ≤ length room → take (e - b) (copy_within room b e 0) ≡ drop b (take e room)
+moved_held b e room within fits =
+    let zero : 0 + (e - b) ≡ e - b = omega arith in
+    ap (λ (k : ℕ). take k (copy_within room b e 0)) (sym zero) ∙ take-paste room 0 (drop b room) (e - b) (omega arith) (omega (arith, fits, within, length-drop b room)) ∙ between_same b e room within
+
+-- what lies behind it
+pub moved_behind : (b e : ℕ) (room : List ℕ) → b ≤ e → e ≤ length room → drop (e - b) (copy_within room b e 0) ≡ drop (e - b) room
+moved_behind b e room within fits =
+    let zero : 0 + (e - b) ≡ e - b = omega arith in
+    subst (λ (k : ℕ). drop k (copy_within room b e 0) ≡ drop k room) zero (drop-paste room 0 (drop b room) (e - b) (omega arith) (omega (arith, fits, within, length-drop b room)))
+
+-- what follows the first bytes of a list is the list without them
+after_is_drop : (s t after : List ℕ) → s ≡ t ++ after → drop (length s - length after) s ≡ after
+after_is_drop s t after e =
+    let count : length s - length after ≡ length t = omega (arith, ap length e, length-append t after) in
+    ap (λ (n : ℕ). drop n s) count ∙ ap (λ (l : List ℕ). drop (length t) l) e ∙ drop-append_seam t after
+
+-- what follows a text that is held ends where the text's room ended
+rest_held : (b e : ℕ) (room t rest : List ℕ) → b ≤ e → e ≤ length room → drop b (take e room) ≡ t ++ rest → drop (e - length rest) (take e room) ≡ rest
+rest_held b e room t rest within fits text =
+    let n = take e room in
+    let long : length n ≡ e = length-take-le e room fits in
+    let all : n ≡ (take b n ++ t) ++ rest = sym (take-append-drop b n) ∙ ap (λ (l : List ℕ). take b n ++ l) text ∙ sym (append_assoc (take b n) t rest) in
+    ap (λ (k : ℕ). drop (k - length rest) n) (sym long) ∙ after_is_drop n (take b n ++ t) rest all
+
+-- what follows a packet's text
+packet_ends : (magic : ℕ) (s rest : List ℕ) (p : Captured) → PacketsSaid magic s (whole p rest) → (t : List ℕ) × (s ≡ t ++ rest)
+packet_ends magic s rest p x =
+    let order = number_in (order_of magic) in
+    let r = resolution_of magic in
+    let o = (packets_lawful packet_limit order r).own tt s rest p (packets_say packet_limit order r tt s (whole p rest) x) in
+    (o.0, o.1)
+
+-- what follows the header's text
+opened_ends : (before now : PcapfileHeader) (s after : List ℕ) → Opened before now s after → (t : List ℕ) × (s ≡ t ++ after)
+opened_ends before now s after (inl x) = ([], sym x.2)
+opened_ends before now s after (inr x) = header_opening.ends s after x.1 x.3
+
+-- what is left is the end of what was there
+front_ends : (before now : PcapfileHeader) (s rest : List ℕ) (old packet : PcapfilePacket) (error told : PcapfileError) (z : ℤ)
+    → TakesFront before now s rest old packet error told z → (t : List ℕ) × (s ≡ t ++ rest)
+front_ends before now s rest old packet error told z (inl x) =
+    let n = x.2 in
+    let o = opened_ends before now s n.0 n.1 in
+    let p = packet_ends now.magic_number n.0 rest (captured packet) n.2 in
+    (o.0 ++ p.0, o.1 ∙ ap (λ (l : List ℕ). o.0 ++ l) p.1 ∙ sym (append_assoc o.0 p.0 rest))
+front_ends before now s rest old packet error told z (inr (inl x)) = opened_ends before now s rest x.1
+front_ends before now s rest old packet error told z (inr (inr x)) = ([], sym x.3)
+
+-- what is kept where so many bytes are left of what was held
+abbrev pub with_rest : PcapfilePush → PcapfileHeader → List ℕ → PcapfilePush
+with_rest push header rest = record { header = header; begin = push.end - length rest; end = push.end }
+
+-- a packet is taken from what is held
+pub next_takes : (before : PcapfilePush) (header : PcapfileHeader) (room s rest : List ℕ) (old packet : PcapfilePacket) (error told : PcapfileError) (z : ℤ)
+    → LiesWithin before room → s ≡ held_in before room → TakesFront before.header header s rest old packet error told z
+    → TakesNext before (with_rest before header rest) room old packet error told z
+next_takes before header room s rest old packet error told z lies is takes =
+    let o = front_ends before.header header s rest old packet error told z takes in
+    let same : drop (before.end - length rest) (take before.end room) ≡ rest = rest_held before.begin before.end room o.0 rest lies.0 lies.1 (sym is ∙ o.1) in
+    let here : TakesFront before.header header (held_in before room) rest old packet error told z = subst (λ (l : List ℕ). TakesFront before.header header l rest old packet error told z) is takes in
+    let there = subst (λ (l : List ℕ). TakesFront before.header header (held_in before room) l old packet error told z) (sym same) here in
+    inl (lies, (omega arith, lies.1), refl, there)

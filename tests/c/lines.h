@@ -1,0 +1,59 @@
+/* What the programs share that print the lines of `capcopy list`. */
+#ifndef LINES_H
+#define LINES_H
+
+#include "pcapfile.h"
+
+#include <inttypes.h>
+#include <stdio.h>
+#include <stdlib.h>
+#include <string.h>
+
+enum { REFUSED = 1, USAGE = 2, ENDED_EARLY = 3, NO_FILE = 4 };
+
+static int status_of(int32_t status) {
+    return status == PCAPFILE_OK ? 0 : status == PCAPFILE_INCOMPLETE ? ENDED_EARLY : REFUSED;
+}
+
+static void print_packet(uint64_t index, const pcapfile_packet *packet) {
+    printf("%" PRIu64 " %" PRIu32 ".%09" PRIu32 " %zu/%" PRIu32 "\n", index, packet->ts_sec, packet->ts_nsec,
+           packet->bytes.len, packet->orig_len);
+}
+
+static int tell(int32_t status, const pcapfile_error *error) {
+    pcapfile_bytes name = PCAPFILE_NO_BYTES, text = PCAPFILE_NO_BYTES;
+    if (status == PCAPFILE_INCOMPLETE) fprintf(stderr, "%zu bytes are missing\n", error->missing);
+    if (status == PCAPFILE_INVALID) {
+        pcapfile_rule_name(error->rule, &name);
+        pcapfile_rule_text(error->rule, &text);
+        fprintf(stderr, "rule %" PRIu32 ", %.*s: %.*s\n", error->rule, (int)name.len, (const char *)name.ptr,
+                (int)text.len, (const char *)text.ptr);
+    }
+    return status_of(status);
+}
+
+/* Lists every front, each in a block of its own, so that a read past its end is seen. */
+static int list_fronts(int32_t (*list)(pcapfile_bytes, pcapfile_error *), pcapfile_bytes all, pcapfile_error *error) {
+    for (size_t len = 0; len <= all.len; len++) {
+        uint8_t *front = malloc(len > 0 ? len : 1);
+        if (!front) return NO_FILE;
+        memcpy(front, all.ptr, len);
+        int32_t status = list((pcapfile_bytes){ front, len }, error);
+        printf("status %d\n", status_of(status));
+        free(front);
+    }
+    return 0;
+}
+
+static pcapfile_bytes read_file(const char *name) {
+    size_t len = 0, room = 1 << 16, more;
+    uint8_t *bytes = malloc(room);
+    FILE *in = fopen(name, "rb");
+    if (!in) return (pcapfile_bytes){ NULL, 0 };
+    while (bytes && (more = fread(bytes + len, 1, room - len, in)) > 0)
+        if ((len += more) == room) bytes = realloc(bytes, room *= 2);
+    fclose(in);
+    return (pcapfile_bytes){ bytes, len };
+}
+
+#endif
