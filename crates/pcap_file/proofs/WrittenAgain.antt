@@ -1,7 +1,6 @@
 -- A capture that is written is read again.
-use Rattle.std.proofs.Common.{◌≡◌, ◌≢◌, ℕ, ◌<◌, ◌≤◌, ◌+◌, ◌%◌, ◌^◌, List, [], ◌∷◌, ◌++◌, length, map, take, drop, refl, sym, ap, subst, ◌∙◌, append_assoc, take-append-drop, length-append, arith, Ok}
-use Rattle.std.specs.Prelude.{◌==◌, Bool, false, true, Option, Some, None}
-use Rattle.std.specs.Int.{w64, cast_unsigned}
+use Rattle.std.proofs.Common.{◌≡◌, ◌≢◌, ℕ, ◌<◌, ◌≤◌, ◌+◌, ◌%◌, ◌^◌, List, [], ◌∷◌, ◌++◌, length, map, take, drop, refl, sym, ap, subst, ◌∙◌, append_assoc, take-append-drop, length-append, arith}
+use Rattle.std.specs.Prelude.{◌==◌, Bool, false, Option, Some, None}
 use Rattle.std.specs.List.{AllZip}
 use Rattle.std.proofs.lemmas.Bool.{ne_eqb}
 use Rattle.std.proofs.lemmas.List.{length-take-le}
@@ -19,11 +18,10 @@ use Rattle.pcap_blocks.specs.declared.block_type.BlockType.TheVariants as types
 use Rattle.pcap_blocks.specs.BlockType.{block_type, type_number}
 use Rattle.pcap_blocks.specs.InterfaceDescription.{Interface}
 use Rattle.pcap_blocks.specs.SectionHeader.{Section, magic_order}
-use Rattle.pcap_blocks.specs.UnknownBlock.{UnknownBody}
 use Rattle.pcap_blocks.specs.ParsedBlock.{Body, SectionBody, InterfaceBody, OldPacketBody, SimpleBody, NamesBody, StatisticsBody, EnhancedBody, JournalBody, OtherBody}
 use Rattle.pcap_written.specs.declared.place.Place.{Place}
-use Rattle.pcap_written.specs.Bodies.{after_magic_text, body_text, head_of, magic_in, order_under, section_text, text_of, type_of, block_text}
-use Rattle.pcap_written.specs.Capture.{AreWritten, IsWritten}
+use Rattle.pcap_written.specs.Bodies.{after_magic_text, body_text, magic_in, order_under, section_text, text_of, type_of, block_text}
+use Rattle.pcap_written.specs.Capture.{AreWritten}
 use Rattle.pcap_written.specs.Fits.{IsFitUnknown, kept_body}
 use Rattle.pcap_written.specs.Writing.{IsFitIn}
 use Rattle.pcap_written.proofs.Aligned.{body_aligned}
@@ -35,13 +33,17 @@ use Rattle.pcap_file.specs.State.{State, opening, order_at, within, is_kept, Mea
 use Rattle.pcap_file.specs.Written.{IsBodyOf}
 use Rattle.pcap_file.proofs.BlockFormat.{blocks_lawful}
 
+-- the length of a block that is written
+abbrev length_in : Endianness → Body → ℕ
+length_in e body = length (body_text (number_bytes e) body) + 12
+
 -- a block that is written, in its frame
 abbrev framed_in : Endianness → Body → Framed
 framed_in e body = record {
   type_ = type_of body;
-  initial_len = length (body_text (number_bytes e) body) + 12;
+  initial_len = length_in e body;
   body = body_text (number_bytes e) body;
-  trailer_len = length (body_text (number_bytes e) body) + 12;
+  trailer_len = length_in e body;
   endianness = e;
 }
 
@@ -59,7 +61,8 @@ record IsPlainType (body : Body) : Type 0 where
   other : (type_number (type_of body) == 0x0A0D0D0A) ≡ false
   named : type_of body ≡ block_type (type_number (type_of body))
 
-other_plain : (type : BlockType) (len : ℕ) (bytes : List ℕ) → IsFitUnknown (record { type_ = type; len = len; bytes = bytes }) → IsPlainType (OtherBody (record { type_ = type; len = len; bytes = bytes }))
+other_plain : (type : BlockType) (len : ℕ) (bytes : List ℕ) → IsFitUnknown (record { type_ = type; len = len; bytes = bytes })
+    → IsPlainType (OtherBody (record { type_ = type; len = len; bytes = bytes }))
 other_plain (types.Unknown n) len bytes fit =
     let differ : n ≢ 0x0A0D0D0A = λ is. let wrong : block_type 0x0A0D0D0A ≡ types.Unknown n = subst (λ (k : ℕ). block_type k ≡ types.Unknown n) is fit.unnamed in absurd cc in
     record { fits = fit.number; other = ne_eqb n 0x0A0D0D0A differ; named = sym fit.unnamed }
@@ -72,23 +75,25 @@ other_plain types.InterfaceStatistics len bytes fit = absurd cc
 other_plain types.EnhancedPacket len bytes fit = absurd cc
 other_plain types.SystemdJournalExport len bytes fit = absurd cc
 
-framed_text : (e : Endianness) (type : ℕ) (body rest : List ℕ) → block_text (number_bytes e) type body ++ rest ≡ number_bytes e 4 type ++ (number_bytes e 4 (length body + 12) ++ (body ++ (number_bytes e 4 (length body + 12) ++ rest)))
+framed_text : (e : Endianness) (type : ℕ) (body rest : List ℕ)
+    → block_text (number_bytes e) type body ++ rest ≡ number_bytes e 4 type ++ (number_bytes e 4 (length body + 12) ++ (body ++ (number_bytes e 4 (length body + 12) ++ rest)))
 framed_text e type body rest = simp append_assoc
 
 tail_again : (e : Endianness) (body : Body) (rest : List ℕ) → IsFitIn e body
-    → FrameTail e (length (body_text (number_bytes e) body) + 12) (body_text (number_bytes e) body) (length (body_text (number_bytes e) body) + 12) (body_text (number_bytes e) body ++ (number_bytes e 4 (length (body_text (number_bytes e) body) + 12) ++ rest)) rest
+    → FrameTail e (length_in e body) (body_text (number_bytes e) body) (length_in e body) (body_text (number_bytes e) body ++ (number_bytes e 4 (length_in e body) ++ rest)) rest
 tail_again e body rest fit = record {
-  after_body = number_bytes e 4 (length (body_text (number_bytes e) body) + 12) ++ rest;
+  after_body = number_bytes e 4 (length_in e body) ++ rest;
   body_is = refl;
   length_is = refl;
-  trailer_is = number_again (number_in e) (number_bytes e) (codec e) 4 (length (body_text (number_bytes e) body) + 12) rest fit.short;
+  trailer_is = number_again (number_in e) (number_bytes e) (codec e) 4 (length_in e body) rest fit.short;
 }
 
-length_good : (e : Endianness) (body : Body) → (length (body_text (number_bytes e) body) + 12) % 4 ≡ 0
+length_good : (e : Endianness) (body : Body) → length_in e body % 4 ≡ 0
 length_good e body = omega (arith, body_aligned (number_bytes e) (codec e).wide body)
 
 -- a block that is no section
-plain_frame : (e : Endianness) (body : Body) (rest : List ℕ) → IsPlainType body → IsFitIn e body → FrameText e (framed_in e body) (text_of (number_bytes e) body ++ rest) rest
+plain_frame : (e : Endianness) (body : Body) (rest : List ℕ) → IsPlainType body → IsFitIn e body
+    → FrameText e (framed_in e body) (text_of (number_bytes e) body ++ rest) rest
 unfolding own_order
 plain_frame e body rest plain fit =
     let write = number_bytes e in
@@ -119,7 +124,8 @@ plain_frame e body rest plain fit =
     subst (λ (s : List ℕ). FrameText e (framed_in e body) s rest) (sym (framed_text e type inner rest)) text
 
 -- a section, whatever order holds there
-section_frame : (there e : Endianness) (s : Section) (rest : List ℕ) → magic_order s.magic ≡ Some e → IsFitIn e (SectionBody s) → FrameText there (framed_in e (SectionBody s)) (text_of (number_bytes e) (SectionBody s) ++ rest) rest
+section_frame : (there e : Endianness) (s : Section) (rest : List ℕ) → magic_order s.magic ≡ Some e → IsFitIn e (SectionBody s)
+    → FrameText there (framed_in e (SectionBody s)) (text_of (number_bytes e) (SectionBody s) ++ rest) rest
 unfolding own_order
 section_frame there e s rest names fit =
     let write = number_bytes e in
@@ -129,7 +135,8 @@ section_frame there e s rest names fit =
     let after_body = write 4 len ++ rest in
     let after = inner ++ after_body in
     let behind = after_magic_text write s in
-    let magic_there : Number big_number 4 s.magic (big_bytes 4 s.magic ++ (behind ++ after_body)) (behind ++ after_body) = number_again (number_in Big) (number_bytes Big) (codec Big) 4 s.magic (behind ++ after_body) fit.fit.magic in
+    let magic_there : Number big_number 4 s.magic (big_bytes 4 s.magic ++ (behind ++ after_body)) (behind ++ after_body) =
+    number_again (number_in Big) (number_bytes Big) (codec Big) 4 s.magic (behind ++ after_body) fit.fit.magic in
     let head : FrameHeadText there type e len (number_bytes there 4 type ++ (write 4 len ++ after)) after = record {
       after_number = write 4 len ++ after;
       more = behind ++ after_body;
@@ -157,7 +164,8 @@ own_named : (there e : Endianness) (magic : Option ℕ) → order_under there ma
 own_named there e None named = refl
 own_named there e (Some n) named = named
 
-says_again : (there e : Endianness) (body : Body) → order_under there (magic_in body) ≡ Some e → IsFitIn e body → (rest : List ℕ) × SaysOfBody (framed_in e body) (whole (kept_body body) rest)
+says_again : (there e : Endianness) (body : Body) → order_under there (magic_in body) ≡ Some e → IsFitIn e body
+    → (rest : List ℕ) × SaysOfBody (framed_in e body) (whole (kept_body body) rest)
 says_again there e body named fit = body_again e body fit (own_named there e (magic_in body) named)
 
 -- a section's order is in force
@@ -176,12 +184,14 @@ record IsReadUnder (q : State) (e : Endianness) (body : Body) (rest : List ℕ) 
   text : BlockText q (item_in e body (within section interfaces)) (text_of (number_bytes e) body ++ rest) rest
 
 -- a section is read under any state
-section_read : (q : State) (e : Endianness) (s : Section) (rest : List ℕ) → magic_order s.magic ≡ Some e → IsFitIn e (SectionBody s) → Means q (framed_in e (SectionBody s)) (good (within s []))
+section_read : (q : State) (e : Endianness) (s : Section) (rest : List ℕ) → magic_order s.magic ≡ Some e → IsFitIn e (SectionBody s)
+    → Means q (framed_in e (SectionBody s)) (good (within s []))
     → BlockText q (item_in e (SectionBody s) (within s [])) (text_of (number_bytes e) (SectionBody s) ++ rest) rest
 section_read q e s rest names fit means = record { frame = section_frame (order_at q) e s rest names fit; means = means }
 
 -- a block that is no section is read under one, and leaves it in force
-plain_read : (s : Section) (is next : List Interface) (there e : Endianness) (body : Body) (rest : List ℕ) → IsPlainType body → magic_order s.magic ≡ Some there → ◌≡◌ {A = Option Endianness} (Some there) (Some e) → IsFitIn e body
+plain_read : (s : Section) (is next : List Interface) (there e : Endianness) (body : Body) (rest : List ℕ) → IsPlainType body → magic_order s.magic ≡ Some there
+    → ◌≡◌ {A = Option Endianness} (Some there) (Some e) → IsFitIn e body
     → Means (within s is) (framed_in e body) (good (within s next)) → IsReadUnder (within s is) e body rest
 plain_read s is next there e body rest plain names same fit means =
     let now = names ∙ same in
@@ -200,29 +210,38 @@ never_kept types.InterfaceStatistics len bytes fit = refl
 never_kept types.EnhancedPacket len bytes fit = refl
 never_kept types.SystemdJournalExport len bytes fit = refl
 
-numbered : (body : Body) → type_number (type_of body) < 2 ^ 32 → (type_number (type_of body) == 0x0A0D0D0A) ≡ false → type_of body ≡ block_type (type_number (type_of body)) → IsPlainType body
+numbered : (body : Body) → type_number (type_of body) < 2 ^ 32 → (type_number (type_of body) == 0x0A0D0D0A) ≡ false
+    → type_of body ≡ block_type (type_number (type_of body)) → IsPlainType body
 numbered body fits other named = record { fits = fits; other = other; named = named }
 
-one_again : (s : Section) (is : List Interface) (there e : Endianness) (body : Body) (rest : List ℕ) → magic_order s.magic ≡ Some there → order_under there (magic_in body) ≡ Some e → IsFitIn e body → IsReadUnder (within s is) e body rest
+one_again : (s : Section) (is : List Interface) (there e : Endianness) (body : Body) (rest : List ℕ) → magic_order s.magic ≡ Some there
+    → order_under there (magic_in body) ≡ Some e → IsFitIn e body → IsReadUnder (within s is) e body rest
 one_again s is there e (SectionBody t) rest names same fit =
     let says = says_again there e (SectionBody t) same fit in
     record { section = t; interfaces = []; names = same; text = section_read (within s is) e t rest same fit (SectionBody t, says.0, says.1, refl) }
 one_again s is there e (InterfaceBody i) rest names same fit =
     let says = says_again there e (InterfaceBody i) same fit in
     plain_read s is (is ++ i ∷ []) there e (InterfaceBody i) rest (numbered (InterfaceBody i) (omega arith) refl refl) names same fit (InterfaceBody i, says.0, says.1, refl)
-one_again s is there e (OldPacketBody p) rest names same fit = plain_read s is is there e (OldPacketBody p) rest (numbered (OldPacketBody p) (omega arith) refl refl) names same fit refl
-one_again s is there e (SimpleBody p) rest names same fit = plain_read s is is there e (SimpleBody p) rest (numbered (SimpleBody p) (omega arith) refl refl) names same fit refl
-one_again s is there e (NamesBody b) rest names same fit = plain_read s is is there e (NamesBody b) rest (numbered (NamesBody b) (omega arith) refl refl) names same fit refl
-one_again s is there e (StatisticsBody x) rest names same fit = plain_read s is is there e (StatisticsBody x) rest (numbered (StatisticsBody x) (omega arith) refl refl) names same fit refl
-one_again s is there e (EnhancedBody x) rest names same fit = plain_read s is is there e (EnhancedBody x) rest (numbered (EnhancedBody x) (omega arith) refl refl) names same fit refl
-one_again s is there e (JournalBody entry) rest names same fit = plain_read s is is there e (JournalBody entry) rest (numbered (JournalBody entry) (omega arith) refl refl) names same fit refl
+one_again s is there e (OldPacketBody p) rest names same fit =
+    plain_read s is is there e (OldPacketBody p) rest (numbered (OldPacketBody p) (omega arith) refl refl) names same fit refl
+one_again s is there e (SimpleBody p) rest names same fit =
+    plain_read s is is there e (SimpleBody p) rest (numbered (SimpleBody p) (omega arith) refl refl) names same fit refl
+one_again s is there e (NamesBody b) rest names same fit =
+    plain_read s is is there e (NamesBody b) rest (numbered (NamesBody b) (omega arith) refl refl) names same fit refl
+one_again s is there e (StatisticsBody x) rest names same fit =
+    plain_read s is is there e (StatisticsBody x) rest (numbered (StatisticsBody x) (omega arith) refl refl) names same fit refl
+one_again s is there e (EnhancedBody x) rest names same fit =
+    plain_read s is is there e (EnhancedBody x) rest (numbered (EnhancedBody x) (omega arith) refl refl) names same fit refl
+one_again s is there e (JournalBody entry) rest names same fit =
+    plain_read s is is there e (JournalBody entry) rest (numbered (JournalBody entry) (omega arith) refl refl) names same fit refl
 one_again s is there e (OtherBody u) rest names same fit =
     let body = OtherBody u in
     let means : Means (within s is) (framed_in e body) (good (within s is)) =
     subst (λ (b : Bool). MeansIf b (within s is) (framed_in e body) (good (within s is))) (sym (never_kept u.type_ u.len u.bytes fit.fit)) refl in
     plain_read s is is there e body rest (other_plain u.type_ u.len u.bytes fit.fit) names same fit means
 
-blocks_again : (s : Section) (is : List Interface) (at : Place) (bodies : List Body) (bytes : List ℕ) (end : Place) → magic_order s.magic ≡ Some at.endianness → AreWritten at bodies bytes end
+blocks_again : (s : Section) (is : List Interface) (at : Place) (bodies : List Body) (bytes : List ℕ) (end : Place) → magic_order s.magic ≡ Some at.endianness
+    → AreWritten at bodies bytes end
     → (items : List Item) × Texts block_format (within s is) items bytes [] × AllZip IsBodyOf items (map kept_body bodies)
 unfolding block_format
 blocks_again s is at [] bytes end names written = ([], written.0, tt)
@@ -247,5 +266,8 @@ capture_again at end s bodies bytes (behind, text, more, one, parts, others) =
     let item = item_in e body (within s []) in
     let tail = blocks_again s [] behind bodies more end named others in
     let there : BlockText opening item bytes more = subst (λ (t : List ℕ). BlockText opening item t more) (sym (parts ∙ ap (λ (t : List ℕ). t ++ more) one.text)) read in
-    let front : Front block_format opening (item ∷ tail.0) bytes [] = record { texts = (more, there, tail.1); longest = λ other after t. nothing_no_text block_format blocks_lawful _ other after t } in
+    let front : Front block_format opening (item ∷ tail.0) bytes [] = record {
+      texts = (more, there, tail.1);
+      longest = λ other after t. nothing_no_text block_format blocks_lawful _ other after t;
+    } in
     (item ∷ tail.0, front, (says, tail.2))

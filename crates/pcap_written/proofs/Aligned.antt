@@ -57,7 +57,8 @@ module _ (write : Encoder) (wide : (w n : ℕ) → length (write w n) ≡ w) whe
 
   head_aligned : (time captured original : ℕ) → length (packet_head_text write time captured original) % 4 ≡ 0
   head_aligned time captured original =
-      both_aligned (time_bytes write time) (write 4 captured ++ write 4 original) (time_aligned time) (both_aligned (write 4 captured) (write 4 original) (word_aligned captured) (word_aligned original))
+      both_aligned (time_bytes write time) (write 4 captured ++ write 4 original) (time_aligned time)
+      (both_aligned (write 4 captured) (write 4 original) (word_aligned captured) (word_aligned original))
 
   stored_aligned : (kind : Kind) (p : Stored) → length (stored_text write kind p) % 4 ≡ 0
   stored_aligned kind p =

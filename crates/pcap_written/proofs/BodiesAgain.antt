@@ -45,7 +45,8 @@ module _ (order : Order) (write : Encoder) (c : IsCodec order write) where
       } in
       subst (λ (s : List ℕ). TimeText order time s rest) (sym (append_assoc (write 4 high) (write 4 low) rest)) text
 
-  head_again : (p : Stored) (rest : List ℕ) → p.timestamp < 2 ^ 64 → p.captured_len < 2 ^ 32 → p.original_len < 2 ^ 32 → StoredHead order p (packet_head_text write p.timestamp p.captured_len p.original_len ++ rest) rest
+  head_again : (p : Stored) (rest : List ℕ) → p.timestamp < 2 ^ 64 → p.captured_len < 2 ^ 32 → p.original_len < 2 ^ 32
+      → StoredHead order p (packet_head_text write p.timestamp p.captured_len p.original_len ++ rest) rest
   head_again p rest time captured original =
       let after_captured = write 4 p.original_len ++ rest in
       let after_time = write 4 p.captured_len ++ after_captured in
@@ -57,7 +58,8 @@ module _ (order : Order) (write : Encoder) (c : IsCodec order write) where
         original_is = number_again order write c 4 p.original_len rest original;
       } in
       let split : packet_head_text write p.timestamp p.captured_len p.original_len ++ rest ≡ time_bytes write p.timestamp ++ after_time =
-      append_assoc (time_bytes write p.timestamp) (write 4 p.captured_len ++ write 4 p.original_len) rest ∙ ap (λ (s : List ℕ). time_bytes write p.timestamp ++ s) (append_assoc (write 4 p.captured_len) (write 4 p.original_len) rest) in
+      append_assoc (time_bytes write p.timestamp) (write 4 p.captured_len ++ write 4 p.original_len) rest
+      ∙ ap (λ (s : List ℕ). time_bytes write p.timestamp ++ s) (append_assoc (write 4 p.captured_len) (write 4 p.original_len) rest) in
       subst (λ (s : List ℕ). StoredHead order p s rest) (sym split) text
 
   stored_again : (kind : Kind) (p : Stored) → IsFitStored order write kind p → StoredText order kind p (stored_text write kind p) []
@@ -118,7 +120,8 @@ module _ (order : Order) (write : Encoder) (c : IsCodec order write) where
       record { after_head = list; head = head; options_are = list_again order write c interface_description i.options fit.options }
 
 -- a section's magic number names the order that it is written in
-section_again : (e : Endianness) (s : Section) → magic_order s.magic ≡ Some e → IsFitSection (number_in e) (number_bytes e) s → SectionText s (section_text (number_bytes e) s) []
+section_again : (e : Endianness) (s : Section) → magic_order s.magic ≡ Some e → IsFitSection (number_in e) (number_bytes e) s
+    → SectionText s (section_text (number_bytes e) s) []
 section_again e s names fit =
     let c = codec e in
     let write = number_bytes e in
@@ -147,7 +150,8 @@ section_again e s names fit =
     }
 
 -- a type whose number has no name is an unknown one
-other_again : (order : Order) (type : BlockType) (len : ℕ) (v : List ℕ) → IsFitUnknown (record { type_ = type; len = len; bytes = v }) → length (padded_bytes v) < 2 ^ 32
+other_again : (order : Order) (type : BlockType) (len : ℕ) (v : List ℕ) → IsFitUnknown (record { type_ = type; len = len; bytes = v })
+    → length (padded_bytes v) < 2 ^ 32
     → BodySays order type (padded_bytes v) (whole (kept_body (OtherBody (record { type_ = type; len = len; bytes = v }))) (padded_bytes v))
 other_again order (types.Unknown n) len v fit short = (_, refl, (refl, refl, short))
 other_again order types.SectionHeader len v fit short = absurd (cc fit.unnamed)
@@ -158,7 +162,9 @@ pub body_again : (e : Endianness) (body : Body) → IsFitIn e body → order_und
 body_again e (SectionBody s) fit named = ([], (s, refl, section_again e s named fit.fit))
 body_again e (InterfaceBody i) fit named = ([], (i, refl, interface_again (number_in e) (number_bytes e) (codec e) i fit.fit))
 body_again e (OldPacketBody p) fit named = ([], (p, refl, packet_again (number_in e) (number_bytes e) (codec e) p fit.fit))
-body_again e (SimpleBody p) fit named = ([], (_, refl, record { original_is = number_again (number_in e) (number_bytes e) (codec e) 4 p.original_len (padded_bytes p.bytes) fit.fit; nothing_left = refl }))
+body_again e (SimpleBody p) fit named =
+    let original = number_again (number_in e) (number_bytes e) (codec e) 4 p.original_len (padded_bytes p.bytes) fit.fit in
+    ([], (_, refl, record { original_is = original; nothing_left = refl }))
 body_again e (NamesBody b) fit named = ([], (b, refl, resolution_again (number_in e) (number_bytes e) (codec e) b fit.fit))
 body_again e (StatisticsBody s) fit named = ([], (s, refl, statistics_again (number_in e) (number_bytes e) (codec e) s fit.fit))
 body_again e (EnhancedBody x) fit named = ([], (x, refl, enhanced_again (number_in e) (number_bytes e) (codec e) x fit.fit))

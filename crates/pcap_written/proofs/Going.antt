@@ -11,7 +11,8 @@ use Rattle.pcap_written.specs.Capture.{AreWritten, IsWritten}
 use Rattle.pcap_written.specs.Writing.{OpensWriter, WritesBlock, opening_place, place_of, stream_of}
 
 -- one block more
-pub goes_on : (at mid end : Place) (bodies : List Body) (body : Body) (bytes text : List ℕ) → AreWritten at bodies bytes mid → IsWritten mid body text end → AreWritten at (bodies ++ body ∷ []) (bytes ++ text) end
+pub goes_on : (at mid end : Place) (bodies : List Body) (body : Body) (bytes text : List ℕ) → AreWritten at bodies bytes mid → IsWritten mid body text end
+    → AreWritten at (bodies ++ body ∷ []) (bytes ++ text) end
 goes_on at mid end [] body bytes text so_far one =
     let here : IsWritten at body text end = subst (λ (p : Place). IsWritten p body text end) so_far.1 one in
     (end, text, [], here, ap (λ (s : List ℕ). s ++ text) so_far.0 ∙ sym (append-nil text), (refl, refl))
@@ -19,7 +20,8 @@ goes_on at mid end (first ∷ bodies) body bytes text (behind, head, more, there
     (behind, head, more ++ text, there, ap (λ (s : List ℕ). s ++ text) parts ∙ append_assoc head more text, goes_on behind mid end bodies body more text others one)
 
 -- a call that did not fail
-pub good_call : (W : Type 0) (contents : W → Option (List ℕ)) (old new : PcapNgWriter W) (body : Body) (done : Unit {0}) → WritesBlock contents old new body (Ok done)
+pub good_call : (W : Type 0) (contents : W → Option (List ℕ)) (old new : PcapNgWriter W) (body : Body) (done : Unit {0})
+    → WritesBlock contents old new body (Ok done)
     → (text : List ℕ) × IsWritten (place_of old) body text (place_of new) × Appends (contents (stream_of old)) (contents (stream_of new)) text
 good_call W contents old new body done (good, (still, place, fit, out)) = (text_of (number_bytes (place_of new).endianness) body, record { place = place; fit = fit; text = refl }, out)
 

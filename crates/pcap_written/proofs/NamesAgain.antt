@@ -35,7 +35,8 @@ other_says : (type len : ℕ) (v : List ℕ) → IsFitOther type len v → Recor
 other_says type len v fit = subst (λ (f : Form). RecordValueSays f v (whole (Other type len v) [])) (sym fit.unnamed) (ap (λ (n : ℕ). Other type n v) fit.whole, refl)
 
 module _ (order : Order) (write : Encoder) (c : IsCodec order write) where
-  value_again : (r : NameRecord) (type : ℕ) (v rest : List ℕ) → type < 2 ^ 16 → length v < 2 ^ 16 → RecordValueSays (form_of type) v (whole r []) → RecordText order r (coded_bytes write type v ++ rest) rest
+  value_again : (r : NameRecord) (type : ℕ) (v rest : List ℕ) → type < 2 ^ 16 → length v < 2 ^ 16 → RecordValueSays (form_of type) v (whole r [])
+      → RecordText order r (coded_bytes write type v ++ rest) rest
   value_again r type v rest fits short says =
       let text : RecordText order r (write 2 type ++ (write 2 (length v) ++ (padded_bytes v ++ rest))) rest = record {
         type = type;
@@ -59,7 +60,8 @@ module _ (order : Order) (write : Encoder) (c : IsCodec order write) where
       let f = record_text write in
       let more = flat_map f rs ++ rest in
       let split : flat_map f (r ∷ rs) ++ rest ≡ f r ++ more = ap (λ (s : List ℕ). s ++ rest) (flat_map-cons f r rs) ∙ append_assoc (f r) (flat_map f rs) rest in
-      (more, subst (λ (s : List ℕ). KeptText order r s more) (sym split) (record_again r more (All-head IsFitRecord r rs fit)), records_again rs rest (All-tail IsFitRecord r rs fit))
+      let one = record_again r more (All-head IsFitRecord r rs fit) in
+      (more, subst (λ (s : List ℕ). KeptText order r s more) (sym split) one, records_again rs rest (All-tail IsFitRecord r rs fit))
 
   pub resolution_again : (b : Resolution) → IsFitResolution order write b → ResolutionText order b (resolution_text write b) []
   resolution_again b fit =

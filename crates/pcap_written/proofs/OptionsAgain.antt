@@ -29,9 +29,14 @@ padded_again v rest = record { padding = padding (length v); text = refl; aligne
 module _ (order : Order) (write : Encoder) (c : IsCodec order write) where
   pub coded_again : (code len : ℕ) (rest : List ℕ) → code < 2 ^ 16 → len < 2 ^ 16 → CodeLengthText order code len (write 2 code ++ (write 2 len ++ rest)) rest
   coded_again code len rest small short =
-      record { after_code = write 2 len ++ rest; code_is = number_again order write c 2 code (write 2 len ++ rest) small; length_is = number_again order write c 2 len rest short }
+      record {
+        after_code = write 2 len ++ rest;
+        code_is = number_again order write c 2 code (write 2 len ++ rest) small;
+        length_is = number_again order write c 2 len rest short;
+      }
 
-  pub option_again : (kind : Kind) (o : Entry) (rest : List ℕ) → IsFitOption order write kind o → OptionText order kind o (option_text write kind o ++ rest) rest
+  pub option_again : (kind : Kind) (o : Entry) (rest : List ℕ) → IsFitOption order write kind o
+      → OptionText order kind o (option_text write kind o ++ rest) rest
   option_again kind o rest fit =
       let v = option_value write kind o in
       let text : OptionText order kind o (write 2 o.code ++ (write 2 (length v) ++ (padded_bytes v ++ rest))) rest = record {
@@ -44,13 +49,15 @@ module _ (order : Order) (write : Encoder) (c : IsCodec order write) where
       } in
       subst (λ (s : List ℕ). OptionText order kind o s rest) (sym (three (write 2 o.code) (write 2 (length v)) (padded_bytes v) rest)) text
 
-  options_again : (kind : Kind) (os : List Entry) (rest : List ℕ) → AreFit order write kind os → Chain (OptionText order kind) os (flat_map (option_text write kind) os ++ rest) rest
+  options_again : (kind : Kind) (os : List Entry) (rest : List ℕ) → AreFit order write kind os
+      → Chain (OptionText order kind) os (flat_map (option_text write kind) os ++ rest) rest
   options_again kind [] rest fit = refl
   options_again kind (o ∷ os) rest fit =
       let f = option_text write kind in
       let more = flat_map f os ++ rest in
       let split : flat_map f (o ∷ os) ++ rest ≡ f o ++ more = ap (λ (s : List ℕ). s ++ rest) (flat_map-cons f o os) ∙ append_assoc (f o) (flat_map f os) rest in
-      (more, subst (λ (s : List ℕ). OptionText order kind o s more) (sym split) (option_again kind o more (All-head (IsFitOption order write kind) o os fit)), options_again kind os rest (All-tail (IsFitOption order write kind) o os fit))
+      let one = option_again kind o more (All-head (IsFitOption order write kind) o os fit) in
+      (more, subst (λ (s : List ℕ). OptionText order kind o s more) (sym split) one, options_again kind os rest (All-tail (IsFitOption order write kind) o os fit))
 
   mark_again : EndMark order (end_mark write) []
   mark_again = record { ignored = 0; head = subst (λ (s : List ℕ). CodeLengthText order 0 0 (write 2 0 ++ s) []) (append-nil (write 2 0)) (coded_again 0 0 [] (omega arith) (omega arith)) }
@@ -60,8 +67,10 @@ module _ (order : Order) (write : Encoder) (c : IsCodec order write) where
   list_again kind (o ∷ os) fit = marked (end_mark write) (options_again kind (o ∷ os) (end_mark write) fit) mark_again
 
 -- the same in an order by its name
-pub option_read : (e : Endianness) (kind : Kind) (o : Entry) (rest : List ℕ) → IsFitOption (number_in e) (number_bytes e) kind o → OptionText (number_in e) kind o (option_text (number_bytes e) kind o ++ rest) rest
+pub option_read : (e : Endianness) (kind : Kind) (o : Entry) (rest : List ℕ) → IsFitOption (number_in e) (number_bytes e) kind o
+    → OptionText (number_in e) kind o (option_text (number_bytes e) kind o ++ rest) rest
 option_read e = option_again (number_in e) (number_bytes e) (codec e)
 
-pub options_read : (e : Endianness) (kind : Kind) (os : List Entry) → AreFit (number_in e) (number_bytes e) kind os → OptionList may_end_with_body (number_in e) kind os (list_text (number_bytes e) kind os) []
+pub options_read : (e : Endianness) (kind : Kind) (os : List Entry) → AreFit (number_in e) (number_bytes e) kind os
+    → OptionList may_end_with_body (number_in e) kind os (list_text (number_bytes e) kind os) []
 options_read e = list_again (number_in e) (number_bytes e) (codec e)
