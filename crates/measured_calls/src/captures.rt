@@ -1,8 +1,10 @@
 //! Calls on a classic capture in memory.
 
-use pcap_classic::ResultParsing;
-use pcap_classic::pcap::{PcapParser, PcapReader, PcapWriter};
+use pcap_blocks::InterfaceDescriptionBlock;
+use pcap_classic::pcap::{Packet, PcapParser, PcapReader, PcapWriter};
 use pcap_classic::run::{Copied, Under, copy_buffered, copy_pcap};
+use pcap_classic::{DataLink, ResultParsing};
+use pcap_written::PcapNgWriter;
 use std::alloc::Global;
 use std::io::BufReader;
 
@@ -21,6 +23,7 @@ pub(crate) fn passes_of(
         "next" => Some(next(alloc, passes, bytes)),
         "next_header" => Some(next_header(alloc, passes, bytes)),
         "write_packet" => Some(write_packet(alloc, passes, bytes)),
+        "write_ng_packet" => Some(write_ng_packet(alloc, passes, bytes)),
         "copy" => Some(copy(alloc, passes, bytes)),
         "copy_buffered" => Some(copy_out_of_a_buffer(alloc, passes, bytes)),
         "memcpy" => Some(memcpy(alloc, passes, bytes)),
@@ -104,7 +107,7 @@ fn next_header(alloc: Global, passes: u64, bytes: &[u8]) -> ResultParsing<u64> {
     Ok(sum)
 }
 
-fn write_packet(alloc: Global, passes: u64, bytes: &[u8]) -> ResultParsing<u64> {
+fn packets_of(alloc: Global, bytes: &[u8]) -> ResultParsing<Vec<Packet<'_>>> {
     let (mut left, parser) = PcapParser::new(bytes)?;
     let mut packets = Vec::new(alloc);
     for _ in 0..u64::MAX {
@@ -115,7 +118,12 @@ fn write_packet(alloc: Global, passes: u64, bytes: &[u8]) -> ResultParsing<u64> 
         packets.push(packet)?;
         left = rest;
     }
-    let header = *parser.header();
+    Ok(packets)
+}
+
+fn write_packet(alloc: Global, passes: u64, bytes: &[u8]) -> ResultParsing<u64> {
+    let packets = packets_of(alloc, bytes)?;
+    let header = *PcapParser::new(bytes)?.1.header();
     let mut out: Vec<u8> = Vec::with_capacity(alloc, bytes.len())?;
     let mut sum = 0u64;
     for _ in 0..passes {
@@ -124,6 +132,33 @@ fn write_packet(alloc: Global, passes: u64, bytes: &[u8]) -> ResultParsing<u64> 
             let mut writer = PcapWriter::with_header(header, &mut out)?;
             for packet in &packets {
                 writer.write_packet(packet)?;
+            }
+        }
+        sum = sum.wrapping_add(out.len() as u64);
+    }
+    Ok(sum)
+}
+
+// The packets in enhanced packet blocks of one interface.
+fn write_ng_packet(alloc: Global, passes: u64, bytes: &[u8]) -> ResultParsing<u64> {
+    let packets = packets_of(alloc, bytes)?;
+    let interface = InterfaceDescriptionBlock {
+        linktype: DataLink::ETHERNET,
+        reserved: 0,
+        snaplen: 0,
+        options: Vec::new(alloc),
+    };
+    let mut out: Vec<u8> = Vec::with_capacity(alloc, bytes.len())?;
+    let mut sum = 0u64;
+    for _ in 0..passes {
+        out.clear();
+        {
+            let mut writer = PcapNgWriter::new(alloc, &mut out)?;
+            writer.write_pcapng_block(&interface)?;
+            for packet in &packets {
+                let units = u64::from(packet.header.ts_nsec);
+                let bytes = packet.data_.as_slice();
+                writer.write_packet(0, units, bytes, packet.header.orig_len)?;
             }
         }
         sum = sum.wrapping_add(out.len() as u64);
