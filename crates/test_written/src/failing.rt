@@ -1,0 +1,134 @@
+//! Writers that fail, and those that take few bytes in a call.
+
+use crate::writing::interface;
+use pcap_blocks::{BlockType, EnhancedPacketBlock, EnhancedPacketOption, UnknownBlock};
+use pcap_core::{CowBytes, Endianness, PcapError, ResultParsing};
+use pcap_written::{PcapNgBlock, PcapNgWriter};
+use std::alloc::Global;
+use std::borrow::CowStr;
+use std::test::*;
+use test_support::captures::front;
+use test_support::rows::bytes;
+use test_support::writers::Narrow;
+
+// A section, an interface, and a packet with a comment: 28, 20 and 48 bytes.
+const WHOLE: &str = "
+    0a0d0d0a 0000001c 1a2b3c4d 0001 0000 ffffffffffffffff 0000001c
+    00000001 00000014 0001 0000 00000000 00000014
+    00000006 00000030 00000000 00000001 00000002 00000002 00000002 6162 0000 0001 0001 63 000000 00000000 00000030
+";
+
+fn packet(alloc: Global) -> ResultParsing<EnhancedPacketBlock<'static>> {
+    let options = vec![in alloc; EnhancedPacketOption::Comment(CowStr::Borrowed("c"))]?;
+    Ok(EnhancedPacketBlock {
+        interface_id: 0,
+        timestamp: 0x0000_0001_0000_0002,
+        captured_len: 2,
+        original_len: 2,
+        data_: CowBytes::Borrowed(&[0x61, 0x62]),
+        options,
+    })
+}
+
+// Whether writing this block fails once, and from then on each block is refused, and nothing more is asked of the stream.
+fn fails_at<B: PcapNgBlock>(
+    alloc: Global,
+    writer: &mut PcapNgWriter<&mut Narrow>,
+    block: &B,
+) -> bool {
+    let began = !writer.failed();
+    let interfaces = writer.interfaces();
+    let first = matches!(writer.write_pcapng_block(block), Err(PcapError::IoError(_)));
+    let calls = writer.get_ref().calls;
+    let second = matches!(
+        writer.write_pcapng_block(block),
+        Err(PcapError::WriterFailed)
+    );
+    let unfit = UnknownBlock::new(BlockType::Unknown(1), 0, &[]);
+    let third = matches!(
+        writer.write_pcapng_block(&unfit),
+        Err(PcapError::WriterFailed)
+    );
+    let fourth = matches!(
+        writer.write_pcapng_block(&interface(alloc)),
+        Err(PcapError::WriterFailed)
+    );
+    let is_refused = second && third && fourth && writer.get_ref().calls == calls;
+    began && first && is_refused && writer.failed() && writer.interfaces() == interfaces
+}
+
+// Whether the section, the interface and the packet go out up to the one that fails behind so many bytes.
+fn fails_once(alloc: Global, output: &mut Narrow, gone: usize) -> ResultParsing<bool> {
+    match PcapNgWriter::with_endianness(alloc, Endianness::Big, &mut *output) {
+        Err(PcapError::IoError(_)) => Ok(gone < 28),
+        Err(error) => Err(error),
+        Ok(mut writer) if gone < 48 => {
+            Ok(gone >= 28 && fails_at(alloc, &mut writer, &interface(alloc)))
+        }
+        Ok(mut writer) => {
+            writer.write_pcapng_block(&interface(alloc))?;
+            Ok(fails_at(alloc, &mut writer, &packet(alloc)?))
+        }
+    }
+}
+
+// Whether a writer fails once, and these bytes are what went out.
+fn leaves(alloc: Global, mut output: Narrow, gone: &[u8]) -> ResultParsing<bool> {
+    let fails = fails_once(alloc, &mut output, gone.len())?;
+    Ok(fails && output.out.as_slice() == gone)
+}
+
+#[test]
+fn every_room(rt: HostRuntime) -> Result<(), Fail> {
+    let whole = bytes(rt.alloc(), WHOLE)?;
+    for fails in [false, true] {
+        for room in 0..96usize {
+            let output = Narrow::new(rt.alloc(), room, fails);
+            let gone = front(whole.as_slice(), room);
+            assert!(rt; leaves(rt.alloc(), output, gone)?, "at {room}");
+        }
+    }
+    Ok(())
+}
+
+// Each call of a writer that takes ten bytes at most, and how many bytes went out before it.
+const CALLS: [(u64, usize); 10] = [
+    (1, 0),
+    (2, 10),
+    (3, 20),
+    (4, 28),
+    (5, 38),
+    (6, 48),
+    (7, 58),
+    (8, 68),
+    (9, 78),
+    (10, 88),
+];
+
+#[test]
+fn halted_calls(rt: HostRuntime) -> Result<(), Fail> {
+    let whole = bytes(rt.alloc(), WHOLE)?;
+    for (call, gone) in CALLS {
+        for is_idle in [false, true] {
+            let output = Narrow::halting(rt.alloc(), call, is_idle);
+            let gone = front(whole.as_slice(), gone);
+            assert!(rt; leaves(rt.alloc(), output, gone)?, "at {call}");
+        }
+    }
+    Ok(())
+}
+
+#[test]
+fn short_writes(rt: HostRuntime) -> Result<(), Fail> {
+    let whole = bytes(rt.alloc(), WHOLE)?;
+    for step in 1..50usize {
+        let mut output = Narrow::new(rt.alloc(), 96, true);
+        output.step = step;
+        let mut writer = PcapNgWriter::with_endianness(rt.alloc(), Endianness::Big, output)?;
+        writer.write_pcapng_block(&interface(rt.alloc()))?;
+        writer.write_pcapng_block(&packet(rt.alloc())?)?;
+        assert!(rt; !writer.failed());
+        assert_eq!(rt; writer.into_writer().out.as_slice(), whole.as_slice());
+    }
+    Ok(())
+}

@@ -1,0 +1,23 @@
+//! What `pcap_written` writes of values, and what it refuses to write.
+#![tactic(auto)]
+
+#[cfg(test)]
+mod built;
+#[cfg(test)]
+mod failing;
+#[cfg(test)]
+mod long;
+#[cfg(test)]
+mod refused;
+#[cfg(test)]
+mod refused_options;
+#[cfg(test)]
+mod refused_records;
+#[cfg(test)]
+mod rows;
+#[cfg(test)]
+mod sections;
+#[cfg(test)]
+mod tables;
+#[cfg(test)]
+mod writing;

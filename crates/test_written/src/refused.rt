@@ -1,0 +1,189 @@
+//! Blocks that are refused for what is no option and no record, and writers that are not made.
+
+use crate::writing::{has_message, interface, tell_refusal};
+use pcap_blocks::{
+    BlockType, EnhancedPacketBlock, InterfaceDescriptionBlock, InterfaceStatisticsBlock,
+    PacketBlock, ParsedBlock, SectionHeaderBlock, SectionHeaderOption, UnknownBlock,
+};
+use pcap_core::{CowBytes, DataLink};
+use pcap_written::{PcapNgWriter, Unwritable};
+use std::alloc::Global;
+use std::borrow::CowStr;
+use std::test::*;
+use test_support::writers::Narrow;
+
+// A section with this magic number.
+fn section(alloc: Global, magic: u32) -> SectionHeaderBlock<'static> {
+    SectionHeaderBlock {
+        magic,
+        major_version: 1,
+        minor_version: 0,
+        section_length: -1,
+        options: Vec::new(alloc),
+    }
+}
+
+// An enhanced packet of two bytes that states this length for them.
+fn enhanced(alloc: Global, interface_id: u32, captured_len: u32) -> EnhancedPacketBlock<'static> {
+    EnhancedPacketBlock {
+        interface_id,
+        timestamp: 0,
+        captured_len,
+        original_len: 2,
+        data_: CowBytes::Borrowed(&[1, 2]),
+        options: Vec::new(alloc),
+    }
+}
+
+// An obsolete packet of two bytes that states this length for them.
+fn packet(alloc: Global, interface_id: u16, captured_len: u32) -> PacketBlock<'static> {
+    PacketBlock {
+        interface_id,
+        drop_count: 0,
+        timestamp: 0,
+        captured_len,
+        original_len: 2,
+        data_: CowBytes::Borrowed(&[1, 2]),
+        options: Vec::new(alloc),
+    }
+}
+
+fn statistics(alloc: Global, interface_id: u32) -> InterfaceStatisticsBlock<'static> {
+    InterfaceStatisticsBlock {
+        interface_id,
+        timestamp: 0,
+        options: Vec::new(alloc),
+    }
+}
+
+#[test]
+fn magic_numbers(rt: HostRuntime) -> Result<(), Fail> {
+    let mut told = String::new(rt.alloc());
+    let message = "SectionHeaderBlock: invalid magic number";
+    for magic in [0, 0x1A2B3C4E, 0x4D3C2B1B, u32::MAX] {
+        let block = ParsedBlock::SectionHeader(section(rt.alloc(), magic));
+        tell_refusal(rt.alloc(), &block, message, &mut told)?;
+    }
+    assert_eq!(rt; told.as_str(), "");
+    Ok(())
+}
+
+#[test]
+fn stated_lengths(rt: HostRuntime) -> Result<(), Fail> {
+    let mut told = String::new(rt.alloc());
+    let message = "EnhancedPacketBlock: captured_len != data.len()";
+    for len in [0, 1, 3, u32::MAX] {
+        tell_refusal(
+            rt.alloc(),
+            &enhanced(rt.alloc(), 0, len),
+            message,
+            &mut told,
+        )?;
+        tell_refusal(rt.alloc(), &packet(rt.alloc(), 0, len), message, &mut told)?;
+    }
+    let message = "UnknownBlock: length != value.len()";
+    for len in [0, 1, 3, 4, u32::MAX] {
+        let block = UnknownBlock::new(BlockType::Unknown(7), len, &[1, 2]);
+        tell_refusal(rt.alloc(), &block, message, &mut told)?;
+    }
+    assert_eq!(rt; told.as_str(), "");
+    Ok(())
+}
+
+#[test]
+fn missing_interfaces(rt: HostRuntime) -> Result<(), Fail> {
+    let mut told = String::new(rt.alloc());
+    let message = "Block: interface_id is not described";
+    for id in [2, 3, 65535u16] {
+        tell_refusal(rt.alloc(), &packet(rt.alloc(), id, 2), message, &mut told)?;
+    }
+    for id in [2, 3, 65536, u32::MAX] {
+        tell_refusal(rt.alloc(), &enhanced(rt.alloc(), id, 2), message, &mut told)?;
+        tell_refusal(rt.alloc(), &statistics(rt.alloc(), id), message, &mut told)?;
+    }
+    assert_eq!(rt; told.as_str(), "");
+    Ok(())
+}
+
+#[test]
+fn link_types(rt: HostRuntime) -> Result<(), Fail> {
+    let mut told = String::new(rt.alloc());
+    let large = "InterfaceDescriptionBlock: linktype > 65535";
+    let named = "InterfaceDescriptionBlock: linktype has a name";
+    for (number, message) in [
+        (65536, large),
+        (u32::MAX, large),
+        (0, named),
+        (1, named),
+        (268, named),
+    ] {
+        let block = InterfaceDescriptionBlock {
+            linktype: DataLink::Unknown(number),
+            ..interface(rt.alloc())
+        };
+        tell_refusal(rt.alloc(), &block, message, &mut told)?;
+    }
+    assert_eq!(rt; told.as_str(), "");
+    Ok(())
+}
+
+#[test]
+fn types_with_names(rt: HostRuntime) -> Result<(), Fail> {
+    let mut told = String::new(rt.alloc());
+    for type_ in [
+        BlockType::Unknown(0x0A0D0D0A),
+        BlockType::Unknown(1),
+        BlockType::Unknown(2),
+        BlockType::Unknown(3),
+        BlockType::Unknown(4),
+        BlockType::Unknown(5),
+        BlockType::Unknown(6),
+        BlockType::Unknown(9),
+    ] {
+        let block = UnknownBlock::new(type_, 2, &[1, 2]);
+        tell_refusal(
+            rt.alloc(),
+            &block,
+            "UnknownBlock: type has a name",
+            &mut told,
+        )?;
+    }
+    assert_eq!(rt; told.as_str(), "");
+    Ok(())
+}
+
+// Whether no writer is made over this section, for this message, and nothing is written.
+fn is_not_made(alloc: Global, section: &SectionHeaderBlock, message: &str) -> bool {
+    let mut output = Narrow::new(alloc, 1000, true);
+    let is_refused = match PcapNgWriter::with_section_header(alloc, section, &mut output) {
+        Ok(_) => false,
+        Err(error) => has_message(&error, message),
+    };
+    is_refused && output.out.is_empty() && output.calls == 0
+}
+
+#[test]
+fn first_sections(rt: HostRuntime) -> Result<(), Fail> {
+    let no_magic = section(rt.alloc(), 0);
+    let message = "SectionHeaderBlock: invalid magic number";
+    assert!(rt; is_not_made(rt.alloc(), &no_magic, message));
+    let text = "a".repeat(rt.alloc(), 65_536)?;
+    let long = SectionHeaderBlock {
+        options: vec![in rt.alloc(); SectionHeaderOption::OS(CowStr::Borrowed(text.as_str()))]?,
+        ..section(rt.alloc(), 0x1A2B3C4D)
+    };
+    assert!(rt; is_not_made(rt.alloc(), &long, "Option: value length > 65535"));
+    Ok(())
+}
+
+#[test]
+fn messages_of_what_is_too_much(rt: HostRuntime) {
+    assert_eq!(rt;
+        Unwritable::BlockTooLong.message(),
+        "Block: length > 0xFFFFFFFF"
+    );
+    assert_eq!(rt;
+        Unwritable::InterfacesFull.message(),
+        "SectionHeader: too many interfaces"
+    );
+}
