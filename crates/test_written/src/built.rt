@@ -165,7 +165,7 @@ fn names(rt: HostRuntime) -> Result<(), Fail> {
 
 // So many bytes, themselves with their padding, and the last byte of the length of a block with nothing else, and of one with
 // four bytes before them.
-const ENDS: [(usize, &str, &str, &str); 6] = [
+const ENDS: [(u32, &str, &str, &str); 6] = [
     (0, "", "0c", "10"),
     (1, "11000000", "10", "14"),
     (2, "11220000", "10", "14"),
@@ -196,7 +196,7 @@ fn simple_packets(rt: HostRuntime) -> Result<(), Fail> {
     for (count, end, _, len) in ENDS {
         let packet = SimplePacketBlock {
             original_len: 0x01020304,
-            data_: CowBytes::Borrowed(front(&BYTES, count)),
+            data_: CowBytes::Borrowed(front(&BYTES, count as usize)),
         };
         let big = format!(in rt.alloc(); "01020304 {end}")?;
         let little = format!(in rt.alloc(); "04030201 {end}")?;
@@ -211,12 +211,12 @@ fn simple_packets(rt: HostRuntime) -> Result<(), Fail> {
 fn entries_and_unknown_blocks(rt: HostRuntime) -> Result<(), Fail> {
     let mut told = String::new(rt.alloc());
     for (count, end, len, _) in ENDS {
-        let data = front(&BYTES, count);
+        let data = front(&BYTES, count as usize);
         let entry = SystemdJournalExportBlock {
             journal_entry: CowBytes::Borrowed(data),
         };
         tell_framed(rt.alloc(), &entry, ("09", len), [end, end], &mut told)?;
-        let unknown = UnknownBlock::new(BlockType::Unknown(0x0a), data.len() as u32, data);
+        let unknown = UnknownBlock::new(BlockType::Unknown(0x0a), count, data);
         tell_framed(rt.alloc(), &unknown, ("0a", len), [end, end], &mut told)?;
     }
     assert_eq!(rt; told.as_str(), "");

@@ -57,18 +57,25 @@ fn fails_at<B: PcapNgBlock>(
     began && first && is_refused && writer.failed() && writer.interfaces() == interfaces
 }
 
+// Whether behind the section the interface and the packet go out up to the one that fails behind so many bytes.
+fn fails_behind(
+    alloc: Global,
+    writer: &mut PcapNgWriter<&mut Narrow>,
+    gone: usize,
+) -> ResultParsing<bool> {
+    if gone < 48 {
+        return Ok(gone >= 28 && fails_at(alloc, writer, &interface(alloc)));
+    }
+    writer.write_pcapng_block(&interface(alloc))?;
+    Ok(fails_at(alloc, writer, &packet(alloc)?))
+}
+
 // Whether the section, the interface and the packet go out up to the one that fails behind so many bytes.
 fn fails_once(alloc: Global, output: &mut Narrow, gone: usize) -> ResultParsing<bool> {
-    match PcapNgWriter::with_endianness(alloc, Endianness::Big, &mut *output) {
+    match PcapNgWriter::with_endianness(alloc, Endianness::Big, output) {
         Err(PcapError::IoError(_)) => Ok(gone < 28),
-        Err(error) => Err(error),
-        Ok(mut writer) if gone < 48 => {
-            Ok(gone >= 28 && fails_at(alloc, &mut writer, &interface(alloc)))
-        }
-        Ok(mut writer) => {
-            writer.write_pcapng_block(&interface(alloc))?;
-            Ok(fails_at(alloc, &mut writer, &packet(alloc)?))
-        }
+        Err(_) => Ok(false),
+        Ok(mut writer) => fails_behind(alloc, &mut writer, gone),
     }
 }
 

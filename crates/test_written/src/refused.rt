@@ -5,7 +5,7 @@ use pcap_blocks::{
     BlockType, EnhancedPacketBlock, InterfaceDescriptionBlock, InterfaceStatisticsBlock,
     PacketBlock, ParsedBlock, SectionHeaderBlock, SectionHeaderOption, UnknownBlock,
 };
-use pcap_core::{CowBytes, DataLink};
+use pcap_core::{CowBytes, DataLink, PcapError};
 use pcap_written::{PcapNgWriter, Unwritable};
 use std::alloc::Global;
 use std::borrow::CowStr;
@@ -152,14 +152,18 @@ fn types_with_names(rt: HostRuntime) -> Result<(), Fail> {
     Ok(())
 }
 
+// Why no writer is made over this section, if none is.
+fn refusal(alloc: Global, section: &SectionHeaderBlock, output: &mut Narrow) -> Option<PcapError> {
+    PcapNgWriter::with_section_header(alloc, section, output).err()
+}
+
 // Whether no writer is made over this section, for this message, and nothing is written.
 fn is_not_made(alloc: Global, section: &SectionHeaderBlock, message: &str) -> bool {
     let mut output = Narrow::new(alloc, 1000, true);
-    let is_refused = match PcapNgWriter::with_section_header(alloc, section, &mut output) {
-        Ok(_) => false,
-        Err(error) => has_message(&error, message),
-    };
-    is_refused && output.out.is_empty() && output.calls == 0
+    match refusal(alloc, section, &mut output) {
+        Some(error) => has_message(&error, message) && output.out.is_empty() && output.calls == 0,
+        None => false,
+    }
 }
 
 #[test]

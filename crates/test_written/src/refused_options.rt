@@ -333,10 +333,9 @@ fn values_of_other_lengths(rt: HostRuntime) -> Result<(), Fail> {
 }
 
 #[test]
-fn long_hashes_and_texts(rt: HostRuntime) -> Result<(), Fail> {
+fn long_hashes_and_custom_values(rt: HostRuntime) -> Result<(), Fail> {
     let mut told = String::new(rt.alloc());
     let long = pattern(rt.alloc(), 65_536)?;
-    let text = "a".repeat(rt.alloc(), 65_536)?;
     let hash = PacketOption::Hash(CowBytes::Borrowed(long.as_slice()));
     tell_refusal(
         rt.alloc(),
@@ -351,18 +350,26 @@ fn long_hashes_and_texts(rt: HostRuntime) -> Result<(), Fail> {
         TOO_LONG,
         &mut told,
     )?;
-    let comment = InterfaceStatisticsOption::Comment(CowStr::Borrowed(text.as_str()));
-    tell_refusal(
-        rt.alloc(),
-        &statistics_with(rt.alloc(), comment)?,
-        TOO_LONG,
-        &mut told,
-    )?;
     let custom = CustomBinaryOption::from_slice::<BigEndian>(2989, long.as_slice())?;
     let custom = NameResolutionOption::CustomBinary(custom);
     tell_refusal(
         rt.alloc(),
         &name_with(rt.alloc(), custom)?,
+        TOO_LONG,
+        &mut told,
+    )?;
+    assert_eq!(rt; told.as_str(), "");
+    Ok(())
+}
+
+#[test]
+fn long_texts(rt: HostRuntime) -> Result<(), Fail> {
+    let mut told = String::new(rt.alloc());
+    let text = "a".repeat(rt.alloc(), 65_536)?;
+    let comment = InterfaceStatisticsOption::Comment(CowStr::Borrowed(text.as_str()));
+    tell_refusal(
+        rt.alloc(),
+        &statistics_with(rt.alloc(), comment)?,
         TOO_LONG,
         &mut told,
     )?;
