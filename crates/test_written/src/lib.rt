@@ -8,6 +8,8 @@ mod failing;
 #[cfg(test)]
 mod long;
 #[cfg(test)]
+mod packets;
+#[cfg(test)]
 mod refused;
 #[cfg(test)]
 mod refused_options;

@@ -139,6 +139,10 @@ fn types_with_names(rt: HostRuntime) -> Result<(), Fail> {
         BlockType::Unknown(5),
         BlockType::Unknown(6),
         BlockType::Unknown(9),
+        BlockType::SectionHeader,
+        BlockType::InterfaceDescription,
+        BlockType::EnhancedPacket,
+        BlockType::SystemdJournalExport,
     ] {
         let block = UnknownBlock::new(type_, 2, &[1, 2]);
         tell_refusal(
