@@ -1,5 +1,5 @@
 -- Words that come one by one, and what they ask for.
-use Rattle.std.proofs.Common.{◌≡◌, ◌<◌, ◌≤◌, ◌⊎◌, ℕ, zero, suc, List, [], ◌∷◌, Option, None, Some, IfSome, Ok, Err, inl, inr, refl, sym, ap, ◌∙◌, subst, length, slice_get, codes, arith}
+use Rattle.std.proofs.Common.{◌≡◌, ◌≤◌, ℕ, zero, suc, List, [], ◌∷◌, Option, None, Some, IfSome, Ok, Err, inl, inr, refl, ap, ◌∙◌, subst, length, slice_get, codes, arith}
 use Rattle.std.specs.Borrow.{Bor}
 use Rattle.std.specs.Prelude.{⊤, IsUtf8, ◌==◌, if◌then◌else◌}
 use Rattle.std.proofs.KnownBytes.{Keeps-refl, prepend_known-nil}
@@ -15,10 +15,9 @@ use Rattle.pcap_classic.specs.declared.run.copy.Under.{Under}
 use Rattle.pcap_classic.specs.declared.run.copy.Under.TheVariants.{Same, Header, Order}
 use Rattle.capcopy_run.specs.declared.exit.Exit.{Exit}
 use Rattle.capcopy_run.specs.declared.exit.Exit.TheVariants as exits
-use Rattle.capcopy_run.specs.declared.words.Place.{Place}
 use Rattle.capcopy_run.specs.declared.words.Place.TheVariants.{Empty, Unknown, Text}
 use Rattle.capcopy_run.specs.Runs.{IsStrange, StandsAt, TellsWord, Runs, RunsBuffered}
-use Rattle.capcopy_run.specs.Words.{order_word, resolution_word, AskForList, AskForBlocks, AskForCopy, AskForNothing}
+use Rattle.capcopy_run.specs.Words.{order_word, resolution_word, AskForCopy, AskForNothing}
 
 -- none of these words is strange
 abbrev ArePlain : List (List ℕ) → Type 0

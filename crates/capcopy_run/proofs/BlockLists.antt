@@ -26,15 +26,15 @@ goes_after q item = refl
 -- a capture whose first block was taken
 module _ (q : State) (section : Section) (names : heading_of q ≡ section_line section) (bytes known before mid : Option (List ℕ)) (took : Takes OpeningSays bytes known q) where
   -- and whose section's line did not go out
-  pub section_torn : (most : ℕ) (exit : Exit) → WritesLine (λ line. line ≡ section_line section) before mid (Err exit) → IfSome bytes (λ s. ListsUntil block_lines most s before mid exit)
+  pub section_torn : (most : ℕ) (exit : Exit) → WritesLine (λ line. line ≡ section_line section) before mid (Err exit) → IfSome bytes (λ s. ListsUntil block_lines most s known before mid exit)
   section_torn most exit part = lists_heading block_lines opening_stable q tt most bytes known before mid took exit (subst (λ (l : List ℕ). WritesLine (λ line. line ≡ l) before mid (Err exit)) (sym names) part)
 
   -- and whose blocks were listed after that line
-  pub blocks_known : WritesLine (λ line. line ≡ section_line section) before mid (Ok tt) → (most : ℕ) (after : Option (List ℕ)) (result : Result (Unit {0}) Exit)
-      → ListsItems IsItemLine block_format q known mid after most result → IfSome bytes (λ s. ListsUntil block_lines most s before after (exit_of result))
-  blocks_known written most after result run =
+  pub blocks_known : WritesLine (λ line. line ≡ section_line section) before mid (Ok tt) → (most : ℕ) (now after : Option (List ℕ)) (result : Result (Unit {0}) Exit)
+      → ListsItems IsItemLine block_format q known now mid after most result → IfSome bytes (λ s. ListsUntil block_lines most s now before after (exit_of result))
+  blocks_known written most now after result run =
       let headed = subst (λ (l : List ℕ). Appends before mid l) (written.1 ∙ sym names) written.2 in
-      lists_known block_lines opening_stable q blocks_lawful bytes known before mid took headed most after result run
+      lists_known block_lines opening_stable q blocks_lawful bytes known before mid took headed most now after result run
 
 -- the word for a body is short
 pub word_short : (block : Framed) (word : List ℕ) → IsBodyWord block word → length word ≤ 7

@@ -1,25 +1,26 @@
 -- Items that are listed, one after another, over any lawful format.
 use Rattle.std.proofs.Common.{◌≡◌, ◌<◌, ◌≤◌, ◌+◌, IfSome, ◌⊎◌, ℕ, suc, List, [], ◌∷◌, ◌++◌, length, Bool, false, Option, Some, None, Result, Ok, Err, inl, inr, refl, sym, ap, ◌∙◌, subst, arith, length-append, append_assoc}
 use Rattle.std.specs.Io.KnownBytes.{Appends, Keeps, IsAtEnd}
-use Rattle.std.proofs.KnownBytes.{Appends-nil, Appends-trans, Consumes-nil, Keeps-refl}
+use Rattle.std.proofs.KnownBytes.{Appends-nil, Appends-trans, Consumes-nil, Consumes-kept, Keeps-refl}
 use Rattle.pcap_core.specs.declared.errors.PcapError.{PcapError}
 use Rattle.pcap_core.specs.declared.errors.PcapError.TheVariants as errors
 use Rattle.pcap_core.specs.Answer.{Verdict, whole}
 use Rattle.pcap_core.specs.Errors.{IsIo, IsMemory}
 use Rattle.pcap_core.specs.Faults.{Shows}
-use Rattle.pcap_core.specs.Format.{Format, Front, IsLawful, state_after}
+use Rattle.pcap_core.specs.Format.{Format, Front, Texts, IsLawful, state_after}
 use Rattle.pcap_core.specs.Laws.{IsStable}
-use Rattle.pcap_core.specs.Reading.{IsFaultOf, Takes, HasCause, read_failed, no_memory, torn, refused}
+use Rattle.pcap_core.specs.Reading.{IsFaultOf, Takes, TakesAsked, HasCause, read_failed, no_memory, torn, refused}
 use Rattle.pcap_core.specs.Takes.{TakesTexts, ReadsFront, Stops}
 use Rattle.pcap_core.proofs.Pulling.{nothing_asked}
 use Rattle.pcap_core.specs.Writing.{AppendsPart}
-use Rattle.pcap_core.proofs.Formats.{state_push}
+use Rattle.pcap_core.proofs.Formats.{state_push, lacks_no_text, fault_no_text, texts_more, front_goes_on, nothing_more}
+use Rattle.pcap_core.proofs.Refusals.{shown_fault}
 use Rattle.pcap_core.proofs.Taking.{takes_more, run_reads}
 use Rattle.capcopy_run.specs.declared.exit.Exit.{Exit}
 use Rattle.capcopy_run.specs.declared.exit.Exit.TheVariants as exits
 use Rattle.capcopy_run.specs.Exits.{EndsAt, exit_of}
 use Rattle.capcopy_run.specs.Lines.{WritesLine}
-use Rattle.capcopy_run.specs.Listing.{Kind, Listing, TearsNext, LinesEnd, ListsItems, Listed, TearsLine, ListsUntil}
+use Rattle.capcopy_run.specs.Listing.{Kind, Listing, TearsNext, LinesEnd, InputEnd, ListsItems, Listed, TearsLine, ListsUntil}
 use Rattle.capcopy_run.proofs.Lines.{lines_push}
 
 -- a refusal that is neither of a read nor for want of memory shows a fault
@@ -38,6 +39,30 @@ module _ {V : Type 0} (IsLine : ℕ → V → List ℕ → Type 0) (IsSaid : Lis
   ends_refused failed (errors.IncompleteBuffer k) exit cause ends = absurd (shows IsSaid left failed (errors.IncompleteBuffer k) (λ x. x) (λ x. x) cause)
   ends_refused failed (errors.FromUtf8Error x) exit cause ends = absurd (shows IsSaid left failed (errors.FromUtf8Error x) (λ x. x) (λ x. x) cause)
   ends_refused failed errors.WriterFailed exit cause ends = absurd (shows IsSaid left failed errors.WriterFailed (λ x. x) (λ x. x) cause)
+
+  -- of the input no more was taken then than was asked for
+  pub asked_refused : (now : Option (List ℕ)) (e : PcapError) (exit : Exit) → TakesAsked IsSaid left now → EndsAt e exit → InputEnd IsSaid left now (Err exit)
+  asked_refused now (errors.IoError x) exit asked ends = rw ends tt
+  asked_refused now (errors.OutOfMemory x) exit asked ends = rw ends tt
+  asked_refused now (errors.InvalidField t) exit asked ends = rw ends asked
+  asked_refused now (errors.Utf8Error x) exit asked ends = rw ends asked
+  asked_refused now (errors.FromUtf8Error x) exit asked ends = rw ends asked
+  asked_refused now errors.WriterFailed exit asked ends = rw ends asked
+  asked_refused now (errors.IncompleteBuffer k) (exits.Io e) asked ends = tt
+  asked_refused now (errors.IncompleteBuffer k) exits.Memory asked ends = absurd ends
+  asked_refused now (errors.IncompleteBuffer k) exits.Done asked ends = absurd ends
+  asked_refused now (errors.IncompleteBuffer k) (exits.Refused e) asked ends = absurd ends
+  asked_refused now (errors.IncompleteBuffer k) exits.Most asked ends = absurd ends
+  asked_refused now (errors.IncompleteBuffer k) exits.Usage asked ends = absurd ends
+
+  -- whatever is left where a line was not written
+  pub any_torn : (now out_now : Option (List ℕ)) (item : V) (exit : Exit) → WritesLine (IsLine (n + 1) item) mid out_now (Err exit) → InputEnd IsSaid left now (Err exit)
+  any_torn now out_now item (exits.Io e) part = tt
+  any_torn now out_now item exits.Memory part = tt
+  any_torn now out_now item exits.Done part = absurd part
+  any_torn now out_now item (exits.Refused e) part = absurd part
+  any_torn now out_now item exits.Most part = absurd part
+  any_torn now out_now item exits.Usage part = absurd part
 
   -- a line that was not written ends them
   pub ends_torn : (now out_now : Option (List ℕ)) (item : V) (exit : Exit) → Takes IsSaid left now item
@@ -87,17 +112,17 @@ module _ {S V : Type 0} (IsLine : ℕ → V → List ℕ → Type 0) (f : Format
       }
 
 -- the exit where the opening is refused
-module _ {O S V : Type 0} (kind : Kind O S V) (most : ℕ) (s : List ℕ) (before after : Option (List ℕ)) (kept : Keeps before after) where
-  opening_shown : (e : PcapError) → Shows (IsFaultOf kind.opens (Some s)) e → (exit : Exit) → EndsAt e exit → ListsUntil kind most s before after exit
+module _ {O S V : Type 0} (kind : Kind O S V) (most : ℕ) (s : List ℕ) (now before after : Option (List ℕ)) (kept : Keeps before after) (asked : TakesAsked kind.opens (Some s) now) where
+  opening_shown : (e : PcapError) → Shows (IsFaultOf kind.opens (Some s)) e → (exit : Exit) → EndsAt e exit → ListsUntil kind most s now before after exit
   opening_shown (errors.IoError x) stands exit ends = rw ends (inl kept)
-  opening_shown (errors.InvalidField t) stands exit ends = rw ends (inl (stands, kept))
-  opening_shown (errors.Utf8Error x) stands exit ends = rw ends (inl (stands, kept))
+  opening_shown (errors.InvalidField t) stands exit ends = rw ends (inl (stands, asked, kept))
+  opening_shown (errors.Utf8Error x) stands exit ends = rw ends (inl (stands, asked, kept))
   opening_shown (errors.IncompleteBuffer k) stands exit ends = absurd stands
   opening_shown (errors.FromUtf8Error x) stands exit ends = absurd stands
   opening_shown (errors.OutOfMemory x) stands exit ends = absurd stands
   opening_shown errors.WriterFailed stands exit ends = absurd stands
 
-  opening_io : (e : PcapError) → IsIo e → (exit : Exit) → EndsAt e exit → ListsUntil kind most s before after exit
+  opening_io : (e : PcapError) → IsIo e → (exit : Exit) → EndsAt e exit → ListsUntil kind most s now before after exit
   opening_io (errors.IoError x) io exit ends = rw ends (inl kept)
   opening_io (errors.InvalidField t) io exit ends = absurd io
   opening_io (errors.Utf8Error x) io exit ends = absurd io
@@ -106,7 +131,7 @@ module _ {O S V : Type 0} (kind : Kind O S V) (most : ℕ) (s : List ℕ) (befor
   opening_io (errors.OutOfMemory x) io exit ends = absurd io
   opening_io errors.WriterFailed io exit ends = absurd io
 
-  opening_memory : (e : PcapError) → kind.grows → IsMemory e → (exit : Exit) → EndsAt e exit → ListsUntil kind most s before after exit
+  opening_memory : (e : PcapError) → kind.grows → IsMemory e → (exit : Exit) → EndsAt e exit → ListsUntil kind most s now before after exit
   opening_memory (errors.IoError x) grows memory exit ends = absurd memory
   opening_memory (errors.InvalidField t) grows memory exit ends = absurd memory
   opening_memory (errors.Utf8Error x) grows memory exit ends = absurd memory
@@ -116,19 +141,19 @@ module _ {O S V : Type 0} (kind : Kind O S V) (most : ℕ) (s : List ℕ) (befor
   opening_memory errors.WriterFailed grows memory exit ends = absurd memory
 
 -- a capture whose opening is refused
-pub lists_none : {O S V : Type 0} (kind : Kind O S V) (most : ℕ) (known before after : Option (List ℕ)) → Keeps before after → (e : PcapError)
-    → (IsMemory e → kind.grows) → IsIo e ⊎ IsMemory e ⊎ Shows (IsFaultOf kind.opens known) e → (exit : Exit) → EndsAt e exit → IfSome known (λ s. ListsUntil kind most s before after exit)
-lists_none kind most None before after kept e grows cause exit ends = tt
-lists_none kind most (Some s) before after kept e grows cause exit ends =
+pub lists_none : {O S V : Type 0} (kind : Kind O S V) (most : ℕ) (known now before after : Option (List ℕ)) → Keeps before after → TakesAsked kind.opens known now → (e : PcapError)
+    → (IsMemory e → kind.grows) → IsIo e ⊎ IsMemory e ⊎ Shows (IsFaultOf kind.opens known) e → (exit : Exit) → EndsAt e exit → IfSome known (λ s. ListsUntil kind most s now before after exit)
+lists_none kind most None now before after kept asked e grows cause exit ends = tt
+lists_none kind most (Some s) now before after kept asked e grows cause exit ends =
     elim cause [
-      | inl io ↦ opening_io kind most s before after kept e io exit ends
-      | inr (inl memory) ↦ opening_memory kind most s before after kept e (grows memory) memory exit ends
-      | inr (inr stands) ↦ opening_shown kind most s before after kept e stands exit ends
+      | inl io ↦ opening_io kind most s now before after kept asked e io exit ends
+      | inr (inl memory) ↦ opening_memory kind most s now before after kept asked e (grows memory) memory exit ends
+      | inr (inr stands) ↦ opening_shown kind most s now before after kept asked e stands exit ends
     ]
 
 -- an opening that was taken, and a line of it that did not go out
-module _ {O S V : Type 0} (kind : Kind O S V) (grows : kind.grows) (most : ℕ) (s : List ℕ) (before after : Option (List ℕ)) (opening : O) (rest : List ℕ) (opens : kind.opens s (whole opening rest)) where
-  heading_torn : (exit : Exit) → WritesLine (λ line. line ≡ kind.heading opening) before after (Err exit) → ListsUntil kind most s before after exit
+module _ {O S V : Type 0} (kind : Kind O S V) (grows : kind.grows) (most : ℕ) (s : List ℕ) (now before after : Option (List ℕ)) (opening : O) (rest : List ℕ) (opens : kind.opens s (whole opening rest)) where
+  heading_torn : (exit : Exit) → WritesLine (λ line. line ≡ kind.heading opening) before after (Err exit) → ListsUntil kind most s now before after exit
   heading_torn (exits.Io (errors.IoError x)) part = inr (inl (record { opening = opening; rest = rest; opens = opens; out = subst (λ line. AppendsPart before after line) part.1 part.2 }))
   heading_torn (exits.Io (errors.IncompleteBuffer k)) part = absurd part
   heading_torn (exits.Io (errors.InvalidField t)) part = absurd part
@@ -179,31 +204,62 @@ module _ {O S V : Type 0} (kind : Kind O S V) (opening : O) (laws : IsLawful (ki
     out = Appends-trans before start mid (kind.heading opening) so_far.lines headed so_far.out;
   }
 
-  lists_clean : (most n : ℕ) (here : S) (mid after left : Option (List ℕ)) → ListingTo here left mid n → n < most → IsAtEnd left → Keeps mid after → ListsUntil kind most s before after exits.Done
-  lists_clean most n here mid after left so_far fewer end kept =
+  -- nothing more was taken behind the items
+  still_took : (items : List V) (left now : Option (List ℕ)) → TakesTexts f q items (Some rest) left → Keeps left now → TakesTexts f q items (Some rest) now
+  still_took items left now took still = record { bytes = took.bytes; texts = took.texts; took = Consumes-kept (Some rest) left now took.bytes took.took still }
+
+  still_at_end : (items : List V) (left now : Option (List ℕ)) → TakesTexts f q items (Some rest) left → IsAtEnd left → Keeps left now → IsAtEnd now
+  still_at_end items None now took end still = absurd took.took
+  still_at_end items (Some l) None took end still = absurd still
+  still_at_end items (Some l) (Some m) took end still = still ∙ end
+
+  -- what is left where the next item is refused is the front's rest
+  left_is_rest : (items more : List V) (left : Option (List ℕ)) (end : List ℕ) (e : PcapError) → TakesTexts f q items (Some rest) left → Front f q (items ++ more) rest end
+      → Shows (IsFaultOf (f.says (state_after f q items)) left) e → left ≡ Some end
+  left_is_rest items more None end e took front bad = absurd took.took
+  left_is_rest items more (Some l) end e took front bad =
+      let p = state_after f q items in
+      let texts : Texts f q items rest l = subst (λ (t : List ℕ). Texts f q items t l) (sym took.took) (texts_more f laws q items took.bytes [] l took.texts) in
+      let on = front_goes_on f laws q items (items ++ more) rest l end texts front in
+      let fault = shown_fault (IsFaultOf (f.says p) (Some l)) e bad in
+      let none : (v : V) (r : List ℕ) → f.says p l (whole v r) → ⊥ =
+      λ v r text. elim fault.1.shown [ inl stands ↦ fault_no_text f laws p fault.0 l stands v r text | inr early ↦ lacks_no_text f laws p early.n l early.lack v r text ] in
+      ap Some (sym (nothing_more f laws p on.0 l end on.2 none).1)
+
+  lists_clean : (most n : ℕ) (here : S) (mid now after left : Option (List ℕ)) → ListingTo here left mid n → n < most → IsAtEnd left → Keeps left now → Keeps mid after → ListsUntil kind most s now before after exits.Done
+  lists_clean most n here mid now after left so_far fewer end still kept =
       let few : length so_far.items < most = omega (arith, so_far.count, fewer) in
       let read = reads so_far.items left most None so_far.took (omega (arith, few)) (refl, Keeps-refl left, inl end) in
       elim read.ends.1 [
-        | inl all ↦ (listed_from most n here mid left None so_far read, record { fewer = few; all = all.0; nothing = all.1; out = kept })
+        | inl all ↦ (listed_from most n here mid left None so_far read, record { fewer = few; all = all.0; nothing = all.1; input = still_at_end so_far.items left now so_far.took end still; out = kept })
         | inr full ↦ absurd (omega (arith, few, full))
       ]
 
-  lists_most : (most n : ℕ) (here : S) (mid after left : Option (List ℕ)) → ListingTo here left mid n → n ≡ most → Keeps mid after → ListsUntil kind most s before after exits.Most
-  lists_most most n here mid after left so_far full kept =
-      (listed_from _ n here mid left None so_far (some_reads so_far.items left so_far.took), so_far.count ∙ full, kept)
+  lists_most : (most n : ℕ) (here : S) (mid now after left : Option (List ℕ)) → ListingTo here left mid n → n ≡ most → Keeps left now → Keeps mid after → ListsUntil kind most s now before after exits.Most
+  lists_most most n here mid now after left so_far full still kept = (
+    listed_from _ n here mid left None so_far (some_reads so_far.items left so_far.took),
+    record { count = so_far.count ∙ full; took = still_took so_far.items left now so_far.took still; out = kept },
+  )
 
-  lists_refused : (most n : ℕ) (here : S) (mid after left : Option (List ℕ)) (e : PcapError) → (IsIo e → ⊥) → (IsMemory e → ⊥) → ListingTo here left mid n → n < most
-      → Shows (IsFaultOf (f.says here) left) e → Keeps mid after → ListsUntil kind most s before after (exits.Refused e)
-  lists_refused most n here mid after left e no_io no_memory_ so_far fewer stands kept =
+  lists_refused : (most n : ℕ) (here : S) (mid now after left : Option (List ℕ)) (e : PcapError) → (IsIo e → ⊥) → (IsMemory e → ⊥) → ListingTo here left mid n → n < most
+      → Shows (IsFaultOf (f.says here) left) e → TakesAsked (f.says here) left now → Keeps mid after → ListsUntil kind most s now before after (exits.Refused e)
+  lists_refused most n here mid now after left e no_io no_memory_ so_far fewer stands asked kept =
       let few : length so_far.items < most = omega (arith, so_far.count, fewer) in
       let there = subst (λ (p : S). Shows (IsFaultOf (f.says p) left) e) (sym so_far.leads) stands in
+      let asked_there = subst (λ (p : S). TakesAsked (f.says p) left now) (sym so_far.leads) asked in
       let read = reads so_far.items left most (Some e) so_far.took (omega (arith, few)) (few, refused there refl, nothing_asked (f.says (state_after f q so_far.items)) left) in
       elim read.ends.1 [
         | inl io ↦ absurd (no_io io.0)
         | inr (inl memory) ↦ absurd (no_memory_ memory.0)
         | inr (inr all) ↦ inr (
           listed_from most n here mid left (Some e) so_far read,
-          record { fewer = few; all = all.0; refused = shows (f.says (state_after f q so_far.items)) (Some read.rest) false e no_io no_memory_ all.1; out = kept },
+          record {
+            fewer = few;
+            all = all.0;
+            refused = shows (f.says (state_after f q so_far.items)) (Some read.rest) false e no_io no_memory_ all.1;
+            asked = subst (λ (l : Option (List ℕ)). TakesAsked (f.says (state_after f q so_far.items)) l now) (left_is_rest so_far.items read.more left read.rest e so_far.took read.front there) asked_there;
+            out = kept;
+          },
         )
       ]
 
@@ -233,32 +289,32 @@ module _ {O S V : Type 0} (kind : Kind O S V) (opening : O) (laws : IsLawful (ki
       let is_line = subst (λ k. kind.IsLine (suc k) torn_.item torn_.line) (sym so_far.count) torn_.is_line in
       (listed, omega (arith, so_far.count, fewer), inr (record { next = torn_.item; others = read.more; more = refl; line = torn_.line; is_line = is_line; out = torn_.out }))
 
-  lists_from : (most : ℕ) (after : Option (List ℕ)) (result : Result (Unit {0}) Exit) → ListsItems kind.IsLine f q (Some rest) start after most result → ListsUntil kind most s before after (exit_of result)
-  lists_from most after (Ok done) run = lists_clean most run.n run.here run.mid after run.left run.so_far run.ends.0 run.ends.1 run.ends.2
-  lists_from most after (Err exits.Most) run = lists_most most run.n run.here run.mid after run.left run.so_far run.ends.0 run.ends.1
-  lists_from most after (Err (exits.Refused (errors.InvalidField t))) run =
-      lists_refused most run.n run.here run.mid after run.left (errors.InvalidField t) (λ x. x) (λ x. x) run.so_far run.ends.0 run.ends.1 run.ends.2
-  lists_from most after (Err (exits.Refused (errors.Utf8Error x))) run =
-      lists_refused most run.n run.here run.mid after run.left (errors.Utf8Error x) (λ x. x) (λ x. x) run.so_far run.ends.0 run.ends.1 run.ends.2
-  lists_from most after (Err (exits.Refused (errors.IoError x))) run = absurd run.ends
-  lists_from most after (Err (exits.Refused (errors.IncompleteBuffer k))) run = absurd run.ends.1
-  lists_from most after (Err (exits.Refused (errors.FromUtf8Error x))) run = absurd run.ends.1
-  lists_from most after (Err (exits.Refused (errors.OutOfMemory x))) run = absurd run.ends.1
-  lists_from most after (Err (exits.Refused errors.WriterFailed)) run = absurd run.ends.1
-  lists_from most after (Err (exits.Io (errors.IoError x))) run =
+  lists_from : (most : ℕ) (now after : Option (List ℕ)) (result : Result (Unit {0}) Exit) → ListsItems kind.IsLine f q (Some rest) now start after most result → ListsUntil kind most s now before after (exit_of result)
+  lists_from most now after (Ok done) run = lists_clean most run.n run.here run.mid now after run.left run.so_far run.ends.0 run.ends.1 run.input run.ends.2
+  lists_from most now after (Err exits.Most) run = lists_most most run.n run.here run.mid now after run.left run.so_far run.ends.0 run.input run.ends.1
+  lists_from most now after (Err (exits.Refused (errors.InvalidField t))) run =
+      lists_refused most run.n run.here run.mid now after run.left (errors.InvalidField t) (λ x. x) (λ x. x) run.so_far run.ends.0 run.ends.1 run.input run.ends.2
+  lists_from most now after (Err (exits.Refused (errors.Utf8Error x))) run =
+      lists_refused most run.n run.here run.mid now after run.left (errors.Utf8Error x) (λ x. x) (λ x. x) run.so_far run.ends.0 run.ends.1 run.input run.ends.2
+  lists_from most now after (Err (exits.Refused (errors.IoError x))) run = absurd run.ends
+  lists_from most now after (Err (exits.Refused (errors.IncompleteBuffer k))) run = absurd run.ends.1
+  lists_from most now after (Err (exits.Refused (errors.FromUtf8Error x))) run = absurd run.ends.1
+  lists_from most now after (Err (exits.Refused (errors.OutOfMemory x))) run = absurd run.ends.1
+  lists_from most now after (Err (exits.Refused errors.WriterFailed)) run = absurd run.ends.1
+  lists_from most now after (Err (exits.Io (errors.IoError x))) run =
       elim run.ends.1 [
         | inl kept ↦ let some = lists_some most run.n run.here run.mid run.left run.so_far run.ends.0 in inr (inr (some.0, some.1, inl (rw some.2 kept)))
         | inr part ↦ inr (inr (lists_torn most run.n run.here run.mid after run.left run.so_far run.ends.0 part))
       ]
-  lists_from most after (Err (exits.Io (errors.IncompleteBuffer k))) run = absurd run.ends
-  lists_from most after (Err (exits.Io (errors.InvalidField t))) run = absurd run.ends
-  lists_from most after (Err (exits.Io (errors.Utf8Error x))) run = absurd run.ends
-  lists_from most after (Err (exits.Io (errors.FromUtf8Error x))) run = absurd run.ends
-  lists_from most after (Err (exits.Io (errors.OutOfMemory x))) run = absurd run.ends
-  lists_from most after (Err (exits.Io errors.WriterFailed)) run = absurd run.ends
-  lists_from most after (Err exits.Memory) run = let some = lists_some most run.n run.here run.mid run.left run.so_far run.ends.0 in inr (some.0, some.1, rw some.2 run.ends.1)
-  lists_from most after (Err exits.Done) run = absurd run.ends
-  lists_from most after (Err exits.Usage) run = absurd run.ends
+  lists_from most now after (Err (exits.Io (errors.IncompleteBuffer k))) run = absurd run.ends
+  lists_from most now after (Err (exits.Io (errors.InvalidField t))) run = absurd run.ends
+  lists_from most now after (Err (exits.Io (errors.Utf8Error x))) run = absurd run.ends
+  lists_from most now after (Err (exits.Io (errors.FromUtf8Error x))) run = absurd run.ends
+  lists_from most now after (Err (exits.Io (errors.OutOfMemory x))) run = absurd run.ends
+  lists_from most now after (Err (exits.Io errors.WriterFailed)) run = absurd run.ends
+  lists_from most now after (Err exits.Memory) run = let some = lists_some most run.n run.here run.mid run.left run.so_far run.ends.0 in inr (some.0, some.1, rw some.2 run.ends.1)
+  lists_from most now after (Err exits.Done) run = absurd run.ends
+  lists_from most now after (Err exits.Usage) run = absurd run.ends
 
 -- a capture whose opening was taken
 module _ {O S V : Type 0} (kind : Kind O S V) (stable : IsStable kind.opens) (opening : O) where
@@ -267,15 +323,15 @@ module _ {O S V : Type 0} (kind : Kind O S V) (stable : IsStable kind.opens) (op
 
   -- and whose line did not go out
   pub lists_heading : kind.grows → (most : ℕ) (bytes known before after : Option (List ℕ)) → Takes kind.opens bytes known opening → (exit : Exit)
-      → WritesLine (λ line. line ≡ kind.heading opening) before after (Err exit) → IfSome bytes (λ s. ListsUntil kind most s before after exit)
+      → WritesLine (λ line. line ≡ kind.heading opening) before after (Err exit) → IfSome bytes (λ s. ListsUntil kind most s known before after exit)
   lists_heading grows most None known before after took exit part = tt
   lists_heading grows most (Some s) None before after took exit part = absurd took.2
-  lists_heading grows most (Some s) (Some rest) before after took exit part = heading_torn kind grows most s before after opening rest (opens_there s rest took) exit part
+  lists_heading grows most (Some s) (Some rest) before after took exit part = heading_torn kind grows most s (Some rest) before after opening rest (opens_there s rest took) exit part
 
   -- and whose items were listed
-  pub lists_known : IsLawful (kind.format opening) → (bytes known before start : Option (List ℕ)) → Takes kind.opens bytes known opening → Appends before start (kind.heading opening) → (most : ℕ) (after : Option (List ℕ))
-      (result : Result (Unit {0}) Exit) → ListsItems kind.IsLine (kind.format opening) (kind.start opening) known start after most result → IfSome bytes (λ s. ListsUntil kind most s before after (exit_of result))
-  lists_known laws None known before start took headed most after result run = tt
-  lists_known laws (Some s) None before start took headed most after result run = absurd took.2
-  lists_known laws (Some s) (Some rest) before start took headed most after result run =
-      lists_from kind opening laws s rest (opens_there s rest took) before start headed most after result run
+  pub lists_known : IsLawful (kind.format opening) → (bytes known before start : Option (List ℕ)) → Takes kind.opens bytes known opening → Appends before start (kind.heading opening) → (most : ℕ) (now after : Option (List ℕ))
+      (result : Result (Unit {0}) Exit) → ListsItems kind.IsLine (kind.format opening) (kind.start opening) known now start after most result → IfSome bytes (λ s. ListsUntil kind most s now before after (exit_of result))
+  lists_known laws None known before start took headed most now after result run = tt
+  lists_known laws (Some s) None before start took headed most now after result run = absurd took.2
+  lists_known laws (Some s) (Some rest) before start took headed most now after result run =
+      lists_from kind opening laws s rest (opens_there s rest took) before start headed most now after result run

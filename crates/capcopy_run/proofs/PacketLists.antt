@@ -10,7 +10,7 @@ use Rattle.pcap_core.specs.Answer.{Order, number_in, whole}
 use Rattle.pcap_core.specs.declared.errors.PcapError.{PcapError}
 use Rattle.pcap_core.specs.Errors.{IsIo, IsMemory}
 use Rattle.pcap_core.specs.Faults.{Shows}
-use Rattle.pcap_core.specs.Reading.{IsFaultOf, Takes, read_failed, no_memory, refused}
+use Rattle.pcap_core.specs.Reading.{IsFaultOf, Takes, TakesAsked, read_failed, no_memory, refused}
 use Rattle.pcap_classic.specs.HeaderText.{HeaderSays}
 use Rattle.pcap_classic.specs.Magic.{order_of, resolution_of}
 use Rattle.pcap_classic.specs.PacketText.{packet_limit, Captured, PacketHeaderSays, PacketSays}
@@ -37,6 +37,11 @@ packet_skipped order r left mid now header took skipped =
       Consumes-trans left mid now took.0 skipped.0 took.2 skipped.1,
     )
 
+-- what was asked for a packet was asked for in its format
+pub packet_asked : (order : Order) (r : TsResolution) (left now : Option (List ℕ)) → TakesAsked (PacketSays packet_limit order r) left now → TakesAsked ((packet_format packet_limit order r).says tt) left now
+unfolding packet_format
+packet_asked order r left now asked = asked
+
 -- a refusal of a packet that was to be read off a stream ends the lines
 pub packet_unread : (order : Order) (r : TsResolution) (left mid : Option (List ℕ)) (n most : ℕ) → n < most → (e : PcapError) (exit : Exit)
     → IsIo e ⊎ (⊤ × IsMemory e) ⊎ Shows (IsFaultOf (PacketSays packet_limit order r) left) e → EndsAt e exit → LinesEnd IsPacketLine ((packet_format packet_limit order r).says tt) left mid mid n most (Err exit)
@@ -50,11 +55,11 @@ packet_unread order r left mid n most fewer e exit cause ends =
     ]
 
 -- a capture whose header was taken, and whose packets were listed in its order and resolution
-pub packets_known : (header : PcapHeader) (order : Endianness) (r : TsResolution) (bytes known before : Option (List ℕ)) → order ≡ order_of header.magic_number → r ≡ resolution_of header.magic_number
+pub packets_known : (header : PcapHeader) (order : Endianness) (r : TsResolution) (bytes known now before : Option (List ℕ)) → order ≡ order_of header.magic_number → r ≡ resolution_of header.magic_number
     → Takes HeaderSays bytes known header → (most : ℕ) (after : Option (List ℕ)) (result : Result (Unit {0}) Exit)
-    → ListsItems IsPacketLine (packet_format packet_limit (number_in order) r) tt known before after most result → IfSome bytes (λ s. ListsUntil packet_lines most s before after (exit_of result))
-packets_known header order r bytes known before is_order is_resolution took most after result run =
+    → ListsItems IsPacketLine (packet_format packet_limit (number_in order) r) tt known now before after most result → IfSome bytes (λ s. ListsUntil packet_lines most s now before after (exit_of result))
+packets_known header order r bytes known now before is_order is_resolution took most after result run =
     let laws = packets_lawful packet_limit (number_in (order_of header.magic_number)) (resolution_of header.magic_number) in
-    let ordered = subst (λ (e : Endianness). ListsItems IsPacketLine (packet_format packet_limit (number_in e) r) tt known before after most result) is_order run in
-    let under = subst (λ (t : TsResolution). ListsItems IsPacketLine (packet_format packet_limit (number_in (order_of header.magic_number)) t) tt known before after most result) is_resolution ordered in
-    lists_known packet_lines header_stable header laws bytes known before before took (Appends-nil before) most after result under
+    let ordered = subst (λ (e : Endianness). ListsItems IsPacketLine (packet_format packet_limit (number_in e) r) tt known now before after most result) is_order run in
+    let under = subst (λ (t : TsResolution). ListsItems IsPacketLine (packet_format packet_limit (number_in (order_of header.magic_number)) t) tt known now before after most result) is_resolution ordered in
+    lists_known packet_lines header_stable header laws bytes known before before took (Appends-nil before) most now after result under

@@ -9,10 +9,10 @@ use Rattle.pcap_core.specs.Format.{Format, IsLawful}
 use Rattle.pcap_core.specs.Reading.{Takes}
 use Rattle.capcopy_run.specs.declared.exit.Exit.{Exit}
 use Rattle.capcopy_run.specs.declared.exit.Exit.TheVariants.{Memory}
-use Rattle.capcopy_run.specs.Listing.{Listing, LinesEnd}
+use Rattle.capcopy_run.specs.Listing.{Listing, LinesEnd, InputEnd}
 use Rattle.capcopy_run.specs.Lines.{WritesLine}
 use Rattle.capcopy_run.specs.Turns.{GoesOn, Ends, TurnGives, WalkGives}
-use Rattle.capcopy_run.proofs.Listing.{listing_more, ends_torn}
+use Rattle.capcopy_run.proofs.Listing.{listing_more, ends_torn, any_torn}
 
 module _ {S V : Type 0} (IsLine : ℕ → V → List ℕ → Type 0) (f : Format S V) where
   -- what is kept stays listed
@@ -28,8 +28,9 @@ module _ {S V : Type 0} (IsLine : ℕ → V → List ℕ → Type 0) (f : Format
   }
 
   -- it ends where it came to
-  pub ends_here : (here : S) (left mid out : Option (List ℕ)) (n most : ℕ) (result : Result (Unit {0}) Exit) → LinesEnd IsLine (f.says here) left mid out n most result → Ends IsLine f here left mid out n most result
-  ends_here here left mid out n most result ends = λ q before start so_far. record { n = n; here = here; left = left; mid = mid; so_far = so_far; ends = ends }
+  pub ends_here : (here : S) (left now mid out : Option (List ℕ)) (n most : ℕ) (result : Result (Unit {0}) Exit) → LinesEnd IsLine (f.says here) left mid out n most result
+      → InputEnd (f.says here) left now result → Ends IsLine f here left now mid out n most result
+  ends_here here left now mid out n most result ends input = λ q before start so_far. record { n = n; here = here; left = left; mid = mid; so_far = so_far; ends = ends; input = input }
 
   -- one item more was taken off a stream, and its line went out
   pub turn_more : IsLawful f → (here there : S) (left now mid out : Option (List ℕ)) (n : ℕ) (item : V) → Takes (f.says here) left now item → f.goes here item ≡ there
@@ -77,8 +78,8 @@ module _ {S V : Type 0} (IsLine : ℕ → V → List ℕ → Type 0) (f : Format
   -- it ends before the rest, since memory was refused
   pub walked_refused : (from here to : S) (shown rest : List ℕ) (start mid : Option (List ℕ)) (first n m most : ℕ) → Walked from here shown rest start mid first n → n < most
       → WalkGives IsLine f from to shown start mid first m most (Err Memory)
-  walked_refused from here to shown rest start mid first n m most walked fewer = λ behind q before out so_far.
-      ends_here IsLine f here (prepend_known rest behind) mid mid n most (Err Memory) (fewer, Keeps-refl mid) q before out (walked.on behind q before out so_far)
+  walked_refused from here to shown rest start mid first n m most walked fewer = λ behind end q before out so_far.
+      ends_here IsLine f here (prepend_known rest behind) end mid mid n most (Err Memory) (fewer, Keeps-refl mid) tt q before out (walked.on behind q before out so_far)
 
   -- at an item that stands at the front of the rest
   module _ (laws : IsLawful f) (from here : S) (shown rest after : List ℕ) (start mid : Option (List ℕ)) (first n : ℕ) (walked : Walked from here shown rest start mid first n) (item : V)
@@ -95,10 +96,10 @@ module _ {S V : Type 0} (IsLine : ℕ → V → List ℕ → Type 0) (f : Format
 
     -- it ends, since its line did not go out
     pub walked_torn : (to : S) (now : Option (List ℕ)) (m most : ℕ) (exit : Exit) → n < most → WritesLine (IsLine (n + 1) item) mid now (Err exit) → WalkGives IsLine f from to shown start now first m most (Err exit)
-    walked_torn to now m most exit fewer part = λ behind q before out so_far.
+    walked_torn to now m most exit fewer part = λ behind end q before out so_far.
         let left = prepend_known rest behind in
         let torn = ends_torn IsLine (f.says here) left mid n most fewer (prepend_known after behind) now item exit (takes_shown f laws here rest after item stands behind) part in
-        ends_here IsLine f here left mid now n most (Err exit) torn q before out (walked.on behind q before out so_far)
+        ends_here IsLine f here left end mid now n most (Err exit) torn (any_torn IsLine (f.says here) left mid n most fewer end now item exit part) q before out (walked.on behind q before out so_far)
 
 -- what is behind the bytes that a stream shows
 abbrev pub behind_shown : List ℕ → Option (List ℕ) → Option (List ℕ)
@@ -131,9 +132,9 @@ module _ {S V : Type 0} (IsLine : ℕ → V → List ℕ → Type 0) (f : Format
       subst (λ (l : Option (List ℕ)). Listing IsLine f q here before l start kept n) (shown_split shown left front) (goes_kept IsLine f here left left mid kept n (Keeps-refl left) still q before start so_far)
 
   -- a walk over the bytes that are shown ends the list
-  pub ends_shown : (out : Option (List ℕ)) (most : ℕ) (result : Result (Unit {0}) Exit) → ((behind : Option (List ℕ)) → Ends IsLine f here (prepend_known shown behind) kept out n most result)
-      → Ends IsLine f here left mid out n most result
-  ends_shown out most result ends = λ q before start so_far. ends (behind_shown shown left) q before start (listed_shown q before start so_far)
+  pub ends_shown : (now out : Option (List ℕ)) (most : ℕ) (result : Result (Unit {0}) Exit) → ((behind : Option (List ℕ)) → Ends IsLine f here (prepend_known shown behind) now kept out n most result)
+      → Ends IsLine f here left now mid out n most result
+  ends_shown now out most result ends = λ q before start so_far. ends (behind_shown shown left) q before start (listed_shown q before start so_far)
 
   -- or the list goes on behind those that were used
   pub goes_shown : (there : S) (now out : Option (List ℕ)) (used m : ℕ) → ((behind : Option (List ℕ)) → GoesOn IsLine f here there (prepend_known shown behind) (prepend_known (drop used shown) behind) kept out n m)

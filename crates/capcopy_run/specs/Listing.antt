@@ -1,12 +1,12 @@
 -- What the program takes and writes where it lists a capture, one line for each item.
-use Rattle.std.specs.Prelude.{◌≡◌, ◌<◌, ◌⊎◌, ℕ, suc, List, ◌∷◌, [], ◌++◌, Option, Some, Result, Ok, Err, length}
+use Rattle.std.specs.Prelude.{◌≡◌, ◌<◌, ◌⊎◌, ⊤, ℕ, suc, List, ◌∷◌, [], ◌++◌, Option, Some, Result, Ok, Err, length}
 use Rattle.std.specs.Io.KnownBytes.{Keeps, Appends, IsAtEnd}
 use Rattle.pcap_core.specs.declared.errors.PcapError.{PcapError}
 use Rattle.pcap_core.specs.declared.errors.PcapError.TheVariants.{IoError}
 use Rattle.pcap_core.specs.Answer.{Verdict, whole}
 use Rattle.pcap_core.specs.Faults.{Shows}
 use Rattle.pcap_core.specs.Format.{Format, Front, state_after}
-use Rattle.pcap_core.specs.Reading.{IsFaultOf, Takes}
+use Rattle.pcap_core.specs.Reading.{IsFaultOf, Takes, TakesAsked}
 use Rattle.pcap_core.specs.Takes.{TakesTexts}
 use Rattle.pcap_core.specs.Writing.{AppendsPart}
 use Rattle.capcopy_run.specs.declared.exit.Exit.{Exit}
@@ -48,6 +48,14 @@ module _ {V : Type 0} (IsLine : ℕ → V → List ℕ → Type 0) (IsSaid : Lis
   LinesEnd left mid out_now n most (Err Memory) = (n < most) × Keeps mid out_now
   LinesEnd left mid out_now n most (Err exit) = ⊥
 
+-- what was taken of the input behind the last line: nothing at the end of the stream and after the most lines, and where the next
+-- item is refused no more than it asked for; a failed read or write leaves any part
+abbrev pub InputEnd : {V : Type 0} → (List ℕ → Verdict V → Type 0) → Option (List ℕ) → Option (List ℕ) → Result (Unit {0}) Exit → Type 0
+InputEnd IsSaid left now (Ok done) = Keeps left now
+InputEnd IsSaid left now (Err Most) = Keeps left now
+InputEnd IsSaid left now (Err (Refused error)) = TakesAsked IsSaid left now
+InputEnd IsSaid left now (Err exit) = ⊤
+
 module _ {S V : Type 0} (IsLine : ℕ → V → List ℕ → Type 0) (f : Format S V) (q : S) where
   -- so many items were taken, which lead to this state, and their lines went out
   pub record Listing (here : S) (before now out_before out_now : Option (List ℕ)) (n : ℕ) : Type 0 where
@@ -60,13 +68,14 @@ module _ {S V : Type 0} (IsLine : ℕ → V → List ℕ → Type 0) (f : Format
     pub out : Appends out_before out_now lines
 
   -- items were taken and listed, until the run ended
-  pub record ListsItems (before out_before out_now : Option (List ℕ)) (most : ℕ) (result : Result (Unit {0}) Exit) : Type 0 where
+  pub record ListsItems (before now out_before out_now : Option (List ℕ)) (most : ℕ) (result : Result (Unit {0}) Exit) : Type 0 where
     pub n : ℕ
     pub here : S
     pub left : Option (List ℕ)
     pub mid : Option (List ℕ)
     pub so_far : Listing here before left out_before mid n
     pub ends : LinesEnd IsLine (f.says here) left mid out_now n most result
+    pub input : InputEnd (f.says here) left now result
 
 module _ {O S V : Type 0} (kind : Kind O S V) where
   -- s is an opening, items, more items and a rest that no item begins, and the lines of the opening and of the first items went out
@@ -90,18 +99,26 @@ module _ {O S V : Type 0} (kind : Kind O S V) where
     pub opens : kind.opens s (whole opening rest)
     pub out : AppendsPart before after (kind.heading opening)
 
-  -- all items, fewer than `most`, and nothing is after them
-  pub record EndsClean (most : ℕ) (after : Option (List ℕ)) {s : List ℕ} {before : Option (List ℕ)} (listed : Listed s before) : Type 0 where
+  -- all items, fewer than `most`, and nothing is after them, nor left of the input
+  pub record EndsClean (most : ℕ) (now after : Option (List ℕ)) {s : List ℕ} {before : Option (List ℕ)} (listed : Listed s before) : Type 0 where
     pub fewer : length listed.items < most
     pub all : listed.more ≡ []
     pub nothing : listed.left ≡ []
+    pub input : IsAtEnd now
     pub out : Keeps listed.mid after
 
-  -- all items, fewer than `most`, and after them a rest that shows this error
-  pub record ListEndsRefused (most : ℕ) (error : PcapError) (after : Option (List ℕ)) {s : List ℕ} {before : Option (List ℕ)} (listed : Listed s before) : Type 0 where
+  -- so many items, and of the input their texts were taken and no more
+  pub record EndsFull (most : ℕ) (now after : Option (List ℕ)) {s : List ℕ} {before : Option (List ℕ)} (listed : Listed s before) : Type 0 where
+    pub count : length listed.items ≡ most
+    pub took : TakesTexts (kind.format listed.opening) (kind.start listed.opening) listed.items (Some listed.after) now
+    pub out : Keeps listed.mid after
+
+  -- all items, fewer than `most`, and after them a rest that shows this error, of which no more was taken than it asks for
+  pub record ListEndsRefused (most : ℕ) (error : PcapError) (now after : Option (List ℕ)) {s : List ℕ} {before : Option (List ℕ)} (listed : Listed s before) : Type 0 where
     pub fewer : length listed.items < most
     pub all : listed.more ≡ []
     pub refused : Shows (IsFaultOf ((kind.format listed.opening).says (state_after (kind.format listed.opening) (kind.start listed.opening) listed.items)) (Some listed.left)) error
+    pub asked : TakesAsked ((kind.format listed.opening).says (state_after (kind.format listed.opening) (kind.start listed.opening) listed.items)) (Some listed.left) now
     pub out : Keeps listed.mid after
 
   -- a write failed in the line of the next item
@@ -113,16 +130,17 @@ module _ {O S V : Type 0} (kind : Kind O S V) where
     pub is_line : kind.IsLine (suc (length listed.items)) next line
     pub out : AppendsPart listed.mid after line
 
-  -- what a run that ended so has written of the capture s; nothing tells which stream failed
-  abbrev pub ListsUntil : ℕ → List ℕ → Option (List ℕ) → Option (List ℕ) → Exit → Type 0
-  ListsUntil most s before after Done = (listed : Listed s before) × EndsClean most after listed
-  ListsUntil most s before after Most = (listed : Listed s before) × (length listed.items ≡ most) × Keeps listed.mid after
-  ListsUntil most s before after (Refused error) =
-      (Shows (IsFaultOf kind.opens (Some s)) error × Keeps before after) ⊎ ((listed : Listed s before) × ListEndsRefused most error after listed)
-  ListsUntil most s before after (Io error) =
+  -- what a run that ended so has taken and written of the capture s; nothing tells which stream failed
+  abbrev pub ListsUntil : ℕ → List ℕ → Option (List ℕ) → Option (List ℕ) → Option (List ℕ) → Exit → Type 0
+  ListsUntil most s now before after Done = (listed : Listed s before) × EndsClean most now after listed
+  ListsUntil most s now before after Most = (listed : Listed s before) × EndsFull most now after listed
+  ListsUntil most s now before after (Refused error) =
+      (Shows (IsFaultOf kind.opens (Some s)) error × TakesAsked kind.opens (Some s) now × Keeps before after)
+      ⊎ ((listed : Listed s before) × ListEndsRefused most error now after listed)
+  ListsUntil most s now before after (Io error) =
       Keeps before after
       ⊎ TearsHeading s before after
       ⊎ ((listed : Listed s before) × (length listed.items < most) × (Keeps listed.mid after ⊎ TearsLine after listed))
-  ListsUntil most s before after Memory =
+  ListsUntil most s now before after Memory =
       (kind.grows × Keeps before after) ⊎ ((listed : Listed s before) × (length listed.items < most) × Keeps listed.mid after)
-  ListsUntil most s before after Usage = ⊥
+  ListsUntil most s now before after Usage = ⊥

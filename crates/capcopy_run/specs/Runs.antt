@@ -44,9 +44,9 @@ AreTexts words (Three first second third) = first.now ∷ second.now ∷ third.n
 
 -- what a run does that these words ask for, with so many lines or packets at most
 pub record Runs (words : List (List ℕ)) (most : ℕ) (before now out_before out_now : Option (List ℕ)) (exit : Exit) : Type 0 where
-  pub listed : AskForList words → IfSome before (λ s. ListsUntil packet_lines most s out_before out_now exit)
+  pub listed : AskForList words → IfSome before (λ s. ListsUntil packet_lines most s now out_before out_now exit)
   pub list_takes_no_memory : AskForList words → IsMemoryExit exit → ⊥
-  pub blocks_listed : AskForBlocks words → IfSome before (λ s. ListsUntil block_lines most s out_before out_now exit)
+  pub blocks_listed : AskForBlocks words → IfSome before (λ s. ListsUntil block_lines most s now out_before out_now exit)
   pub copied : (under : Under) → AskForCopy under words → CopiesUntil under before now out_before out_now most exit
   pub known : (AskForNothing words → ⊥) → IsOfKnownWord exit
   pub usage : AskForNothing words → exit ≡ Usage

@@ -12,19 +12,19 @@ module _ {S V : Type 0} (IsLine : ℕ → V → List ℕ → Type 0) (f : Format
       (q : S) (before start : Option (List ℕ)) → Listing IsLine f q here before left start mid n → Listing IsLine f q there before now start out m
 
   -- whatever n items were listed that lead here, the list ends so
-  abbrev pub Ends : S → Option (List ℕ) → Option (List ℕ) → Option (List ℕ) → ℕ → ℕ → Result (Unit {0}) Exit → Type 0
-  Ends here left mid out n most result =
-      (q : S) (before start : Option (List ℕ)) → Listing IsLine f q here before left start mid n → ListsItems IsLine f q before start out most result
+  abbrev pub Ends : S → Option (List ℕ) → Option (List ℕ) → Option (List ℕ) → Option (List ℕ) → ℕ → ℕ → Result (Unit {0}) Exit → Type 0
+  Ends here left now mid out n most result =
+      (q : S) (before start : Option (List ℕ)) → Listing IsLine f q here before left start mid n → ListsItems IsLine f q before now start out most result
 
   -- a turn over a stream: it says whether the list goes on
   abbrev pub TurnGives : S → S → Option (List ℕ) → Option (List ℕ) → Option (List ℕ) → Option (List ℕ) → ℕ → ℕ → ℕ → Result Bool Exit → Type 0
   TurnGives here there left now mid out n m most (Ok true) = GoesOn here there left now mid out n m
-  TurnGives here there left now mid out n m most (Ok false) = Ends here left mid out n most (Ok tt)
-  TurnGives here there left now mid out n m most (Err exit) = Ends here left mid out n most (Err exit)
+  TurnGives here there left now mid out n m most (Ok false) = Ends here left now mid out n most (Ok tt)
+  TurnGives here there left now mid out n m most (Err exit) = Ends here left now mid out n most (Err exit)
 
-  -- a walk over the bytes that a stream shows, whatever is behind them: it says how many of them were used
+  -- a walk over the bytes that a stream shows, whatever is behind them: it says how many of them were used, or ends whatever is left
   abbrev pub WalkGives : S → S → List ℕ → Option (List ℕ) → Option (List ℕ) → ℕ → ℕ → ℕ → Result ℕ Exit → Type 0
   WalkGives here there shown mid out n m most (Ok used) =
       (behind : Option (List ℕ)) → GoesOn here there (prepend_known shown behind) (prepend_known (drop used shown) behind) mid out n m
   WalkGives here there shown mid out n m most (Err exit) =
-      (behind : Option (List ℕ)) → Ends here (prepend_known shown behind) mid out n most (Err exit)
+      (behind now : Option (List ℕ)) → Ends here (prepend_known shown behind) now mid out n most (Err exit)

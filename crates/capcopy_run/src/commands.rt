@@ -64,10 +64,10 @@ pub fn run<R: BufRead, W: Write>(
     most: u64,
 ) -> Exit
     ensures listed { AskForList (texts_of words.now) → IfSome (R.remaining input.old) (λ s.
-        ListsUntil packet_lines most s (W.contents output.old) (W.contents output.new) result) }
+        ListsUntil packet_lines most s (R.remaining input.new) (W.contents output.old) (W.contents output.new) result) }
     ensures list_takes_no_memory { AskForList (texts_of words.now) → IsMemoryExit result → ⊥ }
     ensures blocks_listed { AskForBlocks (texts_of words.now) → IfSome (R.remaining input.old) (λ s.
-        ListsUntil block_lines most s (W.contents output.old) (W.contents output.new) result) }
+        ListsUntil block_lines most s (R.remaining input.new) (W.contents output.old) (W.contents output.new) result) }
     ensures copied { (under : Under) → AskForCopy under (texts_of words.now) →
         CopiesUntil under (R.remaining input.old) (R.remaining input.new) (W.contents output.old) (W.contents output.new) most result }
     ensures known { (AskForNothing (texts_of words.now) → ⊥) → IsOfKnownWord result }

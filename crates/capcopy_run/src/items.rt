@@ -99,7 +99,7 @@ pub(crate) fn list_items<L: Lister, R: BufRead, W: Write>(
     most: u64,
 ) -> Result<(), Exit>
     ensures memory { IfErr result (λ exit. IsMemoryExit exit → L.grows) }
-    ensures lists { ListsItems L.is_line (L.format (L.setting lister.old)) (L.state lister.old) (R.remaining input.old) (W.contents output.old) (W.contents output.new) most result }
+    ensures lists { ListsItems L.is_line (L.format (L.setting lister.old)) (L.state lister.old) (R.remaining input.old) (R.remaining input.new) (W.contents output.old) (W.contents output.new) most result }
 {
     let mut listed = 0;
     while listed < most {

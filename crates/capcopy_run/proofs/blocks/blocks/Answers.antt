@@ -11,7 +11,7 @@ use Rattle.capcopy_run.proofs.blocks.blocks.Goals as goal
 pub returns-in_err-parser-clause-lists : goal.returns-in_err-parser-clause-lists
 returns-in_err-parser-clause-lists g c =
     let p = err_from_is_err_and c.from_residual.result c.from_residual.ensures.1 in
-    rw p.1 (lists_none block_lines c.args.most (g.R.Read.remaining c.args.input.now) _ _ (Keeps-refl _) _ (λ memory. tt) c.in_err-parser.ensures.refused p.0 p.2)
+    rw p.1 (lists_none block_lines c.args.most (g.R.Read.remaining c.args.input.now) _ _ _ (Keeps-refl _) c.in_err-parser.ensures.asked _ (λ memory. tt) c.in_err-parser.ensures.refused p.0 p.2)
 
 pub returns-in_err-write_section-clause-lists : goal.returns-in_err-write_section-clause-lists
 returns-in_err-write_section-clause-lists g c =
@@ -20,4 +20,4 @@ returns-in_err-write_section-clause-lists g c =
 
 pub returns-clause-lists : goal.returns-clause-lists
 returns-clause-lists g c =
-    blocks_known (state_of c.in_ok-parser.parser) (section_of c.section.result.now) (ap section_line (sym c.section.ensures)) (g.R.Read.remaining c.args.input.now) (g.R.Read.remaining c.from_reader.new.reader) _ _ c.in_ok-parser.ensures.takes c.in_ok-write_section.ensures c.args.most _ c.list_items.result c.list_items.ensures.lists
+    blocks_known (state_of c.in_ok-parser.parser) (section_of c.section.result.now) (ap section_line (sym c.section.ensures)) (g.R.Read.remaining c.args.input.now) (g.R.Read.remaining c.from_reader.new.reader) _ _ c.in_ok-parser.ensures.takes c.in_ok-write_section.ensures c.args.most _ _ c.list_items.result c.list_items.ensures.lists

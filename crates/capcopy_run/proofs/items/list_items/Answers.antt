@@ -10,4 +10,5 @@ returns-clause-lists g c = record {
   mid = g.W.Write.contents c.loop-listed.output;
   so_far = c.loop-listed.invariant.so_far;
   ends = (omega (arith, c.loop-listed.invariant.within, c.loop-listed-test.false), Keeps-refl _);
+  input = Keeps-refl _;
 }

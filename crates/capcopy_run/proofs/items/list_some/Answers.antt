@@ -8,7 +8,7 @@ use Rattle.capcopy_run.proofs.items.list_some.Goals as goal
 pub returns-in_err-used-clause-turn : goal.returns-in_err-used-clause-turn
 returns-in_err-used-clause-turn g c =
     let p = err_from_is_err_and c.from_residual-in_err-used.result c.from_residual-in_err-used.ensures.1 in
-    rw (p.1, p.2) (ends_shown g.L.Lister.is_line (g.L.Lister.format (g.L.Lister.setting c.args.lister.now)) (g.L.Lister.state c.args.lister.now) (g.R.Read.remaining c.args.input.now) _ _ c.flush.ensures.bytes c.in_ok-shown.shown.now c.in_ok-shown.ensures.front c.args.listed.now _ c.args.most _ c.in_err-used.ensures.walks)
+    rw (p.1, p.2) (ends_shown g.L.Lister.is_line (g.L.Lister.format (g.L.Lister.setting c.args.lister.now)) (g.L.Lister.state c.args.lister.now) (g.R.Read.remaining c.args.input.now) _ _ c.flush.ensures.bytes c.in_ok-shown.shown.now c.in_ok-shown.ensures.front c.args.listed.now _ _ c.args.most _ (λ behind. c.in_err-used.ensures.walks behind _))
 
 pub returns-then-listed-before-clause-turn : goal.returns-then-listed-before-clause-turn
 returns-then-listed-before-clause-turn g c =
