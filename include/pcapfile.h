@@ -42,18 +42,50 @@ enum pcapfile_status {
 };
 
 /* error.rule under PCAPFILE_INVALID: the first rule that the bytes break. pcapfile_rule_name and pcapfile_rule_text tell
- * more, of these and of all others in docs/REFUSALS.md. */
+ * the name and the text of each. */
 enum pcapfile_rule {
-    PCAPFILE_RULE_CAPTURE_MAGIC = 1,         /* the capture's magic number is none of the four */
-    PCAPFILE_RULE_FRACTION_TOO_LARGE = 2,    /* a packet's microseconds are more than 32 bits of nanoseconds */
-    PCAPFILE_RULE_INCLUDED_TOO_LONG = 3,     /* a packet's stored length is above 262144 bytes */
-    PCAPFILE_RULE_ORIGINAL_TOO_LONG = 4,     /* a packet's original length is above 262144 bytes */
+    /* the rules of docs/REFUSALS.md */
+    PCAPFILE_RULE_CAPTURE_MAGIC = 1, /* a capture's magic number is none of the four */
+    PCAPFILE_RULE_FRACTION_TOO_LARGE = 2, /* a packet's microseconds are more than 32 bits of nanoseconds */
+    PCAPFILE_RULE_INCLUDED_TOO_LONG = 3, /* a packet's stored length is above 262144 bytes */
+    PCAPFILE_RULE_ORIGINAL_TOO_LONG = 4, /* a packet's original length is above 262144 bytes */
     PCAPFILE_RULE_INCLUDED_PAST_ORIGINAL = 5, /* a packet's stored length is above its original length */
-    PCAPFILE_RULE_SECTION_MAGIC = 6,          /* a section header's magic number is neither order's */
-    PCAPFILE_RULE_BLOCK_UNALIGNED = 7,        /* a block's length is no multiple of 4 */
-    PCAPFILE_RULE_BLOCK_TOO_SHORT = 8,        /* a block's length is below 12 */
-    PCAPFILE_RULE_BLOCK_LENGTHS_DIFFER = 9,   /* the length behind a block's body is another than the one before it */
-    PCAPFILE_RULE_SECTION_MISSING = 10        /* the first block is no section header */
+    PCAPFILE_RULE_SECTION_MAGIC = 6, /* a section header's magic number is neither order's */
+    PCAPFILE_RULE_BLOCK_UNALIGNED = 7, /* a block's length is no multiple of 4 */
+    PCAPFILE_RULE_BLOCK_TOO_SHORT = 8, /* a block's length is below 12 */
+    PCAPFILE_RULE_BLOCK_LENGTHS_DIFFER = 9, /* the length behind a block's body is another than the one before it */
+    PCAPFILE_RULE_SECTION_MISSING = 10, /* the first block is no section header */
+    PCAPFILE_RULE_SECTION_TOO_SHORT = 11, /* a section header's body is under 16 bytes */
+    PCAPFILE_RULE_INTERFACE_TOO_SHORT = 12, /* an interface description's body is under 8 bytes */
+    PCAPFILE_RULE_ENHANCED_TOO_SHORT = 13, /* an enhanced packet's or a packet's body is under 20 bytes */
+    PCAPFILE_RULE_ENHANCED_CUT = 14, /* an enhanced packet's or a packet's data and padding pass the body */
+    PCAPFILE_RULE_SIMPLE_TOO_SHORT = 15, /* a simple packet's body is under 4 bytes */
+    PCAPFILE_RULE_STATISTICS_TOO_SHORT = 16, /* an interface statistics' body is under 12 bytes */
+    PCAPFILE_RULE_OPTION_TOO_SHORT = 17, /* one to three bytes stand where an option should begin */
+    PCAPFILE_RULE_OPTION_CUT = 18, /* an option's value and padding pass the body */
+    PCAPFILE_RULE_INTERFACE_IPV4_LENGTH = 1901, /* an interface's IPv4 address and mask are not 8 bytes */
+    PCAPFILE_RULE_INTERFACE_IPV6_LENGTH = 1902, /* an interface's IPv6 address and prefix are not 17 bytes */
+    PCAPFILE_RULE_INTERFACE_MAC_LENGTH = 1903, /* an interface's MAC address is not 6 bytes */
+    PCAPFILE_RULE_INTERFACE_EUI_LENGTH = 1904, /* an interface's EUI address is not 8 bytes */
+    PCAPFILE_RULE_INTERFACE_SPEED_LENGTH = 1905, /* an interface's speed is not 8 bytes */
+    PCAPFILE_RULE_INTERFACE_RESOLUTION_LENGTH = 1906, /* an interface's time resolution is not 1 byte */
+    PCAPFILE_RULE_INTERFACE_ZONE_LENGTH = 1907, /* an interface's time zone is not 4 bytes */
+    PCAPFILE_RULE_INTERFACE_FILTER_EMPTY = 1908, /* an interface's filter is empty */
+    PCAPFILE_RULE_INTERFACE_FCS_LENGTH = 1909, /* an interface's length of the frame check sequence is not 1 byte */
+    PCAPFILE_RULE_INTERFACE_OFFSET_LENGTH = 1910, /* an interface's time offset is not 8 bytes */
+    PCAPFILE_RULE_ENHANCED_FLAGS_LENGTH = 1911, /* an enhanced packet's flags are not 4 bytes */
+    PCAPFILE_RULE_ENHANCED_DROP_COUNT_LENGTH = 1912, /* an enhanced packet's drop count is not 8 bytes */
+    PCAPFILE_RULE_PACKET_FLAGS_LENGTH = 1913, /* a packet's flags are not 4 bytes */
+    PCAPFILE_RULE_NAME_IPV4_LENGTH = 1914, /* a name server's IPv4 address is not 4 bytes */
+    PCAPFILE_RULE_NAME_IPV6_LENGTH = 1915, /* a name server's IPv6 address is not 16 bytes */
+    PCAPFILE_RULE_RECORD_CUT = 20, /* a name record's value passes the body */
+    PCAPFILE_RULE_END_NOT_EMPTY = 21, /* the record that ends the records has a value */
+    PCAPFILE_RULE_IPV4_RECORD_TOO_SHORT = 22, /* an IPv4 record is under 6 bytes */
+    PCAPFILE_RULE_IPV6_RECORD_TOO_SHORT = 23, /* an IPv6 record is under 18 bytes */
+    PCAPFILE_RULE_NAME_UNENDED = 24, /* a name has no zero byte behind it */
+    PCAPFILE_RULE_RECORD_UNPADDED = 25, /* a name record's padding passes the body */
+    PCAPFILE_RULE_UNKNOWN_TOO_LONG = 26, /* an unknown block's value is 2^32 bytes or more */
+    /* end of the rules */
 };
 
 /* Some values of pcapfile_header.link: the numbers of the registry of link types. */

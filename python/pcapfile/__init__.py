@@ -13,6 +13,7 @@ from ._blocks import BlockCapture, BlockPacket, Interface
 from ._capture import Capture, Header, Packet
 from ._errors import CaptureError, Incomplete, Invalid
 from ._open import open, parse
+from ._rules import Rule
 
 __version__ = "0.1.0"
 
@@ -26,6 +27,7 @@ __all__ = [
     "Interface",
     "Invalid",
     "Packet",
+    "Rule",
     "open",
     "parse",
 ]

@@ -1,6 +1,7 @@
 """Why a capture is refused."""
 
 from . import _library
+from ._rules import Rule
 
 
 class CaptureError(Exception):
@@ -21,10 +22,11 @@ class Incomplete(CaptureError):
 
 
 class Invalid(CaptureError):
-    """The capture breaks a rule of its format: `number`, `rule` and `text` are the rule's number, name and text."""
+    """The capture breaks a rule of its format: `number`, `rule` and `text` are the rule's number, as a `Rule`, its name and its
+    text."""
 
     def __init__(self, number: int, offset: int) -> None:
-        self.number = number
+        self.number = Rule(number)
         self.rule = _library.rule_name(number)
         self.text = _library.rule_text(number)
         super().__init__(f"{self.rule}: {self.text}", offset, _library.INVALID)

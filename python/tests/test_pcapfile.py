@@ -10,6 +10,7 @@ import unittest
 from pathlib import Path
 
 import pcapfile
+from pcapfile._library import rule_name
 
 HEADER = struct.pack("<IHHiIII", 0xA1B2C3D4, 2, 4, 0, 0, 65535, 1)
 
@@ -163,6 +164,15 @@ class Refusals(unittest.TestCase):
         with self.assertRaises(pcapfile.Invalid) as told:
             pcapfile.parse(b"\xff" * 24)
         self.assertEqual((told.exception.number, told.exception.rule), (1, "CaptureMagic"))
+        self.assertIs(told.exception.number, pcapfile.Rule.CAPTURE_MAGIC)
+        self.assertEqual(pcapfile.Rule.CAPTURE_MAGIC.text, "PcapHeader wrong magic number")
+
+    def test_the_library_knows_each_rule(self):
+        for rule in pcapfile.Rule:
+            name = rule_name(rule)
+            self.assertEqual(name.lower(), rule.name.replace("_", "").lower())
+            self.assertNotEqual(rule.text, "")
+        self.assertEqual(rule_name(27), "")
         with self.assertRaisesRegex(pcapfile.CaptureError, r"IncludedPastOriginal: .*incl_len > orig_len \(at byte 24\)"):
             list(pcapfile.parse(HEADER + packet(1, 2, b"abc", 2)))
 

@@ -9,7 +9,9 @@ use crate::Error;
 pub struct Section {
     /// Read high byte first: 1a2b3c4d in a big-endian section, 4d3c2b1a in a little-endian one.
     pub magic_number: u32,
+    /// 1 in all captures of today.
     pub version_major: u16,
+    /// 0 in all captures of today.
     pub version_minor: u16,
     /// How many interfaces the section has so far.
     pub interfaces: u32,
@@ -35,6 +37,7 @@ pub struct Interface {
     pub snaplen: u32,
     /// The unit of its times in seconds is this, 10 or 2, to the power of minus `ts_exponent`.
     pub ts_base: u8,
+    /// 6 where the capture names no unit.
     pub ts_exponent: u8,
     /// Seconds that are added to each time.
     pub ts_offset: i64,

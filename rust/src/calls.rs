@@ -1,5 +1,8 @@
 //! `pcapfile.h`, as Rust sees it.
 
+use core::slice;
+use core::str;
+
 #[repr(C)]
 #[derive(Clone, Copy)]
 pub struct Bytes {
@@ -54,6 +57,23 @@ extern "C" {
         packet: *mut Packet,
         error: *mut Error,
     ) -> i32;
+    #[cfg(feature = "std")]
+    pub fn pcapfile_write_header(
+        header: *const crate::Header,
+        room: *mut u8,
+        room_len: usize,
+        written: *mut usize,
+        error: *mut Error,
+    ) -> i32;
+    #[cfg(feature = "std")]
+    pub fn pcapfile_write_packet(
+        header: *const crate::Header,
+        packet: *const Packet,
+        room: *mut u8,
+        room_len: usize,
+        written: *mut usize,
+        error: *mut Error,
+    ) -> i32;
     pub fn pcapfile_take_block(
         section: *mut crate::Section,
         left: *mut Bytes,
@@ -75,4 +95,14 @@ extern "C" {
     pub fn pcapfile_time_of(interface: *const crate::Interface, timestamp: u64, time: *mut crate::Time) -> i32;
     pub fn pcapfile_rule_name(rule: u32, name: *mut Bytes);
     pub fn pcapfile_rule_text(rule: u32, text: *mut Bytes);
+}
+
+/// What one of the two calls that tell of a rule says.
+pub fn text_of(call: unsafe extern "C" fn(u32, *mut Bytes), rule: u32) -> &'static str {
+    let mut text = Bytes::of(b"");
+    // SAFETY: `text` is a valid struct, and the call fills it with ASCII that is valid for ever.
+    unsafe {
+        call(rule, &mut text);
+        str::from_utf8_unchecked(slice::from_raw_parts(text.ptr, text.len))
+    }
 }

@@ -1,4 +1,4 @@
-//! Reads packet captures that lie in memory, pcap and PcapNg, by a proved parser, through its C library.
+//! Reads packet captures, pcap and PcapNg, by a proved parser, and writes pcap, through its C library.
 //!
 //! ```
 //! # let bytes: &[u8] = b"\xd4\xc3\xb2\xa1\x02\0\x04\0\0\0\0\0\0\0\0\0\xff\xff\0\0\x01\0\0\0";
@@ -9,12 +9,24 @@
 //! # Ok::<(), pcapfile::Error>(())
 //! ```
 
+#![no_std]
+#![warn(missing_docs)]
+
+#[cfg(feature = "std")]
+extern crate std;
+
 mod blocks;
 mod calls;
+mod rules;
+#[cfg(feature = "std")]
+mod writer;
 
 pub use blocks::{Block, BlockPacket, Blocks, Interface, Section, Time};
+pub use rules::Rule;
+#[cfg(feature = "std")]
+pub use writer::Writer;
 
-use std::fmt;
+use core::fmt;
 
 /// The header of a capture.
 #[repr(C)]
@@ -22,9 +34,13 @@ use std::fmt;
 pub struct Header {
     /// Read high byte first: a1b2c3d4, d4c3b2a1, a1b23c4d or 4d3cb2a1.
     pub magic_number: u32,
+    /// 2 in all captures of today.
     pub version_major: u16,
+    /// 4 in all captures of today.
     pub version_minor: u16,
+    /// Seconds that are added to each time for UTC; 0 in practice.
     pub ts_correction: i32,
+    /// How exact the times are; 0 in practice.
     pub ts_accuracy: u32,
     /// The most bytes that are stored of a packet.
     pub snaplen: u32,
@@ -35,6 +51,7 @@ pub struct Header {
 /// A packet of a capture, whose bytes lie in the capture.
 #[derive(Clone, Copy, Debug, PartialEq, Eq)]
 pub struct Packet<'a> {
+    /// When it was captured, in seconds since 1970.
     pub seconds: u32,
     /// Nanoseconds, whatever the capture's resolution is. They may pass one second.
     pub nanoseconds: u32,
@@ -49,8 +66,8 @@ pub struct Packet<'a> {
 pub enum Error {
     /// So many bytes are missing of a header, a packet or a block, at least.
     Incomplete(usize),
-    /// The bytes break the rule of this number.
-    Invalid(u32),
+    /// The bytes break this rule, and more bytes change nothing.
+    Invalid(Rule),
     /// A value in a block is too short.
     BadValue,
     /// A string in a block is not UTF-8.
@@ -60,10 +77,10 @@ pub enum Error {
 }
 
 impl Error {
-    /// The name of the rule that is broken.
-    pub fn rule(self) -> Option<&'static str> {
+    /// The rule that is broken.
+    pub fn rule(self) -> Option<Rule> {
         match self {
-            Error::Invalid(rule) => Some(text_of(calls::pcapfile_rule_name, rule)),
+            Error::Invalid(rule) => Some(rule),
             _ => None,
         }
     }
@@ -74,7 +91,7 @@ impl Error {
             2 => Error::BadValue,
             4 => Error::NotUtf8,
             6 => Error::NoMemory,
-            _ => Error::Invalid(error.rule),
+            _ => Error::Invalid(Rule::from_number(error.rule).expect("the library names one of its rules")),
         }
     }
 }
@@ -83,7 +100,7 @@ impl fmt::Display for Error {
     fn fmt(&self, f: &mut fmt::Formatter<'_>) -> fmt::Result {
         match *self {
             Error::Incomplete(missing) => write!(f, "{missing} bytes are missing"),
-            Error::Invalid(rule) => f.write_str(text_of(calls::pcapfile_rule_text, rule)),
+            Error::Invalid(rule) => rule.fmt(f),
             Error::BadValue => f.write_str("a value in a block is too short"),
             Error::NotUtf8 => f.write_str("a string in a block is not UTF-8"),
             Error::NoMemory => f.write_str("memory was refused"),
@@ -91,16 +108,7 @@ impl fmt::Display for Error {
     }
 }
 
-impl std::error::Error for Error {}
-
-fn text_of(call: unsafe extern "C" fn(u32, *mut calls::Bytes), rule: u32) -> &'static str {
-    let mut text = calls::Bytes::of(b"");
-    // SAFETY: `text` is a valid struct, and the call fills it with ASCII that is valid for ever.
-    unsafe {
-        call(rule, &mut text);
-        std::str::from_utf8_unchecked(std::slice::from_raw_parts(text.ptr, text.len))
-    }
-}
+impl core::error::Error for Error {}
 
 /// A capture: its header, and then its packets, as an iterator. A refusal is its last item.
 #[derive(Clone, Debug)]

@@ -1,4 +1,4 @@
-use pcapfile::{Blocks, Error, Time};
+use pcapfile::{Blocks, Error, Rule, Time};
 
 /// A little-endian section, an interface of link type 113 with nanoseconds, and an enhanced packet of three bytes, five on
 /// the wire.
@@ -36,5 +36,5 @@ fn every_front_lacks_what_is_missing() {
 #[test]
 fn a_refusal_names_its_rule() {
     let error = Blocks::parse(&[0; 12]).find_map(Result::err).unwrap();
-    assert_eq!(error.rule(), Some("BlockTooShort"));
+    assert_eq!(error.rule(), Some(Rule::BlockTooShort));
 }

@@ -1,4 +1,4 @@
-use pcapfile::{Capture, Error};
+use pcapfile::{Capture, Error, Rule};
 
 /// Little-endian, microseconds, Ethernet; one packet of three bytes, five on the wire.
 const CAPTURE: &[u8] = b"\xd4\xc3\xb2\xa1\x02\0\x04\0\0\0\0\0\0\0\0\0\xff\xff\0\0\x01\0\0\0\
@@ -31,6 +31,16 @@ fn every_front_lacks_what_is_missing() {
 #[test]
 fn a_refusal_names_its_rule() {
     let error = Capture::parse(&[0xff; 24]).unwrap_err();
-    assert_eq!((error, error.rule()), (Error::Invalid(1), Some("CaptureMagic")));
+    assert_eq!((error, error.rule().map(Rule::name)), (Error::Invalid(Rule::CaptureMagic), Some("CaptureMagic")));
+    assert_eq!(error.rule().map(Rule::number), Some(1));
     assert_eq!(error.to_string(), "PcapHeader wrong magic number");
+}
+
+#[test]
+fn the_library_knows_each_rule() {
+    for &rule in Rule::ALL {
+        assert_eq!((Rule::from_number(rule.number()), rule.name()), (Some(rule), format!("{rule:?}").as_str()));
+        assert!(!rule.text().is_empty());
+    }
+    assert_eq!((Rule::ALL.len(), Rule::from_number(27)), (40, None));
 }
