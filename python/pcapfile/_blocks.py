@@ -2,9 +2,9 @@
 
 import ctypes
 import struct
-from typing import Dict, Iterator, NamedTuple, Optional, Tuple
+from typing import Any, Dict, Iterator, NamedTuple, Optional, Tuple
 
-from . import _library
+from . import _columns, _library
 from ._capture import BATCH, Bytes, Data, make
 from ._errors import error_of
 
@@ -21,10 +21,11 @@ class Interface(NamedTuple):
 
 
 class BlockPacket(NamedTuple):
-    """A packet of an interface. `data` lies in the capture: it can be read as long as the capture is open.
+    """A packet of an interface. `data` lies in the capture: it can be read as long as the capture is open. Of a simple packet it is
+    cut to the original length and to the interface's snaplen, since what follows is padding.
 
     A simple packet has no time, and there `seconds` is None, as it is where the packet names an interface that isn't there,
-    or the seconds pass 64 bits.
+    or the seconds pass 64 bits. `offset` is where `data` begins, in bytes from the capture's start.
     """
 
     seconds: Optional[int]
@@ -34,6 +35,7 @@ class BlockPacket(NamedTuple):
     timestamp: int
     interface_id: int
     interface: Optional[Interface]
+    offset: int
 
     @property
     def time(self) -> Optional[float]:
@@ -65,6 +67,11 @@ class _Unknown:
 
     def time(self, units: int) -> Tuple[Optional[int], int]:
         return None, 0
+
+    def stored(self, length: int, original: int) -> int:
+        """How many bytes of a simple packet are its own, of those that follow in its block."""
+        snaplen = self.interface.snaplen if self.interface else 0
+        return min(length, original, snaplen or original)
 
 
 _UNKNOWN = _Unknown()
@@ -140,19 +147,22 @@ class BlockCapture(Bytes):
                     last, known = number, walk.known.get(number, _UNKNOWN)
                     interface, per_second, each = known.interface, known.per_second, known.nanoseconds
                 if kind == _SIMPLE_PACKET:
-                    seconds, nanoseconds = None, 0
+                    seconds, nanoseconds, length = None, 0, known.stored(length, original)
                 elif per_second:
                     seconds, nanoseconds = units // per_second, units % per_second * each
                 else:
                     seconds, nanoseconds = known.time(units)
                 at -= start
-                yield make(BlockPacket, (seconds, nanoseconds, original, data[at : at + length], units, number, interface))
+                yield make(BlockPacket, (seconds, nanoseconds, original, data[at : at + length], units, number, interface, at))
             if status == _library.NO_MEMORY:
                 raise error_of(status, walk.error, walk.total - walk.left.len)
             if status != _library.OK:
                 # A section, an interface, a packet that can't be read, or a refusal.
                 len(self._bytes)
                 walk.take()
+
+    def _arrays(self, batch: int) -> Iterator[Any]:
+        return _columns.of_blocks(self, batch)
 
     def __enter__(self) -> "BlockCapture":
         return self

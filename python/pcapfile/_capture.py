@@ -3,13 +3,14 @@
 import ctypes
 import mmap
 import struct
-from typing import Iterator, NamedTuple, Optional, Union
+from typing import Any, Iterator, NamedTuple, Optional, Union
 
-from . import _library
+from . import _columns, _library
 from ._errors import error_of
 
-# How many packets one call into the library takes.
+# How many packets one call into the library takes, and how many for columns.
 BATCH = 512
+COLUMNS = 65536
 
 # A packet as the library fills it in: seconds, nanoseconds, original length, and where its bytes lie.
 _PACKET = struct.Struct("@IIIPN")
@@ -35,7 +36,8 @@ class Header(NamedTuple):
 class Packet(NamedTuple):
     """A packet of a capture. `data` lies in the capture: it can be read as long as the capture is open.
 
-    `link` is the number of the link type of its first layer.
+    `link` is the number of the link type of its first layer, and `offset` is where `data` begins, in bytes from the capture's
+    start.
     """
 
     seconds: int
@@ -43,6 +45,7 @@ class Packet(NamedTuple):
     original_length: int
     data: memoryview
     link: int
+    offset: int
 
     @property
     def time(self) -> float:
@@ -65,6 +68,23 @@ class Bytes:
 
     def _from(self, offset: int) -> _library.Bytes:
         return _library.Bytes(self._start + offset, len(self._bytes) - offset)
+
+    def columns(self, batch: int = COLUMNS) -> Iterator[Any]:
+        """The packets as columns, so many of them at once: arrays of numpy with the fields `time_ns`, `len`, `orig_len`,
+        `interface`, `link` and `offset`, or an `array` for each by its name where numpy is missing.
+
+        `time_ns` is in nanoseconds since 1970, and -2^63, numpy's NaT, where a packet has no time or 64 bits don't hold it.
+        `len` and `orig_len` are the stored and the original length, `offset` is where the stored bytes begin in the capture,
+        and `link` is 2^32 - 1 where the interface isn't known. Where the capture is refused, the packets before that come
+        first."""
+        return self._arrays(batch) if _columns.numpy is not None else _columns.of_packets(self, batch)
+
+    def _arrays(self, batch: int) -> Iterator[Any]:
+        raise NotImplementedError
+
+    def to_pandas(self) -> Any:
+        """All packets as a DataFrame of pandas: `time`, NaT where there is none, and the other columns."""
+        return _columns.to_pandas(self._arrays(COLUMNS))
 
     def close(self) -> None:
         """Lets the capture go. Data of its packets that is still used keeps the file mapped."""
@@ -113,9 +133,12 @@ class Capture(Bytes):
             data, start = self._bytes, self._start
             for seconds, nanoseconds, original, at, length in _PACKET.iter_unpack(fields[: taken.value * _PACKET.size]):
                 at -= start
-                yield make(Packet, (seconds, nanoseconds, original, data[at : at + length], link))
+                yield make(Packet, (seconds, nanoseconds, original, data[at : at + length], link, at))
             if status != _library.OK:
                 raise error_of(status, error, total - left.len)
+
+    def _arrays(self, batch: int) -> Iterator[Any]:
+        return _columns.of_capture(self, batch)
 
     def __enter__(self) -> "Capture":
         return self

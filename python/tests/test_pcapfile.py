@@ -88,6 +88,12 @@ def block(number, body):
 
 SECTION = block(0x0A0D0D0A, struct.pack("<IHHq", 0x1A2B3C4D, 1, 0, -1))
 INTERFACE = block(1, struct.pack("<HHI", 113, 0, 96))
+
+
+def interface(link=1, snaplen=0, options=b""):
+    return block(1, struct.pack("<HHI", link, 0, snaplen) + options)
+
+
 NANOSECONDS = block(1, struct.pack("<HHIHHBxxx", 1, 0, 0, 9, 1, 9))
 
 
@@ -128,6 +134,12 @@ class Blocks(unittest.TestCase):
         with pcapfile.parse(SECTION + INTERFACE + block(3, struct.pack("<I", 4) + b"abcd")) as capture:
             (only,) = capture
             self.assertEqual((only.seconds, only.link, bytes(only.data)), (None, 113, b"abcd"))
+
+    def test_padding_is_no_part_of_simple_packets(self):
+        data = SECTION + interface(snaplen=3) + block(3, struct.pack("<I", 9) + b"abc\0")
+        self.assertEqual([bytes(p.data) for p in pcapfile.parse(data)], [b"abc"])
+        data = SECTION + interface(snaplen=0) + block(3, struct.pack("<I", 2) + b"ab\0\0")
+        self.assertEqual([bytes(p.data) for p in pcapfile.parse(data)], [b"ab"])
 
     def test_refusals(self):
         with self.assertRaises(pcapfile.Incomplete) as told:

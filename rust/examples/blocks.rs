@@ -1,7 +1,7 @@
 //! The lines of `capcopy blocks`, and packets. `blocks FILE`: a line a block. `blocks -p FILE`: a line a packet. `blocks -f
 //! FILE`: of every front of the file, its blocks and then the status.
 
-use pcapfile::{Block, Blocks, Error, Interface, Section};
+use pcapfile::{Block, BlockPacket, Blocks, Error, Interface, Section};
 use std::process::ExitCode;
 
 const SIMPLE_PACKET: u32 = 3;
@@ -39,6 +39,16 @@ fn list(bytes: &[u8]) -> Result<(), Error> {
     Ok(())
 }
 
+/// The bytes that are stored of a packet: padding follows those of a simple one.
+fn stored_of<'a>(block: &Block, packet: &BlockPacket<'a>, interfaces: &[Interface]) -> &'a [u8] {
+    if block.type_ != SIMPLE_PACKET {
+        return packet.data;
+    }
+    let snaplen = interfaces.first().map_or(0, |interface| interface.snaplen);
+    let most = if snaplen == 0 { packet.original_len } else { packet.original_len.min(snaplen) };
+    &packet.data[..packet.data.len().min(most as usize)]
+}
+
 fn print_packet(index: usize, block: &Block, interfaces: &[Interface]) {
     let Ok(Some(packet)) = block.packet() else { return };
     print!("{index} {} {} ", packet.interface_id, packet.timestamp);
@@ -49,8 +59,9 @@ fn print_packet(index: usize, block: &Block, interfaces: &[Interface]) {
             Some(time) => print!("{}.{:09} {} ", time.seconds, time.nanoseconds, interface.link),
         },
     }
-    let bytes: String = packet.data.iter().map(|byte| format!("{byte:02x}")).collect();
-    println!("{}/{} {bytes}", packet.data.len(), packet.original_len);
+    let stored = stored_of(block, &packet, interfaces);
+    let bytes: String = stored.iter().map(|byte| format!("{byte:02x}")).collect();
+    println!("{}/{} {bytes}", stored.len(), packet.original_len);
 }
 
 fn list_packets(bytes: &[u8]) -> Result<(), Error> {

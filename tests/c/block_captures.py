@@ -64,8 +64,7 @@ class Made:
         return self.block(2, head + data + bytes(-len(data) % 4) + b"".join(self.option(*o) for o in options))
 
     def simple(self, data, original):
-        padded = data + bytes(-len(data) % 4)
-        self.line(0, 0, original, padded, has_time=False)
+        self.line(0, 0, original, data, has_time=False)
         return self.block(3, struct.pack(self.order + "I", original) + data)
 
     def refused(self, number, body):
@@ -77,6 +76,8 @@ def good():
     for name, order in (("big", BIG), ("little", LITTLE)):
         made = Made(order).section().interface().enhanced(0, 1_335_958_313_152_630, b"abcde", 98)
         yield f"packets_{name}", made.simple(b"xyz", 3).old(0, 7_000_001, b"q")
+    made = Made().section().interface(snaplen=6).simple(b"snaple", 60)
+    yield "cut_packets", made.section().simple(b"no interface", 12)
     made = Made().section(options=[(1, b"made"), (4, b"by hand")]).interface(resolution=9, options=[(2, b"eth0"), (1, b"hm")])
     yield "options", made.enhanced(0, 5, b"ab", options=[(1, b"seen"), (2, bytes(4)), (4, bytes(8))]).old(0, 1, b"", [(3, b"\0h")])
     made = Made().section().interface(resolution=0x8A, offset=-3600).interface(link=113, resolution=3, offset=10)

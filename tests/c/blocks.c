@@ -100,11 +100,24 @@ static void print_time(const struct walk *walk, const pcapfile_ng_packet *packet
         printf("none %" PRIu32 " ", interface->link);
 }
 
+static size_t least(size_t a, size_t b) {
+    return a < b ? a : b;
+}
+
+/* How many bytes are stored of a packet: padding follows those of a simple one. */
+static size_t stored_of(const struct walk *walk, const pcapfile_ng_packet *packet) {
+    size_t len = packet->bytes.len;
+    if (packet->type != PCAPFILE_BLOCK_SIMPLE_PACKET) return len;
+    if (walk->section.interfaces > 0 && walk->interfaces[0].snaplen > 0) len = least(len, walk->interfaces[0].snaplen);
+    return least(len, packet->orig_len);
+}
+
 static void print_fields(const struct walk *walk, const pcapfile_ng_packet *packet) {
+    size_t stored = stored_of(walk, packet);
     printf("%" PRIu32 " %" PRIu64 " ", packet->interface_id, packet->timestamp);
     print_time(walk, packet);
-    printf("%zu/%" PRIu32 " ", packet->bytes.len, packet->orig_len);
-    for (size_t i = 0; i < packet->bytes.len; i++) printf("%02x", packet->bytes.ptr[i]);
+    printf("%zu/%" PRIu32 " ", stored, packet->orig_len);
+    for (size_t i = 0; i < stored; i++) printf("%02x", packet->bytes.ptr[i]);
     printf("\n");
 }
 
