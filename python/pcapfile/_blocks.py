@@ -5,8 +5,9 @@ import struct
 from typing import Any, Dict, Iterator, NamedTuple, Optional, Tuple
 
 from . import _columns, _library
-from ._capture import BATCH, Bytes, Data, make
+from ._capture import BATCH, Packets, make
 from ._errors import error_of
+from ._source import Source, Window
 
 
 class Interface(NamedTuple):
@@ -96,11 +97,11 @@ class _Known(_Unknown):
         return self._time.seconds, self._time.nanoseconds
 
 
-class _Walk:
+class Walk:
     """The blocks of a capture, and the interfaces of the section in force."""
 
-    def __init__(self, left: _library.Bytes, total: int) -> None:
-        self.left, self.total = left, total
+    def __init__(self, window: Window) -> None:
+        self.window = window
         self.section, self.error = _library.Section(), _library.Error()
         self.block = _library.Block(0, _library.no_bytes())
         self.known: Dict[int, _Known] = {}
@@ -108,40 +109,60 @@ class _Walk:
     def take(self) -> None:
         """Takes the next block, and of an interface what is needed of it."""
         before = self.section.interfaces
-        status = _library.take_block(self.section, self.left, self.block, self.error)
-        if status != _library.OK:
-            raise error_of(status, self.error, self.total - self.left.len)
+        while (status := self._take()) != _library.OK:
+            if status != _library.INCOMPLETE or not self.window.more(self.error.missing):
+                raise error_of(status, self.error, self.window.offset)
         if self.section.interfaces == 0:
             self.known.clear()
         elif self.section.interfaces != before:
             self._keep(before)
+
+    def _take(self) -> int:
+        self.window.offset  # raises where the capture is closed
+        return _library.take_block(self.section, self.window.left, self.block, self.error)
 
     def _keep(self, number: int) -> None:
         shown = _library.Interface()
         if _library.read_interface(self.section, self.block, shown, self.error) == _library.OK:
             self.known[number] = _Known(shown)
 
+    def batches(self, packets: Any, room: int, taken: ctypes.c_size_t) -> Iterator[Window]:
+        """Fills in so many packets as there is room for, batch by batch, and tells where their bytes lie."""
+        window = self.window
+        while window.left.len > 0 or window.more(1):
+            window.offset  # raises where the capture is closed
+            status = _library.take_ng_packets(self.section, window.left, packets, room, taken, self.error)
+            if taken.value > 0:
+                yield window
+            is_cut = status == _library.INCOMPLETE and not window.more(self.error.missing)
+            if is_cut or status == _library.NO_MEMORY:
+                raise error_of(status, self.error, window.offset)
+            if status not in (_library.OK, _library.INCOMPLETE):
+                # A section, an interface, a packet that can't be read, or a refusal.
+                self.take()
 
-class BlockCapture(Bytes):
+
+class BlockCapture(Packets):
     """A PcapNg capture: iterate over it for its packets, of all sections. Other blocks, and packets whose block can't be
-    read, are passed over. Where the capture is refused, the packets before that come first."""
+    read, are passed over. Where the capture is refused, the packets before that come first. One in memory or in a file can be
+    iterated over again."""
 
-    def __init__(self, data: Data) -> None:
-        super().__init__(data)
-        self._walk().take()
+    def __init__(self, source: Source) -> None:
+        super().__init__(source)
+        self._first = Walk(source.window())
+        self._first.take()
 
-    def _walk(self) -> _Walk:
-        return _Walk(self._from(0), len(self._bytes))
+    def _walk(self) -> Walk:
+        """A walk over all of it, or over what a stream has not given yet."""
+        window = self._source.window()
+        return self._first if window is self._first.window else Walk(window)
 
     def __iter__(self) -> Iterator[BlockPacket]:
         walk, taken = self._walk(), ctypes.c_size_t()
         packets = (_library.NgPacket * BATCH)(*[_library.NgPacket(0, 0, 0, 0, _library.no_bytes())] * BATCH)
         fields = memoryview(packets).cast("B")
-        while walk.left.len > 0:
-            # A closed capture raises here, before the library would look at its bytes.
-            len(self._bytes)
-            status = _library.take_ng_packets(walk.section, walk.left, packets, BATCH, taken, walk.error)
-            data, start, last = self._bytes, self._start, None
+        for window in walk.batches(packets, BATCH, taken):
+            data, start, base, last = window.data, window.start, window.base, None
             for kind, number, original, units, at, length in _PACKET.iter_unpack(fields[: taken.value * _PACKET.size]):
                 if number != last:
                     last, known = number, walk.known.get(number, _UNKNOWN)
@@ -153,16 +174,11 @@ class BlockCapture(Bytes):
                 else:
                     seconds, nanoseconds = known.time(units)
                 at -= start
-                yield make(BlockPacket, (seconds, nanoseconds, original, data[at : at + length], units, number, interface, at))
-            if status == _library.NO_MEMORY:
-                raise error_of(status, walk.error, walk.total - walk.left.len)
-            if status != _library.OK:
-                # A section, an interface, a packet that can't be read, or a refusal.
-                len(self._bytes)
-                walk.take()
+                lent = data[at : at + length]
+                yield make(BlockPacket, (seconds, nanoseconds, original, lent, units, number, interface, base + at))
 
     def _arrays(self, batch: int) -> Iterator[Any]:
-        return _columns.of_blocks(self, batch)
+        return _columns.of_blocks(self._walk(), batch)
 
     def __enter__(self) -> "BlockCapture":
         return self

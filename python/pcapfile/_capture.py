@@ -1,12 +1,12 @@
-"""Classic captures, and the bytes of captures of either format."""
+"""Classic captures, and what captures of both formats have in common."""
 
 import ctypes
-import mmap
 import struct
-from typing import Any, Iterator, NamedTuple, Optional, Union
+from typing import Any, Iterator, NamedTuple
 
 from . import _columns, _library
 from ._errors import error_of
+from ._source import Source, Window
 
 # How many packets one call into the library takes, and how many for columns.
 BATCH = 512
@@ -17,8 +17,6 @@ _PACKET = struct.Struct("@IIIPN")
 
 # Makes a packet of its fields. `Packet(..)` is a function in Python, and takes twice as long.
 make = tuple.__new__
-
-Data = Union[bytes, bytearray, memoryview, mmap.mmap]
 
 
 class Header(NamedTuple):
@@ -58,16 +56,14 @@ class Packet(NamedTuple):
         return self.seconds * 1_000_000_000 + self.nanoseconds
 
 
-class Bytes:
-    """Bytes that lie in memory or in a mapped file, until they are closed."""
+class Packets:
+    """The packets of a capture in memory, in a file or out of a stream."""
 
-    def __init__(self, data: Data) -> None:
-        self._bytes = memoryview(data).cast("B")
-        self._start = _library.address_of(self._bytes)
-        self._file: Optional[mmap.mmap] = data if isinstance(data, mmap.mmap) else None
+    def __init__(self, source: Source) -> None:
+        self._source = source
 
-    def _from(self, offset: int) -> _library.Bytes:
-        return _library.Bytes(self._start + offset, len(self._bytes) - offset)
+    def __iter__(self) -> Iterator[Any]:
+        raise NotImplementedError
 
     def columns(self, batch: int = COLUMNS) -> Iterator[Any]:
         """The packets as columns, so many of them at once: arrays of numpy with the fields `time_ns`, `len`, `orig_len`,
@@ -87,55 +83,65 @@ class Bytes:
         return _columns.to_pandas(self._arrays(COLUMNS))
 
     def close(self) -> None:
-        """Lets the capture go. Data of its packets that is still used keeps the file mapped."""
-        self._bytes.release()
-        if self._file is not None:
-            try:
-                self._file.close()
-            except BufferError:
-                pass
+        """Lets the capture go. Data of its packets that is still used keeps a file mapped."""
+        self._source.close()
 
     def __exit__(self, *_: object) -> None:
         self.close()
 
 
-class Capture(Bytes):
-    """A capture: iterate over it for its packets. Where it is refused, the packets before that come first."""
+class Capture(Packets):
+    """A capture: iterate over it for its packets. Where it is refused, the packets before that come first. One in memory or in a
+    file can be iterated over again."""
 
-    def __init__(self, data: Data) -> None:
-        super().__init__(data)
-        self._after_header = self._take_header()
-
-    def _take_header(self) -> int:
-        left = self._from(0)
+    def __init__(self, source: Source) -> None:
+        super().__init__(source)
+        window = self._source.window()
         header, error = _library.Header(), _library.Error()
-        status = _library.take_header(left, header, error)
-        if status != _library.OK:
-            raise error_of(status, error, 0)
-        self._header = header
+        while (status := _library.take_header(window.left, header, error)) != _library.OK:
+            if status != _library.INCOMPLETE or not window.more(error.missing):
+                raise error_of(status, error, 0)
+        self._header, self._after_header = header, window
         self.header = Header(*(getattr(header, name) for name, _ in header._fields_))
-        return len(self._bytes) - left.len
 
     @property
     def link(self) -> int:
         """The number of the link type of the packets' first layer."""
         return self.header.link
 
+    def _window(self) -> Window:
+        """What is behind the header, or behind the packets that a stream has given."""
+        window = self._source.window()
+        if window is not self._after_header:
+            _library.take_header(window.left, _library.Header(), _library.Error())
+        return window
+
+    def _batches(self, packets: Any, room: int, taken: ctypes.c_size_t) -> Iterator[Window]:
+        """Fills in so many packets as there is room for, batch by batch, and tells where their bytes lie."""
+        window, error = self._window(), _library.Error()
+        while True:
+            window.offset  # raises where the capture is closed
+            status = _library.take_packets(self._header, window.left, packets, room, taken, error)
+            if taken.value > 0:
+                yield window
+            if status not in (_library.OK, _library.INCOMPLETE):
+                raise error_of(status, error, window.offset)
+            if window.left.len > 0 and status == _library.OK:
+                continue
+            if not window.more(error.missing if status == _library.INCOMPLETE else 1):
+                break
+        if status != _library.OK:
+            raise error_of(status, error, window.offset)
+
     def __iter__(self) -> Iterator[Packet]:
-        left = self._from(self._after_header)
         packets = (_library.Packet * BATCH)(*[_library.Packet(0, 0, 0, _library.no_bytes())] * BATCH)
         fields = memoryview(packets).cast("B")
-        taken, error, link = ctypes.c_size_t(), _library.Error(), self.link
-        while left.len > 0:
-            # A closed capture raises here, before the library would look at its bytes.
-            total = len(self._bytes)
-            status = _library.take_packets(self._header, left, packets, BATCH, taken, error)
-            data, start = self._bytes, self._start
+        taken, link = ctypes.c_size_t(), self.link
+        for window in self._batches(packets, BATCH, taken):
+            data, start, base = window.data, window.start, window.base
             for seconds, nanoseconds, original, at, length in _PACKET.iter_unpack(fields[: taken.value * _PACKET.size]):
                 at -= start
-                yield make(Packet, (seconds, nanoseconds, original, data[at : at + length], link, at))
-            if status != _library.OK:
-                raise error_of(status, error, total - left.len)
+                yield make(Packet, (seconds, nanoseconds, original, data[at : at + length], link, base + at))
 
     def _arrays(self, batch: int) -> Iterator[Any]:
         return _columns.of_capture(self, batch)

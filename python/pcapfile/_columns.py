@@ -5,7 +5,7 @@ from array import array
 from typing import TYPE_CHECKING, Any, Dict, Iterator
 
 from . import _library
-from ._errors import CaptureError, error_of
+from ._errors import CaptureError
 
 try:
     import numpy
@@ -13,8 +13,9 @@ except ImportError:
     numpy = None  # type: ignore[assignment]
 
 if TYPE_CHECKING:
-    from ._blocks import BlockCapture
-    from ._capture import Bytes, Capture
+    from ._blocks import Walk
+    from ._capture import Capture, Packets
+    from ._source import Window
 
 # The time of a packet that has none, and that of one whose nanoseconds pass 64 bits: numpy's NaT.
 NO_TIME = -(2**63)
@@ -35,11 +36,11 @@ _TYPES = [
 _SIMPLE_PACKET = 3
 
 
-def of_packets(capture: "Bytes", batch: int) -> Iterator[Dict[str, "array[int]"]]:
+def of_packets(capture: "Packets", batch: int) -> Iterator[Dict[str, "array[int]"]]:
     """The columns of each so many packets, one by one, where numpy is missing."""
     columns: Dict[str, "array[int]"] = {name: array(code) for name, _, code in _TYPES}
     refusal = None
-    packets = iter(capture)  # type: ignore[call-overload]
+    packets = iter(capture)
     while refusal is None:
         try:
             packet = next(packets)
@@ -75,11 +76,11 @@ class _Room:
         return self._rows[: self.taken.value]
 
 
-def _columns(rows: Any, start: int) -> Any:
+def _columns(rows: Any, window: "Window") -> Any:
     """New columns for these packets: what stands in the packets themselves is filled in."""
     columns = numpy.zeros(len(rows), [(name, kind) for name, kind, _ in _TYPES])
     columns["len"], columns["orig_len"] = rows["len"], rows["orig_len"]
-    columns["offset"] = rows["at"] - numpy.uint64(start)
+    columns["offset"] = rows["at"] - numpy.uint64(window.start) + numpy.uint64(window.base)
     return columns
 
 
@@ -88,43 +89,27 @@ _PACKET = [("sec", "u4"), ("nsec", "u4"), ("orig_len", "u4"), ("at", "u8"), ("le
 
 def of_capture(capture: "Capture", batch: int) -> Iterator[Any]:
     """The columns of each so many packets of a classic capture."""
-    left, error = capture._from(capture._after_header), _library.Error()
     room = _Room(_library.Packet, _PACKET, batch)
-    while left.len > 0:
-        # A closed capture raises here, before the library would look at its bytes.
-        total = len(capture._bytes)
-        status = _library.take_packets(capture._header, left, room.packets, batch, room.taken, error)
+    for window in capture._batches(room.packets, batch, room.taken):
         rows = room.filled()
-        if len(rows) > 0:
-            columns = _columns(rows, capture._start)
-            columns["time_ns"] = rows["sec"].astype("i8") * 1_000_000_000 + rows["nsec"]
-            columns["link"] = capture.link
-            yield columns
-        if status != _library.OK:
-            raise error_of(status, error, total - left.len)
+        columns = _columns(rows, window)
+        columns["time_ns"] = rows["sec"].astype("i8") * 1_000_000_000 + rows["nsec"]
+        columns["link"] = capture.link
+        yield columns
 
 
 _NG_PACKET = [("type", "u4"), ("interface", "u4"), ("orig_len", "u4"), ("units", "u8"), ("at", "u8"), ("len", "u8")]
 
 
-def of_blocks(capture: "BlockCapture", batch: int) -> Iterator[Any]:
+def of_blocks(walk: "Walk", batch: int) -> Iterator[Any]:
     """The columns of each so many packets of a PcapNg capture."""
-    walk, room = capture._walk(), _Room(_library.NgPacket, _NG_PACKET, batch)
-    while walk.left.len > 0:
-        len(capture._bytes)
-        status = _library.take_ng_packets(walk.section, walk.left, room.packets, batch, room.taken, walk.error)
-        rows = room.filled()
-        if len(rows) > 0:
-            yield _block_columns(rows, walk, capture._start)
-        if status == _library.NO_MEMORY:
-            raise error_of(status, walk.error, walk.total - walk.left.len)
-        if status != _library.OK:
-            len(capture._bytes)
-            walk.take()
+    room = _Room(_library.NgPacket, _NG_PACKET, batch)
+    for window in walk.batches(room.packets, batch, room.taken):
+        yield _block_columns(room.filled(), walk, window)
 
 
-def _block_columns(rows: Any, walk: Any, start: int) -> Any:
-    columns = _columns(rows, start)
+def _block_columns(rows: Any, walk: "Walk", window: "Window") -> Any:
+    columns = _columns(rows, window)
     columns["interface"] = rows["interface"]
     columns["time_ns"], columns["link"] = NO_TIME, NO_LINK
     is_simple = rows["type"] == _SIMPLE_PACKET

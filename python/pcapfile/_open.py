@@ -4,10 +4,11 @@ import mmap
 import os
 import stat
 from builtins import open as _open
-from typing import Union
+from typing import Any, Union
 
 from ._blocks import BlockCapture
-from ._capture import Capture, Data
+from ._capture import Capture
+from ._source import Data, Memory, Source, Stream, Window
 
 # The type of a section header, with which each PcapNg capture begins.
 _SECTION = b"\x0a\x0d\x0d\x0a"
@@ -15,16 +16,37 @@ _SECTION = b"\x0a\x0d\x0d\x0a"
 
 def parse(data: Data) -> Union[Capture, BlockCapture]:
     """The capture that these bytes are. They must not change while it is used."""
-    return BlockCapture(data) if bytes(memoryview(data)[:4]) == _SECTION else Capture(data)
+    return _capture_of(Memory(data))
 
 
-def open(path: Union[str, os.PathLike]) -> Union[Capture, BlockCapture]:
-    """The capture in this file.
+def open(file: Union[str, bytes, os.PathLike, Any]) -> Union[Capture, BlockCapture]:
+    """The capture in a file of this name, or in what a stream reads: an object that has `readinto` or `read`, as an open file, a
+    pipe's, or a socket's `makefile("rb")`.
 
-    A regular file is mapped and not read, and must not change while it is used. Anything else, as a pipe or a terminal, is
-    read to its end, and its capture is held in memory."""
-    with _open(path, "rb") as file:
-        status = os.fstat(file.fileno())
-        if stat.S_ISREG(status.st_mode) and status.st_size > 0:
-            return parse(mmap.mmap(file.fileno(), 0, access=mmap.ACCESS_READ))
-        return parse(file.read())
+    A regular file is mapped and not read, and must not change while it is used. All else is read piece by piece, as packets are
+    asked for, in memory that doesn't grow with the capture; it can be iterated over once. The stream is closed with the
+    capture."""
+    if not isinstance(file, (str, bytes, os.PathLike)):
+        return _capture_of(Stream(file))
+    stream = _open(file, "rb", buffering=0)
+    status = os.fstat(stream.fileno())
+    if stat.S_ISREG(status.st_mode) and status.st_size > 0:
+        with stream:
+            return parse(mmap.mmap(stream.fileno(), 0, access=mmap.ACCESS_READ))
+    try:
+        return _capture_of(Stream(stream))
+    except BaseException:
+        stream.close()
+        raise
+
+
+def _capture_of(source: Source) -> Union[Capture, BlockCapture]:
+    window = source.window()
+    return BlockCapture(source) if _front(window) == _SECTION else Capture(source)
+
+
+def _front(window: Window) -> bytes:
+    """The first four bytes of a capture, or what there is of them."""
+    while window.left.len < 4 and window.more(4 - window.left.len):
+        pass
+    return bytes(window.data[:4])

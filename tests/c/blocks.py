@@ -1,13 +1,14 @@
 """The packets of a PcapNg capture, by the Python package, as `blocks -p` of blocks.c prints them, without the blocks' numbers.
 
-blocks.py FILE: a line a packet. blocks.py -f FILE: of every front of the file, its lines and then its status. blocks.py -t
-FILE: counts, and prints packets a second, the best of five rounds.
+blocks.py FILE: a line a packet. blocks.py -f FILE: of every front of the file, its lines and then its status. Behind `-s N` both
+as a stream that reads N bytes at once. blocks.py -t FILE: counts, and prints packets a second, the best of five rounds.
 """
 
 import sys
 import time
 
 import pcapfile
+from pieces import opening
 
 # The status of capcopy for each number of an error.
 STATUSES = {1: 3, 2: 3, 3: 1, 4: 1, 6: 4}
@@ -43,12 +44,14 @@ def rate(path):
     return f"{count} packets, {best / 1e6:.2f} million a second"
 
 
-path = sys.argv[-1]
+opened, path = opening(sys.argv[1:]), sys.argv[-1]
 if sys.argv[1] == "-t":
     print(rate(path))
-elif sys.argv[1] == "-f":
+elif "-f" in sys.argv:
     data = open(path, "rb").read()
     for end in range(len(data) + 1):
-        print("status", status_of(lambda: pcapfile.parse(data[:end])))
+        print("status", status_of(lambda: opened(data[:end])))
+elif "-s" in sys.argv:
+    sys.exit(status_of(lambda: opened(open(path, "rb").read())))
 else:
     sys.exit(status_of(lambda: pcapfile.open(path)))

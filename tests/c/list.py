@@ -1,13 +1,14 @@
 """The lines of `capcopy list`, by the Python package.
 
-list.py FILE: a line a packet. list.py -f FILE: of every front of the file, its lines and then its status. list.py -t FILE:
-counts, and prints packets a second, the best of five rounds.
+list.py FILE: a line a packet. list.py -f FILE: of every front of the file, its lines and then its status. Behind `-s N` both as a
+stream that reads N bytes at once. list.py -t FILE: counts, and prints packets a second, the best of five rounds.
 """
 
 import sys
 import time
 
 import pcapfile
+from pieces import opening
 
 
 def list_packets(capture):
@@ -37,12 +38,14 @@ def rate(path):
     return f"{count} packets, {best / 1e6:.2f} million a second"
 
 
-path = sys.argv[-1]
+opened, path = opening(sys.argv[1:]), sys.argv[-1]
 if sys.argv[1] == "-t":
     print(rate(path))
-elif sys.argv[1] == "-f":
+elif "-f" in sys.argv:
     data = open(path, "rb").read()
     for end in range(len(data) + 1):
-        print("status", status_of(lambda: pcapfile.parse(data[:end])))
+        print("status", status_of(lambda: opened(data[:end])))
+elif "-s" in sys.argv:
+    sys.exit(status_of(lambda: opened(open(path, "rb").read())))
 else:
     sys.exit(status_of(lambda: pcapfile.open(path)))

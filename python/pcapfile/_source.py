@@ -1,0 +1,108 @@
+"""Where the bytes of captures come from: memory, a mapped file, or a stream."""
+
+import mmap
+from typing import Any, Optional, Union
+
+from . import _library
+
+Data = Union[bytes, bytearray, memoryview, mmap.mmap]
+
+# How many bytes of a stream are asked for at once, unless a packet needs more.
+CHUNK = 1 << 18
+
+
+class Window:
+    """Bytes of a capture that lie in memory, and what is left of them: `left`, as the library has it. `data` are all of them, which
+    begin at the address `start`, and at so many bytes of the capture as `base` tells."""
+
+    def __init__(self, data: memoryview, base: int = 0) -> None:
+        self.left = _library.Bytes()
+        self._show(data, base)
+
+    def _show(self, data: memoryview, base: int) -> None:
+        self.data, self.base = data, base
+        self.start = _library.address_of(data)
+        self.left.ptr, self.left.len = self.start, len(data)
+
+    @property
+    def offset(self) -> int:
+        """How many bytes of the capture have been taken. A closed capture raises here, before the library would look at its
+        bytes."""
+        return self.base + len(self.data) - self.left.len
+
+    def more(self, missing: int) -> bool:
+        """Whether more bytes came behind those that are left, up to so many that are missing, or more."""
+        return False
+
+
+class Memory:
+    """Bytes in memory or in a mapped file, until they are closed. Each walk over them begins at their front."""
+
+    def __init__(self, data: Data) -> None:
+        self._bytes = memoryview(data).cast("B")
+        self._file: Optional[mmap.mmap] = data if isinstance(data, mmap.mmap) else None
+
+    def window(self) -> Window:
+        return Window(self._bytes)
+
+    def close(self) -> None:
+        self._bytes.release()
+        if self._file is not None:
+            try:
+                self._file.close()
+            except BufferError:
+                pass
+
+
+class Stream(Window):
+    """Bytes that come out of a stream, which is read once. What is left when more are read moves to the front of new memory, so
+    that bytes which were lent stay as they are."""
+
+    def __init__(self, stream: Any) -> None:
+        super().__init__(memoryview(b""))
+        self._stream, self._into = stream, _reading_into(stream)
+        self._is_closed = False
+
+    def window(self) -> Window:
+        return self
+
+    @property
+    def offset(self) -> int:
+        if self._is_closed:
+            raise ValueError("the capture is closed")
+        return super().offset
+
+    def more(self, missing: int) -> bool:
+        held = self.data[len(self.data) - self.left.len :]
+        # Twice what is held at most, so that a broken length doesn't take memory for bytes that never come.
+        room = bytearray(len(held) + max(CHUNK, min(missing, len(held))))
+        room[: len(held)] = held
+        view = memoryview(room)
+        count = self._into(view[len(held) :])
+        if count == 0:
+            return False
+        self._show(view[: len(held) + count], self.offset)
+        return True
+
+    def close(self) -> None:
+        self._is_closed = True
+        self._stream.close()
+
+
+def _reading_into(stream: Any) -> Any:
+    """A call that reads into a view what the stream has, and tells how much: it waits for no more than there is."""
+    for name in ("readinto1", "readinto"):
+        if hasattr(stream, name):
+            into = getattr(stream, name)
+            return lambda view: into(view) or 0
+    read = getattr(stream, "read1", None) or stream.read
+
+    def copied(view: memoryview) -> int:
+        data = read(len(view))
+        view[: len(data)] = data
+        return len(data)
+
+    return copied
+
+
+Source = Union[Memory, Stream]

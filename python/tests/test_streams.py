@@ -1,0 +1,163 @@
+"""Tests of captures that come out of streams. Each expected value is worked out from the bytes beside it."""
+
+import io
+import os
+import socket
+import struct
+import subprocess
+import sys
+import tempfile
+import threading
+import unittest
+
+import pcapfile
+from pcapfile import _source
+from test_pcapfile import HEADER, INTERFACE, SECTION, block, enhanced, packet
+
+
+class Some:
+    """A stream that has `read` alone, which gives so many bytes at most."""
+
+    def __init__(self, data, most):
+        self._left, self._most, self.asked, self.is_closed = io.BytesIO(data), most, [], False
+
+    def read(self, count):
+        self.asked.append(count)
+        return self._left.read(min(count, self._most))
+
+    def close(self):
+        self.is_closed = True
+
+
+CLASSIC = HEADER + b"".join(packet(n, 0, bytes([n]) * n) for n in range(50))
+BLOCKS = SECTION + INTERFACE + b"".join(enhanced(0, n * 10**6, bytes([n]) * n) for n in range(50)) + SECTION + enhanced(0, 1, b"x")
+
+
+class Streams(unittest.TestCase):
+    def test_pieces_of_any_size(self):
+        for most in (1, 7, 24, 4096):
+            with pcapfile.open(Some(CLASSIC, most)) as capture:
+                got = [(p.seconds, bytes(p.data), CLASSIC[p.offset : p.offset + len(p.data)]) for p in capture]
+            self.assertEqual(got, [(n, bytes([n]) * n, bytes([n]) * n) for n in range(50)])
+            with pcapfile.open(Some(BLOCKS, most)) as capture:
+                got = [(p.seconds, bytes(p.data), BLOCKS[p.offset : p.offset + len(p.data)], p.link) for p in capture]
+            self.assertEqual(got[:-1], [(n, bytes([n]) * n, bytes([n]) * n, 113) for n in range(50)])
+            self.assertEqual(got[-1], (None, b"x", b"x", None))
+
+    def test_data_that_was_lent_stays(self):
+        data = HEADER + b"".join(packet(n, 0, bytes([n % 251]) * 1000) for n in range(1000))
+        with pcapfile.open(Some(data, 5000)) as capture:
+            kept = [p.data for p in capture]
+            self.assertEqual([bytes(d) for d in kept], [bytes([n % 251]) * 1000 for n in range(1000)])
+
+    def test_each_kind_of_stream(self):
+        with pcapfile.open(io.BytesIO(CLASSIC)) as capture:
+            self.assertEqual(sum(1 for _ in capture), 50)
+        with tempfile.TemporaryFile() as file:
+            file.write(CLASSIC)
+            file.seek(0)
+            with pcapfile.open(file) as capture:
+                self.assertEqual(sum(1 for _ in capture), 50)
+        ours, theirs = socket.socketpair()
+        writer = threading.Thread(target=lambda: (theirs.sendall(BLOCKS), theirs.close()))
+        writer.start()
+        with ours, pcapfile.open(ours.makefile("rb")) as capture:
+            self.assertEqual(sum(1 for _ in capture), 51)
+        writer.join()
+
+    def test_a_packet_comes_before_the_next_is_written(self):
+        reads, writes = os.pipe()
+        with os.fdopen(writes, "wb", buffering=0) as file, _opened(file, reads) as capture:
+            packets = iter(capture)
+            for n in range(3):
+                file.write(packet(n, 0, b"live"))
+                self.assertEqual(next(packets).seconds, n)
+
+    def test_ends(self):
+        """A clean end, a torn one and a refusal are told apart."""
+        self.assertEqual(list(pcapfile.open(Some(HEADER, 5))), [])
+        with self.assertRaises(pcapfile.Incomplete) as told:
+            list(pcapfile.open(Some(HEADER + packet(1, 2, b"abc") + packet(3, 4, b"defg")[:-1], 5)))
+        self.assertEqual((told.exception.missing, told.exception.offset), (1, 24 + 19))
+        with self.assertRaises(pcapfile.Incomplete) as told:
+            pcapfile.open(Some(HEADER[:20], 5))
+        self.assertEqual((told.exception.missing, told.exception.offset), (4, 0))
+        with self.assertRaises(pcapfile.Incomplete) as told:
+            pcapfile.open(Some(b"", 5))
+        self.assertEqual(told.exception.missing, 24)
+        with self.assertRaisesRegex(pcapfile.Invalid, r"IncludedPastOriginal: .* \(at byte 43\)"):
+            list(pcapfile.open(Some(HEADER + packet(1, 2, b"abc") + packet(1, 2, b"abc", 2), 5)))
+        with self.assertRaises(pcapfile.Incomplete) as told:
+            list(pcapfile.open(Some(SECTION + INTERFACE[:-1], 5)))
+        self.assertEqual((told.exception.missing, told.exception.offset), (1, 28))
+
+    def test_a_failed_read_comes_through(self):
+        class Fails(Some):
+            def read(self, count):
+                if not self._left.getbuffer()[self._left.tell() :]:
+                    raise OSError("the line is cut")
+                return super().read(count)
+
+        got = []
+        with self.assertRaisesRegex(OSError, "the line is cut"):
+            for p in pcapfile.open(Fails(HEADER + packet(1, 2, b"abc"), 5)):
+                got.append(bytes(p.data))
+        self.assertEqual(got, [b"abc"])
+
+    def test_a_broken_length_takes_no_memory(self):
+        stream = Some(SECTION + struct.pack("<II", 6, 2**32 - 4) + bytes(100), 1000)
+        with self.assertRaises(pcapfile.Incomplete) as told:
+            list(pcapfile.open(stream))
+        self.assertEqual(told.exception.missing, 2**32 - 4 - 108)
+        self.assertLessEqual(max(stream.asked), _source.CHUNK)
+
+    def test_columns(self):
+        with pcapfile.open(Some(CLASSIC, 100)) as capture:
+            got = [n for columns in capture.columns() for n in columns["offset"].tolist()]
+        with pcapfile.parse(CLASSIC) as capture:
+            self.assertEqual(got, [p.offset for p in capture])
+
+    def test_packets_come_once(self):
+        with pcapfile.open(Some(CLASSIC, 100)) as capture:
+            first = next(iter(capture))
+            self.assertEqual(first.seconds, 0)
+            list(capture)
+            self.assertEqual(list(capture), [])
+
+    def test_closed(self):
+        stream = Some(CLASSIC, 100)
+        with pcapfile.open(stream) as capture:
+            packets = iter(capture)
+            next(packets)
+        self.assertTrue(stream.is_closed)
+        with self.assertRaises(ValueError):
+            list(packets)
+        with self.assertRaises(ValueError):
+            list(capture)
+
+    def test_memory_that_is_held(self):
+        """A pipe of 64 MiB takes no more than a few chunks."""
+        code = (
+            "import pcapfile, resource; before = resource.getrusage(resource.RUSAGE_SELF).ru_maxrss;"
+            "count = sum(1 for _ in pcapfile.open('/dev/stdin'));"
+            "print(count, resource.getrusage(resource.RUSAGE_SELF).ru_maxrss - before < 8192)"
+        )
+        told = _python(code, lambda file: [file.write(HEADER)] + [file.write(packet(n, 0, bytes(65520))) for n in range(1024)])
+        self.assertEqual(told, "1024 True\n")
+
+
+def _opened(file, reads):
+    file.write(HEADER)
+    return pcapfile.open(os.fdopen(reads, "rb"))
+
+
+def _python(code, write):
+    """What another Python prints, whose standard input is a pipe with what `write` writes."""
+    with subprocess.Popen([sys.executable, "-c", code], stdin=subprocess.PIPE, stdout=subprocess.PIPE, text=False) as child:
+        write(child.stdin)
+        child.stdin.close()
+        return child.stdout.read().decode()
+
+
+if __name__ == "__main__":
+    unittest.main()
