@@ -4,6 +4,7 @@
 #   make check                               the tests of the library, through C, Python and Rust
 #   make install PREFIX=/usr DESTDIR=room    installs both, with header, man page and pkg-config's file
 #   make uninstall                           removes what that installed, by the same words
+#   make wheel                               out/pcapfile-VERSION-*.whl, the package for Python with the library in it
 #
 # `rt` of the Rattle toolchain has to be on the PATH. The first proof takes minutes; JOBS is how many jobs it may use.
 
@@ -15,9 +16,11 @@ LIBDIR = $(DESTDIR)$(libdir)
 MANDIR = $(DESTDIR)$(PREFIX)/share/man/man1
 DOCDIR = $(DESTDIR)$(PREFIX)/share/doc/pcapfile
 
-VERSION = 0.1.0
+# The file VERSION is where a version is changed; tests/packages/run compares the other places that name it.
+VERSION := $(shell cat VERSION)
 ABI = 0
 OUT = out
+PYTHON ?= python3
 KIT = $(shell dirname "$$(dirname "$$(readlink -f "$$(command -v rt)")")")
 PROVED = crates/pcapfile_c/out/libpcapfile_c.a
 PROGRAM = crates/capcopy/out/capcopy
@@ -29,9 +32,9 @@ ifeq ($(shell command -v rt),)
 $(if $(filter clean uninstall,$(MAKECMDGOALS)),,$(error 'rt', the command of the Rattle toolchain, is not on the PATH; without it nothing is proved or built))
 endif
 
-.PHONY: all check install uninstall clean
+.PHONY: all check install uninstall wheel clean
 
-all: $(PROGRAM) $(OUT)/libpcapfile.a $(OUT)/libpcapfile.so.$(ABI)
+all: $(PROGRAM) $(OUT)/libpcapfile.a $(OUT)/libpcapfile.so.$(ABI) $(OUT)/licences
 
 $(PROGRAM): $(call sources_of,capcopy_run capcopy)
 	cd crates/capcopy && rt run $(JOBS_OF_RT) -- list < stdin > /dev/null
@@ -55,6 +58,15 @@ $(OUT)/libpcapfile.so.$(ABI): $(OUT)/libpcapfile.o include/names
 	$(CC) -shared -Wl,-soname,libpcapfile.so.$(ABI) -Wl,--version-script,include/names -Wl,-z,noexecstack $(LDFLAGS) $< -o $@
 	ln -sf libpcapfile.so.$(ABI) $(OUT)/libpcapfile.so
 
+# What goes with all that is built: the licences of the parts that it holds, and what is said of those that have none.
+$(OUT)/licences: LICENSE NOTICE
+	rm -rf $@
+	mkdir -p $@
+	cp LICENSE NOTICE $@
+	cp $(KIT)/rattle/byteorder/LICENSE-MIT $@/LICENSE.byteorder
+	cp $(KIT)/rattle/thiserror/LICENSE $@/LICENSE.thiserror
+	cp $(KIT)/rattle/itoa/LICENSE $@/LICENSE.itoa
+
 check: all
 	tests/c/run
 
@@ -71,12 +83,15 @@ install: all
 	    'Cflags: -I$${includedir}' 'Libs: -L$${libdir} -lpcapfile' > $(LIBDIR)/pkgconfig/pcapfile.pc
 	chmod 644 $(LIBDIR)/pkgconfig/pcapfile.pc
 	install -m 644 capcopy.1 $(MANDIR)/capcopy.1
-	install -m 644 LICENSE $(DOCDIR)/LICENSE
+	install -m 644 $(OUT)/licences/* $(DOCDIR)
 
 uninstall:
 	rm -f $(BINDIR)/capcopy $(INCDIR)/pcapfile.h $(LIBDIR)/libpcapfile.a $(LIBDIR)/libpcapfile.so.$(ABI)
 	rm -f $(LIBDIR)/libpcapfile.so $(LIBDIR)/pkgconfig/pcapfile.pc $(MANDIR)/capcopy.1
 	rm -rf $(DOCDIR)
+
+wheel: all
+	$(PYTHON) python/backend.py $(OUT)
 
 clean:
 	rm -rf $(OUT)

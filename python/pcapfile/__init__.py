@@ -15,7 +15,7 @@ from ._errors import CaptureError, Incomplete, Invalid
 from ._open import open, parse
 from ._rules import Rule
 
-__version__ = "0.1.0"
+__version__ = "0.2.0"
 
 __all__ = [
     "BlockCapture",

@@ -1,0 +1,13 @@
+"""expected.py CAPTURE: a line for each packet of a little-endian classic capture in nanoseconds, with nothing of pcap_file."""
+
+import struct
+import sys
+
+with open(sys.argv[1], "rb") as file:
+    capture = file.read()
+assert capture[:4] == bytes.fromhex("4d3cb2a1"), "another magic number"
+at = 24
+while at < len(capture):
+    seconds, nanoseconds, length, _ = struct.unpack_from("<IIII", capture, at)
+    print(f"{seconds}.{nanoseconds:09} {length}")
+    at += 16 + length
