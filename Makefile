@@ -5,6 +5,7 @@
 #   make install PREFIX=/usr DESTDIR=room    installs both, with header, man page and pkg-config's file
 #   make uninstall                           removes what that installed, by the same words
 #   make wheel                               out/pcapfile-VERSION-*.whl, the package for Python with the library in it
+#   make dist                                out/pcapfile-VERSION-SYSTEM.tar.gz, which is used where it is unpacked
 #
 # `rt` of the Rattle toolchain has to be on the PATH. The first proof takes minutes; JOBS is how many jobs it may use.
 
@@ -21,6 +22,7 @@ VERSION := $(shell cat VERSION)
 ABI = 0
 OUT = out
 PYTHON ?= python3
+DIST = pcapfile-$(VERSION)-$(shell uname -sm | tr 'A-Z ' 'a-z-')
 KIT = $(shell dirname "$$(dirname "$$(readlink -f "$$(command -v rt)")")")
 PROVED = crates/pcapfile_c/out/libpcapfile_c.a
 PROGRAM = crates/capcopy/out/capcopy
@@ -32,7 +34,7 @@ ifeq ($(shell command -v rt),)
 $(if $(filter clean uninstall,$(MAKECMDGOALS)),,$(error 'rt', the command of the Rattle toolchain, is not on the PATH; without it nothing is proved or built))
 endif
 
-.PHONY: all check install uninstall wheel clean
+.PHONY: all check install uninstall wheel dist clean
 
 all: $(PROGRAM) $(OUT)/libpcapfile.a $(OUT)/libpcapfile.so.$(ABI) $(OUT)/licences
 
@@ -92,6 +94,16 @@ uninstall:
 
 wheel: all
 	$(PYTHON) python/backend.py $(OUT)
+
+# What `make install` installs, with a pkg-config's file that finds it by its own place, and sums of all files.
+dist: all
+	rm -rf $(OUT)/$(DIST)
+	$(MAKE) -s install DESTDIR=$(OUT)/$(DIST) PREFIX= libdir=/lib
+	sed -i -e 's|^prefix=.*|prefix=$${pcfiledir}/../..|' -e 's|^libdir=.*|libdir=$${prefix}/lib|' $(OUT)/$(DIST)/lib/pkgconfig/pcapfile.pc
+	cd $(OUT)/$(DIST) && find . -type f ! -name SHA256SUMS | sort | xargs sha256sum > SHA256SUMS
+	tar -C $(OUT) --sort=name --owner=0 --group=0 --numeric-owner -czf $(OUT)/$(DIST).tar.gz $(DIST)
+	rm -rf $(OUT)/$(DIST)
+	@echo $(DIST).tar.gz
 
 clean:
 	rm -rf $(OUT)
