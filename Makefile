@@ -6,6 +6,7 @@
 #   make uninstall                           removes what that installed, by the same words
 #   make wheel                               out/pcapfile-VERSION-*.whl, the package for Python with the library in it
 #   make dist                                out/pcapfile-VERSION-SYSTEM.tar.gz, which is used where it is unpacked
+#   make deb                                 out/*.deb: libpcapfile0, libpcapfile-dev, python3-pcapfile and capcopy
 #
 # `rt` of the Rattle toolchain has to be on the PATH. The first proof takes minutes; JOBS is how many jobs it may use.
 
@@ -34,7 +35,7 @@ ifeq ($(shell command -v rt),)
 $(if $(filter clean uninstall,$(MAKECMDGOALS)),,$(error 'rt', the command of the Rattle toolchain, is not on the PATH; without it nothing is proved or built))
 endif
 
-.PHONY: all check install uninstall wheel dist clean
+.PHONY: all check install uninstall wheel dist deb clean
 
 all: $(PROGRAM) $(OUT)/libpcapfile.a $(OUT)/libpcapfile.so.$(ABI) $(OUT)/licences
 
@@ -104,6 +105,9 @@ dist: all
 	tar -C $(OUT) --sort=name --owner=0 --group=0 --numeric-owner -czf $(OUT)/$(DIST).tar.gz $(DIST)
 	rm -rf $(OUT)/$(DIST)
 	@echo $(DIST).tar.gz
+
+deb: all
+	packages/deb $(OUT)
 
 clean:
 	rm -rf $(OUT)
