@@ -86,7 +86,7 @@ install: all
 	    'Cflags: -I$${includedir}' 'Libs: -L$${libdir} -lpcapfile' > $(LIBDIR)/pkgconfig/pcapfile.pc
 	chmod 644 $(LIBDIR)/pkgconfig/pcapfile.pc
 	install -m 644 capcopy.1 $(MANDIR)/capcopy.1
-	install -m 644 $(OUT)/licences/* $(DOCDIR)
+	install -m 644 CHANGELOG.md $(OUT)/licences/* $(DOCDIR)
 
 uninstall:
 	rm -f $(BINDIR)/capcopy $(INCDIR)/pcapfile.h $(LIBDIR)/libpcapfile.a $(LIBDIR)/libpcapfile.so.$(ABI)
@@ -94,11 +94,12 @@ uninstall:
 	rm -rf $(DOCDIR)
 
 wheel: all
+	rm -f $(OUT)/*.whl
 	$(PYTHON) python/backend.py $(OUT)
 
 # What `make install` installs, with a pkg-config's file that finds it by its own place, and sums of all files.
 dist: all
-	rm -rf $(OUT)/$(DIST)
+	rm -rf $(OUT)/pcapfile-*.tar.gz $(OUT)/$(DIST)
 	$(MAKE) -s install DESTDIR=$(OUT)/$(DIST) PREFIX= libdir=/lib
 	sed -i -e 's|^prefix=.*|prefix=$${pcfiledir}/../..|' -e 's|^libdir=.*|libdir=$${prefix}/lib|' $(OUT)/$(DIST)/lib/pkgconfig/pcapfile.pc
 	cd $(OUT)/$(DIST) && find . -type f ! -name SHA256SUMS | sort | xargs sha256sum > SHA256SUMS
@@ -107,6 +108,7 @@ dist: all
 	@echo $(DIST).tar.gz
 
 deb: all
+	rm -f $(OUT)/*.deb
 	packages/deb $(OUT)
 
 clean:
