@@ -1,14 +1,13 @@
 -- What a reader of blocks shows.
-use Rattle.std.specs.Prelude.{◌≡◌, ℕ, List, [], map, Bool, false, Option, Some, Result, Ok, Err}
+use Rattle.std.specs.Prelude.{◌≡◌, ℕ, List, map, Bool, false, Option, Some, Result, Ok, Err}
 use Rattle.pcap_core.specs.declared.errors.PcapError.{PcapError}
 use Rattle.pcap_core.specs.Held.{held_bytes}
-use Rattle.pcap_core.specs.Reading.{Takes}
 use Rattle.pcap_blocks.specs.SectionHeader.{Section, section_of}
 use Rattle.pcap_blocks.specs.InterfaceDescription.{Interface, interface_of}
 use Rattle.pcap_file.specs.declared.pcapng.reader.PcapNgReader.{PcapNgReader}
 use Rattle.pcap_file.specs.declared.pcapng.block_header.BlockHeader.{BlockHeader}
 use Rattle.pcap_file.specs.Blocks.{Item}
-use Rattle.pcap_file.specs.Lent.{body_in, held_item}
+use Rattle.pcap_file.specs.Lent.{body_in, held_item, TakesText}
 use Rattle.pcap_file.specs.State.{State, within}
 use Rattle.pcap_file.specs.Opening.{OpeningSays, RefusesOpening}
 
@@ -36,19 +35,23 @@ has_failed reader = reader.has_failed
 abbrev pub is_done : {T : Type 0} → PcapNgReader T → Bool
 is_done reader = reader.is_done
 
+-- the text that a reader lends: all bytes of the block that it holds
+abbrev pub text_of : {T : Type 0} → PcapNgReader T → List ℕ
+text_of reader = held_bytes reader.held
+
 -- the body that a reader lends: that of the block that it holds
 abbrev pub body_of : {T : Type 0} → PcapNgReader T → List ℕ
-body_of reader = body_in (held_bytes reader.held)
+body_of reader = body_in (text_of reader)
 
 -- the block of this header and the body that a reader lends, and what is in force after it
 abbrev pub lent_item : {T : Type 0} → PcapNgReader T → BlockHeader → Item
-lent_item reader header = held_item (state_of reader) (held_bytes reader.held) header
+lent_item reader header = held_item (state_of reader) (text_of reader) header
 
--- one call that makes a reader: the first block's text was taken and no more, and nothing failed; or the call is refused
+-- one call that makes a reader: the first block's text was taken and no more, and is lent, and nothing failed; or the call is refused
 abbrev pub OpensReader : {T : Type 0} → (T → Option (List ℕ)) → T → Result (PcapNgReader T) PcapError → Type 0
 OpensReader remaining stream (Ok reader) =
-    (is_done reader ≡ false) × (has_failed reader ≡ false) × Takes OpeningSays (remaining stream) (remaining (stream_of reader)) (state_of reader)
-    × (body_of reader ≡ [])
+    (is_done reader ≡ false) × (has_failed reader ≡ false)
+    × TakesText OpeningSays (remaining stream) (remaining (stream_of reader)) (text_of reader) (state_of reader)
 OpensReader remaining stream (Err e) = RefusesOpening (remaining stream) e
 
 -- what is in force stays, unless a block came

@@ -74,8 +74,10 @@ fn lends(reader: &mut PcapNgReader<Halting>, row: &LentBlock) -> bool {
         endianness: row.endianness,
     };
     let body = back(front(&SECTIONS, row.end.saturating_sub(4)), row.start);
+    let text = back(front(&SECTIONS, row.end), row.start.saturating_sub(8));
     given(reader) == Some(header)
         && reader.get_ref().taken == row.end
+        && reader.text() == text
         && is_lent(reader, header, body)
 }
 
@@ -84,16 +86,22 @@ fn lent_blocks(rt: HostRuntime) -> Result<(), Fail> {
     for step in [1, 7, 200] {
         let stream = Halting::new(rt.alloc(), &SECTIONS, step)?;
         let mut reader = PcapNgReader::new(rt.alloc(), stream)?;
-        assert!(rt; reader.body().is_empty());
+        assert!(rt; reader.text() == front(&SECTIONS, 28));
+        assert!(rt; reader.body() == back(front(&SECTIONS, 24), 8));
         for row in &BLOCKS {
             assert!(rt; lends(&mut reader, row), "{} by {step}", row.name);
         }
         let state = state(rt.alloc(), reader.section(), reader.interfaces())?;
         assert_eq!(rt; state.as_str(), "Little 1.0 -1 [] with ETHERNET/262144/[]");
         assert!(rt; given(&mut reader).is_none());
-        assert!(rt; reader.body().is_empty() && !reader.failed());
+        assert!(rt; lent_lengths(&reader) == 0 && !reader.failed());
     }
     Ok(())
+}
+
+// How many bytes a reader lends, as a text and as its body.
+fn lent_lengths(reader: &PcapNgReader<Halting>) -> usize {
+    reader.text().len().saturating_add(reader.body().len())
 }
 
 // A capture of the big-endian section, an interface, and the block of these digits.
@@ -166,9 +174,9 @@ fn lent_bodies(rt: HostRuntime) -> Result<(), Fail> {
 // The refusal of a reader's next block, what comes behind it, how many bytes are lent then, and what is in force.
 fn refused(alloc: Global, reader: &mut PcapNgReader<Halting>) -> Result<String, Fail> {
     let refusal = lent(alloc, reader)?;
-    let first = reader.body().len();
+    let first = lent_lengths(reader);
     let after = lent(alloc, reader)?;
-    let second = reader.body().len();
+    let second = lent_lengths(reader);
     let state = state(alloc, reader.section(), reader.interfaces())?;
     Ok(format!(in alloc; "{refusal} {first}, {after} {second}, {state}")?)
 }
@@ -208,7 +216,7 @@ fn owned_length(reader: &mut PcapNgReader<Halting>) -> Option<usize> {
 // Whether a reader lends a body of this length, and then gives an owned one of that length, if any.
 fn lends_and_gives(reader: &mut PcapNgReader<Halting>, lent: usize, owned: Option<usize>) -> bool {
     let is_given = given(reader).is_some() && reader.body().len() == lent;
-    is_given && owned_length(reader) == owned && reader.body().is_empty()
+    is_given && owned_length(reader) == owned && lent_lengths(reader) == 0
 }
 
 #[test]

@@ -38,11 +38,11 @@ pub struct PcapNgReader<T> {
 }
 
 impl<T: Read + Drop> PcapNgReader<T> {
-    ghost use Rattle.pcap_file.specs.Lent.{LetsGo};
-    ghost use Rattle.pcap_file.specs.Reader.{state_of, stream_of, has_failed, is_done, body_of, lent_item, OpensReader, StaysUnlessGiven};
+    ghost use Rattle.pcap_file.specs.Lent.{LendsText};
+    ghost use Rattle.pcap_file.specs.Reader.{state_of, stream_of, has_failed, is_done, text_of, lent_item, OpensReader, StaysUnlessGiven};
 
-    /// Reads the first block off a stream, which has to be a section header, and makes a reader of the blocks after it. A
-    /// refused call drops the stream.
+    /// Reads the first block off a stream, which has to be a section header, and makes a reader of the blocks after it, which
+    /// lends the section's bytes (`text`). A refused call drops the stream.
     ///
     /// The refusals are those of `PcapNgParser::new`, but where that one would ask for bytes: `IoError` where the stream
     /// ended early, or a read failed. `OutOfMemory` where something can't grow.
@@ -62,7 +62,7 @@ impl<T: Read + Drop> PcapNgReader<T> {
         })
     }
 
-    /// The header of the next block, whose body the reader lends from then on (`body`, `block`), until it is called again. So
+    /// The header of the next block, which the reader lends from then on (`block`, `body`, `text`), until it is called again. So
     /// a block costs no memory of its own, but for a section header or an interface description, which stays in force. What it
     /// answers, when, and what it puts in force, is said as of `next`.
     ///
@@ -84,7 +84,7 @@ impl<T: Read + Drop> PcapNgReader<T> {
     pub fn next_header(&mut self) -> Option<ResultParsing<BlockHeader>>
         ensures stays { StaysUnlessGiven (state_of self.old) (state_of self.new) result }
         ensures next { NextGives (block_format.says (state_of self.old)) (lent_item self.new) (T.remaining (stream_of self.old)) (T.remaining (stream_of self.new)) (is_done self.old) (is_done self.new) (has_failed self.old) (has_failed self.new) result }
-        ensures let_go { LetsGo result (body_of self.new) }
+        ensures text { LendsText (block_format.says (state_of self.old)) (lent_item self.new) (T.remaining (stream_of self.old)) (T.remaining (stream_of self.new)) (text_of self.new) result }
     {
         self.held.clear();
         if self.is_done {
@@ -107,13 +107,36 @@ impl<T: Read + Drop> PcapNgReader<T> {
 
 impl<T> PcapNgReader<T> {
     ghost use Rattle.pcap_core.specs.Bytes.{IsBorrowed};
-    ghost use Rattle.pcap_file.specs.Reader.{stream_of, has_failed, body_of, section_in_force, interfaces_in_force};
+    ghost use Rattle.pcap_file.specs.Reader.{stream_of, has_failed, text_of, body_of, section_in_force, interfaces_in_force};
 
-    /// The body of the block whose header `next_header` gave last. Empty where it gave none, and once `next` was called.
+    /// The text of the block whose header `next_header` gave last: all of its bytes, from its type to the length behind its body,
+    /// as they stood in the stream. Before the first call it is that of the first section header. Empty where the last call gave
+    /// no header, and once `next` was called.
+    ///
+    /// What is written so is a part of the capture byte by byte, where the section and all its interfaces are in it:
+    ///
+    /// ```
+    /// output.write_all(reader.text())?;
+    /// for _ in 0..u64::MAX {
+    ///     let Some(header) = reader.next_header() else {
+    ///         break;
+    ///     };
+    ///     if header?.type_ != BlockType::NameResolution {
+    ///         output.write_all(reader.text())?;
+    ///     }
+    /// }
+    /// ```
+    pub fn text(&self) -> &[u8]
+        ensures { result.now ≡ text_of self.now }
+    {
+        self.held.as_slice()
+    }
+
+    /// The body of the block whose `text` the reader lends.
     pub fn body(&self) -> &[u8]
         ensures { result.now ≡ body_of self.now }
     {
-        let bytes = self.held.as_slice();
+        let bytes = self.text();
         if bytes.len() < 12 {
             return &[];
         }
@@ -170,13 +193,13 @@ impl<T> PcapNgReader<T> {
 }
 
 impl<T: Read + Drop> Iterator for PcapNgReader<T> {
-    ghost use Rattle.pcap_file.specs.Reader.{state_of, stream_of, has_failed, is_done, body_of, StaysUnlessGiven};
+    ghost use Rattle.pcap_file.specs.Reader.{state_of, stream_of, has_failed, is_done, text_of, StaysUnlessGiven};
 
     type Item = ResultParsing<Block<'static>>;
 
     ghost next_gives = { λ s r t. StaysUnlessGiven (state_of s) (state_of t) r
         × NextGives (block_format.says (state_of s)) (item_of (state_of t)) (T.remaining (stream_of s)) (T.remaining (stream_of t)) (is_done s) (is_done t) (has_failed s) (has_failed t) r
-        × (body_of t ≡ []) × IfSome r (λ given. IfOk given (λ block. IsOwned block.body)) };
+        × (text_of t ≡ []) × IfSome r (λ given. IfOk given (λ block. IsOwned block.body)) };
 
     fn next(&mut self) -> Option<ResultParsing<Block<'static>>> {
         self.held.clear();

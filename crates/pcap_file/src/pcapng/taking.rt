@@ -1,16 +1,16 @@
 //! Blocks that are taken off a stream, over the parts of what reads them.
 
-ghost use Rattle.std.specs.Prelude.{◌≡◌, false, [], IfOk, IfErr, IfNone, IfSome, OnOk, OnErr};
+ghost use Rattle.std.specs.Prelude.{◌≡◌, false, [], IfOk, IfErr, IfSome, OnOk, OnErr};
 ghost use Rattle.pcap_core.specs.Bytes.{IsOwned};
 ghost use Rattle.pcap_core.specs.declared.common.Endianness.TheVariants.{Big};
 ghost use Rattle.pcap_core.specs.Errors.{IsIo};
 ghost use Rattle.pcap_core.specs.Filling.{Stated};
 ghost use Rattle.pcap_core.specs.Held.{held_bytes};
-ghost use Rattle.pcap_core.specs.Reading.{Pulls, Takes, TakesAsked};
+ghost use Rattle.pcap_core.specs.Reading.{Pulls, TakesAsked};
 ghost use Rattle.pcap_file.specs.Blocks.{item_of, block_format};
 ghost use Rattle.pcap_file.specs.Opening.{OpeningSays, OpensHeld, RefusesOpening};
 ghost use Rattle.pcap_file.specs.Frames.{frame_format};
-ghost use Rattle.pcap_file.specs.Lent.{held_item};
+ghost use Rattle.pcap_file.specs.Lent.{held_item, HoldsText, TakesText};
 ghost use Rattle.pcap_file.specs.StatedFrames.{KnowsFrame};
 ghost use Rattle.pcap_file.specs.State.{state_in, StaysUnlessTaken};
 
@@ -51,7 +51,8 @@ pub(crate) fn pull<T: Read>(
     Ok(Some(own))
 }
 
-// Holds the next block. Nothing is held before it, nor where none comes; what is in force moves only where one does.
+// Holds the text of the next block. Nothing is held before it, nor where none comes; what is in force moves only where one
+// does.
 pub(crate) fn hold<T: Read>(
     alloc: Global,
     in_force: &mut InForce,
@@ -63,7 +64,7 @@ pub(crate) fn hold<T: Read>(
     requires unfailed { has_failed.old ≡ false }
     ensures pulls { Pulls (block_format.says (state_in in_force.old)) (held_item (state_in in_force.new) (held_bytes held.new)) (T.remaining stream.old) (T.remaining stream.new) has_failed.new result }
     ensures stays { StaysUnlessTaken (state_in in_force.old) (state_in in_force.new) result }
-    ensures none { IfOk result (λ header. IfNone header (held_bytes held.new ≡ [])) }
+    ensures text { HoldsText (block_format.says (state_in in_force.old)) (held_item (state_in in_force.new) (held_bytes held.new)) (T.remaining stream.old) (T.remaining stream.new) (held_bytes held.new) result }
 {
     let order = in_force.order();
     let frames = FramesIn { order };
@@ -88,7 +89,7 @@ pub(crate) fn opened(alloc: Global, head: FrameHead, bytes: &[u8]) -> ResultPars
     InForce::after(alloc, &block)
 }
 
-// Takes the first block. Nothing is held before it, nor after an `Ok`.
+// Holds the text of the first block. Nothing is held before it.
 pub(crate) fn open<T: Read>(
     alloc: Global,
     stream: &mut T,
@@ -97,10 +98,9 @@ pub(crate) fn open<T: Read>(
 ) -> ResultParsing<InForce>
     requires between { held_bytes held.old ≡ [] }
     requires unfailed { has_failed.old ≡ false }
-    ensures takes { IfOk result (λ in_force. Takes OpeningSays (T.remaining stream.old) (T.remaining stream.new) (state_in in_force)) }
+    ensures takes { IfOk result (λ in_force. TakesText OpeningSays (T.remaining stream.old) (T.remaining stream.new) (held_bytes held.new) (state_in in_force)) }
     ensures refused { IfErr result (RefusesOpening (T.remaining stream.old)) }
     ensures asked { OnErr result (TakesAsked OpeningSays (T.remaining stream.old) (T.remaining stream.new)) }
-    ensures between { OnOk result (held_bytes held.new ≡ []) }
     ensures unfailed { OnOk result (has_failed.new ≡ false) }
 {
     let frames = FramesIn {
@@ -110,7 +110,6 @@ pub(crate) fn open<T: Read>(
         return Err(ended_early());
     };
     let in_force = opened(alloc, head, held.as_slice())?;
-    held.clear();
     Ok(in_force)
 }
 

@@ -1,4 +1,4 @@
-use Rattle.pcap_file.specs.Reader.{state_of, stream_of}
+use Rattle.pcap_file.specs.Reader.{state_of, stream_of, text_of}
 use Rattle.pcap_file.proofs.ReadBlocks.{front_read}
 use Rattle.pcap_file.proofs.run.read_pcapng.Goals as goal
 
@@ -7,6 +7,6 @@ returns-clause-front g c =
     front_read g.R.Read.remaining (g.R.Read.remaining c.args.reader) c.args.most _ (record {
       after = g.R.Read.remaining (stream_of c.in_ok-reader.reader);
       first = state_of c.in_ok-reader.reader;
-      opened = c.in_ok-reader.ensures.2;
+      opened = (text_of c.in_ok-reader.reader, c.in_ok-reader.ensures.2.0, c.in_ok-reader.ensures.2.1);
       blocks = c.take_blocks-blocks.ensures.takes;
     })

@@ -39,8 +39,8 @@ returns-in_err-follow-clause-pulls g c =
     let x = body_refused q c.order-order.result c.order-order.ensures b held text (CanGrow q b) e c.in_err-follow.ensures.1 in
     rw (p.1, p.2) (pull_held q c.order-order.result c.order-order.ensures held _ _ _ filled.0 filled.4 filled.3 (CanGrow q b) e x)
 
-pub returns-clause-pulls : goal.returns-clause-pulls
-returns-clause-pulls g c =
+pub returns-clause-text : goal.returns-clause-text
+returns-clause-text g c =
     let q = state_in c.args.in_force.now in
     let order = c.order-order.result in
     let held = held_bytes c.fill_item.new.held in
@@ -50,4 +50,10 @@ returns-clause-pulls g c =
     let lent = framed_around c.of-header.result (body_in held) in
     let same : lent ≡ b = rw c.of-header.ensures (held_block order b held text) in
     let item = pull_item q order c.order-order.ensures b held text lent (state_in c.follow.new.self) same c.in_ok-follow.ensures in
-    (filled.0, (held, item, filled.4))
+    (item, filled.4)
+
+pub returns-clause-pulls : goal.returns-clause-pulls
+returns-clause-pulls g c =
+    let filled = rw c.in-Some.is at c.in_ok-head.ensures.fills in
+    let text = returns-clause-text g c in
+    (filled.0, (held_bytes c.fill_item.new.held, text.0, text.1))

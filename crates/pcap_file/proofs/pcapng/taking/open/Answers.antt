@@ -51,6 +51,4 @@ returns-in_err-in_force-clause-asked g c =
 pub returns-clause-takes : goal.returns-clause-takes
 returns-clause-takes g c =
     let filled = rw c.in-Some.is at c.in_ok-head.ensures.fills in
-    let held = held_bytes c.fill_item.new.held in
-    let x = rw c.as_slice.ensures at c.in_ok-in_force.ensures in
-    (held, x, filled.4)
+    (rw c.as_slice.ensures at c.in_ok-in_force.ensures, filled.4)
