@@ -31,8 +31,10 @@ LIBRARIES = pcap_core pcap_times pcap_classic pcap_blocks pcap_written pcap_file
 JOBS_OF_RT = $(if $(JOBS),--jobs $(JOBS))
 sources_of = crates.txt $(shell find $(foreach crate,$(LIBRARIES) $(1),$(wildcard $(foreach part,src specs proofs,crates/$(crate)/$(part)))) -type f)
 
-ifeq ($(shell command -v rt),)
-$(if $(filter clean uninstall,$(MAKECMDGOALS)),,$(error 'rt', the command of the Rattle toolchain, is not on the PATH; without it nothing is proved or built))
+MISSING := $(strip $(foreach tool,rt $(firstword $(CC)) $(LD) $(AR) objcopy strip,$(if $(shell command -v $(tool)),,$(tool))))
+ifneq ($(MISSING),)
+missing = not on the PATH: $(MISSING); 'rt' is the command of the Rattle toolchain, and the others come with a C compiler
+$(if $(filter clean uninstall,$(MAKECMDGOALS)),,$(error $(missing)))
 endif
 
 .PHONY: all check install uninstall wheel dist deb clean
@@ -101,7 +103,8 @@ wheel: all
 dist: all
 	rm -rf $(OUT)/pcapfile-*.tar.gz $(OUT)/$(DIST)
 	$(MAKE) -s install DESTDIR=$(OUT)/$(DIST) PREFIX= libdir=/lib
-	sed -i -e 's|^prefix=.*|prefix=$${pcfiledir}/../..|' -e 's|^libdir=.*|libdir=$${prefix}/lib|' $(OUT)/$(DIST)/lib/pkgconfig/pcapfile.pc
+	sed -i -e 's|^prefix=.*|prefix=$${pcfiledir}/../..|' -e 's|^libdir=.*|libdir=$${prefix}/lib|' \
+	    $(OUT)/$(DIST)/lib/pkgconfig/pcapfile.pc
 	cd $(OUT)/$(DIST) && find . -type f ! -name SHA256SUMS | sort | xargs sha256sum > SHA256SUMS
 	tar -C $(OUT) --sort=name --owner=0 --group=0 --numeric-owner -czf $(OUT)/$(DIST).tar.gz $(DIST)
 	rm -rf $(OUT)/$(DIST)
