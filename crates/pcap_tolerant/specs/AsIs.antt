@@ -1,0 +1,114 @@
+-- The text of a packet as it stands, what it lacks, and the rules that it breaks ('Packet Record').
+use Rattle.std.specs.Prelude.{◌≡◌, ◌<◌, ◌≤◌, ◌+◌, ◌⊎◌, ℕ, List, [], ◌∷◌, ◌++◌, length, Bool, Option, Some, None, max, nat_lt, if◌then◌else◌}
+use Rattle.pcap_classic.specs.declared.common.TsResolution.{TsResolution}
+use Rattle.pcap_core.specs.declared.rules.Rule.{Rule}
+use Rattle.pcap_core.specs.declared.rules.Rule.TheVariants.{FractionTooLarge, IncludedTooLong, OriginalTooLong, IncludedPastOriginal}
+use Rattle.pcap_core.specs.Answer.{Order, Verdict, Says}
+use Rattle.pcap_core.specs.Faults.{Fault, Invalid}
+use Rattle.pcap_core.specs.Format.{Format}
+use Rattle.pcap_core.specs.Headed.{HeadReading, good, bad, Headed}
+use Rattle.pcap_classic.specs.PacketText.{packet_limit, Head, RecordHeadText, nanoseconds, spelled_header, Captured, LacksHead}
+use Rattle.pcap_tolerant.specs.declared.as_is.Flaws.{Flaws}
+use Rattle.pcap_tolerant.specs.declared.as_is.PacketAsIs.{PacketAsIs}
+
+-- a caller's limit, at least that of packets that break no rule
+abbrev pub raised : ℕ → ℕ
+raised limit = max limit packet_limit
+
+-- which rules a head breaks
+abbrev pub flaws_of : TsResolution → Head → Flaws
+flaws_of r head = record {
+  fraction_too_large = nat_lt 4294967295 (nanoseconds r head.fraction);
+  included_too_long = nat_lt packet_limit head.included;
+  original_too_long = nat_lt packet_limit head.original;
+  included_past_original = nat_lt head.original head.included;
+}
+
+-- a rule in front of others where it is broken
+abbrev pub where_broken : Bool → Rule → List Rule → List Rule
+where_broken broken rule rules = if broken then rule ∷ rules else rules
+
+-- the rules that are broken, in the order in which a packet is judged
+abbrev pub rules_of : Flaws → List Rule
+rules_of f =
+    where_broken f.fraction_too_large FractionTooLarge
+    (where_broken f.included_too_long IncludedTooLong (where_broken f.original_too_long OriginalTooLong (where_broken f.included_past_original IncludedPastOriginal [])))
+
+-- the first of them, if there is one
+abbrev pub first_rule : List Rule → Option Rule
+first_rule [] = None
+first_rule (rule ∷ rules) = Some rule
+
+-- a packet as it stands: the four numbers, which rules they break, and its bytes, wherever they lie
+pub record AsIs : Type 0 where
+  pub head : Head
+  pub flaws : Flaws
+  pub bytes : List ℕ
+
+-- what a packet as it stands says, wherever its bytes lie
+abbrev pub as_it_is : PacketAsIs → AsIs
+as_it_is p = record { head = record { seconds = p.ts_sec; fraction = p.fraction; included = p.incl_len; original = p.orig_len }; flaws = p.flaws; bytes = p.data.now }
+
+-- the packet that the strict reading gives where no rule is broken
+abbrev pub strict_of : TsResolution → AsIs → Captured
+strict_of r p = record { header = spelled_header r p.head; bytes = p.bytes }
+
+-- s is the text of a packet of at most limit bytes as it stands, and then rest
+pub record AsIsText (limit : ℕ) (order : Order) (r : TsResolution) (packet : AsIs) (s rest : List ℕ) : Type 0 where
+  pub after : List ℕ
+  pub text : RecordHeadText order packet.head s after
+  pub below : packet.head.included ≤ limit
+  pub flaws_are : packet.flaws ≡ flaws_of r packet.head
+  pub data_is : after ≡ packet.bytes ++ rest
+  pub whole : length packet.bytes ≡ packet.head.included
+
+-- n bytes lack of the data behind a head
+pub record LacksStored (limit : ℕ) (order : Order) (s : List ℕ) (n : ℕ) : Type 0 where
+  pub head : Head
+  pub after : List ℕ
+  pub text : RecordHeadText order head s after
+  pub below : head.included ≤ limit
+  pub some : 0 < n
+  pub missing : length after + n ≡ head.included
+
+-- s begins with a head whose stored length is above the limit
+pub record HasLongHead (limit : ℕ) (order : Order) (s : List ℕ) (fault : Fault) : Type 0 where
+  pub head : Head
+  pub after : List ℕ
+  pub text : RecordHeadText order head s after
+  pub above : limit < head.included
+  pub fault_is : fault ≡ Invalid IncludedTooLong
+
+-- n bytes lack of a packet: of its head, or else of its data
+abbrev pub LacksAsIs : ℕ → Order → List ℕ → ℕ → Type 0
+LacksAsIs limit order s n = LacksHead s n ⊎ LacksStored limit order s n
+
+-- what is said of bytes where a packet as it stands is asked for
+abbrev pub AsIsSays : ℕ → Order → TsResolution → List ℕ → Verdict AsIs → Type 0
+AsIsSays limit order r s = Says (λ packet rest. AsIsText limit order r packet s rest) (LacksAsIs limit order s) (HasLongHead limit order s)
+
+-- the format of packets as they stand
+unfoldable pub as_is_format : ℕ → Order → TsResolution → Format (Unit {0}) AsIs
+as_is_format limit order r = record { says = λ q. AsIsSays limit order r; goes = λ q packet. q; head = 16 }
+
+-- ---- the same as a head and what follows it
+
+-- these sixteen bytes are a head of a length below the limit, or one above it
+abbrev pub HeadReads : ℕ → Order → List ℕ → HeadReading Head → Type 0
+HeadReads limit order b (good head) = RecordHeadText order head b [] × (head.included ≤ limit)
+HeadReads limit order b (bad fault) = (head : Head) × RecordHeadText order head b [] × (limit < head.included) × (fault ≡ Invalid IncludedTooLong)
+
+-- these bytes are the data behind a head, whatever they are
+abbrev pub DataReads : TsResolution → Head → List ℕ → HeadReading AsIs → Type 0
+DataReads r head b (good p) = (p.head ≡ head) × (p.flaws ≡ flaws_of r head) × (p.bytes ≡ b)
+DataReads r head b (bad fault) = ⊥
+
+-- packets as they stand, as a format with a head
+abbrev pub headed_as_is : ℕ → Order → TsResolution → Headed (Unit {0}) Head AsIs
+headed_as_is limit order r = record {
+  head = 16;
+  reads = λ q. HeadReads limit order;
+  size = λ head. head.included;
+  means = λ q. DataReads r;
+  goes = λ q packet. q;
+}

@@ -1,0 +1,30 @@
+-- Where items stand again.
+use Rattle.std.specs.Prelude.{◌≡◌, ◌<◌, ◌⊎◌, ℕ, zero, suc, List, [], length, drop, Option, None, Some}
+use Rattle.pcap_core.specs.Answer.{whole}
+use Rattle.pcap_core.specs.Format.{Format}
+use Rattle.pcap_classic.specs.declared.pcap.header.PcapHeader.{PcapHeader}
+use Rattle.pcap_classic.specs.PacketText.{packet_limit, Captured}
+use Rattle.pcap_classic.specs.Packets.{format_under}
+
+module _ {S V : Type 0} (f : Format S V) (IsSound : V → Type 0) where
+  -- k sound items stand in a row, or fewer, at least one, to the end
+  abbrev pub Row : S → ℕ → List ℕ → Type 0
+  Row q zero s = Unit {0}
+  Row q (suc k) s = (v : V) × (after : List ℕ) × f.says q s (whole v after) × IsSound v × ((after ≡ []) ⊎ Row (f.goes q v) k after)
+
+  -- the first place before the end from which a row stands, or that there is none
+  abbrev pub Resyncs : S → ℕ → List ℕ → Option ℕ → Type 0
+  Resyncs q k s (Some n) = (n < length s) × Row q k (drop n s) × ((m : ℕ) → m < n → Row q k (drop m s) → ⊥)
+  Resyncs q k s None = (m : ℕ) → m < length s → Row q k (drop m s) → ⊥
+
+-- a packet with data: sixteen zero bytes are a packet without
+abbrev pub HasData : Captured → Type 0
+HasData packet = 0 < packet.header.incl_len
+
+-- k packets with data stand in a row that break no rule, or fewer, at least one, to the end
+abbrev pub PacketRow : PcapHeader → ℕ → List ℕ → Type 0
+PacketRow header = Row (format_under packet_limit header) HasData tt
+
+-- the first place before the end from which such packets stand, or that there is none
+abbrev pub PacketsResync : PcapHeader → ℕ → List ℕ → Option ℕ → Type 0
+PacketsResync header = Resyncs (format_under packet_limit header) HasData tt

@@ -1,0 +1,10 @@
+//! Captures as strangers write them: packets with what is wrong with them, and where packets stand again behind garbage.
+//!
+//! The strict calls of `pcap_classic` end at the first rule that a packet breaks. These go on, and say which rules those are.
+#![tactic(auto)]
+
+pub mod as_is;
+pub mod laws;
+pub mod resync;
+
+pub use as_is::{Flaws, PacketAsIs, next_packet_as_is};
