@@ -8,6 +8,7 @@ the package looks for one where the system keeps libraries.
 
 import base64
 import hashlib
+import re
 import sys
 import sysconfig
 import zipfile
@@ -31,8 +32,13 @@ Classifier: Typing :: Typed
 
 
 def _tag():
-    platform = sysconfig.get_platform().replace("-", "_").replace(".", "_")
-    return f"py3-none-{platform if LIBRARY.exists() else 'any'}"
+    """The systems that the wheel is for: those whose C library has what the shared object needs of it."""
+    if not LIBRARY.exists():
+        return "py3-none-any"
+    machine = sysconfig.get_platform().rpartition("-")[2]
+    needed = [int(it) for it in re.findall(rb"GLIBC_2\.(\d+)", LIBRARY.read_bytes())]
+    system = f"manylinux_2_{max(17, *needed)}" if needed else "linux"
+    return f"py3-none-{system}_{machine}"
 
 
 def _files():
