@@ -17,6 +17,7 @@ INCDIR = $(DESTDIR)$(PREFIX)/include
 LIBDIR = $(DESTDIR)$(libdir)
 MANDIR = $(DESTDIR)$(PREFIX)/share/man/man1
 DOCDIR = $(DESTDIR)$(PREFIX)/share/doc/pcapfile
+SHAREDIR = $(DESTDIR)$(PREFIX)/share/pcapfile
 
 # The file VERSION is where a version is changed; tests/packages/run compares the other places that name it.
 VERSION := $(shell cat VERSION)
@@ -76,14 +77,16 @@ check: all
 	tests/c/run
 
 install: all
-	install -d $(BINDIR) $(INCDIR) $(LIBDIR)/pkgconfig $(MANDIR) $(DOCDIR)
+	install -d $(BINDIR) $(INCDIR) $(LIBDIR)/pkgconfig $(MANDIR) $(DOCDIR) $(SHAREDIR)
 	install -m 755 $(PROGRAM) $(BINDIR)/capcopy
 	strip $(BINDIR)/capcopy
-	install -m 644 include/pcapfile.h $(INCDIR)/pcapfile.h
+	install -m 644 include/pcapfile.h include/pcapfile_open.h $(INCDIR)/
+	install -m 644 c/open.c $(SHAREDIR)/open.c
 	install -m 644 $(OUT)/libpcapfile.a $(LIBDIR)/libpcapfile.a
 	install -m 755 $(OUT)/libpcapfile.so.$(ABI) $(LIBDIR)/libpcapfile.so.$(ABI)
 	ln -sf libpcapfile.so.$(ABI) $(LIBDIR)/libpcapfile.so
-	printf '%s\n' 'prefix=$(PREFIX)' 'includedir=$${prefix}/include' 'libdir=$(libdir)' '' 'Name: pcapfile' \
+	printf '%s\n' 'prefix=$(PREFIX)' 'includedir=$${prefix}/include' 'libdir=$(libdir)' \
+	    'open=$${prefix}/share/pcapfile/open.c' '' 'Name: pcapfile' \
 	    'Description: Reads and writes packet captures by a proved parser' 'Version: $(VERSION)' \
 	    'Cflags: -I$${includedir}' 'Libs: -L$${libdir} -lpcapfile' > $(LIBDIR)/pkgconfig/pcapfile.pc
 	chmod 644 $(LIBDIR)/pkgconfig/pcapfile.pc
@@ -91,9 +94,9 @@ install: all
 	install -m 644 CHANGELOG.md $(OUT)/licences/* $(DOCDIR)
 
 uninstall:
-	rm -f $(BINDIR)/capcopy $(INCDIR)/pcapfile.h $(LIBDIR)/libpcapfile.a $(LIBDIR)/libpcapfile.so.$(ABI)
+	rm -f $(BINDIR)/capcopy $(INCDIR)/pcapfile.h $(INCDIR)/pcapfile_open.h $(LIBDIR)/libpcapfile.a $(LIBDIR)/libpcapfile.so.$(ABI)
 	rm -f $(LIBDIR)/libpcapfile.so $(LIBDIR)/pkgconfig/pcapfile.pc $(MANDIR)/capcopy.1
-	rm -rf $(DOCDIR)
+	rm -rf $(DOCDIR) $(SHAREDIR)
 
 wheel: all
 	rm -f $(OUT)/*.whl

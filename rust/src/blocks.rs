@@ -129,7 +129,12 @@ pub struct Blocks<'a> {
 impl<'a> Blocks<'a> {
     /// The blocks that these bytes are, the first section header among them.
     pub fn parse(bytes: &'a [u8]) -> Blocks<'a> {
-        Blocks { section: Section::default(), left: bytes, is_done: false }
+        Blocks::at(Section::default(), bytes)
+    }
+
+    /// The blocks at the front of these bytes, under what is in force there.
+    pub(crate) fn at(section: Section, left: &'a [u8]) -> Blocks<'a> {
+        Blocks { section, left, is_done: false }
     }
 
     /// What is in force after the blocks that have been given.
@@ -142,7 +147,7 @@ impl<'a> Blocks<'a> {
         self.left
     }
 
-    fn take(&mut self) -> Result<Block<'a>, Error> {
+    pub(crate) fn take(&mut self) -> Result<Block<'a>, Error> {
         let mut left = calls::Bytes::of(self.left);
         let mut block = calls::Block { type_: 0, body: calls::Bytes::of(b"") };
         let mut error = calls::Error::default();

@@ -1,4 +1,4 @@
-//! Reads packet captures, pcap and PcapNg, by a proved parser, and writes pcap, through its C library.
+//! Reads packet captures, pcap and PcapNg, out of slices and streams, by a proved parser, and writes pcap, through its C library.
 //!
 //! ```
 //! # let bytes: &[u8] = b"\xd4\xc3\xb2\xa1\x02\0\x04\0\0\0\0\0\0\0\0\0\xff\xff\0\0\x01\0\0\0";
@@ -19,9 +19,13 @@ mod blocks;
 mod calls;
 mod rules;
 #[cfg(feature = "std")]
+mod reader;
+#[cfg(feature = "std")]
 mod writer;
 
 pub use blocks::{Block, BlockPacket, Blocks, Interface, Section, Time};
+#[cfg(feature = "std")]
+pub use reader::{AnyPacket, Reader};
 pub use rules::Rule;
 #[cfg(feature = "std")]
 pub use writer::Writer;
@@ -129,7 +133,12 @@ impl<'a> Capture<'a> {
         if status != 0 {
             return Err(Error::of(status, error));
         }
-        Ok(Capture { header, left: &bytes[bytes.len() - left.len..], is_done: false })
+        Ok(Capture::at(header, &bytes[bytes.len() - left.len..]))
+    }
+
+    /// The packets at the front of these bytes, under a header that stood before them.
+    fn at(header: Header, left: &'a [u8]) -> Capture<'a> {
+        Capture { header, left, is_done: false }
     }
 
     /// The header of the capture.

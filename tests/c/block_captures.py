@@ -89,6 +89,7 @@ def good():
     yield "other_blocks", made.block(0x0BAD, b"what").block(0x80000001, b"").enhanced(0, 1, b"z")
     made = Made().section().interface().refused(6, bytes(16)).refused(3, bytes(0)).refused(5, bytes(8))
     made = made.refused(6, bytes(20) + made.option(1, b"\xff\xfe")).refused(6, bytes(20) + made.option(2989, b"ab"))
+    made.enhanced(0, 2, b"a").enhanced(0, 3, b"b").refused(6, bytes(16)).enhanced(0, 4, b"c")
     yield "refused_bodies", made.refused(4, struct.pack("<HH", 1, 3) + b"abcd").enhanced(0, 1, b"z")
     made = Made().section().interface()
     for n in range(300):

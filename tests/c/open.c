@@ -1,0 +1,187 @@
+/* Lists captures of either format by c/open.c, whose calls of the system and of the allocator fail here where they are told to.
+ *
+ *   open FILE              a line for each packet: interface, seconds, link type, stored and original length, bytes; a line
+ *                          `refused` for one that is refused, behind which the list goes on where it can
+ *   open -b BATCH FILE     the same by batches
+ *   open -r BYTES FILE     the same with reads of at most so many bytes
+ *   open -p FILE           the same of standard input
+ *   open -m LEN FILE       whether a limit one byte below the first packet's LEN is told, and the list goes on under LEN
+ *   open -x FILE           each read and each allocation fails in turn, and is made again: the lines stay the same
+ */
+#include <errno.h>
+#include <fcntl.h>
+#include <inttypes.h>
+#include <stdio.h>
+#include <stdlib.h>
+#include <string.h>
+#include <unistd.h>
+
+enum { NEVER = -1 };
+static long allocations, reads, failing_allocation = NEVER, failing_read = NEVER;
+static int read_error;
+static size_t most_read = SIZE_MAX;
+
+static void *refused_or(void *memory) {
+    if (allocations++ != failing_allocation) return memory;
+    free(memory);
+    return NULL;
+}
+static void *test_malloc(size_t len) { return refused_or(malloc(len)); }
+static void *test_calloc(size_t count, size_t len) { return refused_or(calloc(count, len)); }
+static void *test_realloc(void *memory, size_t len) {
+    return allocations++ == failing_allocation ? NULL : realloc(memory, len);
+}
+static ssize_t test_read(int descriptor, void *room, size_t len) {
+    if (reads++ == failing_read) {
+        errno = read_error;
+        return -1;
+    }
+    return read(descriptor, room, len < most_read ? len : most_read);
+}
+
+#define malloc test_malloc
+#define calloc test_calloc
+#define realloc test_realloc
+#define read test_read
+#include "../../c/open.c"
+#undef malloc
+#undef calloc
+#undef realloc
+#undef read
+
+enum { MOST_BATCH = 16, REFUSED = 1, USAGE = 2, ENDED_EARLY = 3, NO_MEMORY = 4, DIFFERS = 5 };
+static size_t batch;
+
+static int status_of(int32_t status) {
+    switch (status) {
+    case PCAPFILE_END: return 0;
+    case PCAPFILE_INCOMPLETE:
+    case PCAPFILE_BAD_VALUE: return ENDED_EARLY;
+    case PCAPFILE_NO_MEMORY: return NO_MEMORY;
+    default: return REFUSED;
+    }
+}
+
+static void print_any(FILE *out, const pcapfile_any_packet *packet) {
+    fprintf(out, "%" PRIu32 " ", packet->interface_id);
+    if (packet->has_time)
+        fprintf(out, "%" PRId64 ".%09" PRIu32 " ", packet->time.seconds, packet->time.nanoseconds);
+    else
+        fprintf(out, "none ");
+    if (packet->has_interface)
+        fprintf(out, "%" PRIu32 " ", packet->link);
+    else
+        fprintf(out, "none ");
+    fprintf(out, "%zu/%" PRIu32 " ", packet->bytes.len, packet->orig_len);
+    for (size_t i = 0; i < packet->bytes.len; i++) fprintf(out, "%02x", packet->bytes.ptr[i]);
+    fprintf(out, "\n");
+}
+
+/* The next packets, one by one or by batches. */
+static int32_t next(FILE *out, pcapfile_reader *reader, pcapfile_error *error) {
+    pcapfile_any_packet packets[MOST_BATCH];
+    size_t taken = 1;
+    int32_t status = batch > 0 ? pcapfile_next_batch(reader, packets, batch, &taken, error)
+                               : pcapfile_next(reader, packets, error);
+    for (size_t i = 0; status == PCAPFILE_OK && i < taken; i++) print_any(out, &packets[i]);
+    return status;
+}
+
+/* All packets. A call that failed is made again, and counted; one that refused a packet too: where it refuses the same place
+ * again, nothing follows. */
+static int list(FILE *out, pcapfile_reader *reader, int *failed) {
+    pcapfile_error error = PCAPFILE_ERROR_INIT;
+    uint64_t refused = UINT64_MAX;
+    for (;;) {
+        int32_t status = next(out, reader, &error);
+        if (status == PCAPFILE_NO_MEMORY || status == PCAPFILE_SYSTEM) {
+            if (status == PCAPFILE_SYSTEM && errno != read_error) return DIFFERS;
+            if (++*failed > 1) return DIFFERS;
+        } else if (status != PCAPFILE_OK) {
+            if (status == PCAPFILE_END || pcapfile_offset(reader) == refused) return status_of(status);
+            refused = pcapfile_offset(reader);
+            fprintf(out, "refused\n");
+        }
+    }
+}
+
+/* The lines of a file and then its status, as a text that the caller frees; NULL where the file was not opened. */
+static char *told(const char *path, int *failed) {
+    char *text = NULL;
+    size_t len = 0;
+    pcapfile_reader *reader = pcapfile_open(path);
+    if (!reader) return NULL;
+    FILE *out = open_memstream(&text, &len);
+    int status = list(out, reader, failed);
+    fprintf(out, "status %d\n", status);
+    fclose(out);
+    pcapfile_close(reader);
+    return text;
+}
+
+/* Whether a file's lines are these although a call fails; `*came` says whether the call that should fail was made at all. */
+static int same(const char *path, const char *wanted, int is_seen, int *came) {
+    int failed = 0, is_same;
+    allocations = reads = 0;
+    char *got = told(path, &failed);
+    *came = allocations > failing_allocation && failing_allocation != NEVER;
+    *came |= reads > failing_read && failing_read != NEVER;
+    if (!got) return *came && errno == ENOMEM && failing_allocation != NEVER;
+    is_same = !strcmp(got, wanted) && failed == (*came && is_seen);
+    free(got);
+    return is_same;
+}
+
+/* Fails each call in turn, by the counter that says which, until one came no more. */
+static int fails(const char *path, const char *wanted, long *failing, int error, int is_seen) {
+    int came = 1, is_same = 1;
+    read_error = error;
+    for (*failing = 0; came && is_same; ++*failing) is_same = same(path, wanted, is_seen, &came);
+    *failing = NEVER;
+    return is_same;
+}
+
+static int fail_each(const char *path) {
+    int failed = 0;
+    char *wanted = told(path, &failed);
+    if (!wanted) return NO_MEMORY;
+    int is_same = fails(path, wanted, &failing_allocation, 0, 1) && fails(path, wanted, &failing_read, EIO, 1) &&
+                  fails(path, wanted, &failing_read, EAGAIN, 1) && fails(path, wanted, &failing_read, EINTR, 0);
+    if (!is_same) fprintf(stderr, "open: %s: another list where a call fails\n", path);
+    free(wanted);
+    return is_same ? 0 : DIFFERS;
+}
+
+/* A limit below the next packet is told, with what is missing, and a higher one goes on. */
+static int stops_at_the_limit(const char *path, size_t len) {
+    pcapfile_reader *reader = pcapfile_open(path);
+    pcapfile_any_packet packet = PCAPFILE_ANY_PACKET_INIT;
+    pcapfile_error error = PCAPFILE_ERROR_INIT;
+    if (!reader) return NO_MEMORY;
+    most_read = 1;
+    pcapfile_limit(reader, len - 1);
+    int is_told = pcapfile_next(reader, &packet, &error) == PCAPFILE_TOO_LONG && error.missing > 0;
+    pcapfile_limit(reader, len);
+    is_told = is_told && pcapfile_next(reader, &packet, &error) == PCAPFILE_OK;
+    pcapfile_close(reader);
+    return is_told ? 0 : DIFFERS;
+}
+
+static int list_reader(pcapfile_reader *reader) {
+    int failed = 0;
+    if (!reader) return NO_MEMORY;
+    int status = list(stdout, reader, &failed);
+    pcapfile_close(reader);
+    return status;
+}
+
+int main(int argc, char **argv) {
+    const char *way = argc > 1 && argv[1][0] == '-' ? argv[1] : "", *file = argv[argc - 1];
+    if (argc < 2) return USAGE;
+    if (!strcmp(way, "-p")) return list_reader(pcapfile_fdopen(0));
+    if (!strcmp(way, "-x")) return fail_each(file);
+    if (!strcmp(way, "-m") && argc == 4) return stops_at_the_limit(file, strtoul(argv[2], NULL, 10));
+    if (!strcmp(way, "-b") && argc == 4) batch = strtoul(argv[2], NULL, 10);
+    if (!strcmp(way, "-r") && argc == 4) most_read = strtoul(argv[2], NULL, 10);
+    return batch > MOST_BATCH ? USAGE : list_reader(pcapfile_open(file));
+}
