@@ -208,7 +208,7 @@ packet_whole e r packet s rest fits text =
       limit = rw text.header.value text.header.good.original;
     }
 
-packets_whole : (e : Endianness) (r : TsResolution) (packets : List Captured) (s rest : List ℕ) → IsBytes s → Texts (packet_format packet_limit (number_in e) r) tt packets s rest → All IsWhole packets
+pub packets_whole : (e : Endianness) (r : TsResolution) (packets : List Captured) (s rest : List ℕ) → IsBytes s → Texts (packet_format packet_limit (number_in e) r) tt packets s rest → All IsWhole packets
 unfolding packet_format
 packets_whole e r [] s rest fits texts = All-nil IsWhole
 packets_whole e r (packet ∷ packets) s rest fits texts =

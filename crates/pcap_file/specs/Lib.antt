@@ -16,3 +16,6 @@ pub mod Exact
 pub mod Pieces
 pub mod Copies
 pub mod Written
+pub mod Converted
+pub mod Converts
+pub mod Conversion

@@ -1,12 +1,20 @@
 //! Laws of the grammar of blocks. Each contract is the law.
 
-ghost use Rattle.std.specs.Prelude.{◌≡◌, ◌≤◌, ℕ, List, [], ◌∷◌, ◌++◌, length, map, Option, Some};
+ghost use Rattle.std.specs.Prelude.{◌≡◌, ◌≤◌, ℕ, List, [], ◌∷◌, ◌++◌, length, map, Option, Some, false};
 ghost use Rattle.pcap_core.specs.declared.common.Endianness.{Endianness};
 ghost use Rattle.pcap_core.specs.Answer.{whole};
 ghost use Rattle.pcap_core.specs.Format.{Front, Texts, Asks, IsLawful, state_after};
 ghost use Rattle.pcap_core.specs.Laws.{ExactlyOne, IsStable};
 ghost use Rattle.pcap_core.specs.Requested.{HeadThenRest, RequestsAt, RunRequests};
 ghost use Rattle.pcap_file.specs.Blocks.{Item, BlockText, BlockSays, block_format};
+ghost use Rattle.pcap_blocks.specs.InterfaceTimes.{IsTimeAt};
+ghost use Rattle.pcap_classic.specs.declared.pcap.header.PcapHeader.{PcapHeader};
+ghost use Rattle.pcap_classic.specs.declared.run.copy.Copied.{Copied};
+ghost use Rattle.pcap_classic.specs.PacketText.{Captured};
+ghost use Rattle.pcap_core.specs.Bytes.{IsBytes};
+ghost use Rattle.pcap_file.specs.Conversion.{IsConversion, exact_time};
+ghost use Rattle.pcap_file.specs.Converted.{interface_for, time_of};
+ghost use Rattle.pcap_file.specs.Converts.{ConvertsPackets};
 ghost use Rattle.pcap_file.specs.declared.pcapng.copying.NgCopied.{NgCopied};
 ghost use Rattle.std.specs.Io.KnownBytes.{Appends};
 ghost use Rattle.pcap_file.specs.Copies.{CopyNgRun, CopiesBytes, NothingFailed};
@@ -123,4 +131,17 @@ pub fn copy_is_a_beginning()
 pub fn written_capture_is_read()
     ensures { (at end : Place) (section : Section) (bodies : List Body) (bytes : List ℕ) → AreWritten at (SectionBody section ∷ bodies) bytes end →
         (items : List Item) × Front block_format opening items bytes [] × AllZip IsBodyOf items (map kept_body (SectionBody section ∷ bodies)) }
+{}
+
+/// What a conversion wrote where no write failed, once it came to the packets, is a PcapNg capture: its blocks are the section,
+/// the interface and those of the packets, in order, and nothing is behind them. The packets are a beginning of the capture's
+/// front: all of it where there was no refusal and `most` was not reached, and those before it where the rest is refused.
+pub fn conversion_is_read()
+    ensures { (bytes : List ℕ) (now out out_now : Option (List ℕ)) (most : ℕ) (copied : Copied) → IsBytes bytes → copied.write_failed ≡ false →
+        ConvertsPackets (Some bytes) now out out_now most copied → IsConversion bytes out out_now most copied }
+{}
+
+/// The clock of a converted capture's interface has counted exactly the packet's time in the units of its block.
+pub fn converted_packet_keeps_its_time()
+    ensures { (header : PcapHeader) (packet : Captured) → IsTimeAt (interface_for header) (time_of packet) (exact_time packet) }
 {}

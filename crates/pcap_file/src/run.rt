@@ -1,5 +1,6 @@
 //! Whole runs over a capture.
 
+mod converting;
 mod exact;
 mod find;
 mod items;
@@ -18,6 +19,7 @@ ghost use Rattle.pcap_file.specs.State.{opening};
 
 pub use crate::pcapng::copying::{NgCopied, copy_pcapng};
 use crate::pcapng::{Block, PcapNgParser, PcapNgReader};
+pub use converting::convert_to_pcapng;
 pub use exact::exact_pcapng;
 pub use pcap_classic::run::{
     Copied, PcapRead, PcapRun, Rest, Under, Window, copy_buffered, copy_pcap, exact_pcap,

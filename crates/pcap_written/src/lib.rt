@@ -14,6 +14,7 @@ mod unwritable;
 mod writer;
 
 pub use block::{BlockHead, PcapNgBlock};
+pub use packet::put_packet;
 pub use place::Place;
 pub use unwritable::{Unput, Unwritable};
-pub use writer::PcapNgWriter;
+pub use writer::{PcapNgWriter, encode};

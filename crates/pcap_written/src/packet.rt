@@ -11,8 +11,10 @@ use pcap_core::ResultParsing;
 use pcap_core::stream::put;
 use std::io::Write;
 
-// Writes a packet without options: what stands before its bytes, its bytes, and what stands behind them.
-pub(crate) fn put_packet<W: Write, B: ByteOrder>(
+/// Writes a packet without options, and takes no memory: what stands before its bytes, its bytes, and what stands behind them.
+///
+/// `IoError` where a write failed: a beginning of the block has gone out then.
+pub fn put_packet<W: Write, B: ByteOrder>(
     writer: &mut W,
     has_failed: &mut bool,
     interface_id: u32,

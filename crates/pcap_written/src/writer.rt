@@ -221,8 +221,10 @@ impl<W: Write> PcapNgWriter<W> {
     }
 }
 
-// Makes the text of a block in this order.
-fn encode<B: PcapNgBlock>(
+/// Makes the text of a block in this order, in place of what `text` had. `body` is room that is used meanwhile.
+///
+/// `Unput` where the block has no text in this order, or memory ran out.
+pub fn encode<B: PcapNgBlock>(
     order: Endianness,
     body: &mut Vec<u8>,
     text: &mut Vec<u8>,

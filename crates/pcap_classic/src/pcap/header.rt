@@ -242,11 +242,9 @@ fn magic_of(endianness: Endianness, ts_resolution: TsResolution) -> u32
     }
 }
 
-// Reads a header off a stream that has not failed, and says whether it failed then.
-pub(crate) fn read_header<R: Read>(
-    reader: &mut R,
-    has_failed: &mut bool,
-) -> ResultParsing<PcapHeader>
+/// Reads a header off a stream that has not failed, and says whether it failed then. The errors are those of
+/// `PcapHeader::from_reader`.
+pub fn read_header<R: Read>(reader: &mut R, has_failed: &mut bool) -> ResultParsing<PcapHeader>
     requires { has_failed.old ≡ false }
     ensures { ReadsTold HeaderSays (λ header. header) (R.remaining reader.old) (R.remaining reader.new) has_failed.new result }
 {

@@ -18,8 +18,9 @@ use pcap_core::{CowBytes, Endianness, PcapError, ResultParsing};
 
 /// The packets behind a header, as it stands.
 #[derive(Clone, Copy)]
-pub(crate) struct PacketsUnder<'a> {
-    pub(crate) header: &'a PcapHeader,
+pub struct PacketsUnder<'a> {
+    /// The header of their capture.
+    pub header: &'a PcapHeader,
 }
 
 // The packet's header at the front of a slice, in this order and resolution, and what follows it.
@@ -67,8 +68,8 @@ impl HasHead for PacketsUnder<'_> {
     }
 }
 
-// The packet of this header that the bytes are, lent from them.
-pub(crate) fn packet_of<'a>(header: &PcapHeader, head: PacketHeader, bytes: &'a [u8]) -> Packet<'a>
+/// The packet of this header that the bytes are, lent from them.
+pub fn packet_of<'a>(header: &PcapHeader, head: PacketHeader, bytes: &'a [u8]) -> Packet<'a>
     requires { Stated (KnowsHeader header.now) (reader_format packet_limit header.now).head head bytes.now }
     ensures { (reader_format packet_limit header.now).says tt bytes.now (whole (content_of result) []) }
 {

@@ -1,0 +1,13 @@
+use Rattle.std.proofs.Common.{arith}
+use Rattle.pcap_classic.specs.PacketText.{content_of}
+use Rattle.pcap_file.specs.Converted.{time_of}
+use Rattle.pcap_file.proofs.Converting.{packet_short, packet_put}
+use Rattle.pcap_file.proofs.run.converting.put_held.Goals as goal
+
+pub put_packet-requires : goal.put_packet-requires
+put_packet-requires g c = rw c.as_slice.ensures (packet_short c.args.header.now c.args.held.now (content_of c.packet_of-packet.result) c.packet_of-packet.ensures)
+
+pub returns-clause-out : goal.returns-clause-out
+returns-clause-out g c =
+    let packet = content_of c.packet_of-packet.result in
+    (packet, c.packet_of-packet.ensures, packet_put _ _ c.put_packet.result _ (time_of packet) packet.header.orig_len _ packet.bytes (omega (arith, c.from.ensures, c.from-2.ensures)) c.as_slice.ensures c.put_packet.ensures.out)

@@ -1,0 +1,38 @@
+-- What a conversion wrote, as it is read.
+use Rattle.std.specs.Prelude.{◌≡◌, ◌+◌, ◌/◌, ◌%◌, ◌^◌, ℕ, List, [], length, Option, pos}
+use Rattle.std.specs.Io.KnownBytes.{Appends}
+use Rattle.std.specs.List.{AllZip}
+use Rattle.pcap_core.specs.Format.{Front}
+use Rattle.pcap_core.specs.Takes.{ReadsFront}
+use Rattle.pcap_classic.specs.declared.pcap.header.PcapHeader.{PcapHeader}
+use Rattle.pcap_classic.specs.declared.run.copy.Copied.{Copied}
+use Rattle.pcap_classic.specs.HeaderText.{HeaderText}
+use Rattle.pcap_classic.specs.Packets.{format_under}
+use Rattle.pcap_classic.specs.PacketText.{Captured, packet_limit}
+use Rattle.pcap_times.specs.declared.clock.Timestamp.{Timestamp}
+use Rattle.pcap_file.specs.Blocks.{Item, block_format}
+use Rattle.pcap_file.specs.Converted.{converted, little_texts}
+use Rattle.pcap_file.specs.State.{opening}
+use Rattle.pcap_file.specs.Written.{IsBodyOf}
+
+-- The bytes are a PcapNg capture of these blocks, with nothing behind them.
+pub record AreBlocksOf (header : PcapHeader) (packets : List Captured) (bytes : List ℕ) : Type 0 where
+  pub items : List Item
+  pub front : Front block_format opening items bytes []
+  pub bodies : AllZip IsBodyOf items (converted header packets)
+
+-- What went out is a PcapNg capture of the first packets of the input's front: all of them, or the first `most`, or those before a
+-- refusal.
+pub record IsConversion (bytes : List ℕ) (out_before out_now : Option (List ℕ)) (most : ℕ) (copied : Copied) : Type 0 where
+  pub header : PcapHeader
+  pub after : List ℕ
+  pub packets : List Captured
+  pub header_text : HeaderText header bytes after
+  pub reads : ReadsFront (format_under packet_limit header) tt after most packets copied.fault copied.read_failed
+  pub count : length packets ≡ copied.packets
+  pub out : Appends out_before out_now (little_texts (converted header packets))
+  pub blocks : AreBlocksOf header packets (little_texts (converted header packets))
+
+-- a packet's time: its seconds, with those among its nanoseconds, and the nanoseconds that are left
+abbrev pub exact_time : Captured → Timestamp
+exact_time packet = record { seconds = pos (packet.header.ts_sec + packet.header.ts_nsec / 10 ^ 9); nanoseconds = packet.header.ts_nsec % 10 ^ 9 }

@@ -1,0 +1,157 @@
+-- What a conversion takes and writes.
+use Rattle.std.specs.Prelude.{◌≡◌, ◌<◌, ◌⊎◌, ℕ, List, length, map, Any, All, Bool, true, false, Option, Result, Ok, Err}
+use Rattle.std.specs.Option.{IsSomeAnd}
+use Rattle.std.specs.Io.KnownBytes.{Appends, Keeps, IsAtEnd}
+use Rattle.pcap_core.specs.declared.common.Endianness.TheVariants.{Little}
+use Rattle.pcap_core.specs.declared.errors.PcapError.{PcapError}
+use Rattle.pcap_core.specs.declared.errors.PcapError.TheVariants as errors
+use Rattle.pcap_core.specs.Errors.{IsIo}
+use Rattle.pcap_core.specs.Reading.{Takes, TakesAsked, HasCause}
+use Rattle.pcap_core.specs.Takes.{TakesTexts, TakesItems}
+use Rattle.pcap_core.specs.Writing.{AppendsPart}
+use Rattle.pcap_classic.specs.declared.pcap.header.PcapHeader.{PcapHeader}
+use Rattle.pcap_classic.specs.declared.run.copy.Copied.{Copied}
+use Rattle.pcap_classic.specs.declared.run.copy.Under.TheVariants.{Same}
+use Rattle.pcap_classic.specs.Copies.{IsNew, PacketIsSaid, RefusesHeader, outcome_of}
+use Rattle.pcap_classic.specs.HeaderText.{HeaderSays}
+use Rattle.pcap_classic.specs.Packets.{format_under}
+use Rattle.pcap_classic.specs.PacketText.{Captured, packet_limit}
+use Rattle.pcap_written.specs.declared.unwritable.Unwritable.{Unwritable}
+use Rattle.pcap_blocks.specs.ParsedBlock.{Body}
+use Rattle.pcap_written.specs.Flaws.{flaw_message}
+use Rattle.pcap_written.specs.Writing.{IsFitIn, FlawIn}
+use Rattle.pcap_file.specs.Converted.{little_text, little_texts, opening_blocks, packet_block}
+
+-- why the blocks before the packets were not written: memory ran out, or something stands against one of them
+abbrev pub RefusesBlocks : List Body → PcapError → Type 0
+RefusesBlocks blocks (errors.OutOfMemory e) = Unit {0}
+RefusesBlocks blocks (errors.InvalidField message) = (flaw : Unwritable) × (message.now ≡ flaw_message flaw) × Any (λ block. FlawIn Little block flaw) blocks
+RefusesBlocks blocks _ = ⊥
+
+-- The text of blocks, each of them fit, or why there is none.
+abbrev pub MakesText : {X : Type 0} → List Body → (X → List ℕ) → Result X PcapError → Type 0
+MakesText blocks bytes_of (Ok text) = (bytes_of text ≡ little_texts blocks) × All (IsFitIn Little) blocks
+MakesText blocks bytes_of (Err e) = RefusesBlocks blocks e
+
+-- The header was taken, and the blocks before the packets have no text: nothing went out.
+pub record RefusesOpening (before now out_before out_now : Option (List ℕ)) (copied : Copied) : Type 0 where
+  pub header : PcapHeader
+  pub read : Takes HeaderSays before now header
+  pub refused : IsSomeAnd copied.fault (RefusesBlocks (opening_blocks header))
+  pub none : copied.packets ≡ 0
+  pub no_read_failed : copied.read_failed ≡ false
+  pub no_write_failed : copied.write_failed ≡ false
+  pub out : Keeps out_before out_now
+
+-- A write failed in the blocks before the packets.
+pub record TearsOpening (before now out_before out_now : Option (List ℕ)) (copied : Copied) : Type 0 where
+  pub header : PcapHeader
+  pub read : Takes HeaderSays before now header
+  pub refused : IsSomeAnd copied.fault IsIo
+  pub none : copied.packets ≡ 0
+  pub no_read_failed : copied.read_failed ≡ false
+  pub write_failed : copied.write_failed ≡ true
+  pub out : AppendsPart out_before out_now (little_texts (opening_blocks header))
+
+-- The header was taken, and the blocks before the packets went out; each has a text that is read as it was.
+pub record OpensConversion (before now out_before out_now : Option (List ℕ)) (header : PcapHeader) : Type 0 where
+  pub read : Takes HeaderSays before now header
+  pub fit : All (IsFitIn Little) (opening_blocks header)
+  pub out : Appends out_before out_now (little_texts (opening_blocks header))
+
+-- So many packets behind a header were taken, and exactly their blocks went out.
+pub record Converting (header : PcapHeader) (before now out_before out_now : Option (List ℕ)) (n : ℕ) : Type 0 where
+  pub packets : List Captured
+  pub count : length packets ≡ n
+  pub took : TakesTexts (format_under packet_limit header) tt packets before now
+  pub out : Appends out_before out_now (little_texts (map packet_block packets))
+
+-- No write failed: packets were taken, at most so many, up to a cause to stop, and exactly their blocks went out.
+pub record ConvertsAll (header : PcapHeader) (before now out_before out_now : Option (List ℕ)) (most : ℕ) (copied : Copied) : Type 0 where
+  pub packets : List Captured
+  pub count : length packets ≡ copied.packets
+  pub items : TakesItems (format_under packet_limit header) tt before now copied.read_failed most packets copied.fault
+  pub no_write_failed : copied.write_failed ≡ false
+  pub out : Appends out_before out_now (little_texts (map packet_block packets))
+
+-- A write failed in the block of the next packet, which was taken.
+pub record ConvertsTorn (header : PcapHeader) (before now out_before out_now : Option (List ℕ)) (most : ℕ) (copied : Copied) : Type 0 where
+  pub left : Option (List ℕ)
+  pub mid : Option (List ℕ)
+  pub so_far : Converting header before left out_before mid copied.packets
+  pub packet : Captured
+  pub next : Takes (PacketIsSaid header) left now packet
+  pub fewer : copied.packets < most
+  pub refused : IsSomeAnd copied.fault IsIo
+  pub no_read_failed : copied.read_failed ≡ false
+  pub write_failed : copied.write_failed ≡ true
+  pub out : AppendsPart mid out_now (little_text (packet_block packet))
+
+-- Packets behind a header were converted, until the conversion ended.
+abbrev pub ConvertsBehind : PcapHeader → Option (List ℕ) → Option (List ℕ) → Option (List ℕ) → Option (List ℕ) → ℕ → Copied → Type 0
+ConvertsBehind header before now out_before out_now most copied =
+    ConvertsAll header before now out_before out_now most copied ⊎ ConvertsTorn header before now out_before out_now most copied
+
+-- The header was taken, its blocks went out, and then packets.
+pub record ConvertsPackets (before now out_before out_now : Option (List ℕ)) (most : ℕ) (copied : Copied) : Type 0 where
+  pub header : PcapHeader
+  pub behind : Option (List ℕ)
+  pub out_behind : Option (List ℕ)
+  pub opened : OpensConversion before behind out_before out_behind header
+  pub packets : ConvertsBehind header behind now out_behind out_now most copied
+
+-- a conversion that did not come to the packets
+abbrev pub EndsBefore : Option (List ℕ) → Option (List ℕ) → Option (List ℕ) → Option (List ℕ) → Copied → Type 0
+EndsBefore before now out_before out_now copied =
+    RefusesHeader Same before now out_before out_now copied
+    ⊎ RefusesOpening before now out_before out_now copied
+    ⊎ TearsOpening before now out_before out_now copied
+
+-- One conversion: the reader's header is refused, or the blocks before the packets, or a write failed in them, or packets were
+-- converted.
+abbrev pub ConvertRun : Option (List ℕ) → Option (List ℕ) → Option (List ℕ) → Option (List ℕ) → ℕ → Copied → Type 0
+ConvertRun before now out_before out_now most copied =
+    EndsBefore before now out_before out_now copied ⊎ ConvertsPackets before now out_before out_now most copied
+
+-- The beginning of a conversion: the header, behind which its blocks went out, or why it ends there.
+abbrev pub BeginsConversion : Option (List ℕ) → Option (List ℕ) → Option (List ℕ) → Option (List ℕ) → Copied → Result PcapHeader PcapError → Type 0
+BeginsConversion before now out_before out_now copied (Ok header) = OpensConversion before now out_before out_now header × IsNew copied
+BeginsConversion before now out_before out_now copied (Err e) = EndsBefore before now out_before out_now (outcome_of copied (Err e))
+
+-- The next packet was taken, and its block went out.
+pub record ConvertsNext (header : PcapHeader) (before now out_before out_now : Option (List ℕ)) (copied : Copied) : Type 0 where
+  pub packet : Captured
+  pub next : Takes (PacketIsSaid header) before now packet
+  pub no_read_failed : copied.read_failed ≡ false
+  pub no_write_failed : copied.write_failed ≡ false
+  pub out : Appends out_before out_now (little_text (packet_block packet))
+
+-- There was no packet: nothing was taken, and nothing went out.
+pub record ConvertsNone (before now out_before out_now : Option (List ℕ)) (copied : Copied) : Type 0 where
+  pub at_end : IsAtEnd before
+  pub no_read_failed : copied.read_failed ≡ false
+  pub no_write_failed : copied.write_failed ≡ false
+  pub taken : Keeps before now
+  pub out : Keeps out_before out_now
+
+-- The next packet was refused: a part of it was taken, and nothing went out.
+pub record RefusesNext (header : PcapHeader) (before now out_before out_now : Option (List ℕ)) (copied : Copied) (e : PcapError) : Type 0 where
+  pub cause : HasCause (PacketIsSaid header) before copied.read_failed e
+  pub part : TakesAsked (PacketIsSaid header) before now
+  pub no_write_failed : copied.write_failed ≡ false
+  pub out : Keeps out_before out_now
+
+-- The next packet was taken, and a write failed in its block.
+pub record TearsNext (header : PcapHeader) (before now out_before out_now : Option (List ℕ)) (copied : Copied) (e : PcapError) : Type 0 where
+  pub packet : Captured
+  pub next : Takes (PacketIsSaid header) before now packet
+  pub refused : IsIo e
+  pub no_read_failed : copied.read_failed ≡ false
+  pub write_failed : copied.write_failed ≡ true
+  pub out : AppendsPart out_before out_now (little_text (packet_block packet))
+
+-- One step of a conversion: a packet, or none at the end of the stream, or a refusal.
+abbrev pub StepsConversion : PcapHeader → Option (List ℕ) → Option (List ℕ) → Option (List ℕ) → Option (List ℕ) → Copied → Result Bool PcapError → Type 0
+StepsConversion header before now out_before out_now copied (Ok true) = ConvertsNext header before now out_before out_now copied
+StepsConversion header before now out_before out_now copied (Ok false) = ConvertsNone before now out_before out_now copied
+StepsConversion header before now out_before out_now copied (Err e) = RefusesNext header before now out_before out_now copied e ⊎ TearsNext header before now out_before out_now copied e
