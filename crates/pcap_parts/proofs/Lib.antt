@@ -1,0 +1,8 @@
+mod Passing
+mod Cutting
+mod InParts
+mod Captures
+mod Resumed
+mod Anywhere
+mod Places
+mod Fair

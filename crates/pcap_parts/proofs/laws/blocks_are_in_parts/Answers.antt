@@ -1,0 +1,7 @@
+use Rattle.pcap_file.specs.Blocks.{block_format}
+use Rattle.pcap_file.proofs.BlockFormat.{blocks_lawful}
+use Rattle.pcap_parts.proofs.InParts.{in_parts}
+use Rattle.pcap_parts.proofs.laws.blocks_are_in_parts.Goals as goal
+
+pub returns : goal.returns
+returns c q h s rest items cuts front are = in_parts block_format blocks_lawful q h s rest items cuts front are

@@ -1,0 +1,41 @@
+//! A parser of blocks from a cut on.
+
+ghost use Rattle.pcap_file.specs.Parser.{state_of};
+ghost use Rattle.pcap_parts.specs.Resume.{IsFed, RefusesOne, from_places};
+ghost use Rattle.std.specs.Prelude.{◌≡◌, drop, IfErr, IfOk};
+
+use pcap_core::ResultParsing;
+use pcap_file::PcapNgParser;
+use std::alloc::Global;
+
+// The bytes from a place on, none behind their end.
+fn from_place(bytes: &[u8], place: usize) -> &[u8]
+    ensures { result.now ≡ drop place bytes.now }
+{
+    &bytes[place.min(bytes.len())..]
+}
+
+/// A parser for the blocks behind a bound, made again from places in the capture: that of the section header in force at the
+/// bound, and those of its interface descriptions before the bound, in order. Places are in bytes from the capture's
+/// beginning, and no other byte is looked at. `laws::resumed_parser_has_the_same_state` says that the parser then has the
+/// state to which all blocks before the bound lead.
+///
+/// The errors are those of `PcapNgParser::new` at the header's place, and then of `next_block` at each other place in turn:
+/// 12 bytes are missing behind the end.
+pub fn resume(
+    alloc: Global,
+    bytes: &[u8],
+    header: usize,
+    interfaces: &[usize],
+) -> ResultParsing<PcapNgParser>
+    ensures fed { IfOk result (λ parser. IsFed (drop header bytes.now) (from_places bytes.now interfaces.now) (state_of parser)) }
+    ensures refused { IfErr result (RefusesOne (drop header bytes.now) (from_places bytes.now interfaces.now)) }
+{
+    let (_, mut parser) = PcapNgParser::new(alloc, from_place(bytes, header))?;
+    let mut left = interfaces;
+    while let Some((place, others)) = left.split_first() {
+        let (_, block) = parser.next_block(from_place(bytes, *place))?;
+        left = others;
+    }
+    Ok(parser)
+}

@@ -1,0 +1,109 @@
+//! Places at which a capture can be cut into parts.
+
+ghost use Rattle.pcap_classic.specs.HeaderText.{LacksHeader, HasHeaderFault};
+ghost use Rattle.pcap_classic.specs.PacketText.{packet_limit};
+ghost use Rattle.pcap_classic.specs.Packets.{format_under};
+ghost use Rattle.pcap_classic.specs.Parser.{header_of};
+ghost use Rattle.pcap_core.specs.Answer.{Refuses};
+ghost use Rattle.pcap_parts.specs.Captures.{IsCut, IsCutFairly};
+ghost use Rattle.pcap_parts.specs.Parts.{AreCuts, AreFair, IsToNextEnd, share_of};
+ghost use Rattle.std.specs.Prelude.{◌≤◌, ◌-◌, ⊤, length, IfOk, IfErr};
+
+use crate::skip::{Passed, skip_packets};
+use pcap_classic::pcap::{PcapHeader, PcapParser};
+use pcap_core::ResultParsing;
+use std::alloc::{AllocError, Global};
+
+/// Where a part of a capture begins.
+#[derive(Clone, Copy, Debug)]
+pub struct Cut {
+    /// How many bytes of the capture stand before it.
+    pub offset: usize,
+    /// How many items of the capture stand before it: packets, without the header.
+    pub before: usize,
+}
+
+/// A capture's header, and where its parts begin.
+#[derive(Debug, Drop)]
+pub struct Cuts {
+    /// The header of the capture.
+    pub header: PcapHeader,
+    /// Where each part begins, the first one behind the header. A part ends where the next one begins, and the last one with
+    /// the bytes.
+    pub cuts: Vec<Cut>,
+}
+
+// How many bytes there are from behind so many to the end of the next share. None behind the ends of all shares but the last.
+fn to_next_end(passed: usize, bytes: usize, parts: usize) -> Option<usize>
+    ensures { IsToNextEnd (share_of bytes parts) parts passed result }
+{
+    if parts < 2 {
+        return None;
+    }
+    let share = bytes.saturating_sub(1) / parts + 1;
+    if passed / share >= parts - 1 {
+        return None;
+    }
+    Some(share - passed % share)
+}
+
+// Where the parts of the packets behind a header begin. Their last byte has this place.
+fn cut_packets(
+    alloc: Global,
+    parser: &PcapParser,
+    slice: &[u8],
+    total: usize,
+    parts: usize,
+) -> Result<Vec<Cut>, AllocError>
+    requires { length slice.now ≤ total }
+    ensures cuts { IfOk result (λ cuts. AreCuts (format_under packet_limit (header_of parser.now)) tt slice.now (total - length slice.now) total cuts.items) }
+    ensures fair { IfOk result (λ cuts. AreFair (format_under packet_limit (header_of parser.now)) tt slice.now total (total - length slice.now) parts cuts.items) }
+{
+    let mut cuts = Vec::new(alloc);
+    cuts.push(Cut {
+        offset: total - slice.len(),
+        before: 0,
+    })?;
+    let mut before = 0;
+    let mut left = slice;
+    while let Some(wanted) = to_next_end(slice.len() - left.len(), slice.len(), parts) {
+        let Passed { items, after, rest } = skip_packets(parser, left, wanted);
+        match rest {
+            Some(_) => return Ok(cuts),
+            None => {
+                if after.is_empty() {
+                    return Ok(cuts);
+                }
+                before += items;
+                left = after;
+                cuts.push(Cut {
+                    offset: total - left.len(),
+                    before,
+                })?;
+            }
+        }
+    }
+    Ok(cuts)
+}
+
+/// Where a capture can be cut into so many parts of equal length, but for less than a packet each, so that no packet is torn.
+///
+/// The bytes behind the header are shared equally, in whole bytes, and a part begins at the first bound of packets at or
+/// behind the end of each share but the last, where bytes follow. So there are fewer parts than asked for only where a packet
+/// is longer than a share, or the packets end before the bytes. The bytes from one cut to the next hold whole packets, and
+/// those from the last one on what is left. No part or one part are asked for alike. Each packet but those of the last part
+/// is passed over once.
+///
+/// The errors are those of `PcapParser::new`, and `OutOfMemory` where the list of cuts can't grow.
+pub fn cut_pcap(alloc: Global, bytes: &[u8], parts: usize) -> ResultParsing<Cuts>
+    ensures cut { IfOk result (λ x. IsCut x.header x.cuts.items bytes.now) }
+    ensures fair { IfOk result (λ x. IsCutFairly parts x.header x.cuts.items bytes.now) }
+    ensures refused { IfErr result (Refuses ⊤ (LacksHeader bytes.now) (HasHeaderFault bytes.now)) }
+{
+    let (after, parser) = PcapParser::new(bytes)?;
+    let cuts = cut_packets(alloc, &parser, after, bytes.len(), parts)?;
+    Ok(Cuts {
+        header: *parser.header(),
+        cuts,
+    })
+}

@@ -1,0 +1,48 @@
+//! Laws of captures in parts: joined, the parts are the whole. What is proved of each call stands at it.
+
+ghost use Rattle.pcap_file.specs.Blocks.{Item, block_format};
+ghost use Rattle.pcap_core.specs.Format.{Texts, state_after};
+ghost use Rattle.pcap_file.specs.State.{State, opening};
+ghost use Rattle.pcap_file.specs.Sections.{LeavesInForce};
+ghost use Rattle.pcap_blocks.specs.SectionHeader.{Section};
+ghost use Rattle.pcap_blocks.specs.InterfaceDescription.{Interface};
+ghost use Rattle.pcap_parts.specs.Resume.{Fed, blocks_in_force};
+ghost use Rattle.std.specs.Prelude.{◌≡◌, ℕ, List, ◌∷◌, ◌++◌, length, map};
+ghost use Rattle.pcap_core.specs.Format.{Front};
+ghost use Rattle.pcap_classic.specs.declared.run.PcapRun.{PcapRun};
+ghost use Rattle.pcap_classic.specs.declared.pcap.header.PcapHeader.{PcapHeader};
+ghost use Rattle.pcap_classic.specs.Run.{IsRun};
+ghost use Rattle.pcap_classic.specs.PacketText.{Captured, packet_limit};
+ghost use Rattle.pcap_classic.specs.Packets.{format_under};
+ghost use Rattle.pcap_parts.specs.declared.cut.Cut.{Cut};
+ghost use Rattle.pcap_parts.specs.Captures.{IsCut, IsRunInParts};
+ghost use Rattle.pcap_parts.specs.Parts.{AreCuts, InParts};
+
+/// Where the bytes behind a header are cut at bounds of packets, their front is the fronts of the parts, one behind the other.
+pub fn packets_are_in_parts()
+    ensures { (header : PcapHeader) (h s rest : List ℕ) (packets : List Captured) (cuts : List Cut) →
+        Front (format_under packet_limit header) tt packets s rest → AreCuts (format_under packet_limit header) tt s (length h) (length (h ++ s)) cuts →
+        InParts (format_under packet_limit header) tt packets rest (h ++ s) cuts }
+{}
+
+/// The same of blocks, from any state: each part's from the state to which the parts before it lead.
+pub fn blocks_are_in_parts()
+    ensures { (q : State) (h s rest : List ℕ) (items : List Item) (cuts : List Cut) →
+        Front block_format q items s rest → AreCuts block_format q s (length h) (length (h ++ s)) cuts → InParts block_format q items rest (h ++ s) cuts }
+{}
+
+/// The run over a classic capture is the runs over its parts, one behind the other, and its rest is that of the last part.
+pub fn run_is_in_parts()
+    ensures { (run : PcapRun) (header : PcapHeader) (cuts : List Cut) (bytes : List ℕ) → IsRun run bytes → IsCut header cuts bytes →
+        IsRunInParts run header cuts bytes }
+{}
+
+/// A parser that is fed with the last section header before a bound of blocks, and then with the interface descriptions after it,
+/// has the state that the blocks before the bound lead to.
+pub fn resumed_parser_has_the_same_state()
+    ensures { (first : Item) (items : List Item) (s rest : List ℕ) → Texts block_format opening (first ∷ items) s rest →
+        (section : Section) (interfaces : List Interface) (x : LeavesInForce (map (λ (item : Item). item.block) (first ∷ items)) section interfaces) →
+        (header : Item) (others : List Item) (slices : List (List ℕ)) → Fed block_format opening (header ∷ others) slices →
+        map (λ (item : Item). item.block) (header ∷ others) ≡ blocks_in_force (map (λ (item : Item). item.block) (first ∷ items)) section interfaces x →
+        state_after block_format opening (header ∷ others) ≡ state_after block_format opening (first ∷ items) }
+{}

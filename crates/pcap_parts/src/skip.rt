@@ -1,0 +1,93 @@
+//! Whole packets that are passed over.
+
+ghost use Rattle.pcap_classic.specs.PacketText.{packet_limit, PacketSays};
+ghost use Rattle.pcap_classic.specs.Packets.{format_under, packet_format};
+ghost use Rattle.pcap_classic.specs.Parser.{header_of};
+ghost use Rattle.pcap_core.specs.Run.{rest_after};
+ghost use Rattle.pcap_parts.specs.Parts.{PassesOne, Passes};
+ghost use Rattle.std.specs.Prelude.{◌≡◌, ◌≤◌, ◌+◌, length};
+
+use byteorder::{BigEndian, ByteOrder, LittleEndian};
+use pcap_classic::TsResolution;
+use pcap_classic::pcap::{PacketHeader, PcapParser};
+use pcap_core::{Endianness, PcapError, Rest, ResultParsing};
+
+/// Items that were passed over, and why there were no more.
+#[derive(Debug, Drop)]
+pub struct Passed<'a> {
+    /// How many items.
+    pub items: usize,
+    /// What follows them.
+    pub after: &'a [u8],
+    /// What is said of what follows them, where fewer bytes than wanted are passed. None where enough are.
+    pub rest: Option<Rest>,
+}
+
+// The rest at which the parser gave this error.
+fn rest_at(error: PcapError) -> Rest
+    ensures { result ≡ rest_after error }
+{
+    match error {
+        PcapError::IncompleteBuffer(n) => Rest::Needs(n),
+        error => Rest::Refused(error),
+    }
+}
+
+// What follows the packet at the front of a slice.
+#[inline(always)]
+fn after_packet<'a, B: ByteOrder>(slice: &'a [u8], r: TsResolution) -> ResultParsing<&'a [u8]>
+    ensures { PassesOne (PacketSays packet_limit B.number_of r slice.now) result }
+{
+    let (rest, header) = PacketHeader::from_slice::<B>(slice, r)?;
+    let len = header.incl_len as usize;
+    if rest.len() < len {
+        return Err(PcapError::IncompleteBuffer(len - rest.len()));
+    }
+    let (bytes, after) = rest.split_at(len);
+    Ok(after)
+}
+
+// Passes over whole packets in this order, until at least so many bytes are passed.
+fn skip_in<'a, B: ByteOrder>(r: TsResolution, slice: &'a [u8], at_least: usize) -> Passed<'a>
+    ensures passes { Passes (packet_format packet_limit B.number_of r) tt slice.now result.after.now at_least result.items result.rest }
+    ensures few { result.items + length result.after.now ≤ length slice.now }
+{
+    let last = slice.len().saturating_sub(at_least);
+    let mut items = 0;
+    let mut after = slice;
+    while after.len() > last {
+        match after_packet::<B>(after, r) {
+            Ok(next) => {
+                after = next;
+                items += 1;
+            }
+            Err(error) => {
+                return Passed {
+                    items,
+                    after,
+                    rest: Some(rest_at(error)),
+                };
+            }
+        }
+    }
+    let rest = if at_least > slice.len() {
+        Some(Rest::Clean)
+    } else {
+        None
+    };
+    Passed { items, after, rest }
+}
+
+/// Passes over whole packets at the front of a slice, up to the first bound of packets at which at least so many bytes are
+/// passed, or over all that stand there where these are fewer bytes. Nothing is kept, and there is no error: `rest` says why no
+/// packet follows, in the words of `run::parse_pcap`.
+pub fn skip_packets<'a>(parser: &PcapParser, slice: &'a [u8], at_least: usize) -> Passed<'a>
+    ensures passes { Passes (format_under packet_limit (header_of parser.now)) tt slice.now result.after.now at_least result.items result.rest }
+    ensures few { result.items + length result.after.now ≤ length slice.now }
+{
+    let r = parser.header().ts_resolution();
+    match parser.header().endianness() {
+        Endianness::Big => skip_in::<BigEndian>(r, slice, at_least),
+        Endianness::Little => skip_in::<LittleEndian>(r, slice, at_least),
+    }
+}

@@ -1,0 +1,11 @@
+//! Captures in parts: where they are cut, what the parts hold, and parsers that are made again.
+#![tactic(auto)]
+
+#[cfg(test)]
+mod captures;
+#[cfg(test)]
+mod cutting;
+#[cfg(test)]
+mod resuming;
+#[cfg(test)]
+mod skipping;
