@@ -323,6 +323,12 @@ int32_t pcapfile_time_of(const pcapfile_interface *interface, uint64_t timestamp
 void pcapfile_rule_name(uint32_t rule, pcapfile_bytes *name);
 void pcapfile_rule_text(uint32_t rule, pcapfile_bytes *text);
 
+/* The version of this header. */
+#define PCAPFILE_VERSION "0.2.0"
+
+/* The version of the library: ASCII, with no zero byte after it, valid for ever. */
+void pcapfile_version(pcapfile_bytes *version);
+
 #ifdef __cplusplus
 }
 #endif

@@ -305,7 +305,14 @@ static void rules(void) {
     EXPECT(is_text(name, "NameIpv6Length"));
 }
 
+static void version(void) {
+    pcapfile_bytes version = PCAPFILE_NO_BYTES;
+    pcapfile_version(&version);
+    EXPECT(is_text(version, PCAPFILE_VERSION));
+}
+
 int main(void) {
+    version();
     headers();
     packets();
     batches();

@@ -14,4 +14,5 @@ mod pcap;
 mod push;
 mod rule_texts;
 mod shown;
+mod version;
 mod writing;
