@@ -16,6 +16,7 @@ pub mod Exact
 pub mod Pieces
 pub mod Copies
 pub mod Written
+pub mod RawBlocks
 pub mod Converted
 pub mod Converts
 pub mod Conversion

@@ -23,5 +23,7 @@ pub use pcap_blocks::{
     SystemdJournalExportBlock, TimeUnit, Timestamp, UnknownBlock, UnknownOption, UnknownRecord,
     str_from_u8_null_terminated,
 };
-pub use pcap_written::{BlockHead, PcapNgBlock, PcapNgWriter, Unput, Unwritable};
+pub use pcap_written::{
+    BlockHead, PcapNgBlock, PcapNgWriter, RawBlock, RawPcapNgBlock, Unput, Unwritable,
+};
 pub use reader::PcapNgReader;

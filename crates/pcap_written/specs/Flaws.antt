@@ -46,6 +46,7 @@ flaw_message flaws.BlockLengthDiffers = codes "UnknownBlock: length != value.len
 flaw_message flaws.BlockTooLong = codes "Block: length > 0xFFFFFFFF"
 flaw_message flaws.InterfaceMissing = codes "Block: interface_id is not described"
 flaw_message flaws.InterfacesFull = codes "SectionHeader: too many interfaces"
+flaw_message flaws.OrderDiffers = codes "Block: order of another section"
 
 -- a shape holds values of this form
 abbrev pub Suits : Shape → Value → Type 0

@@ -6,5 +6,6 @@ pub mod Forms
 pub mod Capture
 pub mod Puts
 pub mod Writing
+pub mod Raw
 pub mod Plain
 pub mod LentStreams

@@ -10,11 +10,13 @@ mod options;
 mod packet;
 mod place;
 mod put;
+mod raw;
 mod unwritable;
 mod writer;
 
 pub use block::{BlockHead, PcapNgBlock};
 pub use packet::put_packet;
 pub use place::Place;
+pub use raw::{RawBlock, RawPcapNgBlock};
 pub use unwritable::{Unput, Unwritable};
 pub use writer::{PcapNgWriter, encode};

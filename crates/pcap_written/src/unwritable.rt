@@ -47,6 +47,8 @@ pub enum Unwritable {
     InterfaceMissing,
     /// A section has 2^32 - 1 interfaces.
     InterfacesFull,
+    /// A block of bytes has another order than its section, or a section than its magic number says.
+    OrderDiffers,
 }
 
 impl Unwritable {
@@ -73,6 +75,7 @@ impl Unwritable {
             Unwritable::BlockTooLong => "Block: length > 0xFFFFFFFF",
             Unwritable::InterfaceMissing => "Block: interface_id is not described",
             Unwritable::InterfacesFull => "SectionHeader: too many interfaces",
+            Unwritable::OrderDiffers => "Block: order of another section",
         }
     }
 }

@@ -1,6 +1,6 @@
 //! A writer of blocks.
 
-ghost use Rattle.std.specs.Prelude.{◌≡◌, [], IfErr};
+ghost use Rattle.std.specs.Prelude.{◌≡◌, ◌<◌, ◌+◌, ◌^◌, length, [], IfErr, OnOk};
 ghost use Rattle.std.specs.Borrow.{sem, Lends};
 ghost use Rattle.pcap_core.specs.Errors.{IsMemory};
 ghost use Rattle.pcap_core.specs.declared.common.Endianness.TheVariants.{Little};
@@ -9,21 +9,24 @@ ghost use Rattle.pcap_blocks.specs.SectionHeader.{section_of};
 ghost use Rattle.pcap_written.specs.contracts.writer.PcapNgWriter.{the_row as writer-row};
 ghost use Rattle.pcap_written.specs.LentStreams.{writer_with};
 ghost use Rattle.pcap_written.specs.Plain.{plain_packet, plain_section};
-ghost use Rattle.pcap_written.specs.Bodies.{text_of};
+ghost use Rattle.pcap_blocks.specs.BlockType.{type_number};
+ghost use Rattle.pcap_written.specs.Bodies.{block_text, text_of};
 ghost use Rattle.pcap_core.specs.Codec.{number_bytes};
 ghost use Rattle.pcap_written.specs.Puts.{Puts};
+ghost use Rattle.pcap_written.specs.Raw.{raw_of, raw_text, WritesRaw};
 ghost use Rattle.pcap_written.specs.Writing.{stream_of, has_failed, place_of, IsFitBlock, FitFlaw, IsFitIn, FlawIn, OpensWriter, WritesBlock};
 
 use crate::block::PcapNgBlock;
 use crate::packet::put_packet;
 use crate::place::Place;
 use crate::put::put_u32;
+use crate::raw::{RawBlock, RawPcapNgBlock};
 use crate::unwritable::{Unput, Unwritable};
 use byteorder::{BigEndian, ByteOrder, LittleEndian};
-use pcap_blocks::{ParsedBlock, SectionHeaderBlock};
+use pcap_blocks::{BlockType, ParsedBlock, SectionHeaderBlock};
 use pcap_core::stream::put;
 use pcap_core::{Endianness, PcapError, ResultParsing};
-use std::alloc::Global;
+use std::alloc::{AllocError, Global};
 use std::io::Write;
 
 /// Writes a capture of blocks into a writer: sections, their interfaces, and packets and what else they hold.
@@ -219,6 +222,59 @@ impl<W: Write> PcapNgWriter<W> {
         self.place = place;
         Ok(())
     }
+
+    /// Writes a block of bytes: its frame, and its body as it stands, which isn't read. A section header begins a section of its
+    /// own order and with no interface, an interface description is one interface more; each other block has to have the order
+    /// of the section.
+    ///
+    /// `WriterFailed` where an earlier write failed, else `InvalidField` where the frame has no text here (`Breaks` of
+    /// `BlockUnaligned` or `SectionMagic`, `BlockTooLong`, `TypeMisnamed`, `OrderDiffers` and `InterfacesFull` of `Unwritable`),
+    /// or `OutOfMemory`: nothing is written then. `IoError` where a write failed: a beginning of the block has gone out then.
+    pub fn write_raw_block<B: RawPcapNgBlock>(&mut self, block: &B) -> ResultParsing<()>
+        ensures { WritesRaw W.contents self.old self.new (B.shows block.now) result }
+    {
+        if self.has_failed {
+            return Err(PcapError::WriterFailed);
+        }
+        let raw = block.raw();
+        let place = match raw.behind(self.place) {
+            Ok(place) => place,
+            Err(flaw) => return Err(PcapError::from(Unput::Unfit(flaw))),
+        };
+        frame(&mut self.text, raw)?;
+        let text = self.text.as_slice();
+        put(&mut self.inner, &mut self.has_failed, text)?;
+        self.place = place;
+        Ok(())
+    }
+}
+
+// Makes the text of a block of bytes, in its own order.
+fn frame(text: &mut Vec<u8>, block: RawBlock<'_>) -> Result<(), AllocError>
+    requires { length block.body.now + 12 < 2 ^ 32 }
+    ensures { OnOk result (text.new.items ≡ raw_text (raw_of block.entry)) }
+{
+    match block.endianness {
+        Endianness::Big => frame_in::<BigEndian>(text, block.type_, block.body),
+        Endianness::Little => frame_in::<LittleEndian>(text, block.type_, block.body),
+    }
+}
+
+// Makes the text of a block of this type around a body: the type, the length, the body, and the length again.
+fn frame_in<O: ByteOrder>(
+    text: &mut Vec<u8>,
+    type_: BlockType,
+    body: &[u8],
+) -> Result<(), AllocError>
+    requires { length body.now + 12 < 2 ^ 32 }
+    ensures { OnOk result (text.new.items ≡ block_text O.bytes_of (type_number type_) body.now) }
+{
+    let len = (body.len() + 12) as u32;
+    text.clear();
+    put_u32::<O>(text, u32::from(type_))?;
+    put_u32::<O>(text, len)?;
+    text.extend_from_slice(body)?;
+    put_u32::<O>(text, len)
 }
 
 /// Makes the text of a block in this order, in place of what `text` had. `body` is room that is used meanwhile.
@@ -247,15 +303,10 @@ fn encode_in<B: PcapNgBlock, O: ByteOrder>(
     ensures { Puts (IsFitBlock O.number_of O.bytes_of (B.sees block.now)) (FitFlaw O.number_of O.bytes_of (B.sees block.now)) (text_of O.bytes_of (B.sees block.now)) [] text.new.items result }
 {
     body.clear();
-    text.clear();
     block.put_body::<O>(body)?;
     if body.len() > 4_294_967_283 {
         return Err(Unput::Unfit(Unwritable::BlockTooLong));
     }
-    let len = (body.len() + 12) as u32;
-    put_u32::<O>(text, u32::from(block.head().type_))?;
-    put_u32::<O>(text, len)?;
-    text.extend_from_slice(body.as_slice())?;
-    put_u32::<O>(text, len)?;
+    frame_in::<O>(text, block.head().type_, body.as_slice())?;
     Ok(())
 }

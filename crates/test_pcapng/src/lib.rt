@@ -10,6 +10,8 @@ mod lending;
 #[cfg(test)]
 mod parser;
 #[cfg(test)]
+mod raw;
+#[cfg(test)]
 mod reader;
 #[cfg(test)]
 mod rooms;

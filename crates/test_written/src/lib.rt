@@ -10,6 +10,8 @@ mod long;
 #[cfg(test)]
 mod packets;
 #[cfg(test)]
+mod raw;
+#[cfg(test)]
 mod refused;
 #[cfg(test)]
 mod refused_options;

@@ -15,6 +15,7 @@ use byteorder::{BigEndian, LittleEndian};
 use pcap_blocks::{BlockType, ParsedBlock};
 use pcap_core::rules::Rule;
 use pcap_core::{CowBytes, Endianness, PcapError, ResultParsing};
+use pcap_written::{RawBlock, RawPcapNgBlock};
 use std::alloc::Global;
 
 /// A block in its frame: its body is still bytes, which `parsed` reads.
@@ -117,6 +118,21 @@ impl<'a> Block<'a> {
             endianness: head.endianness,
         };
         Ok((rest, block))
+    }
+}
+
+impl<'a> RawPcapNgBlock for Block<'a> {
+    ghost use Rattle.pcap_file.specs.Frames.{framed_of};
+    ghost use Rattle.pcap_file.specs.RawBlocks.{raw_in};
+
+    ghost shows = { λ block. raw_in (framed_of block) };
+
+    fn raw(&self) -> RawBlock<'_> {
+        RawBlock {
+            type_: self.type_,
+            endianness: self.endianness,
+            body: self.body.as_slice(),
+        }
     }
 }
 
