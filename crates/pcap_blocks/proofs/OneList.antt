@@ -16,7 +16,7 @@ pub head_length : (order : Order) (code len : ℕ) (s rest : List ℕ) → CodeL
 head_length order code len s rest h = omega (arith, number_length order 2 code s h.after_code h.code_is, number_length order 2 len h.after_code rest h.length_is)
 
 -- the list of these options ends here: at the mark, or where no byte is left and the list is over
-abbrev Ends : Ending → Order → List Entry → List ℕ → List ℕ → Type 0
+abbrev pub Ends : Ending → Order → List Entry → List ℕ → List ℕ → Type 0
 Ends ending order good s rest = EndMark order s rest ⊎ ((s ≡ []) × IsOver ending good × (rest ≡ []))
 
 -- what stops options: the list's end, or a fault
@@ -25,26 +25,26 @@ ListStop ending order kind good s (whole os rest) = (os ≡ good) × Ends ending
 ListStop ending order kind good s (lacks n) = ⊥
 ListStop ending order kind good s (faulty f) = (IsOver ending good → s ≢ []) × OptionFault order kind s f
 
-item_same : (order : Order) (kind : Kind) (o p : Entry) (s a b : List ℕ) → OptionText order kind o s a → OptionText order kind p s b → (o ≡ p) × (a ≡ b)
+pub item_same : (order : Order) (kind : Kind) (o p : Entry) (s a b : List ℕ) → OptionText order kind o s a → OptionText order kind p s b → (o ≡ p) × (a ≡ b)
 item_same order kind o p s a b h k =
     let same = same_whole (Some p) (Some o) b a (option_same order kind s (whole (Some o) a) (whole (Some p) b) h k) in
     let some = same.0 in
     (cc, sym same.1)
 
-item_shorter : (order : Order) (kind : Kind) (o : Entry) (s a : List ℕ) → OptionText order kind o s a → length a < length s
+pub item_shorter : (order : Order) (kind : Kind) (o : Entry) (s a : List ℕ) → OptionText order kind o s a → length a < length s
 item_shorter order kind o s a h = omega (arith, head_length order o.code (length h.v) s h.after_head h.head, padded_length h.v h.after_head a h.padded)
 
-piece_some : (order : Order) (kind : Kind) (s a : List ℕ) (p : Option Entry) → OptionSays order kind s (whole p a) → s ≢ []
+pub piece_some : (order : Order) (kind : Kind) (s a : List ℕ) (p : Option Entry) → OptionSays order kind s (whole p a) → s ≢ []
 piece_some order kind s a None h z = omega (arith, head_length order 0 h.ignored s a h.head, ap length z)
 piece_some order kind s a (Some o) h z = omega (arith, item_shorter order kind o s a h, ap length z)
 
-marks_same : (ending : Ending) (order : Order) (kind : Kind) (good : List Entry) (s a b : List ℕ) → Ends ending order good s a → Ends ending order good s b → b ≡ a
+pub marks_same : (ending : Ending) (order : Order) (kind : Kind) (good : List Entry) (s a b : List ℕ) → Ends ending order good s a → Ends ending order good s b → b ≡ a
 marks_same ending order kind good s a b (inl x) (inl y) = (same_whole None None b a (option_same order kind s (whole None a) (whole None b) x y)).1
 marks_same ending order kind good s a b (inl x) (inr y) = absurd (piece_some order kind s a None x y.0)
 marks_same ending order kind good s a b (inr x) (inl y) = absurd (piece_some order kind s b None y x.0)
 marks_same ending order kind good s a b (inr x) (inr y) = y.2 ∙ sym x.2
 
-mark_no_fault : (ending : Ending) (order : Order) (kind : Kind) (good : List Entry) (s a : List ℕ) (f : Fault) → Ends ending order good s a → (IsOver ending good → s ≢ []) → OptionFault order kind s f → ⊥
+pub mark_no_fault : (ending : Ending) (order : Order) (kind : Kind) (good : List Entry) (s a : List ℕ) (f : Fault) → Ends ending order good s a → (IsOver ending good → s ≢ []) → OptionFault order kind s f → ⊥
 mark_no_fault ending order kind good s a f (inl x) some fault = whole_no_fault None a f (option_same order kind s (faulty f) (whole None a) fault x)
 mark_no_fault ending order kind good s a f (inr x) some fault = some x.1 x.0
 
@@ -58,7 +58,7 @@ stop_same ending order kind good s (faulty f) (lacks n) h k = absurd k
 stop_same ending order kind good s (faulty f) (whole ps b) h k = absurd (mark_no_fault ending order kind good s b f k.1 h.0 h.1)
 stop_same ending order kind good s (faulty f) (faulty g) h k = let both = option_same order kind s (faulty f) (faulty g) h.1 k.1 in let same : g ≡ f = cc in rw same refl
 
-mark_no_item : (ending : Ending) (order : Order) (kind : Kind) (good : List Entry) (s a : List ℕ) (o : Entry) (b : List ℕ) → Ends ending order good s a → OptionText order kind o s b → ⊥
+pub mark_no_item : (ending : Ending) (order : Order) (kind : Kind) (good : List Entry) (s a : List ℕ) (o : Entry) (b : List ℕ) → Ends ending order good s a → OptionText order kind o s b → ⊥
 mark_no_item ending order kind good s a o b (inl x) k = let same = same_whole (Some o) None b a (option_same order kind s (whole None a) (whole (Some o) b) x k) in let none = same.0 in absurd cc
 mark_no_item ending order kind good s a o b (inr x) k = piece_some order kind s b (Some o) k x.0
 
@@ -68,7 +68,7 @@ stop_no_item ending order kind good s (whole os b) o a h k = mark_no_item ending
 stop_no_item ending order kind good s (lacks n) o a h k = h
 stop_no_item ending order kind good s (faulty f) o a h k = whole_no_fault (Some o) a f (option_same order kind s (faulty f) (whole (Some o) a) h.1 k)
 
-over_or_not : (ending : Ending) (good : List Entry) → IsOver ending good ⊎ (IsOver ending good → ⊥)
+pub over_or_not : (ending : Ending) (good : List Entry) → IsOver ending good ⊎ (IsOver ending good → ⊥)
 over_or_not wants_end [] = inl refl
 over_or_not wants_end (o ∷ os) = inr (λ e. absurd cc)
 over_or_not may_end_with_body good = inl tt
@@ -100,7 +100,7 @@ list_to ending order kind s (whole os rest) (with_body are over none) = (os, [],
 list_to ending order kind s (lacks n) h = absurd h
 list_to ending order kind s (faulty f) h = (h.good, h.bad, h.are_good, (h.goes_on, h.fault_is))
 
-list_from_stop : (ending : Ending) (order : Order) (kind : Kind) (good : List Entry) (s bad rest : List ℕ) → Chain (OptionText order kind) good s bad → Ends ending order good bad rest → OptionList ending order kind good s rest
+pub list_from_stop : (ending : Ending) (order : Order) (kind : Kind) (good : List Entry) (s bad rest : List ℕ) → Chain (OptionText order kind) good s bad → Ends ending order good bad rest → OptionList ending order kind good s rest
 list_from_stop ending order kind good s bad rest are (inl x) = marked bad are x
 list_from_stop ending order kind good s bad rest are (inr x) = with_body (subst (λ (t : List ℕ). Chain (OptionText order kind) good s t) x.0 are) x.1 x.2
 

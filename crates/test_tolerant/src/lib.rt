@@ -1,8 +1,10 @@
-//! Packets as they stand, and where they stand again: small captures that were written by hand, with one packet or some bytes
-//! of them made wrong.
+//! Packets and options as they stand, and where packets stand again: small captures and lists that were written by hand, with
+//! one packet or some bytes of them made wrong.
 #![tactic(auto)]
 
 #[cfg(test)]
 mod again;
+#[cfg(test)]
+mod options;
 #[cfg(test)]
 mod packets;

@@ -1,0 +1,2 @@
+mod OneUpTo
+mod RawRead

@@ -1,0 +1,86 @@
+//! Options as they stand.
+
+ghost use Rattle.std.specs.Prelude.{◌≡◌, [], ◌∷◌, ◌++◌, IfOk, IfErr, MatchResult};
+ghost use Rattle.std.specs.Option.{option_map};
+ghost use Rattle.pcap_core.specs.Answer.{whole};
+ghost use Rattle.pcap_core.specs.Faults.{Invalid};
+ghost use Rattle.pcap_blocks.specs.Options.{may_end_with_body, OptionFault, OptionSays, OptionsMayGrow};
+ghost use Rattle.pcap_blocks.specs.CommonOptions.{unknown_entry};
+ghost use Rattle.pcap_raw_options.specs.UpTo.{ReadUpTo, no_kind, up_to_of};
+
+use byteorder::ByteOrder;
+use pcap_blocks::UnknownOption;
+use pcap_core::fields::{split_padded, split_u16};
+use pcap_core::rules::Rule;
+use std::alloc::{AllocError, Global};
+
+/// Options as they stand, and why they end.
+#[derive(Debug, Drop)]
+pub struct RawOptions<'a> {
+    /// Each option before the mark, the end of the bytes or the flaw, with its code, length and bytes. The bytes are lent.
+    pub options: Vec<UnknownOption<'a>>,
+    /// Why no option can be found behind them: V17, where fewer than 4 bytes are left, or V18, where its value and padding pass
+    /// the end. None where the list ends as it should.
+    pub flaw: Option<Rule>,
+    /// The bytes behind the mark, or from the flaw on.
+    pub left: &'a [u8],
+}
+
+// The option at the front of a slice, or none at the mark that ends a list, and what follows it; else why there is none.
+fn raw_option<'a, B: ByteOrder>(
+    slice: &'a [u8],
+) -> Result<(&'a [u8], Option<UnknownOption<'a>>), Rule>
+    ensures tells { MatchResult result
+        (λ x. OptionSays B.number_of no_kind slice.now (whole (option_map unknown_entry x.1) x.0.now))
+        (λ rule. OptionFault B.number_of no_kind slice.now (Invalid rule)) }
+{
+    if slice.len() < 4 {
+        return Err(Rule::OptionTooShort);
+    }
+    let (code, rest) = split_u16::<B>(slice);
+    let (len, rest) = split_u16::<B>(rest);
+    if code == 0 {
+        return Ok((rest, None));
+    }
+    let Some((value, rest)) = split_padded(rest, len as usize) else {
+        return Err(Rule::OptionCut);
+    };
+    Ok((rest, Some(UnknownOption::new(code, len, value))))
+}
+
+/// The options at the front of a slice as they stand, in the order of `B`: to the mark, to the end of the slice, or to where no
+/// option can be found. No value is judged.
+///
+/// `AllocError` where the list can't grow; without an option nothing grows.
+pub fn raw_options<'a, B: ByteOrder>(
+    alloc: Global,
+    slice: &'a [u8],
+) -> Result<RawOptions<'a>, AllocError>
+    ensures read { IfOk result (λ x. ReadUpTo may_end_with_body B.number_of no_kind (up_to_of x) slice.now) }
+    ensures memory { IfErr result (λ _. OptionsMayGrow B.number_of no_kind slice.now) }
+{
+    let mut options = Vec::new(alloc);
+    let mut left = slice;
+    while !left.is_empty() {
+        let (after, option) = match raw_option::<B>(left) {
+            Ok(read) => read,
+            Err(rule) => {
+                return Ok(RawOptions {
+                    options,
+                    flaw: Some(rule),
+                    left,
+                });
+            }
+        };
+        left = after;
+        match option {
+            Some(option) => options.push(option)?,
+            None => break,
+        }
+    }
+    Ok(RawOptions {
+        options,
+        flaw: None,
+        left,
+    })
+}
