@@ -20,9 +20,9 @@ def output(*words, stdin=None):
     return subprocess.run(words, input=stdin, capture_output=True, timeout=SECONDS)
 
 
-def fields(path, *names):
-    """For each packet the first value of each field, as tshark has it."""
-    words = [word for name in names for word in ("-e", name)]
+def fields(path, *names, options=()):
+    """For each packet the first value of each field, as tshark has it under some options."""
+    words = [*options, *(word for name in names for word in ("-e", name))]
     ran = output("tshark", "-n", "-r", path, "-o", "ip.defragment:FALSE", "-T", "fields", "-E", "separator=|", "-E", "occurrence=f", *words)
     return [line.split("|") for line in ran.stdout.decode().splitlines()]
 

@@ -1,26 +1,23 @@
 -- Items that are copied, one after another.
-use Rattle.std.proofs.Common.{◌≡◌, ◌≤◌, ◌<◌, ◌+◌, ℕ, List, [], ◌∷◌, ◌++◌, length, refl, ap, sym, ◌∙◌, subst, arith, length-append, append-nil, true, false, Bool, Some, None, ◌⊎◌, inl, inr, Err}
-use Rattle.std.specs.Prelude.{Option, IfSome, Result, Ok, ⊤}
-use Rattle.std.specs.Option.{IsSomeAnd}
-use Rattle.std.specs.Io.KnownBytes.{Consumes, Appends, Keeps, IsAtEnd}
-use Rattle.std.proofs.KnownBytes.{Consumes-nil, Consumes-trans, Appends-nil, Appends-trans, Appends-kept}
+use Rattle.std.proofs.Common.{◌≡◌, ◌<◌, ◌+◌, ℕ, List, [], ◌∷◌, ◌++◌, length, refl, ap, sym, ◌∙◌, subst, arith, length-append, ◌≤◌, ◌⊎◌, inl, inr, Err}
+use Rattle.std.specs.Prelude.{Option, Result, Ok, ⊤}
+use Rattle.std.specs.Io.KnownBytes.{Consumes, Appends, IsAtEnd}
+use Rattle.std.proofs.KnownBytes.{Consumes-nil, Consumes-trans, Appends-nil, Appends-trans}
 use Rattle.pcap_core.specs.declared.errors.PcapError.{PcapError}
 use Rattle.pcap_core.specs.declared.errors.PcapError.TheVariants as errors
 use Rattle.pcap_core.specs.declared.common.Endianness.{Endianness}
 use Rattle.pcap_core.specs.Faults.{Fault, Shows}
-use Rattle.pcap_core.specs.Answer.{Verdict, whole, faulty, Refuses}
-use Rattle.pcap_core.specs.Errors.{IsMemory, IsIo}
-use Rattle.pcap_core.specs.Format.{Format, Texts, state_after, Front, IsLawful}
-use Rattle.pcap_core.specs.Reading.{HasCause, read_failed, no_memory, torn, refused, IsFaultOf, TakesAsked}
+use Rattle.pcap_core.specs.Answer.{whole, faulty, Refuses}
+use Rattle.pcap_core.specs.Errors.{IsIo}
+use Rattle.pcap_core.specs.Format.{Format, state_after, IsLawful}
 use Rattle.pcap_core.specs.Writing.{AppendsPart, WritesAll}
-use Rattle.pcap_core.proofs.Formats.{front_goes_on, texts_more, texts_all, state_push, nothing_no_text, nil_of_length}
-use Rattle.pcap_core.proofs.Taking.{ends_front}
-use Rattle.pcap_core.proofs.Refusals.{shown_fault, shows_more}
+use Rattle.pcap_core.proofs.Formats.{texts_more, texts_all, state_push}
+use Rattle.pcap_core.proofs.Refusals.{shows_more}
 use Rattle.pcap_file.specs.declared.pcapng.copying.NgCopied.{NgCopied}
 use Rattle.pcap_file.specs.Blocks.{Item, BlockSays, block_format}
 use Rattle.pcap_file.specs.Frames.{Framed, FrameSays, frame_format}
 use Rattle.pcap_file.specs.Opening.{OpeningSays}
-use Rattle.pcap_file.specs.Copies.{CopiesTexts, Fails, Ends, CopiesBehind, CopiesNg, FollowsHeld}
+use Rattle.pcap_file.specs.Copies.{CopiesLeaving, CopiesTexts, EndsWhole, Fails, CopiesBehind, CopiesNg, FollowsHeld}
 use Rattle.pcap_file.specs.State.{State, opening, order_at, CanGrow, FollowTells}
 use Rattle.pcap_file.proofs.Causes.{body_refused, pull_item}
 use Rattle.pcap_file.proofs.Refusing.{refuses_wider, shows_refuses}
@@ -68,6 +65,34 @@ to_more q p next a b c s r t n m so_far count item leads one =
       texts = copies_all block_format blocks_lawful q so_far.items (item ∷ []) a b c s r t so_far.texts here;
       count = omega (arith, count, so_far.count, length-append so_far.items (item ∷ []));
     }
+
+state_all : {S V : Type 0} (f : Format S V) (q : S) (vs ws : List V) → state_after f q (vs ++ ws) ≡ state_after f (state_after f q vs) ws
+state_all f q [] ws = refl
+state_all f q (v ∷ vs) ws = state_all f (f.goes q v) vs ws
+
+-- and blocks behind them that leave what is in force
+pub to_leaving : (q p : State) (a b c s r t : Option (List ℕ)) (n m : ℕ) → CopiedTo q p a b s r n → CopiesLeaving p b c r t n m → CopiedTo q p a c s t m
+to_leaving q p a b c s r t n m so_far more =
+    let here : CopiesTexts block_format (state_after block_format q so_far.items) more.items b c r t = subst (λ (x : State). CopiesTexts block_format x more.items b c r t) (sym so_far.in_force) more.texts in
+    record {
+      items = so_far.items ++ more.items;
+      in_force = state_all block_format q so_far.items more.items ∙ ap (λ (x : State). state_after block_format x more.items) so_far.in_force ∙ more.leave;
+      texts = copies_all block_format blocks_lawful q so_far.items more.items a b c s r t so_far.texts here;
+      count = omega (arith, more.count, so_far.count, length-append so_far.items more.items);
+    }
+
+-- the end behind them
+pub to_ends : (q p : State) (a b now s r out : Option (List ℕ)) (n most : ℕ) (copied : NgCopied) → CopiedTo q p a b s r n → copied.blocks ≡ n → n ≤ most → EndsWhole b now r out copied
+    → IsAtEnd b ⊎ (copied.blocks ≡ most) → CopiesBehind q a now s out most copied
+to_ends q p a b now s r out n most copied so_far same few ends why = record {
+  items = so_far.items;
+  left = b;
+  mid = r;
+  texts = so_far.texts;
+  count = same ∙ so_far.count;
+  within = rw same few;
+  ends = inl (ends, why);
+}
 
 -- a fault behind them
 pub to_fails : (q p : State) (a b now s r out : Option (List ℕ)) (n most : ℕ) (copied : NgCopied) → CopiedTo q p a b s r n → copied.blocks ≡ n → n < most → Fails (block_format.says p) b now r out copied → CopiesBehind q a now s out most copied

@@ -1,17 +1,17 @@
 -- A capture that is written is read again.
-use Rattle.std.proofs.Common.{◌≡◌, ◌≢◌, ℕ, ◌<◌, ◌≤◌, ◌+◌, ◌%◌, ◌^◌, List, [], ◌∷◌, ◌++◌, length, map, take, drop, refl, sym, ap, subst, ◌∙◌, append_assoc, take-append-drop, length-append, arith}
+use Rattle.std.proofs.Common.{◌≡◌, ◌≢◌, ℕ, ◌<◌, ◌%◌, ◌^◌, List, [], ◌∷◌, ◌++◌, length, map, take, refl, sym, ap, subst, ◌∙◌, arith}
 use Rattle.std.specs.Prelude.{◌==◌, Bool, false, Option, Some, None}
 use Rattle.std.specs.List.{AllZip}
 use Rattle.std.proofs.lemmas.Bool.{ne_eqb}
-use Rattle.std.proofs.lemmas.List.{length-take-le}
-use Rattle.byteorder.specs.Endian.{big_number, big_bytes}
+use Rattle.byteorder.specs.Endian.{big_number}
+use Rattle.byteorder.specs.Numbers.{big_from-take}
 use Rattle.pcap_core.specs.declared.common.Endianness.{Endianness}
-use Rattle.pcap_core.specs.declared.common.Endianness.TheVariants.{Big, Little}
-use Rattle.pcap_core.specs.Answer.{Number, number_in, whole}
+use Rattle.pcap_core.specs.declared.common.Endianness.TheVariants.{Big}
+use Rattle.pcap_core.specs.Answer.{whole}
 use Rattle.pcap_core.specs.Codec.{number_bytes}
 use Rattle.pcap_core.specs.Format.{Texts, Front}
 use Rattle.pcap_core.specs.Headed.{good}
-use Rattle.pcap_core.proofs.Codec.{codec, number_again}
+use Rattle.pcap_core.proofs.Codec.{codec}
 use Rattle.pcap_core.proofs.Formats.{nothing_no_text}
 use Rattle.pcap_blocks.specs.declared.block_type.BlockType.{BlockType}
 use Rattle.pcap_blocks.specs.declared.block_type.BlockType.TheVariants as types
@@ -20,40 +20,21 @@ use Rattle.pcap_blocks.specs.InterfaceDescription.{Interface}
 use Rattle.pcap_blocks.specs.SectionHeader.{Section, magic_order}
 use Rattle.pcap_blocks.specs.ParsedBlock.{Body, SectionBody, InterfaceBody, OldPacketBody, SimpleBody, NamesBody, StatisticsBody, EnhancedBody, JournalBody, OtherBody}
 use Rattle.pcap_written.specs.declared.place.Place.{Place}
-use Rattle.pcap_written.specs.Bodies.{after_magic_text, body_text, magic_in, order_under, section_text, text_of, type_of, block_text}
+use Rattle.pcap_written.specs.Bodies.{after_magic_text, body_text, magic_in, order_under, section_text, text_of, type_of}
 use Rattle.pcap_written.specs.Capture.{AreWritten}
 use Rattle.pcap_written.specs.Fits.{IsFitUnknown, kept_body}
+use Rattle.pcap_written.specs.Raw.{IsFitRaw, Raw, raw_text}
 use Rattle.pcap_written.specs.Writing.{IsFitIn}
 use Rattle.pcap_written.proofs.Aligned.{body_aligned}
 use Rattle.pcap_written.proofs.BodiesAgain.{body_again}
 use Rattle.pcap_file.specs.Blocks.{Item, BlockText, block_format}
 use Rattle.pcap_file.specs.Bodies.{SaysOfBody}
-use Rattle.pcap_file.specs.Frames.{Framed, own_order, FrameHeadText, FrameTail, FrameText}
+use Rattle.pcap_file.specs.Frames.{Framed, FrameText}
+use Rattle.pcap_file.specs.RawBlocks.{raw_in}
 use Rattle.pcap_file.specs.State.{State, opening, order_at, within, is_kept, MeansIf, Means}
-use Rattle.pcap_file.specs.Written.{IsBodyOf}
+use Rattle.pcap_file.specs.Written.{IsBodyOf, IsMadeOf, framed_in}
 use Rattle.pcap_file.proofs.BlockFormat.{blocks_lawful}
-
--- the length of a block that is written
-abbrev length_in : Endianness → Body → ℕ
-length_in e body = length (body_text (number_bytes e) body) + 12
-
--- a block that is written, in its frame
-abbrev framed_in : Endianness → Body → Framed
-framed_in e body = record {
-  type_ = type_of body;
-  initial_len = length_in e body;
-  body = body_text (number_bytes e) body;
-  trailer_len = length_in e body;
-  endianness = e;
-}
-
-any_number : (s : List ℕ) → 4 ≤ length s → Number big_number 4 (big_number 4 (take 4 s)) s (drop 4 s)
-any_number s long = record { bytes = take 4 s; text = sym (take-append-drop 4 s); length_is = length-take-le 4 s long; value = refl }
-
--- a section's type number is the same in both orders
-same_both_ways : (e : Endianness) → number_bytes e 4 0x0A0D0D0A ≡ big_bytes 4 0x0A0D0D0A
-same_both_ways Big = refl
-same_both_ways Little = refl
+use Rattle.pcap_file.proofs.RawAgain.{plain_again, section_again}
 
 -- the number of a block that is no section
 record IsPlainType (body : Body) : Type 0 where
@@ -75,89 +56,28 @@ other_plain types.InterfaceStatistics len bytes fit = absurd cc
 other_plain types.EnhancedPacket len bytes fit = absurd cc
 other_plain types.SystemdJournalExport len bytes fit = absurd cc
 
-framed_text : (e : Endianness) (type : ℕ) (body rest : List ℕ)
-    → block_text (number_bytes e) type body ++ rest ≡ number_bytes e 4 type ++ (number_bytes e 4 (length body + 12) ++ (body ++ (number_bytes e 4 (length body + 12) ++ rest)))
-framed_text e type body rest = simp append_assoc
-
-tail_again : (e : Endianness) (body : Body) (rest : List ℕ) → IsFitIn e body
-    → FrameTail e (length_in e body) (body_text (number_bytes e) body) (length_in e body) (body_text (number_bytes e) body ++ (number_bytes e 4 (length_in e body) ++ rest)) rest
-tail_again e body rest fit = record {
-  after_body = number_bytes e 4 (length_in e body) ++ rest;
-  body_is = refl;
-  length_is = refl;
-  trailer_is = number_again (number_in e) (number_bytes e) (codec e) 4 (length_in e body) rest fit.short;
-}
-
-length_good : (e : Endianness) (body : Body) → length_in e body % 4 ≡ 0
+length_good : (e : Endianness) (body : Body) → length (body_text (number_bytes e) body) % 4 ≡ 0
 length_good e body = omega (arith, body_aligned (number_bytes e) (codec e).wide body)
+
+-- the text of a block's body, as a block of bytes
+abbrev raw_of_body : Endianness → Body → Raw
+raw_of_body e body = record { type_ = type_of body; endianness = e; body = body_text (number_bytes e) body }
+
+raw_fit : (e : Endianness) (body : Body) → type_number (type_of body) < 2 ^ 32 → type_of body ≡ block_type (type_number (type_of body)) → IsFitIn e body → IsFitRaw (raw_of_body e body)
+raw_fit e body number named fit = record { number = number; named = sym named; aligned = length_good e body; short = fit.short }
 
 -- a block that is no section
 plain_frame : (e : Endianness) (body : Body) (rest : List ℕ) → IsPlainType body → IsFitIn e body
     → FrameText e (framed_in e body) (text_of (number_bytes e) body ++ rest) rest
-unfolding own_order
-plain_frame e body rest plain fit =
-    let write = number_bytes e in
-    let inner = body_text write body in
-    let type = type_number (type_of body) in
-    let len = length inner + 12 in
-    let after_body = write 4 len ++ rest in
-    let after = inner ++ after_body in
-    let long : 4 ≤ length after = omega (arith, length-append inner after_body, length-append (write 4 len) rest, (codec e).wide 4 len) in
-    let head : FrameHeadText e type e len (write 4 type ++ (write 4 len ++ after)) after = record {
-      after_number = write 4 len ++ after;
-      more = drop 4 after;
-      magic = big_number 4 (take 4 after);
-      number_is = number_again (number_in e) write (codec e) 4 type (write 4 len ++ after) plain.fits;
-      len_is = number_again (number_in e) write (codec e) 4 len after fit.short;
-      magic_is = any_number after long;
-      own_is = rw plain.other refl;
-    } in
-    let text : FrameText e (framed_in e body) (write 4 type ++ (write 4 len ++ after)) rest = record {
-      number = type;
-      after = after;
-      head = head;
-      type_is = plain.named;
-      aligned = length_good e body;
-      tail = tail_again e body rest fit;
-      same = refl;
-    } in
-    subst (λ (s : List ℕ). FrameText e (framed_in e body) s rest) (sym (framed_text e type inner rest)) text
+plain_frame e body rest plain fit = plain_again (raw_of_body e body) rest (raw_fit e body plain.fits plain.named fit) plain.other
 
 -- a section, whatever order holds there
 section_frame : (there e : Endianness) (s : Section) (rest : List ℕ) → magic_order s.magic ≡ Some e → IsFitIn e (SectionBody s)
     → FrameText there (framed_in e (SectionBody s)) (text_of (number_bytes e) (SectionBody s) ++ rest) rest
-unfolding own_order
 section_frame there e s rest names fit =
-    let write = number_bytes e in
-    let inner = section_text write s in
-    let type : ℕ = 0x0A0D0D0A in
-    let len = length inner + 12 in
-    let after_body = write 4 len ++ rest in
-    let after = inner ++ after_body in
-    let behind = after_magic_text write s in
-    let magic_there : Number big_number 4 s.magic (big_bytes 4 s.magic ++ (behind ++ after_body)) (behind ++ after_body) =
-    number_again (number_in Big) (number_bytes Big) (codec Big) 4 s.magic (behind ++ after_body) fit.fit.magic in
-    let head : FrameHeadText there type e len (number_bytes there 4 type ++ (write 4 len ++ after)) after = record {
-      after_number = write 4 len ++ after;
-      more = behind ++ after_body;
-      magic = s.magic;
-      number_is = number_again (number_in there) (number_bytes there) (codec there) 4 type (write 4 len ++ after) (omega arith);
-      len_is = number_again (number_in e) write (codec e) 4 len after fit.short;
-      magic_is = subst (λ (t : List ℕ). Number big_number 4 s.magic t (behind ++ after_body)) (sym (append_assoc (big_bytes 4 s.magic) behind after_body)) magic_there;
-      own_is = names;
-    } in
-    let text : FrameText there (framed_in e (SectionBody s)) (number_bytes there 4 type ++ (write 4 len ++ after)) rest = record {
-      number = type;
-      after = after;
-      head = head;
-      type_is = refl;
-      aligned = length_good e (SectionBody s);
-      tail = tail_again e (SectionBody s) rest fit;
-      same = refl;
-    } in
-    let both : text_of write (SectionBody s) ++ rest ≡ number_bytes there 4 type ++ (write 4 len ++ after) =
-    framed_text e type inner rest ∙ ap (λ (t : List ℕ). t ++ (write 4 len ++ after)) (same_both_ways e ∙ sym (same_both_ways there)) in
-    subst (λ (t : List ℕ). FrameText there (framed_in e (SectionBody s)) t rest) (sym both) text
+    let inner = section_text (number_bytes e) s in
+    let first : big_number 4 (take 4 inner) ≡ s.magic = big_from-take 0 4 4 inner (omega arith) ∙ (codec Big).again 4 s.magic (after_magic_text (number_bytes e) s) fit.fit.magic in
+    section_again there e inner rest (raw_fit e (SectionBody s) (omega arith) refl fit) (subst (λ (n : ℕ). magic_order n ≡ Some e) (sym first) names)
 
 -- the order that a block names by itself
 own_named : (there e : Endianness) (magic : Option ℕ) → order_under there magic ≡ Some e → order_under e magic ≡ Some e
@@ -172,6 +92,16 @@ says_again there e body named fit = body_again e body fit (own_named there e (ma
 order_within : (e : Endianness) (s : Section) (is : List Interface) → magic_order s.magic ≡ Some e → e ≡ order_at (within s is)
 unfolding order_at
 order_within e s is names = rw names refl
+
+-- a block that was made of a value
+pub made_again : (order : Endianness) (body : Body) (b : Framed) → IsMadeOf order body b
+    → ((rest : List ℕ) × SaysOfBody b (whole (kept_body body) rest)) × (raw_text (raw_in b) ≡ text_of (number_bytes b.endianness) body)
+made_again order body b made =
+    let e = b.endianness in
+    let says = says_again order e body made.named made.fit in (
+      (says.0, subst (λ (x : Framed). SaysOfBody x (whole (kept_body body) says.0)) (sym made.frame) says.1),
+      subst (λ (x : Framed). raw_text (raw_in x) ≡ text_of (number_bytes e) body) (sym made.frame) refl,
+    )
 
 abbrev item_in : Endianness → Body → State → Item
 item_in e body after = record { block = framed_in e body; after = after }

@@ -88,6 +88,28 @@ StepsNg q next before now out out_now n copied (Ok true) =
 StepsNg q next before now out out_now n copied (Ok false) = (copied.blocks ≡ n) × IsAtEnd before × EndsWhole before now out out_now (with_fault copied None)
 StepsNg q next before now out out_now n copied (Err e) = (copied.blocks ≡ n) × Fails (block_format.says q) before now out out_now (with_fault copied (Some e))
 
+-- blocks were copied that leave what is in force
+pub record CopiesLeaving (q : State) (before left out mid : Option (List ℕ)) (n m : ℕ) : Type 0 where
+  pub items : List Item
+  pub leave : state_after block_format q items ≡ q
+  pub texts : CopiesTexts block_format q items before left out mid
+  pub count : m ≡ n + length items
+
+-- such blocks were copied, and then a fault
+pub record FailsBehind (q : State) (before now out out_now : Option (List ℕ)) (n most : ℕ) (copied : NgCopied) : Type 0 where
+  pub left : Option (List ℕ)
+  pub mid : Option (List ℕ)
+  pub so_far : CopiesLeaving q before left out mid n copied.blocks
+  pub few : copied.blocks < most
+  pub why : Fails (block_format.says q) left now mid out_now copied
+
+-- where n blocks were copied before: those of a buffer were copied, or the stream is at its end, or a fault
+abbrev pub StepsShown : State → Option (List ℕ) → Option (List ℕ) → Option (List ℕ) → Option (List ℕ) → ℕ → ℕ → NgCopied → Result Bool PcapError → Type 0
+StepsShown q before now out out_now n most copied (Ok true) =
+    CopiesLeaving q before now out out_now n copied.blocks × (copied.blocks ≤ most) × (copied.read_failed ≡ false) × (copied.write_failed ≡ false)
+StepsShown q before now out out_now n most copied (Ok false) = (copied.blocks ≡ n) × IsAtEnd before × EndsWhole before now out out_now (with_fault copied None)
+StepsShown q before now out out_now n most copied (Err e) = FailsBehind q before now out out_now n most (with_fault copied (Some e))
+
 -- the stream was at its end, and nothing was taken or went out
 pub record StartsAtEnd (before now out_before out_now : Option (List ℕ)) (copied : NgCopied) : Type 0 where
   pub at_end : IsAtEnd before

@@ -15,8 +15,11 @@ pub mod StatedFrames
 pub mod Exact
 pub mod Pieces
 pub mod Copies
-pub mod Written
+pub mod Stretches
 pub mod RawBlocks
+pub mod Written
 pub mod Converted
 pub mod Converts
 pub mod Conversion
+pub mod Placed
+pub mod Placing

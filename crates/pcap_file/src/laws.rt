@@ -1,6 +1,6 @@
 //! Laws of the grammar of blocks. Each contract is the law.
 
-ghost use Rattle.std.specs.Prelude.{◌≡◌, ◌≤◌, ℕ, List, [], ◌∷◌, ◌++◌, length, map, Option, Some, false};
+ghost use Rattle.std.specs.Prelude.{◌≡◌, ◌≤◌, ◌<◌, ◌^◌, ℕ, List, [], ◌∷◌, ◌++◌, length, map, Option, Some, Ok, false};
 ghost use Rattle.pcap_core.specs.declared.common.Endianness.{Endianness};
 ghost use Rattle.pcap_core.specs.Answer.{whole};
 ghost use Rattle.pcap_core.specs.Format.{Front, Texts, Asks, IsLawful, state_after};
@@ -10,26 +10,35 @@ ghost use Rattle.pcap_file.specs.Blocks.{Item, BlockText, BlockSays, block_forma
 ghost use Rattle.pcap_blocks.specs.InterfaceTimes.{IsTimeAt};
 ghost use Rattle.pcap_classic.specs.declared.pcap.header.PcapHeader.{PcapHeader};
 ghost use Rattle.pcap_classic.specs.declared.run.copy.Copied.{Copied};
-ghost use Rattle.pcap_classic.specs.PacketText.{Captured};
+ghost use Rattle.pcap_classic.specs.PacketText.{Captured, packet_limit};
 ghost use Rattle.pcap_core.specs.Bytes.{IsBytes};
 ghost use Rattle.pcap_file.specs.Conversion.{IsConversion, exact_time};
-ghost use Rattle.pcap_file.specs.Converted.{interface_for, time_of};
+ghost use Rattle.pcap_classic.specs.Front.{CaptureFront};
+ghost use Rattle.pcap_classic.specs.Magic.{resolution_of};
+ghost use Rattle.pcap_classic.specs.Written.{IsWhole, IsWholeHeader, capture, cut};
+ghost use Rattle.pcap_file.specs.Converted.{interface_for, packet_block, time_of};
 ghost use Rattle.pcap_file.specs.Converts.{ConvertsPackets};
 ghost use Rattle.pcap_file.specs.declared.pcapng.copying.NgCopied.{NgCopied};
 ghost use Rattle.std.specs.Io.KnownBytes.{Appends};
 ghost use Rattle.pcap_file.specs.Copies.{CopyNgRun, CopiesBytes, NothingFailed};
-ghost use Rattle.pcap_file.specs.Frames.{Framed, FrameSays};
+ghost use Rattle.pcap_file.specs.Frames.{Framed, FrameSays, FrameText};
 ghost use Rattle.pcap_file.specs.Front.{NgFront};
 ghost use Rattle.pcap_file.specs.MarkedLists.{marked_format};
 ghost use Rattle.pcap_file.specs.Opening.{OpeningSays};
 ghost use Rattle.pcap_file.specs.Pieces.{HoldsBlocks};
+ghost use Rattle.pcap_file.specs.Placed.{Becomes, PlacesBody, Turn, carried, packets_of};
 ghost use Rattle.pcap_file.specs.Sections.{Leaves};
 ghost use Rattle.pcap_file.specs.State.{State, opening};
-ghost use Rattle.pcap_file.specs.Written.{IsBodyOf};
+ghost use Rattle.pcap_file.specs.Bodies.{SaysOfBody};
+ghost use Rattle.pcap_file.specs.RawBlocks.{raw_in};
+ghost use Rattle.pcap_file.specs.Written.{IsBodyOf, IsMadeOf};
 ghost use Rattle.std.specs.List.{AllZip};
 ghost use Rattle.pcap_blocks.specs.ParsedBlock.{Body, SectionBody};
 ghost use Rattle.pcap_blocks.specs.SectionHeader.{Section};
+ghost use Rattle.pcap_core.specs.Codec.{number_bytes};
+ghost use Rattle.pcap_written.specs.Bodies.{text_of};
 ghost use Rattle.pcap_written.specs.Capture.{AreWritten};
+ghost use Rattle.pcap_written.specs.Raw.{Raw, TellsRaw, raw_text};
 ghost use Rattle.pcap_written.specs.Fits.{kept_body};
 ghost use Rattle.pcap_written.specs.declared.place.Place.{Place};
 
@@ -133,6 +142,25 @@ pub fn written_capture_is_read()
         (items : List Item) × Front block_format opening items bytes [] × AllZip IsBodyOf items (map kept_body (SectionBody section ∷ bodies)) }
 {}
 
+/// A block that was made of a value is read as it was, with the padding where its bytes are the rest of the block, and its text is
+/// the one that is written for the value.
+pub fn made_block_is_read()
+    ensures { (order : Endianness) (body : Body) (block : Framed) → IsMadeOf order body block →
+        ((rest : List ℕ) × SaysOfBody block (whole (kept_body body) rest)) × (raw_text (raw_in block) ≡ text_of (number_bytes block.endianness) body) }
+{}
+
+/// A block of bytes that may be written at a place is read there as a block in its frame, whatever follows it: its type, its order
+/// and its body are those that were written.
+pub fn written_raw_block_is_read()
+    ensures { (at behind : Place) (raw : Raw) (rest : List ℕ) → TellsRaw at raw (Ok behind) →
+        (block : Framed) × FrameText at.endianness block (raw_text raw ++ rest) rest × (raw_in block ≡ raw) }
+{}
+
+/// The bytes of a block that is read are the text that is written for its type, its order and its body.
+pub fn read_block_is_written()
+    ensures { (order : Endianness) (block : Framed) (s rest : List ℕ) → IsBytes s → FrameText order block s rest → s ≡ raw_text (raw_in block) ++ rest }
+{}
+
 /// What a conversion wrote where no write failed, once it came to the packets, is a PcapNg capture: its blocks are the section,
 /// the interface and those of the packets, in order, and nothing is behind them. The packets are a beginning of the capture's
 /// front: all of it where there was no refusal and `most` was not reached, and those before it where the rest is refused.
@@ -144,4 +172,18 @@ pub fn conversion_is_read()
 /// The clock of a converted capture's interface has counted exactly the packet's time in the units of its block.
 pub fn converted_packet_keeps_its_time()
     ensures { (header : PcapHeader) (packet : Captured) → IsTimeAt (interface_for header) (time_of packet) (exact_time packet) }
+{}
+
+/// The packets that blocks become have room in a classic capture, so that their capture, as it is written, is read as its header and
+/// these packets, their nanoseconds cut as the resolution demands, with nothing behind them.
+pub fn placed_capture_is_read()
+    ensures { (header : PcapHeader) (items : List Item) (turns : List Turn) → IsWholeHeader header → AllZip (Becomes header.datalink) items turns →
+        CaptureFront packet_limit header (map (cut (resolution_of header.magic_number)) (packets_of turns)) (capture header (packets_of turns)) [] }
+{}
+
+/// The block of a packet that was converted to PcapNg becomes that packet again, with all whole seconds among its seconds, where
+/// these are a number of 32 bits: its time is the same, and so are its length on the wire and its bytes.
+pub fn converted_packet_converts_back()
+    ensures { (header : PcapHeader) (packet : Captured) → IsWhole packet → (carried packet).header.ts_sec < 2 ^ 32 →
+        PlacesBody (interface_for header ∷ []) header.datalink (packet_block packet) (carried packet) }
 {}

@@ -3,13 +3,16 @@
 mod block;
 mod block_header;
 pub mod blocks;
+pub(crate) mod buffered;
 pub(crate) mod copying;
 mod fields;
 mod framing;
 mod parser;
 mod reader;
 mod state;
+mod stretch;
 mod taking;
+mod to_block;
 
 pub use block::Block;
 pub use block_header::BlockHeader;
@@ -27,3 +30,4 @@ pub use pcap_written::{
     BlockHead, PcapNgBlock, PcapNgWriter, RawBlock, RawPcapNgBlock, Unput, Unwritable,
 };
 pub use reader::PcapNgReader;
+pub use to_block::ToBlock;

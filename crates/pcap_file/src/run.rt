@@ -5,6 +5,8 @@ mod exact;
 mod find;
 mod items;
 mod pieces;
+mod placing;
+mod unplaced;
 
 ghost use Rattle.std.specs.Prelude.{◌≡◌, false, All, IfOk, IfErr, IfNone, IfSome, map};
 ghost use Rattle.pcap_file.specs.Frames.{framed_of};
@@ -17,6 +19,7 @@ ghost use Rattle.pcap_file.specs.Blocks.{MayGrow};
 ghost use Rattle.pcap_file.specs.Run.{IsRun};
 ghost use Rattle.pcap_file.specs.State.{opening};
 
+pub use crate::pcapng::buffered::copy_pcapng_buffered;
 pub use crate::pcapng::copying::{NgCopied, copy_pcapng};
 use crate::pcapng::{Block, PcapNgParser, PcapNgReader};
 pub use converting::convert_to_pcapng;
@@ -28,8 +31,10 @@ pub use pcap_classic::run::{
 use pcap_core::run::parse_items;
 use pcap_core::{PcapError, ResultParsing};
 pub use pieces::pieces_pcapng;
+pub use placing::{IfUnplaced, NgConverted, convert_to_pcap};
 use std::alloc::Global;
 use std::io::Read;
+pub use unplaced::Unplaced;
 
 /// A capture's blocks after the first, the parser after them, how many bytes they take, and what follows them.
 #[derive(Drop)]

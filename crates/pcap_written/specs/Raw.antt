@@ -40,8 +40,10 @@ magic_at _ body = None
 abbrev pub raw_head : Raw → BlockHead
 raw_head raw = record { type_ = raw.type_; magic = magic_at raw.type_ raw.body; interface_id = None }
 
--- such a block has a text: its type goes by its own name, and its length is a multiple of 4 and has four bytes
+-- such a block has a text: its type has a number of four bytes and goes by its own name, and its length is a multiple of 4 and has
+-- four bytes
 pub record IsFitRaw (raw : Raw) : Type 0 where
+  pub number : type_number raw.type_ < 2 ^ 32
   pub named : block_type (type_number raw.type_) ≡ raw.type_
   pub aligned : length raw.body % 4 ≡ 0
   pub short : length raw.body + 12 < 2 ^ 32

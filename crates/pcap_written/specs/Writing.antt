@@ -14,18 +14,25 @@ use Rattle.pcap_blocks.specs.ParsedBlock.{Body}
 use Rattle.pcap_written.specs.declared.block.BlockHead.{BlockHead}
 use Rattle.pcap_written.specs.declared.unwritable.Unwritable.{Unwritable}
 use Rattle.pcap_written.specs.declared.unwritable.Unwritable.TheVariants as flaws
+use Rattle.pcap_written.specs.declared.unwritable.Unput.{Unput}
 use Rattle.pcap_written.specs.declared.place.Place.{Place}
 use Rattle.pcap_written.specs.declared.writer.PcapNgWriter.{PcapNgWriter}
 use Rattle.pcap_core.specs.Codec.{Encoder, number_bytes}
-use Rattle.pcap_written.specs.Bodies.{body_text, head_of, order_under, text_of}
+use Rattle.pcap_written.specs.Bodies.{body_text, head_of, magic_in, order_under, text_of}
 use Rattle.pcap_written.specs.Fits.{IsFitBody}
 use Rattle.pcap_written.specs.Flaws.{BodyFlaw, flaw_message}
+use Rattle.pcap_written.specs.Puts.{RefusesPut}
 
 -- so many interfaces are described behind a block of this type: a section has none yet
 abbrev pub interfaces_after : ℕ → BlockType → ℕ
 interfaces_after n types.SectionHeader = 0
 interfaces_after n types.InterfaceDescription = n + 1
 interfaces_after n _ = n
+
+-- the order of a block with this magic number, or with none where this order is in force; or it names none
+abbrev pub NamesOrder : Endianness → Option ℕ → Result Endianness Unwritable → Type 0
+NamesOrder current magic (Ok order) = order_under current magic ≡ Some order
+NamesOrder current magic (Err flaw) = (flaw ≡ flaws.Breaks SectionMagic) × (order_under current magic ≡ None)
 
 -- a block may stand behind these: its magic number names an order, its interface is described, and the interfaces have room
 pub record IsPlaced (at : Place) (head : BlockHead) (order : Endianness) : Type 0 where
@@ -61,6 +68,16 @@ IsFitIn e = IsFitBlock (number_in e) (number_bytes e)
 
 abbrev pub FlawIn : Endianness → Body → Unwritable → Type 0
 FlawIn e = FitFlaw (number_in e) (number_bytes e)
+
+-- what stands against a block by itself where this order is in force: its magic number names no order, or it has no text in its own
+abbrev pub OwnFlaw : Endianness → Body → Unwritable → Type 0
+OwnFlaw current body flaw =
+    NamesOrder current (magic_in body) (Err flaw) ⊎ ((order : Endianness) × (order_under current (magic_in body) ≡ Some order) × FlawIn order body flaw)
+
+-- a body was made, in the block's own order, or this stands against the block
+abbrev pub MakesBody : Endianness → Body → List ℕ → Result Endianness Unput → Type 0
+MakesBody current body text (Ok order) = (order_under current (magic_in body) ≡ Some order) × IsFitIn order body × (text ≡ body_text (number_bytes order) body)
+MakesBody current body text (Err e) = RefusesPut (OwnFlaw current body) e
 
 -- a block can be written at this place, in this order
 pub record IsWritable (at : Place) (body : Body) (order : Endianness) : Type 0 where

@@ -1,6 +1,6 @@
 //! Where blocks stand in a capture.
 
-ghost use Rattle.pcap_written.specs.Writing.{TellsPlace};
+ghost use Rattle.pcap_written.specs.Writing.{NamesOrder, TellsPlace};
 
 use crate::block::BlockHead;
 use crate::unwritable::Unwritable;
@@ -19,16 +19,10 @@ pub struct Place {
 
 impl Place {
     /// The place behind a block with this head, if it may stand here.
-    #[tactic(auto, unfolding(pcap_blocks::specs::SectionHeader::magic_order))]
     pub(crate) fn behind(self, head: BlockHead) -> Result<Place, Unwritable>
         ensures { TellsPlace self head result }
     {
-        let endianness = match head.magic {
-            None => self.endianness,
-            Some(0x1A2B3C4D) => Endianness::Big,
-            Some(0x4D3C2B1A) => Endianness::Little,
-            Some(_) => return Err(Unwritable::Breaks(Rule::SectionMagic)),
-        };
+        let endianness = order_under(self.endianness, head.magic)?;
         if let Some(id) = head.interface_id {
             if id >= self.interfaces {
                 return Err(Unwritable::InterfaceMissing);
@@ -46,5 +40,18 @@ impl Place {
             endianness,
             interfaces,
         })
+    }
+}
+
+// The order of a block with this magic number, or with none where this order is in force.
+#[tactic(auto, unfolding(pcap_blocks::specs::SectionHeader::magic_order))]
+pub(crate) fn order_under(current: Endianness, magic: Option<u32>) -> Result<Endianness, Unwritable>
+    ensures { NamesOrder current magic result }
+{
+    match magic {
+        None => Ok(current),
+        Some(0x1A2B3C4D) => Ok(Endianness::Big),
+        Some(0x4D3C2B1A) => Ok(Endianness::Little),
+        Some(_) => Err(Unwritable::Breaks(Rule::SectionMagic)),
     }
 }

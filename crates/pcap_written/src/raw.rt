@@ -52,7 +52,8 @@ impl<'a> RawBlock<'a> {
         if self.body.len() > 4_294_967_283 {
             return Err(Unwritable::BlockTooLong);
         }
-        if BlockType::from(u32::from(self.type_)) != self.type_ {
+        let number = u32::from(self.type_);
+        if BlockType::from(number) != self.type_ {
             return Err(Unwritable::TypeMisnamed);
         }
         let magic = match self.type_ {

@@ -10,15 +10,15 @@ ghost use Rattle.pcap_written.specs.contracts.writer.PcapNgWriter.{the_row as wr
 ghost use Rattle.pcap_written.specs.LentStreams.{writer_with};
 ghost use Rattle.pcap_written.specs.Plain.{plain_packet, plain_section};
 ghost use Rattle.pcap_blocks.specs.BlockType.{type_number};
-ghost use Rattle.pcap_written.specs.Bodies.{block_text, text_of};
+ghost use Rattle.pcap_written.specs.Bodies.{block_text, body_text, text_of};
 ghost use Rattle.pcap_core.specs.Codec.{number_bytes};
 ghost use Rattle.pcap_written.specs.Puts.{Puts};
 ghost use Rattle.pcap_written.specs.Raw.{raw_of, raw_text, WritesRaw};
-ghost use Rattle.pcap_written.specs.Writing.{stream_of, has_failed, place_of, IsFitBlock, FitFlaw, IsFitIn, FlawIn, OpensWriter, WritesBlock};
+ghost use Rattle.pcap_written.specs.Writing.{stream_of, has_failed, place_of, IsFitBlock, FitFlaw, IsFitIn, FlawIn, MakesBody, OpensWriter, WritesBlock};
 
 use crate::block::PcapNgBlock;
 use crate::packet::put_packet;
-use crate::place::Place;
+use crate::place::{Place, order_under};
 use crate::put::put_u32;
 use crate::raw::{RawBlock, RawPcapNgBlock};
 use crate::unwritable::{Unput, Unwritable};
@@ -302,11 +302,38 @@ fn encode_in<B: PcapNgBlock, O: ByteOrder>(
 ) -> Result<(), Unput>
     ensures { Puts (IsFitBlock O.number_of O.bytes_of (B.sees block.now)) (FitFlaw O.number_of O.bytes_of (B.sees block.now)) (text_of O.bytes_of (B.sees block.now)) [] text.new.items result }
 {
+    body_in::<B, O>(body, block)?;
+    frame_in::<O>(text, block.head().type_, body.as_slice())?;
+    Ok(())
+}
+
+/// Makes the body of a block, in place of what `body` had, and tells its order: this one, or a section header's own, which its
+/// magic number names. Whether the section has described the interface that it speaks of isn't asked.
+///
+/// `Unput` where the block has no text in that order, or memory ran out.
+pub fn encode_body<B: PcapNgBlock>(
+    order: Endianness,
+    body: &mut Vec<u8>,
+    block: &B,
+) -> Result<Endianness, Unput>
+    ensures { MakesBody order (B.sees block.now) body.new.items result }
+{
+    let own = order_under(order, block.head().magic)?;
+    match own {
+        Endianness::Big => body_in::<B, BigEndian>(body, block)?,
+        Endianness::Little => body_in::<B, LittleEndian>(body, block)?,
+    }
+    Ok(own)
+}
+
+// Makes the body of a block, where the block's length has four bytes.
+fn body_in<B: PcapNgBlock, O: ByteOrder>(body: &mut Vec<u8>, block: &B) -> Result<(), Unput>
+    ensures { Puts (IsFitBlock O.number_of O.bytes_of (B.sees block.now)) (FitFlaw O.number_of O.bytes_of (B.sees block.now)) (body_text O.bytes_of (B.sees block.now)) [] body.new.items result }
+{
     body.clear();
     block.put_body::<O>(body)?;
     if body.len() > 4_294_967_283 {
         return Err(Unput::Unfit(Unwritable::BlockTooLong));
     }
-    frame_in::<O>(text, block.head().type_, body.as_slice())?;
     Ok(())
 }

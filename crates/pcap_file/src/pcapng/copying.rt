@@ -33,7 +33,7 @@ pub struct NgCopied {
 
 impl NgCopied {
     // A copy of which nothing is done.
-    fn none() -> NgCopied
+    pub(crate) fn none() -> NgCopied
         ensures { IsNew result }
     {
         NgCopied {
@@ -92,7 +92,7 @@ fn copy_all<R: Read, W: Write>(
 }
 
 // Copies the first block.
-fn copy_first<R: Read, W: Write>(
+pub(crate) fn copy_first<R: Read, W: Write>(
     alloc: Global,
     reader: &mut R,
     writer: &mut W,
@@ -139,7 +139,7 @@ fn copy_blocks<R: Read, W: Write>(
 }
 
 // Copies the next block, which is held meanwhile, and says whether there was one.
-fn copy_next<R: Read, W: Write>(
+pub(crate) fn copy_next<R: Read, W: Write>(
     alloc: Global,
     in_force: &mut InForce,
     reader: &mut R,

@@ -1,0 +1,231 @@
+-- What a conversion of blocks to packets takes and writes.
+use Rattle.std.specs.Prelude.{◌≡◌, ◌<◌, ◌+◌, ◌⊎◌, ℕ, List, [], length, Bool, true, false, Option, None, Some, Result, Ok, Err}
+use Rattle.std.specs.Option.{IsSomeAnd}
+use Rattle.std.specs.Result.{result_err}
+use Rattle.std.specs.List.{AllZip, flat_map}
+use Rattle.std.specs.Io.KnownBytes.{Appends, Keeps, IsAtEnd}
+use Rattle.pcap_core.specs.declared.errors.PcapError.{PcapError}
+use Rattle.pcap_core.specs.declared.errors.PcapError.TheVariants as errors
+use Rattle.pcap_core.specs.declared.rules.Rule.TheVariants.{CaptureMagic}
+use Rattle.pcap_core.specs.Answer.{lacks, faulty, Refuses}
+use Rattle.pcap_core.specs.Errors.{IsIo}
+use Rattle.pcap_core.specs.Faults.{Names}
+use Rattle.pcap_core.specs.Format.{state_after}
+use Rattle.pcap_core.specs.Reading.{HasCause, Takes, TakesAsked}
+use Rattle.pcap_core.specs.Takes.{TakesTexts}
+use Rattle.pcap_core.specs.Writing.{AppendsPart}
+use Rattle.pcap_blocks.specs.InterfaceDescription.{Interface}
+use Rattle.pcap_classic.specs.declared.pcap.header.PcapHeader.{PcapHeader}
+use Rattle.pcap_classic.specs.declared.pcap.writer.PcapWriter.{PcapWriter}
+use Rattle.pcap_classic.specs.Magic.{is_magic}
+use Rattle.pcap_classic.specs.PacketText.{Captured}
+use Rattle.pcap_classic.specs.Writing as writers
+use Rattle.pcap_classic.specs.Written.{written_under}
+use Rattle.pcap_file.specs.declared.pcapng.reader.PcapNgReader.{PcapNgReader}
+use Rattle.pcap_file.specs.declared.run.placing.Became.{Became}
+use Rattle.pcap_file.specs.declared.run.placing.Became.TheVariants as became
+use Rattle.pcap_file.specs.declared.run.placing.IfUnplaced.{IfUnplaced}
+use Rattle.pcap_file.specs.declared.run.placing.IfUnplaced.TheVariants.{LeaveOut, Refuse}
+use Rattle.pcap_file.specs.declared.run.placing.NgConverted.{NgConverted}
+use Rattle.pcap_file.specs.declared.run.unplaced.PlacedPacket.{PlacedPacket}
+use Rattle.pcap_file.specs.declared.run.unplaced.Unplaced.{Unplaced}
+use Rattle.pcap_file.specs.Blocks.{Item, block_format}
+use Rattle.pcap_file.specs.Bodies.{GrowsInBody, SaysOfBody}
+use Rattle.pcap_file.specs.Frames.{Framed}
+use Rattle.pcap_file.specs.Placed.{Becomes, BecomesIn, Turn, captured_of, interfaces_at, is_packet, packet_of_turn, no_packet, packets_of, placed, reason_of_turn, reasons_of, unplaced, unplaced_message}
+use Rattle.pcap_file.specs.Reader as readers
+use Rattle.pcap_file.specs.State.{State}
+
+-- what a reader shows: what is in force, what is left of its stream, whether a read failed, and whether it has refused something
+pub record Source : Type 0 where
+  pub state : State
+  pub left : Option (List ℕ)
+  pub failed : Bool
+  pub done : Bool
+
+abbrev pub source_of : {T : Type 0} → (T → Option (List ℕ)) → PcapNgReader T → Source
+source_of remaining reader = record { state = readers.state_of reader; left = remaining (readers.stream_of reader); failed = readers.has_failed reader; done = readers.is_done reader }
+
+-- what a writer shows: what it has written, and whether a write failed
+pub record Sink : Type 0 where
+  pub out : Option (List ℕ)
+  pub failed : Bool
+
+abbrev pub sink_of : {W : Type 0} → (W → Option (List ℕ)) → PcapWriter W → Sink
+sink_of contents writer = record { out = contents (writers.stream_of writer); failed = writers.has_failed writer }
+
+-- nothing went out
+pub record IsQuiet (c d : Sink) : Type 0 where
+  pub out : Keeps c.out d.out
+  pub failed : d.failed ≡ c.failed
+
+-- the next block was taken, and what it puts in force is in force
+pub record TakesNext (a b : Source) (item : Item) : Type 0 where
+  pub took : Takes (block_format.says a.state) a.left b.left item
+  pub leads : item.after ≡ b.state
+  pub no_read_failed : b.failed ≡ false
+  pub goes_on : b.done ≡ false
+
+-- the stream is at its end, or the reader has refused something before
+pub record TakesNone (a b : Source) : Type 0 where
+  pub why : IsAtEnd a.left ⊎ (a.done ≡ true)
+  pub taken : Keeps a.left b.left
+  pub state : b.state ≡ a.state
+  pub no_read_failed : b.failed ≡ true → a.failed ≡ true
+
+-- the next block is refused: no more was taken than was asked for
+pub record RefusesNext (a b : Source) (e : PcapError) : Type 0 where
+  pub cause : HasCause (block_format.says a.state) a.left b.failed e
+  pub part : TakesAsked (block_format.says a.state) a.left b.left
+  pub state : b.state ≡ a.state
+  pub ended : b.done ≡ true
+
+-- an error with this message
+abbrev pub HasMessage : List ℕ → PcapError → Type 0
+HasMessage text (errors.InvalidField message) = message.now ≡ text
+HasMessage text _ = ⊥
+
+-- the body of a block that holds a packet is refused, or its list of options can't grow
+pub record RefusesBody (b : Framed) (c d : Sink) (e : PcapError) : Type 0 where
+  pub of_packet : is_packet b.type_ ≡ true
+  pub refused : Refuses (GrowsInBody b) (λ n. SaysOfBody b (lacks n)) (λ fault. SaysOfBody b (faulty fault)) e
+  pub out : IsQuiet c d
+
+-- a packet has no place, and such packets are refused
+pub record RefusesPacket (header : PcapHeader) (choice : IfUnplaced) (interfaces : List Interface) (b : Framed) (c d : Sink) (e : PcapError) : Type 0 where
+  pub asked : choice ≡ Refuse
+  pub reason : Unplaced
+  pub becomes : BecomesIn interfaces header.datalink b (unplaced reason)
+  pub message : HasMessage (unplaced_message reason) e
+  pub out : IsQuiet c d
+
+-- a write failed in a packet
+pub record TearsPacket (header : PcapHeader) (interfaces : List Interface) (b : Framed) (c d : Sink) (e : PcapError) : Type 0 where
+  pub packet : Captured
+  pub becomes : BecomesIn interfaces header.datalink b (placed packet)
+  pub refused : IsIo e
+  pub write_failed : d.failed ≡ true
+  pub out : AppendsPart c.out d.out (written_under header packet)
+
+-- why a block that was taken ends a conversion
+abbrev pub FailsBlock : PcapHeader → IfUnplaced → List Interface → Framed → Sink → Sink → PcapError → Type 0
+FailsBlock header choice interfaces b c d e = RefusesBody b c d e ⊎ RefusesPacket header choice interfaces b c d e ⊎ TearsPacket header interfaces b c d e
+
+-- what a block becomes went out, or nothing, where it holds no packet, or one that has no place and may be left out; or that
+-- ends a conversion
+abbrev pub PlacesBlock : PcapHeader → IfUnplaced → List Interface → Framed → Sink → Sink → Result Became PcapError → Type 0
+PlacesBlock header choice interfaces b c d (Ok became.Packet) =
+    (packet : Captured) × BecomesIn interfaces header.datalink b (placed packet) × Appends c.out d.out (written_under header packet) × (d.failed ≡ c.failed)
+PlacesBlock header choice interfaces b c d (Ok became.LeftOut) =
+    (choice ≡ LeaveOut) × ((reason : Unplaced) × BecomesIn interfaces header.datalink b (unplaced reason)) × IsQuiet c d
+PlacesBlock header choice interfaces b c d (Ok became.NoPacket) = BecomesIn interfaces header.datalink b no_packet × IsQuiet c d
+PlacesBlock header choice interfaces b c d (Err e) = FailsBlock header choice interfaces b c d e
+
+-- a packet that has a place went out, or one that has none is refused, or left out
+abbrev pub PutsPlaced : PcapHeader → IfUnplaced → Result PlacedPacket Unplaced → Sink → Sink → Result Became PcapError → Type 0
+PutsPlaced header choice (Ok packet) c d (Ok became.Packet) = Appends c.out d.out (written_under header (captured_of packet)) × (d.failed ≡ c.failed)
+PutsPlaced header choice (Ok packet) c d (Err e) = IsIo e × (d.failed ≡ true) × AppendsPart c.out d.out (written_under header (captured_of packet))
+PutsPlaced header choice (Err reason) c d (Ok became.LeftOut) = (choice ≡ LeaveOut) × IsQuiet c d
+PutsPlaced header choice (Err reason) c d (Err e) = (choice ≡ Refuse) × HasMessage (unplaced_message reason) e × IsQuiet c d
+PutsPlaced header choice _ c d _ = ⊥
+
+-- why the next block ends it: it is refused, or was taken
+abbrev pub FailsNext : PcapHeader → IfUnplaced → Source → Source → Sink → Sink → PcapError → Type 0
+FailsNext header choice a b c d e =
+    (RefusesNext a b e × IsQuiet c d) ⊎ ((item : Item) × TakesNext a b item × FailsBlock header choice (interfaces_at item.after) item.block c d e)
+
+-- what a block becomes went out, or nothing, where it may be left out
+pub record Goes (header : PcapHeader) (choice : IfUnplaced) (turn : Turn) (c d : Sink) : Type 0 where
+  pub allowed : choice ≡ Refuse → reason_of_turn turn ≡ []
+  pub out : Appends c.out d.out (flat_map (written_under header) (packet_of_turn turn))
+  pub no_write_failed : d.failed ≡ c.failed
+
+-- how many packets went out of a block
+abbrev pub packets_in : Became → ℕ
+packets_in became.Packet = 1
+packets_in became.LeftOut = 0
+packets_in became.NoPacket = 0
+
+-- how many packets of it were left out
+abbrev pub left_out_in : Became → ℕ
+left_out_in became.Packet = 0
+left_out_in became.LeftOut = 1
+left_out_in became.NoPacket = 0
+
+-- one block more is counted, with what it became
+pub record CountsTurn (turn : Turn) (old new : NgConverted) : Type 0 where
+  pub blocks : new.blocks ≡ old.blocks + 1
+  pub packets : new.packets ≡ old.packets + length (packet_of_turn turn)
+  pub left_out : new.left_out ≡ old.left_out + length (reason_of_turn turn)
+
+-- one block more is counted, with a packet, or with one that was left out
+pub record CountsBecame (what : Became) (old new : NgConverted) : Type 0 where
+  pub blocks : new.blocks ≡ old.blocks + 1
+  pub packets : new.packets ≡ old.packets + packets_in what
+  pub left_out : new.left_out ≡ old.left_out + left_out_in what
+
+-- one block was taken, and what it becomes went out
+pub record PlacesNext (header : PcapHeader) (choice : IfUnplaced) (a b : Source) (c d : Sink) (old new : NgConverted) : Type 0 where
+  pub item : Item
+  pub turn : Turn
+  pub next : TakesNext a b item
+  pub becomes : Becomes header.datalink item turn
+  pub goes : Goes header choice turn c d
+  pub counts : CountsTurn turn old new
+
+-- one step of a conversion: a block, or none, or a fault
+abbrev pub StepsPlacing : PcapHeader → IfUnplaced → Source → Source → Sink → Sink → NgConverted → NgConverted → Result Bool PcapError → Type 0
+StepsPlacing header choice a b c d old new (Ok true) = PlacesNext header choice a b c d old new
+StepsPlacing header choice a b c d old new (Ok false) = TakesNone a b × IsQuiet c d × (new ≡ old)
+StepsPlacing header choice a b c d old new (Err e) = FailsNext header choice a b c d e × (new ≡ old)
+
+-- blocks were taken, each became what it is, and exactly the packets that have a place went out; all are counted
+pub record PlacesAll (header : PcapHeader) (choice : IfUnplaced) (a b : Source) (c d : Sink) (converted : NgConverted) : Type 0 where
+  pub items : List Item
+  pub turns : List Turn
+  pub took : TakesTexts block_format a.state items a.left b.left
+  pub in_force : state_after block_format a.state items ≡ b.state
+  pub become : AllZip (Becomes header.datalink) items turns
+  pub allowed : choice ≡ Refuse → reasons_of turns ≡ []
+  pub out : Appends c.out d.out (flat_map (written_under header) (packets_of turns))
+  pub blocks : converted.blocks ≡ length items
+  pub packets : converted.packets ≡ length (packets_of turns)
+  pub left_out : converted.left_out ≡ length (reasons_of turns)
+
+-- why a conversion ended behind them: at the stream's end, or at the most blocks, or with a fault before these
+abbrev pub EndsPlacing : PcapHeader → IfUnplaced → Source → Source → Sink → Sink → ℕ → ℕ → Option PcapError → Type 0
+EndsPlacing header choice a b c d n most None = ((b ≡ a) × (d ≡ c) × (n ≡ most)) ⊎ (TakesNone a b × IsQuiet c d)
+EndsPlacing header choice a b c d n most (Some e) = (n < most) × FailsNext header choice a b c d e
+
+-- blocks were converted, until the conversion ended
+pub record PlacesBlocks (header : PcapHeader) (choice : IfUnplaced) (a b : Source) (c d : Sink) (most : ℕ) (converted : NgConverted) : Type 0 where
+  pub mid : Source
+  pub between : Sink
+  pub so_far : PlacesAll header choice a mid c between converted
+  pub ends : EndsPlacing header choice mid b between d converted.blocks most converted.fault
+
+-- nothing is counted yet
+pub record IsNew (converted : NgConverted) : Type 0 where
+  pub blocks : converted.blocks ≡ 0
+  pub packets : converted.packets ≡ 0
+  pub left_out : converted.left_out ≡ 0
+
+-- a write of the writer failed before, or its header has none of the four magic numbers
+abbrev pub CannotWrite : PcapHeader → Sink → Option PcapError → Type 0
+CannotWrite header c fault =
+    ((c.failed ≡ true) × (fault ≡ Some errors.WriterFailed)) ⊎ ((c.failed ≡ false) × (is_magic header.magic_number ≡ false) × IsSomeAnd fault (Names CaptureMagic))
+
+-- the writer is of no use: nothing was taken, and nothing went out
+pub record RefusesWriter (header : PcapHeader) (a b : Source) (c d : Sink) (converted : NgConverted) : Type 0 where
+  pub why : CannotWrite header c converted.fault
+  pub none : IsNew converted
+  pub reader : b ≡ a
+  pub writer : d ≡ c
+
+-- one conversion: the writer is of no use, or blocks were converted
+abbrev pub PlacesRun : PcapHeader → IfUnplaced → Source → Source → Sink → Sink → ℕ → NgConverted → Type 0
+PlacesRun header choice a b c d most converted = RefusesWriter header a b c d converted ⊎ PlacesBlocks header choice a b c d most converted
+
+-- a conversion that ended with this result
+abbrev pub outcome_of : NgConverted → Result (Unit {0}) PcapError → NgConverted
+outcome_of converted result = record converted { fault = result_err result }

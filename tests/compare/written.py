@@ -1,0 +1,154 @@
+"""What is written as PcapNg, beside tshark, capinfos and editcap, over captures: `compare(files, folder)`.
+
+A PcapNg capture that is read whole is copied, and written again from its values (example_pcapng, example_rewrite). The copy has
+to be its bytes. What is written again may differ from it in what the format ignores, which CANONICAL says: then the blocks are
+made so in Python, by the public draft, and have to be those. tshark and capinfos have to read the same packets of both.
+A classic capture becomes a PcapNg capture (example_pcapng), of which tshark and capinfos have to read the packets that they read of
+what editcap made of it. Where a capture is refused, its packets have to be a beginning of those.
+"""
+import collections
+import os
+import shutil
+import struct
+import tempfile
+
+from examples import BEGINNING, DIFFERENT, SAME, carried, fields, is_pcapng_file, output, program, run_example, verdict
+
+TOOLS = ("tshark", "capinfos", "editcap")
+EXAMPLES = ("example_pcapng", "example_rewrite")
+FIELDS = ("frame.time_epoch", "frame.cap_len", "frame.len", "frame.interface_id", "frame.md5_hash")
+SECTION, INTERFACE, PACKET, SIMPLE, NAMES, STATISTICS, ENHANCED = 0x0A0D0D0A, 1, 2, 3, 4, 5, 6
+# Where the options begin in the bodies that have some, behind what has a fixed length.
+FIXED = {SECTION: 16, INTERFACE: 8, STATISTICS: 12, PACKET: 20, ENHANCED: 20}
+CANONICAL = ("a list of options ends without its mark", "the mark stands alone", "bytes stand behind the mark", "padding is not zero")
+
+
+def padded(value):
+    return value + bytes(-len(value) % 4)
+
+
+def blocks_of(capture):
+    """Each whole block with the order of its section: the order's letter, its type, its body."""
+    order, at, size = "<", 0, 12
+    while at + 12 <= len(capture) and size >= 12:
+        if capture[at : at + 4] == b"\n\r\r\n":
+            order = "<" if capture[at + 8 : at + 12] == b"\x4d\x3c\x2b\x1a" else ">"
+        kind, size = struct.unpack_from(order + "II", capture, at)
+        if 12 <= size <= len(capture) - at:
+            yield order, kind, capture[at + 8 : at + size - 4]
+        at += size
+
+
+def records_end(order, body):
+    """Where the records of a name resolution body end, behind their own end."""
+    at, kind = 0, 1
+    while kind:
+        kind, size = struct.unpack_from(order + "HH", body, at)
+        at += 4 + size + -size % 4
+    return at
+
+
+def canonical_list(order, rest, found):
+    """A list of values by codes, as it is written: each with zero padding, and a mark where there are any."""
+    written, at, is_marked = b"", 0, False
+    while at < len(rest) and not is_marked:
+        code, size = struct.unpack_from(order + "HH", rest, at)
+        value, at = rest[at + 4 : at + 4 + size], at + 4 + size + -size % 4
+        is_marked = code == 0
+        if not is_marked:
+            found[3] += any(rest[at - (-size % 4) : at])
+            written += struct.pack(order + "HH", code, size) + padded(value)
+    found[0] += bool(written) and not is_marked
+    found[1] += is_marked and not written
+    found[2] += at < len(rest)
+    return written and written + bytes(4)
+
+
+def canonical(order, kind, body, found):
+    """The body as it is written from its values; `found` counts what differs from that."""
+    if kind == NAMES:
+        end = records_end(order, body)
+        records = canonical_list(order, body[:end], collections.Counter()) or bytes(4)
+        return records + canonical_list(order, body[end:], found)
+    if kind not in FIXED:
+        return body
+    end = FIXED[kind]
+    data = struct.unpack_from(order + "I", body, 12)[0] if kind in (PACKET, ENHANCED) else 0
+    stored = body[end : end + data]
+    found[3] += any(body[end + data : end + data + -data % 4])
+    return body[:end] + padded(stored) + canonical_list(order, body[end + data + -data % 4 :], found)
+
+
+def canonical_capture(capture, found):
+    """The capture as it is written from the values of its blocks, up to a body that has none."""
+    written = []
+    for order, kind, body in blocks_of(capture):
+        try:
+            body = canonical(order, kind, body, found)
+        except struct.error:
+            break
+        frame = struct.pack(order + "II", kind, len(body) + 12)
+        written.append(frame + body + frame[4:])
+    return b"".join(written)
+
+
+def packets(path):
+    """Each packet as tshark reads it: its time exactly, both lengths, its interface, and the sum of its bytes."""
+    rows = fields(path, *FIELDS, options=("-o", "frame.generate_md5_hash:TRUE"))
+    return [(carried(time) if time else "", *rest) for time, *rest in rows]
+
+
+def totals(path):
+    """How many packets and bytes capinfos counts, and the first and the last time, as decimal numbers."""
+    numbers = output("capinfos", "-T", "-r", "-S", "-c", "-d", "-a", "-e", path).stdout.decode().split("\t")[1:]
+    return [number.rstrip("0\n") if "." in number else number for number in numbers]
+
+
+def read_verdict(written, is_accepted, peer, room):
+    """Whether tshark and capinfos read the same packets of what was written as of the peer's file."""
+    path = os.path.join(room, "written.pcapng")
+    with open(path, "wb") as it:
+        it.write(written)
+    here, there = packets(path) if written else [], packets(peer)
+    if not is_accepted:
+        return BEGINNING if here == there[: len(here)] else DIFFERENT
+    return SAME if here == there and totals(path) == totals(peer) else DIFFERENT
+
+
+def pcapng_verdicts(path, room, found):
+    with open(path, "rb") as it:
+        capture = it.read()
+    copy, is_copied = run_example("example_pcapng", path)
+    yield "copied", verdict(copy, is_copied, capture)
+    written, is_accepted = run_example("example_rewrite", path)
+    wanted = capture if written == capture else canonical_capture(capture, found)
+    yield "written again", verdict(written, is_accepted, wanted)
+    yield "written again, by tshark and capinfos", read_verdict(written, is_accepted, path, room)
+
+
+def classic_verdicts(path, room):
+    peer = os.path.join(room, "peer.pcapng")
+    if output("editcap", "-F", "pcapng", path, peer).returncode == 0:
+        written, is_accepted = run_example("example_pcapng", path)
+        yield "converted, by tshark and capinfos", read_verdict(written, is_accepted, peer, room)
+
+
+def compare(files, folder):
+    """Prints each difference, and a line of sums for each comparison; whether there is none."""
+    missing = [tool for tool in TOOLS if not shutil.which(tool)] + [name for name in EXAMPLES if not os.path.exists(program(name))]
+    if missing:
+        print(f"what is written was not compared: {', '.join(missing)} missing")
+        return True
+    counts, found, changed = collections.defaultdict(lambda: [0, 0, 0]), collections.Counter(), 0
+    for path in files:
+        before = found.total()
+        with tempfile.TemporaryDirectory() as room:
+            for name, answer in pcapng_verdicts(path, room, found) if is_pcapng_file(path) else classic_verdicts(path, room):
+                counts[name][answer] += 1
+                if answer == DIFFERENT:
+                    print(f"{os.path.relpath(path, folder)}: {name}")
+        changed += found.total() > before
+    for name, (same, beginning, different) in counts.items():
+        print(f"{name}: {same} are the same, {beginning} are a beginning that ends at a refusal, {different} differ")
+    print(f"{changed} captures are written in other bytes:", "; ".join(f"{CANONICAL[why]} ({count} blocks)" for why, count in found.items() if count) or "none")
+    return any(same for same, _, _ in counts.values()) and not any(different for _, _, different in counts.values())
