@@ -1,10 +1,8 @@
 -- Cuts that are made one by one.
-use Rattle.std.proofs.Common.{◌≡◌, ◌<◌, ◌≤◌, ◌+◌, ◌-◌, ℕ, List, [], ◌∷◌, ◌++◌, length, refl, sym, ap, subst, ◌∙◌, arith, length-append, inl, inr}
-use Rattle.std.specs.Prelude.{Some, None}
-use Rattle.pcap_core.specs.Answer.{whole, lacks, faulty, Refuses}
-use Rattle.pcap_core.specs.Format.{Format, Texts, state_after, IsLawful}
+use Rattle.std.proofs.Common.{◌≡◌, ◌<◌, ◌≤◌, ◌+◌, ◌-◌, ℕ, List, [], ◌∷◌, ◌++◌, length, refl, sym, ◌∙◌, arith, length-append}
+use Rattle.std.specs.Prelude.{None}
+use Rattle.pcap_core.specs.Format.{Format, Texts, state_after}
 use Rattle.pcap_core.proofs.Formats.{texts_all}
-use Rattle.pcap_core.proofs.Requested.{texts_long}
 use Rattle.std.specs.List.{AllByRecursion}
 use Rattle.pcap_parts.specs.declared.cut.Cut.{Cut}
 use Rattle.pcap_parts.specs.Parts.{Passes, Bound, Rising, Starts, AreCuts}
@@ -64,11 +62,10 @@ module _ {S V : Type 0} (f : Format S V) (q : S) (s : List ℕ) (total : ℕ) wh
     refl,
   )
 
-  pub cutting_more : (front : ℕ) (left after : List ℕ) (before at_least n : ℕ) (cuts : List Cut) (x : Cut) → Cutting f q s front total left before cuts
-      → ((p : S) → Passes f p left after at_least n None) → 0 < at_least → length s ≤ total → length left ≤ length s → x.offset ≡ total - length after → x.before ≡ before + n
+  pub cutting_more : (front : ℕ) (left after : List ℕ) (before at_least n : ℕ) (cuts : List Cut) (x : Cut) (so_far : Cutting f q s front total left before cuts)
+      → Passes f (state_after f q so_far.items) left after at_least n None → 0 < at_least → length s ≤ total → length left ≤ length s → x.offset ≡ total - length after → x.before ≡ before + n
       → Cutting f q s front total after (before + n) (cuts ++ x ∷ [])
-  cutting_more front left after before at_least n cuts x so_far passed some fits within place counts =
-      let p = passed (state_after f q so_far.items) in
+  cutting_more front left after before at_least n cuts x so_far p some fits within place counts =
       let items = so_far.items ++ p.items in
       let texts : Texts f q items s after = texts_all f q so_far.items p.items s left after so_far.texts p.texts in
       let count : length items ≡ before + n = length-append so_far.items p.items ∙ omega (arith, so_far.count, p.count) in

@@ -3,13 +3,12 @@ use Rattle.std.proofs.Common.{◌≡◌, ◌<◌, ◌≤◌, ◌+◌, ◌-◌, �
 use Rattle.std.proofs.lemmas.List.{nil_from_length}
 use lib.Seq.{take-append_seam}
 use Rattle.std.proofs.Math.Seq.{drop-append_seam}
-use Rattle.pcap_core.specs.Answer.{whole}
 use Rattle.pcap_core.specs.Format.{Format, Texts, state_after, Front, IsLawful}
-use Rattle.pcap_core.proofs.Formats.{text_same, texts_own, front_goes_on, nothing_no_text, nil_of_length}
+use Rattle.pcap_core.proofs.Formats.{text_same, texts_own, front_goes_on, nothing_no_text}
 use Rattle.pcap_core.proofs.Requested.{texts_long}
 use Rattle.std.specs.List.{AllByRecursion}
 use Rattle.pcap_parts.specs.declared.cut.Cut.{Cut}
-use Rattle.pcap_parts.specs.Parts.{Bound, Rising, Starts, AreCuts, PartFronts, InParts, part_bytes, joined, CountsBefore}
+use Rattle.pcap_parts.specs.Parts.{Bound, Rising, AreCuts, PartFronts, InParts, part_bytes, joined, CountsBefore}
 
 pub texts_apart : {S V : Type 0} (f : Format S V) (q : S) (vs ws : List V) (s rest : List ℕ) → Texts f q (vs ++ ws) s rest
     → (mid : List ℕ) × Texts f q vs s mid × Texts f (state_after f q vs) ws mid rest
@@ -25,7 +24,7 @@ pub state_all : {S V : Type 0} (f : Format S V) (q : S) (vs ws : List V) → sta
 state_all f q [] ws = refl
 state_all f q (v ∷ vs) ws = state_all f (f.goes q v) vs ws
 
-drop_front : (bytes front rest : List ℕ) (n : ℕ) → bytes ≡ front ++ rest → n + length rest ≡ length bytes → drop n bytes ≡ rest
+pub drop_front : (bytes front rest : List ℕ) (n : ℕ) → bytes ≡ front ++ rest → n + length rest ≡ length bytes → drop n bytes ≡ rest
 drop_front bytes front rest n split count =
     let long : n ≡ length front = omega (arith, count, ap length split, length-append front rest) in
     rw (long, split) (drop-append_seam front rest)
@@ -48,6 +47,13 @@ module _ {S V : Type 0} (f : Format S V) (laws : IsLawful f) where
       let more = beyond (f.goes q a) us bs x.0 mid rest x.2 here le in
       let e : b ∷ bs ≡ a ∷ us ++ more.0 = cons_same b a bs (us ++ more.0) one.0 more.1 in
       (more.0, e, more.2)
+
+  -- two rows of items between the same bytes are one
+  pub texts_one : (q : S) (us vs : List V) (s rest : List ℕ) → Texts f q us s rest → Texts f q vs s rest → vs ≡ us
+  texts_one q us vs s rest x y =
+      let on = beyond q us vs s rest rest x y (omega arith) in
+      let none : on.0 ≡ [] = nil_from_length on.0 (omega (arith, texts_long f laws (state_after f q us) on.0 rest rest on.2)) in
+      on.1 ∙ ap (λ (l : List V). us ++ l) none ∙ append-nil us
 
   -- the texts of items and no more are a front
   texts_front : (q : S) (vs : List V) (s : List ℕ) → Texts f q vs s [] → Front f q vs s []

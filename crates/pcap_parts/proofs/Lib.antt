@@ -6,3 +6,8 @@ mod Resumed
 mod Anywhere
 mod Places
 mod Fair
+mod CutSteps
+mod Walking
+mod NgCaptures
+mod Asking
+mod PartRuns

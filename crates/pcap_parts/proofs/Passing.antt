@@ -1,14 +1,18 @@
 -- Items that are passed over one by one.
-use Rattle.std.proofs.Common.{◌≡◌, ◌<◌, ◌≤◌, ◌+◌, ℕ, List, [], ◌∷◌, ◌++◌, length, refl, sym, ap, subst, ◌∙◌, arith, length-append, inl, inr}
-use Rattle.std.specs.Prelude.{Some, None}
+use Rattle.std.proofs.Common.{◌≡◌, ◌<◌, ◌≤◌, ◌+◌, ℕ, List, [], ◌∷◌, ◌++◌, length, refl, sym, subst, ◌∙◌, arith, length-append, inl, inr}
+use Rattle.std.specs.Prelude.{Some, None, Result, Ok, Err}
+use Rattle.std.specs.declared.alloc.AllocError.{AllocError}
 use Rattle.pcap_core.specs.declared.errors.PcapError.{PcapError}
-use Rattle.pcap_core.specs.declared.rest.Rest.TheVariants.{Clean}
+use Rattle.pcap_core.specs.declared.rest.Rest.{Rest}
+use Rattle.pcap_core.specs.declared.errors.PcapError.TheVariants as errors
+use Rattle.pcap_core.specs.declared.rest.Rest.TheVariants.{Clean, Needs, Refused}
 use Rattle.pcap_core.specs.Answer.{whole, lacks, faulty, Refuses}
 use Rattle.pcap_core.specs.Format.{Format, Texts, state_after, IsLawful}
-use Rattle.pcap_core.specs.Run.{rest_after}
+use Rattle.pcap_core.specs.Run.{IsRest, rest_after}
 use Rattle.pcap_core.proofs.Formats.{texts_push, shorter}
 use Rattle.pcap_core.proofs.Fronts.{stops}
-use Rattle.pcap_parts.specs.Parts.{LastIsNeeded, Passes}
+use Rattle.pcap_parts.specs.NgParts.{rest_or_memory_of}
+use Rattle.pcap_parts.specs.Parts.{LastIsNeeded, Passes, PassesTo}
 
 module _ {S V : Type 0} (f : Format S V) where
   pub record Passing (q : S) (taken : List V) (s rest : List ℕ) (at_least n : ℕ) : Type 0 where
@@ -42,3 +46,62 @@ module _ {S V : Type 0} (f : Format S V) (laws : IsLawful f) (q : S) (s : List �
 
   pub passing_enough : (taken : List V) (rest : List ℕ) (n : ℕ) → Passing f q taken s rest at_least n → at_least + length rest ≤ length s → Passes f q s rest at_least n None
   passing_enough taken rest n so_far enough = record { items = taken; count = so_far.count; texts = so_far.texts; needed = so_far.needed; stops = enough }
+
+  pub passing_stopped : (taken : List V) (rest : List ℕ) (n : ℕ) (said : Rest) → Passing f q taken s rest at_least n → length s < at_least + length rest
+      → IsRest (f.says (state_after f q taken)) rest said → Passes f q s rest at_least n (Some said)
+  passing_stopped taken rest n said so_far less is =
+      record { items = taken; count = so_far.count; texts = so_far.texts; needed = so_far.needed; stops = (less, is) }
+
+  -- the same where the items that are passed lead to a state
+  module _ (reached : S) (taken : List V) (rest : List ℕ) (n : ℕ) (so_far : Passing f q taken s rest at_least n) (leads : state_after f q taken ≡ reached) where
+    pub to_stopped : (said : Rest) → length s < at_least + length rest → IsRest (f.says reached) rest said → PassesTo f q reached s rest at_least n (Some said)
+    unfolding passing_stopped
+    to_stopped said less is = record { passes = passing_stopped taken rest n said so_far less (subst (λ (p : S). IsRest (f.says p) rest said) (sym leads) is); leads = leads }
+
+    pub to_clean : rest ≡ [] → length s < at_least → PassesTo f q reached s rest at_least n (Some Clean)
+    unfolding passing_clean
+    to_clean none less = record { passes = passing_clean taken rest n so_far none less; leads = leads }
+
+    pub to_enough : at_least + length rest ≤ length s → PassesTo f q reached s rest at_least n None
+    unfolding passing_enough
+    to_enough enough = record { passes = passing_enough taken rest n so_far enough; leads = leads }
+
+abbrev Told : Type 0
+Told = Result Rest AllocError
+
+abbrev told : Rest → Told
+told r = Ok r
+
+abbrev not_told : AllocError → Told
+not_told x = Err x
+
+ok_same : (a b : Rest) → told a ≡ told b → a ≡ b
+ok_same a b e = cc
+
+no_ok : (x : AllocError) (a : Rest) → not_told x ≡ told a → ⊥
+no_ok x a e = absurd cc
+
+no_err : (x : AllocError) (a : Rest) → told a ≡ not_told x → ⊥
+no_err x a e = absurd cc
+
+module _ {S V : Type 0} (f : Format S V) (q : S) (left : List ℕ) (Grows : Type 0) where
+  -- an error that isn't want of memory tells the rest
+  pub rest_is : (e : PcapError) (said : Rest) → 0 < length left → Refuses Grows (λ n. f.says q left (lacks n)) (λ fault. f.says q left (faulty fault)) e → rest_or_memory_of e ≡ Ok said
+      → IsRest (f.says q) left said
+  rest_is (errors.IncompleteBuffer n) said some refuses e = subst (λ (r : Rest). IsRest (f.says q) left r) (ok_same (Needs n) said e) (refuses, some)
+  rest_is (errors.OutOfMemory x) said some refuses e = absurd (no_ok x said e)
+  rest_is (errors.InvalidField text) said some refuses e = subst (λ (r : Rest). IsRest (f.says q) left r) (ok_same (Refused (errors.InvalidField text)) said e) refuses
+  rest_is (errors.IoError x) said some refuses e = subst (λ (r : Rest). IsRest (f.says q) left r) (ok_same (Refused (errors.IoError x)) said e) refuses
+  rest_is (errors.Utf8Error x) said some refuses e = subst (λ (r : Rest). IsRest (f.says q) left r) (ok_same (Refused (errors.Utf8Error x)) said e) refuses
+  rest_is (errors.FromUtf8Error x) said some refuses e = subst (λ (r : Rest). IsRest (f.says q) left r) (ok_same (Refused (errors.FromUtf8Error x)) said e) refuses
+  rest_is errors.WriterFailed said some refuses e = subst (λ (r : Rest). IsRest (f.says q) left r) (ok_same (Refused errors.WriterFailed) said e) refuses
+
+  -- an error that is want of memory comes where something grows
+  pub memory_grows : (e : PcapError) (x : AllocError) → Refuses Grows (λ n. f.says q left (lacks n)) (λ fault. f.says q left (faulty fault)) e → rest_or_memory_of e ≡ Err x → Grows
+  memory_grows (errors.IncompleteBuffer n) x refuses e = absurd (no_err x (Needs n) e)
+  memory_grows (errors.OutOfMemory y) x refuses e = refuses
+  memory_grows (errors.InvalidField text) x refuses e = absurd (no_err x (Refused (errors.InvalidField text)) e)
+  memory_grows (errors.IoError y) x refuses e = absurd (no_err x (Refused (errors.IoError y)) e)
+  memory_grows (errors.Utf8Error y) x refuses e = absurd (no_err x (Refused (errors.Utf8Error y)) e)
+  memory_grows (errors.FromUtf8Error y) x refuses e = absurd (no_err x (Refused (errors.FromUtf8Error y)) e)
+  memory_grows errors.WriterFailed x refuses e = absurd (no_err x (Refused errors.WriterFailed) e)

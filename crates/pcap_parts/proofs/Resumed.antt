@@ -1,15 +1,14 @@
 -- A parser that is fed with the blocks in force has the same state.
-use Rattle.std.proofs.Common.{◌≡◌, ◌<◌, ℕ, suc, List, [], ◌∷◌, ◌++◌, length, map, refl, sym, ap, subst, ◌∙◌, arith, Bool, true, false}
+use Rattle.std.proofs.Common.{◌≡◌, ℕ, suc, List, [], ◌∷◌, ◌++◌, map, refl, sym, ap, subst, ◌∙◌, arith, Bool, true, false}
 use Rattle.std.specs.Prelude.{All, filter}
 use Rattle.std.specs.List.{AllZip}
 use Rattle.std.proofs.lemmas.List.Elements.{All-filter}
-use Rattle.pcap_core.specs.Answer.{whole, number_in, Verdict}
+use Rattle.pcap_core.specs.Answer.{whole, number_in}
 use Rattle.pcap_core.specs.Format.{Format, Texts, state_after, IsLawful}
 use Rattle.pcap_core.proofs.Formats.{state_push}
-use Rattle.pcap_core.specs.Laws.{ExactlyOne}
 use Rattle.pcap_blocks.specs.SectionHeader.{Section}
 use Rattle.pcap_blocks.specs.InterfaceDescription.{Interface}
-use Rattle.pcap_blocks.specs.ParsedBlock.{Body, SectionBody, InterfaceBody, BodySays}
+use Rattle.pcap_blocks.specs.ParsedBlock.{Body, SectionBody, InterfaceBody}
 use Rattle.pcap_blocks.proofs.OneBody.{body_one}
 use Rattle.pcap_file.specs.Bodies.{SaysOfBody}
 use Rattle.pcap_file.specs.Blocks.{Item, BlockSays, block_format}

@@ -34,6 +34,19 @@ module _ {S V : Type 0} (f : Format S V) where
     pub needed : LastIsNeeded q items s rest at_least
     pub stops : StopsPassing (state_after f q items) s rest at_least said
 
+  -- items are passed so, and lead to this state
+  pub record PassesTo (q reached : S) (s rest : List ℕ) (at_least n : ℕ) (said : Option Rest) : Type 0 where
+    pub passes : Passes q s rest at_least n said
+    pub leads : state_after f q passes.items ≡ reached
+
+  -- items stand at the front of s, and lead to this state, under which the next one has to be kept
+  pub record KeepsNext (Grows : S → List ℕ → Type 0) (q reached : S) (s : List ℕ) : Type 0 where
+    pub items : List V
+    pub left : List ℕ
+    pub texts : Texts f q items s left
+    pub leads : state_after f q items ≡ reached
+    pub grows : Grows reached left
+
   -- a bound of the items of s, which end at `total`: so many items stand before it, and it has this place
   pub record Bound (q : S) (s : List ℕ) (total : ℕ) (cut : Cut) : Type 0 where
     pub items : List V

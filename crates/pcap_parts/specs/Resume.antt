@@ -2,11 +2,11 @@
 use Rattle.std.specs.Prelude.{◌≡◌, ℕ, List, [], ◌∷◌, ◌++◌, ◌⊎◌, ⊤, filter, map, drop}
 use Rattle.pcap_core.specs.declared.errors.PcapError.{PcapError}
 use Rattle.pcap_core.specs.Answer.{whole, lacks, faulty, Refuses}
-use Rattle.pcap_core.specs.Format.{Format, Texts, state_after}
+use Rattle.pcap_core.specs.Format.{Format, state_after}
 use Rattle.pcap_file.specs.Blocks.{Item, block_format, BlockSays, MayGrow}
 use Rattle.pcap_core.specs.declared.common.Endianness.{Endianness}
 use Rattle.pcap_file.specs.Frames.{Framed, FrameText}
-use Rattle.pcap_file.specs.Sections.{is_section, is_interface, LeavesInForce}
+use Rattle.pcap_file.specs.Sections.{is_interface, LeavesInForce}
 use Rattle.pcap_file.specs.State.{State, opening}
 use Rattle.pcap_file.specs.Opening.{OpeningSays}
 use Rattle.pcap_blocks.specs.SectionHeader.{Section}

@@ -34,7 +34,7 @@ pub struct Cuts {
 }
 
 // How many bytes there are from behind so many to the end of the next share. None behind the ends of all shares but the last.
-fn to_next_end(passed: usize, bytes: usize, parts: usize) -> Option<usize>
+pub(crate) fn to_next_end(passed: usize, bytes: usize, parts: usize) -> Option<usize>
     ensures { IsToNextEnd (share_of bytes parts) parts passed result }
 {
     if parts < 2 {

@@ -6,7 +6,13 @@ ghost use Rattle.pcap_file.specs.State.{State, opening};
 ghost use Rattle.pcap_file.specs.Sections.{LeavesInForce};
 ghost use Rattle.pcap_blocks.specs.SectionHeader.{Section};
 ghost use Rattle.pcap_blocks.specs.InterfaceDescription.{Interface};
-ghost use Rattle.pcap_parts.specs.Resume.{Fed, blocks_in_force};
+ghost use Rattle.pcap_core.specs.declared.errors.PcapError.{PcapError};
+ghost use Rattle.pcap_core.specs.Errors.{IsMemory};
+ghost use Rattle.pcap_file.specs.declared.run.NgRun.{NgRun};
+ghost use Rattle.pcap_file.specs.Run.{IsRun as IsNgRun};
+ghost use Rattle.pcap_parts.specs.declared.cut_ng.NgCuts.{NgCuts};
+ghost use Rattle.pcap_parts.specs.NgParts.{IsNgCut, IsNgRunInParts};
+ghost use Rattle.pcap_parts.specs.Resume.{Fed, IsFed, RefusesOne, blocks_in_force};
 ghost use Rattle.std.specs.Prelude.{◌≡◌, ℕ, List, ◌∷◌, ◌++◌, length, map};
 ghost use Rattle.pcap_core.specs.Format.{Front};
 ghost use Rattle.pcap_classic.specs.declared.run.PcapRun.{PcapRun};
@@ -16,7 +22,9 @@ ghost use Rattle.pcap_classic.specs.PacketText.{Captured, packet_limit};
 ghost use Rattle.pcap_classic.specs.Packets.{format_under};
 ghost use Rattle.pcap_parts.specs.declared.cut.Cut.{Cut};
 ghost use Rattle.pcap_parts.specs.Captures.{IsCut, IsRunInParts};
-ghost use Rattle.pcap_parts.specs.Parts.{AreCuts, InParts};
+ghost use Rattle.pcap_parts.specs.PartRuns.{IsPartRun, packets_of};
+ghost use Rattle.pcap_parts.specs.Parts.{AreCuts, InParts, joined, part_bytes};
+ghost use Rattle.std.specs.List.{AllZip};
 
 /// Where the bytes behind a header are cut at bounds of packets, their front is the fronts of the parts, one behind the other.
 pub fn packets_are_in_parts()
@@ -37,6 +45,12 @@ pub fn run_is_in_parts()
         IsRunInParts run header cuts bytes }
 {}
 
+/// The packets of the run over a classic capture are those of the runs over its parts, one behind the other.
+pub fn part_runs_are_the_run()
+    ensures { (run : PcapRun) (header : PcapHeader) (cuts : List Cut) (bytes : List ℕ) (runs : List PcapRun) → IsRun run bytes → IsCut header cuts bytes →
+        AllZip (IsPartRun header) (part_bytes bytes cuts) runs → packets_of run ≡ joined (map packets_of runs) }
+{}
+
 /// A parser that is fed with the last section header before a bound of blocks, and then with the interface descriptions after it,
 /// has the state that the blocks before the bound lead to.
 pub fn resumed_parser_has_the_same_state()
@@ -45,4 +59,16 @@ pub fn resumed_parser_has_the_same_state()
         (header : Item) (others : List Item) (slices : List (List ℕ)) → Fed block_format opening (header ∷ others) slices →
         map (λ (item : Item). item.block) (header ∷ others) ≡ blocks_in_force (map (λ (item : Item). item.block) (first ∷ items)) section interfaces x →
         state_after block_format opening (header ∷ others) ≡ state_after block_format opening (first ∷ items) }
+{}
+
+/// The run over a PcapNg capture is the runs over its parts, each from the state to which the parts before it lead, and its rest
+/// is that of the last part.
+pub fn ng_run_is_in_parts()
+    ensures { (run : NgRun) (cuts : NgCuts) (bytes : List ℕ) → IsNgRun run bytes → IsNgCut cuts bytes → IsNgRunInParts run cuts.cuts.items bytes }
+{}
+
+/// Where a parser can be fed from slices, each begins with a whole block, so that making it again is refused for want of memory
+/// alone: `resume` asks for no bytes at the places of a cut.
+pub fn resuming_asks_for_no_bytes()
+    ensures { (s : List ℕ) (slices : List (List ℕ)) (q : State) (error : PcapError) → IsFed s slices q → RefusesOne s slices error → IsMemory error }
 {}

@@ -3,10 +3,17 @@
 #![tactic(auto)]
 
 mod again;
+mod blocks;
 mod cut;
+mod cut_ng;
 pub mod laws;
+mod part;
 mod skip;
+mod walk;
 
 pub use again::resume;
+pub use blocks::skip_blocks;
 pub use cut::{Cut, Cuts, cut_pcap};
+pub use cut_ng::{NgCut, NgCuts, cut_pcapng};
+pub use part::{parse_ng_part, parse_part};
 pub use skip::{Passed, skip_packets};

@@ -1,7 +1,7 @@
 //! The captures that are cut.
 
 use std::alloc::{AllocError, Global};
-use test_support::captures::{LITTLE_HEAD, front};
+use test_support::captures::{LITTLE_HEAD, SECTION, SECTIONS, back, front};
 
 /// How many bytes each packet has. Its bytes are its place in this list, and its time so many seconds.
 pub(crate) const LENGTHS: [u8; 5] = [3, 0, 5, 1, 10];
@@ -26,5 +26,49 @@ pub(crate) fn refused_fourth(alloc: Global) -> Result<Vec<u8>, AllocError> {
     if let Some(byte) = bytes.get_mut(91) {
         *byte = 1;
     }
+    Ok(bytes)
+}
+
+/// How long each block of `three_sections` is, the first section header among them.
+pub(crate) const BLOCK_LENGTHS: [u32; 14] = [
+    28, 20, 24, 16, 20, 32, 28, 20, 20, 40, 28, 12, 20, 16,
+];
+
+// A number below 256 in either order.
+fn number(is_big: bool, low: u8) -> [u8; 4] {
+    if is_big {
+        [0, 0, 0, low]
+    } else {
+        [low, 0, 0, 0]
+    }
+}
+
+// Puts a block of no known type, with a body of zeros.
+fn put_block(bytes: &mut Vec<u8>, is_big: bool, len: u8) -> Result<(), AllocError> {
+    bytes.extend_from_slice(&number(is_big, 0x77))?;
+    bytes.extend_from_slice(&number(is_big, len))?;
+    for k in 12..len {
+        bytes.push(0)?;
+    }
+    bytes.extend_from_slice(&number(is_big, len))
+}
+
+/// A big-endian section with two interfaces, a little-endian one with one, and a big-endian one with one: its blocks begin at
+/// 0, 28, 48, 72, 88, 108, 140, 168, 188, 208, 248, 276, 288 and 308, and it ends at 324. The section headers are at 0, 140
+/// and 248, and the interface descriptions at 28, 88, 168 and 288.
+pub(crate) fn three_sections(alloc: Global) -> Result<Vec<u8>, AllocError> {
+    let big_interface = back(front(&SECTIONS, 48), 28);
+    let mut bytes = Vec::from_slice(alloc, front(&SECTIONS, 48))?;
+    put_block(&mut bytes, true, 24)?;
+    put_block(&mut bytes, true, 16)?;
+    bytes.extend_from_slice(big_interface)?;
+    put_block(&mut bytes, true, 32)?;
+    bytes.extend_from_slice(back(&SECTIONS, 48))?;
+    put_block(&mut bytes, false, 20)?;
+    put_block(&mut bytes, false, 40)?;
+    bytes.extend_from_slice(&SECTION)?;
+    put_block(&mut bytes, true, 12)?;
+    bytes.extend_from_slice(big_interface)?;
+    put_block(&mut bytes, true, 16)?;
     Ok(bytes)
 }

@@ -6,6 +6,10 @@ mod captures;
 #[cfg(test)]
 mod cutting;
 #[cfg(test)]
+mod cutting_blocks;
+#[cfg(test)]
 mod resuming;
+#[cfg(test)]
+mod running;
 #[cfg(test)]
 mod skipping;

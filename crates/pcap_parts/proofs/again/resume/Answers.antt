@@ -1,11 +1,11 @@
-use Rattle.std.proofs.Common.{◌≡◌, ℕ, List, [], ◌∷◌, ◌++◌, length, drop, map, refl, sym, ap, subst, ◌∙◌, append_assoc, inr}
+use Rattle.std.proofs.Common.{◌≡◌, ℕ, List, [], ◌∷◌, ◌++◌, drop, refl, sym, ap, subst, ◌∙◌, append_assoc, inr}
 use Rattle.std.proofs.lemmas.Result.{err_from_is_err_and}
 use Rattle.std.proofs.lemmas.List.{map-append}
 use Rattle.pcap_core.specs.Answer.{whole, lacks, faulty, Refuses}
 use Rattle.pcap_file.specs.Blocks.{BlockSays, MayGrow, item_of}
 use Rattle.pcap_file.specs.Opening.{OpeningSays}
 use Rattle.pcap_file.specs.Parser.{state_of}
-use Rattle.pcap_parts.specs.Resume.{IsFed, RefusesOne, RefusesNext, from_places}
+use Rattle.pcap_parts.specs.Resume.{IsFed, RefusesNext, from_places}
 use Rattle.pcap_parts.proofs.Resumed.{fed_first, fed_more}
 use Rattle.pcap_parts.proofs.again.resume.Goals as goal
 

@@ -1,4 +1,4 @@
-use Rattle.std.proofs.Common.{rules, ◌≡◌, ◌++◌, length, arith}
+use Rattle.std.proofs.Common.{rules, ◌≡◌, ◌++◌, length}
 use Rattle.pcap_classic.specs.PacketText.{Captured, PacketText, packet_limit}
 use Rattle.pcap_parts.proofs.skip.after_packet.Goals as goal
 

@@ -1,4 +1,4 @@
-use Rattle.std.proofs.Common.{◌≡◌, ◌<◌, ◌+◌, ◌-◌, ◌∷◌, [], ◌++◌, length, arith}
+use Rattle.std.proofs.Common.{◌<◌, ◌+◌, ◌∷◌, [], ◌++◌, length, arith}
 use Rattle.pcap_core.specs.Answer.{whole}
 use Rattle.pcap_core.specs.Format.{state_after}
 use Rattle.pcap_classic.specs.PacketText.{packet_limit}

@@ -1,0 +1,145 @@
+use Rattle.std.proofs.Common.{◌≡◌, ◌≤◌, ◌∷◌, [], length, drop, refl, sym, subst, arith, rules}
+use Rattle.std.specs.Prelude.{Option, None, Some}
+use Rattle.std.proofs.lemmas.List.{map-append}
+use Rattle.pcap_core.specs.declared.rest.Rest.{Rest}
+use Rattle.pcap_core.specs.Format.{state_after}
+use Rattle.pcap_file.specs.Blocks.{block_format}
+use Rattle.pcap_file.specs.Parser.{state_of}
+use Rattle.pcap_file.specs.State.{State}
+use Rattle.pcap_file.proofs.BlockFormat.{blocks_lawful}
+use Rattle.pcap_parts.specs.declared.cut_ng.NgCut.{NgCut}
+use Rattle.pcap_parts.specs.NgParts.{IsWalked, ResumesAt, bounds_of}
+use Rattle.pcap_parts.specs.Parts.{Passes}
+use Rattle.pcap_parts.proofs.CutSteps.{cuts_begin, cuts_end, cuts_end_with_bytes, cuts_enough, cuts_go_on}
+use Rattle.pcap_parts.proofs.Cutting.{each_push}
+use Rattle.pcap_parts.proofs.Walking.{all_resume_further, place_of, resumes_here, walked_state}
+use Rattle.pcap_parts.proofs.cut_ng.cut_blocks.Goals as goal
+
+pub overflow_sub-bytes : goal.overflow_sub-bytes
+overflow_sub-bytes c = (place_of c.args.bytes.now c.args.slice.now c.requires.walked.items c.requires.walked.texts).1
+
+pub loop-wanted-init : goal.loop-wanted-init
+loop-wanted-init c =
+    let bytes = c.args.bytes.now in
+    let s = c.args.slice.now in
+    let walk = c.args.walk.now in
+    let q = state_of walk.parser in
+    let cut = c.cut_at.result in
+    let fits = (place_of bytes s c.requires.walked.items c.requires.walked.texts).1 in
+    let walked : IsWalked bytes s q cut.header (drop cut.first walk.interfaces.items) = rw (c.cut_at.ensures.header, c.cut_at.ensures.interfaces.0) c.requires.walked in
+    let here : ResumesAt bytes walk.interfaces.items q s cut =
+    resumes_here bytes q s s q walk.interfaces.items [] walk.header (drop walk.first walk.interfaces.items) cut c.requires.walked walked refl (sym c.cut_at.ensures.at.1)
+    (omega (arith, c.cut_at.ensures.at.0, fits)) (omega (arith, c.cut_at.ensures.interfaces.0, c.requires.within)) (omega (arith, c.cut_at.ensures.interfaces.0, c.cut_at.ensures.interfaces.1)) in
+    record {
+      so_far = rw (c.in_ok-push.ensures.items, c.new-cuts.ensures.items) (cuts_begin block_format blocks_lawful q s (length bytes) c.args.parts fits cut.at c.cut_at.ensures.at.0 c.cut_at.ensures.at.1);
+      walked = c.requires.walked;
+      inside = c.requires.within;
+      resume = rw (c.in_ok-push.ensures.items, c.new-cuts.ensures.items) (here, tt);
+    }
+
+pub returns-in-Some-rest-clause-fair : goal.returns-in-Some-rest-clause-fair
+returns-in-Some-rest-clause-fair c =
+    let bytes = c.args.bytes.now in
+    let s = c.args.slice.now in
+    let walk = c.args.walk.now in
+    let q = state_of walk.parser in
+    let inv = c.loop-wanted.invariant in
+    let items = inv.so_far.cutting.items in
+    let now = c.loop-wanted.walk in
+    let here = state_of now.parser in
+    let left = c.loop-wanted.left.now in
+    let passed = c.in_ok-items.field-0 in
+    let tells = c.in_ok-items.ensures in
+    let after = passed.after.now in
+    let fits = (place_of bytes s c.requires.walked.items c.requires.walked.texts).1 in
+    let state : state_after block_format q items ≡ here =
+    walked_state bytes s left q here walk.header now.header (drop walk.first walk.interfaces.items) (drop now.first now.interfaces.items) items c.requires.walked inv.so_far.cutting.texts inv.walked in
+    let told : Passes block_format (state_after block_format q items) left after c.in-Some.wanted passed.items passed.rest =
+    subst (λ (p : State). Passes block_format p left after c.in-Some.wanted passed.items passed.rest) (sym state) tells.passes in
+    let p : Passes block_format (state_after block_format q items) left after c.in-Some.wanted passed.items (Some c.in-Some-rest.field-0) =
+    subst (λ (r : Option Rest). Passes block_format (state_after block_format q items) left after c.in-Some.wanted passed.items r) c.in-Some-rest.is told in
+    cuts_end block_format blocks_lawful q s (length bytes) c.args.parts fits left after c.loop-wanted.before c.in-Some.wanted passed.items (bounds_of c.loop-wanted.cuts.items) c.in-Some-rest.field-0 inv.so_far
+    c.in-Some.ensures p
+
+pub returns-in-Some-rest-clause-resume : goal.returns-in-Some-rest-clause-resume
+returns-in-Some-rest-clause-resume c =
+    all_resume_further c.args.bytes.now (state_of c.args.walk.now.parser) c.args.slice.now c.loop-wanted.walk.interfaces.items c.skip.new.self.interfaces.items c.loop-wanted.cuts.items c.skip.ensures.goes_on
+    c.loop-wanted.invariant.resume
+
+pub returns-then-is_empty-clause-fair : goal.returns-then-is_empty-clause-fair
+returns-then-is_empty-clause-fair c =
+    let bytes = c.args.bytes.now in
+    let s = c.args.slice.now in
+    let walk = c.args.walk.now in
+    let q = state_of walk.parser in
+    let inv = c.loop-wanted.invariant in
+    let items = inv.so_far.cutting.items in
+    let now = c.loop-wanted.walk in
+    let here = state_of now.parser in
+    let left = c.loop-wanted.left.now in
+    let passed = c.in_ok-items.field-0 in
+    let tells = c.in_ok-items.ensures in
+    let after = passed.after.now in
+    let fits = (place_of bytes s c.requires.walked.items c.requires.walked.texts).1 in
+    let state : state_after block_format q items ≡ here =
+    walked_state bytes s left q here walk.header now.header (drop walk.first walk.interfaces.items) (drop now.first now.interfaces.items) items c.requires.walked inv.so_far.cutting.texts inv.walked in
+    let told : Passes block_format (state_after block_format q items) left after c.in-Some.wanted passed.items passed.rest =
+    subst (λ (p : State). Passes block_format p left after c.in-Some.wanted passed.items passed.rest) (sym state) tells.passes in
+    let empty : length after ≡ 0 = search rules in
+    let p : Passes block_format (state_after block_format q items) left after c.in-Some.wanted passed.items None =
+    subst (λ (r : Option Rest). Passes block_format (state_after block_format q items) left after c.in-Some.wanted passed.items r) c.in-None.is told in
+    cuts_end_with_bytes block_format blocks_lawful q s (length bytes) c.args.parts fits left after c.loop-wanted.before c.in-Some.wanted passed.items (bounds_of c.loop-wanted.cuts.items) inv.so_far
+    c.in-Some.ensures p empty
+
+pub returns-then-is_empty-clause-resume : goal.returns-then-is_empty-clause-resume
+returns-then-is_empty-clause-resume c =
+    all_resume_further c.args.bytes.now (state_of c.args.walk.now.parser) c.args.slice.now c.loop-wanted.walk.interfaces.items c.skip.new.self.interfaces.items c.loop-wanted.cuts.items c.skip.ensures.goes_on
+    c.loop-wanted.invariant.resume
+
+pub loop-wanted-preserved : goal.loop-wanted-preserved
+loop-wanted-preserved c =
+    let bytes = c.args.bytes.now in
+    let s = c.args.slice.now in
+    let walk = c.args.walk.now in
+    let q = state_of walk.parser in
+    let inv = c.loop-wanted.invariant in
+    let items = inv.so_far.cutting.items in
+    let now = c.loop-wanted.walk in
+    let here = state_of now.parser in
+    let left = c.loop-wanted.left.now in
+    let passed = c.in_ok-items.field-0 in
+    let tells = c.in_ok-items.ensures in
+    let after = passed.after.now in
+    let fits = (place_of bytes s c.requires.walked.items c.requires.walked.texts).1 in
+    let state : state_after block_format q items ≡ here =
+    walked_state bytes s left q here walk.header now.header (drop walk.first walk.interfaces.items) (drop now.first now.interfaces.items) items c.requires.walked inv.so_far.cutting.texts inv.walked in
+    let told : Passes block_format (state_after block_format q items) left after c.in-Some.wanted passed.items passed.rest =
+    subst (λ (p : State). Passes block_format p left after c.in-Some.wanted passed.items passed.rest) (sym state) tells.passes in
+    let p : Passes block_format (state_after block_format q items) left after c.in-Some.wanted passed.items None =
+    subst (λ (r : Option Rest). Passes block_format (state_after block_format q items) left after c.in-Some.wanted passed.items r) c.in-None.is told in
+    let cuts = c.loop-wanted.cuts.items in
+    let x = c.cut_at-in-None.result in
+    let at = c.cut_at-in-None.ensures in
+    let then = c.skip.new.self in
+    let walked : IsWalked bytes after (state_of then.parser) then.header (drop then.first then.interfaces.items) = rw c.in-None.is at tells.walked in
+    let inside : then.first ≤ length then.interfaces.items = rw c.in-None.is at tells.within in
+    let more = cuts_go_on block_format blocks_lawful q s (length bytes) c.args.parts fits left after c.loop-wanted.before c.in-Some.wanted passed.items (bounds_of cuts) x.at inv.so_far c.in-Some.ensures p
+    tells.few at.at.0 at.at.1 in
+    let there : IsWalked bytes after (state_of then.parser) x.header (drop x.first then.interfaces.items) = rw (at.header, at.interfaces.0) walked in
+    let one : ResumesAt bytes then.interfaces.items q s x =
+    resumes_here bytes q s after (state_of then.parser) then.interfaces.items more.cutting.items walk.header (drop walk.first walk.interfaces.items) x c.requires.walked there more.cutting.texts (omega (arith, more.cutting.count, at.at.1))
+    (omega (arith, at.at.0, (place_of bytes after walked.items walked.texts).1)) (omega (arith, at.interfaces.0, inside)) (omega (arith, at.interfaces.0, at.interfaces.1)) in
+    let before = all_resume_further bytes q s now.interfaces.items then.interfaces.items cuts c.skip.ensures.goes_on inv.resume in
+    record {
+      so_far = rw (c.in_ok-push-in-None.ensures.items, map-append (λ (k : NgCut). k.at) cuts (x ∷ [])) more;
+      walked = walked;
+      inside = inside;
+      resume = rw c.in_ok-push-in-None.ensures.items (each_push (ResumesAt bytes then.interfaces.items q s) cuts x before one);
+    }
+
+pub returns-clause-fair : goal.returns-clause-fair
+returns-clause-fair c =
+    let bytes = c.args.bytes.now in
+    let fits = (place_of bytes c.args.slice.now c.requires.walked.items c.requires.walked.texts).1 in
+    cuts_enough block_format blocks_lawful (state_of c.args.walk.now.parser) c.args.slice.now (length bytes) c.args.parts fits c.loop-wanted.left.now c.loop-wanted.before (bounds_of c.loop-wanted.cuts.items)
+    c.loop-wanted.invariant.so_far c.in_default.ensures

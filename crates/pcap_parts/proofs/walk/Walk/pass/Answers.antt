@@ -1,0 +1,47 @@
+use Rattle.std.proofs.Common.{◌≡◌, ◌-◌, ◌∷◌, [], ℕ, length, drop, arith, rules, subst, sym}
+use Rattle.pcap_core.specs.Bytes.{IsBytes}
+use Rattle.pcap_file.specs.Blocks.{item_of}
+use Rattle.pcap_file.specs.Parser.{interfaces_in_force, section_in_force, state_of}
+use Rattle.pcap_parts.specs.NgParts.{IsWalked}
+use Rattle.pcap_parts.proofs.Walking.{drop_all, drop_push, goes_nowhere, not_kept, other_stays, place_of, slice_bytes, walked_interface, walked_other, walked_section}
+use Rattle.pcap_parts.proofs.walk.Walk.pass.Goals as goal
+
+pub overflow_sub-place : goal.overflow_sub-place
+overflow_sub-place c = (place_of c.args.bytes.now c.args.left.now c.requires.walked.items c.requires.walked.texts).1
+
+pub returns-in-SectionHeader-clause-walked : goal.returns-in-SectionHeader-clause-walked
+returns-in-SectionHeader-clause-walked c =
+    let self = c.args.self.now in
+    let places = self.interfaces.items in
+    let item = item_of (state_of c.next_block.new.self) c.in_ok-after.block in
+    let fits : IsBytes c.args.left.now = slice_bytes c.args.left.now (λ i. omega (arith, c.type_inv.left i)) in
+    let all : c.len-self.result ≡ length places = search rules in
+    let here = length c.args.bytes.now - length c.args.left.now in
+    let walked : IsWalked c.args.bytes.now c.in_ok-after.after.now (state_of c.next_block.new.self) here (drop (length places) places) =
+    rw (drop_all places) (walked_section c.args.bytes.now c.args.left.now c.in_ok-after.after.now (state_of self.parser) self.header (drop self.first places) item c.requires.walked c.in_ok-after.ensures.tells fits c.in-SectionHeader.is) in
+    subst (λ (n : ℕ). IsWalked c.args.bytes.now c.in_ok-after.after.now (state_of c.next_block.new.self) here (drop n places)) (sym all) walked
+
+pub returns-in-SectionHeader-clause-goes_on : goal.returns-in-SectionHeader-clause-goes_on
+returns-in-SectionHeader-clause-goes_on c = goes_nowhere c.args.self.now.interfaces.items
+
+pub returns-in-InterfaceDescription-clause-walked : goal.returns-in-InterfaceDescription-clause-walked
+returns-in-InterfaceDescription-clause-walked c =
+    let self = c.args.self.now in
+    let places = self.interfaces.items in
+    let item = item_of (state_of c.next_block.new.self) c.in_ok-after.block in
+    let place = length c.args.bytes.now - length c.args.left.now in
+    rw (c.in_ok-push-in-InterfaceDescription.ensures.items, drop_push self.first places (place ∷ []) c.requires.within) (walked_interface c.args.bytes.now c.args.left.now c.in_ok-after.after.now (state_of self.parser)
+    self.header (drop self.first places) item c.requires.walked c.in_ok-after.ensures.tells)
+
+pub returns-clause-walked : goal.returns-clause-walked
+returns-clause-walked c =
+    let self = c.args.self.now in
+    let item = item_of (state_of c.next_block.new.self) c.in_ok-after.block in
+    let left = c.args.left.now in
+    let after = c.in_ok-after.after.now in
+    let same = other_stays (section_in_force self.parser) (interfaces_in_force self.parser) item left after
+    (not_kept c.in_ok-after.block.type_ c.in_default.not-SectionHeader c.in_default.not-InterfaceDescription) c.in_ok-after.ensures.tells in
+    walked_other c.args.bytes.now left after (state_of self.parser) self.header (drop self.first self.interfaces.items) item c.requires.walked c.in_ok-after.ensures.tells same
+
+pub returns-clause-goes_on : goal.returns-clause-goes_on
+returns-clause-goes_on c = goes_nowhere c.args.self.now.interfaces.items

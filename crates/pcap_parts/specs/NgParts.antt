@@ -1,0 +1,79 @@
+-- A PcapNg capture cut into parts: where its blocks are walked over, and what is in force at each cut.
+use Rattle.std.specs.Prelude.{◌≡◌, ◌≤◌, ◌+◌, ◌-◌, ℕ, List, ◌++◌, length, map, take, drop, Result, Ok, Err}
+use Rattle.std.specs.List.{AllByRecursion}
+use Rattle.std.specs.declared.alloc.AllocError.{AllocError}
+use Rattle.pcap_core.specs.declared.errors.PcapError.{PcapError}
+use Rattle.pcap_core.specs.declared.errors.PcapError.TheVariants.{IncompleteBuffer, OutOfMemory}
+use Rattle.pcap_core.specs.declared.rest.Rest.{Rest}
+use Rattle.pcap_core.specs.declared.rest.Rest.TheVariants.{Needs, Refused}
+use Rattle.pcap_core.specs.Answer.{whole}
+use Rattle.pcap_core.specs.Format.{Texts, state_after}
+use Rattle.pcap_core.specs.Run.{IsRest}
+use Rattle.pcap_file.specs.declared.run.NgRun.{NgRun}
+use Rattle.pcap_file.specs.Blocks.{Item, block_format}
+use Rattle.pcap_file.specs.Frames.{framed_of}
+use Rattle.pcap_file.specs.Opening.{OpeningSays}
+use Rattle.pcap_file.specs.Parser.{state_of}
+use Rattle.pcap_file.specs.State.{State, opening}
+use Rattle.pcap_parts.specs.declared.cut.Cut.{Cut}
+use Rattle.pcap_parts.specs.declared.cut_ng.NgCut.{NgCut}
+use Rattle.pcap_parts.specs.declared.cut_ng.NgCuts.{NgCuts}
+use Rattle.pcap_parts.specs.Parts.{Bound, AreCuts, AreFair, InParts}
+use Rattle.pcap_parts.specs.Resume.{IsFed, from_places}
+
+-- the rest at which an error came, or want of memory
+abbrev pub rest_or_memory_of : PcapError → Result Rest AllocError
+rest_or_memory_of (IncompleteBuffer n) = Ok (Needs n)
+rest_or_memory_of (OutOfMemory e) = Err e
+rest_or_memory_of error = Ok (Refused error)
+
+-- blocks before what is left lead to this state, and so do those alone that stand at the place of a header and at these places
+pub record IsWalked (bytes left : List ℕ) (q : State) (header : ℕ) (places : List ℕ) : Type 0 where
+  pub items : List Item
+  pub texts : Texts block_format opening items bytes left
+  pub leads : state_after block_format opening items ≡ q
+  pub fed : IsFed (drop header bytes) (from_places bytes places) q
+
+-- a list goes on behind another
+abbrev pub GoesOn : List ℕ → List ℕ → Type 0
+GoesOn before now = (more : List ℕ) × (now ≡ before ++ more)
+
+-- of the places of all interfaces, those that are in force at a cut
+abbrev pub places_at : List ℕ → NgCut → List ℕ
+places_at places cut = take cut.interfaces (drop cut.first places)
+
+-- the cut is a bound of the blocks of s, and a parser that is fed at its places has the state to which the blocks before it lead
+pub record ResumesAt (bytes places : List ℕ) (q : State) (s : List ℕ) (cut : NgCut) : Type 0 where
+  pub bound : Bound block_format q s (length bytes) cut.at
+  pub within : cut.first + cut.interfaces ≤ length places
+  pub fed : IsFed (drop cut.header bytes) (from_places bytes (places_at places cut)) (state_after block_format q bound.items)
+
+-- where parts of a PcapNg capture begin
+abbrev pub bounds_of : List NgCut → List Cut
+bounds_of cuts = map (λ (c : NgCut). c.at) cuts
+
+-- these cuts are bounds of the blocks behind the first section header, and a parser can be made again at each
+pub record IsNgCut (cuts : NgCuts) (bytes : List ℕ) : Type 0 where
+  pub first : State
+  pub after : List ℕ
+  pub opens : OpeningSays bytes (whole first after)
+  pub cuts_are : AreCuts block_format first after (length bytes - length after) (length bytes) (bounds_of cuts.cuts.items)
+  pub resume : AllByRecursion (ResumesAt bytes cuts.interfaces.items first after) cuts.cuts.items
+
+-- the blocks behind the first section header are cut into so many fair parts, the first of which begins behind that header
+pub record IsNgCutFairly (parts : ℕ) (cuts : List NgCut) (bytes : List ℕ) : Type 0 where
+  pub first : State
+  pub after : List ℕ
+  pub opens : OpeningSays bytes (whole first after)
+  pub fair : AreFair block_format first after (length bytes) (length bytes - length after) parts (bounds_of cuts)
+
+-- the blocks of a run are those of the parts joined, the last part leads to its state, and what is said of its rest is said of the
+-- last part's
+pub record IsNgRunInParts (run : NgRun) (cuts : List NgCut) (bytes : List ℕ) : Type 0 where
+  pub first : State
+  pub items : List Item
+  pub left : List ℕ
+  pub blocks : map (λ (item : Item). item.block) items ≡ map framed_of run.blocks.items
+  pub state : state_after block_format first items ≡ state_of run.parser
+  pub rest : IsRest (block_format.says (state_of run.parser)) left run.rest
+  pub parts : InParts block_format first items left bytes (bounds_of cuts)

@@ -1,0 +1,63 @@
+//! Whole blocks that are passed over.
+
+ghost use Rattle.pcap_file.specs.Blocks.{MayGrow, block_format};
+ghost use Rattle.pcap_file.specs.Parser.{state_of};
+ghost use Rattle.pcap_parts.specs.NgParts.{rest_or_memory_of};
+ghost use Rattle.pcap_parts.specs.Parts.{KeepsNext, PassesTo};
+ghost use Rattle.std.specs.Prelude.{◌≡◌, ◌≤◌, ◌+◌, length, IfOk, OnErr};
+
+use crate::skip::Passed;
+use pcap_core::{PcapError, Rest};
+use pcap_file::PcapNgParser;
+use std::alloc::AllocError;
+
+// The rest at which the parser gave this error. Want of memory is no rest.
+pub(crate) fn rest_or_memory(error: PcapError) -> Result<Rest, AllocError>
+    ensures { result ≡ rest_or_memory_of error }
+{
+    match error {
+        PcapError::IncompleteBuffer(n) => Ok(Rest::Needs(n)),
+        PcapError::OutOfMemory(e) => Err(e),
+        error => Ok(Rest::Refused(error)),
+    }
+}
+
+/// Passes over whole blocks at the front of a slice, up to the first bound of blocks at which at least so many bytes are passed,
+/// or over all that stand there where these are fewer bytes. The parser follows them: only the bodies of section headers and
+/// interface descriptions are read. `rest` says why no block follows, in the words of `run::parse_pcapng`.
+///
+/// The error comes where a section or an interface can't be kept. The parser then stands before that block.
+pub fn skip_blocks<'a>(
+    parser: &mut PcapNgParser,
+    slice: &'a [u8],
+    at_least: usize,
+) -> Result<Passed<'a>, AllocError>
+    ensures passes { IfOk result (λ x. PassesTo block_format (state_of parser.old) (state_of parser.new) slice.now x.after.now at_least x.items x.rest) }
+    ensures few { IfOk result (λ x. x.items + length x.after.now ≤ length slice.now) }
+    ensures memory { OnErr result (KeepsNext block_format MayGrow (state_of parser.old) (state_of parser.new) slice.now) }
+{
+    let last = slice.len().saturating_sub(at_least);
+    let mut items = 0;
+    let mut after = slice;
+    while after.len() > last {
+        match parser.next_block(after) {
+            Ok((next, block)) => {
+                after = next;
+                items += 1;
+            }
+            Err(error) => {
+                return Ok(Passed {
+                    items,
+                    after,
+                    rest: Some(rest_or_memory(error)?),
+                });
+            }
+        }
+    }
+    let rest = if at_least > slice.len() {
+        Some(Rest::Clean)
+    } else {
+        None
+    };
+    Ok(Passed { items, after, rest })
+}

@@ -1,0 +1,128 @@
+//! Places at which a PcapNg capture can be cut into parts.
+
+ghost use Rattle.pcap_core.specs.Answer.{Refuses, lacks, faulty};
+ghost use Rattle.pcap_file.specs.Blocks.{block_format};
+ghost use Rattle.pcap_file.specs.Opening.{OpeningSays};
+ghost use Rattle.pcap_file.specs.Parser.{state_of};
+ghost use Rattle.pcap_parts.specs.NgParts.{IsNgCut, IsNgCutFairly, IsWalked, ResumesAt, bounds_of, places_at};
+ghost use Rattle.pcap_parts.specs.Parts.{AreCuts, AreFair};
+ghost use Rattle.std.specs.List.{AllByRecursion};
+ghost use Rattle.std.specs.Prelude.{◌≡◌, ◌≤◌, ◌-◌, ⊤, length, drop, IfOk, IfErr};
+
+use crate::cut::{Cut, to_next_end};
+use crate::skip::Passed;
+use crate::walk::Walk;
+use pcap_core::ResultParsing;
+use pcap_file::PcapNgParser;
+use std::alloc::{AllocError, Global};
+
+/// Where a part of a PcapNg capture begins, and what is in force there.
+#[derive(Clone, Copy, Debug)]
+pub struct NgCut {
+    /// Where it begins. Blocks are counted from behind the first section header.
+    pub at: Cut,
+    /// How many bytes of the capture stand before the section header in force.
+    pub header: usize,
+    /// How many places of interfaces, of those of the whole capture, stand before those that are in force.
+    pub first: usize,
+    /// How many interfaces are in force.
+    pub interfaces: usize,
+}
+
+/// Where the parts of a PcapNg capture begin, and the places of its interfaces.
+#[derive(Debug, Drop)]
+pub struct NgCuts {
+    /// Where each part begins, the first one behind the first section header. A part ends where the next one begins, and the
+    /// last one with the bytes.
+    pub cuts: Vec<NgCut>,
+    /// How many bytes of the capture stand before each interface description, in order, up to the last cut at least.
+    pub interfaces: Vec<usize>,
+}
+
+impl NgCuts {
+    /// The places of the interface descriptions in force at a cut, in order, as `resume` takes them.
+    pub fn interfaces_at(&self, cut: &NgCut) -> &[usize]
+        ensures { result.now ≡ places_at self.now.interfaces.items cut.now }
+    {
+        let places = self.interfaces.as_slice();
+        let from = &places[cut.first.min(places.len())..];
+        &from[..cut.interfaces.min(from.len())]
+    }
+}
+
+// A cut where a walk stands.
+fn cut_at(walk: &Walk, offset: usize, before: usize) -> NgCut
+    requires { walk.now.first ≤ length walk.now.interfaces.items }
+    ensures at { (result.at.offset ≡ offset) × (result.at.before ≡ before) }
+    ensures header { result.header ≡ walk.now.header }
+    ensures interfaces { (result.first ≡ walk.now.first) × (result.interfaces ≡ length walk.now.interfaces.items - walk.now.first) }
+{
+    NgCut {
+        at: Cut { offset, before },
+        header: walk.header,
+        first: walk.first,
+        interfaces: walk.interfaces.len() - walk.first,
+    }
+}
+
+// Where the parts of the blocks behind the first section header begin.
+fn cut_blocks(
+    alloc: Global,
+    bytes: &[u8],
+    walk: &mut Walk,
+    slice: &[u8],
+    parts: usize,
+) -> Result<Vec<NgCut>, AllocError>
+    requires walked { IsWalked bytes.now slice.now (state_of walk.old.parser) walk.old.header (drop walk.old.first walk.old.interfaces.items) }
+    requires within { walk.old.first ≤ length walk.old.interfaces.items }
+    ensures cuts { IfOk result (λ cuts. AreCuts block_format (state_of walk.old.parser) slice.now (length bytes.now - length slice.now) (length bytes.now) (bounds_of cuts.items)) }
+    ensures fair { IfOk result (λ cuts. AreFair block_format (state_of walk.old.parser) slice.now (length bytes.now) (length bytes.now - length slice.now) parts (bounds_of cuts.items)) }
+    ensures resume { IfOk result (λ cuts. AllByRecursion (ResumesAt bytes.now walk.new.interfaces.items (state_of walk.old.parser) slice.now) cuts.items) }
+{
+    let mut cuts = Vec::new(alloc);
+    cuts.push(cut_at(walk, bytes.len() - slice.len(), 0))?;
+    let mut before = 0;
+    let mut left = slice;
+    while let Some(wanted) = to_next_end(slice.len() - left.len(), slice.len(), parts) {
+        let Passed { items, after, rest } = walk.skip(bytes, left, wanted)?;
+        match rest {
+            Some(_) => return Ok(cuts),
+            None => {
+                if after.is_empty() {
+                    return Ok(cuts);
+                }
+                before += items;
+                left = after;
+                cuts.push(cut_at(walk, bytes.len() - left.len(), before))?;
+            }
+        }
+    }
+    Ok(cuts)
+}
+
+/// Where a PcapNg capture can be cut into so many parts of equal length, but for less than a block each, so that no block is
+/// torn, and where what is in force at each cut stands.
+///
+/// The bytes behind the first section header are shared as `cut_pcap` shares those behind a capture's header. `resume` makes
+/// the parser of each part again, from the places that the cut has. Each block but those of the last part is passed over
+/// once, and only the bodies of section headers and interface descriptions are read.
+///
+/// The errors are those of `PcapNgParser::new`, and `OutOfMemory` where the cuts, the places, or what is in force can't be kept.
+pub fn cut_pcapng(alloc: Global, bytes: &[u8], parts: usize) -> ResultParsing<NgCuts>
+    ensures cut { IfOk result (λ cuts. IsNgCut cuts bytes.now) }
+    ensures fair { IfOk result (λ cuts. IsNgCutFairly parts cuts.cuts.items bytes.now) }
+    ensures refused { IfErr result (Refuses ⊤ (λ n. OpeningSays bytes.now (lacks n)) (λ fault. OpeningSays bytes.now (faulty fault))) }
+{
+    let (after, parser) = PcapNgParser::new(alloc, bytes)?;
+    let mut walk = Walk {
+        parser,
+        header: 0,
+        interfaces: Vec::new(alloc),
+        first: 0,
+    };
+    let cuts = cut_blocks(alloc, bytes, &mut walk, after, parts)?;
+    Ok(NgCuts {
+        cuts,
+        interfaces: walk.interfaces,
+    })
+}

@@ -1,0 +1,96 @@
+//! A walk over the blocks of a capture that keeps the places of what is in force.
+
+ghost use Rattle.pcap_core.specs.Answer.{Refuses, whole, lacks, faulty};
+ghost use Rattle.pcap_file.specs.Blocks.{Item, BlockSays, block_format};
+ghost use Rattle.pcap_file.specs.Parser.{state_of};
+ghost use Rattle.pcap_parts.specs.NgParts.{GoesOn, IsWalked};
+ghost use Rattle.pcap_parts.specs.Parts.{Passes};
+ghost use Rattle.std.specs.Prelude.{◌≡◌, ◌≤◌, ◌+◌, ⊤, length, drop, IfOk, IfErr, IfNone};
+
+use crate::blocks::rest_or_memory;
+use crate::skip::Passed;
+use pcap_blocks::BlockType;
+use pcap_core::{Rest, ResultParsing};
+use pcap_file::PcapNgParser;
+use std::alloc::AllocError;
+
+// The parser of a walk, and the places of the blocks that put in force what it holds.
+#[derive(Drop)]
+pub(crate) struct Walk {
+    pub(crate) parser: PcapNgParser,
+    // Where the section header in force stands.
+    pub(crate) header: usize,
+    // Where each interface description stands that was walked over.
+    pub(crate) interfaces: Vec<usize>,
+    // How many of these stand before the section in force.
+    pub(crate) first: usize,
+}
+
+impl Walk {
+    // Passes over the block that begins what is left of a capture, and keeps its place where it puts something in force.
+    fn pass<'a>(&mut self, bytes: &[u8], left: &'a [u8]) -> ResultParsing<&'a [u8]>
+        requires walked { IsWalked bytes.now left.now (state_of self.old.parser) self.old.header (drop self.old.first self.old.interfaces.items) }
+        requires within { self.old.first ≤ length self.old.interfaces.items }
+        ensures walked { IfOk result (λ after. IsWalked bytes.now after.now (state_of self.new.parser) self.new.header (drop self.new.first self.new.interfaces.items)) }
+        ensures within { IfOk result (λ _. self.new.first ≤ length self.new.interfaces.items) }
+        ensures goes_on { GoesOn self.old.interfaces.items self.new.interfaces.items }
+        ensures passes { IfOk result (λ after. (item : Item) × BlockSays (state_of self.old.parser) left.now (whole item after.now) × (item.after ≡ state_of self.new.parser)) }
+        ensures refused { IfErr result (Refuses ⊤ (λ n. BlockSays (state_of self.old.parser) left.now (lacks n)) (λ fault. BlockSays (state_of self.old.parser) left.now (faulty fault))) }
+    {
+        let place = bytes.len() - left.len();
+        let (after, block) = self.parser.next_block(left)?;
+        match block.type_ {
+            BlockType::SectionHeader => {
+                self.header = place;
+                self.first = self.interfaces.len();
+                Ok(after)
+            }
+            BlockType::InterfaceDescription => {
+                self.interfaces.push(place)?;
+                Ok(after)
+            }
+            _ => Ok(after),
+        }
+    }
+
+    // Passes over whole blocks, up to the first bound at which at least so many bytes are passed, or over all that stand there.
+    pub(crate) fn skip<'a>(
+        &mut self,
+        bytes: &[u8],
+        slice: &'a [u8],
+        at_least: usize,
+    ) -> Result<Passed<'a>, AllocError>
+        requires walked { IsWalked bytes.now slice.now (state_of self.old.parser) self.old.header (drop self.old.first self.old.interfaces.items) }
+        requires within { self.old.first ≤ length self.old.interfaces.items }
+        ensures walked { IfOk result (λ x. IfNone x.rest (IsWalked bytes.now x.after.now (state_of self.new.parser) self.new.header (drop self.new.first self.new.interfaces.items))) }
+        ensures within { IfOk result (λ x. IfNone x.rest (self.new.first ≤ length self.new.interfaces.items)) }
+        ensures goes_on { GoesOn self.old.interfaces.items self.new.interfaces.items }
+        ensures passes { IfOk result (λ x. Passes block_format (state_of self.old.parser) slice.now x.after.now at_least x.items x.rest) }
+        ensures few { IfOk result (λ x. x.items + length x.after.now ≤ length slice.now) }
+    {
+        let most_left = slice.len().saturating_sub(at_least);
+        let mut items = 0;
+        let mut after = slice;
+        while after.len() > most_left {
+            match self.pass(bytes, after) {
+                Ok(next) => {
+                    after = next;
+                    items += 1;
+                }
+                Err(error) => {
+                    return Ok(Passed {
+                        items,
+                        after,
+                        rest: Some(rest_or_memory(error)?),
+                    });
+                }
+            }
+        }
+        let rest = if at_least > slice.len() {
+            Some(Rest::Clean)
+        } else {
+            None
+        };
+        Ok(Passed { items, after, rest })
+    }
+}
