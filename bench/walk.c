@@ -1,7 +1,8 @@
 /* walk CALL PASSES < CAPTURE: takes each packet of a capture by the library's C header, so many times over, and prints a sum: of
  * a classic capture that of their nanoseconds and stored bytes, as `measured_calls next_packet` does, and of a PcapNg one that
  * of their units of time and stored bytes. CALL is take_packet or take_ng_packet for one in a call, take_packets or
- * take_ng_packets for 256, or push_next for one in a call of a capture that comes in pieces of 64 KiB. */
+ * take_ng_packets for 256, or push_next or push_ng_next, which tells nanoseconds, for one in a call of a capture that comes in
+ * pieces of 64 KiB. */
 #include "pcapfile.h"
 
 #include <inttypes.h>
@@ -56,6 +57,28 @@ static int32_t add_pieces(pcapfile_bytes left, uint64_t *sum) {
     return status == PCAPFILE_INCOMPLETE && push.begin == push.end ? PCAPFILE_OK : status;
 }
 
+static int32_t add_ng_pieces(pcapfile_bytes left, uint64_t *sum) {
+    static uint8_t room[1 << 19];
+    pcapfile_push push = PCAPFILE_PUSH_INIT;
+    pcapfile_section section = PCAPFILE_SECTION_INIT;
+    pcapfile_interface interfaces[8] = { PCAPFILE_INTERFACE_INIT };
+    pcapfile_any_packet packet = PCAPFILE_ANY_PACKET_INIT;
+    pcapfile_error error = PCAPFILE_ERROR_INIT;
+    int32_t status;
+    for (;;) {
+        while ((status = pcapfile_push_ng_next(&push, &section, room, sizeof room, interfaces, 8, &packet, &error)) == PCAPFILE_OK)
+            *sum += packet.time.nanoseconds + packet.bytes.len;
+        if (status != PCAPFILE_INCOMPLETE || left.len == 0) break;
+        pcapfile_push_space(&push, room, sizeof room, error.missing, &error);
+        size_t count = sizeof room - push.end < PIECE ? sizeof room - push.end : PIECE;
+        if (count > left.len) count = left.len;
+        memcpy(room + push.end, left.ptr, count);
+        left = (pcapfile_bytes){ left.ptr + count, left.len - count };
+        pcapfile_push_put(&push, room, sizeof room, count);
+    }
+    return status == PCAPFILE_INCOMPLETE && push.begin == push.end ? PCAPFILE_OK : status;
+}
+
 static int32_t add_ng_packets(pcapfile_bytes left, uint64_t *sum) {
     pcapfile_section section = PCAPFILE_SECTION_INIT;
     pcapfile_block block = PCAPFILE_BLOCK_INIT;
@@ -92,6 +115,7 @@ static const struct {
     { "take_packet", add_packets },
     { "take_packets", add_batches },
     { "push_next", add_pieces },
+    { "push_ng_next", add_ng_pieces },
     { "take_ng_packet", add_ng_packets },
     { "take_ng_packets", add_ng_batches },
 };

@@ -1,5 +1,5 @@
-/* pcapfile.h: reads packet captures that lie in memory, pcap and PcapNg, and pcap that comes in pieces, by a proved parser,
- * and writes pcap there. MIT licence.
+/* pcapfile.h: reads packet captures, pcap and PcapNg, that lie in memory or come in pieces, by a proved parser, and writes
+ * both in memory. MIT licence.
  *
  * For all bytes the calls return, and read and write nothing but what they are given. They keep nothing between calls, and
  * may be called from any thread. Those of PcapNg take memory by malloc where a block has options or names, and give it back
@@ -33,15 +33,16 @@ enum pcapfile_status {
     PCAPFILE_OK = 0,
     PCAPFILE_INCOMPLETE = 1, /* a beginning of it stands there: error.missing bytes are missing after it, at least */
     PCAPFILE_BAD_VALUE = 2,  /* of PcapNg: a value in the block is too short */
-    PCAPFILE_INVALID = 3,    /* the bytes break the rule error.rule, and more bytes change nothing */
+    PCAPFILE_INVALID = 3,    /* the bytes break the rule error.rule, and more bytes change nothing; or what is to be written does */
     PCAPFILE_NOT_UTF8 = 4,   /* of PcapNg: a string in the block is not UTF-8 */
     PCAPFILE_NO_MEMORY = 6,  /* of PcapNg: memory was refused */
     PCAPFILE_NOTHING = 8,    /* no error: what the call is asked for is not there */
     PCAPFILE_NO_ROOM = 9,    /* no error: the room has to be error.missing bytes longer */
-    PCAPFILE_BAD_CALL = 10   /* a pcapfile_push, or the bytes that were put, do not fit the room: nothing was done */
+    PCAPFILE_BAD_CALL = 10,  /* a pcapfile_push, or the bytes that were put, do not fit the room: nothing was done */
+    PCAPFILE_NO_PLACE = 11   /* no error: the array of interfaces has to be longer */
 };
 
-/* error.rule under PCAPFILE_INVALID: the first rule that the bytes break. pcapfile_rule_name and pcapfile_rule_text tell
+/* error.rule under PCAPFILE_INVALID: the first rule that the bytes break, or, from 2001 on, why a block is not put. pcapfile_rule_name and pcapfile_rule_text tell
  * the name and the text of each. */
 enum pcapfile_rule {
     /* the rules of docs/REFUSALS.md */
@@ -85,6 +86,10 @@ enum pcapfile_rule {
     PCAPFILE_RULE_NAME_UNENDED = 24, /* a name has no zero byte behind it */
     PCAPFILE_RULE_RECORD_UNPADDED = 25, /* a name record's padding passes the body */
     PCAPFILE_RULE_UNKNOWN_TOO_LONG = 26, /* an unknown block's value is 2^32 bytes or more */
+    PCAPFILE_RULE_LINK_TOO_LARGE = 2001, /* the number of an interface's link type is 65536 or more */
+    PCAPFILE_RULE_INTERFACE_MISSING = 2002, /* a packet speaks of an interface that its section does not have */
+    PCAPFILE_RULE_INTERFACES_FULL = 2003, /* a section has 2^32 - 1 interfaces */
+    PCAPFILE_RULE_BLOCK_TOO_LONG = 2004, /* a packet's block would have 2^32 bytes or more */
     /* end of the rules */
 };
 
@@ -283,6 +288,31 @@ typedef struct pcapfile_time {
 
 #define PCAPFILE_TIME_INIT { 0, 0 }
 
+/* A packet of either format. */
+typedef struct pcapfile_any_packet {
+    uint32_t link;         /* the number of the link type of its first layer; 0 where has_interface is 0 */
+    uint32_t interface_id; /* of PcapNg: the number of its interface in its section; else 0 */
+    uint8_t has_interface; /* 1, or 0 for a PcapNg packet that names an interface which its section doesn't have */
+    uint8_t has_time;      /* 1, or 0 for a simple packet, one without an interface, and one whose seconds pass 64 bits */
+    uint32_t orig_len;     /* how many bytes it had on the wire */
+    pcapfile_time time;    /* since 1970; a pcap packet's nanoseconds may pass one second; 0 where has_time is 0 */
+    pcapfile_bytes bytes;  /* those that are stored, without padding */
+} pcapfile_any_packet;
+
+#define PCAPFILE_ANY_PACKET_INIT { 0, 0, 0, 0, 0, PCAPFILE_TIME_INIT, PCAPFILE_NO_BYTES }
+
+/* Takes the next packet of a PcapNg capture that comes in pieces from what is held, with the blocks before it: a section header is
+ * put into `section`, an interface into interfaces[section->interfaces], and others are passed over. packet->bytes lie in the
+ * room.
+ * PCAPFILE_NO_PLACE where an interface follows and section->interfaces is `interfaces_len`: it stays held, and the same call with
+ * a longer array, which begins with the same interfaces, goes on. PCAPFILE_INCOMPLETE and the other refusals as
+ * pcapfile_take_block and pcapfile_read_packet have them; what is refused stays held, and pcapfile_push_block passes over a packet
+ * whose body is. Then `packet` is unchanged, and the blocks before have been taken. PCAPFILE_BAD_CALL as of pcapfile_push_put, or
+ * where section->interfaces is above `interfaces_len`; then nothing changed. */
+int32_t pcapfile_push_ng_next(pcapfile_push *push, pcapfile_section *section, const uint8_t *room, size_t room_len,
+                              pcapfile_interface *interfaces, size_t interfaces_len, pcapfile_any_packet *packet,
+                              pcapfile_error *error);
+
 /* Takes the block at the front of `left`, which begins after it then, and puts into `section` what is in force after it.
  * The first block is a section header. The bodies of the first block, of section headers and of interfaces are read with it.
  * PCAPFILE_INCOMPLETE where bytes are missing, of its first 12 or then of the whole block: 12 where `left` has no bytes, so
@@ -291,6 +321,16 @@ typedef struct pcapfile_time {
  * section->magic_number is none of the three. Then `section`, `left` and `block` are unchanged. */
 int32_t pcapfile_take_block(pcapfile_section *section, pcapfile_bytes *left, pcapfile_block *block,
                             pcapfile_error *error);
+
+/* A PcapNg capture that comes in pieces lies in room of the caller's, as a pcap capture does: pcapfile_push_space and
+ * pcapfile_push_put are the same. Of `push` only begin and end matter then; a walk begins with PCAPFILE_PUSH_INIT and
+ * PCAPFILE_SECTION_INIT. Takes the block at the front of what is held as pcapfile_take_block does; what is held begins after it
+ * then, and block->body lies in the room, for the calls that read it. Where no more bytes come, the capture has ended, cleanly
+ * where section->magic_number is not 0 and push.begin is push.end, and else within a block.
+ * Statuses as of pcapfile_take_block; but under PCAPFILE_OK nothing changed. PCAPFILE_BAD_CALL as of pcapfile_push_put; then
+ * nothing changed. */
+int32_t pcapfile_push_block(pcapfile_push *push, pcapfile_section *section, const uint8_t *room, size_t room_len,
+                            pcapfile_block *block, pcapfile_error *error);
 
 /* Reads the body of a block as its type says, and fills `interface` with the interface that it describes. Of `section` only
  * the magic number matters.
@@ -317,6 +357,47 @@ int32_t pcapfile_take_ng_packets(const pcapfile_section *section, pcapfile_bytes
 /* Fills `time` with the time of so many units of an interface. Of `interface` only what begins with ts_ matters; any
  * ts_base but 2 is 10. PCAPFILE_NOTHING where the seconds pass 64 bits; then `time` is unchanged. */
 int32_t pcapfile_time_of(const pcapfile_interface *interface, uint64_t timestamp, pcapfile_time *time);
+
+/* A capture in PcapNg is put block by block, each behind the one before it: a section header, the interfaces of the section, and
+ * their packets.
+ *
+ *     pcapfile_section section = PCAPFILE_SECTION_LITTLE_ENDIAN;
+ *     pcapfile_interface interface = { PCAPFILE_LINK_ETHERNET, 65535, 10, 9, 0 };
+ *     status = pcapfile_put_section(&section, room, room_len, &written, &error);
+ *     status = pcapfile_put_interface(&section, &interface, room + begin, room_len - begin, &written, &error);
+ *     status = pcapfile_put_ng_packet(&section, &packet, room + begin, room_len - begin, &written, &error);
+ *
+ * where `begin` grows by `written` after each. What was put reads back as these structs. With the unit 10, 9 a timestamp is
+ * nanoseconds since 1970: seconds * 1000000000 + nanoseconds. The calls take no memory.
+ *
+ * Each call puts one block into the front of `room`, and then `*written` is how many bytes it has; what is behind it stays as it
+ * was. PCAPFILE_NO_ROOM where error.missing bytes of room are missing: with `room_len` 0 it says how many are needed.
+ * PCAPFILE_INVALID with rule 6 where section->magic_number is neither 1a2b3c4d nor 4d3c2b1a, and with the rules that each call
+ * names. Then `room`, `written` and `section` are unchanged. */
+
+/* A section of version 1.0 in either order of bytes, to be put. */
+#define PCAPFILE_SECTION_LITTLE_ENDIAN { 0x4d3c2b1a, 1, 0, 0 }
+#define PCAPFILE_SECTION_BIG_ENDIAN { 0x1a2b3c4d, 1, 0, 0 }
+
+/* Puts a section header, 28 bytes, without options and without a length of the section. section->magic_number, read high byte
+ * first, tells the order of all numbers in it and of the blocks behind it, and the version is the struct's. section->interfaces is
+ * 0 then. */
+int32_t pcapfile_put_section(pcapfile_section *section, uint8_t *room, size_t room_len, size_t *written, pcapfile_error *error);
+
+/* Puts the description of an interface, with its unit of time as the option if_tsresol, and its offset as the option if_tsoffset
+ * where it is not 0: 32 bytes, or 44. Any ts_base but 2 is 10. section->interfaces is one more then, and the interface's number,
+ * for interface_id of its packets, is what it was before.
+ * PCAPFILE_INVALID with PCAPFILE_RULE_LINK_TOO_LARGE, with PCAPFILE_RULE_INTERFACES_FULL, or with
+ * PCAPFILE_RULE_INTERFACE_RESOLUTION_LENGTH where ts_exponent is 128 or more. */
+int32_t pcapfile_put_interface(pcapfile_section *section, const pcapfile_interface *interface, uint8_t *room, size_t room_len,
+                               size_t *written, pcapfile_error *error);
+
+/* Puts a packet as an enhanced one without options, whatever packet->type is: 32 bytes, its bytes, and zeros up to a multiple of
+ * 4. Its stored length is packet->bytes.len. A simple packet that was read is first cut to the bytes that are its own.
+ * PCAPFILE_INVALID with PCAPFILE_RULE_INTERFACE_MISSING where packet->interface_id is not below section->interfaces, or with
+ * PCAPFILE_RULE_BLOCK_TOO_LONG. */
+int32_t pcapfile_put_ng_packet(const pcapfile_section *section, const pcapfile_ng_packet *packet, uint8_t *room, size_t room_len,
+                               size_t *written, pcapfile_error *error);
 
 /* The name of the rule of this number, as CaptureMagic, and its text: ASCII, with no zero byte after it. No bytes where no
  * rule has the number. They are valid for ever. */

@@ -23,19 +23,6 @@ enum pcapfile_open_status {
 /* The bytes that a packet or block may have at most: 1 GiB where pcapfile_limit says no other number. */
 #define PCAPFILE_LIMIT ((size_t)1 << 30)
 
-/* A packet of either format. */
-typedef struct pcapfile_any_packet {
-    uint32_t link;         /* the number of the link type of its first layer; 0 where has_interface is 0 */
-    uint32_t interface_id; /* of PcapNg: the number of its interface in its section; else 0 */
-    uint8_t has_interface; /* 1, or 0 for a PcapNg packet that names an interface which its section doesn't have */
-    uint8_t has_time;      /* 1, or 0 for a simple packet, one without an interface, and one whose seconds pass 64 bits */
-    uint32_t orig_len;     /* how many bytes it had on the wire */
-    pcapfile_time time;    /* since 1970; a pcap packet's nanoseconds may pass one second; 0 where has_time is 0 */
-    pcapfile_bytes bytes;  /* those that are stored, without padding */
-} pcapfile_any_packet;
-
-#define PCAPFILE_ANY_PACKET_INIT { 0, 0, 0, 0, 0, PCAPFILE_TIME_INIT, PCAPFILE_NO_BYTES }
-
 /* A capture that is read. */
 typedef struct pcapfile_reader pcapfile_reader;
 

@@ -1,4 +1,4 @@
-"""Reads packet captures, pcap and PcapNg, by a proved parser.
+"""Reads packet captures, pcap and PcapNg, by a proved parser, and writes both.
 
     import pcapfile
     with pcapfile.open("capture.pcap") as capture:
@@ -14,6 +14,7 @@ from ._capture import Capture, Header, Packet
 from ._errors import CaptureError, Incomplete, Invalid
 from ._open import open, parse
 from ._rules import Rule
+from ._writer import Unwritable, Writer
 
 __version__ = "0.2.0"
 
@@ -28,6 +29,8 @@ __all__ = [
     "Invalid",
     "Packet",
     "Rule",
+    "Unwritable",
+    "Writer",
     "open",
     "parse",
 ]

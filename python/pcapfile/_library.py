@@ -4,9 +4,9 @@ import ctypes
 import ctypes.util
 import os
 from pathlib import Path
-from typing import Callable
+from typing import Any, Callable
 
-OK, INCOMPLETE, BAD_VALUE, INVALID, NOT_UTF8, NO_MEMORY, NOTHING = 0, 1, 2, 3, 4, 6, 8
+OK, INCOMPLETE, BAD_VALUE, INVALID, NOT_UTF8, NO_MEMORY, NOTHING, NO_ROOM = 0, 1, 2, 3, 4, 6, 8, 9
 
 
 class Bytes(ctypes.Structure):
@@ -125,6 +125,21 @@ take_ng_packets.argtypes = [
     _to(Error),
 ]
 take_ng_packets.restype = ctypes.c_int32
+
+
+def _writing(name: str, *structs: Any) -> Callable[..., int]:
+    """A call that writes what these structs tell into a room."""
+    call = getattr(_library, name)
+    room = [_to(ctypes.c_uint8), ctypes.c_size_t, _to(ctypes.c_size_t), _to(Error)]
+    call.argtypes, call.restype = [*map(_to, structs), *room], ctypes.c_int32
+    return call
+
+
+write_header = _writing("pcapfile_write_header", Header)
+write_packet = _writing("pcapfile_write_packet", Header, Packet)
+put_section = _writing("pcapfile_put_section", Section)
+put_interface = _writing("pcapfile_put_interface", Section, Interface)
+put_ng_packet = _writing("pcapfile_put_ng_packet", Section, NgPacket)
 
 time_of = _library.pcapfile_time_of
 time_of.argtypes = [_to(Interface), ctypes.c_uint64, _to(Time)]

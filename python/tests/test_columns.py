@@ -1,7 +1,12 @@
 """Tests of packets as columns. Each expected value is worked out from the bytes beside it."""
 
+import contextlib
+import os
+import re
 import struct
+import tempfile
 import unittest
+from pathlib import Path
 
 import pcapfile
 from pcapfile import _columns
@@ -11,6 +16,12 @@ try:
     import pandas
 except ImportError:
     pandas = None
+try:
+    import matplotlib
+except ImportError:
+    matplotlib = None
+
+PAGE = Path(__file__).parents[2] / "docs" / "PYTHON.md"
 
 NAMES = ["time_ns", "len", "orig_len", "interface", "link", "offset"]
 NONE = -(2**63)
@@ -134,6 +145,29 @@ class Columns(unittest.TestCase):
     def test_to_pandas_says_what_to_install(self):
         with pcapfile.parse(HEADER) as capture, self.assertRaisesRegex(ImportError, "pandas"):
             capture.to_pandas()
+
+    @unittest.skipIf(pandas is None or matplotlib is None, "pandas or matplotlib is missing")
+    def test_the_chart_of_the_page(self):
+        times = [500_000, 999_999, 2_000_000]
+        packets = [enhanced(0, time, bytes(size)) for time, size in zip(times, [3, 4, 8])]
+        (chart,) = re.findall(r"^```py\n(.*?)^```$", PAGE.read_text(), re.S | re.M)
+        made = {}
+        matplotlib.use("svg")
+        with tempfile.TemporaryDirectory() as room, inside(room):
+            Path("capture.pcapng").write_bytes(SECTION + INTERFACE + b"".join(packets))
+            exec(chart, made)
+            self.assertIn("bytes a second", Path("bytes.svg").read_text())
+        self.assertEqual(made["seconds"].tolist(), [7, 0, 8])
+
+
+@contextlib.contextmanager
+def inside(folder):
+    before = os.getcwd()
+    os.chdir(folder)
+    try:
+        yield
+    finally:
+        os.chdir(before)
 
 
 if __name__ == "__main__":

@@ -17,6 +17,13 @@ pub struct Section {
     pub interfaces: u32,
 }
 
+impl Section {
+    /// A section of version 1.0 whose numbers stand low byte first, without interfaces.
+    pub const LITTLE_ENDIAN: Section = Section { magic_number: 0x4d3c_2b1a, version_major: 1, version_minor: 0, interfaces: 0 };
+    /// The same with numbers high byte first.
+    pub const BIG_ENDIAN: Section = Section { magic_number: 0x1a2b_3c4d, ..Section::LITTLE_ENDIAN };
+}
+
 /// A block, whose body lies in the capture.
 #[derive(Clone, Copy, Debug, PartialEq, Eq)]
 pub struct Block<'a> {
@@ -69,6 +76,11 @@ pub struct BlockPacket<'a> {
 const NOTHING: i32 = 8;
 
 impl Interface {
+    /// An interface whose times are nanoseconds since 1970.
+    pub const fn nanoseconds(link: u32, snaplen: u32) -> Interface {
+        Interface { link, snaplen, ts_base: 10, ts_exponent: 9, ts_offset: 0 }
+    }
+
     /// The time of so many units. None where its seconds pass 64 bits.
     pub fn time(&self, timestamp: u64) -> Option<Time> {
         let mut time = Time::default();

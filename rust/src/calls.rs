@@ -74,6 +74,32 @@ extern "C" {
         written: *mut usize,
         error: *mut Error,
     ) -> i32;
+    #[cfg(feature = "std")]
+    pub fn pcapfile_put_section(
+        section: *mut crate::Section,
+        room: *mut u8,
+        room_len: usize,
+        written: *mut usize,
+        error: *mut Error,
+    ) -> i32;
+    #[cfg(feature = "std")]
+    pub fn pcapfile_put_interface(
+        section: *mut crate::Section,
+        interface: *const crate::Interface,
+        room: *mut u8,
+        room_len: usize,
+        written: *mut usize,
+        error: *mut Error,
+    ) -> i32;
+    #[cfg(feature = "std")]
+    pub fn pcapfile_put_ng_packet(
+        section: *const crate::Section,
+        packet: *const NgPacket,
+        room: *mut u8,
+        room_len: usize,
+        written: *mut usize,
+        error: *mut Error,
+    ) -> i32;
     pub fn pcapfile_take_block(
         section: *mut crate::Section,
         left: *mut Bytes,

@@ -1,4 +1,4 @@
-//! Reads packet captures, pcap and PcapNg, out of slices and streams, by a proved parser, and writes pcap, through its C library.
+//! Reads packet captures, pcap and PcapNg, out of slices and streams, by a proved parser, and writes both, through its C library.
 //!
 //! ```
 //! # let bytes: &[u8] = b"\xd4\xc3\xb2\xa1\x02\0\x04\0\0\0\0\0\0\0\0\0\xff\xff\0\0\x01\0\0\0";
@@ -28,7 +28,7 @@ pub use blocks::{Block, BlockPacket, Blocks, Interface, Section, Time};
 pub use reader::{AnyPacket, Reader};
 pub use rules::Rule;
 #[cfg(feature = "std")]
-pub use writer::Writer;
+pub use writer::{BlockWriter, Writer};
 
 use core::fmt;
 

@@ -109,6 +109,14 @@ rules! {
     RecordUnpadded = 25,
     /// An unknown block's value is 2^32 bytes or more.
     UnknownTooLong = 26,
+    /// The number of an interface's link type is 65536 or more.
+    LinkTooLarge = 2001,
+    /// A packet speaks of an interface that its section does not have.
+    InterfaceMissing = 2002,
+    /// A section has 2^32 - 1 interfaces.
+    InterfacesFull = 2003,
+    /// A packet's block would have 2^32 bytes or more.
+    BlockTooLong = 2004,
     // end of the rules
 }
 

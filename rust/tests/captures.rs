@@ -42,5 +42,5 @@ fn the_library_knows_each_rule() {
         assert_eq!((Rule::from_number(rule.number()), rule.name()), (Some(rule), format!("{rule:?}").as_str()));
         assert!(!rule.text().is_empty());
     }
-    assert_eq!((Rule::ALL.len(), Rule::from_number(27)), (40, None));
+    assert_eq!((Rule::ALL.len(), Rule::from_number(27)), (44, None));
 }

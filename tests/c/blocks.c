@@ -5,8 +5,12 @@
  *   blocks -n FILE       the same by batches, without the blocks' numbers
  *   blocks -f FILE       of every front of the file: its blocks, and then the status
  *   blocks -t FILE       counts, and prints packets and nanoseconds a packet, the best of ten rounds
+ *
+ * Before these words `-c PIECE ROOM` takes the blocks by the calls for a capture that comes in pieces: of at most PIECE bytes, into
+ * room that is ROOM bytes long at first. Batches are always of a capture in memory.
  */
-#include "pcapfile.h"
+#include "file.h"
+#include "pieces.h"
 
 #include <inttypes.h>
 #include <stdio.h>
@@ -18,7 +22,7 @@ enum { INTERFACES = 64, BATCH = 3, REFUSED = 1, USAGE = 2, ENDED_EARLY = 3, NO_M
 
 /* A walk, and what it needs of the interfaces of its section. */
 struct walk {
-    pcapfile_bytes left;
+    struct pieces pieces; /* or all in `left`, where there is no room */
     pcapfile_section section;
     pcapfile_block block;
     pcapfile_interface interfaces[INTERFACES];
@@ -26,8 +30,28 @@ struct walk {
     uint64_t index;
 };
 
+static size_t piece, first_room;
+
 static struct walk walk_of(pcapfile_bytes all) {
-    return (struct walk){ all, PCAPFILE_SECTION_INIT, PCAPFILE_BLOCK_INIT, { PCAPFILE_INTERFACE_INIT }, PCAPFILE_ERROR_INIT, 0 };
+    struct pieces pieces = { all, PCAPFILE_PUSH_INIT, NULL, 0, 0 };
+    if (piece > 0) pieces = pieces_of(all, piece, first_room);
+    return (struct walk){ pieces, PCAPFILE_SECTION_INIT, PCAPFILE_BLOCK_INIT, { PCAPFILE_INTERFACE_INIT }, PCAPFILE_ERROR_INIT, 0 };
+}
+
+static int has_more(const struct walk *walk) {
+    return walk->pieces.left.len > 0 || walk->pieces.push.begin < walk->pieces.push.end;
+}
+
+static int32_t take_block(struct walk *walk) {
+    struct pieces *pieces = &walk->pieces;
+    int32_t status = PCAPFILE_OK;
+    if (!pieces->room) return pcapfile_take_block(&walk->section, &pieces->left, &walk->block, &walk->error);
+    while (status == PCAPFILE_OK) {
+        status = pcapfile_push_block(&pieces->push, &walk->section, pieces->room, pieces->room_len, &walk->block, &walk->error);
+        if (status != PCAPFILE_INCOMPLETE || pieces->left.len == 0) break;
+        status = come(pieces, walk->error.missing, &walk->error);
+    }
+    return status;
 }
 
 static int status_of(int32_t status) {
@@ -43,7 +67,7 @@ static int status_of(int32_t status) {
 /* The next block; of an interface what is needed of it too. */
 static int32_t next_block(struct walk *walk) {
     uint32_t before = walk->section.interfaces;
-    int32_t status = pcapfile_take_block(&walk->section, &walk->left, &walk->block, &walk->error);
+    int32_t status = take_block(walk);
     if (status == PCAPFILE_OK && walk->block.type == PCAPFILE_BLOCK_INTERFACE && before < INTERFACES)
         status = pcapfile_read_interface(&walk->section, &walk->block, &walk->interfaces[before], &walk->error);
     return status;
@@ -78,7 +102,7 @@ static int32_t list_blocks(struct walk *walk) {
     if (status == PCAPFILE_OK)
         printf("section %s %u.%u\n", walk->section.magic_number == 0x1a2b3c4d ? "big" : "little",
                (unsigned)walk->section.version_major, (unsigned)walk->section.version_minor);
-    while (status == PCAPFILE_OK && walk->left.len > 0) {
+    while (status == PCAPFILE_OK && has_more(walk)) {
         status = next_block(walk);
         walk->index++;
         if (status == PCAPFILE_OK) print_block(walk);
@@ -130,7 +154,7 @@ static void print_packet(struct walk *walk) {
 
 static int32_t list_packets(struct walk *walk) {
     int32_t status = PCAPFILE_OK;
-    while (status == PCAPFILE_OK && walk->left.len > 0) {
+    while (status == PCAPFILE_OK && has_more(walk)) {
         status = next_block(walk);
         if (status == PCAPFILE_OK) print_packet(walk);
         walk->index++;
@@ -142,9 +166,9 @@ static int32_t list_packets(struct walk *walk) {
 static int32_t list_batches(struct walk *walk) {
     pcapfile_ng_packet packets[BATCH] = { PCAPFILE_NG_PACKET_INIT, PCAPFILE_NG_PACKET_INIT, PCAPFILE_NG_PACKET_INIT };
     int32_t status = PCAPFILE_OK;
-    while (status == PCAPFILE_OK && walk->left.len > 0) {
+    while (status == PCAPFILE_OK && has_more(walk)) {
         size_t taken = 0;
-        int32_t ended = pcapfile_take_ng_packets(&walk->section, &walk->left, packets, BATCH, &taken, &walk->error);
+        int32_t ended = pcapfile_take_ng_packets(&walk->section, &walk->pieces.left, packets, BATCH, &taken, &walk->error);
         for (size_t i = 0; i < taken; i++) print_fields(walk, &packets[i]);
         if (ended == PCAPFILE_NO_MEMORY) return ended;
         if (ended != PCAPFILE_OK) status = next_block(walk);
@@ -172,6 +196,7 @@ static int list_fronts(pcapfile_bytes all) {
         memcpy(front, all.ptr, len);
         struct walk walk = walk_of((pcapfile_bytes){ front, len });
         printf("status %d\n", status_of(list_blocks(&walk)));
+        free(walk.pieces.room);
         free(front);
     }
     return 0;
@@ -181,7 +206,7 @@ static uint64_t packets_in(struct walk *walk, int32_t *status) {
     pcapfile_ng_packet packet = PCAPFILE_NG_PACKET_INIT;
     uint64_t count = 0;
     *status = PCAPFILE_OK;
-    while (*status == PCAPFILE_OK && walk->left.len > 0)
+    while (*status == PCAPFILE_OK && has_more(walk))
         if ((*status = next_block(walk)) == PCAPFILE_OK)
             count += pcapfile_read_packet(&walk->section, &walk->block, &packet, &walk->error) == PCAPFILE_OK;
     return count;
@@ -197,6 +222,7 @@ static int count(pcapfile_bytes all) {
         clock_gettime(CLOCK_MONOTONIC, &start);
         packets = packets_in(&walk, &status);
         clock_gettime(CLOCK_MONOTONIC, &end);
+        free(walk.pieces.room);
         if (status != PCAPFILE_OK) return tell(status, &walk.error);
         double spent = 1e9 * (double)(end.tv_sec - start.tv_sec) + (double)(end.tv_nsec - start.tv_nsec);
         if (round == 0 || spent < best) best = spent;
@@ -205,18 +231,13 @@ static int count(pcapfile_bytes all) {
     return 0;
 }
 
-static pcapfile_bytes read_file(const char *name) {
-    size_t len = 0, room = 1 << 16, more;
-    uint8_t *bytes = malloc(room);
-    FILE *in = fopen(name, "rb");
-    if (!in) return (pcapfile_bytes){ NULL, 0 };
-    while (bytes && (more = fread(bytes + len, 1, room - len, in)) > 0)
-        if ((len += more) == room) bytes = realloc(bytes, room *= 2);
-    fclose(in);
-    return (pcapfile_bytes){ bytes, len };
-}
-
 int main(int argc, char **argv) {
+    if (argc > 4 && !strcmp(argv[1], "-c")) {
+        piece = strtoul(argv[2], NULL, 10);
+        first_room = strtoul(argv[3], NULL, 10);
+        argc -= 3;
+        argv += 3;
+    }
     const char *way = argc == 3 ? argv[1] : "-b";
     if (argc < 2 || argc > 3) return USAGE;
     pcapfile_bytes all = read_file(argv[argc - 1]);
@@ -228,6 +249,7 @@ int main(int argc, char **argv) {
     if (!strcmp(way, "-n")) status = tell(list_batches(&walk), &walk.error);
     if (!strcmp(way, "-f")) status = list_fronts(all);
     if (!strcmp(way, "-t")) status = count(all);
+    free(walk.pieces.room);
     free((void *)(uintptr_t)all.ptr);
     return status;
 }

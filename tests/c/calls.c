@@ -273,6 +273,35 @@ static void passed_blocks(void) {
     EXPECT(pcapfile_take_block(&section, &left, &block, &error) == PCAPFILE_OK && left.len == 0);
 }
 
+/* All of a PcapNg capture is held at first. */
+static void ng_pushes(void) {
+    pcapfile_push push = { PCAPFILE_HEADER_INIT, 0, sizeof blocks };
+    pcapfile_section section = PCAPFILE_SECTION_INIT;
+    pcapfile_block block = PCAPFILE_BLOCK_INIT;
+    pcapfile_interface places[2] = { PCAPFILE_INTERFACE_INIT, PCAPFILE_INTERFACE_INIT };
+    pcapfile_any_packet packet = PCAPFILE_ANY_PACKET_INIT;
+    pcapfile_error error = { 9, 9 };
+    EXPECT(pcapfile_push_ng_next(&push, &section, blocks, sizeof blocks, places, 0, &packet, &error) == PCAPFILE_NO_PLACE);
+    EXPECT(push.begin == 28 && section.magic_number == 0x4d3c2b1a && section.interfaces == 0 && error.rule == 9);
+    EXPECT(pcapfile_push_ng_next(&push, &section, blocks, sizeof blocks, places, 1, &packet, &error) == PCAPFILE_OK);
+    EXPECT(push.begin == sizeof blocks && push.end == sizeof blocks && section.interfaces == 1 && error.rule == 9);
+    EXPECT(packet.has_interface == 1 && packet.interface_id == 0 && packet.link == PCAPFILE_LINK_LINUX_SLL);
+    EXPECT(packet.has_time == 1 && packet.time.seconds == 2 && packet.time.nanoseconds == 7 && packet.orig_len == 5);
+    EXPECT(packet.bytes.ptr == blocks + sizeof blocks - 8 && packet.bytes.len == 3);
+    EXPECT(pcapfile_push_ng_next(&push, &section, blocks, sizeof blocks, places, 1, &packet, &error) == PCAPFILE_INCOMPLETE);
+    EXPECT(error.rule == 0 && error.missing == 12 && packet.orig_len == 5);
+    EXPECT(pcapfile_push_ng_next(&push, &section, blocks, sizeof blocks, places, 0, &packet, &error) == PCAPFILE_BAD_CALL);
+    EXPECT(pcapfile_push_ng_next(&push, &section, blocks, 4, places, 1, &packet, &error) == PCAPFILE_BAD_CALL);
+    EXPECT(pcapfile_push_block(&push, &section, blocks, 4, &block, &error) == PCAPFILE_BAD_CALL && block.type == 0);
+    EXPECT(pcapfile_push_block(&push, &section, blocks, sizeof blocks, &block, &error) == PCAPFILE_INCOMPLETE);
+    push.begin = 28;
+    EXPECT(pcapfile_push_block(&push, &section, blocks, sizeof blocks, &block, &error) == PCAPFILE_OK);
+    EXPECT(block.type == PCAPFILE_BLOCK_INTERFACE && section.interfaces == 2 && push.begin == sizeof blocks - 36);
+    section.magic_number = 7;
+    EXPECT(pcapfile_push_ng_next(&push, &section, blocks, sizeof blocks, places, 2, &packet, &error) == PCAPFILE_INVALID);
+    EXPECT(error.rule == PCAPFILE_RULE_SECTION_MAGIC && push.begin == sizeof blocks - 36 && section.interfaces == 2);
+}
+
 static void times(void) {
     pcapfile_interface interface = { 1, 0, 10, 9, 2 };
     pcapfile_time time = PCAPFILE_TIME_INIT;
@@ -282,6 +311,74 @@ static void times(void) {
     interface = (pcapfile_interface){ 1, 0, 10, 0, INT64_MAX };
     EXPECT(pcapfile_time_of(&interface, 1, &time) == PCAPFILE_NOTHING && time.seconds == -2 && time.nanoseconds == 500000000);
     EXPECT(pcapfile_time_of(&interface, 0, &time) == PCAPFILE_OK && time.seconds == INT64_MAX && time.nanoseconds == 0);
+}
+
+/* A section, an interface and a packet, each at its size and a byte less. */
+static void puts_blocks(void) {
+    uint8_t room[160], before[160];
+    pcapfile_section section = PCAPFILE_SECTION_LITTLE_ENDIAN, opened = section;
+    pcapfile_interface interface = { PCAPFILE_LINK_ETHERNET, 65535, 10, 9, 0 };
+    pcapfile_ng_packet packet = { 0, 0, 98, 1335958313152630000, { (const uint8_t *)"abcde", 5 } };
+    pcapfile_error error = PCAPFILE_ERROR_INIT;
+    size_t written = 99;
+    memset(room, 0xee, sizeof room);
+    memcpy(before, room, sizeof room);
+    EXPECT(pcapfile_put_section(&section, room, 0, &written, &error) == PCAPFILE_NO_ROOM && error.missing == 28);
+    EXPECT(pcapfile_put_section(&section, room, 27, &written, &error) == PCAPFILE_NO_ROOM && error.missing == 1 && error.rule == 0);
+    EXPECT(written == 99 && !memcmp(&section, &opened, sizeof section) && !memcmp(room, before, sizeof room));
+    section.interfaces = 7;
+    EXPECT(pcapfile_put_section(&section, room, 28, &written, &error) == PCAPFILE_OK && written == 28);
+    EXPECT(!memcmp(&section, &opened, sizeof section) && !memcmp(room + 28, before + 28, sizeof room - 28));
+    EXPECT(!memcmp(room, "\x0a\x0d\x0d\x0a\x1c\0\0\0\x4d\x3c\x2b\x1a\1\0\0\0\xff\xff\xff\xff\xff\xff\xff\xff\x1c\0\0\0", 28));
+    EXPECT(pcapfile_put_interface(&section, &interface, room, 31, &written, &error) == PCAPFILE_NO_ROOM && error.missing == 1);
+    EXPECT(section.interfaces == 0 && written == 28);
+    EXPECT(pcapfile_put_interface(&section, &interface, room + 28, 32, &written, &error) == PCAPFILE_OK && written == 32);
+    EXPECT(section.interfaces == 1 && !memcmp(room + 60, before + 60, sizeof room - 60));
+    EXPECT(!memcmp(room + 28, "\1\0\0\0\x20\0\0\0\1\0\0\0\xff\xff\0\0\x09\0\1\0\x09\0\0\0\0\0\0\0\x20\0\0\0", 32));
+    interface.ts_offset = -1;
+    EXPECT(pcapfile_put_interface(&section, &interface, room, 0, &written, &error) == PCAPFILE_NO_ROOM && error.missing == 44);
+    EXPECT(pcapfile_put_ng_packet(&section, &packet, room + 60, 39, &written, &error) == PCAPFILE_NO_ROOM && error.missing == 1);
+    EXPECT(written == 32 && !memcmp(room + 60, before + 60, sizeof room - 60));
+    EXPECT(pcapfile_put_ng_packet(&section, &packet, room + 60, 100, &written, &error) == PCAPFILE_OK && written == 40);
+    EXPECT(!memcmp(room + 100, before + 100, sizeof room - 100));
+    EXPECT(!memcmp(room + 60, "\6\0\0\0\x28\0\0\0\0\0\0\0\x01\x47\x8a\x12\xf0\x4c\x31\xf2\5\0\0\0\x62\0\0\0abcde\0\0\0\x28\0\0\0", 40));
+}
+
+/* What is refused leaves room, section and count as they were. */
+static void refused_puts(void) {
+    uint8_t room[64], before[64];
+    pcapfile_section section = { 7, 1, 0, 3 }, other = section;
+    pcapfile_interface interface = PCAPFILE_INTERFACE_INIT;
+    pcapfile_ng_packet packet = PCAPFILE_NG_PACKET_INIT;
+    pcapfile_error error = PCAPFILE_ERROR_INIT;
+    size_t written = 99;
+    memset(room, 0xee, sizeof room);
+    memcpy(before, room, sizeof room);
+    EXPECT(pcapfile_put_section(&section, room, sizeof room, &written, &error) == PCAPFILE_INVALID);
+    EXPECT(error.rule == PCAPFILE_RULE_SECTION_MAGIC && error.missing == 0);
+    EXPECT(pcapfile_put_interface(&section, &interface, room, sizeof room, &written, &error) == PCAPFILE_INVALID);
+    EXPECT(pcapfile_put_ng_packet(&section, &packet, room, sizeof room, &written, &error) == PCAPFILE_INVALID);
+    EXPECT(error.rule == PCAPFILE_RULE_SECTION_MAGIC && !memcmp(&section, &other, sizeof section));
+    section.magic_number = other.magic_number = 0x1a2b3c4d;
+    packet.interface_id = 3;
+    EXPECT(pcapfile_put_ng_packet(&section, &packet, room, sizeof room, &written, &error) == PCAPFILE_INVALID);
+    EXPECT(error.rule == PCAPFILE_RULE_INTERFACE_MISSING);
+    packet.interface_id = 2;
+    packet.bytes.len = 4294967261; /* refused before any of them is read */
+    EXPECT(pcapfile_put_ng_packet(&section, &packet, room, sizeof room, &written, &error) == PCAPFILE_INVALID);
+    EXPECT(error.rule == PCAPFILE_RULE_BLOCK_TOO_LONG);
+    interface.link = 65536;
+    EXPECT(pcapfile_put_interface(&section, &interface, room, sizeof room, &written, &error) == PCAPFILE_INVALID);
+    EXPECT(error.rule == PCAPFILE_RULE_LINK_TOO_LARGE);
+    interface.link = 65535;
+    interface.ts_exponent = 128;
+    EXPECT(pcapfile_put_interface(&section, &interface, room, sizeof room, &written, &error) == PCAPFILE_INVALID);
+    EXPECT(error.rule == PCAPFILE_RULE_INTERFACE_RESOLUTION_LENGTH);
+    interface.ts_exponent = 127;
+    section.interfaces = other.interfaces = UINT32_MAX;
+    EXPECT(pcapfile_put_interface(&section, &interface, room, sizeof room, &written, &error) == PCAPFILE_INVALID);
+    EXPECT(error.rule == PCAPFILE_RULE_INTERFACES_FULL);
+    EXPECT(written == 99 && !memcmp(&section, &other, sizeof section) && !memcmp(room, before, sizeof room));
 }
 
 static int is_text(pcapfile_bytes bytes, const char *text) {
@@ -297,12 +394,15 @@ static void rules(void) {
         EXPECT((name.len > 0) == (text.len > 0));
         found += name.len > 0;
     }
-    EXPECT(found == 40);
+    EXPECT(found == 44);
     pcapfile_rule_name(PCAPFILE_RULE_ORIGINAL_TOO_LONG, &name);
     pcapfile_rule_text(PCAPFILE_RULE_ORIGINAL_TOO_LONG, &text);
     EXPECT(is_text(name, "OriginalTooLong") && is_text(text, "PacketHeader orig_len > 0x40000"));
     pcapfile_rule_name(1915, &name);
     EXPECT(is_text(name, "NameIpv6Length"));
+    pcapfile_rule_name(PCAPFILE_RULE_INTERFACE_MISSING, &name);
+    pcapfile_rule_text(PCAPFILE_RULE_INTERFACE_MISSING, &text);
+    EXPECT(is_text(name, "InterfaceMissing") && is_text(text, "Block: interface_id is not described"));
 }
 
 static void version(void) {
@@ -323,7 +423,10 @@ int main(void) {
     bodies();
     ng_batches();
     passed_blocks();
+    ng_pushes();
     times();
+    puts_blocks();
+    refused_puts();
     rules();
     return failures > 0;
 }

@@ -2,7 +2,7 @@
 #ifndef LINES_H
 #define LINES_H
 
-#include "pcapfile.h"
+#include "file.h"
 
 #include <inttypes.h>
 #include <stdio.h>
@@ -43,17 +43,6 @@ static int list_fronts(int32_t (*list)(pcapfile_bytes, pcapfile_error *), pcapfi
         free(front);
     }
     return 0;
-}
-
-static pcapfile_bytes read_file(const char *name) {
-    size_t len = 0, room = 1 << 16, more;
-    uint8_t *bytes = malloc(room);
-    FILE *in = fopen(name, "rb");
-    if (!in) return (pcapfile_bytes){ NULL, 0 };
-    while (bytes && (more = fread(bytes + len, 1, room - len, in)) > 0)
-        if ((len += more) == room) bytes = realloc(bytes, room *= 2);
-    fclose(in);
-    return (pcapfile_bytes){ bytes, len };
 }
 
 #endif

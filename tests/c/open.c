@@ -8,6 +8,8 @@
  *   open -m LEN FILE       whether a limit one byte below the first packet's LEN is told, and the list goes on under LEN
  *   open -x FILE           each read and each allocation fails in turn, and is made again: the lines stay the same
  */
+#include "any.h"
+
 #include <errno.h>
 #include <fcntl.h>
 #include <inttypes.h>
@@ -43,7 +45,7 @@ static ssize_t test_read(int descriptor, void *room, size_t len) {
 #define calloc test_calloc
 #define realloc test_realloc
 #define read test_read
-#include "../../c/open.c"
+#include OPEN_C /* the path of c/open.c, by -DOPEN_C */
 #undef malloc
 #undef calloc
 #undef realloc
@@ -60,21 +62,6 @@ static int status_of(int32_t status) {
     case PCAPFILE_NO_MEMORY: return NO_MEMORY;
     default: return REFUSED;
     }
-}
-
-static void print_any(FILE *out, const pcapfile_any_packet *packet) {
-    fprintf(out, "%" PRIu32 " ", packet->interface_id);
-    if (packet->has_time)
-        fprintf(out, "%" PRId64 ".%09" PRIu32 " ", packet->time.seconds, packet->time.nanoseconds);
-    else
-        fprintf(out, "none ");
-    if (packet->has_interface)
-        fprintf(out, "%" PRIu32 " ", packet->link);
-    else
-        fprintf(out, "none ");
-    fprintf(out, "%zu/%" PRIu32 " ", packet->bytes.len, packet->orig_len);
-    for (size_t i = 0; i < packet->bytes.len; i++) fprintf(out, "%02x", packet->bytes.ptr[i]);
-    fprintf(out, "\n");
 }
 
 /* The next packets, one by one or by batches. */

@@ -1,5 +1,5 @@
 #!/usr/bin/env python3
-"""tests/c/rules.py [--write]: the rules of docs/REFUSALS.md as C, Rust and Python name them.
+"""tests/c/rules.py [--write]: the rules of docs/REFUSALS.md, and the reasons with a number there, as C, Rust and Python name them.
 
 Each of these files has a list of them, between a line that says `rules of docs/REFUSALS.md` and one that says `end of the
 rules`. Without a word this says which list differs from the table, and with `--write` it writes them anew.
@@ -31,7 +31,7 @@ class Rule(NamedTuple):
 
 
 def rules():
-    rows = re.findall(r"^\| V[\d.]+ \| (\d+) \| `(\w+)` \| (.*?) \| .* \|$", (TOP / "docs/REFUSALS.md").read_text(), re.M)
+    rows = re.findall(r"^\| (?:V[\d.]+ \| (?=\d)|(?=\d{4} ))(\d+) \| `(\w+)` \| (.*?) \| .* \|$", (TOP / "docs/REFUSALS.md").read_text(), re.M)
     return [Rule(name, int(number), broken) for number, name, broken in rows]
 
 
@@ -63,7 +63,7 @@ def main():
             differ.append(name)
             if "--write" in sys.argv[1:]:
                 path.write_text(wanted)
-    if len(rules()) != 40:
+    if len(rules()) != 44:
         sys.exit(f"tests/c/rules.py: docs/REFUSALS.md has {len(rules())} rules")
     if differ and "--write" not in sys.argv[1:]:
         sys.exit(f"tests/c/rules.py: {' '.join(differ)}: not the rules of docs/REFUSALS.md; --write writes them")

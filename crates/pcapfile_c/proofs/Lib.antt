@@ -4,3 +4,12 @@ pub mod Leading
 pub mod Passages
 pub mod Pushed
 pub mod Pushes
+pub mod PushedBlocks
+pub mod RoomLaws
+pub mod BlockLaws
+pub mod Passing
+pub mod PacketLaws
+pub mod Puts
+pub mod Parts
+pub mod Fitting
+pub mod PutsAgain

@@ -56,6 +56,11 @@ rest_held b e room t rest within fits text =
     let all : n ≡ (take b n ++ t) ++ rest = sym (take-append-drop b n) ∙ ap (λ (l : List ℕ). take b n ++ l) text ∙ sym (append_assoc (take b n) t rest) in
     ap (λ (k : ℕ). drop (k - length rest) n) (sym long) ∙ after_is_drop n (take b n ++ t) rest all
 
+-- what is left of what is held is what is held up to the same end
+pub held_rest : (push : PcapfilePush) (room s t rest : List ℕ) → LiesWithin push room → s ≡ held_in push room → s ≡ t ++ rest
+    → drop (push.end - length rest) (take push.end room) ≡ rest
+held_rest push room s t rest lies is text = rest_held push.begin push.end room t rest lies.0 lies.1 (sym is ∙ text)
+
 -- what follows a packet's text
 packet_ends : (magic : ℕ) (s rest : List ℕ) (p : Captured) → PacketsSaid magic s (whole p rest) → (t : List ℕ) × (s ≡ t ++ rest)
 packet_ends magic s rest p x =
@@ -90,7 +95,7 @@ pub next_takes : (before : PcapfilePush) (header : PcapfileHeader) (room s rest 
     → TakesNext before (with_rest before header rest) room old packet error told z
 next_takes before header room s rest old packet error told z lies is takes =
     let o = front_ends before.header header s rest old packet error told z takes in
-    let same : drop (before.end - length rest) (take before.end room) ≡ rest = rest_held before.begin before.end room o.0 rest lies.0 lies.1 (sym is ∙ o.1) in
+    let same : drop (before.end - length rest) (take before.end room) ≡ rest = held_rest before room s o.0 rest lies is o.1 in
     let here : TakesFront before.header header (held_in before room) rest old packet error told z = subst (λ (l : List ℕ). TakesFront before.header header l rest old packet error told z) is takes in
     let there = subst (λ (l : List ℕ). TakesFront before.header header (held_in before room) l old packet error told z) (sym same) here in
     inl (lies, (omega arith, lies.1), refl, there)

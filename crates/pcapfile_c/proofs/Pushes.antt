@@ -40,7 +40,7 @@ not_both : (b : Bool) → IsTrue b → b ≡ false → ⊥
 not_both b is wrong = subst T (sym is ∙ wrong) tt
 
 -- a refusal gives nothing
-none_refused : {V A : Type 0} (IsSaid : Verdict V → Type 0) (told : PcapfileError) (z : ℤ) (all : List A) → TellsRefusal IsSaid told z → under_status z all ≡ []
+pub none_refused : {V A : Type 0} (IsSaid : Verdict V → Type 0) (told : PcapfileError) (z : ℤ) (all : List A) → TellsRefusal IsSaid told z → under_status z all ≡ []
 none_refused IsSaid told z all (inl x) = ap (λ (k : ℤ). under_status k all) x.0
 none_refused IsSaid told z all (inr (inl x)) = ap (λ (k : ℤ). under_status k all) x.0
 none_refused IsSaid told z all (inr (inr (inl x))) = ap (λ (k : ℤ). under_status k all) x.0
@@ -100,7 +100,7 @@ next_comes before now held rest s packets old packet error told z (inr (inr x)) 
     unmoved before now held rest s [] packets (under_status z (captured packet ∷ [])) x.2 x.3 refl none come
 
 -- place that is made leaves the header and what is held
-space_keeps : (before push : PcapfilePush) (room now : List ℕ) (wanted : ℕ) (error told : PcapfileError) (z : ℤ) → MakesSpace before push room now wanted error told z
+pub space_keeps : (before push : PcapfilePush) (room now : List ℕ) (wanted : ℕ) (error told : PcapfileError) (z : ℤ) → MakesSpace before push room now wanted error told z
     → (push.header ≡ before.header) × (held_in push now ≡ held_in before room)
 space_keeps before push room now wanted error told z (inl x) = rw (x.2, x.3) (refl, refl)
 space_keeps before push room now wanted error told z (inr (inl x)) = rw (x.2, x.3) (refl, refl)

@@ -7,3 +7,12 @@ pub mod Bodies
 pub mod Batches
 pub mod Push
 pub mod Pushes
+pub mod PushBlocks
+pub mod RoomCalls
+pub mod BlockPushes
+pub mod AnyPackets
+pub mod PushPackets
+pub mod PacketPushes
+pub mod Reasons
+pub mod Putting
+pub mod PutsAgain

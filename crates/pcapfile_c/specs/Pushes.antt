@@ -49,9 +49,9 @@ pub record HaveEnded (calls : List (List ℕ × List Captured)) (push : Pcapfile
   pub opened : IsTrue (is_magic push.header.magic_number)
 
 -- all bytes that were put
-abbrev pub all_put : List (List ℕ × List Captured) → List ℕ
+abbrev pub all_put : {A : Type 0} → List (List ℕ × List A) → List ℕ
 all_put calls = flat_map (λ call. call.0) calls
 
--- all packets that were given
-abbrev pub all_given : List (List ℕ × List Captured) → List Captured
+-- all that was given, packets or blocks
+abbrev pub all_given : {A : Type 0} → List (List ℕ × List A) → List A
 all_given calls = flat_map (λ call. call.1) calls

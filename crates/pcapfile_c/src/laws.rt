@@ -1,12 +1,24 @@
 //! Laws of many calls.
 
-ghost use Rattle.std.specs.Prelude.{◌≡◌, ℕ, List};
+ghost use Rattle.std.specs.Prelude.{◌≡◌, ℕ, List, [], ◌∷◌, filter};
+ghost use Rattle.std.specs.List.{AllZip};
+ghost use Rattle.pcap_core.specs.Format.{Front, state_after};
 ghost use Rattle.pcap_classic.specs.declared.pcap.header.PcapHeader.{PcapHeader};
 ghost use Rattle.pcap_classic.specs.Front.{CaptureFront};
 ghost use Rattle.pcap_classic.specs.PacketText.{Captured, packet_limit};
+ghost use Rattle.pcap_file.specs.Blocks.{Item, block_format};
+ghost use Rattle.pcap_file.specs.State.{opening};
+ghost use Rattle.pcapfile_c.specs.declared.blocks.PcapfileBlock.{PcapfileBlock};
+ghost use Rattle.pcapfile_c.specs.declared.blocks.PcapfileSection.{PcapfileSection};
 ghost use Rattle.pcapfile_c.specs.declared.push.PcapfilePush.{PcapfilePush};
+ghost use Rattle.pcapfile_c.specs.Blocks.{ShowsState, ShowsBlock};
+ghost use Rattle.pcapfile_c.specs.BlockPushes.{BlocksHaveEnded};
+ghost use Rattle.pcapfile_c.specs.declared.any_packets.PcapfileAnyPacket.{PcapfileAnyPacket};
+ghost use Rattle.pcapfile_c.specs.PacketPushes.{PacketsHaveEnded, ShowsThere, each_under, is_packet_there, read_format};
 ghost use Rattle.pcapfile_c.specs.Push.{held_in};
 ghost use Rattle.pcapfile_c.specs.Pushes.{HaveEnded, all_given, all_put};
+ghost use Rattle.pcapfile_c.specs.Putting.{Given, a_section};
+ghost use Rattle.pcapfile_c.specs.PutsAgain.{ArePut, IsReadAs};
 ghost use Rattle.pcapfile_c.specs.Shown.{shown_header};
 
 /// However a capture is cut, and whatever calls are made in any order, in any rooms in which C leaves what is held: where a call
@@ -15,4 +27,28 @@ ghost use Rattle.pcapfile_c.specs.Shown.{shown_header};
 pub fn pushes_give_the_front()
     ensures { (calls : List (List ℕ × List Captured)) (push : PcapfilePush) (room : List ℕ) → HaveEnded calls push room →
         (header : PcapHeader) × (push.header ≡ shown_header header) × CaptureFront packet_limit header (all_given calls) (all_put calls) (held_in push room) }
+{}
+
+/// The same of the blocks of a PcapNg capture: those that were given are those of the front of all bytes that were put, what is
+/// held is the rest, and what is in force is what the front leaves.
+pub fn pushed_blocks_give_the_front()
+    ensures { (calls : List (List ℕ × List PcapfileBlock)) (push : PcapfilePush) (section : PcapfileSection) (room : List ℕ) → BlocksHaveEnded calls push section room →
+        (items : List Item) × Front block_format opening items (all_put calls) (held_in push room) × ShowsState section (state_after block_format opening items)
+        × AllZip (λ (item : Item) (block : PcapfileBlock). ShowsBlock item.block block) items (all_given calls) }
+{}
+
+/// The same of the packets of a PcapNg capture, where the array of interfaces may be a longer one at each call: those that were
+/// given are, in order, the packets among the blocks of the front of all bytes that were put, where the body of each packet is
+/// read, and each is shown with what is in force where it stands.
+pub fn pushed_packets_give_the_front()
+    ensures { (calls : List (List ℕ × List PcapfileAnyPacket)) (push : PcapfilePush) (room : List ℕ) → PacketsHaveEnded calls push room →
+        (items : List Item) × Front read_format opening items (all_put calls) (held_in push room)
+        × AllZip ShowsThere (filter is_packet_there (each_under opening items)) (all_given calls) }
+{}
+
+/// What calls put one behind the other, the first of it a section header, is a capture of blocks with nothing behind them, and each
+/// is read as the struct that was given for it.
+pub fn puts_are_read()
+    ensures { (first : PcapfileSection) (others : List Given) (section : PcapfileSection) (bytes : List ℕ) → ArePut section (a_section first ∷ others) bytes →
+        (items : List Item) × Front block_format opening items bytes [] × AllZip IsReadAs items (a_section first ∷ others) }
 {}

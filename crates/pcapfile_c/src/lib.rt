@@ -5,6 +5,7 @@
 //! requires anything of its arguments' values.
 #![tactic(auto)]
 
+mod any_packets;
 mod batches;
 mod blocks;
 mod bodies;
@@ -12,7 +13,12 @@ mod errors;
 pub mod laws;
 mod pcap;
 mod push;
+mod push_blocks;
+mod push_packets;
+mod putting;
+mod reasons;
 mod rule_texts;
 mod shown;
+mod texts;
 mod version;
 mod writing;

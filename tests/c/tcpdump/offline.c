@@ -12,13 +12,24 @@
 #include <stdio.h>
 #include <stdlib.h>
 #include <string.h>
+#include <sys/mman.h>
+#include <sys/stat.h>
 
 #include "pcapfile.h"
+
+/* How many packets one call of the library takes. */
+enum { BATCH = 256 };
 
 struct capture {
     pcap_t *handle;
     uint8_t *bytes;
+    size_t mapped; /* how many of the bytes are a file's that is mapped, 0 where they were read */
     pcapfile_bytes left;
+    union {
+        pcapfile_packet classic[BATCH];
+        pcapfile_ng_packet ng[BATCH];
+    } packets;
+    size_t taken, given; /* how many of these packets are there, and how many of them the program has */
     pcapfile_header header; /* of a PcapNg capture one that stands for its first interface */
     pcapfile_section section;
     pcapfile_interface *interfaces; /* those of the section */
@@ -57,6 +68,20 @@ static void say(char *said, int32_t status, const pcapfile_error *error) {
                  (const char *)text.ptr);
 }
 
+/* A file from where it stands on, which must not change while it is open. */
+static int map_file(FILE *file, struct capture *capture) {
+    struct stat status;
+    off_t at = ftello(file);
+    if (at < 0 || fstat(fileno(file), &status) != 0 || !S_ISREG(status.st_mode) || status.st_size <= at) return 0;
+    size_t len = (size_t)status.st_size;
+    void *bytes = mmap(NULL, len, PROT_READ, MAP_PRIVATE, fileno(file), 0);
+    if (bytes == MAP_FAILED) return 0;
+    capture->bytes = bytes;
+    capture->mapped = len;
+    capture->left = (pcapfile_bytes){ capture->bytes + at, len - (size_t)at };
+    return 1;
+}
+
 static int read_all(FILE *file, struct capture *capture) {
     size_t len = 0, room = 1 << 16, more;
     while ((capture->bytes = realloc(capture->bytes, room)) && (more = fread(capture->bytes + len, 1, room - len, file)) > 0)
@@ -66,7 +91,10 @@ static int read_all(FILE *file, struct capture *capture) {
 }
 
 static void let_go(struct capture *capture) {
-    free(capture->bytes);
+    if (capture->mapped)
+        munmap(capture->bytes, capture->mapped);
+    else
+        free(capture->bytes);
     free(capture->interfaces);
     free(capture->filter.bf_insns);
     free(capture);
@@ -166,8 +194,19 @@ static int is_ng(pcapfile_bytes bytes) {
     return bytes.len >= 4 && !memcmp(bytes.ptr, "\x0a\x0d\x0d\x0a", 4);
 }
 
+/* The library fills in packets that have a value. */
+static void make_packets(struct capture *capture) {
+    for (size_t at = 0; at < BATCH; at++) {
+        if (capture->is_ng)
+            capture->packets.ng[at] = (pcapfile_ng_packet)PCAPFILE_NG_PACKET_INIT;
+        else
+            capture->packets.classic[at] = (pcapfile_packet)PCAPFILE_PACKET_INIT;
+    }
+}
+
 static int take_front(struct capture *capture, char *said) {
     capture->is_ng = is_ng(capture->left);
+    make_packets(capture);
     if (capture->is_ng) return take_first_interface(capture, said);
     return take_header(capture, said) && !has_old_lengths(&capture->header, said);
 }
@@ -184,7 +223,7 @@ pcap_t *pcap_fopen_offline_with_tstamp_precision(FILE *file, u_int precision, ch
     pcap_t *handle = NULL;
     if (!capture) return NULL;
     capture->precision = precision;
-    if (read_all(file, capture))
+    if (map_file(file, capture) || read_all(file, capture))
         handle = open_capture(capture, said);
     else
         snprintf(said, PCAP_ERRBUF_SIZE, "pcapfile: the file can't be read");
@@ -223,66 +262,75 @@ static int is_native(const pcapfile_header *header) {
     return is_big != order[0];
 }
 
-/* The packet that a block is, as libpcap shows it. */
-static int show_packet(struct capture *capture, const pcapfile_block *block, struct pcap_pkthdr *header, const u_char **data) {
-    pcapfile_ng_packet packet = PCAPFILE_NG_PACKET_INIT;
-    pcapfile_error error = PCAPFILE_ERROR_INIT;
+/* A packet of a PcapNg capture, as libpcap shows it. */
+static int show_ng_packet(struct capture *capture, const pcapfile_ng_packet *packet, struct pcap_pkthdr *header) {
     pcapfile_time time = PCAPFILE_TIME_INIT;
-    int32_t status = pcapfile_read_packet(&capture->section, block, &packet, &error);
-    if (status != PCAPFILE_OK) {
-        say(capture->error, status, &error);
-        return -1;
-    }
-    if (packet.interface_id >= capture->section.interfaces) {
+    if (packet->interface_id >= capture->section.interfaces) {
         snprintf(capture->error, PCAP_ERRBUF_SIZE,
                  "a packet arrived on interface %u, but there's no Interface Description Block for that interface",
-                 (unsigned)packet.interface_id);
+                 (unsigned)packet->interface_id);
         return -1;
     }
-    uint32_t stored = (uint32_t)packet.bytes.len;
-    if (block->type == PCAPFILE_BLOCK_SIMPLE_PACKET && packet.orig_len < stored) stored = packet.orig_len;
-    if (block->type == PCAPFILE_BLOCK_SIMPLE_PACKET && capture->snaplen < stored) stored = capture->snaplen;
+    uint32_t stored = (uint32_t)packet->bytes.len;
+    int is_simple = packet->type == PCAPFILE_BLOCK_SIMPLE_PACKET;
+    if (is_simple && packet->orig_len < stored) stored = packet->orig_len;
+    if (is_simple && capture->snaplen < stored) stored = capture->snaplen;
     if (stored > capture->snaplen) {
         snprintf(capture->error, PCAP_ERRBUF_SIZE, "invalid packet capture length %u, bigger than snaplen of %d",
                  (unsigned)stored, (int)capture->snaplen);
         return -1;
     }
-    pcapfile_time_of(&capture->interfaces[packet.interface_id], packet.timestamp, &time);
+    pcapfile_time_of(&capture->interfaces[packet->interface_id], packet->timestamp, &time);
     int is_nano = capture->precision == PCAP_TSTAMP_PRECISION_NANO;
     header->ts.tv_sec = (time_t)time.seconds;
     header->ts.tv_usec = (suseconds_t)(is_nano ? time.nanoseconds : time.nanoseconds / 1000);
-    header->len = packet.orig_len;
+    header->len = packet->orig_len;
     header->caplen = stored;
-    *data = packet.bytes.ptr;
     return 1;
 }
 
-static int take_from_blocks(struct capture *capture, struct pcap_pkthdr *header, const u_char **data) {
+/* A packet of a classic capture, as libpcap shows it. */
+static void show_packet(const struct capture *capture, const pcapfile_packet *packet, struct pcap_pkthdr *header) {
+    int is_nano = capture->precision == PCAP_TSTAMP_PRECISION_NANO;
+    /* In the order of this machine libpcap takes seconds for a signed number. */
+    header->ts.tv_sec = is_native(&capture->header) ? (int32_t)packet->ts_sec : (time_t)packet->ts_sec;
+    header->ts.tv_usec = (suseconds_t)(is_nano ? packet->ts_nsec : packet->ts_nsec / 1000);
+    header->len = packet->orig_len;
+    header->caplen = packet->bytes.len < capture->snaplen ? (uint32_t)packet->bytes.len : capture->snaplen;
+}
+
+/* Takes the next packets, as many as there is room for. 1: there are some. 0: the capture is over. -1: what is left is refused. */
+static int take_packets(struct capture *capture) {
     pcapfile_block block = PCAPFILE_BLOCK_INIT;
-    int taken;
-    while ((taken = take_block(capture, &block, capture->error)) == 1)
-        if (is_packet(&block)) return show_packet(capture, &block, header, data);
-    return taken;
+    capture->given = capture->taken = 0;
+    while (capture->left.len > 0) {
+        pcapfile_error error = PCAPFILE_ERROR_INIT;
+        int32_t status = capture->is_ng ? pcapfile_take_ng_packets(&capture->section, &capture->left, capture->packets.ng, BATCH,
+                                                                   &capture->taken, &error)
+                                        : pcapfile_take_packets(&capture->header, &capture->left, capture->packets.classic, BATCH,
+                                                                &capture->taken, &error);
+        if (capture->taken > 0) return 1;
+        if (status == PCAPFILE_NOTHING) {
+            if (take_block(capture, &block, capture->error) != 1) return -1;
+        } else if (status != PCAPFILE_OK) {
+            say(capture->error, status, &error);
+            return -1;
+        }
+    }
+    return 0;
 }
 
 /* Takes the next packet. 1: it is there. 0: the capture is over. -1: what is left is refused. */
 static int take(struct capture *capture, struct pcap_pkthdr *header, const u_char **data) {
-    pcapfile_packet packet = PCAPFILE_PACKET_INIT;
-    pcapfile_error error = PCAPFILE_ERROR_INIT;
-    if (capture->is_ng) return take_from_blocks(capture, header, data);
-    if (capture->left.len == 0) return 0;
-    int32_t status = pcapfile_take_packet(&capture->header, &capture->left, &packet, &error);
-    if (status != PCAPFILE_OK) {
-        say(capture->error, status, &error);
-        return -1;
+    int taken = capture->given < capture->taken ? 1 : take_packets(capture);
+    if (taken != 1) return taken;
+    size_t at = capture->given++;
+    if (capture->is_ng) {
+        *data = capture->packets.ng[at].bytes.ptr;
+        return show_ng_packet(capture, &capture->packets.ng[at], header);
     }
-    int is_nano = capture->precision == PCAP_TSTAMP_PRECISION_NANO;
-    /* In the order of this machine libpcap takes seconds for a signed number. */
-    header->ts.tv_sec = is_native(&capture->header) ? (int32_t)packet.ts_sec : (time_t)packet.ts_sec;
-    header->ts.tv_usec = (suseconds_t)(is_nano ? packet.ts_nsec : packet.ts_nsec / 1000);
-    header->len = packet.orig_len;
-    header->caplen = packet.bytes.len < capture->snaplen ? (uint32_t)packet.bytes.len : capture->snaplen;
-    *data = packet.bytes.ptr;
+    *data = capture->packets.classic[at].bytes.ptr;
+    show_packet(capture, &capture->packets.classic[at], header);
     return 1;
 }
 

@@ -1,0 +1,142 @@
+-- What is put is a block that is read as it was.
+use Rattle.std.proofs.Common.{◌≡◌, ◌≢◌, ℕ, ℤ, ◌+◌, ◌-◌, ◌<◌, ◌≤◌, ◌^◌, List, [], ◌∷◌, length, refl, sym, ap, subst, ◌∙◌, append-nil, arith, zero, suc, pos, negsuc, Some, None, inl, inr, w32, to_z, of_z}
+use Rattle.std.specs.Prelude.{◌==◌, if◌then◌else◌, Bool, false, FitsSigned}
+use Rattle.std.specs.Int.{w64, cast_unsigned}
+use Rattle.std.proofs.Math.Nat.{lt_of_not-le}
+use Rattle.std.proofs.lemmas.Bool.{ne_eqb}
+use Rattle.std.proofs.lemmas.List.Elements.{All-nil, All-cons}
+use Rattle.std.proofs.lemmas.Option.{same_Some}
+use Rattle.pcap_core.specs.declared.common.Endianness.{Endianness}
+use Rattle.pcap_core.specs.declared.link.DataLink.{DataLink}
+use Rattle.pcap_core.specs.Answer.{number_in}
+use Rattle.pcap_core.specs.Codec.{number_bytes}
+use Rattle.pcap_core.specs.Link.{Link}
+use Rattle.pcap_core.proofs.Codec.{codec}
+use Rattle.pcap_blocks.specs.InterfaceDescription.{interface_description}
+use Rattle.pcap_blocks.specs.SectionHeader.{magic_order}
+use Rattle.pcap_blocks.specs.Values.{Entry, Integer}
+use Rattle.pcap_written.specs.Bodies.{text_of}
+use Rattle.pcap_written.specs.Fits.{AreFit, IsFitOption}
+use Rattle.pcap_written.proofs.Packets.{packet_fit}
+use Rattle.pcapfile_c.specs.declared.blocks.PcapfileSection.{PcapfileSection}
+use Rattle.pcapfile_c.specs.declared.bodies.PcapfileInterface.{PcapfileInterface}
+use Rattle.pcapfile_c.specs.declared.bodies.PcapfileNgPacket.{PcapfileNgPacket}
+use Rattle.pcapfile_c.specs.declared.errors.PcapfileError.{PcapfileError}
+use Rattle.pcapfile_c.specs.declared.reasons.Reason.{Reason}
+use Rattle.pcapfile_c.specs.Reasons.{IsRefused}
+use Rattle.pcapfile_c.specs.Putting.{Given, IsTextOf, PutsAt, PutsBlock, a_section, an_interface, a_packet, clock_options, section_block, interface_block, packet_block, resolution_byte}
+use Rattle.pcapfile_c.proofs.Parts.{clock_short, interface_long, section_long}
+use Rattle.pcapfile_c.proofs.Puts.{begins}
+
+resolution_fit : (e : Endianness) (resolution : ℕ) → IsFitOption (number_in e) (number_bytes e) interface_description (record { code = 9; value = Integer resolution })
+resolution_fit e resolution = record { code = omega arith; no_mark = λ is. omega (arith, is); short = omega arith; kept = refl }
+
+offset_fit : (e : Endianness) (offset : ℕ) → offset < 2 ^ 64 → IsFitOption (number_in e) (number_bytes e) interface_description (record { code = 14; value = Integer offset })
+offset_fit e offset fits =
+    let write = number_bytes e in
+    let long : length (write 8 offset) ≡ 8 = (codec e).wide 8 offset in
+    let again : number_in e 8 (write 8 offset) ≡ offset = ap (number_in e 8) (sym (append-nil (write 8 offset))) ∙ (codec e).again 8 offset [] (omega (arith, fits)) in
+    record { code = omega arith; no_mark = λ is. omega (arith, is); short = omega (arith, long); kept = rw (long, again) refl }
+
+clock_fit : (e : Endianness) (resolution offset : ℕ) → offset < 2 ^ 64 → AreFit (number_in e) (number_bytes e) interface_description (clock_options resolution offset)
+clock_fit e resolution zero fits =
+    let IsFit = IsFitOption (number_in e) (number_bytes e) interface_description in
+    All-cons IsFit (record { code = 9; value = Integer resolution }) [] (resolution_fit e resolution) (All-nil IsFit)
+clock_fit e resolution (suc n) fits =
+    let IsFit = IsFitOption (number_in e) (number_bytes e) interface_description in
+    let moved : suc n ≢ 0 = λ is. omega (arith, is) in
+    let is : (suc n == 0) ≡ false = ne_eqb (suc n) 0 moved in
+    let unit : Entry = record { code = 9; value = Integer resolution } in
+    let offset : Entry = record { code = 14; value = Integer (suc n) } in
+    subst (λ (none : Bool). AreFit (number_in e) (number_bytes e) interface_description (unit ∷ (if none then [] else offset ∷ []))) (sym is) (All-cons IsFit unit (offset ∷ []) (resolution_fit e resolution) (All-cons IsFit offset [] (offset_fit e (suc n) fits) (All-nil IsFit)))
+
+bits_fit : (z : ℤ) → FitsSigned w64 z → cast_unsigned w64 z < 2 ^ 64
+bits_fit (pos n) fits = omega (arith, fits.sfits)
+bits_fit (negsuc n) fits = omega arith
+
+-- a number that names an order has four bytes
+magic_fits : (n : ℕ) (e : Endianness) → magic_order n ≡ Some e → n < 2 ^ 32
+unfolding magic_order
+magic_fits n e names = lt_of_not-le (λ (big : 2 ^ 32 ≤ n).
+    let not_big : (n == 0x1A2B3C4D) ≡ false = ne_eqb n 0x1A2B3C4D (λ is. omega (arith, is, big)) in
+    let not_little : (n == 0x4D3C2B1A) ≡ false = ne_eqb n 0x4D3C2B1A (λ is. omega (arith, is, big)) in
+    let none : magic_order n ≡ None = rw (not_big, not_little) refl in
+    let wrong : None ≡ Some e = sym none ∙ names in
+    absurd cc)
+
+pub section_is_text : (e : Endianness) (s : PcapfileSection) → magic_order s.magic_number ≡ Some e → s.version_major < 2 ^ 16 → s.version_minor < 2 ^ 16
+    → IsTextOf (a_section s) s (record s { interfaces = 0 }) (text_of (number_bytes e) (section_block s))
+section_is_text e s order major minor =
+    let unknown : FitsSigned w64 (negsuc 0) = record { sfits = omega arith } in
+    record {
+      body = section_block s;
+      behind = record { endianness = e; interfaces = 0 };
+      body_is = refl;
+      written = λ at may. record {
+        place = (record { named = order; known = λ id is. absurd cc; room = omega arith }, refl);
+        fit = record {
+          fit = record { magic = magic_fits s.magic_number e order; major = major; minor = minor; length_fits = unknown; options = λ k d lt. absurd (omega (arith, lt)) };
+          short = omega (arith, section_long (number_bytes e) (codec e).wide s);
+        };
+        text = refl;
+      };
+      order = order;
+      next_is = refl;
+    }
+
+pub interface_is_text : (e : Endianness) (link : DataLink) (s : PcapfileSection) (i : PcapfileInterface) → magic_order s.magic_number ≡ Some e → Link i.link link → i.link < 2 ^ 16 → i.ts_exponent < 128
+    → i.snaplen < 2 ^ 32 → FitsSigned w64 i.ts_offset → s.interfaces + 1 < 2 ^ 32
+    → IsTextOf (an_interface i) s (record s { interfaces = s.interfaces + 1 }) (text_of (number_bytes e) (interface_block link i))
+interface_is_text e link s i order link_is number exponent snaplen offset room =
+    let bits = cast_unsigned w64 i.ts_offset in
+    record {
+      body = interface_block link i;
+      behind = record { endianness = e; interfaces = s.interfaces + 1 };
+      body_is = (link, link_is, exponent, offset, refl);
+      written = λ at may. record {
+        place = (record { named = sym may.0 ∙ order; known = λ id is. absurd cc; room = omega (arith, may.1, room) }, ap (λ (n : ℕ). n + 1) may.1);
+        fit = record {
+          fit = record { plain = link_is.plain; link = omega (arith, link_is.number, number); reserved = omega arith; snaplen = snaplen; options = clock_fit e (resolution_byte i.ts_base i.ts_exponent) bits (bits_fit i.ts_offset offset) };
+          short = omega (arith, interface_long (number_bytes e) (codec e).wide link i, clock_short bits);
+        };
+        text = refl;
+      };
+      order = order;
+      next_is = refl;
+    }
+
+pub packet_is_text : (e : Endianness) (s : PcapfileSection) (p : PcapfileNgPacket) → magic_order s.magic_number ≡ Some e → p.interface_id < s.interfaces → s.interfaces < 2 ^ 32
+    → p.timestamp < 2 ^ 64 → p.orig_len < 2 ^ 32 → length p.bytes.now ≤ 4294967260
+    → IsTextOf (a_packet p) s s (text_of (number_bytes e) (packet_block p))
+packet_is_text e s p order known room time original short = record {
+  body = packet_block p;
+  behind = record { endianness = e; interfaces = s.interfaces };
+  body_is = refl;
+  written = λ at may. record {
+    place = (
+      record { named = sym may.0 ∙ order; known = λ id is. subst (λ (n : ℕ). n < at.interfaces) (same_Some p.interface_id id is) (omega (arith, known, may.1)); room = omega (arith, room, may.1) },
+      may.1,
+    );
+    fit = packet_fit e p.interface_id p.timestamp p.orig_len p.bytes.now (omega (arith, known, room)) time original short;
+    text = refl;
+  };
+  order = order;
+  next_is = refl;
+}
+
+-- what was put whole
+pub puts_whole : (Stands : Reason → Type 0) (given : Given) (section next : PcapfileSection) (text room now : List ℕ) (n before : ℕ) (error : PcapfileError) → IsTextOf given section next text → n ≡ length text
+    → PutsAt 0 text room now → PutsBlock Stands given section next room now before n error error (pos 0)
+puts_whole Stands given section next text room now n before error is long put = inl (refl, refl, text, is, begins n long put)
+
+-- what had no room
+pub puts_nothing : (Stands : Reason → Type 0) (given : Given) (section after : PcapfileSection) (text room : List ℕ) (n before : ℕ) (error told : PcapfileError) (status : ℤ) → IsTextOf given section after text → n ≡ length text
+    → length room < n → told.rule ≡ 0 → told.missing ≡ n - length room → status ≡ pos 9 → PutsBlock Stands given section section room room before before error told (to_z w32 (of_z w32 status))
+puts_nothing Stands given section after text room n before error told status is long few rule missing said =
+    inr (refl, refl, refl, inl (ap (λ (z : ℤ). to_z w32 (of_z w32 z)) said, text, after, is, record { no_rule = rule; some = omega (arith, few, missing); together = omega (arith, few, missing, long) }))
+
+-- what something stands against
+pub puts_refused : (Stands : Reason → Type 0) (given : Given) (section : PcapfileSection) (room : List ℕ) (before : ℕ) (error told : PcapfileError) (status : ℤ) (reason : Reason) → Stands reason → IsRefused reason told status
+    → PutsBlock Stands given section section room room before before error told (to_z w32 (of_z w32 status))
+puts_refused Stands given section room before error told status reason stands refused =
+    inr (refl, refl, refl, inr (reason, stands, record { status_is = ap (λ (z : ℤ). to_z w32 (of_z w32 z)) refused.status_is; rule_is = refused.rule_is; none_missing = refused.none_missing }))

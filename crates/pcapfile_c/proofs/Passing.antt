@@ -1,0 +1,355 @@
+-- Blocks before a packet, and what they put in force, as structs show it.
+use Rattle.std.proofs.Common.{◌≡◌, ◌<◌, ◌≤◌, ◌+◌, ◌-◌, ◌^◌, ◌⊎◌, ℕ, ℤ, zero, suc, List, [], ◌∷◌, ◌++◌, length, min, take, Bool, if◌then◌else◌, true, false, Ok, Err, Option, Some, None, refl, sym, ap, subst, ◌∙◌, inl, inr, arith, w32, to_z, of_z, drop, append_assoc}
+use Rattle.std.specs.Prelude.{IsSome, slice_set, filter}
+use Rattle.std.specs.List.{AllZip, slice_get}
+use Rattle.std.proofs.lemmas.Bool.{ne_eqb}
+use Rattle.std.proofs.lemmas.Grind.{take-set_at}
+use Rattle.std.proofs.lemmas.List.{length-append, length-take-le}
+use Rattle.std.proofs.lemmas.List.Elements.{filter-append}
+use Rattle.std.proofs.lemmas.Option.{same_Some}
+use Rattle.std.proofs.lemmas.Slice.Zip.{AllZip-long}
+use Rattle.pcap_core.specs.declared.common.Endianness.{Endianness}
+use Rattle.pcap_core.specs.declared.errors.PcapError.{PcapError}
+use Rattle.pcap_core.specs.Answer.{Order, Verdict, number_in, whole, lacks, faulty, Refuses}
+use Rattle.pcap_core.specs.Faults.{Fault, Invalid, Io, Utf8}
+use Rattle.pcap_core.specs.Format.{Texts, state_after}
+use Rattle.pcap_core.specs.Headed.{good, bad}
+use Rattle.pcap_core.proofs.Formats.{texts_own, texts_push}
+use Rattle.pcap_core.proofs.Kept.{zip_push}
+use Rattle.pcap_blocks.specs.declared.block_type.BlockType.{BlockType}
+use Rattle.pcap_blocks.specs.declared.block_type.BlockType.TheVariants as types
+use Rattle.pcap_blocks.specs.BlockType.{block_type}
+use Rattle.pcap_blocks.specs.InterfaceDescription.{Interface}
+use Rattle.pcap_blocks.specs.ParsedBlock.{Body, InterfaceBody, BodySays}
+use Rattle.pcap_blocks.specs.SectionHeader.{Section, magic_order}
+use Rattle.pcap_file.specs.Blocks.{Item, BlockSays, BlockText, MayGrow, block_format}
+use Rattle.pcap_file.specs.Bodies.{GrowsInBody, SaysOfBody}
+use Rattle.pcap_file.specs.Frames.{Framed, FrameText, own_order}
+use Rattle.pcap_file.specs.State.{State, opening, within, or_big, order_at, is_kept, leads, Means, MeansIf}
+use Rattle.pcap_file.proofs.BlockFormat.{block_said, blocks_lawful}
+use Rattle.pcap_file.proofs.KeptBodies.{read_means}
+use Rattle.pcap_file.proofs.Refusing.{body_refuses}
+use Rattle.pcapfile_c.specs.declared.any_packets.PcapfileAnyPacket.{PcapfileAnyPacket}
+use Rattle.pcapfile_c.specs.declared.blocks.PcapfileSection.{PcapfileSection}
+use Rattle.pcapfile_c.specs.declared.bodies.PcapfileInterface.{PcapfileInterface}
+use Rattle.pcapfile_c.specs.declared.bodies.PcapfileNgPacket.{PcapfileNgPacket}
+use Rattle.pcapfile_c.specs.declared.errors.PcapfileError.{PcapfileError}
+use Rattle.pcapfile_c.specs.declared.push.PcapfilePush.{PcapfilePush}
+use Rattle.pcapfile_c.specs.AnyPackets.{ShowsAny}
+use Rattle.pcapfile_c.specs.Batches.{is_packet, LeadingText, OtherText, PacketText, PacketFault, PacketMayGrow, PassageSays}
+use Rattle.pcapfile_c.specs.Blocks.{ShowsState, TellsSection, order_shown}
+use Rattle.pcapfile_c.specs.Bodies.{BodyTells, ShowsInterface, ShowsInterfaceOf, IsInterface}
+use Rattle.pcapfile_c.specs.PushPackets.{ShowsInForce, ShowsFound, GivesPacket, PutsBlock, PutsTells, StepTells, EndsWalk, TakesFrontPacket, TakesNextPacket, is_packet_block, ReadSays, ReadMayGrow, LacksPlace, Stops}
+use Rattle.pcapfile_c.specs.Push.{LiesWithin, held_in}
+use Rattle.pcapfile_c.specs.Refusals.{ShowsError, TellsRefusalWhere}
+use Rattle.pcapfile_c.proofs.BlockLaws.{behind_push}
+use Rattle.pcapfile_c.proofs.Leading.{interface_refuses, not_named, none_some, section_leads, section_puts, shows_none}
+use Rattle.pcapfile_c.proofs.Pushed.{held_rest, with_rest}
+use Rattle.pcapfile_c.proofs.PushedBlocks.{block_ends}
+use Rattle.pcapfile_c.proofs.Refused.{tells_refusal_where}
+
+-- a block that is no section has the order that holds
+frame_order : (e : Endianness) (b : Framed) (s rest : List ℕ) → FrameText e b s rest → (b.type_ ≡ types.SectionHeader → ⊥) → b.endianness ≡ e
+unfolding own_order
+frame_order e b s rest x other =
+    let no : x.number ≡ 0x0A0D0D0A → ⊥ = λ is. other (x.type_is ∙ ap block_type is) in
+    let own : Some e ≡ Some b.endianness = sym (ap (λ (t : Bool). if t then magic_order x.head.magic else Some e) (ne_eqb x.number 0x0A0D0D0A no)) ∙ x.head.own_is in
+    sym (same_Some e b.endianness own)
+
+-- a refusal says what follows from what it tells
+wider : {V W : Type 0} (M N : Type 0) (P : Verdict V → Type 0) (Q : Verdict W → Type 0) → (M → N) → ((n : ℕ) → P (lacks n) → Q (lacks n)) → ((f : Fault) → P (faulty f) → Q (faulty f))
+    → (told : PcapfileError) (z : ℤ) → TellsRefusalWhere M P told z → TellsRefusalWhere N Q told z
+wider M N P Q grow lack fault told z (inl (inl x)) = inl (inl (x.0, x.1, lack told.missing x.2))
+wider M N P Q grow lack fault told z (inl (inr (inl x))) = inl (inr (inl (x.0, x.1, x.2, fault (Invalid x.1) x.3)))
+wider M N P Q grow lack fault told z (inl (inr (inr (inl x)))) = inl (inr (inr (inl (x.0, x.1, fault Io x.2))))
+wider M N P Q grow lack fault told z (inl (inr (inr (inr x)))) = inl (inr (inr (inr (x.0, x.1, fault Utf8 x.2))))
+wider M N P Q grow lack fault told z (inr x) = inr (x.0, x.1, grow x.2)
+
+-- what refuses a block gives no packet
+pub block_stops : (q : State) (section : PcapfileSection) (places : List PcapfileInterface) (s : List ℕ) (error told : PcapfileError) (z : ℤ)
+    → TellsRefusalWhere (MayGrow q s) (BlockSays q s) told z → Stops q section places s error told z
+block_stops q section places s error told z x =
+    inr (wider (MayGrow q s) (ReadMayGrow q s) (BlockSays q s) (ReadSays q s) (λ grows. inl grows) (λ n lack. lack) (λ fault said. inl said) told z x)
+
+passage_fault : (q : State) (s : List ℕ) (fault : Fault) → PassageSays (order_at q) s (faulty fault) → BlockSays q s (faulty fault) ⊎ PacketFault (order_at q) s fault
+passage_fault q s fault (inl x) = inl (inl x)
+passage_fault q s fault (inr x) = inr x
+
+-- nor does what refuses a frame, or the body of a packet
+passage_stops : (q : State) (section : PcapfileSection) (places : List PcapfileInterface) (e : Endianness) (s : List ℕ) (error told : PcapfileError) (z : ℤ) → order_at q ≡ e
+    → TellsRefusalWhere (PacketMayGrow e s) (PassageSays e s) told z → Stops q section places s error told z
+passage_stops q section places e s error told z holds x =
+    let here : TellsRefusalWhere (PacketMayGrow (order_at q) s) (PassageSays (order_at q) s) told z = subst (λ (o : Endianness). TellsRefusalWhere (PacketMayGrow o s) (PassageSays o s) told z) (sym holds) x in
+    inr (wider (PacketMayGrow (order_at q) s) (ReadMayGrow q s) (PassageSays (order_at q) s) (ReadSays q s) (λ grows. inr grows) (λ n lack. lack) (λ fault said. passage_fault q s fault said) told z here)
+
+-- a magic number that names an order is not 0
+named_some : (magic : ℕ) (e : Endianness) → magic_order magic ≡ Some e → magic ≡ 0 → ⊥
+named_some magic e is zero_is = not_named magic zero_is (subst IsSome (sym is) refl)
+
+-- the order that the section names is the one that holds
+pub holding : (section : PcapfileSection) (places : List PcapfileInterface) (q : State) (e : Endianness) → ShowsInForce section places q → magic_order section.magic_number ≡ Some e → order_at q ≡ e
+unfolding order_at
+holding section places opening e shows is = absurd (named_some section.magic_number e is shows)
+holding section places (within d interfaces) e shows is = ap or_big (ap magic_order (sym shows.0.0.magic) ∙ is)
+
+-- what refuses a passage where a section is in force
+pub front_stops : (q : State) (section : PcapfileSection) (places : List PcapfileInterface) (e : Endianness) (s : List ℕ) (error told : PcapfileError) (z : ℤ)
+    → ShowsInForce section places q → magic_order section.magic_number ≡ Some e → TellsRefusalWhere (PacketMayGrow e s) (PassageSays e s) told z → Stops q section places s error told z
+front_stops q section places e s error told z shows is x = passage_stops q section places e s error told z (holding section places q e shows is) x
+
+-- a block that is passed over
+pub other_puts : (q : State) (section : PcapfileSection) (places : List PcapfileInterface) (e : Endianness) (s rest : List ℕ) → ShowsInForce section places q → magic_order section.magic_number ≡ Some e
+    → OtherText e s rest → PutsBlock q section places s rest
+other_puts opening section places e s rest shows is x = absurd (named_some section.magic_number e is shows)
+other_puts (within d interfaces) section places e s rest shows is x =
+    let q = within d interfaces in
+    let holds = holding section places q e shows is in
+    let frame : FrameText (order_at q) x.block s rest = subst (λ (o : Endianness). FrameText o x.block s rest) (sym holds) x.frame in
+    let means : Means q x.block (good q) = subst (λ (t : Bool). MeansIf t q x.block (good q)) (sym x.unkept) refl in
+    (record { block = x.block; after = q }, x.other, record { frame = frame; means = means }, shows)
+
+zip_found : (interfaces : List Interface) (shown : List PcapfileInterface) (k : ℕ) → AllZip ShowsInterfaceOf interfaces shown → ShowsFound (slice_get interfaces k) (slice_get shown k)
+zip_found [] [] k x = tt
+zip_found [] (y ∷ ys) k x = absurd x
+zip_found (i ∷ is) [] k x = absurd x
+zip_found (i ∷ is) (y ∷ ys) zero x = x.0
+zip_found (i ∷ is) (y ∷ ys) (suc k) x = zip_found is ys k x.1
+
+packet_unkept : (t : BlockType) → is_packet t ≡ true → is_kept t ≡ false
+packet_unkept types.SectionHeader is = absurd cc
+packet_unkept types.InterfaceDescription is = absurd cc
+packet_unkept types.Packet is = refl
+packet_unkept types.SimplePacket is = refl
+packet_unkept types.NameResolution is = refl
+packet_unkept types.InterfaceStatistics is = refl
+packet_unkept types.EnhancedPacket is = refl
+packet_unkept types.SystemdJournalExport is = refl
+packet_unkept (types.Unknown n) is = refl
+
+-- a packet
+pub packet_gives : (q : State) (section : PcapfileSection) (places : List PcapfileInterface) (e : Endianness) (s rest : List ℕ) (packet : PcapfileNgPacket) (shown : PcapfileAnyPacket)
+    → ShowsInForce section places q → magic_order section.magic_number ≡ Some e → PacketText e packet s rest
+    → ShowsAny (slice_get (take section.interfaces places) packet.interface_id) packet shown → GivesPacket q s rest shown
+packet_gives opening section places e s rest packet shown shows is text any = absurd (named_some section.magic_number e is shows)
+packet_gives (within d interfaces) section places e s rest packet shown shows is text any =
+    let q = within d interfaces in
+    let holds = holding section places q e shows is in
+    let here : PacketText (order_at q) packet s rest = subst (λ (o : Endianness). PacketText o packet s rest) (sym holds) text in
+    let means : Means q here.block (good q) = subst (λ (t : Bool). MeansIf t q here.block (good q)) (sym (packet_unkept here.block.type_ here.is)) refl in
+    record {
+      item = record { block = here.block; after = q };
+      text = record { frame = here.frame; means = means };
+      is = here.is;
+      stays = refl;
+      shows = record {
+        body = here.body;
+        after = here.after;
+        says = here.says;
+        packet = packet;
+        reads = here.shows;
+        interface = slice_get (take section.interfaces places) packet.interface_id;
+        found = zip_found interfaces (take section.interfaces places) packet.interface_id shows.1;
+        shows = any;
+      };
+    }
+
+-- a new section has no interface
+fresh_section : (next : PcapfileSection) (places : List PcapfileInterface) (d : Section) → ShowsState next (within d []) → ShowsInForce next places (within d [])
+fresh_section next places d x =
+    let none : next.interfaces ≡ 0 = omega (arith, x.1) in
+    (x, subst (λ (n : ℕ). AllZip ShowsInterfaceOf [] (take n places)) (sym none) tt)
+
+no_good : (fault : Fault) (after : State) → bad fault ≡ good after → ⊥
+no_good fault after e = absurd cc
+
+good_same : (a b : State) → good a ≡ good b → a ≡ b
+good_same a b e = cc
+
+-- a first block that leads anywhere is a section header
+first_leads : (order : Order) (t : BlockType) (s rest : List ℕ) (body : Body) (after : State) → BodySays order t s (whole body rest) → leads opening body ≡ good after
+    → (t ≡ types.SectionHeader) × (d : Section) × (after ≡ within d [])
+first_leads order types.SectionHeader s rest body after x e = (refl, x.0, good_same after (within x.0 []) (sym e ∙ ap (leads opening) x.1))
+first_leads order types.InterfaceDescription s rest body after x e = absurd (no_good _ after (sym (ap (leads opening) x.1) ∙ e))
+first_leads order types.Packet s rest body after x e = absurd (no_good _ after (sym (ap (leads opening) x.1) ∙ e))
+first_leads order types.SimplePacket s rest body after x e = absurd (no_good _ after (sym (ap (leads opening) x.1) ∙ e))
+first_leads order types.NameResolution s rest body after x e = absurd (no_good _ after (sym (ap (leads opening) x.1) ∙ e))
+first_leads order types.InterfaceStatistics s rest body after x e = absurd (no_good _ after (sym (ap (leads opening) x.1) ∙ e))
+first_leads order types.EnhancedPacket s rest body after x e = absurd (no_good _ after (sym (ap (leads opening) x.1) ∙ e))
+first_leads order types.SystemdJournalExport s rest body after x e = absurd (no_good _ after (sym (ap (leads opening) x.1) ∙ e))
+first_leads order (types.Unknown m) s rest body after x e = absurd (no_good _ after (sym (ap (leads opening) x.1) ∙ e))
+
+-- the first block
+pub first_puts : (q : State) (section next : PcapfileSection) (places : List PcapfileInterface) (s rest : List ℕ) (item : Item) → ShowsInForce section places q → magic_order section.magic_number ≡ None
+    → BlockSays q s (whole item rest) → ShowsState next item.after → PutsBlock q next places s rest
+first_puts opening section next places s rest item shows none says after =
+    let b = item.block in
+    let m = says.means in
+    let led = first_leads (number_in b.endianness) b.type_ b.body m.1 m.0 item.after m.2 m.3 in
+    let here : ShowsState next (within led.1 []) = subst (λ (a : State). ShowsState next a) led.2 after in
+    let there = subst (λ (a : State). ShowsInForce next places a) (sym led.2) (fresh_section next places led.1 here) in
+    (item, ap is_packet led.0, says, there)
+first_puts (within d interfaces) section next places s rest item shows none says after =
+    absurd (none_some (magic_order d.magic) (ap magic_order (sym shows.0.0.magic) ∙ none) shows.0.0.named)
+
+-- a section header
+pub section_puts_block : (q : State) (next : PcapfileSection) (places : List PcapfileInterface) (body s rest : List ℕ) → LeadingText (order_at q) types.SectionHeader body s rest → TellsSection body (Ok next)
+    → PutsBlock q next places s rest
+section_puts_block q next places body s rest text told =
+    let b = text.block in
+    let means = section_puts b body text.type_is text.body_is q next told in
+    (record { block = b; after = within told.0 [] }, ap is_packet text.type_is, record { frame = text.frame; means = means }, fresh_section next places told.0 (told.3, told.4))
+
+-- or its refusal
+pub section_stops : (q : State) (section : PcapfileSection) (places : List PcapfileInterface) (body s rest : List ℕ) (e : PcapError) (error told : PcapfileError) (z : ℤ)
+    → LeadingText (order_at q) types.SectionHeader body s rest → TellsSection body (Err e) → ShowsError e told z → Stops q section places s error told (to_z w32 (of_z w32 z))
+section_stops q section places body s rest e error told z text refused shows =
+    let b = text.block in
+    let led = section_leads b body text.type_is text.body_is q (Err e) refused in
+    block_stops q section places s error told (to_z w32 (of_z w32 z)) (tells_refusal_where (MayGrow q s) (BlockSays q s) e told z (body_refuses q s b rest text.frame e led) shows)
+
+interface_no_section : types.InterfaceDescription ≡ types.SectionHeader → ⊥
+interface_no_section e = absurd cc
+
+-- an interface behind a section and its interfaces so far
+module _ (d : Section) (interfaces : List Interface) (section : PcapfileSection) (places : List PcapfileInterface) (e : Endianness) (body s rest : List ℕ)
+    (shows : ShowsInForce section places (within d interfaces)) (is : magic_order section.magic_number ≡ Some e) (text : LeadingText (order_at (within d interfaces)) types.InterfaceDescription body s rest) where
+  interface_order : text.block.endianness ≡ e
+  interface_order =
+      frame_order (order_at (within d interfaces)) text.block s rest text.frame (λ other. interface_no_section (sym text.type_is ∙ other)) ∙ holding section places (within d interfaces) e shows is
+
+  -- an interface that leads on stands there
+  InterfaceText : PcapfileInterface → Type 0
+  InterfaceText found = (i : Interface) × ShowsInterfaceOf i found × BlockText (within d interfaces) (record { block = text.block; after = within d (interfaces ++ i ∷ []) }) s rest
+
+  interface_text : (found : PcapfileInterface) → BodyTells ShowsInterface IsInterface e types.InterfaceDescription body (Ok (Some found)) → InterfaceText found
+  unfolding InterfaceText
+  interface_text found told =
+      let b = text.block in
+      let i = told.3.0 in
+      let said : BodySays (number_in e) types.InterfaceDescription body (whole (InterfaceBody i) told.1) = (i, refl, told.3.2) in
+      let there : BodySays (number_in b.endianness) b.type_ b.body (whole (InterfaceBody i) told.1) = rw (interface_order, text.type_is, sym text.body_is) said in
+      let means = read_means (within d interfaces) b (good (within d (interfaces ++ i ∷ []))) (ap is_kept text.type_is) (InterfaceBody i, told.1, there, refl) in
+      (i, subst (λ (v : Body). ShowsInterface v found) told.3.1 told.2, record { frame = text.frame; means = means })
+
+  interface_counted : (i : Interface) → section.interfaces < length places → section.interfaces < 2 ^ 32 - 1 → section.interfaces + 1 ≡ min (length (interfaces ++ i ∷ [])) (2 ^ 32 - 1)
+  interface_counted i within_places few =
+      let long : length interfaces ≡ length (take section.interfaces places) = sym (AllZip-long ShowsInterfaceOf interfaces (take section.interfaces places) shows.1) in
+      let count : length (take section.interfaces places) ≡ section.interfaces = length-take-le section.interfaces places (omega (arith, within_places)) in
+      omega (arith, long, count, few, length-append interfaces (i ∷ []))
+
+  interface_puts : (next : PcapfileSection) (found : PcapfileInterface) → BodyTells ShowsInterface IsInterface e types.InterfaceDescription body (Ok (Some found)) → section.interfaces < length places
+      → section.interfaces < 2 ^ 32 - 1 → next.interfaces ≡ section.interfaces + 1 → next.magic_number ≡ section.magic_number → next.version_major ≡ section.version_major → next.version_minor ≡ section.version_minor
+      → PutsBlock (within d interfaces) next (slice_set places section.interfaces found) s rest
+  unfolding InterfaceText
+  interface_puts next found told within_places few count magic major minor =
+      let t = interface_text found told in
+      let state : ShowsState next (within d (interfaces ++ t.0 ∷ [])) =
+      (record { magic = magic ∙ shows.0.0.magic; named = shows.0.0.named; major = major ∙ shows.0.0.major; minor = minor ∙ shows.0.0.minor }, count ∙ interface_counted t.0 within_places few) in
+      let taken : take next.interfaces (slice_set places section.interfaces found) ≡ take section.interfaces places ++ found ∷ [] = take-set_at places section.interfaces next.interfaces found count within_places in
+      let zip : AllZip ShowsInterfaceOf (interfaces ++ t.0 ∷ []) (take next.interfaces (slice_set places section.interfaces found)) =
+      rw taken (zip_push ShowsInterfaceOf interfaces (take section.interfaces places) t.0 found shows.1 t.1) in
+      (record { block = text.block; after = within d (interfaces ++ t.0 ∷ []) }, ap is_packet text.type_is, t.2, (state, zip))
+
+  interface_lacks : (found : PcapfileInterface) → BodyTells ShowsInterface IsInterface e types.InterfaceDescription body (Ok (Some found)) → (length places ≤ section.interfaces) ⊎ (section.interfaces ≡ 2 ^ 32 - 1)
+      → LacksPlace (within d interfaces) section places s
+  unfolding InterfaceText
+  interface_lacks found told full =
+      let t = interface_text found told in
+      (record { block = text.block; after = within d (interfaces ++ t.0 ∷ []) }, rest, text.type_is, t.2, full)
+
+  interface_refused : (error : PcapError) (error_before told : PcapfileError) (z : ℤ) → BodyTells ShowsInterface IsInterface e types.InterfaceDescription body (Err error) → ShowsError error told z
+      → Stops (within d interfaces) section places s error_before told (to_z w32 (of_z w32 z))
+  interface_refused error error_before told z refused shown =
+      let b = text.block in
+      let q = within d interfaces in
+      let there : Refuses (GrowsInBody b) (λ n. SaysOfBody b (lacks n)) (λ fault. SaysOfBody b (faulty fault)) error = rw (interface_order, text.type_is, sym text.body_is) refused in
+      let led = interface_refuses d interfaces b text.type_is error there in
+      block_stops q section places s error_before told (to_z w32 (of_z w32 z)) (tells_refusal_where (MayGrow q s) (BlockSays q s) error told z (body_refuses q s b rest text.frame error led) shown)
+
+-- the same of any state that the structs show
+pub found_puts : (q : State) (section next : PcapfileSection) (places : List PcapfileInterface) (e : Endianness) (body s rest : List ℕ) (found : PcapfileInterface) → ShowsInForce section places q
+    → magic_order section.magic_number ≡ Some e → LeadingText (order_at q) types.InterfaceDescription body s rest → BodyTells ShowsInterface IsInterface e types.InterfaceDescription body (Ok (Some found))
+    → section.interfaces < length places → section.interfaces < 2 ^ 32 - 1 → next.interfaces ≡ section.interfaces + 1 → next.magic_number ≡ section.magic_number
+    → next.version_major ≡ section.version_major → next.version_minor ≡ section.version_minor → PutsBlock q next (slice_set places section.interfaces found) s rest
+found_puts opening section next places e body s rest found shows is text told within_places few count magic major minor = absurd (named_some section.magic_number e is shows)
+found_puts (within d interfaces) section next places e body s rest found shows is text told within_places few count magic major minor =
+    interface_puts d interfaces section places e body s rest shows is text next found told within_places few count magic major minor
+
+pub found_lacks : (q : State) (section : PcapfileSection) (places : List PcapfileInterface) (e : Endianness) (body s rest : List ℕ) (found : PcapfileInterface) → ShowsInForce section places q
+    → magic_order section.magic_number ≡ Some e → LeadingText (order_at q) types.InterfaceDescription body s rest → BodyTells ShowsInterface IsInterface e types.InterfaceDescription body (Ok (Some found))
+    → (length places ≤ section.interfaces) ⊎ (section.interfaces ≡ 2 ^ 32 - 1) → LacksPlace q section places s
+found_lacks opening section places e body s rest found shows is text told full = absurd (named_some section.magic_number e is shows)
+found_lacks (within d interfaces) section places e body s rest found shows is text told full = interface_lacks d interfaces section places e body s rest shows is text found told full
+
+pub found_stops : (q : State) (section : PcapfileSection) (places : List PcapfileInterface) (e : Endianness) (body s rest : List ℕ) (error : PcapError) (error_before told : PcapfileError) (z : ℤ)
+    → ShowsInForce section places q → magic_order section.magic_number ≡ Some e → LeadingText (order_at q) types.InterfaceDescription body s rest
+    → BodyTells ShowsInterface IsInterface e types.InterfaceDescription body (Err error) → ShowsError error told z → Stops q section places s error_before told (to_z w32 (of_z w32 z))
+found_stops opening section places e body s rest error error_before told z shows is text refused shown = absurd (named_some section.magic_number e is shows)
+found_stops (within d interfaces) section places e body s rest error error_before told z shows is text refused shown =
+    interface_refused d interfaces section places e body s rest shows is text error error_before told z refused shown
+
+-- Blocks one after the other, none of them a packet, and these structs show what is in force behind them.
+abbrev pub PutsBlocks : State → PcapfileSection → List PcapfileInterface → List ℕ → List ℕ → Type 0
+PutsBlocks q next now s mid =
+    (passed : List Item) × Texts block_format q passed s mid × (filter is_packet_block passed ≡ []) × ShowsInForce next now (state_after block_format q passed)
+
+-- one block more
+pub puts_more : (q : State) (section next : PcapfileSection) (places now : List PcapfileInterface) (s mid rest : List ℕ) → (x : PutsBlocks q section places s mid)
+    → PutsBlock (state_after block_format q x.0) next now mid rest → PutsBlocks q next now s rest
+puts_more q section next places now s mid rest x y =
+    let says = block_said (state_after block_format q x.0) y.0 mid rest y.2 in
+    let one : filter is_packet_block (y.0 ∷ []) ≡ [] = rw y.1 refl in
+    let none : filter is_packet_block (x.0 ++ y.0 ∷ []) ≡ [] = filter-append is_packet_block x.0 (y.0 ∷ []) ∙ ap (λ (l : List Item). l ++ filter is_packet_block (y.0 ∷ [])) x.2 ∙ one in
+    (x.0 ++ y.0 ∷ [], texts_push block_format q x.0 y.0 s mid rest x.1 says, none, subst (λ (a : State). ShowsInForce next now a) (sym (behind_push q x.0 y.0)) y.3)
+
+-- a block that is no packet, where any may stand
+pub puts_step : (q : State) (section next : PcapfileSection) (places now : List PcapfileInterface) (s rest : List ℕ) (packet : PcapfileAnyPacket) (error told : PcapfileError) (r : Option ℤ)
+    → PutsTells q section next places now s rest error told r → StepTells q section next places now s rest packet packet error told r
+puts_step q section next places now s rest packet error told None x = (x.0, refl, x.1)
+puts_step q section next places now s rest packet error told (Some z) x = (x.0, x.1, inr (refl, x.2, x.3))
+
+-- ---- what is taken from what is held
+
+walk_ends : (q : State) (section : PcapfileSection) (places : List PcapfileInterface) (s rest : List ℕ) (old packet : PcapfileAnyPacket) (error told : PcapfileError) (z : ℤ)
+    → EndsWalk q section places s rest old packet error told z → (t : List ℕ) × (s ≡ t ++ rest)
+walk_ends q section places s rest old packet error told z (inl e) = block_ends q s rest e.2.item e.2.text
+walk_ends q section places s rest old packet error told z (inr e) = ([], sym e.1)
+
+front_ends : (q : State) (next : PcapfileSection) (now : List PcapfileInterface) (s rest : List ℕ) (old packet : PcapfileAnyPacket) (error told : PcapfileError) (z : ℤ)
+    → TakesFrontPacket q next now s rest old packet error told z → (t : List ℕ) × (s ≡ t ++ rest)
+front_ends q next now s rest old packet error told z x =
+    let o = texts_own block_format blocks_lawful q x.passed s x.mid x.texts in
+    let m = walk_ends (state_after block_format q x.passed) next now x.mid rest old packet error told z x.ends in
+    (o.0 ++ m.0, o.1 ∙ ap (λ (l : List ℕ). o.0 ++ l) m.1 ∙ sym (append_assoc o.0 m.0 rest))
+
+-- a packet is taken from what is held
+pub packet_takes : (before : PcapfilePush) (q : State) (section next : PcapfileSection) (places now : List PcapfileInterface) (room s rest : List ℕ) (old packet : PcapfileAnyPacket) (error told : PcapfileError) (z : ℤ)
+    → LiesWithin before room → s ≡ held_in before room → TakesFrontPacket q next now s rest old packet error told z
+    → TakesNextPacket q before (with_rest before before.header rest) section next places now room old packet error told z
+packet_takes before q section next places now room s rest old packet error told z lies is x =
+    let o = front_ends q next now s rest old packet error told z x in
+    let same : drop (before.end - length rest) (take before.end room) ≡ rest = held_rest before room s o.0 rest lies is o.1 in
+    let here : TakesFrontPacket q next now (held_in before room) rest old packet error told z = subst (λ (l : List ℕ). TakesFrontPacket q next now l rest old packet error told z) is x in
+    let there = subst (λ (l : List ℕ). TakesFrontPacket q next now (held_in before room) l old packet error told z) (sym same) here in
+    inl ((lies, (omega arith, lies.1), refl, refl), there)
+
+-- what no state has is no section's magic number
+pub in_force_named : (q : State) (section : PcapfileSection) (places : List PcapfileInterface) → ShowsInForce section places q → order_shown section.magic_number ≡ None → ⊥
+in_force_named opening section places shows none = shows_none section opening shows none
+in_force_named (within d interfaces) section places shows none = shows_none section (within d interfaces) shows.0 none
+
+pub shows_state : (q : State) (section : PcapfileSection) (places : List PcapfileInterface) → ShowsInForce section places q → ShowsState section q
+shows_state opening section places shows = shows
+shows_state (within d interfaces) section places shows = shows.0
+
+-- the body of an interface is one
+pub is_interface_body : (e : Endianness) (body : List ℕ) → BodyTells ShowsInterface IsInterface e types.InterfaceDescription body (Ok None) → ⊥
+is_interface_body e body told = told.2 (subst IsInterface (sym told.3.1) tt)
+
+-- a walk ends behind blocks that are no packets
+pub walk_done : (q : State) (section next : PcapfileSection) (places now : List PcapfileInterface) (s mid rest : List ℕ) (old before packet : PcapfileAnyPacket) (error known told : PcapfileError) (z : ℤ)
+    → before ≡ old → known ≡ error → (x : PutsBlocks q section places s mid) → StepTells (state_after block_format q x.0) section next places now mid rest before packet known told (Some z)
+    → TakesFrontPacket q next now s rest old packet error told z
+walk_done q section next places now s mid rest old before packet error known told z same is x y =
+    let here : TakesFrontPacket q section places s rest before packet known told z = record { passed = x.0; mid = mid; texts = x.1; none = x.2; in_force = x.3; ends = y.2 } in
+    rw (y.0, y.1, sym same, sym is) here

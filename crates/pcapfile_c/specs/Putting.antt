@@ -1,0 +1,117 @@
+-- What the calls that put blocks answer.
+use Rattle.std.specs.Prelude.{◌≡◌, ◌<◌, ◌≤◌, ◌+◌, ◌^◌, ◌==◌, ◌⊎◌, ⊤, if◌then◌else◌, ℕ, ℤ, pos, negsuc, List, [], ◌∷◌, ◌++◌, length, take, drop, Some, None, FitsSigned}
+use Rattle.std.specs.Int.{w64, cast_unsigned}
+use Rattle.pcap_core.specs.declared.link.DataLink.{DataLink}
+use Rattle.pcap_core.specs.declared.rules.Rule.TheVariants.{SectionMagic, InterfaceResolutionLength}
+use Rattle.pcap_core.specs.Link.{Link}
+use Rattle.pcap_core.specs.Padded.{up_to_4}
+use Rattle.pcap_blocks.specs.SectionHeader.{magic_order}
+use Rattle.pcap_blocks.specs.ParsedBlock.{Body, SectionBody, InterfaceBody, EnhancedBody}
+use Rattle.pcap_blocks.specs.Values.{Entry, Integer}
+use Rattle.pcap_written.specs.declared.place.Place.{Place}
+use Rattle.pcap_written.specs.Capture.{IsWritten}
+use Rattle.pcap_written.specs.Plain.{plain_packet}
+use Rattle.pcapfile_c.specs.declared.blocks.PcapfileSection.{PcapfileSection}
+use Rattle.pcapfile_c.specs.declared.bodies.PcapfileInterface.{PcapfileInterface}
+use Rattle.pcapfile_c.specs.declared.bodies.PcapfileNgPacket.{PcapfileNgPacket}
+use Rattle.pcapfile_c.specs.declared.errors.PcapfileError.{PcapfileError}
+use Rattle.pcapfile_c.specs.declared.reasons.Reason.{Reason}
+use Rattle.pcapfile_c.specs.declared.reasons.Reason.TheVariants as reasons
+use Rattle.pcapfile_c.specs.Reasons.{IsRefused}
+
+-- this text was put at this place, and all else is as it was
+pub record PutsAt (at : ℕ) (text old now : List ℕ) : Type 0 where
+  pub within : at + length text ≤ length old
+  pub is : now ≡ take at old ++ (text ++ drop (at + length text) old)
+
+-- the section that a struct shows, without options; its length, -1, is not known ('Section Header Block')
+abbrev pub section_block : PcapfileSection → Body
+section_block s = SectionBody (record { magic = s.magic_number; major_version = s.version_major; minor_version = s.version_minor; section_length = negsuc 0; options = [] })
+
+-- the byte of a unit of this base and exponent: a power of 2 has the highest bit set, and any other base is 10 (if_tsresol)
+abbrev pub resolution_byte : ℕ → ℕ → ℕ
+resolution_byte base exponent = if base == 2 then exponent + 128 else exponent
+
+-- a unit by this byte, and an offset by its bits where they are not 0 (if_tsresol, if_tsoffset)
+abbrev pub clock_options : ℕ → ℕ → List Entry
+clock_options resolution offset =
+    record { code = 9; value = Integer resolution } ∷ (if offset == 0 then [] else record { code = 14; value = Integer offset } ∷ [])
+
+-- how many bytes these options have with their mark
+abbrev pub clock_len : ℕ → ℕ
+clock_len offset = if offset == 0 then 12 else 24
+
+-- the interface that a struct shows, with a link type of its number ('Interface Description Block')
+abbrev pub interface_block : DataLink → PcapfileInterface → Body
+interface_block link i =
+    InterfaceBody (record { linktype = link; reserved = 0; snaplen = i.snaplen; options = clock_options (resolution_byte i.ts_base i.ts_exponent) (cast_unsigned w64 i.ts_offset) })
+
+-- the enhanced packet that a struct shows, without options ('Enhanced Packet Block')
+abbrev pub packet_block : PcapfileNgPacket → Body
+packet_block p = EnhancedBody (plain_packet p.interface_id p.timestamp p.orig_len p.bytes.now)
+
+-- what a call is given to put
+pub data Given : Type 0 where
+  a_section : PcapfileSection → Given
+  an_interface : PcapfileInterface → Given
+  a_packet : PcapfileNgPacket → Given
+
+-- the block that is put for it; the exponent of an interface's unit has seven bits, and its offset 64
+abbrev pub IsBlockOf : Given → Body → Type 0
+IsBlockOf (a_section s) body = body ≡ section_block s
+IsBlockOf (an_interface i) body = (link : DataLink) × Link i.link link × (i.ts_exponent < 128) × FitsSigned w64 i.ts_offset × (body ≡ interface_block link i)
+IsBlockOf (a_packet p) body = body ≡ packet_block p
+
+-- a section may stand anywhere, and all else behind the section that a struct shows with so many interfaces
+abbrev pub MayStandAt : Given → PcapfileSection → Place → Type 0
+MayStandAt (a_section s) section at = ⊤
+MayStandAt _ section at = (magic_order section.magic_number ≡ Some at.endianness) × (section.interfaces ≡ at.interfaces)
+
+-- this text is the block of what was given, in the order of the section, which then has the interfaces of the place behind it
+pub record IsTextOf (given : Given) (section next : PcapfileSection) (text : List ℕ) : Type 0 where
+  pub body : Body
+  pub behind : Place
+  pub body_is : IsBlockOf given body
+  pub written : (at : Place) → MayStandAt given section at → IsWritten at body text behind
+  pub order : magic_order section.magic_number ≡ Some behind.endianness
+  pub next_is : next ≡ record section { interfaces = behind.interfaces }
+
+-- the room begins with this text, which is as long as is said, and what follows it is as it was
+pub record BeginsWith (text room now : List ℕ) (written : ℕ) : Type 0 where
+  pub long : written ≡ length text
+  pub front : take written now ≡ text
+  pub others : drop written now ≡ drop written room
+
+-- so many bytes of room are missing for this text
+pub record NeedsRoom (text room : List ℕ) (told : PcapfileError) : Type 0 where
+  pub no_rule : told.rule ≡ 0
+  pub some : 0 < told.missing
+  pub together : told.missing + length room ≡ length text
+
+-- One call. Status 0: the block of what was given was put, and the section is as behind it. Status 9: there was no room for it.
+-- Status 3: something stands against it. Then nothing was put, and the section is as it was.
+abbrev pub PutsBlock : (Reason → Type 0) → Given → PcapfileSection → PcapfileSection → List ℕ → List ℕ → ℕ → ℕ → PcapfileError → PcapfileError → ℤ → Type 0
+PutsBlock Stands given section next room now before written error told status =
+    ((status ≡ pos 0) × (told ≡ error) × (text : List ℕ) × IsTextOf given section next text × BeginsWith text room now written)
+    ⊎ ((next ≡ section) × (now ≡ room) × (written ≡ before)
+    × (((status ≡ pos 9) × (text : List ℕ) × (after : PcapfileSection) × IsTextOf given section after text × NeedsRoom text room told)
+    ⊎ ((reason : Reason) × Stands reason × IsRefused reason told status)))
+
+-- what stands against a section
+abbrev pub SectionFlaw : PcapfileSection → Reason → Type 0
+SectionFlaw section (reasons.Breaks rule) = (rule ≡ SectionMagic) × (magic_order section.magic_number ≡ None)
+SectionFlaw section _ = ⊥
+
+-- what stands against an interface
+abbrev pub InterfaceFlaw : PcapfileSection → PcapfileInterface → Reason → Type 0
+InterfaceFlaw section i (reasons.Breaks rule) = SectionFlaw section (reasons.Breaks rule) ⊎ ((rule ≡ InterfaceResolutionLength) × (128 ≤ i.ts_exponent))
+InterfaceFlaw section i reasons.LinkTooLarge = 2 ^ 16 ≤ i.link
+InterfaceFlaw section i reasons.InterfacesFull = 2 ^ 32 ≤ section.interfaces + 1
+InterfaceFlaw section i _ = ⊥
+
+-- what stands against a packet
+abbrev pub PacketFlaw : PcapfileSection → PcapfileNgPacket → Reason → Type 0
+PacketFlaw section p (reasons.Breaks rule) = SectionFlaw section (reasons.Breaks rule)
+PacketFlaw section p reasons.InterfaceMissing = section.interfaces ≤ p.interface_id
+PacketFlaw section p reasons.BlockTooLong = 2 ^ 32 ≤ up_to_4 (length p.bytes.now) + 32
+PacketFlaw section p _ = ⊥

@@ -1,0 +1,38 @@
+//! PcapNg captures that come in pieces, in room that the caller has: their blocks.
+
+ghost use Rattle.std.specs.Prelude.{◌≡◌, None};
+ghost use Rattle.pcap_file.specs.State.{State};
+ghost use Rattle.pcapfile_c.specs.Blocks.{ShowsState, order_shown};
+ghost use Rattle.pcapfile_c.specs.PushBlocks.{TakesNextBlock, RefusesNextBlock};
+
+use crate::blocks::{PcapfileBlock, PcapfileSection, pcapfile_take_block};
+use crate::errors::PcapfileError;
+use crate::push::PcapfilePush;
+use crate::shown::PcapfileBytes;
+use std::alloc::Global;
+
+/// Takes the block at the front of what is held. `section` is what is in force before it, and then after it. The block's body
+/// lies in the room. Statuses as of `pcapfile_take_block`; where one is refused, nothing changed but the error. Status 10: what is
+/// held lies outside of the room, and nothing changed.
+#[unsafe(no_mangle)]
+pub extern "C" fn pcapfile_push_block<'a>(
+    alloc: Global,
+    push: &mut PcapfilePush,
+    section: &mut PcapfileSection,
+    room: &'a [u8],
+    block: &mut PcapfileBlock<'a>,
+    error: &mut PcapfileError,
+) -> i32
+    ensures taken { (q : State) → ShowsState section.old q →
+        TakesNextBlock q push.old push.new section.old section.new room.now block.old block.new error.old error.new result }
+    ensures refused { order_shown section.old.magic_number ≡ None →
+        RefusesNextBlock push.old push.new section.old section.new room.now block.old block.new error.old error.new result }
+{
+    let Some(held) = room.get(push.begin..push.end) else {
+        return 10;
+    };
+    let mut left = PcapfileBytes { bytes: held };
+    let status = pcapfile_take_block(alloc, section, &mut left, block, error);
+    push.begin = push.end - left.bytes.len();
+    status
+}

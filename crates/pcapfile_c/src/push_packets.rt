@@ -1,0 +1,199 @@
+//! PcapNg captures that come in pieces, in room that the caller has: their packets.
+
+ghost use Rattle.std.specs.Prelude.{◌≡◌, ◌<◌, ◌≤◌, List, length, None, Some};
+ghost use Rattle.pcap_core.specs.declared.common.Endianness.{Endianness};
+ghost use Rattle.pcap_blocks.specs.declared.block_type.BlockType.TheVariants as types;
+ghost use Rattle.pcap_blocks.specs.SectionHeader.{magic_order};
+ghost use Rattle.pcap_file.specs.State.{State, order_at};
+ghost use Rattle.pcapfile_c.specs.Batches.{LeadingText};
+ghost use Rattle.pcapfile_c.specs.Blocks.{order_shown};
+ghost use Rattle.pcapfile_c.specs.PushPackets.{ShowsInForce, LeavesFewer, PutsTells, StepTells, TakesFrontPacket, TakesNextPacket, RefusesNextPacket};
+
+use crate::any_packets::PcapfileAnyPacket;
+use crate::batches::Front;
+use crate::blocks::{PcapfileSection, section_in};
+use crate::bodies::PcapfileInterface;
+use crate::errors::{PcapfileError, tell};
+use crate::push::PcapfilePush;
+use crate::shown::PcapfileBytes;
+use pcap_core::rules::Rule;
+use pcap_file::PcapError;
+use pcap_file::pcapng::BlockType;
+use std::alloc::Global;
+
+/// Takes the packet at the front of what is held, and the blocks before it: a section header is put into `section`, an interface
+/// into the first place of `interfaces` that none of its section has, and others are passed over. The packet's bytes lie in the
+/// room. Status 0: it is taken. Status 11: an interface follows, and `interfaces` has no place for it; the blocks before it have
+/// been taken. Other statuses as of `pcapfile_take_block` and `pcapfile_read_packet`: then the packet is as it was, and the blocks
+/// before what is refused have been taken. Status 10: what is held lies outside of the room, or `section` has more interfaces than
+/// there are places, and nothing changed.
+#[unsafe(no_mangle)]
+pub extern "C" fn pcapfile_push_ng_next<'a>(
+    alloc: Global,
+    push: &mut PcapfilePush,
+    section: &mut PcapfileSection,
+    room: &'a [u8],
+    interfaces: &mut [PcapfileInterface],
+    packet: &mut PcapfileAnyPacket<'a>,
+    error: &mut PcapfileError,
+) -> i32
+    ensures taken { (q : State) → ShowsInForce section.old interfaces.old q →
+        TakesNextPacket q push.old push.new section.old section.new interfaces.old interfaces.new room.now packet.old packet.new error.old error.new result }
+    ensures refused { order_shown section.old.magic_number ≡ None →
+        RefusesNextPacket push.old push.new section.old section.new interfaces.old interfaces.new room.now packet.old packet.new error.old error.new result }
+{
+    let Some(held) = room.get(push.begin..push.end) else {
+        return 10;
+    };
+    if interfaces.len() < section.interfaces as usize {
+        return 10;
+    }
+    if section.order().is_none() {
+        return tell(&PcapError::from(Rule::SectionMagic), error);
+    }
+    let mut left = PcapfileBytes { bytes: held };
+    let status = take_packet(alloc, section, &mut left, interfaces, packet, error);
+    push.begin = push.end - left.bytes.len();
+    status
+}
+
+// Takes the packet at the front of `left`, and the blocks before it.
+fn take_packet<'a>(
+    alloc: Global,
+    section: &mut PcapfileSection,
+    left: &mut PcapfileBytes<'a>,
+    interfaces: &mut [PcapfileInterface],
+    packet: &mut PcapfileAnyPacket<'a>,
+    error: &mut PcapfileError,
+) -> i32
+    ensures taken { (q : State) → ShowsInForce section.old interfaces.old q →
+        TakesFrontPacket q section.new interfaces.new left.old.bytes.now left.new.bytes.now packet.old packet.new error.old error.new result }
+    ensures fewer { length left.new.bytes.now ≤ length left.old.bytes.now }
+{
+    loop {
+        match take_block(alloc, section, left, interfaces, packet, error) {
+            Some(status) => return status,
+            None => {}
+        }
+    }
+}
+
+// Takes the block at the front of `left`. None where the walk goes on behind it.
+#[inline(always)]
+fn take_block<'a>(
+    alloc: Global,
+    section: &mut PcapfileSection,
+    left: &mut PcapfileBytes<'a>,
+    interfaces: &mut [PcapfileInterface],
+    packet: &mut PcapfileAnyPacket<'a>,
+    error: &mut PcapfileError,
+) -> Option<i32>
+    ensures taken { (q : State) → ShowsInForce section.old interfaces.old q →
+        StepTells q section.old section.new interfaces.old interfaces.new left.old.bytes.now left.new.bytes.now packet.old packet.new error.old error.new result }
+    ensures fewer { LeavesFewer left.old.bytes.now left.new.bytes.now result }
+{
+    let Some(order) = section.endianness() else {
+        return take_first(alloc, section, left, error);
+    };
+    match section.front(alloc, order, left.bytes) {
+        Ok((rest, Front::Packet(found))) => {
+            *packet = PcapfileAnyPacket::new(found, section, interfaces);
+            left.bytes = rest;
+            Some(0)
+        }
+        Ok((rest, Front::Other)) => {
+            left.bytes = rest;
+            None
+        }
+        Ok((rest, Front::Section(body))) => take_section(alloc, section, left, rest, body, error),
+        Ok((rest, Front::Interface(body))) => {
+            take_interface(alloc, section, left, rest, body, interfaces, error)
+        }
+        Err(e) => Some(tell(&e, error)),
+    }
+}
+
+// Takes the section header with which a capture begins.
+#[cold]
+#[inline(never)]
+fn take_first(
+    alloc: Global,
+    section: &mut PcapfileSection,
+    left: &mut PcapfileBytes<'_>,
+    error: &mut PcapfileError,
+) -> Option<i32>
+    requires { magic_order section.old.magic_number ≡ None }
+    ensures taken { (q : State) (places : List PcapfileInterface) → ShowsInForce section.old places q →
+        PutsTells q section.old section.new places places left.old.bytes.now left.new.bytes.now error.old error.new result }
+    ensures fewer { LeavesFewer left.old.bytes.now left.new.bytes.now result }
+{
+    match section.next_block(alloc, left.bytes) {
+        Ok((rest, (_block, next))) => {
+            *section = next;
+            left.bytes = rest;
+            None
+        }
+        Err(e) => Some(tell(&e, error)),
+    }
+}
+
+// Puts the section of this body in force, which stands at the front of `left` before this rest.
+#[cold]
+#[inline(never)]
+fn take_section<'a>(
+    alloc: Global,
+    section: &mut PcapfileSection,
+    left: &mut PcapfileBytes<'a>,
+    rest: &'a [u8],
+    body: &'a [u8],
+    error: &mut PcapfileError,
+) -> Option<i32>
+    requires { length rest.now < length left.old.bytes.now }
+    ensures taken { (q : State) (places : List PcapfileInterface) → ShowsInForce section.old places q →
+        LeadingText (order_at q) types.SectionHeader body.now left.old.bytes.now rest.now →
+        PutsTells q section.old section.new places places left.old.bytes.now left.new.bytes.now error.old error.new result }
+    ensures fewer { LeavesFewer left.old.bytes.now left.new.bytes.now result }
+{
+    match section_in(alloc, body) {
+        Ok(next) => {
+            *section = next;
+            left.bytes = rest;
+            None
+        }
+        Err(e) => Some(tell(&e, error)),
+    }
+}
+
+// Puts the interface of this body in force, which stands at the front of `left` before this rest.
+#[cold]
+#[inline(never)]
+fn take_interface<'a>(
+    alloc: Global,
+    section: &mut PcapfileSection,
+    left: &mut PcapfileBytes<'a>,
+    rest: &'a [u8],
+    body: &'a [u8],
+    interfaces: &mut [PcapfileInterface],
+    error: &mut PcapfileError,
+) -> Option<i32>
+    requires named { (e : Endianness) × (magic_order section.old.magic_number ≡ Some e) }
+    requires shorter { length rest.now < length left.old.bytes.now }
+    ensures taken { (q : State) → ShowsInForce section.old interfaces.old q →
+        LeadingText (order_at q) types.InterfaceDescription body.now left.old.bytes.now rest.now →
+        PutsTells q section.old section.new interfaces.old interfaces.new left.old.bytes.now left.new.bytes.now error.old error.new result }
+    ensures fewer { LeavesFewer left.old.bytes.now left.new.bytes.now result }
+{
+    let found = match section.interface(alloc, BlockType::InterfaceDescription, body) {
+        Ok(Some(found)) => found,
+        Ok(None) => unreachable!(),
+        Err(e) => return Some(tell(&e, error)),
+    };
+    let count = section.interfaces;
+    if count == u32::MAX || interfaces.len() <= count as usize {
+        return Some(11);
+    }
+    interfaces[count as usize] = found;
+    section.interfaces = count + 1;
+    left.bytes = rest;
+    None
+}

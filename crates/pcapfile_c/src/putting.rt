@@ -1,0 +1,119 @@
+//! Blocks of PcapNg, put into room that the caller has.
+
+ghost use Rattle.std.specs.Prelude.{◌≡◌, ◌<◌, ◌^◌};
+ghost use Rattle.pcapfile_c.specs.Putting.{PacketFlaw, InterfaceFlaw, SectionFlaw, PutsBlock, a_section, an_interface, a_packet};
+
+use crate::blocks::PcapfileSection;
+use crate::bodies::{PcapfileInterface, PcapfileNgPacket};
+use crate::errors::PcapfileError;
+use crate::reasons::{Reason, need, refuse};
+use crate::texts::{interface_len, put_interface, put_packet, put_section};
+use pcap_core::rules::Rule;
+use pcap_file::DataLink;
+
+/// Puts a section header without options into the front of `room`: its magic number, which names the order of what follows, and
+/// its version. From then on the section has no interface.
+#[unsafe(no_mangle)]
+pub extern "C" fn pcapfile_put_section(
+    section: &mut PcapfileSection,
+    room: &mut [u8],
+    written: &mut usize,
+    error: &mut PcapfileError,
+) -> i32
+    ensures { PutsBlock (SectionFlaw section.old) (a_section section.old) section.old section.new room.old room.new written.old written.new error.old error.new result }
+{
+    let opened = without_interfaces(
+        section.magic_number,
+        section.version_major,
+        section.version_minor,
+    );
+    let Some(order) = opened.endianness() else {
+        return refuse(Reason::Breaks(Rule::SectionMagic), error);
+    };
+    if room.len() < 28 {
+        return need(28 - room.len(), error);
+    }
+    put_section(order, &opened, room);
+    *section = opened;
+    *written = 28;
+    0
+}
+
+/// Puts the description of an interface into the front of `room`, in the order of the section, with its unit of time as an
+/// if_tsresol, and with an if_tsoffset where it has an offset. The section has one interface more from then on.
+#[unsafe(no_mangle)]
+pub extern "C" fn pcapfile_put_interface(
+    section: &mut PcapfileSection,
+    interface: &PcapfileInterface,
+    room: &mut [u8],
+    written: &mut usize,
+    error: &mut PcapfileError,
+) -> i32
+    ensures { PutsBlock (InterfaceFlaw section.old interface.now) (an_interface interface.now) section.old section.new room.old room.new written.old written.new error.old error.new result }
+{
+    let Some(order) = section.endianness() else {
+        return refuse(Reason::Breaks(Rule::SectionMagic), error);
+    };
+    if section.interfaces == u32::MAX {
+        return refuse(Reason::InterfacesFull, error);
+    }
+    if interface.link > 65535 {
+        return refuse(Reason::LinkTooLarge, error);
+    }
+    if interface.ts_exponent > 127 {
+        return refuse(Reason::Breaks(Rule::InterfaceResolutionLength), error);
+    }
+    let link = DataLink::from(interface.link);
+    let len = interface_len(interface);
+    if room.len() < len {
+        return need(len - room.len(), error);
+    }
+    put_interface(order, link, interface, room);
+    section.interfaces += 1;
+    *written = len;
+    0
+}
+
+/// Puts a packet of an interface that the section has into the front of `room`, as an enhanced packet without options, in the
+/// order of the section.
+#[unsafe(no_mangle)]
+pub extern "C" fn pcapfile_put_ng_packet(
+    section: &PcapfileSection,
+    packet: &PcapfileNgPacket<'_>,
+    room: &mut [u8],
+    written: &mut usize,
+    error: &mut PcapfileError,
+) -> i32
+    ensures { PutsBlock (PacketFlaw section.now packet.now) (a_packet packet.now) section.now section.now room.old room.new written.old written.new error.old error.new result }
+{
+    let Some(order) = section.endianness() else {
+        return refuse(Reason::Breaks(Rule::SectionMagic), error);
+    };
+    if packet.interface_id >= section.interfaces {
+        return refuse(Reason::InterfaceMissing, error);
+    }
+    if packet.bytes.len() > 4_294_967_260 {
+        return refuse(Reason::BlockTooLong, error);
+    }
+    let len = packet.bytes.len().div_ceil(4) * 4 + 32;
+    if room.len() < len {
+        return need(len - room.len(), error);
+    }
+    put_packet(order, packet, room);
+    *written = len;
+    0
+}
+
+// A section that has no interface yet.
+fn without_interfaces(magic_number: u32, version_major: u16, version_minor: u16) -> PcapfileSection
+    ensures shown { result ≡ record { magic_number = magic_number; version_major = version_major; version_minor = version_minor; interfaces = 0 } }
+    ensures major { version_major < 2 ^ 16 }
+    ensures minor { version_minor < 2 ^ 16 }
+{
+    PcapfileSection {
+        magic_number,
+        version_major,
+        version_minor,
+        interfaces: 0,
+    }
+}
