@@ -2,7 +2,7 @@
 #
 #   make                                     builds both; `rt` proves them first
 #   make check                               the tests of the library, through C, Python and Rust
-#   make install PREFIX=/usr DESTDIR=room    installs both, with header, man page and pkg-config's file
+#   make install PREFIX=/usr DESTDIR=room    installs both, with header, man page, completions and pkg-config's file
 #   make uninstall                           removes what that installed, by the same words
 #   make wheel                               out/pcapfile-VERSION-*.whl, the package for Python with the library in it
 #   make dist                                out/pcapfile-VERSION-SYSTEM.tar.gz, which is used where it is unpacked
@@ -12,12 +12,15 @@
 
 PREFIX ?= /usr/local
 libdir ?= $(PREFIX)/lib
+zshdir ?= $(PREFIX)/share/zsh/site-functions
 BINDIR = $(DESTDIR)$(PREFIX)/bin
 INCDIR = $(DESTDIR)$(PREFIX)/include
 LIBDIR = $(DESTDIR)$(libdir)
 MANDIR = $(DESTDIR)$(PREFIX)/share/man/man1
 DOCDIR = $(DESTDIR)$(PREFIX)/share/doc/pcapfile
 SHAREDIR = $(DESTDIR)$(PREFIX)/share/pcapfile
+BASHDIR = $(DESTDIR)$(PREFIX)/share/bash-completion/completions
+ZSHDIR = $(DESTDIR)$(zshdir)
 
 # The file VERSION is where a version is changed; tests/packages/run compares the other places that name it.
 VERSION := $(shell cat VERSION)
@@ -77,7 +80,7 @@ check: all
 	tests/c/run
 
 install: all
-	install -d $(BINDIR) $(INCDIR) $(LIBDIR)/pkgconfig $(MANDIR) $(DOCDIR) $(SHAREDIR)
+	install -d $(BINDIR) $(INCDIR) $(LIBDIR)/pkgconfig $(MANDIR) $(DOCDIR) $(SHAREDIR) $(BASHDIR) $(ZSHDIR)
 	install -m 755 $(PROGRAM) $(BINDIR)/capcopy
 	strip $(BINDIR)/capcopy
 	install -m 644 include/pcapfile.h include/pcapfile_open.h $(INCDIR)/
@@ -91,11 +94,13 @@ install: all
 	    'Cflags: -I$${includedir}' 'Libs: -L$${libdir} -lpcapfile' > $(LIBDIR)/pkgconfig/pcapfile.pc
 	chmod 644 $(LIBDIR)/pkgconfig/pcapfile.pc
 	install -m 644 capcopy.1 $(MANDIR)/capcopy.1
+	install -m 644 packages/completions/capcopy.bash $(BASHDIR)/capcopy
+	install -m 644 packages/completions/_capcopy $(ZSHDIR)/_capcopy
 	install -m 644 CHANGELOG.md $(OUT)/licences/* $(DOCDIR)
 
 uninstall:
 	rm -f $(BINDIR)/capcopy $(INCDIR)/pcapfile.h $(INCDIR)/pcapfile_open.h $(LIBDIR)/libpcapfile.a $(LIBDIR)/libpcapfile.so.$(ABI)
-	rm -f $(LIBDIR)/libpcapfile.so $(LIBDIR)/pkgconfig/pcapfile.pc $(MANDIR)/capcopy.1
+	rm -f $(LIBDIR)/libpcapfile.so $(LIBDIR)/pkgconfig/pcapfile.pc $(MANDIR)/capcopy.1 $(BASHDIR)/capcopy $(ZSHDIR)/_capcopy
 	rm -rf $(DOCDIR) $(SHAREDIR)
 
 wheel: all

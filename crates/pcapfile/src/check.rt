@@ -1,0 +1,50 @@
+//! The word `check`.
+
+use crate::input::{STANDARD, buffered};
+use pcapfile_run::{Checked, End, check_blocks, check_packets};
+use std::fs::File;
+use std::io;
+use std::io::{BufRead, Read};
+
+/// The first byte of a capture of blocks, in either order. No classic capture begins with it.
+const FIRST_OF_BLOCKS: u8 = 10;
+
+/// Writes a line for each capture, and gives the status: that of the worst of them.
+pub(crate) fn check_files(rt: &HostRuntime, names: &[&str]) -> anyhow::Result<u8> {
+    let mut status = 0;
+    for name in names {
+        status = check_file(rt, name)?.max(status);
+    }
+    Ok(status)
+}
+
+// Writes the line of a capture. One that can't be read has it on standard error.
+fn check_file(rt: &HostRuntime, name: &str) -> anyhow::Result<u8> {
+    let checked = match read_and_check(rt, name) {
+        Ok(checked) => checked,
+        Err(error) => {
+            eprintln!(rt; "pcapfile: {name}: {error}")?;
+            return Ok(crate::FAILED);
+        }
+    };
+    match checked.end {
+        End::Unread(_) => eprintln!(rt; "pcapfile: {name}: {checked}")?,
+        _ => println!(rt; "{name}: {checked}")?,
+    }
+    Ok(checked.status())
+}
+
+fn read_and_check(rt: &HostRuntime, name: &str) -> io::Result<Checked> {
+    if name == STANDARD {
+        return check_stream(rt, rt.stdin());
+    }
+    check_stream(rt, File::open(rt, name)?)
+}
+
+fn check_stream<R: Read + Drop>(rt: &HostRuntime, stream: R) -> io::Result<Checked> {
+    let mut input = buffered(rt.alloc(), stream)?;
+    if input.fill_buf()?.first() == Some(&FIRST_OF_BLOCKS) {
+        return Ok(check_blocks(rt.alloc(), input));
+    }
+    Ok(check_packets(rt.alloc(), input))
+}

@@ -1,0 +1,43 @@
+//! The words of the program and their help.
+
+use clap::{Arg, Command};
+use std::alloc::{AllocError, Global};
+
+/// The name of the files among the arguments of a word.
+pub(crate) const FILES: &str = "FILE";
+
+const VERSION: &str = "0.2.0";
+
+const STATUSES: &str = "Exit status:
+  0  all was done, and nothing is at fault
+  1  a capture is cut short or refused
+  2  the arguments are not understood
+  3  a file can't be opened or read, or the output can't be written
+  4  memory ran out";
+
+/// The program's command line.
+pub(crate) fn command<'a>(alloc: Global) -> Result<Command<'a>, AllocError> {
+    Command::new(alloc, "pcapfile")
+        .version(VERSION)
+        .about("Tells what captures of packets hold, Pcap and PcapNg alike.")
+        .after_help(STATUSES)
+        .subcommand_required(true)
+        .arg_required_else_help(true)
+        .subcommand(check(alloc)?)
+}
+
+fn check<'a>(alloc: Global) -> Result<Command<'a>, AllocError> {
+    Command::new(alloc, "check")
+        .about(
+            "Tells of each capture how many packets or blocks it has, or which rule is broken at which byte.",
+        )
+        .after_help(STATUSES)
+        .arg(files(alloc))
+}
+
+fn files<'a>(alloc: Global) -> Arg<'a> {
+    Arg::new(alloc, FILES)
+        .required(true)
+        .num_args(1..)
+        .help("Captures; - is standard input")
+}

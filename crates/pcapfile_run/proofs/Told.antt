@@ -1,0 +1,107 @@
+-- Captures that are checked.
+use Rattle.std.proofs.Common.{◌≡◌, ◌<◌, ◌+◌, ◌^◌, ◌⊎◌, ℕ, List, [], ◌++◌, length, Bool, true, false, Option, Some, None, Err, inl, inr, refl, sym, subst, arith}
+use Rattle.std.specs.Prelude.{⊤, IfSome}
+use Rattle.std.specs.Io.KnownBytes.{Consumes}
+use Rattle.pcap_core.specs.declared.errors.PcapError.{PcapError}
+use Rattle.pcap_core.specs.Answer.{number_in, whole}
+use Rattle.pcap_core.specs.Format.{Format}
+use Rattle.pcap_core.specs.Reading.{Takes, ReadsTold}
+use Rattle.pcap_classic.specs.declared.pcap.header.PcapHeader.{PcapHeader}
+use Rattle.pcap_classic.specs.HeaderText.{HeaderText, HeaderSays}
+use Rattle.pcap_classic.specs.Magic.{order_of, resolution_of}
+use Rattle.pcap_classic.specs.Packets.{format_under, reader_format}
+use Rattle.pcap_classic.specs.PacketText.{packet_limit, Captured}
+use Rattle.pcap_classic.proofs.Captures.{under_valid}
+use Rattle.pcap_classic.proofs.HeadedPackets.{packets_lawful}
+use Rattle.pcap_classic.proofs.Stable.{header_stable}
+use Rattle.pcap_classic.proofs.Texts.{header_length}
+use Rattle.pcap_file.specs.Blocks.{block_format}
+use Rattle.pcap_file.specs.Lent.{TakesText}
+use Rattle.pcap_file.specs.Opening.{OpeningSays, RefusesOpening}
+use Rattle.pcap_file.specs.State.{State, opening}
+use Rattle.pcap_file.proofs.BlockFormat.{blocks_lawful}
+use Rattle.pcapfile_run.specs.declared.checked.Checked.{Checked}
+use Rattle.pcapfile_run.specs.declared.checked.End.{End}
+use Rattle.pcapfile_run.specs.declared.checked.Format.TheVariants.{Pcap, PcapNg}
+use Rattle.pcapfile_run.specs.declared.pass.Passed.{Passed}
+use Rattle.pcapfile_run.specs.Checks.{FaultIs, EndIs, ChecksPackets, ChecksBlocks, most_passed}
+use Rattle.pcapfile_run.specs.Passing.{counted, PassesItems}
+use Rattle.pcapfile_run.proofs.Ends.{fails_at, items_checked}
+
+-- what a check tells
+abbrev pub packets_told : ℕ → ℕ → End → Checked
+packets_told items bytes end = record { format = Pcap; items = items; bytes = bytes; end = end }
+
+abbrev pub blocks_told : ℕ → ℕ → End → Checked
+blocks_told items bytes end = record { format = PcapNg; items = items; bytes = bytes; end = end }
+
+-- the header is refused
+pub packets_refused : (known now : Option (List ℕ)) (failed : Bool) (e : PcapError) (end : End) → ReadsTold HeaderSays (λ (header : PcapHeader). header) known now failed (Err e) → FaultIs e failed end
+    → IfSome known (λ s. ChecksPackets s (packets_told 0 0 end))
+packets_refused None now failed e end reads is = tt
+packets_refused (Some s) now failed e end reads is = (
+  refl,
+  inl (record {
+    items = refl;
+    bytes = refl;
+    fails = fails_at ⊥ HeaderSays s e failed end (elim reads.1 [ inl io ↦ inl io | inr (inl short) ↦ inr (inl short) | inr (inr stands) ↦ inr (inr (inr stands.0)) ]) is;
+  }),
+)
+
+packets_behind : (header : PcapHeader) (s after : List ℕ) (took : Takes HeaderSays (Some s) (Some after) header) (now : Option (List ℕ)) (failed : Bool) (new : Passed) (fault : Option PcapError) (end : End)
+    → PassesItems (reader_format packet_limit header) tt (Some after) now failed most_passed (record { items = 0; bytes = 24 }) new fault → EndIs fault failed new.items most_passed end
+    → ChecksPackets s (packets_told new.items new.bytes end)
+packets_behind header s after took now failed new fault end passes is =
+    let old : Passed = record { items = 0; bytes = 24 } in
+    let under = under_valid packet_limit header took.1.valid (λ (f : Format (Unit {0}) Captured). PassesItems f tt (Some after) now failed most_passed old new fault) passes in
+    let text : HeaderText header s after = subst (λ (l : List ℕ). HeaderText header l after) (sym took.2) (header_stable.text took.0 after [] header took.1) in
+    let long : 24 ≡ counted (length took.0) = omega (arith, header_length header took.0 [] took.1) in (
+      refl,
+      inr (
+        header,
+        after,
+        text,
+        items_checked (format_under packet_limit header) (packets_lawful packet_limit (number_in (order_of header.magic_number)) (resolution_of header.magic_number)) tt s took.0 after took.2 now failed most_passed old fault
+            (packets_told new.items new.bytes end) new under long refl refl is,
+      ),
+    )
+
+-- the header is read, and then packets by a reader of it
+pub packets_passed : (header read : PcapHeader) → read ≡ header → (known after behind now : Option (List ℕ)) → behind ≡ after → (failed : Bool) (new : Passed) (fault : Option PcapError) (end : End)
+    → Takes HeaderSays known after header → PassesItems (reader_format packet_limit read) tt behind now failed most_passed (record { items = 0; bytes = 24 }) new fault → EndIs fault failed new.items most_passed end
+    → IfSome known (λ s. ChecksPackets s (packets_told new.items new.bytes end))
+packets_passed header read same None after behind now stream failed new fault end took passes is = tt
+packets_passed header read same (Some s) None behind now stream failed new fault end took passes is = absurd took.2
+packets_passed header read same (Some s) (Some after) behind now stream failed new fault end took passes is =
+    let old : Passed = record { items = 0; bytes = 24 } in
+    let there = subst (λ (h : PcapHeader). PassesItems (reader_format packet_limit h) tt behind now failed most_passed old new fault) same passes in
+    let here = subst (λ (l : Option (List ℕ)). PassesItems (reader_format packet_limit header) tt l now failed most_passed old new fault) stream there in
+    packets_behind header s after took now failed new fault end here is
+
+-- the first block is refused
+pub blocks_refused : (known : Option (List ℕ)) (e : PcapError) (end : End) → RefusesOpening known e → FaultIs e true end → IfSome known (λ s. ChecksBlocks s (blocks_told 0 0 end))
+blocks_refused None e end why is = tt
+blocks_refused (Some s) e end why is = (
+  refl,
+  inl (record {
+    items = refl;
+    bytes = refl;
+    fails = fails_at ⊤ OpeningSays s e true end (elim why [ inl io ↦ inl (io, refl) | inr (inl memory) ↦ inr (inr (inl (tt, memory))) | inr (inr stands) ↦ inr (inr (inr stands)) ]) is;
+  }),
+)
+
+opened_more : (t rest : List ℕ) (q : State) → OpeningSays t (whole q []) → OpeningSays (t ++ rest) (whole q rest)
+unfolding block_format
+opened_more t rest q says = (says.0, (blocks_lawful.stable opening).text t rest [] (record { block = says.0; after = q }) says.1)
+
+-- the first block is read, and then blocks
+pub blocks_passed : (known after now : Option (List ℕ)) (text : List ℕ) (first : State) (n : ℕ) → n ≡ length text → n < 2 ^ 64 → (failed : Bool) (new : Passed) (fault : Option PcapError) (end : End)
+    → TakesText OpeningSays known after text first → PassesItems block_format first after now failed most_passed (record { items = 1; bytes = n }) new fault → EndIs fault failed new.items 18446744073709551615 end
+    → IfSome known (λ s. ChecksBlocks s (blocks_told new.items new.bytes end))
+blocks_passed None after now text first n long room failed new fault end took passes is = tt
+blocks_passed (Some s) None now text first n long room failed new fault end took passes is = absurd took.1
+blocks_passed (Some s) (Some after) now text first n long room failed new fault end took passes is =
+    let old : Passed = record { items = 1; bytes = n } in
+    let opens = subst (λ (l : List ℕ). OpeningSays l (whole first after)) (sym took.1) (opened_more text after first took.0) in
+    let start : n ≡ counted (length text) = omega (arith, long, room) in
+    (refl, inr (first, after, opens, items_checked block_format blocks_lawful first s text after took.1 now failed most_passed old fault (blocks_told new.items new.bytes end) new passes start refl refl is))

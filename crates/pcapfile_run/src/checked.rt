@@ -1,0 +1,183 @@
+//! What a check of a capture found.
+
+ghost use Rattle.std.specs.Prelude.{◌≡◌, true, false, IfSome, IfNone};
+ghost use Rattle.pcap_core.specs.declared.rules.Rule.{Rule};
+ghost use Rattle.pcap_core.specs.Errors.{IsIo, IsMemory};
+ghost use Rattle.pcap_core.specs.Faults.{Names};
+ghost use Rattle.pcapfile_run.specs.Checks.{EndIs, FaultIs};
+ghost use Rattle.pcapfile_run.specs.Lines.{format_name, items_name, status_of};
+
+use pcap_file::{PcapError, Rule};
+use std::fmt;
+
+/// The format of a capture.
+#[derive(Clone, Copy, Debug, PartialEq, Eq)]
+pub enum Format {
+    /// A classic capture.
+    Pcap,
+    /// A capture of blocks.
+    PcapNg,
+}
+
+/// Why no item follows those that were passed.
+#[derive(Debug, Drop)]
+pub enum End {
+    /// Nothing is left.
+    Whole,
+    /// As many items were passed as are counted.
+    Most,
+    /// Bytes are missing: the capture ends inside its opening or an item, or the body of a block that stays in force ends inside
+    /// a value.
+    Short,
+    /// What stands there breaks this rule.
+    Breaks(Rule),
+    /// A string that stands there isn't UTF-8.
+    NotUtf8,
+    /// It can't be read.
+    Unread(PcapError),
+    /// It can't be held in memory.
+    Memory,
+}
+
+/// What a check of a capture found.
+#[derive(Debug, Drop)]
+pub struct Checked {
+    /// The capture's format.
+    pub format: Format,
+    /// How many packets, or blocks with the first section header, stand in front of its end.
+    pub items: u64,
+    /// How many bytes these take, with the header of a classic capture: the place of what follows.
+    pub bytes: u64,
+    /// What follows.
+    pub end: End,
+}
+
+impl Format {
+    fn name(self) -> &'static str
+        ensures { result.now ≡ format_name self }
+    {
+        match self {
+            Format::Pcap => "pcap",
+            Format::PcapNg => "pcapng",
+        }
+    }
+
+    // What its items are called.
+    fn items(self) -> &'static str
+        ensures { result.now ≡ items_name self }
+    {
+        match self {
+            Format::Pcap => "packets",
+            Format::PcapNg => "blocks",
+        }
+    }
+}
+
+impl Checked {
+    /// The status with which a process ends that checked this capture.
+    pub fn status(&self) -> u8
+        ensures { result ≡ status_of self.now.end }
+    {
+        match &self.end {
+            End::Whole => 0,
+            End::Most | End::Short | End::Breaks(_) | End::NotUtf8 => 1,
+            End::Unread(_) => 3,
+            End::Memory => 4,
+        }
+    }
+}
+
+/// A line without its newline: the format, how many items, and how many bytes they take, or what refuses the item at which byte.
+impl fmt::Display for Checked {
+    fn fmt<W: fmt::Write>(&self, f: &mut fmt::Formatter<W>) -> fmt::Result {
+        let items = self.items;
+        let bytes = self.bytes;
+        let format = self.format.name();
+        let unit = self.format.items();
+        match &self.end {
+            End::Whole => write!(f, "{format}, {items} {unit}, {bytes} bytes"),
+            End::Most => write!(f, "{format}, {items} {unit}, {bytes} bytes or more"),
+            End::Short => write!(f, "{format}, {items} {unit}, cut short at byte {bytes}"),
+            End::Breaks(rule) => {
+                let number = rule.number();
+                let text = rule.text();
+                write!(
+                    f,
+                    "{format}, {items} {unit}, refused at byte {bytes} by rule {number}: {text}"
+                )
+            }
+            End::NotUtf8 => write!(f, "{format}, {items} {unit}, not UTF-8 at byte {bytes}"),
+            End::Unread(PcapError::IoError(error)) => {
+                write!(
+                    f,
+                    "{format}, {items} {unit}, unread from byte {bytes}: {error}"
+                )
+            }
+            End::Unread(error) => {
+                write!(
+                    f,
+                    "{format}, {items} {unit}, unread from byte {bytes}: {error}"
+                )
+            }
+            End::Memory => write!(f, "{format}, {items} {unit}, no memory at byte {bytes}"),
+        }
+    }
+}
+
+// Why a run ended with this fault, or without one behind so many items.
+pub(crate) fn end_of(fault: Option<PcapError>, read_failed: bool, items: u64, most: u64) -> End
+    ensures { EndIs fault read_failed items most result }
+{
+    match fault {
+        None if items < most => End::Whole,
+        None => End::Most,
+        Some(error) => end_at(error, read_failed),
+    }
+}
+
+// Why a run ended with this fault.
+fn end_at(error: PcapError, read_failed: bool) -> End
+    ensures { FaultIs error read_failed result }
+{
+    if let Some(rule) = rule_in(&error) {
+        return End::Breaks(rule);
+    }
+    if is_memory(&error) {
+        return End::Memory;
+    }
+    if !is_io(&error) {
+        return End::NotUtf8;
+    }
+    if read_failed {
+        return End::Unread(error);
+    }
+    End::Short
+}
+
+#[tactic(auto, using(crate::proofs::Ends::none_named))]
+fn rule_in(error: &PcapError) -> Option<Rule>
+    ensures named { IfSome result (λ rule. Names rule error.now) }
+    ensures others { IfNone result ((rule : Rule) → Names rule error.now → ⊥) }
+{
+    error.rule()
+}
+
+fn is_memory(error: &PcapError) -> bool
+    ensures yes { result ≡ true → (IsMemory error.now) }
+    ensures no { result ≡ false → (IsMemory error.now → ⊥) }
+{
+    match error {
+        PcapError::OutOfMemory(_) => true,
+        _ => false,
+    }
+}
+
+fn is_io(error: &PcapError) -> bool
+    ensures yes { result ≡ true → (IsIo error.now) }
+    ensures no { result ≡ false → (IsIo error.now → ⊥) }
+{
+    match error {
+        PcapError::IoError(_) => true,
+        _ => false,
+    }
+}

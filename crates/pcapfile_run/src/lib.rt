@@ -1,0 +1,9 @@
+//! What the program `pcapfile` does, over any input.
+#![tactic(auto)]
+
+mod captures;
+mod checked;
+mod pass;
+
+pub use captures::{check_blocks, check_packets};
+pub use checked::{Checked, End, Format};
