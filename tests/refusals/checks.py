@@ -1,4 +1,5 @@
 """What the toolchain's check says of functions whose bodies are changed."""
+import json
 import os
 import re
 import shutil
@@ -18,6 +19,12 @@ IN_ANSWER = re.compile(r"^\./proofs/(\S+)/(?:Answers|Invariants)\.antt:\d+:\d+: 
 # A written answer that names what the edit took away says nothing of a contract.
 OF_A_NAME = re.compile(r"has no field|is not in scope|has no `|was not admitted|is no name|no field")
 IN_SOURCE = re.compile(r"^(?:\./)?((?:src|specs)/\S+:\d+:\d+: error.*)$", re.M)
+# What stands for the proof of a function that isn't judged. Who calls it goes by its contract, whatever its proof.
+HOLE = """use Rattle.{path}.Statement.{{statement}}
+
+pub {name}_spec : {{M : Type 1}} → statement M
+{name}_spec = ?
+"""
 
 
 class NoVerdict(Exception):
@@ -72,15 +79,48 @@ def check(name, texts, functions, kept):
     return told
 
 
+def functions_of(name):
+    """The functions of a crate whose library is built, by their paths in it, but for those that have no name of their own."""
+    built = f"{TOP}/crates/{name}/out/rlib/{name}.rlib/toolchain/mir.json"
+    if not os.path.exists(built):
+        return []
+    with open(built, encoding="utf-8") as it:
+        paths = [function[0].split("::") for function in json.load(it)]
+    return ["::".join(path[1:]) for path in paths if path[0] == name and all(map(str.isidentifier, path))]
+
+
+def with_holes(name, texts, functions):
+    """The texts with a hole in place of each proof but those of these functions, so that no other costs anything."""
+    texts = dict(texts)
+    for path in (function.split("::") for function in functions_of(name) if function not in functions):
+        folder = "/".join(["proofs", *path])
+        for written in ("Answers", "Invariants"):
+            texts.pop(f"{folder}/{written}.antt", None)
+        texts[f"{folder}/Proof.antt"] = HOLE.format(path=".".join([name, "proofs", *path]), name=path[-1])
+    return texts
+
+
 def judged(name, texts, batch, now, kept):
-    """Each edit of the batch with why it isn't refused as it says, or None, where these texts have them all. Where the batch
-    can't be judged, each is put into the crate's texts alone."""
+    """Each edit of the batch with why it isn't refused as it says, or None, where these texts have them all. First no other
+    function is proved; what isn't refused so is judged again beside all proofs."""
+    functions = {edit.function for edit in batch}
+    try:
+        told = check(name, with_holes(name, now, functions), functions, kept)
+        refused = [edit for edit in batch if fault_of(edit, told, name) is None]
+    except NoVerdict:
+        refused = []
+    left = [edit for edit in batch if edit not in refused]
+    return [(edit, None) for edit in refused] + (judged_whole(name, texts, left, now, kept) if left else [])
+
+
+def judged_whole(name, texts, batch, now, kept):
+    """The same beside all proofs. Where the batch can't be judged, each is put into the crate's texts alone."""
     try:
         told = check(name, now, {edit.function for edit in batch}, kept)
     except NoVerdict as why:
         if len(batch) == 1:
             return [(batch[0], f"it isn't judged: {why}")]
-        return [it for edit in batch for it in judged(name, texts, [edit], changed(texts, edit), kept)]
+        return [it for edit in batch for it in judged_whole(name, texts, [edit], changed(texts, edit), kept)]
     return [(edit, fault_of(edit, told, name)) for edit in batch]
 
 

@@ -14,6 +14,7 @@ use std::io;
 
 fn main(rt: HostRuntime) -> io::Result<()> {
     for _turn in 0..2 {
+        resumption::feed_bytes(&rt)?;
         captures::make_calls(&rt)?;
         bodies::make_calls(&rt)?;
         parts::make_calls(&rt)?;

@@ -3,10 +3,39 @@
 use crate::bytes::{BLOCKS, CAPTURE};
 use crate::tell;
 use pcap_file::pcap::PcapReader;
-use pcap_file::run::{Window, exact_pcap, exact_pcapng, pieces_pcap, pieces_pcapng};
+use pcap_file::run::{Window, exact_pcap, exact_pcapng, pieces_fit, pieces_pcap, pieces_pcapng};
 use pcap_file::{PcapError, ResultParsing};
 use std::alloc::Global;
 use std::io::{self, Cursor};
+
+// The head of a packet of 1000 bytes.
+const HEAD: [u8; 16] = [0, 0, 0, 2, 0, 0, 0, 0, 0, 0, 3, 0xe8, 0, 0, 3, 0xe8];
+
+/// Feeds single bytes. Room for those that are missing is made once at the header and once at the packet.
+pub(crate) fn feed_bytes(rt: &HostRuntime) -> io::Result<()> {
+    tell(rt, "pieces of one byte", pieces_of_one_byte(rt.alloc()))
+}
+
+fn pieces_of_one_byte(alloc: Global) -> ResultParsing<()> {
+    let (header, _packet) = CAPTURE.split_at(24);
+    let mut capture = Vec::with_capacity(alloc, 1040)?;
+    capture.extend_from_slice(header)?;
+    capture.extend_from_slice(&HEAD)?;
+    capture.resize(1040, 7)?;
+    let mut pieces: Vec<&[u8]> = Vec::with_capacity(alloc, 1040)?;
+    for piece in capture.chunks(1) {
+        pieces.push(piece)?;
+    }
+    if !pieces_fit(&pieces) {
+        return Err(PcapError::InvalidField("they don't fit"));
+    }
+    let (run, _numbers) = pieces_pcap(alloc, &pieces)?;
+    if run.packets.len() == 1 {
+        Ok(())
+    } else {
+        Err(PcapError::InvalidField("no packet came"))
+    }
+}
 
 pub(crate) fn make_calls(rt: &HostRuntime) -> io::Result<()> {
     let alloc = rt.alloc();

@@ -11,7 +11,7 @@ use pcap_core::run::{Found, PieceParser, Progress, feed_pieces, pieces_fit};
 use pcap_core::{PcapError, ResultParsing};
 use pcap_file::PcapParser;
 use pcap_file::pcap::Packet;
-use std::alloc::Global;
+use std::alloc::{AllocError, Global};
 
 // A parser of packets that counts how often it was asked for one.
 #[derive(Drop)]
@@ -120,4 +120,77 @@ fn nothing_is_asked_behind_a_refusal(rt: HostRuntime) {
     assert_eq!(rt; asked(alloc, &bytes, 1), Some((3, 10)));
     assert_eq!(rt; asked(alloc, &bytes, 4), Some((3, 10)));
     assert_eq!(rt; asked(alloc, &bytes, 300), Some((3, 4)));
+}
+
+// A parser of packets that has memory for a header and no byte more.
+#[derive(Drop)]
+struct Sparing {
+    parser: PcapParser,
+}
+
+impl PieceParser for Sparing {
+    type Item = Packet<'static>;
+
+    ghost State = { PcapHeader };
+
+    ghost Value = { Captured };
+
+    ghost Part = { Captured };
+
+    ghost opens = { HeaderSays };
+
+    ghost format = { capture_format packet_limit };
+
+    ghost state = { λ sparing. header_of sparing.parser };
+
+    ghost part = { λ packet. packet };
+
+    ghost view = { content_of };
+
+    ghost owned = { λ packet. IsOwned packet.data_ };
+
+    fn open(alloc: Global, held: &[u8]) -> ResultParsing<Found<(Sparing, usize), PcapError>> {
+        if held.len() > 24 {
+            return Err(PcapError::OutOfMemory(AllocError));
+        }
+        match PcapParser::open(alloc, held)? {
+            Found::Item((parser, left)) => Ok(Found::Item((Sparing { parser }, left))),
+            Found::Needs(n) => Ok(Found::Needs(n)),
+            Found::Refused(e) => Ok(Found::Refused(e)),
+        }
+    }
+
+    fn take(
+        &mut self,
+        alloc: Global,
+        held: &[u8],
+    ) -> ResultParsing<Found<(Packet<'static>, usize), PcapError>> {
+        self.parser.take(alloc, held)
+    }
+}
+
+// Whether pieces of so many bytes, which open no capture, end with what refuses them.
+fn is_refused(alloc: Global, bytes: &[u8], size: usize) -> bool {
+    let mut pieces: Vec<&[u8]> = Vec::new(alloc);
+    for piece in bytes.chunks(size.max(1)) {
+        if pieces.push(piece).is_err() {
+            return false;
+        }
+    }
+    if !pieces_fit(&pieces) {
+        return false;
+    }
+    match feed_pieces::<Sparing>(alloc, &pieces) {
+        Ok(fed) => matches!(fed.progress, Progress::Before(PcapError::InvalidField(_))),
+        Err(_) => false,
+    }
+}
+
+// A refused header is asked about once, with its 24 bytes, however much comes behind it.
+#[test]
+fn nothing_is_opened_behind_a_refusal(rt: HostRuntime) {
+    let alloc = rt.alloc();
+    for size in [1, 4, 12, 24] {
+        assert!(rt; is_refused(alloc, &[0xff; 96], size), "pieces of {size}");
+    }
 }
