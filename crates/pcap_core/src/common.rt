@@ -16,6 +16,7 @@ pub enum Endianness {
 }
 
 impl Endianness {
+    /// Whether the lowest byte comes first.
     pub fn is_little(self) -> bool
         ensures { IsTrue result ↔ (self ≡ Endianness.Little) }
     {
@@ -25,6 +26,7 @@ impl Endianness {
         }
     }
 
+    /// Whether the highest byte comes first.
     pub fn is_big(self) -> bool
         ensures { IsTrue result ↔ (self ≡ Endianness.Big) }
     {
@@ -66,6 +68,7 @@ impl<'a> CowBytes<'a> {
 }
 
 impl CowBytes<'_> {
+    /// The bytes, whoever has them.
     pub fn as_slice(&self) -> &[u8]
         ensures { result.now ≡ cow_bytes self.now }
     {
@@ -75,18 +78,21 @@ impl CowBytes<'_> {
         }
     }
 
+    /// How many bytes there are.
     pub fn len(&self) -> usize
         ensures { result ≡ length (cow_bytes self.now) }
     {
         self.as_slice().len()
     }
 
+    /// Whether there is no byte.
     pub fn is_empty(&self) -> bool
         ensures { IsTrue result ↔ (cow_bytes self.now ≡ []) }
     {
         self.as_slice().is_empty()
     }
 
+    /// Whether the bytes are borrowed.
     pub fn is_borrowed(&self) -> bool
         ensures { IsTrue result ↔ IsBorrowed self.now }
     {
