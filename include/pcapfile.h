@@ -3,7 +3,7 @@
  *
  * For all bytes the calls return, and read and write nothing but what they are given. They keep nothing between calls, and
  * may be called from any thread. Those of PcapNg take memory by malloc where a block has options or names, and give it back
- * before they return; all others take none. docs/PROMISES.md says what is proved of them.
+ * before they return; all others take none. docs/PROMISES_C.md says what is proved.
  *
  * What the proofs take from the caller, and nothing checks:
  *  - each pointer is aligned, not null, and points at a value of its type that no other pointer of the same call reaches;
@@ -183,8 +183,8 @@ int32_t pcapfile_write_packet(const pcapfile_header *header, const pcapfile_pack
  *
  * a walk calls pcapfile_push_next as long as it gives packets. Under PCAPFILE_INCOMPLETE it makes space for error.missing
  * bytes at least, writes bytes from room + push.end on, and puts them; where no more come, the capture has ended, cleanly
- * where push.header.magic_number is not 0 and push.begin is push.end, and else within a header or a packet. docs/C.md has the
- * whole loop. However the bytes are cut, the packets are those of the capture as a whole, where the caller leaves
+ * where push.header.magic_number is not 0 and push.begin is push.end, and else within a header or a packet. docs/C_PIECES.md
+ * has the whole loop. However the bytes are cut, the packets are those of the capture as a whole, where the caller leaves
  * room[push.begin] to room[push.end - 1] between two calls as they are. */
 
 /* What is kept of such a capture between two calls. */
