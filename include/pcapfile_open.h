@@ -1,8 +1,9 @@
 /* pcapfile_open.h: reads packets of either format, pcap or PcapNg, off a file, a pipe or a socket. MIT licence.
  *
- * c/open.c is behind it: plain C over the proved calls of pcapfile.h, which is compiled with the program and is not proved
- * itself. It reads into one room, which grows by what the next packet or block lacks and by no more than that, so memory does
- * not grow with the capture; an interrupted read is repeated. A reader is one thread's at a time.
+ * c/open.c is behind it: plain C over the proved calls of pcapfile.h for captures in pieces, which is compiled with the program
+ * and is not proved itself. It reads into one room of 256 KiB at first (-DPCAPFILE_FIRST_ROOM=.. is another number), which grows by
+ * what the next packet or block lacks and by no more than that, so memory does not grow with the capture; an interrupted read is
+ * repeated. A reader is one thread's at a time.
  */
 #ifndef PCAPFILE_OPEN_H
 #define PCAPFILE_OPEN_H

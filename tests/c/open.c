@@ -29,7 +29,6 @@ static void *refused_or(void *memory) {
     return NULL;
 }
 static void *test_malloc(size_t len) { return refused_or(malloc(len)); }
-static void *test_calloc(size_t count, size_t len) { return refused_or(calloc(count, len)); }
 static void *test_realloc(void *memory, size_t len) {
     return allocations++ == failing_allocation ? NULL : realloc(memory, len);
 }
@@ -42,12 +41,10 @@ static ssize_t test_read(int descriptor, void *room, size_t len) {
 }
 
 #define malloc test_malloc
-#define calloc test_calloc
 #define realloc test_realloc
 #define read test_read
 #include OPEN_C /* the path of c/open.c, by -DOPEN_C */
 #undef malloc
-#undef calloc
 #undef realloc
 #undef read
 
