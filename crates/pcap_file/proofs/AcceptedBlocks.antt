@@ -22,13 +22,13 @@ use Rattle.pcap_file.specs.State.{State, opening}
 use Rattle.pcap_file.proofs.BlockFormat.{blocks_lawful}
 
 -- known bytes from which some were taken
-taken_known : (bytes taken : List ℕ) (left : Option (List ℕ)) → Consumes (Some bytes) left taken → (after : List ℕ) × (left ≡ Some after) × (bytes ≡ taken ++ after)
+pub taken_known : (bytes taken : List ℕ) (left : Option (List ℕ)) → Consumes (Some bytes) left taken → (after : List ℕ) × (left ≡ Some after) × (bytes ≡ taken ++ after)
 taken_known bytes taken None took = absurd took
 taken_known bytes taken (Some after) took = (after, refl, took)
 
 module _ {S V : Type 0} (f : Format S V) (laws : IsLawful f) where
   -- where all that is left are items, only a failed read and want of memory refuse it
-  no_cause : (q : S) (more : List V) (left : List ℕ) (now : Option (List ℕ)) (failed : Bool) (e : PcapError) → Front f q more left [] → failed ≡ false → (IsMemory e → ⊥)
+  pub no_cause : (q : S) (more : List V) (left : List ℕ) (now : Option (List ℕ)) (failed : Bool) (e : PcapError) → Front f q more left [] → failed ≡ false → (IsMemory e → ⊥)
       → HasCause (f.says q) (Some left) failed e → TakesAsked (f.says q) (Some left) now → ⊥
   no_cause q more left now failed e front unfailed memory cause asked =
       let why = ends_front f laws q (Some e) left [] more now failed 0 1 front (omega arith, cause, asked) in

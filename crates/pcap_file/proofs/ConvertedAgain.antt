@@ -1,5 +1,5 @@
 -- A capture that was converted is read again.
-use Rattle.std.proofs.Common.{◌≡◌, ◌+◌, ◌/◌, ◌^◌, ℕ, List, [], ◌∷◌, ◌++◌, refl, ap, sym, ◌∙◌, subst, arith, map, Ok, Some, inl, inr, false, true}
+use Rattle.std.proofs.Common.{◌≡◌, ◌+◌, ◌/◌, ◌^◌, ℕ, List, [], ◌∷◌, ◌++◌, refl, ap, sym, ◌∙◌, subst, arith, map, Bool, Ok, Some, inl, inr, false, true}
 use Rattle.std.specs.Prelude.{All, Option, pos}
 use Rattle.std.specs.List.{AllZip}
 use Rattle.std.specs.Io.KnownBytes.{Appends}
@@ -9,10 +9,14 @@ use Rattle.std.proofs.lemmas.Grind.{flat_map-append}
 use Rattle.std.proofs.lemmas.List.Concat.{flat_map-cons}
 use Rattle.std.proofs.lemmas.List.Elements.{All-nil, All-cons, All-head, All-tail}
 use Rattle.pcap_core.specs.declared.common.Endianness.TheVariants.{Little}
+use Rattle.pcap_core.specs.declared.errors.PcapError.{PcapError}
 use Rattle.pcap_core.specs.Bytes.{IsBytes}
+use Rattle.pcap_core.specs.Takes.{ReadsFront}
 use Rattle.pcap_classic.specs.declared.pcap.header.PcapHeader.{PcapHeader}
 use Rattle.pcap_classic.specs.declared.run.copy.Copied.{Copied}
+use Rattle.pcap_classic.specs.HeaderText.{HeaderText}
 use Rattle.pcap_classic.specs.Magic.{order_of, resolution_of}
+use Rattle.pcap_classic.specs.Packets.{format_under}
 use Rattle.pcap_classic.specs.PacketText.{Captured, packet_limit}
 use Rattle.pcap_classic.specs.Written.{IsWhole}
 use Rattle.pcap_classic.proofs.Accepted.{packets_whole}
@@ -111,6 +115,17 @@ first_of : {X : Type 0} (P : X → Type 0) (xs ys : List X) → All P (xs ++ ys)
 first_of P [] ys all = All-nil P
 first_of P (x ∷ xs) ys all = All-cons P x xs (All-head P x (xs ++ ys) all) (first_of P xs ys (All-tail P x (xs ++ ys) all))
 
+-- the packets that a conversion read have room in a capture
+wholes : (bytes after : List ℕ) (header : PcapHeader) (most : ℕ) (packets : List Captured) (fault : Option PcapError) (failed : Bool) → IsBytes bytes → HeaderText header bytes after
+    → ReadsFront (format_under packet_limit header) tt after most packets fault failed → All IsWhole packets
+wholes bytes after header most packets fault failed fits text reads =
+    let behind = header_written header bytes after fits text in
+    let all = packets_whole (order_of header.magic_number) (resolution_of header.magic_number) (packets ++ reads.more) after reads.rest behind.1 reads.front.texts in
+    first_of IsWhole packets reads.more all
+
+pub conversion_wholes : (bytes : List ℕ) (out_before out_now : Option (List ℕ)) (most : ℕ) (copied : Copied) → IsBytes bytes → (c : IsConversion bytes out_before out_now most copied) → All IsWhole c.packets
+conversion_wholes bytes out_before out_now most copied fits c = wholes bytes c.after c.header most c.packets copied.fault copied.read_failed fits c.header_text c.reads
+
 -- what a conversion of known bytes wrote where no write failed
 pub conversion_again : (bytes : List ℕ) (now out_before out_now : Option (List ℕ)) (most : ℕ) (copied : Copied) → IsBytes bytes → copied.write_failed ≡ false
     → ConvertsPackets (Some bytes) now out_before out_now most copied → IsConversion bytes out_before out_now most copied
@@ -120,10 +135,6 @@ conversion_again bytes now out_before out_now most copied fits wrote run =
           let header = run.header in
           let packets = all.packets in
           let read = packets_read packet_limit header now copied.read_failed most packets copied.fault (Some bytes) run.behind run.opened.read all.items in
-          let behind = header_written header bytes read.0 fits read.1 in
-          let e = order_of header.magic_number in
-          let r = resolution_of header.magic_number in
-          let wholes = packets_whole e r (packets ++ read.2.more) read.0 read.2.rest behind.1 read.2.front.texts in
           let blocks = map packet_block packets in
           record {
             header = header;
@@ -134,7 +145,7 @@ conversion_again bytes now out_before out_now most copied fits wrote run =
             count = all.count;
             out = subst (λ (t : List ℕ). Appends out_before out_now t) (sym (flat_map-append little_text (opening_blocks header) blocks))
                 (Appends-trans out_before run.out_behind out_now (little_texts (opening_blocks header)) (little_texts blocks) run.opened.out all.out);
-            blocks = converted_again header packets run.opened.fit (first_of IsWhole packets read.2.more wholes);
+            blocks = converted_again header packets run.opened.fit (wholes bytes read.0 header most packets copied.fault copied.read_failed fits read.1 read.2);
           }
       | inr tear ↦ absurd (let x : true ≡ false = sym tear.write_failed ∙ wrote in cc)
     ]

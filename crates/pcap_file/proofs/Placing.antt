@@ -1,8 +1,8 @@
 -- Blocks that are converted to packets, one after another.
-use Rattle.std.proofs.Common.{◌≡◌, ◌≤◌, ◌<◌, ◌+◌, ℕ, List, [], ◌∷◌, ◌++◌, refl, ap, sym, ◌∙◌, subst, arith, length, length-append, append-nil, Bool, true, false, Ok, Err, Some, None, ◌⊎◌, inl, inr}
-use Rattle.std.specs.Prelude.{Option, Result}
-use Rattle.std.specs.List.{AllZip, flat_map}
-use Rattle.std.specs.Io.KnownBytes.{Appends, Keeps}
+use Rattle.std.proofs.Common.{◌≡◌, ◌≤◌, ◌<◌, ◌+◌, ℕ, List, [], ◌∷◌, ◌++◌, refl, ap, sym, ◌∙◌, subst, arith, length, length-append, append-nil, Bool, true, false, Ok, Err, Some, None, inl, inr}
+use Rattle.std.specs.Prelude.{Result}
+use Rattle.std.specs.List.{flat_map}
+use Rattle.std.specs.Io.KnownBytes.{Appends}
 use Rattle.std.proofs.KnownBytes.{Appends-nil, Appends-trans, Appends-kept, Keeps-refl}
 use Rattle.std.proofs.lemmas.Bool.{true≢false}
 use Rattle.std.proofs.lemmas.Grind.{flat_map-append}
@@ -56,15 +56,15 @@ none_by view a b false is same gives = record { why = inl gives.2; taken = gives
 pub gives_none : {X : Type 0} (view : X → Item) (a b : Source) → b.state ≡ a.state → NextGives (block_format.says a.state) view a.left b.left a.done b.done a.failed b.failed None → TakesNone a b
 gives_none view a b = none_by view a b a.done refl
 
-next_by : {X : Type 0} (view : X → Item) (a b : Source) (x : X) (done : Bool) → (view x).after ≡ b.state
+next_by : {X : Type 0} (view : X → Item) (a b : Source) (x : X) (done : Bool) → a.done ≡ done → (view x).after ≡ b.state
     → NextGives (block_format.says a.state) view a.left b.left done b.done a.failed b.failed (Some (Ok x)) → TakesNext a b (view x)
-next_by view a b x true leads gives = absurd gives
-next_by view a b x false leads gives = record { took = gives.2; leads = leads; no_read_failed = gives.1; goes_on = gives.0 }
+next_by view a b x true is leads gives = absurd gives
+next_by view a b x false is leads gives = record { took = gives.2; leads = leads; no_read_failed = gives.1; went_on = is; goes_on = gives.0 }
 
 -- a reader gives a block
 pub gives_next : {X : Type 0} (view : X → Item) (a b : Source) (x : X) → (view x).after ≡ b.state
     → NextGives (block_format.says a.state) view a.left b.left a.done b.done a.failed b.failed (Some (Ok x)) → TakesNext a b (view x)
-gives_next view a b x = next_by view a b x a.done
+gives_next view a b x = next_by view a b x a.done refl
 
 refused_by : {X : Type 0} (view : X → Item) (a b : Source) (e : PcapError) (done : Bool) → b.state ≡ a.state
     → NextGives (block_format.says a.state) view a.left b.left done b.done a.failed b.failed (Some (Err e)) → RefusesNext a b e
@@ -112,6 +112,7 @@ module _ (header : PcapHeader) (choice : IfUnplaced) where
     turns = [];
     took = takes_none block_format a.state a.left;
     in_force = refl;
+    goes_on = refl;
     become = tt;
     allowed = λ is. refl;
     out = Appends-nil c.out;
@@ -138,6 +139,7 @@ module _ (header : PcapHeader) (choice : IfUnplaced) where
         turns = turns ++ one.turn ∷ [];
         took = takes_more block_format blocks_lawful a.state items one.item a.left b.left next.left so_far.took here;
         in_force = state_push block_format a.state items one.item ∙ one.next.leads;
+        goes_on = one.next.goes_on ∙ sym one.next.went_on ∙ so_far.goes_on;
         become = all_zipped_more (Becomes header.datalink) items turns one.item one.turn so_far.become one.becomes;
         allowed = λ is. reasons ∙ both (reasons_of turns) (reason_of_turn one.turn) (so_far.allowed is) (one.goes.allowed is);
         out = subst (λ (l : List ℕ). Appends c.out behind.out l) (sym texts)
@@ -158,6 +160,7 @@ module _ (header : PcapHeader) (choice : IfUnplaced) where
     turns = all.turns;
     took = all.took;
     in_force = all.in_force;
+    goes_on = all.goes_on;
     become = all.become;
     allowed = all.allowed;
     out = all.out;

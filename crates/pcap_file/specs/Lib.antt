@@ -23,3 +23,4 @@ pub mod Converts
 pub mod Conversion
 pub mod Placed
 pub mod Placing
+pub mod RoundTrip

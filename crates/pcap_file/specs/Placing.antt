@@ -64,6 +64,7 @@ pub record TakesNext (a b : Source) (item : Item) : Type 0 where
   pub took : Takes (block_format.says a.state) a.left b.left item
   pub leads : item.after ≡ b.state
   pub no_read_failed : b.failed ≡ false
+  pub went_on : a.done ≡ false
   pub goes_on : b.done ≡ false
 
 -- the stream is at its end, or the reader has refused something before
@@ -185,6 +186,7 @@ pub record PlacesAll (header : PcapHeader) (choice : IfUnplaced) (a b : Source) 
   pub turns : List Turn
   pub took : TakesTexts block_format a.state items a.left b.left
   pub in_force : state_after block_format a.state items ≡ b.state
+  pub goes_on : b.done ≡ a.done
   pub become : AllZip (Becomes header.datalink) items turns
   pub allowed : choice ≡ Refuse → reasons_of turns ≡ []
   pub out : Appends c.out d.out (flat_map (written_under header) (packets_of turns))

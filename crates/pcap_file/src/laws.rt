@@ -1,7 +1,8 @@
 //! Laws of the grammar of blocks. Each contract is the law.
 
-ghost use Rattle.std.specs.Prelude.{◌≡◌, ◌≤◌, ◌<◌, ◌^◌, ℕ, List, [], ◌∷◌, ◌++◌, length, map, Option, Some, Ok, false};
+ghost use Rattle.std.specs.Prelude.{◌≡◌, ◌≤◌, ◌<◌, ◌^◌, ℕ, List, [], ◌∷◌, ◌++◌, length, map, All, Option, Some, Ok, false};
 ghost use Rattle.pcap_core.specs.declared.common.Endianness.{Endianness};
+ghost use Rattle.pcap_core.specs.declared.common.Endianness.TheVariants.{Little};
 ghost use Rattle.pcap_core.specs.Answer.{whole};
 ghost use Rattle.pcap_core.specs.Format.{Front, Texts, Asks, IsLawful, state_after};
 ghost use Rattle.pcap_core.specs.Laws.{ExactlyOne, IsStable};
@@ -16,9 +17,11 @@ ghost use Rattle.pcap_file.specs.Conversion.{IsConversion, exact_time};
 ghost use Rattle.pcap_classic.specs.Front.{CaptureFront};
 ghost use Rattle.pcap_classic.specs.Magic.{resolution_of};
 ghost use Rattle.pcap_classic.specs.Written.{IsWhole, IsWholeHeader, capture, cut};
-ghost use Rattle.pcap_file.specs.Converted.{interface_for, packet_block, time_of};
+ghost use Rattle.pcap_file.specs.Converted.{converted, interface_for, little_texts, opening_blocks, packet_block, time_of};
 ghost use Rattle.pcap_file.specs.Converts.{ConvertsPackets};
 ghost use Rattle.pcap_file.specs.declared.pcapng.copying.NgCopied.{NgCopied};
+ghost use Rattle.pcap_file.specs.declared.run.placing.IfUnplaced.{IfUnplaced};
+ghost use Rattle.pcap_file.specs.declared.run.placing.NgConverted.{NgConverted};
 ghost use Rattle.std.specs.Io.KnownBytes.{Appends};
 ghost use Rattle.pcap_file.specs.Copies.{CopyNgRun, CopiesBytes, NothingFailed};
 ghost use Rattle.pcap_file.specs.Frames.{Framed, FrameSays, FrameText};
@@ -27,6 +30,9 @@ ghost use Rattle.pcap_file.specs.MarkedLists.{marked_format};
 ghost use Rattle.pcap_file.specs.Opening.{OpeningSays};
 ghost use Rattle.pcap_file.specs.Pieces.{HoldsBlocks};
 ghost use Rattle.pcap_file.specs.Placed.{Becomes, PlacesBody, Turn, carried, packets_of};
+ghost use Rattle.pcap_file.specs.Placing.{PlacesRun, Sink, Source};
+ghost use Rattle.pcap_file.specs.RoundTrip.{AreReady, BlocksBecome, CanPlace, ComeBack, HasSecondsInside, IsOpened, PlacesEach};
+ghost use Rattle.pcap_file.specs.RoundTrip as whole_runs;
 ghost use Rattle.pcap_file.specs.Sections.{Leaves};
 ghost use Rattle.pcap_file.specs.State.{State, opening};
 ghost use Rattle.pcap_file.specs.Bodies.{SaysOfBody};
@@ -40,6 +46,7 @@ ghost use Rattle.pcap_written.specs.Bodies.{text_of};
 ghost use Rattle.pcap_written.specs.Capture.{AreWritten};
 ghost use Rattle.pcap_written.specs.Raw.{Raw, TellsRaw, raw_text};
 ghost use Rattle.pcap_written.specs.Fits.{kept_body};
+ghost use Rattle.pcap_written.specs.Writing.{IsFitIn};
 ghost use Rattle.pcap_written.specs.declared.place.Place.{Place};
 
 /// Of each slice exactly one thing is said where a block in its frame is asked for: its text begins the slice, so many bytes
@@ -186,4 +193,37 @@ pub fn placed_capture_is_read()
 pub fn converted_packet_converts_back()
     ensures { (header : PcapHeader) (packet : Captured) → IsWhole packet → (carried packet).header.ts_sec < 2 ^ 32 →
         PlacesBody (interface_for header ∷ []) header.datalink (packet_block packet) (carried packet) }
+{}
+
+/// A classic capture that was converted to PcapNg becomes itself again: its blocks become its packets, in order, each with its time,
+/// its length on the wire and its bytes, under the link type of its header, and nothing else; where the seconds of each are a
+/// number of 32 bits. A packet whose nanoseconds are less than a second becomes itself to the letter, and in any other the whole
+/// seconds among the nanoseconds stand with the seconds.
+pub fn converted_capture_converts_back()
+    ensures packets { (header : PcapHeader) (packets : List Captured) → All (IsFitIn Little) (opening_blocks header) → All IsWhole packets → All HasSecondsInside packets →
+        BlocksBecome header.datalink (map carried packets) (little_texts (converted header packets)) }
+    ensures same { (packet : Captured) → packet.header.ts_nsec < 10 ^ 9 → carried packet ≡ packet }
+{}
+
+/// What a conversion to PcapNg wrote where no write failed becomes the packets that it read: all of the capture's front, or the
+/// first `most`, or those before a refusal.
+pub fn conversion_converts_back()
+    ensures { (bytes : List ℕ) (out out_now : Option (List ℕ)) (most : ℕ) (copied : Copied) → IsBytes bytes → (c : IsConversion bytes out out_now most copied) →
+        All HasSecondsInside c.packets → BlocksBecome c.header.datalink (map carried c.packets) (little_texts (converted c.header c.packets)) }
+{}
+
+/// A capture of blocks that are all whole is converted whole where nothing fails: exactly the packets go out that have a place, each
+/// other is left out where that is asked for, and all blocks are taken, if there are not more than `most`.
+pub fn accepted_capture_is_placed()
+    ensures { (header : PcapHeader) (choice : IfUnplaced) (turns : List Turn) (a b : Source) (c d : Sink) (most : ℕ) (converted : NgConverted) →
+        CanPlace header choice a turns → AreReady header a c → length turns ≤ most → whole_runs.NothingFailed b d converted →
+        PlacesRun header choice a b c d most converted → PlacesEach header turns c d converted }
+{}
+
+/// A capture whose blocks become these packets is converted to them where nothing fails: exactly these packets go out, so that a
+/// classic capture that was converted to PcapNg and back has the packets that it had.
+pub fn converted_capture_comes_back()
+    ensures { (header : PcapHeader) (choice : IfUnplaced) (packets : List Captured) (bytes : List ℕ) (a b : Source) (c d : Sink) (most : ℕ) (converted : NgConverted) →
+        (held : BlocksBecome header.datalink packets bytes) → length held.items ≤ most → IsOpened bytes a → AreReady header a c → whole_runs.NothingFailed b d converted →
+        PlacesRun header choice a b c d most converted → ComeBack header packets c d converted }
 {}

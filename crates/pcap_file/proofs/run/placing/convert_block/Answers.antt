@@ -1,5 +1,5 @@
-use Rattle.std.proofs.Common.{List, map, subst}
-use Rattle.pcap_blocks.specs.InterfaceDescription.{Interface, interface_of}
+use Rattle.std.proofs.Common.{List, subst}
+use Rattle.pcap_blocks.specs.InterfaceDescription.{Interface}
 use Rattle.pcap_file.specs.Frames.{Framed, framed_of}
 use Rattle.pcap_file.specs.Placing.{PlacesBlock, sink_of}
 use Rattle.pcap_file.specs.Reader.{interfaces_in_force}

@@ -1,9 +1,9 @@
-use Rattle.std.proofs.Common.{◌≡◌, ◌∙◌, sym, ap, refl, option_map, Some, arith, length}
+use Rattle.std.proofs.Common.{◌∙◌, sym, ap, refl, option_map, Some, arith, length}
 use Rattle.std.proofs.lemmas.Bool.{eqb-true, eq-eqb, not-false, not-true, true≢false}
 use Rattle.pcap_core.specs.Link.{key}
 use Rattle.pcap_core.proofs.Links.{key_same}
 use Rattle.pcap_classic.specs.PacketText.{Captured}
-use Rattle.pcap_blocks.specs.InterfaceDescription.{Interface, interface_of}
+use Rattle.pcap_blocks.specs.InterfaceDescription.{interface_of}
 use Rattle.pcap_file.specs.Placed.{Places}
 use Rattle.pcap_file.proofs.run.unplaced.placed.Goals as goal
 

@@ -1,0 +1,174 @@
+-- Captures that were converted to PcapNg become the packets that they were.
+use Rattle.std.proofs.Common.{◌≡◌, ◌<◌, ◌+◌, ◌/◌, ◌%◌, ◌^◌, arith, ℕ, List, [], ◌∷◌, map, refl, sym, ap, subst, ◌∙◌, Bool, true, false}
+use Rattle.std.specs.Prelude.{All}
+use Rattle.std.specs.List.{AllZip}
+use Rattle.std.proofs.lemmas.List.Elements.{All-head, All-tail}
+use Rattle.pcap_core.specs.Answer.{Order, number_in, whole}
+use Rattle.pcap_core.specs.Format.{Front, Texts}
+use Rattle.pcap_core.specs.Headed.{good}
+use Rattle.pcap_core.specs.declared.common.Endianness.TheVariants.{Little}
+use Rattle.pcap_classic.specs.declared.pcap.header.PcapHeader.{PcapHeader}
+use Rattle.pcap_classic.specs.PacketText.{Captured}
+use Rattle.pcap_classic.specs.Written.{IsWhole}
+use Rattle.pcap_blocks.specs.declared.block_type.BlockType.{BlockType}
+use Rattle.pcap_blocks.specs.declared.block_type.BlockType.TheVariants as types
+use Rattle.pcap_blocks.specs.EnhancedPacket.{Enhanced}
+use Rattle.pcap_blocks.specs.InterfaceDescription.{Interface}
+use Rattle.pcap_blocks.specs.ParsedBlock.{Body, BodySays, SectionBody, InterfaceBody, EnhancedBody}
+use Rattle.pcap_blocks.specs.SectionHeader.{Section}
+use Rattle.pcap_written.specs.Plain.{plain_section}
+use Rattle.pcap_file.specs.Blocks.{Item, BlockText, block_format}
+use Rattle.pcap_file.specs.Bodies.{SaysOfBody}
+use Rattle.pcap_file.specs.Conversion.{AreBlocksOf}
+use Rattle.pcap_file.specs.Converted.{converted, interface_for, packet_block}
+use Rattle.pcap_file.specs.Frames.{Framed}
+use Rattle.pcap_file.specs.Placed.{Becomes, PlacesBody, Turn, carried, interfaces_at, is_packet, no_packet, packets_of, placed, reasons_of}
+use Rattle.pcap_file.specs.RoundTrip.{BlocksBecome, HasSecondsInside}
+use Rattle.pcap_file.specs.State.{State, opening, within, is_kept, is_read, leads, MeansIf}
+use Rattle.pcap_file.specs.Written.{IsBodyOf}
+use Rattle.pcap_file.proofs.Bodies.{bodies_same}
+use Rattle.pcap_file.proofs.PlacedAgain.{packet_back}
+
+-- a body of a type that isn't kept leaves what is in force
+unkept_stays : (section : Section) (interfaces : List Interface) (order : Order) (type : BlockType) (s : List ℕ) (body : Body) (rest : List ℕ)
+    → is_kept type ≡ false
+    → BodySays order type s (whole body rest) → leads (within section interfaces) body ≡ good (within section interfaces)
+unkept_stays section interfaces order types.SectionHeader s body rest kept says = absurd cc
+unkept_stays section interfaces order types.InterfaceDescription s body rest kept says = absurd cc
+unkept_stays section interfaces order types.Packet s body rest kept says = rw says.1 refl
+unkept_stays section interfaces order types.SimplePacket s body rest kept says = rw says.1 refl
+unkept_stays section interfaces order types.NameResolution s body rest kept says = rw says.1 refl
+unkept_stays section interfaces order types.InterfaceStatistics s body rest kept says = rw says.1 refl
+unkept_stays section interfaces order types.EnhancedPacket s body rest kept says = rw says.1 refl
+unkept_stays section interfaces order types.SystemdJournalExport s body rest kept says = rw says.1 refl
+unkept_stays section interfaces order (types.Unknown n) s body rest kept says = rw says.1 refl
+
+-- where a block leads whose body is read, or is not
+led : (q : State) (b : Framed) (body : Body) (rest : List ℕ) (next : State) (read : Bool) → SaysOfBody b (whole body rest) → is_read q b.type_ ≡ read
+    → MeansIf read q b (good next) → leads q body ≡ good next
+led q b body rest next true says is means = ap (leads q) (bodies_same b body means.0 rest means.1 says means.2) ∙ means.3
+led opening b body rest next false says is means = absurd cc
+led (within section interfaces) b body rest next false says is means =
+    unkept_stays section interfaces (number_in b.endianness) b.type_ b.body body rest is says ∙ ap good (sym means)
+
+-- a block leads where its body does
+pub leads_by_body : (q : State) (item : Item) (body : Body) (s rest : List ℕ) → BlockText q item s rest → IsBodyOf item body → leads q body ≡ good item.after
+leads_by_body q item body s rest text is = led q item.block body is.0 item.after (is_read q item.block.type_) is.1 refl text.means
+
+-- the body of an enhanced packet is a packet's
+packet_type : (order : Order) (type : BlockType) (s : List ℕ) (x : Enhanced) (rest : List ℕ) → BodySays order type s (whole (EnhancedBody x) rest)
+    → is_packet type ≡ true
+packet_type order types.SectionHeader s x rest says = let e = says.1 in absurd cc
+packet_type order types.InterfaceDescription s x rest says = let e = says.1 in absurd cc
+packet_type order types.Packet s x rest says = refl
+packet_type order types.SimplePacket s x rest says = refl
+packet_type order types.NameResolution s x rest says = let e = says.1 in absurd cc
+packet_type order types.InterfaceStatistics s x rest says = let e = says.1 in absurd cc
+packet_type order types.EnhancedPacket s x rest says = refl
+packet_type order types.SystemdJournalExport s x rest says = let e = says.1 in absurd cc
+packet_type order (types.Unknown n) s x rest says = let e = says.1 in absurd cc
+
+-- the body of a section header or of an interface is no packet's
+pub section_type : (order : Order) (type : BlockType) (s : List ℕ) (x : Section) (rest : List ℕ) → BodySays order type s (whole (SectionBody x) rest)
+    → is_packet type ≡ false
+section_type order types.SectionHeader s x rest says = refl
+section_type order types.InterfaceDescription s x rest says = refl
+section_type order types.Packet s x rest says = let e = says.1 in absurd cc
+section_type order types.SimplePacket s x rest says = let e = says.1 in absurd cc
+section_type order types.NameResolution s x rest says = refl
+section_type order types.InterfaceStatistics s x rest says = refl
+section_type order types.EnhancedPacket s x rest says = let e = says.1 in absurd cc
+section_type order types.SystemdJournalExport s x rest says = refl
+section_type order (types.Unknown n) s x rest says = refl
+
+interface_type : (order : Order) (type : BlockType) (s : List ℕ) (x : Interface) (rest : List ℕ) → BodySays order type s (whole (InterfaceBody x) rest)
+    → is_packet type ≡ false
+interface_type order types.SectionHeader s x rest says = refl
+interface_type order types.InterfaceDescription s x rest says = refl
+interface_type order types.Packet s x rest says = let e = says.1 in absurd cc
+interface_type order types.SimplePacket s x rest says = let e = says.1 in absurd cc
+interface_type order types.NameResolution s x rest says = refl
+interface_type order types.InterfaceStatistics s x rest says = refl
+interface_type order types.EnhancedPacket s x rest says = let e = says.1 in absurd cc
+interface_type order types.SystemdJournalExport s x rest says = refl
+interface_type order (types.Unknown n) s x rest says = refl
+
+good_in : (a c : State) → good a ≡ good c → a ≡ c
+good_in a c e = cc
+
+-- what the packets' blocks become
+abbrev turns_of : List Captured → List Turn
+turns_of packets = map (λ packet. placed (carried packet)) packets
+
+turned_packets : (packets : List Captured) → packets_of (turns_of packets) ≡ map carried packets
+turned_packets [] = refl
+turned_packets (packet ∷ packets) = ap (λ (l : List Captured). carried packet ∷ l) (turned_packets packets)
+
+none_unplaced : (packets : List Captured) → reasons_of (turns_of packets) ≡ []
+none_unplaced [] = refl
+none_unplaced (packet ∷ packets) = none_unplaced packets
+
+module _ (header : PcapHeader) (section : Section) where
+  -- the state of a converted capture, from its interface on
+  abbrev described : State
+  described = within section (interface_for header ∷ [])
+
+  packets_become : (packets : List Captured) (items : List Item) (s rest : List ℕ) → All IsWhole packets → All HasSecondsInside packets
+      → Texts block_format described items s rest
+      → AllZip IsBodyOf items (map packet_block packets) → AllZip (Becomes header.datalink) items (turns_of packets)
+  unfolding block_format
+  packets_become [] [] s rest wholes inside texts bodies = tt
+  packets_become [] (item ∷ items) s rest wholes inside texts bodies = absurd bodies
+  packets_become (packet ∷ packets) [] s rest wholes inside texts bodies = absurd bodies
+  packets_become (packet ∷ packets) (item ∷ items) s rest wholes inside texts bodies =
+      let link = header.datalink in
+      let body = packet_block packet in
+      let is = bodies.0 in
+      let there : described ≡ item.after = good_in described item.after (leads_by_body described item body s texts.0 texts.1 is) in
+      let back = packet_back header packet (All-head IsWhole packet packets wholes) (All-head HasSecondsInside packet packets inside) in
+      let places : PlacesBody (interfaces_at item.after) link body (carried packet) = subst (λ (q : State). PlacesBody (interfaces_at q) link body (carried packet)) there back in
+      let behind : Texts block_format described items texts.0 rest = subst (λ (q : State). Texts block_format q items texts.0 rest) (sym there) texts.2 in (
+        (packet_type (number_in item.block.endianness) item.block.type_ item.block.body _ is.0 is.1, body, is.0, is.1, places),
+        packets_become packets items texts.0 rest (All-tail IsWhole packet packets wholes) (All-tail HasSecondsInside packet packets inside) behind bodies.1,
+      )
+
+-- a capture that was converted becomes its packets
+become : (header : PcapHeader) (packets : List Captured) (bytes : List ℕ) (items : List Item) → All IsWhole packets → All HasSecondsInside packets
+    → Front block_format opening items bytes []
+    → AllZip IsBodyOf items (converted header packets) → BlocksBecome header.datalink (map carried packets) bytes
+unfolding block_format
+become header packets bytes [] wholes inside front bodies = absurd bodies
+become header packets bytes (first ∷ []) wholes inside front bodies = absurd bodies.1
+become header packets bytes (first ∷ second ∷ items) wholes inside front bodies =
+    let section = plain_section Little in
+    let interface = interface_for header in
+    let texts = front.texts in
+    let is_first = bodies.0 in
+    let is_second = bodies.1.0 in
+    let begun : within section [] ≡ first.after = good_in (within section []) first.after (leads_by_body opening first (SectionBody section) bytes texts.0 texts.1 is_first) in
+    let more : Texts block_format (within section []) (second ∷ items) texts.0 [] = subst (λ (q : State). Texts block_format q (second ∷ items) texts.0 []) (sym begun) texts.2 in
+    let there : described header section ≡ second.after =
+    good_in (described header section) second.after (leads_by_body (within section []) second (InterfaceBody interface) texts.0 more.0 more.1 is_second) in
+    let behind : Texts block_format (described header section) items more.0 [] = subst (λ (q : State). Texts block_format q items more.0 []) (sym there) more.2 in
+    let opens = section_type (number_in first.block.endianness) first.block.type_ first.block.body section is_first.0 is_first.1 in
+    let describes = interface_type (number_in second.block.endianness) second.block.type_ second.block.body interface is_second.0 is_second.1 in
+    record {
+      items = first ∷ second ∷ items;
+      turns = no_packet ∷ no_packet ∷ turns_of packets;
+      front = front;
+      become = (opens, (describes, packets_become header section packets items more.0 [] wholes inside behind bodies.1.1));
+      packets_are = turned_packets packets;
+      all_have_a_place = none_unplaced packets;
+    }
+
+pub blocks_become : (header : PcapHeader) (packets : List Captured) (bytes : List ℕ) → All IsWhole packets → All HasSecondsInside packets
+    → AreBlocksOf header packets bytes
+    → BlocksBecome header.datalink (map carried packets) bytes
+blocks_become header packets bytes wholes inside blocks = become header packets bytes blocks.items wholes inside blocks.front blocks.bodies
+
+-- a packet with less than a second of nanoseconds has no whole seconds among them
+pub carried_same : (packet : Captured) → packet.header.ts_nsec < 10 ^ 9 → carried packet ≡ packet
+carried_same packet few =
+    let seconds : packet.header.ts_sec + packet.header.ts_nsec / 10 ^ 9 ≡ packet.header.ts_sec = omega (arith, few) in
+    let nanoseconds : packet.header.ts_nsec % 10 ^ 9 ≡ packet.header.ts_nsec = omega (arith, few) in
+    rw (seconds, nanoseconds) refl

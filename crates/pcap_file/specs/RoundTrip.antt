@@ -1,0 +1,77 @@
+-- Captures of blocks that are converted whole, and captures that are converted there and back.
+use Rattle.std.specs.Prelude.{◌≡◌, ◌<◌, ◌^◌, ℕ, List, [], length, true, false, None, Some, IfSome}
+use Rattle.std.specs.List.{AllZip, flat_map}
+use Rattle.std.specs.Io.KnownBytes.{Appends}
+use Rattle.pcap_core.specs.declared.link.DataLink.{DataLink}
+use Rattle.pcap_core.specs.Answer.{whole}
+use Rattle.pcap_core.specs.Errors.{IsMemory}
+use Rattle.pcap_core.specs.Format.{Front}
+use Rattle.pcap_classic.specs.declared.pcap.header.PcapHeader.{PcapHeader}
+use Rattle.pcap_classic.specs.Magic.{is_magic}
+use Rattle.pcap_classic.specs.PacketText.{Captured}
+use Rattle.pcap_classic.specs.Written.{written_under}
+use Rattle.pcap_file.specs.declared.run.placing.IfUnplaced.{IfUnplaced}
+use Rattle.pcap_file.specs.declared.run.placing.IfUnplaced.TheVariants.{Refuse}
+use Rattle.pcap_file.specs.declared.run.placing.NgConverted.{NgConverted}
+use Rattle.pcap_file.specs.Blocks.{Item, block_format}
+use Rattle.pcap_file.specs.Opening.{OpeningSays}
+use Rattle.pcap_file.specs.Placed.{Becomes, Turn, carried, packets_of, reasons_of}
+use Rattle.pcap_file.specs.Placing.{Sink, Source}
+use Rattle.pcap_file.specs.State.{opening}
+
+-- a packet's seconds, with the whole seconds among its nanoseconds, are a number of 32 bits
+abbrev pub HasSecondsInside : Captured → Type 0
+HasSecondsInside packet = (carried packet).header.ts_sec < 2 ^ 32
+
+-- The bytes are a PcapNg capture with nothing behind its blocks, and in a classic capture of this link type these blocks become
+-- these packets, in order; each packet of theirs has a place there.
+pub record BlocksBecome (link : DataLink) (packets : List Captured) (bytes : List ℕ) : Type 0 where
+  pub items : List Item
+  pub turns : List Turn
+  pub front : Front block_format opening items bytes []
+  pub become : AllZip (Becomes link) items turns
+  pub packets_are : packets_of turns ≡ packets
+  pub all_have_a_place : reasons_of turns ≡ []
+
+-- nothing was refused by the reader before, and the writer can take packets: no write failed, and its header has one of the four
+-- magic numbers
+pub record AreReady (header : PcapHeader) (a : Source) (c : Sink) : Type 0 where
+  pub goes_on : a.done ≡ false
+  pub no_write_failed : c.failed ≡ false
+  pub valid : is_magic header.magic_number ≡ true
+
+-- a reader stands at the front of whole blocks that become these; each packet of theirs has a place, or may be left out
+pub record CanPlace (header : PcapHeader) (choice : IfUnplaced) (a : Source) (turns : List Turn) : Type 0 where
+  pub bytes : List ℕ
+  pub items : List Item
+  pub left : a.left ≡ Some bytes
+  pub front : Front block_format a.state items bytes []
+  pub become : AllZip (Becomes header.datalink) items turns
+  pub allowed : choice ≡ Refuse → reasons_of turns ≡ []
+
+-- memory sufficed, and no read and no write failed
+pub record NothingFailed (b : Source) (d : Sink) (converted : NgConverted) : Type 0 where
+  pub no_read_failed : b.failed ≡ false
+  pub no_write_failed : d.failed ≡ false
+  pub memory : IfSome converted.fault (λ e. IsMemory e → ⊥)
+
+-- all blocks became these: exactly the packets that have a place went out, the others were left out, and nothing was refused
+pub record PlacesEach (header : PcapHeader) (turns : List Turn) (c d : Sink) (converted : NgConverted) : Type 0 where
+  pub fine : converted.fault ≡ None
+  pub blocks : converted.blocks ≡ length turns
+  pub packets : converted.packets ≡ length (packets_of turns)
+  pub left_out : converted.left_out ≡ length (reasons_of turns)
+  pub out : Appends c.out d.out (flat_map (written_under header) (packets_of turns))
+
+-- a reader stands behind the first block of these bytes
+pub record IsOpened (bytes : List ℕ) (a : Source) : Type 0 where
+  pub after : List ℕ
+  pub first : OpeningSays bytes (whole a.state after)
+  pub left : a.left ≡ Some after
+
+-- exactly these packets went out, none was left out, and nothing was refused
+pub record ComeBack (header : PcapHeader) (packets : List Captured) (c d : Sink) (converted : NgConverted) : Type 0 where
+  pub fine : converted.fault ≡ None
+  pub count : converted.packets ≡ length packets
+  pub none_left_out : converted.left_out ≡ 0
+  pub out : Appends c.out d.out (flat_map (written_under header) packets)
