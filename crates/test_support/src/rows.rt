@@ -44,6 +44,23 @@ pub fn bytes(alloc: Global, digits: &str) -> Result<Vec<u8>, Fail> {
     Ok(hex::decode(alloc, pairs)?)
 }
 
+/// Whether bytes are those of these digits.
+pub fn are_digits(bytes: &[u8], digits: &str) -> bool {
+    let mut count = 0usize;
+    for digit in digits.bytes() {
+        if digit.is_ascii_whitespace() {
+            continue;
+        }
+        let byte = bytes.get(count / 2).copied().unwrap_or(0);
+        let half = if count % 2 == 0 { byte >> 4 } else { byte & 15 };
+        if (digit as char).to_digit(16) != Some(u32::from(half)) {
+            return false;
+        }
+        count = count.saturating_add(1);
+    }
+    count % 2 == 0 && count / 2 == bytes.len()
+}
+
 /// What a call gives: the remainder and the value, or why it is refused.
 pub fn told<T: Debug + Drop>(
     alloc: Global,

@@ -6,6 +6,7 @@ use pcap_core::{CowBytes, Endianness, PcapError, ResultParsing};
 use pcap_written::{PcapNgBlock, PcapNgWriter};
 use std::alloc::Global;
 use std::borrow::CowStr;
+use std::io::Write;
 use std::test::*;
 use test_support::captures::front;
 use test_support::rows::bytes;
@@ -30,6 +31,22 @@ fn packet(alloc: Global) -> ResultParsing<EnhancedPacketBlock<'static>> {
     })
 }
 
+// Whether a block is refused for the stream that failed before.
+pub(crate) fn refuses<W: Write + Drop, B: PcapNgBlock>(
+    writer: &mut PcapNgWriter<W>,
+    block: &B,
+) -> bool {
+    matches!(
+        writer.write_pcapng_block(block),
+        Err(PcapError::WriterFailed)
+    )
+}
+
+// Whether writing this block fails.
+fn fails<B: PcapNgBlock>(writer: &mut PcapNgWriter<&mut Narrow>, block: &B) -> bool {
+    matches!(writer.write_pcapng_block(block), Err(PcapError::IoError(_)))
+}
+
 // Whether writing this block fails once, and from then on each block is refused, and nothing more is asked of the stream.
 fn fails_at<B: PcapNgBlock>(
     alloc: Global,
@@ -38,23 +55,19 @@ fn fails_at<B: PcapNgBlock>(
 ) -> bool {
     let began = !writer.failed();
     let interfaces = writer.interfaces();
-    let first = matches!(writer.write_pcapng_block(block), Err(PcapError::IoError(_)));
+    let first = fails(writer, block);
     let calls = writer.get_ref().calls;
-    let second = matches!(
-        writer.write_pcapng_block(block),
-        Err(PcapError::WriterFailed)
-    );
     let unfit = UnknownBlock::new(BlockType::Unknown(1), 0, &[]);
-    let third = matches!(
-        writer.write_pcapng_block(&unfit),
-        Err(PcapError::WriterFailed)
-    );
-    let fourth = matches!(
-        writer.write_pcapng_block(&interface(alloc)),
-        Err(PcapError::WriterFailed)
-    );
-    let is_refused = second && third && fourth && writer.get_ref().calls == calls;
-    began && first && is_refused && writer.failed() && writer.interfaces() == interfaces
+    let is_refused = refuses(writer, block)
+        && refuses(writer, &unfit)
+        && refuses(writer, &interface(alloc));
+    let is_asked = writer.get_ref().calls != calls;
+    began
+        && first
+        && is_refused
+        && !is_asked
+        && writer.failed()
+        && writer.interfaces() == interfaces
 }
 
 // Whether behind the section the interface and the packet go out up to the one that fails behind so many bytes.
@@ -80,9 +93,9 @@ fn fails_once(alloc: Global, output: &mut Narrow, gone: usize) -> ResultParsing<
 }
 
 // Whether a writer fails once, and these bytes are what went out.
-fn leaves(alloc: Global, mut output: Narrow, gone: &[u8]) -> ResultParsing<bool> {
-    let fails = fails_once(alloc, &mut output, gone.len())?;
-    Ok(fails && output.out.as_slice() == gone)
+fn leaves(alloc: Global, mut output: Narrow, gone: &[u8]) -> bool {
+    let fails = matches!(fails_once(alloc, &mut output, gone.len()), Ok(true));
+    fails && output.out.as_slice() == gone
 }
 
 #[test]
@@ -90,9 +103,11 @@ fn every_room(rt: HostRuntime) -> Result<(), Fail> {
     let whole = bytes(rt.alloc(), WHOLE)?;
     for fails in [false, true] {
         for room in 0..96usize {
-            let output = Narrow::new(rt.alloc(), room, fails);
             let gone = front(whole.as_slice(), room);
-            assert!(rt; leaves(rt.alloc(), output, gone)?, "at {room}");
+            assert!(rt;
+                leaves(rt.alloc(), Narrow::new(rt.alloc(), room, fails), gone),
+                "at {room}"
+            );
         }
     }
     Ok(())
@@ -117,25 +132,40 @@ fn halted_calls(rt: HostRuntime) -> Result<(), Fail> {
     let whole = bytes(rt.alloc(), WHOLE)?;
     for (call, gone) in CALLS {
         for is_idle in [false, true] {
-            let output = Narrow::halting(rt.alloc(), call, is_idle);
             let gone = front(whole.as_slice(), gone);
-            assert!(rt; leaves(rt.alloc(), output, gone)?, "at {call}");
+            assert!(rt;
+                leaves(rt.alloc(), Narrow::halting(rt.alloc(), call, is_idle), gone),
+                "at {call}"
+            );
         }
     }
     Ok(())
+}
+
+// Whether the section, the interface and the packet go out.
+fn goes_out(alloc: Global, output: &mut Narrow) -> ResultParsing<bool> {
+    let mut writer = PcapNgWriter::with_endianness(alloc, Endianness::Big, output)?;
+    writer.write_pcapng_block(&interface(alloc))?;
+    writer.write_pcapng_block(&packet(alloc)?)?;
+    Ok(!writer.failed())
+}
+
+// Whether they go out as these bytes where a write takes so many of them at most.
+fn goes_out_by(alloc: Global, step: usize, whole: &[u8]) -> bool {
+    let mut output = Narrow::new(alloc, 96, true);
+    output.step = step;
+    let is_written = matches!(goes_out(alloc, &mut output), Ok(true));
+    is_written && output.out.as_slice() == whole
 }
 
 #[test]
 fn short_writes(rt: HostRuntime) -> Result<(), Fail> {
     let whole = bytes(rt.alloc(), WHOLE)?;
     for step in 1..50usize {
-        let mut output = Narrow::new(rt.alloc(), 96, true);
-        output.step = step;
-        let mut writer = PcapNgWriter::with_endianness(rt.alloc(), Endianness::Big, output)?;
-        writer.write_pcapng_block(&interface(rt.alloc()))?;
-        writer.write_pcapng_block(&packet(rt.alloc())?)?;
-        assert!(rt; !writer.failed());
-        assert_eq!(rt; writer.into_writer().out.as_slice(), whole.as_slice());
+        assert!(rt;
+            goes_out_by(rt.alloc(), step, whole.as_slice()),
+            "by {step}"
+        );
     }
     Ok(())
 }

@@ -1,13 +1,13 @@
 //! The longest values that can be written.
 
-use crate::writing::written;
+use crate::writing::goes_out;
 use byteorder::BigEndian;
 use pcap_blocks::{
     CustomBinaryOption, Ipv4Record, NameResolutionBlock, Record, SectionHeaderBlock,
     SectionHeaderOption, UnknownRecord,
 };
-use pcap_core::{CowBytes, Endianness};
-use std::alloc::Global;
+use pcap_core::{CowBytes, Endianness, ResultParsing};
+use std::alloc::{AllocError, Global};
 use std::borrow::CowStr;
 use std::test::*;
 use test_support::captures::{back, pattern};
@@ -21,92 +21,105 @@ fn around(alloc: Global, head: &str, middle: &[u8], end: &str) -> Result<Vec<u8>
     Ok(joined)
 }
 
-// A section with this option.
-fn section<'a>(
-    alloc: Global,
-    option: SectionHeaderOption<'a>,
-) -> Result<SectionHeaderBlock<'a>, Fail> {
-    Ok(SectionHeaderBlock {
+// Whether a section with this option goes out as these bytes.
+fn section(alloc: Global, option: SectionHeaderOption<'_>, wanted: &[u8]) -> ResultParsing<bool> {
+    let section = SectionHeaderBlock {
         magic: 0x1A2B3C4D,
         major_version: 1,
         minor_version: 0,
         section_length: -1,
         options: vec![in alloc; option]?,
-    })
+    };
+    Ok(goes_out(alloc, Endianness::Big, &section, wanted))
+}
+
+fn hardware(alloc: Global, text: &str, wanted: &[u8]) -> ResultParsing<bool> {
+    section(
+        alloc,
+        SectionHeaderOption::Hardware(CowStr::Borrowed(text)),
+        wanted,
+    )
 }
 
 #[test]
 fn texts(rt: HostRuntime) -> Result<(), Fail> {
     let text = "a".repeat(rt.alloc(), 65_535)?;
-    let option = SectionHeaderOption::Hardware(CowStr::Borrowed(text.as_str()));
-    let out = written(rt.alloc(), Endianness::Big, &section(rt.alloc(), option)?)?;
     let wanted = around(
         rt.alloc(),
         "0a0d0d0a 00010024 1a2b3c4d 0001 0000 ffffffffffffffff 0002 ffff",
         text.as_bytes(),
         "00 0000 0000 00010024",
     )?;
-    assert!(rt; out == wanted);
+    assert!(rt; hardware(rt.alloc(), text.as_str(), wanted.as_slice())?);
     Ok(())
+}
+
+fn custom(alloc: Global, value: &[u8], wanted: &[u8]) -> ResultParsing<bool> {
+    let custom = CustomBinaryOption::from_slice::<BigEndian>(2989, value)?;
+    section(alloc, SectionHeaderOption::CustomBinary(custom), wanted)
 }
 
 #[test]
 fn custom_values(rt: HostRuntime) -> Result<(), Fail> {
     let value = pattern(rt.alloc(), 65_535)?;
-    let custom = CustomBinaryOption::from_slice::<BigEndian>(2989, value.as_slice())?;
-    let option = SectionHeaderOption::CustomBinary(custom);
-    let out = written(rt.alloc(), Endianness::Big, &section(rt.alloc(), option)?)?;
     let wanted = around(
         rt.alloc(),
         "0a0d0d0a 00010024 1a2b3c4d 0001 0000 ffffffffffffffff 0bad ffff 00010203",
         back(value.as_slice(), 4),
         "00 0000 0000 00010024",
     )?;
-    assert!(rt; out == wanted);
+    assert!(rt; custom(rt.alloc(), value.as_slice(), wanted.as_slice())?);
     Ok(())
+}
+
+// Whether names with this record go out as these bytes.
+fn names(alloc: Global, record: Record<'_>, wanted: &[u8]) -> Result<bool, AllocError> {
+    let names = NameResolutionBlock {
+        records: vec![in alloc; record]?,
+        options: Vec::new(alloc),
+    };
+    Ok(goes_out(alloc, Endianness::Little, &names, wanted))
+}
+
+fn ipv4(alloc: Global, name: &str, wanted: &[u8]) -> Result<bool, AllocError> {
+    let ipv4 = Ipv4Record {
+        ip_addr: CowBytes::Borrowed(&[10, 0, 0, 1]),
+        names: vec![in alloc; CowStr::Borrowed(name)]?,
+    };
+    names(alloc, Record::Ipv4(ipv4), wanted)
 }
 
 #[test]
 fn records(rt: HostRuntime) -> Result<(), Fail> {
     let name = "a".repeat(rt.alloc(), 65_530)?;
-    let ipv4 = Ipv4Record {
-        ip_addr: CowBytes::Borrowed(&[10, 0, 0, 1]),
-        names: vec![in rt.alloc(); CowStr::Borrowed(name.as_str())]?,
-    };
-    let names = NameResolutionBlock {
-        records: vec![in rt.alloc(); Record::Ipv4(ipv4)]?,
-        options: Vec::new(rt.alloc()),
-    };
-    let out = written(rt.alloc(), Endianness::Little, &names)?;
     let wanted = around(
         rt.alloc(),
         "04000000 14000100 0100 ffff 0a000001",
         name.as_bytes(),
         "00 00 0000 0000 14000100",
     )?;
-    assert!(rt; out == wanted);
+    assert!(rt; ipv4(rt.alloc(), name.as_str(), wanted.as_slice())?);
     Ok(())
+}
+
+fn unknown(alloc: Global, value: &[u8], wanted: &[u8]) -> Result<bool, AllocError> {
+    let unknown = UnknownRecord {
+        type_: 3,
+        length: 65_535,
+        value: CowBytes::Borrowed(value),
+    };
+    names(alloc, Record::Unknown(unknown), wanted)
 }
 
 #[test]
 fn unknown_records(rt: HostRuntime) -> Result<(), Fail> {
     let value = pattern(rt.alloc(), 65_535)?;
-    let unknown = UnknownRecord {
-        type_: 3,
-        length: 65_535,
-        value: CowBytes::Borrowed(value.as_slice()),
-    };
-    let names = NameResolutionBlock {
-        records: vec![in rt.alloc(); Record::Unknown(unknown)]?,
-        options: Vec::new(rt.alloc()),
-    };
-    let out = written(rt.alloc(), Endianness::Little, &names)?;
     let wanted = around(
         rt.alloc(),
         "04000000 14000100 0300 ffff",
         value.as_slice(),
         "00 0000 0000 14000100",
     )?;
-    assert!(rt; out == wanted);
+    assert!(rt; unknown(rt.alloc(), value.as_slice(), wanted.as_slice())?);
     Ok(())
 }

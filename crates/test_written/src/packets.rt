@@ -1,12 +1,13 @@
 //! Packets that are written from their parts.
 
+use crate::failing::refuses;
 use crate::writing::{begun, interface, is_refused};
-use pcap_core::{Endianness, PcapError};
+use pcap_core::{Endianness, PcapError, ResultParsing};
 use pcap_written::PcapNgWriter;
 use std::alloc::Global;
 use std::test::*;
 use test_support::captures::{back, front};
-use test_support::rows::bytes;
+use test_support::rows::{are_digits, bytes};
 use test_support::writers::Narrow;
 
 // So many bytes of a packet, the last byte of the length of its block, and themselves with their padding.
@@ -21,41 +22,49 @@ const ENDS: [(usize, &str, &str); 6] = [
 
 const BYTES: [u8; 5] = [0x11, 0x22, 0x33, 0x44, 0x55];
 
-// What goes out for a packet of the second interface with so many bytes.
-fn packet(alloc: Global, order: Endianness, count: usize) -> Result<Vec<u8>, Fail> {
+// Whether these digits are what goes out for a packet of the second interface with so many bytes.
+fn goes_out(alloc: Global, order: Endianness, count: usize, digits: &str) -> ResultParsing<bool> {
     let mut writer = begun(alloc, order)?;
     let before = writer.get_ref().len();
     writer.write_packet(1, 0x0405060708090a0b, front(&BYTES, count), 0x0c0d0e0f)?;
-    Ok(Vec::from_slice(alloc, back(writer.get_ref().as_slice(), before))?)
+    Ok(are_digits(back(writer.get_ref().as_slice(), before), digits))
+}
+
+// The same in both orders, for a row of `ENDS`.
+fn is_written(alloc: Global, (count, len, end): (usize, &str, &str)) -> ResultParsing<bool> {
+    let big = format!(in alloc;
+        "00000006 000000{len} 00000001 04050607 08090a0b 0000000{count} 0c0d0e0f {end} 000000{len}"
+    )?;
+    let little = format!(in alloc;
+        "06000000 {len}000000 01000000 07060504 0b0a0908 0{count}000000 0f0e0d0c {end} {len}000000"
+    )?;
+    let is_big = goes_out(alloc, Endianness::Big, count, big.as_str())?;
+    Ok(is_big && goes_out(alloc, Endianness::Little, count, little.as_str())?)
 }
 
 #[test]
 fn packets_of_each_padding(rt: HostRuntime) -> Result<(), Fail> {
-    for (count, len, end) in ENDS {
-        let big = format!(in rt.alloc();
-            "00000006 000000{len} 00000001 04050607 08090a0b 0000000{count} 0c0d0e0f {end} 000000{len}"
-        )?;
-        let little = format!(in rt.alloc();
-            "06000000 {len}000000 01000000 07060504 0b0a0908 0{count}000000 0f0e0d0c {end} {len}000000"
-        )?;
-        let wanted = bytes(rt.alloc(), big.as_str())?;
-        assert_eq!(rt; packet(rt.alloc(), Endianness::Big, count)?, wanted);
-        let wanted = bytes(rt.alloc(), little.as_str())?;
-        assert_eq!(rt; packet(rt.alloc(), Endianness::Little, count)?, wanted);
+    for row in ENDS {
+        assert!(rt; is_written(rt.alloc(), row)?, "{} bytes", row.0);
     }
     Ok(())
+}
+
+// Whether a packet of this interface is refused, and nothing goes out for it.
+fn misses(writer: &mut PcapNgWriter<Vec<u8>>, id: u32) -> bool {
+    let before = writer.get_ref().len();
+    let answer = writer.write_packet(id, 0, &BYTES, 5);
+    let is_refused = is_refused(&answer, "Block: interface_id is not described");
+    is_refused && writer.get_ref().len() == before && !writer.failed()
 }
 
 #[test]
 fn missing_interfaces(rt: HostRuntime) -> Result<(), Fail> {
     for order in [Endianness::Big, Endianness::Little] {
         let mut writer = begun(rt.alloc(), order)?;
-        let before = writer.get_ref().len();
         for id in [2, 3, u32::MAX] {
-            let answer = writer.write_packet(id, 0, &BYTES, 5);
-            assert!(rt; is_refused(&answer, "Block: interface_id is not described"));
+            assert!(rt; misses(&mut writer, id), "interface {id}");
         }
-        assert!(rt; writer.get_ref().len() == before && !writer.failed());
     }
     Ok(())
 }
@@ -67,29 +76,41 @@ const WHOLE: &str = "
     00000006 00000024 00000000 00000001 00000002 00000001 00000005 11 000000 00000024
 ";
 
-// Whether the packet fails in a stream of this room, and what is written then is refused.
-fn fails_once(alloc: Global, writer: &mut PcapNgWriter<Narrow>) -> bool {
-    let time = 0x0000_0001_0000_0002;
+// The time of that packet.
+const TIME: u64 = 0x0000_0001_0000_0002;
+
+// Whether a packet is refused for the stream that failed before.
+fn refuses_packet(writer: &mut PcapNgWriter<&mut Narrow>, id: u32) -> bool {
+    matches!(
+        writer.write_packet(id, TIME, &[0x11], 5),
+        Err(PcapError::WriterFailed)
+    )
+}
+
+// Whether the packet fails, and what is written then is refused.
+fn fails_once(alloc: Global, writer: &mut PcapNgWriter<&mut Narrow>) -> bool {
     let first = matches!(
-        writer.write_packet(0, time, &[0x11], 5),
+        writer.write_packet(0, TIME, &[0x11], 5),
         Err(PcapError::IoError(_))
     );
     let calls = writer.get_ref().calls;
-    let second = matches!(
-        writer.write_packet(0, time, &[0x11], 5),
-        Err(PcapError::WriterFailed)
-    );
-    let third = matches!(
-        writer.write_packet(9, time, &[0x11], 5),
-        Err(PcapError::WriterFailed)
-    );
-    let block = interface(alloc);
-    let fourth = matches!(
-        writer.write_pcapng_block(&block),
-        Err(PcapError::WriterFailed)
-    );
-    let is_refused = second && third && fourth && writer.get_ref().calls == calls;
-    first && is_refused && writer.failed()
+    let is_refused = refuses_packet(writer, 0)
+        && refuses_packet(writer, 9)
+        && refuses(writer, &interface(alloc));
+    first && is_refused && writer.get_ref().calls == calls && writer.failed()
+}
+
+// Whether the packet fails behind the section and the interface, once.
+fn fails_behind(alloc: Global, output: &mut Narrow) -> ResultParsing<bool> {
+    let mut writer = PcapNgWriter::with_endianness(alloc, Endianness::Big, output)?;
+    writer.write_pcapng_block(&interface(alloc))?;
+    Ok(fails_once(alloc, &mut writer))
+}
+
+// Whether the packet fails in a stream of which these bytes are left.
+fn leaves(alloc: Global, mut output: Narrow, gone: &[u8]) -> bool {
+    let fails = matches!(fails_behind(alloc, &mut output), Ok(true));
+    fails && output.out.as_slice() == gone
 }
 
 #[test]
@@ -97,13 +118,10 @@ fn every_room(rt: HostRuntime) -> Result<(), Fail> {
     let whole = bytes(rt.alloc(), WHOLE)?;
     for fails in [false, true] {
         for room in 48..84usize {
-            let output = Narrow::new(rt.alloc(), room, fails);
-            let mut writer = PcapNgWriter::with_endianness(rt.alloc(), Endianness::Big, output)?;
-            writer.write_pcapng_block(&interface(rt.alloc()))?;
-            assert!(rt; fails_once(rt.alloc(), &mut writer), "at {room}");
-            assert_eq!(rt;
-                writer.get_ref().out.as_slice(),
-                front(whole.as_slice(), room)
+            let gone = front(whole.as_slice(), room);
+            assert!(rt;
+                leaves(rt.alloc(), Narrow::new(rt.alloc(), room, fails), gone),
+                "at {room}"
             );
         }
     }

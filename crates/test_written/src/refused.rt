@@ -1,13 +1,13 @@
 //! Blocks that are refused for what is no option and no record, and writers that are not made.
 
-use crate::writing::{has_message, interface, tell_refusal};
+use crate::writing::{has_message, interface, leaves_no_trace};
 use pcap_blocks::{
     BlockType, EnhancedPacketBlock, InterfaceDescriptionBlock, InterfaceStatisticsBlock,
     PacketBlock, ParsedBlock, SectionHeaderBlock, SectionHeaderOption, UnknownBlock,
 };
 use pcap_core::{CowBytes, DataLink, PcapError};
 use pcap_written::{PcapNgWriter, Unwritable};
-use std::alloc::Global;
+use std::alloc::{AllocError, Global};
 use std::borrow::CowStr;
 use std::test::*;
 use test_support::writers::Narrow;
@@ -57,57 +57,69 @@ fn statistics(alloc: Global, interface_id: u32) -> InterfaceStatisticsBlock<'sta
 }
 
 #[test]
-fn magic_numbers(rt: HostRuntime) -> Result<(), Fail> {
-    let mut told = String::new(rt.alloc());
+fn magic_numbers(rt: HostRuntime) {
+    let alloc = rt.alloc();
     let message = "SectionHeaderBlock: invalid magic number";
     for magic in [0, 0x1A2B3C4E, 0x4D3C2B1B, u32::MAX] {
-        let block = ParsedBlock::SectionHeader(section(rt.alloc(), magic));
-        tell_refusal(rt.alloc(), &block, message, &mut told)?;
+        let block = ParsedBlock::SectionHeader(section(alloc, magic));
+        assert!(rt; leaves_no_trace(alloc, &block, message), "{magic}");
     }
-    assert_eq!(rt; told.as_str(), "");
-    Ok(())
 }
 
 #[test]
-fn stated_lengths(rt: HostRuntime) -> Result<(), Fail> {
-    let mut told = String::new(rt.alloc());
+fn stated_lengths(rt: HostRuntime) {
+    let alloc = rt.alloc();
     let message = "EnhancedPacketBlock: captured_len != data.len()";
     for len in [0, 1, 3, u32::MAX] {
-        tell_refusal(
-            rt.alloc(),
-            &enhanced(rt.alloc(), 0, len),
-            message,
-            &mut told,
-        )?;
-        tell_refusal(rt.alloc(), &packet(rt.alloc(), 0, len), message, &mut told)?;
+        assert!(rt;
+            leaves_no_trace(alloc, &enhanced(alloc, 0, len), message),
+            "{len}"
+        );
+        assert!(rt;
+            leaves_no_trace(alloc, &packet(alloc, 0, len), message),
+            "{len}"
+        );
     }
     let message = "UnknownBlock: length != value.len()";
     for len in [0, 1, 3, 4, u32::MAX] {
         let block = UnknownBlock::new(BlockType::Unknown(7), len, &[1, 2]);
-        tell_refusal(rt.alloc(), &block, message, &mut told)?;
+        assert!(rt; leaves_no_trace(alloc, &block, message), "{len}");
     }
-    assert_eq!(rt; told.as_str(), "");
-    Ok(())
 }
 
 #[test]
-fn missing_interfaces(rt: HostRuntime) -> Result<(), Fail> {
-    let mut told = String::new(rt.alloc());
+fn missing_interfaces(rt: HostRuntime) {
+    let alloc = rt.alloc();
     let message = "Block: interface_id is not described";
     for id in [2, 3, 65535u16] {
-        tell_refusal(rt.alloc(), &packet(rt.alloc(), id, 2), message, &mut told)?;
+        assert!(rt;
+            leaves_no_trace(alloc, &packet(alloc, id, 2), message),
+            "{id}"
+        );
     }
     for id in [2, 3, 65536, u32::MAX] {
-        tell_refusal(rt.alloc(), &enhanced(rt.alloc(), id, 2), message, &mut told)?;
-        tell_refusal(rt.alloc(), &statistics(rt.alloc(), id), message, &mut told)?;
+        assert!(rt;
+            leaves_no_trace(alloc, &enhanced(alloc, id, 2), message),
+            "{id}"
+        );
+        assert!(rt;
+            leaves_no_trace(alloc, &statistics(alloc, id), message),
+            "{id}"
+        );
     }
-    assert_eq!(rt; told.as_str(), "");
-    Ok(())
+}
+
+// Whether an interface with the link type of this number is refused.
+fn refuses_link(alloc: Global, number: u32, message: &str) -> bool {
+    let block = InterfaceDescriptionBlock {
+        linktype: DataLink::Unknown(number),
+        ..interface(alloc)
+    };
+    leaves_no_trace(alloc, &block, message)
 }
 
 #[test]
-fn link_types(rt: HostRuntime) -> Result<(), Fail> {
-    let mut told = String::new(rt.alloc());
+fn link_types(rt: HostRuntime) {
     let large = "InterfaceDescriptionBlock: linktype > 65535";
     let named = "InterfaceDescriptionBlock: linktype has a name";
     for (number, message) in [
@@ -117,19 +129,18 @@ fn link_types(rt: HostRuntime) -> Result<(), Fail> {
         (1, named),
         (268, named),
     ] {
-        let block = InterfaceDescriptionBlock {
-            linktype: DataLink::Unknown(number),
-            ..interface(rt.alloc())
-        };
-        tell_refusal(rt.alloc(), &block, message, &mut told)?;
+        assert!(rt; refuses_link(rt.alloc(), number, message), "{number}");
     }
-    assert_eq!(rt; told.as_str(), "");
-    Ok(())
+}
+
+// Whether a block of this type and two bytes is refused as an unknown one.
+fn refuses_type(alloc: Global, type_: BlockType) -> bool {
+    let block = UnknownBlock::new(type_, 2, &[1, 2]);
+    leaves_no_trace(alloc, &block, "UnknownBlock: type has a name")
 }
 
 #[test]
-fn types_with_names(rt: HostRuntime) -> Result<(), Fail> {
-    let mut told = String::new(rt.alloc());
+fn types_with_names(rt: HostRuntime) {
     for type_ in [
         BlockType::Unknown(0x0A0D0D0A),
         BlockType::Unknown(1),
@@ -144,16 +155,8 @@ fn types_with_names(rt: HostRuntime) -> Result<(), Fail> {
         BlockType::EnhancedPacket,
         BlockType::SystemdJournalExport,
     ] {
-        let block = UnknownBlock::new(type_, 2, &[1, 2]);
-        tell_refusal(
-            rt.alloc(),
-            &block,
-            "UnknownBlock: type has a name",
-            &mut told,
-        )?;
+        assert!(rt; refuses_type(rt.alloc(), type_), "{type_:?}");
     }
-    assert_eq!(rt; told.as_str(), "");
-    Ok(())
 }
 
 // Why no writer is made over this section, if none is.
@@ -171,27 +174,35 @@ fn is_not_made(alloc: Global, section: &SectionHeaderBlock, message: &str) -> bo
 }
 
 #[test]
-fn first_sections(rt: HostRuntime) -> Result<(), Fail> {
+fn first_section_of_no_order(rt: HostRuntime) {
     let no_magic = section(rt.alloc(), 0);
-    let message = "SectionHeaderBlock: invalid magic number";
-    assert!(rt; is_not_made(rt.alloc(), &no_magic, message));
-    let text = "a".repeat(rt.alloc(), 65_536)?;
+    assert!(rt;
+        is_not_made(
+            rt.alloc(),
+            &no_magic,
+            "SectionHeaderBlock: invalid magic number"
+        )
+    );
+}
+
+// Whether no writer is made over a section with this text.
+fn refuses_text(alloc: Global, text: &str) -> Result<bool, AllocError> {
     let long = SectionHeaderBlock {
-        options: vec![in rt.alloc(); SectionHeaderOption::OS(CowStr::Borrowed(text.as_str()))]?,
-        ..section(rt.alloc(), 0x1A2B3C4D)
+        options: vec![in alloc; SectionHeaderOption::OS(CowStr::Borrowed(text))]?,
+        ..section(alloc, 0x1A2B3C4D)
     };
-    assert!(rt; is_not_made(rt.alloc(), &long, "Option: value length > 65535"));
+    Ok(is_not_made(alloc, &long, "Option: value length > 65535"))
+}
+
+#[test]
+fn first_section_with_a_long_text(rt: HostRuntime) -> Result<(), Fail> {
+    let text = "a".repeat(rt.alloc(), 65_536)?;
+    assert!(rt; refuses_text(rt.alloc(), text.as_str())?);
     Ok(())
 }
 
 #[test]
 fn messages_of_what_is_too_much(rt: HostRuntime) {
-    assert_eq!(rt;
-        Unwritable::BlockTooLong.message(),
-        "Block: length > 0xFFFFFFFF"
-    );
-    assert_eq!(rt;
-        Unwritable::InterfacesFull.message(),
-        "SectionHeader: too many interfaces"
-    );
+    assert!(rt; Unwritable::BlockTooLong.message() == "Block: length > 0xFFFFFFFF");
+    assert!(rt; Unwritable::InterfacesFull.message() == "SectionHeader: too many interfaces");
 }

@@ -1,6 +1,6 @@
 //! Options that are refused, of each kind of block. Each stands behind one that could be written.
 
-use crate::writing::tell_refusal;
+use crate::writing::leaves_no_trace;
 use byteorder::BigEndian;
 use pcap_blocks::{
     CustomBinaryOption, CustomUtf8Option, EnhancedPacketBlock, EnhancedPacketOption,
@@ -8,8 +8,8 @@ use pcap_blocks::{
     InterfaceStatisticsOption, NameResolutionBlock, NameResolutionOption, PacketBlock,
     PacketOption, SectionHeaderBlock, SectionHeaderOption, UnknownOption,
 };
-use pcap_core::{CowBytes, DataLink};
-use std::alloc::{AllocError, Global};
+use pcap_core::{CowBytes, DataLink, ResultParsing};
+use std::alloc::Global;
 use std::borrow::CowStr;
 use std::test::*;
 use test_support::captures::pattern;
@@ -20,50 +20,12 @@ const DIFFERS: &str = "UnknownOption: length != value.len()";
 
 const TOO_LONG: &str = "Option: value length > 65535";
 
-// An option of those that each kind of block has.
-#[derive(Drop)]
-enum Shared<'a> {
-    Utf8(CustomUtf8Option<'a>),
-    Binary(CustomBinaryOption<'a>),
-    Unknown(UnknownOption<'a>),
-}
-
-// Such options that are refused for their code in a kind of block whose codes below this one have names.
-fn misplaced(alloc: Global, unnamed: u16) -> Result<Vec<Shared<'static>>, Fail> {
-    let mut found = Vec::new(alloc);
-    for code in 0..unnamed {
-        found.push(Shared::Unknown(UnknownOption::new(code, 0, &[])))?;
-    }
-    for code in [2988, 2989, 19372, 19373] {
-        found.push(Shared::Unknown(UnknownOption::new(code, 0, &[])))?;
-    }
-    for code in [0, 1, 2987, 2989, 19373, 65535] {
-        let option = CustomUtf8Option::from_slice::<BigEndian>(code, &[0; 4])?;
-        found.push(Shared::Utf8(option))?;
-    }
-    for code in [0, 1, 2988, 2990, 19372, 65535] {
-        let option = CustomBinaryOption::from_slice::<BigEndian>(code, &[0; 4])?;
-        found.push(Shared::Binary(option))?;
-    }
-    Ok(found)
-}
-
-// Unknown options that state another length than these values have.
-const OTHER_LENGTHS: [(u16, &[u8]); 4] = [(0, &[1]), (1, &[]), (3, &[1, 2, 3, 4]), (65535, &[1])];
-
-fn section_option(option: Shared) -> SectionHeaderOption {
-    match option {
-        Shared::Utf8(option) => SectionHeaderOption::CustomUtf8(option),
-        Shared::Binary(option) => SectionHeaderOption::CustomBinary(option),
-        Shared::Unknown(option) => SectionHeaderOption::Unknown(option),
-    }
-}
-
-fn section_with<'a>(
+fn refuses_in_section(
     alloc: Global,
-    option: SectionHeaderOption<'a>,
-) -> Result<SectionHeaderBlock<'a>, AllocError> {
-    Ok(SectionHeaderBlock {
+    option: SectionHeaderOption<'_>,
+    message: &str,
+) -> ResultParsing<bool> {
+    let block = SectionHeaderBlock {
         magic: 0x1A2B3C4D,
         major_version: 1,
         minor_version: 0,
@@ -72,38 +34,16 @@ fn section_with<'a>(
             SectionHeaderOption::Comment(CowStr::Borrowed("ok")),
             option,
         ]?,
-    })
+    };
+    Ok(leaves_no_trace(alloc, &block, message))
 }
 
-#[test]
-fn section_options(rt: HostRuntime) -> Result<(), Fail> {
-    let mut told = String::new(rt.alloc());
-    for option in misplaced(rt.alloc(), 5)? {
-        let block = section_with(rt.alloc(), section_option(option))?;
-        tell_refusal(rt.alloc(), &block, MISPLACED, &mut told)?;
-    }
-    for (len, value) in OTHER_LENGTHS {
-        let option = SectionHeaderOption::Unknown(UnknownOption::new(5, len, value));
-        let block = section_with(rt.alloc(), option)?;
-        tell_refusal(rt.alloc(), &block, DIFFERS, &mut told)?;
-    }
-    assert_eq!(rt; told.as_str(), "");
-    Ok(())
-}
-
-fn interface_option(option: Shared) -> InterfaceDescriptionOption {
-    match option {
-        Shared::Utf8(option) => InterfaceDescriptionOption::CustomUtf8(option),
-        Shared::Binary(option) => InterfaceDescriptionOption::CustomBinary(option),
-        Shared::Unknown(option) => InterfaceDescriptionOption::Unknown(option),
-    }
-}
-
-fn interface_with<'a>(
+fn refuses_in_interface(
     alloc: Global,
-    option: InterfaceDescriptionOption<'a>,
-) -> Result<InterfaceDescriptionBlock<'a>, AllocError> {
-    Ok(InterfaceDescriptionBlock {
+    option: InterfaceDescriptionOption<'_>,
+    message: &str,
+) -> ResultParsing<bool> {
+    let block = InterfaceDescriptionBlock {
         linktype: DataLink::ETHERNET,
         reserved: 0,
         snaplen: 0,
@@ -111,35 +51,16 @@ fn interface_with<'a>(
             InterfaceDescriptionOption::Comment(CowStr::Borrowed("ok")),
             option,
         ]?,
-    })
+    };
+    Ok(leaves_no_trace(alloc, &block, message))
 }
 
-#[test]
-fn interface_options(rt: HostRuntime) -> Result<(), Fail> {
-    let mut told = String::new(rt.alloc());
-    for option in misplaced(rt.alloc(), 16)? {
-        let block = interface_with(rt.alloc(), interface_option(option))?;
-        tell_refusal(rt.alloc(), &block, MISPLACED, &mut told)?;
-    }
-    for (len, value) in OTHER_LENGTHS {
-        let option = InterfaceDescriptionOption::Unknown(UnknownOption::new(16, len, value));
-        let block = interface_with(rt.alloc(), option)?;
-        tell_refusal(rt.alloc(), &block, DIFFERS, &mut told)?;
-    }
-    assert_eq!(rt; told.as_str(), "");
-    Ok(())
-}
-
-fn packet_option(option: Shared) -> PacketOption {
-    match option {
-        Shared::Utf8(option) => PacketOption::CustomUtf8(option),
-        Shared::Binary(option) => PacketOption::CustomBinary(option),
-        Shared::Unknown(option) => PacketOption::Unknown(option),
-    }
-}
-
-fn packet_with<'a>(alloc: Global, option: PacketOption<'a>) -> Result<PacketBlock<'a>, AllocError> {
-    Ok(PacketBlock {
+fn refuses_in_packet(
+    alloc: Global,
+    option: PacketOption<'_>,
+    message: &str,
+) -> ResultParsing<bool> {
+    let block = PacketBlock {
         interface_id: 0,
         drop_count: 0,
         timestamp: 0,
@@ -147,38 +68,16 @@ fn packet_with<'a>(alloc: Global, option: PacketOption<'a>) -> Result<PacketBloc
         original_len: 0,
         data_: CowBytes::Borrowed(&[]),
         options: vec![in alloc; PacketOption::Comment(CowStr::Borrowed("ok")), option]?,
-    })
+    };
+    Ok(leaves_no_trace(alloc, &block, message))
 }
 
-#[test]
-fn packet_options(rt: HostRuntime) -> Result<(), Fail> {
-    let mut told = String::new(rt.alloc());
-    for option in misplaced(rt.alloc(), 4)? {
-        let block = packet_with(rt.alloc(), packet_option(option))?;
-        tell_refusal(rt.alloc(), &block, MISPLACED, &mut told)?;
-    }
-    for (len, value) in OTHER_LENGTHS {
-        let option = PacketOption::Unknown(UnknownOption::new(4, len, value));
-        let block = packet_with(rt.alloc(), option)?;
-        tell_refusal(rt.alloc(), &block, DIFFERS, &mut told)?;
-    }
-    assert_eq!(rt; told.as_str(), "");
-    Ok(())
-}
-
-fn enhanced_option(option: Shared) -> EnhancedPacketOption {
-    match option {
-        Shared::Utf8(option) => EnhancedPacketOption::CustomUtf8(option),
-        Shared::Binary(option) => EnhancedPacketOption::CustomBinary(option),
-        Shared::Unknown(option) => EnhancedPacketOption::Unknown(option),
-    }
-}
-
-fn enhanced_with<'a>(
+fn refuses_in_enhanced(
     alloc: Global,
-    option: EnhancedPacketOption<'a>,
-) -> Result<EnhancedPacketBlock<'a>, AllocError> {
-    Ok(EnhancedPacketBlock {
+    option: EnhancedPacketOption<'_>,
+    message: &str,
+) -> ResultParsing<bool> {
+    let block = EnhancedPacketBlock {
         interface_id: 0,
         timestamp: 0,
         captured_len: 0,
@@ -188,198 +87,266 @@ fn enhanced_with<'a>(
             EnhancedPacketOption::Comment(CowStr::Borrowed("ok")),
             option,
         ]?,
-    })
+    };
+    Ok(leaves_no_trace(alloc, &block, message))
 }
 
-#[test]
-fn enhanced_options(rt: HostRuntime) -> Result<(), Fail> {
-    let mut told = String::new(rt.alloc());
-    for option in misplaced(rt.alloc(), 5)? {
-        let block = enhanced_with(rt.alloc(), enhanced_option(option))?;
-        tell_refusal(rt.alloc(), &block, MISPLACED, &mut told)?;
-    }
-    for (len, value) in OTHER_LENGTHS {
-        let option = EnhancedPacketOption::Unknown(UnknownOption::new(5, len, value));
-        let block = enhanced_with(rt.alloc(), option)?;
-        tell_refusal(rt.alloc(), &block, DIFFERS, &mut told)?;
-    }
-    assert_eq!(rt; told.as_str(), "");
-    Ok(())
-}
-
-fn name_option(option: Shared) -> NameResolutionOption {
-    match option {
-        Shared::Utf8(option) => NameResolutionOption::CustomUtf8(option),
-        Shared::Binary(option) => NameResolutionOption::CustomBinary(option),
-        Shared::Unknown(option) => NameResolutionOption::Unknown(option),
-    }
-}
-
-fn name_with<'a>(
+fn refuses_in_names(
     alloc: Global,
-    option: NameResolutionOption<'a>,
-) -> Result<NameResolutionBlock<'a>, AllocError> {
-    Ok(NameResolutionBlock {
+    option: NameResolutionOption<'_>,
+    message: &str,
+) -> ResultParsing<bool> {
+    let block = NameResolutionBlock {
         records: Vec::new(alloc),
         options: vec![in alloc;
             NameResolutionOption::Comment(CowStr::Borrowed("ok")),
             option,
         ]?,
-    })
+    };
+    Ok(leaves_no_trace(alloc, &block, message))
 }
 
-#[test]
-fn name_options(rt: HostRuntime) -> Result<(), Fail> {
-    let mut told = String::new(rt.alloc());
-    for option in misplaced(rt.alloc(), 5)? {
-        let block = name_with(rt.alloc(), name_option(option))?;
-        tell_refusal(rt.alloc(), &block, MISPLACED, &mut told)?;
-    }
-    for (len, value) in OTHER_LENGTHS {
-        let option = NameResolutionOption::Unknown(UnknownOption::new(5, len, value));
-        let block = name_with(rt.alloc(), option)?;
-        tell_refusal(rt.alloc(), &block, DIFFERS, &mut told)?;
-    }
-    assert_eq!(rt; told.as_str(), "");
-    Ok(())
-}
-
-fn statistics_option(option: Shared) -> InterfaceStatisticsOption {
-    match option {
-        Shared::Utf8(option) => InterfaceStatisticsOption::CustomUtf8(option),
-        Shared::Binary(option) => InterfaceStatisticsOption::CustomBinary(option),
-        Shared::Unknown(option) => InterfaceStatisticsOption::Unknown(option),
-    }
-}
-
-fn statistics_with<'a>(
+fn refuses_in_statistics(
     alloc: Global,
-    option: InterfaceStatisticsOption<'a>,
-) -> Result<InterfaceStatisticsBlock<'a>, AllocError> {
-    Ok(InterfaceStatisticsBlock {
+    option: InterfaceStatisticsOption<'_>,
+    message: &str,
+) -> ResultParsing<bool> {
+    let block = InterfaceStatisticsBlock {
         interface_id: 0,
         timestamp: 0,
         options: vec![in alloc;
             InterfaceStatisticsOption::Comment(CowStr::Borrowed("ok")),
             option,
         ]?,
-    })
+    };
+    Ok(leaves_no_trace(alloc, &block, message))
+}
+
+// A kind of block.
+#[derive(Clone, Copy)]
+enum Kind {
+    Section,
+    Interface,
+    Packet,
+    Enhanced,
+    Names,
+    Statistics,
+}
+
+// The kinds, and the codes below which all have names there.
+const KINDS: [(&str, Kind, u16); 6] = [
+    ("section", Kind::Section, 5),
+    ("interface", Kind::Interface, 16),
+    ("packet", Kind::Packet, 4),
+    ("enhanced packet", Kind::Enhanced, 5),
+    ("names", Kind::Names, 5),
+    ("statistics", Kind::Statistics, 9),
+];
+
+// Whether a kind of block is refused for an unknown option.
+fn refuses_unknown(
+    alloc: Global,
+    kind: Kind,
+    (code, len, value): (u16, u16, &[u8]),
+    message: &str,
+) -> ResultParsing<bool> {
+    let option = UnknownOption::new(code, len, value);
+    match kind {
+        Kind::Section => refuses_in_section(alloc, SectionHeaderOption::Unknown(option), message),
+        Kind::Interface => refuses_in_interface(
+            alloc,
+            InterfaceDescriptionOption::Unknown(option),
+            message,
+        ),
+        Kind::Packet => refuses_in_packet(alloc, PacketOption::Unknown(option), message),
+        Kind::Enhanced => refuses_in_enhanced(
+            alloc,
+            EnhancedPacketOption::Unknown(option),
+            message,
+        ),
+        Kind::Names => refuses_in_names(alloc, NameResolutionOption::Unknown(option), message),
+        Kind::Statistics => refuses_in_statistics(
+            alloc,
+            InterfaceStatisticsOption::Unknown(option),
+            message,
+        ),
+    }
+}
+
+// Whether it is for a custom string of this code.
+fn refuses_string(alloc: Global, kind: Kind, code: u16) -> ResultParsing<bool> {
+    let option = CustomUtf8Option::from_slice::<BigEndian>(code, &[0; 4])?;
+    match kind {
+        Kind::Section => refuses_in_section(
+            alloc,
+            SectionHeaderOption::CustomUtf8(option),
+            MISPLACED,
+        ),
+        Kind::Interface => refuses_in_interface(
+            alloc,
+            InterfaceDescriptionOption::CustomUtf8(option),
+            MISPLACED,
+        ),
+        Kind::Packet => refuses_in_packet(alloc, PacketOption::CustomUtf8(option), MISPLACED),
+        Kind::Enhanced => refuses_in_enhanced(
+            alloc,
+            EnhancedPacketOption::CustomUtf8(option),
+            MISPLACED,
+        ),
+        Kind::Names => refuses_in_names(alloc, NameResolutionOption::CustomUtf8(option), MISPLACED),
+        Kind::Statistics => refuses_in_statistics(
+            alloc,
+            InterfaceStatisticsOption::CustomUtf8(option),
+            MISPLACED,
+        ),
+    }
+}
+
+// Whether it is for custom bytes of this code.
+fn refuses_bytes(alloc: Global, kind: Kind, code: u16) -> ResultParsing<bool> {
+    let option = CustomBinaryOption::from_slice::<BigEndian>(code, &[0; 4])?;
+    match kind {
+        Kind::Section => refuses_in_section(
+            alloc,
+            SectionHeaderOption::CustomBinary(option),
+            MISPLACED,
+        ),
+        Kind::Interface => refuses_in_interface(
+            alloc,
+            InterfaceDescriptionOption::CustomBinary(option),
+            MISPLACED,
+        ),
+        Kind::Packet => refuses_in_packet(alloc, PacketOption::CustomBinary(option), MISPLACED),
+        Kind::Enhanced => refuses_in_enhanced(
+            alloc,
+            EnhancedPacketOption::CustomBinary(option),
+            MISPLACED,
+        ),
+        Kind::Names => refuses_in_names(
+            alloc,
+            NameResolutionOption::CustomBinary(option),
+            MISPLACED,
+        ),
+        Kind::Statistics => refuses_in_statistics(
+            alloc,
+            InterfaceStatisticsOption::CustomBinary(option),
+            MISPLACED,
+        ),
+    }
 }
 
 #[test]
-fn statistics_options(rt: HostRuntime) -> Result<(), Fail> {
-    let mut told = String::new(rt.alloc());
-    for option in misplaced(rt.alloc(), 9)? {
-        let block = statistics_with(rt.alloc(), statistics_option(option))?;
-        tell_refusal(rt.alloc(), &block, MISPLACED, &mut told)?;
+fn unknown_options_with_names(rt: HostRuntime) -> Result<(), Fail> {
+    for (name, kind, unnamed) in KINDS {
+        for code in 0..unnamed {
+            let row = (code, 0, [].as_slice());
+            assert!(rt;
+                refuses_unknown(rt.alloc(), kind, row, MISPLACED)?,
+                "{name} {code}"
+            );
+        }
+        for code in [2988, 2989, 19372, 19373] {
+            let row = (code, 0, [].as_slice());
+            assert!(rt;
+                refuses_unknown(rt.alloc(), kind, row, MISPLACED)?,
+                "{name} {code}"
+            );
+        }
     }
-    for (len, value) in OTHER_LENGTHS {
-        let option = InterfaceStatisticsOption::Unknown(UnknownOption::new(9, len, value));
-        let block = statistics_with(rt.alloc(), option)?;
-        tell_refusal(rt.alloc(), &block, DIFFERS, &mut told)?;
-    }
-    assert_eq!(rt; told.as_str(), "");
     Ok(())
 }
 
 #[test]
-fn values_of_other_lengths(rt: HostRuntime) -> Result<(), Fail> {
-    let mut told = String::new(rt.alloc());
-    let long = pattern(rt.alloc(), 65_536)?;
-    for (option, message) in [
-        (
-            InterfaceDescriptionOption::IfIpv4Addr(CowBytes::Borrowed(&[0; 7])),
-            "InterfaceDescriptionOption: IfIpv4Addr length != 8",
-        ),
-        (
-            InterfaceDescriptionOption::IfIpv4Addr(CowBytes::Borrowed(long.as_slice())),
-            "InterfaceDescriptionOption: IfIpv4Addr length != 8",
-        ),
-        (
-            InterfaceDescriptionOption::IfIpv6Addr(CowBytes::Borrowed(&[0; 16])),
-            "InterfaceDescriptionOption: IfIpv6Addr length != 17",
-        ),
-        (
-            InterfaceDescriptionOption::IfMacAddr(CowBytes::Borrowed(&[0; 8])),
-            "InterfaceDescriptionOption: IfMacAddr length != 6",
-        ),
-        (
-            InterfaceDescriptionOption::IfFilter(CowBytes::Borrowed(&[])),
-            "InterfaceDescriptionOption: IfFilter is empty",
-        ),
-        (
-            InterfaceDescriptionOption::IfFilter(CowBytes::Borrowed(long.as_slice())),
-            TOO_LONG,
-        ),
-    ] {
-        let block = interface_with(rt.alloc(), option)?;
-        tell_refusal(rt.alloc(), &block, message, &mut told)?;
+fn custom_options_of_other_codes(rt: HostRuntime) -> Result<(), Fail> {
+    for (name, kind, _) in KINDS {
+        for code in [0, 1, 2987, 2989, 19373, 65535] {
+            assert!(rt; refuses_string(rt.alloc(), kind, code)?, "{name} {code}");
+        }
+        for code in [0, 1, 2988, 2990, 19372, 65535] {
+            assert!(rt; refuses_bytes(rt.alloc(), kind, code)?, "{name} {code}");
+        }
     }
-    for (option, message) in [
-        (
-            NameResolutionOption::NsDnsIpv4Addr(CowBytes::Borrowed(&[0; 5])),
-            "NameResolutionOption: NsDnsIpv4Addr length != 4",
-        ),
-        (
-            NameResolutionOption::NsDnsIpv6Addr(CowBytes::Borrowed(&[])),
-            "NameResolutionOption: NsDnsIpv6Addr length != 16",
-        ),
-    ] {
-        let block = name_with(rt.alloc(), option)?;
-        tell_refusal(rt.alloc(), &block, message, &mut told)?;
+    Ok(())
+}
+
+// Unknown options that state another length than these values have.
+const OTHER_LENGTHS: [(u16, &[u8]); 4] = [(0, &[1]), (1, &[]), (3, &[1, 2, 3, 4]), (65535, &[1])];
+
+#[test]
+fn unknown_options_of_other_lengths(rt: HostRuntime) -> Result<(), Fail> {
+    for (name, kind, code) in KINDS {
+        for (len, value) in OTHER_LENGTHS {
+            let row = (code, len, value);
+            assert!(rt;
+                refuses_unknown(rt.alloc(), kind, row, DIFFERS)?,
+                "{name} {len}"
+            );
+        }
     }
-    assert_eq!(rt; told.as_str(), "");
+    Ok(())
+}
+
+#[test]
+fn addresses_of_other_lengths(rt: HostRuntime) -> Result<(), Fail> {
+    let alloc = rt.alloc();
+    let long = pattern(alloc, 65_536)?;
+    let ipv4 = "InterfaceDescriptionOption: IfIpv4Addr length != 8";
+    for value in [[0; 7].as_slice(), long.as_slice()] {
+        let option = InterfaceDescriptionOption::IfIpv4Addr(CowBytes::Borrowed(value));
+        assert!(rt;
+            refuses_in_interface(alloc, option, ipv4)?,
+            "{} bytes",
+            value.len()
+        );
+    }
+    let option = InterfaceDescriptionOption::IfIpv6Addr(CowBytes::Borrowed(&[0; 16]));
+    let ipv6 = "InterfaceDescriptionOption: IfIpv6Addr length != 17";
+    assert!(rt; refuses_in_interface(alloc, option, ipv6)?);
+    let option = InterfaceDescriptionOption::IfMacAddr(CowBytes::Borrowed(&[0; 8]));
+    let mac = "InterfaceDescriptionOption: IfMacAddr length != 6";
+    assert!(rt; refuses_in_interface(alloc, option, mac)?);
+    let option = NameResolutionOption::NsDnsIpv4Addr(CowBytes::Borrowed(&[0; 5]));
+    let ipv4 = "NameResolutionOption: NsDnsIpv4Addr length != 4";
+    assert!(rt; refuses_in_names(alloc, option, ipv4)?);
+    let option = NameResolutionOption::NsDnsIpv6Addr(CowBytes::Borrowed(&[]));
+    let ipv6 = "NameResolutionOption: NsDnsIpv6Addr length != 16";
+    assert!(rt; refuses_in_names(alloc, option, ipv6)?);
+    Ok(())
+}
+
+#[test]
+fn filters(rt: HostRuntime) -> Result<(), Fail> {
+    let alloc = rt.alloc();
+    let empty = InterfaceDescriptionOption::IfFilter(CowBytes::Borrowed(&[]));
+    let message = "InterfaceDescriptionOption: IfFilter is empty";
+    assert!(rt; refuses_in_interface(alloc, empty, message)?);
+    let long = pattern(alloc, 65_536)?;
+    let filter = InterfaceDescriptionOption::IfFilter(CowBytes::Borrowed(long.as_slice()));
+    assert!(rt; refuses_in_interface(alloc, filter, TOO_LONG)?);
     Ok(())
 }
 
 #[test]
 fn long_hashes_and_custom_values(rt: HostRuntime) -> Result<(), Fail> {
-    let mut told = String::new(rt.alloc());
-    let long = pattern(rt.alloc(), 65_536)?;
+    let alloc = rt.alloc();
+    let long = pattern(alloc, 65_536)?;
     let hash = PacketOption::Hash(CowBytes::Borrowed(long.as_slice()));
-    tell_refusal(
-        rt.alloc(),
-        &packet_with(rt.alloc(), hash)?,
-        TOO_LONG,
-        &mut told,
-    )?;
+    assert!(rt; refuses_in_packet(alloc, hash, TOO_LONG)?);
     let hash = EnhancedPacketOption::Hash(CowBytes::Borrowed(long.as_slice()));
-    tell_refusal(
-        rt.alloc(),
-        &enhanced_with(rt.alloc(), hash)?,
-        TOO_LONG,
-        &mut told,
-    )?;
+    assert!(rt; refuses_in_enhanced(alloc, hash, TOO_LONG)?);
     let custom = CustomBinaryOption::from_slice::<BigEndian>(2989, long.as_slice())?;
     let custom = NameResolutionOption::CustomBinary(custom);
-    tell_refusal(
-        rt.alloc(),
-        &name_with(rt.alloc(), custom)?,
-        TOO_LONG,
-        &mut told,
-    )?;
-    assert_eq!(rt; told.as_str(), "");
+    assert!(rt; refuses_in_names(alloc, custom, TOO_LONG)?);
     Ok(())
 }
 
 #[test]
 fn long_texts(rt: HostRuntime) -> Result<(), Fail> {
-    let mut told = String::new(rt.alloc());
-    let text = "a".repeat(rt.alloc(), 65_536)?;
+    let alloc = rt.alloc();
+    let text = "a".repeat(alloc, 65_536)?;
     let comment = InterfaceStatisticsOption::Comment(CowStr::Borrowed(text.as_str()));
-    tell_refusal(
-        rt.alloc(),
-        &statistics_with(rt.alloc(), comment)?,
-        TOO_LONG,
-        &mut told,
-    )?;
+    assert!(rt; refuses_in_statistics(alloc, comment, TOO_LONG)?);
     let hardware = SectionHeaderOption::Hardware(CowStr::Borrowed(text.as_str()));
-    tell_refusal(
-        rt.alloc(),
-        &section_with(rt.alloc(), hardware)?,
-        TOO_LONG,
-        &mut told,
-    )?;
-    assert_eq!(rt; told.as_str(), "");
+    assert!(rt; refuses_in_section(alloc, hardware, TOO_LONG)?);
     Ok(())
 }

@@ -1,6 +1,6 @@
 //! Records of names that are refused. Each stands behind one that could be written.
 
-use crate::writing::tell_refusal;
+use crate::writing::leaves_no_trace;
 use pcap_blocks::{Ipv4Record, Ipv6Record, NameResolutionBlock, Record, UnknownRecord};
 use pcap_core::CowBytes;
 use std::alloc::{AllocError, Global};
@@ -51,56 +51,69 @@ fn unknown<'a>(type_: u16, length: u16, value: &'a [u8]) -> Record<'a> {
     })
 }
 
-// Tells where names with a good record and then this one are not refused with this message.
-fn tell_record(
-    alloc: Global,
-    record: Record<'_>,
-    message: &str,
-    told: &mut String,
-) -> Result<(), Fail> {
+// Whether names with a good record and then this one are refused with this message.
+fn refuses(alloc: Global, record: Record<'_>, message: &str) -> Result<bool, AllocError> {
     let block = names_with(alloc, vec![in alloc; good(alloc)?, record]?);
-    tell_refusal(alloc, &block, message, told)
+    Ok(leaves_no_trace(alloc, &block, message))
 }
 
 const FOUR: [u8; 4] = [10, 0, 0, 2];
 
 const SIXTEEN: [u8; 16] = [7; 16];
 
+const OTHER: &str = "NameResolutionBlock: address of another length";
+
+const ZERO: &str = "NameResolutionBlock: name with a zero byte";
+
+// The addresses and names of a record of four bytes, and the message.
+const IPV4: [(&[u8], &[&str], &str); 6] = [
+    (&[10], &["a"], OTHER),
+    (&SIXTEEN, &["a"], OTHER),
+    (&FOUR, &["a", "\0"], ZERO),
+    (&FOUR, &["a\0b"], ZERO),
+    (&FOUR, &[], "NameResolutionBlock: Ipv4Record len < 6"),
+    (&FOUR, &[""], "NameResolutionBlock: Ipv4Record len < 6"),
+];
+
+// The same of sixteen bytes.
+const IPV6: [(&[u8], &[&str], &str); 4] = [
+    (&FOUR, &["a"], OTHER),
+    (&SIXTEEN, &["\0"], ZERO),
+    (&SIXTEEN, &[], "NameResolutionBlock: Ipv6Record len < 18"),
+    (&SIXTEEN, &[""], "NameResolutionBlock: Ipv6Record len < 18"),
+];
+
 #[test]
 fn addresses(rt: HostRuntime) -> Result<(), Fail> {
-    let mut told = String::new(rt.alloc());
-    let other = "NameResolutionBlock: address of another length";
-    let zero = "NameResolutionBlock: name with a zero byte";
-    let few = "NameResolutionBlock: Ipv4Record len < 6";
-    for (address, texts, message) in [
-        ([10].as_slice(), ["a"].as_slice(), other),
-        (SIXTEEN.as_slice(), ["a"].as_slice(), other),
-        (FOUR.as_slice(), ["a", "\0"].as_slice(), zero),
-        (FOUR.as_slice(), ["a\0b"].as_slice(), zero),
-        (FOUR.as_slice(), [].as_slice(), few),
-        (FOUR.as_slice(), [""].as_slice(), few),
-    ] {
-        let record = ipv4(rt.alloc(), address, texts)?;
-        tell_record(rt.alloc(), record, message, &mut told)?;
+    let alloc = rt.alloc();
+    for (address, texts, message) in IPV4 {
+        assert!(rt;
+            refuses(alloc, ipv4(alloc, address, texts)?, message)?,
+            "{texts:?} {message}"
+        );
     }
-    let few = "NameResolutionBlock: Ipv6Record len < 18";
-    for (address, texts, message) in [
-        (FOUR.as_slice(), ["a"].as_slice(), other),
-        (SIXTEEN.as_slice(), ["\0"].as_slice(), zero),
-        (SIXTEEN.as_slice(), [].as_slice(), few),
-        (SIXTEEN.as_slice(), [""].as_slice(), few),
-    ] {
-        let record = ipv6(rt.alloc(), address, texts)?;
-        tell_record(rt.alloc(), record, message, &mut told)?;
+    for (address, texts, message) in IPV6 {
+        assert!(rt;
+            refuses(alloc, ipv6(alloc, address, texts)?, message)?,
+            "{texts:?} {message}"
+        );
     }
-    assert_eq!(rt; told.as_str(), "");
     Ok(())
+}
+
+const LONG: &str = "NameResolutionBlock: Record length > 65535";
+
+// Whether records with names of so many bytes are refused.
+fn refuses_lengths(alloc: Global, first: usize, second: usize) -> Result<bool, AllocError> {
+    let first = "a".repeat(alloc, first)?;
+    let second = "b".repeat(alloc, second)?;
+    let texts = [first.as_str(), second.as_str()];
+    let is_refused = refuses(alloc, ipv4(alloc, &FOUR, &texts)?, LONG)?;
+    Ok(is_refused && refuses(alloc, ipv6(alloc, &SIXTEEN, &texts)?, LONG)?)
 }
 
 #[test]
 fn long_names(rt: HostRuntime) -> Result<(), Fail> {
-    let mut told = String::new(rt.alloc());
-    let message = "NameResolutionBlock: Record length > 65535";
     // with the zero byte of each name the values have 65536 bytes, and more
     for (first, second) in [
         (65_531, 0),
@@ -109,41 +122,27 @@ fn long_names(rt: HostRuntime) -> Result<(), Fail> {
         (70_000, 1),
         (40_000, 40_000),
     ] {
-        let (first, second) = (
-            "a".repeat(rt.alloc(), first)?,
-            "b".repeat(rt.alloc(), second)?,
+        assert!(rt;
+            refuses_lengths(rt.alloc(), first, second)?,
+            "{first} {second}"
         );
-        let texts = [first.as_str(), second.as_str()];
-        tell_record(
-            rt.alloc(),
-            ipv4(rt.alloc(), &FOUR, &texts)?,
-            message,
-            &mut told,
-        )?;
-        tell_record(
-            rt.alloc(),
-            ipv6(rt.alloc(), &SIXTEEN, &texts)?,
-            message,
-            &mut told,
-        )?;
     }
+    Ok(())
+}
+
+#[test]
+fn long_name_alone(rt: HostRuntime) -> Result<(), Fail> {
     let text = "a".repeat(rt.alloc(), 65_519)?;
-    tell_record(
-        rt.alloc(),
-        ipv6(rt.alloc(), &SIXTEEN, &[text.as_str()])?,
-        message,
-        &mut told,
-    )?;
-    assert_eq!(rt; told.as_str(), "");
+    let record = ipv6(rt.alloc(), &SIXTEEN, &[text.as_str()])?;
+    assert!(rt; refuses(rt.alloc(), record, LONG)?);
     Ok(())
 }
 
 #[test]
 fn ends_and_unknown_records(rt: HostRuntime) -> Result<(), Fail> {
-    let mut told = String::new(rt.alloc());
-    let long = pattern(rt.alloc(), 65_536)?;
     let message = "NameResolutionBlock: nrb_record_end among the records";
-    tell_record(rt.alloc(), Record::End, message, &mut told)?;
+    assert!(rt; refuses(rt.alloc(), Record::End, message)?);
+    let long = pattern(rt.alloc(), 65_536)?;
     let named = "UnknownRecord: type has a name";
     let differs = "UnknownRecord: length != value.len()";
     for (type_, length, value, message) in [
@@ -154,13 +153,8 @@ fn ends_and_unknown_records(rt: HostRuntime) -> Result<(), Fail> {
         (3, 0, [1].as_slice(), differs),
         (65535, 0, long.as_slice(), differs),
     ] {
-        tell_record(
-            rt.alloc(),
-            unknown(type_, length, value),
-            message,
-            &mut told,
-        )?;
+        let record = unknown(type_, length, value);
+        assert!(rt; refuses(rt.alloc(), record, message)?, "{type_} {length}");
     }
-    assert_eq!(rt; told.as_str(), "");
     Ok(())
 }

@@ -1,15 +1,15 @@
 //! Sections that follow each other, and their interfaces.
 
-use crate::writing::{interface, is_refused};
+use crate::writing::{begun, interface, is_refused};
 use pcap_blocks::{
     EnhancedPacketBlock, InterfaceDescriptionBlock, ParsedBlock, SectionHeaderBlock,
 };
-use pcap_core::{CowBytes, Endianness};
-use pcap_written::PcapNgWriter;
+use pcap_core::{CowBytes, Endianness, ResultParsing};
+use pcap_written::{PcapNgBlock, PcapNgWriter};
 use std::alloc::Global;
 use std::test::*;
 use test_support::captures::{SECTIONS, front};
-use test_support::rows::bytes;
+use test_support::rows::are_digits;
 
 const MISSING: &str = "Block: interface_id is not described";
 
@@ -51,41 +51,59 @@ fn misses(alloc: Global, writer: &mut PcapNgWriter<Vec<u8>>, interface_id: u32) 
     )
 }
 
-#[test]
-fn two_sections(rt: HostRuntime) -> Result<(), Fail> {
+// Writes a block, and tells whether the section then has this order and so many interfaces.
+fn leads<B: PcapNgBlock>(
+    writer: &mut PcapNgWriter<Vec<u8>>,
+    block: &B,
+    order: Endianness,
+    interfaces: u32,
+) -> bool {
+    writer.write_pcapng_block(block).is_ok() && is_at(writer, order, interfaces)
+}
+
+// Whether a packet has no interface at the beginning of a section in this order, which then gets one.
+fn describes(alloc: Global, writer: &mut PcapNgWriter<Vec<u8>>, order: Endianness) -> bool {
     let described = InterfaceDescriptionBlock {
         snaplen: 0x40000,
-        ..interface(rt.alloc())
+        ..interface(alloc)
     };
+    is_at(writer, order, 0) && misses(alloc, writer, 0) && leads(writer, &described, order, 1)
+}
+
+// Whether a section in little-endian order follows.
+fn turns(alloc: Global, writer: &mut PcapNgWriter<Vec<u8>>) -> bool {
+    let section = ParsedBlock::SectionHeader(section(alloc, Endianness::Little));
+    writer.write_block(&section).is_ok()
+}
+
+#[test]
+fn two_sections(rt: HostRuntime) -> Result<(), Fail> {
     let out = Vec::new(rt.alloc());
     let mut writer = PcapNgWriter::with_endianness(rt.alloc(), Endianness::Big, out)?;
-    assert!(rt; is_at(&writer, Endianness::Big, 0) && misses(rt.alloc(), &mut writer, 0));
-    writer.write_pcapng_block(&described)?;
-    assert!(rt; is_at(&writer, Endianness::Big, 1));
-    writer.write_block(&ParsedBlock::SectionHeader(section(rt.alloc(), Endianness::Little)))?;
-    assert!(rt; is_at(&writer, Endianness::Little, 0) && misses(rt.alloc(), &mut writer, 0));
-    writer.write_pcapng_block(&described)?;
-    assert!(rt; is_at(&writer, Endianness::Little, 1));
-    assert_eq!(rt; writer.get_ref().as_slice(), SECTIONS.as_slice());
-    assert_eq!(rt; writer.into_writer().as_slice(), SECTIONS.as_slice());
+    assert!(rt; describes(rt.alloc(), &mut writer, Endianness::Big));
+    assert!(rt; turns(rt.alloc(), &mut writer));
+    assert!(rt; describes(rt.alloc(), &mut writer, Endianness::Little));
+    assert!(rt; writer.get_ref().as_slice() == SECTIONS.as_slice());
+    assert!(rt; writer.into_writer().as_slice() == SECTIONS.as_slice());
     Ok(())
 }
 
-// What goes out of packets of the interfaces below three, each behind a new interface, and whether the next interface's packet
-// is refused each time.
-fn described(alloc: Global, order: Endianness) -> Result<(Vec<u8>, bool), Fail> {
-    let mut writer = PcapNgWriter::with_section_header(
-        alloc,
-        &section(alloc, order),
-        Vec::new(alloc),
-    )?;
-    let mut misses_each = true;
+// Whether the packet of an interface is refused until it is described, and then goes out.
+fn grows(alloc: Global, writer: &mut PcapNgWriter<Vec<u8>>, id: u32) -> bool {
+    misses(alloc, writer, id)
+        && writer.write_pcapng_block(&interface(alloc)).is_ok()
+        && writer.write_pcapng_block(&packet(alloc, id)).is_ok()
+}
+
+// Whether this is what goes out of packets of the interfaces below three, each behind a new interface.
+fn are_described(alloc: Global, order: Endianness, digits: &str) -> ResultParsing<bool> {
+    let out = Vec::new(alloc);
+    let mut writer = PcapNgWriter::with_section_header(alloc, &section(alloc, order), out)?;
+    let mut is_so = true;
     for id in 0..3u32 {
-        misses_each = misses_each && misses(alloc, &mut writer, id);
-        writer.write_pcapng_block(&interface(alloc))?;
-        writer.write_pcapng_block(&packet(alloc, id))?;
+        is_so &= grows(alloc, &mut writer, id);
     }
-    Ok((writer.into_writer(), misses_each))
+    Ok(is_so && are_digits(writer.get_ref().as_slice(), digits))
 }
 
 #[test]
@@ -109,55 +127,66 @@ fn interfaces_that_grow(rt: HostRuntime) -> Result<(), Fail> {
         06000000 20000000 02000000 01000000 02000000 00000000 03000000 20000000
     ";
     for (order, digits) in [(Endianness::Big, big), (Endianness::Little, little)] {
-        let (out, misses_each) = described(rt.alloc(), order)?;
-        assert_eq!(rt; out, bytes(rt.alloc(), digits)?);
-        assert!(rt; misses_each);
+        assert!(rt; are_described(rt.alloc(), order, digits)?, "{order:?}");
     }
     Ok(())
 }
 
-// Whether a section in this order follows one in that order, and starts its interfaces anew.
-fn starts_anew(alloc: Global, first: Endianness, second: Endianness) -> Result<bool, Fail> {
-    let mut writer = PcapNgWriter::with_endianness(alloc, first, Vec::new(alloc))?;
-    writer.write_pcapng_block(&interface(alloc))?;
-    writer.write_pcapng_block(&interface(alloc))?;
-    writer.write_pcapng_block(&section(alloc, second))?;
-    let is_new = is_at(&writer, second, 0) && misses(alloc, &mut writer, 0);
-    writer.write_pcapng_block(&interface(alloc))?;
-    let has_one = is_at(&writer, second, 1) && misses(alloc, &mut writer, 1);
-    Ok(is_new && has_one)
+// Whether a section in this order follows one with two interfaces, and starts them anew.
+fn starts(alloc: Global, writer: &mut PcapNgWriter<Vec<u8>>, order: Endianness) -> bool {
+    leads(writer, &section(alloc, order), order, 0)
+        && misses(alloc, writer, 0)
+        && leads(writer, &interface(alloc), order, 1)
+        && misses(alloc, writer, 1)
+}
+
+// The same of one behind two interfaces of a section in that order.
+fn starts_anew(alloc: Global, first: Endianness, second: Endianness) -> bool {
+    match begun(alloc, first) {
+        Ok(mut writer) => starts(alloc, &mut writer, second),
+        Err(_) => false,
+    }
 }
 
 #[test]
-fn interfaces_of_each_section(rt: HostRuntime) -> Result<(), Fail> {
+fn interfaces_of_each_section(rt: HostRuntime) {
     for first in [Endianness::Big, Endianness::Little] {
         for second in [Endianness::Big, Endianness::Little] {
-            assert!(rt; starts_anew(rt.alloc(), first, second)?);
+            assert!(rt;
+                starts_anew(rt.alloc(), first, second),
+                "{first:?} {second:?}"
+            );
         }
     }
-    Ok(())
 }
 
 #[test]
-fn plain_sections(rt: HostRuntime) -> Result<(), Fail> {
+fn plain_section(rt: HostRuntime) -> Result<(), Fail> {
     let writer = PcapNgWriter::new(rt.alloc(), Vec::new(rt.alloc()))?;
     let little = "0a0d0d0a 1c000000 4d3c2b1a 0100 0000 ffffffffffffffff 1c000000";
     assert!(rt; is_at(&writer, Endianness::Little, 0));
-    assert_eq!(rt; writer.into_writer(), bytes(rt.alloc(), little)?);
-    let big = PcapNgWriter::with_endianness(rt.alloc(), Endianness::Big, Vec::new(rt.alloc()))?;
-    assert_eq!(rt; big.get_ref().as_slice(), front(&SECTIONS, 28));
+    assert!(rt; are_digits(writer.into_writer().as_slice(), little));
     Ok(())
+}
+
+#[test]
+fn plain_big_endian_section(rt: HostRuntime) -> Result<(), Fail> {
+    let big = PcapNgWriter::with_endianness(rt.alloc(), Endianness::Big, Vec::new(rt.alloc()))?;
+    assert!(rt; big.get_ref().as_slice() == front(&SECTIONS, 28));
+    Ok(())
+}
+
+// Whether an interface goes out alone where the section was taken off the writer.
+fn goes_out_alone(alloc: Global, writer: &mut PcapNgWriter<Vec<u8>>) -> bool {
+    writer.get_mut().clear();
+    let is_written = writer.write_pcapng_block(&interface(alloc)).is_ok();
+    let digits = "01000000 14000000 0100 0000 00000000 14000000";
+    is_written && are_digits(writer.get_ref().as_slice(), digits)
 }
 
 #[test]
 fn lent_writer(rt: HostRuntime) -> Result<(), Fail> {
     let mut writer = PcapNgWriter::new(rt.alloc(), Vec::new(rt.alloc()))?;
-    writer.get_mut().clear();
-    writer.write_pcapng_block(&interface(rt.alloc()))?;
-    let digits = "01000000 14000000 0100 0000 00000000 14000000";
-    assert_eq!(rt;
-        writer.get_ref().as_slice(),
-        bytes(rt.alloc(), digits)?.as_slice()
-    );
+    assert!(rt; goes_out_alone(rt.alloc(), &mut writer));
     Ok(())
 }

@@ -4,11 +4,8 @@ use pcap_blocks::{EnhancedPacketBlock, InterfaceDescriptionBlock};
 use pcap_core::{CowBytes, DataLink, Endianness, PcapError, ResultParsing};
 use pcap_written::{PcapNgBlock, PcapNgWriter};
 use std::alloc::Global;
-use std::test::Fail;
 use test_support::captures::back;
-use test_support::rows::bytes;
-
-pub(crate) const ORDERS: [Endianness; 2] = [Endianness::Big, Endianness::Little];
+use test_support::rows::are_digits;
 
 // A block that any writer here can write next, in either order: an enhanced packet of the second interface.
 const NEXT: [(Endianness, &str); 2] = [
@@ -53,35 +50,43 @@ pub(crate) fn begun(alloc: Global, order: Endianness) -> ResultParsing<PcapNgWri
     Ok(writer)
 }
 
-// What goes out for a block behind a section in this order and two interfaces.
-pub(crate) fn written<B: PcapNgBlock>(
+// Whether a block goes out next, as these digits.
+fn writes<B: PcapNgBlock>(writer: &mut PcapNgWriter<Vec<u8>>, block: &B, digits: &str) -> bool {
+    let before = writer.get_ref().len();
+    let is_written = writer.write_pcapng_block(block).is_ok();
+    is_written && are_digits(back(writer.get_ref().as_slice(), before), digits)
+}
+
+// Whether a block goes out as these bytes behind a section in this order and two interfaces.
+pub(crate) fn goes_out<B: PcapNgBlock>(
     alloc: Global,
     order: Endianness,
     block: &B,
-) -> ResultParsing<Vec<u8>> {
-    let mut writer = begun(alloc, order)?;
-    let before = writer.get_ref().len();
-    writer.write_pcapng_block(block)?;
-    let out = writer.into_writer();
-    Ok(Vec::from_slice(alloc, back(out.as_slice(), before))?)
+    wanted: &[u8],
+) -> bool {
+    match begun(alloc, order) {
+        Ok(mut writer) => {
+            let before = writer.get_ref().len();
+            let is_written = writer.write_pcapng_block(block).is_ok();
+            is_written && back(writer.get_ref().as_slice(), before) == wanted
+        }
+        Err(_) => false,
+    }
 }
 
-// Tells the orders in which what goes out for a block are other bytes than these digits. The first are of the order with the
-// high byte first.
-pub(crate) fn tell_written<B: PcapNgBlock>(
-    alloc: Global,
-    block: &B,
-    digits: [&str; 2],
-    told: &mut String,
-) -> Result<(), Fail> {
-    let [big, little] = digits;
-    for (order, digits) in [(Endianness::Big, big), (Endianness::Little, little)] {
-        let out = written(alloc, order, block)?;
-        if out != bytes(alloc, digits)? {
-            write!(told, "{out:?} in place of {digits}. ")?;
-        }
+// The same of these digits.
+fn goes_out_as<B: PcapNgBlock>(alloc: Global, order: Endianness, block: &B, digits: &str) -> bool {
+    match begun(alloc, order) {
+        Ok(mut writer) => writes(&mut writer, block, digits),
+        Err(_) => false,
     }
-    Ok(())
+}
+
+// Whether a block goes out as the first of these digits in the order with the high byte first, and as the second in the other.
+pub(crate) fn is_written<B: PcapNgBlock>(alloc: Global, block: &B, digits: [&str; 2]) -> bool {
+    let [big, little] = digits;
+    goes_out_as(alloc, Endianness::Big, block, big)
+        && goes_out_as(alloc, Endianness::Little, block, little)
 }
 
 // Whether a call was refused with this message.
@@ -100,27 +105,25 @@ pub(crate) fn has_message(error: &PcapError, message: &str) -> bool {
     }
 }
 
-// Tells the orders in which a block is not refused with this message, or is with a trace: bytes that go out, a writer that has
-// failed, or another next block.
-pub(crate) fn tell_refusal<B: PcapNgBlock>(
-    alloc: Global,
-    block: &B,
-    message: &str,
-    told: &mut String,
-) -> Result<(), Fail> {
+// Whether a block is refused with this message; then nothing has gone out and the writer has not failed.
+fn refuses<B: PcapNgBlock>(writer: &mut PcapNgWriter<Vec<u8>>, block: &B, message: &str) -> bool {
+    let before = writer.get_ref().len();
+    let is_told = is_refused(&writer.write_pcapng_block(block), message);
+    is_told && writer.get_ref().len() == before && !writer.failed()
+}
+
+// Whether in each order a block is refused with this message, and without a trace: nothing goes out, the writer has not failed,
+// and it writes the next block.
+pub(crate) fn leaves_no_trace<B: PcapNgBlock>(alloc: Global, block: &B, message: &str) -> bool {
+    let mut is_so = true;
     for (order, next) in NEXT {
-        let mut writer = begun(alloc, order)?;
-        let before = writer.get_ref().len();
-        let is_refused = is_refused(&writer.write_pcapng_block(block), message);
-        let is_kept = writer.get_ref().len() == before && !writer.failed();
-        writer.write_pcapng_block(&next_packet(alloc))?;
-        let goes_on = back(writer.get_ref().as_slice(), before) == bytes(alloc, next)?.as_slice();
-        if !(is_refused && is_kept && goes_on) {
-            write!(
-                told,
-                "{order:?} {message}: {is_refused} {is_kept} {goes_on}. "
-            )?;
-        }
+        is_so &= match begun(alloc, order) {
+            Ok(mut writer) => {
+                refuses(&mut writer, block, message)
+                    && writes(&mut writer, &next_packet(alloc), next)
+            }
+            Err(_) => false,
+        };
     }
-    Ok(())
+    is_so
 }
