@@ -2,13 +2,15 @@
  * a classic capture that of their nanoseconds and stored bytes, as `measured_calls next_packet` does, and of a PcapNg one that
  * of their units of time and stored bytes. CALL is take_packet or take_ng_packet for one in a call, take_packets or
  * take_ng_packets for 256, or push_next or push_ng_next, which tells nanoseconds, for one in a call of a capture that comes in
- * pieces of 64 KiB. */
-#include "pcapfile.h"
+ * pieces of 64 KiB. open_next takes one in a call of pcapfile_open.h, of either format, and tells nanoseconds too; for that
+ * standard input has to be a file. */
+#include "pcapfile_open.h"
 
 #include <inttypes.h>
 #include <stdio.h>
 #include <stdlib.h>
 #include <string.h>
+#include <unistd.h>
 
 enum { BATCH = 256, PIECE = 1 << 16 };
 
@@ -108,6 +110,19 @@ static int32_t add_ng_batches(pcapfile_bytes left, uint64_t *sum) {
     return status;
 }
 
+static int32_t add_opened(pcapfile_bytes left, uint64_t *sum) {
+    (void)left;
+    pcapfile_reader *reader = lseek(0, 0, SEEK_SET) == 0 ? pcapfile_fdopen(dup(0)) : NULL;
+    pcapfile_any_packet packet = PCAPFILE_ANY_PACKET_INIT;
+    pcapfile_error error = PCAPFILE_ERROR_INIT;
+    int32_t status;
+    if (!reader) return PCAPFILE_SYSTEM;
+    while ((status = pcapfile_next(reader, &packet, &error)) == PCAPFILE_OK)
+        *sum += packet.time.nanoseconds + packet.bytes.len;
+    pcapfile_close(reader);
+    return status == PCAPFILE_END ? PCAPFILE_OK : status;
+}
+
 static const struct {
     const char *name;
     int32_t (*add)(pcapfile_bytes, uint64_t *);
@@ -116,6 +131,7 @@ static const struct {
     { "take_packets", add_batches },
     { "push_next", add_pieces },
     { "push_ng_next", add_ng_pieces },
+    { "open_next", add_opened },
     { "take_ng_packet", add_ng_packets },
     { "take_ng_packets", add_ng_batches },
 };
