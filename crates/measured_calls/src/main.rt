@@ -2,6 +2,7 @@
 //! `measured_calls CALL PASSES < bytes`. It prints a sum over all values, which shows that nothing was left out.
 #![tactic(auto)]
 
+mod blocks;
 mod bodies;
 mod captures;
 mod pieces;
@@ -17,6 +18,9 @@ fn passes_of(alloc: Global, call: &str, passes: u64, bytes: &[u8]) -> Option<Res
         return Some(bodies::parse(alloc, body, passes, bytes));
     }
     if let Some(sum) = captures::passes_of(alloc, call, passes, bytes) {
+        return Some(sum);
+    }
+    if let Some(sum) = blocks::passes_of(alloc, call, passes, bytes) {
         return Some(sum);
     }
     pieces::passes_of(alloc, call, passes, bytes)
