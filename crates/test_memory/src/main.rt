@@ -8,6 +8,7 @@ mod parts;
 mod pcapng;
 mod resumption;
 mod samples;
+mod writing;
 
 use pcap_classic::{PcapError, ResultParsing};
 use std::io;
@@ -22,6 +23,7 @@ fn main(rt: HostRuntime) -> io::Result<()> {
         resumption::make_calls(&rt)?;
         samples::make_calls(&rt)?;
         pcapng::make_copies(&rt)?;
+        writing::make_calls(&rt)?;
     }
     Ok(())
 }
