@@ -50,10 +50,10 @@ marked_means _ b next (to_interface section interfaces interface rest is text th
     read_means q b (good next) (ap is_kept is) (InterfaceBody interface, rest, here, ap good (sym there))
 marked_means _ b next (nowhere q none there) = rw none there
 
-block_unmarked : (q : State) (item : Item) (s rest : List ℕ) → MarkedText q item s rest → BlockText q item s rest
+pub block_unmarked : (q : State) (item : Item) (s rest : List ℕ) → MarkedText q item s rest → BlockText q item s rest
 block_unmarked q item s rest x = record { frame = x.frame; means = marked_means q item.block item.after x.leads_on }
 
-marked_extends : Extends marked_format block_format
+pub marked_extends : Extends marked_format block_format
 unfolding marked_format block_format
 marked_extends = record { texts = λ q s rest item text. block_unmarked q item s rest text; goes = λ q item. refl }
 

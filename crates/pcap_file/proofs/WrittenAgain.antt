@@ -1,39 +1,42 @@
 -- A capture that is written is read again.
-use Rattle.std.proofs.Common.{◌≡◌, ◌≢◌, ℕ, ◌<◌, ◌%◌, ◌^◌, List, [], ◌∷◌, ◌++◌, length, map, take, refl, sym, ap, subst, ◌∙◌, arith}
-use Rattle.std.specs.Prelude.{◌==◌, Bool, false, Option, Some, None}
+use Rattle.std.proofs.Common.{◌≡◌, ◌≢◌, ℕ, ◌<◌, ◌%◌, ◌^◌, List, [], ◌∷◌, ◌++◌, length, length-append, map, take, refl, sym, ap, subst, ◌∙◌, arith}
+use Rattle.std.specs.Prelude.{◌==◌, false, Option, Some, None}
 use Rattle.std.specs.List.{AllZip}
 use Rattle.std.proofs.lemmas.Bool.{ne_eqb}
 use Rattle.byteorder.specs.Endian.{big_number}
 use Rattle.byteorder.specs.Numbers.{big_from-take}
 use Rattle.pcap_core.specs.declared.common.Endianness.{Endianness}
 use Rattle.pcap_core.specs.declared.common.Endianness.TheVariants.{Big}
-use Rattle.pcap_core.specs.Answer.{whole}
+use Rattle.pcap_core.specs.Answer.{number_in, whole}
 use Rattle.pcap_core.specs.Codec.{number_bytes}
 use Rattle.pcap_core.specs.Format.{Texts, Front}
-use Rattle.pcap_core.specs.Headed.{good}
 use Rattle.pcap_core.proofs.Codec.{codec}
-use Rattle.pcap_core.proofs.Formats.{nothing_no_text}
+use Rattle.pcap_core.proofs.Formats.{nothing_no_text, texts_extend}
 use Rattle.pcap_blocks.specs.declared.block_type.BlockType.{BlockType}
 use Rattle.pcap_blocks.specs.declared.block_type.BlockType.TheVariants as types
 use Rattle.pcap_blocks.specs.BlockType.{block_type, type_number}
-use Rattle.pcap_blocks.specs.InterfaceDescription.{Interface}
-use Rattle.pcap_blocks.specs.SectionHeader.{Section, magic_order}
+use Rattle.pcap_blocks.specs.InterfaceDescription.{Interface, interface_description}
+use Rattle.pcap_blocks.specs.SectionHeader.{Section, magic_order, section_header}
 use Rattle.pcap_blocks.specs.ParsedBlock.{Body, SectionBody, InterfaceBody, OldPacketBody, SimpleBody, NamesBody, StatisticsBody, EnhancedBody, JournalBody, OtherBody}
 use Rattle.pcap_written.specs.declared.place.Place.{Place}
-use Rattle.pcap_written.specs.Bodies.{after_magic_text, body_text, magic_in, order_under, section_text, text_of, type_of}
+use Rattle.pcap_written.specs.Bodies.{after_magic_text, body_text, interface_text, magic_in, order_under, section_text, text_of, type_of}
 use Rattle.pcap_written.specs.Capture.{AreWritten}
 use Rattle.pcap_written.specs.Fits.{IsFitUnknown, kept_body}
 use Rattle.pcap_written.specs.Raw.{IsFitRaw, Raw, raw_text}
-use Rattle.pcap_written.specs.Writing.{IsFitIn}
+use Rattle.pcap_written.specs.Text.{list_text}
+use Rattle.pcap_written.specs.Writing.{IsFitIn, interfaces_after}
 use Rattle.pcap_written.proofs.Aligned.{body_aligned}
-use Rattle.pcap_written.proofs.BodiesAgain.{body_again}
-use Rattle.pcap_file.specs.Blocks.{Item, BlockText, block_format}
+use Rattle.pcap_written.proofs.BodiesAgain.{body_again, interface_head_again, magic_again, version_again}
+use Rattle.pcap_written.proofs.OptionsAgain.{options_marked}
+use Rattle.pcap_file.specs.Blocks.{Item, block_format}
 use Rattle.pcap_file.specs.Bodies.{SaysOfBody}
 use Rattle.pcap_file.specs.Frames.{Framed, FrameText}
+use Rattle.pcap_file.specs.MarkedLists.{MarkedInterface, MarkedLeads, MarkedSection, MarkedText, marked_format, nowhere, to_interface, to_section}
 use Rattle.pcap_file.specs.RawBlocks.{raw_in}
-use Rattle.pcap_file.specs.State.{State, opening, order_at, within, is_kept, MeansIf, Means}
+use Rattle.pcap_file.specs.State.{State, opening, order_at, within, is_kept}
 use Rattle.pcap_file.specs.Written.{IsBodyOf, IsMadeOf, framed_in}
 use Rattle.pcap_file.proofs.BlockFormat.{blocks_lawful}
+use Rattle.pcap_file.proofs.MarkedLists.{marked_extends}
 use Rattle.pcap_file.proofs.RawAgain.{plain_again, section_again}
 
 -- the number of a block that is no section
@@ -84,12 +87,12 @@ own_named : (there e : Endianness) (magic : Option ℕ) → order_under there ma
 own_named there e None named = refl
 own_named there e (Some n) named = named
 
-says_again : (there e : Endianness) (body : Body) → order_under there (magic_in body) ≡ Some e → IsFitIn e body
+pub says_again : (there e : Endianness) (body : Body) → order_under there (magic_in body) ≡ Some e → IsFitIn e body
     → (rest : List ℕ) × SaysOfBody (framed_in e body) (whole (kept_body body) rest)
 says_again there e body named fit = body_again e body fit (own_named there e (magic_in body) named)
 
 -- a section's order is in force
-order_within : (e : Endianness) (s : Section) (is : List Interface) → magic_order s.magic ≡ Some e → e ≡ order_at (within s is)
+pub order_within : (e : Endianness) (s : Section) (is : List Interface) → magic_order s.magic ≡ Some e → e ≡ order_at (within s is)
 unfolding order_at
 order_within e s is names = rw names refl
 
@@ -103,31 +106,56 @@ made_again order body b made =
       subst (λ (x : Framed). raw_text (raw_in x) ≡ text_of (number_bytes e) body) (sym made.frame) refl,
     )
 
-abbrev item_in : Endianness → Body → State → Item
+abbrev pub item_in : Endianness → Body → State → Item
 item_in e body after = record { block = framed_in e body; after = after }
 
+-- the options of a section that is written have their mark
+section_marked : (e : Endianness) (s : Section) → magic_order s.magic ≡ Some e → IsFitIn e (SectionBody s) → MarkedSection s (section_text (number_bytes e) s) []
+section_marked e s names fit =
+    let list = list_text (number_bytes e) section_header s.options in
+    record {
+      after_magic = after_magic_text (number_bytes e) s;
+      after_version = list;
+      endianness = e;
+      magic_is = magic_again e s fit.fit;
+      names = names;
+      version = version_again (number_in e) (number_bytes e) (codec e) s list fit.fit;
+      options_are = options_marked e section_header s.options fit.fit.options;
+    }
+
+-- and so have those of an interface
+interface_marked : (e : Endianness) (i : Interface) → IsFitIn e (InterfaceBody i) → MarkedInterface (number_in e) i (interface_text (number_bytes e) i) []
+interface_marked e i fit =
+    let list = list_text (number_bytes e) interface_description i.options in
+    record {
+      after_head = list;
+      head = interface_head_again (number_in e) (number_bytes e) (codec e) i list fit.fit;
+      options_are = options_marked e interface_description i.options fit.fit.options;
+    }
+
 -- a block that is written is read under the section in force, and leaves a section of its own order in force
-record IsReadUnder (q : State) (e : Endianness) (body : Body) (rest : List ℕ) : Type 0 where
-  section : Section
-  interfaces : List Interface
-  names : magic_order section.magic ≡ Some e
-  text : BlockText q (item_in e body (within section interfaces)) (text_of (number_bytes e) body ++ rest) rest
+pub record IsReadUnder (q : State) (e : Endianness) (body : Body) (n : ℕ) (rest : List ℕ) : Type 0 where
+  pub section : Section
+  pub interfaces : List Interface
+  pub names : magic_order section.magic ≡ Some e
+  pub counted : length interfaces ≡ interfaces_after n (type_of body)
+  pub text : MarkedText q (item_in e body (within section interfaces)) (text_of (number_bytes e) body ++ rest) rest
 
 -- a section is read under any state
-section_read : (q : State) (e : Endianness) (s : Section) (rest : List ℕ) → magic_order s.magic ≡ Some e → IsFitIn e (SectionBody s)
-    → Means q (framed_in e (SectionBody s)) (good (within s []))
-    → BlockText q (item_in e (SectionBody s) (within s [])) (text_of (number_bytes e) (SectionBody s) ++ rest) rest
-section_read q e s rest names fit means = record { frame = section_frame (order_at q) e s rest names fit; means = means }
+pub section_read : (q : State) (e : Endianness) (s : Section) (rest : List ℕ) → magic_order s.magic ≡ Some e → IsFitIn e (SectionBody s)
+    → MarkedText q (item_in e (SectionBody s) (within s [])) (text_of (number_bytes e) (SectionBody s) ++ rest) rest
+section_read q e s rest names fit =
+    record { frame = section_frame (order_at q) e s rest names fit; leads_on = to_section q s [] refl (section_marked e s names fit) refl }
 
 -- a block that is no section is read under one, and leaves it in force
 plain_read : (s : Section) (is next : List Interface) (there e : Endianness) (body : Body) (rest : List ℕ) → IsPlainType body → magic_order s.magic ≡ Some there
-    → ◌≡◌ {A = Option Endianness} (Some there) (Some e) → IsFitIn e body
-    → Means (within s is) (framed_in e body) (good (within s next)) → IsReadUnder (within s is) e body rest
-plain_read s is next there e body rest plain names same fit means =
+    → ◌≡◌ {A = Option Endianness} (Some there) (Some e) → IsFitIn e body → length next ≡ interfaces_after (length is) (type_of body)
+    → MarkedLeads (framed_in e body) (within s next) (within s is) → IsReadUnder (within s is) e body (length is) rest
+plain_read s is next there e body rest plain names same fit counted leads_on =
     let now = names ∙ same in
     let frame : FrameText (order_at (within s is)) (framed_in e body) (text_of (number_bytes e) body ++ rest) rest =
     subst (λ (o : Endianness). FrameText o (framed_in e body) (text_of (number_bytes e) body ++ rest) rest) (order_within e s is now) (plain_frame e body rest plain fit) in
-    record { section = s; interfaces = next; names = now; text = record { frame = frame; means = means } }
+    record { section = s; interfaces = next; names = now; counted = counted; text = record { frame = frame; leads_on = leads_on } }
 
 never_kept : (type : BlockType) (len : ℕ) (bytes : List ℕ) → IsFitUnknown (record { type_ = type; len = len; bytes = bytes }) → is_kept type ≡ false
 never_kept (types.Unknown n) len bytes fit = refl
@@ -144,36 +172,45 @@ numbered : (body : Body) → type_number (type_of body) < 2 ^ 32 → (type_numbe
     → type_of body ≡ block_type (type_number (type_of body)) → IsPlainType body
 numbered body fits other named = record { fits = fits; other = other; named = named }
 
-one_again : (s : Section) (is : List Interface) (there e : Endianness) (body : Body) (rest : List ℕ) → magic_order s.magic ≡ Some there
-    → order_under there (magic_in body) ≡ Some e → IsFitIn e body → IsReadUnder (within s is) e body rest
+-- an unknown block describes no interface
+never_counted : (n : ℕ) (type : BlockType) → is_kept type ≡ false → n ≡ interfaces_after n type
+never_counted n (types.Unknown k) fit = refl
+never_counted n types.SectionHeader fit = absurd cc
+never_counted n types.InterfaceDescription fit = absurd cc
+never_counted n types.Packet fit = refl
+never_counted n types.SimplePacket fit = refl
+never_counted n types.NameResolution fit = refl
+never_counted n types.InterfaceStatistics fit = refl
+never_counted n types.EnhancedPacket fit = refl
+never_counted n types.SystemdJournalExport fit = refl
+
+pub one_again : (s : Section) (is : List Interface) (there e : Endianness) (body : Body) (rest : List ℕ) → magic_order s.magic ≡ Some there
+    → order_under there (magic_in body) ≡ Some e → IsFitIn e body → IsReadUnder (within s is) e body (length is) rest
 one_again s is there e (SectionBody t) rest names same fit =
-    let says = says_again there e (SectionBody t) same fit in
-    record { section = t; interfaces = []; names = same; text = section_read (within s is) e t rest same fit (SectionBody t, says.0, says.1, refl) }
+    record { section = t; interfaces = []; names = same; counted = refl; text = section_read (within s is) e t rest same fit }
 one_again s is there e (InterfaceBody i) rest names same fit =
-    let says = says_again there e (InterfaceBody i) same fit in
-    plain_read s is (is ++ i ∷ []) there e (InterfaceBody i) rest (numbered (InterfaceBody i) (omega arith) refl refl) names same fit (InterfaceBody i, says.0, says.1, refl)
+    let leads_on = to_interface s is i [] refl (interface_marked e i fit) refl in
+    plain_read s is (is ++ i ∷ []) there e (InterfaceBody i) rest (numbered (InterfaceBody i) (omega arith) refl refl) names same fit (length-append is (i ∷ [])) leads_on
 one_again s is there e (OldPacketBody p) rest names same fit =
-    plain_read s is is there e (OldPacketBody p) rest (numbered (OldPacketBody p) (omega arith) refl refl) names same fit refl
+    plain_read s is is there e (OldPacketBody p) rest (numbered (OldPacketBody p) (omega arith) refl refl) names same fit refl (nowhere (within s is) refl refl)
 one_again s is there e (SimpleBody p) rest names same fit =
-    plain_read s is is there e (SimpleBody p) rest (numbered (SimpleBody p) (omega arith) refl refl) names same fit refl
+    plain_read s is is there e (SimpleBody p) rest (numbered (SimpleBody p) (omega arith) refl refl) names same fit refl (nowhere (within s is) refl refl)
 one_again s is there e (NamesBody b) rest names same fit =
-    plain_read s is is there e (NamesBody b) rest (numbered (NamesBody b) (omega arith) refl refl) names same fit refl
+    plain_read s is is there e (NamesBody b) rest (numbered (NamesBody b) (omega arith) refl refl) names same fit refl (nowhere (within s is) refl refl)
 one_again s is there e (StatisticsBody x) rest names same fit =
-    plain_read s is is there e (StatisticsBody x) rest (numbered (StatisticsBody x) (omega arith) refl refl) names same fit refl
+    plain_read s is is there e (StatisticsBody x) rest (numbered (StatisticsBody x) (omega arith) refl refl) names same fit refl (nowhere (within s is) refl refl)
 one_again s is there e (EnhancedBody x) rest names same fit =
-    plain_read s is is there e (EnhancedBody x) rest (numbered (EnhancedBody x) (omega arith) refl refl) names same fit refl
+    plain_read s is is there e (EnhancedBody x) rest (numbered (EnhancedBody x) (omega arith) refl refl) names same fit refl (nowhere (within s is) refl refl)
 one_again s is there e (JournalBody entry) rest names same fit =
-    plain_read s is is there e (JournalBody entry) rest (numbered (JournalBody entry) (omega arith) refl refl) names same fit refl
+    plain_read s is is there e (JournalBody entry) rest (numbered (JournalBody entry) (omega arith) refl refl) names same fit refl (nowhere (within s is) refl refl)
 one_again s is there e (OtherBody u) rest names same fit =
-    let body = OtherBody u in
-    let means : Means (within s is) (framed_in e body) (good (within s is)) =
-    subst (λ (b : Bool). MeansIf b (within s is) (framed_in e body) (good (within s is))) (sym (never_kept u.type_ u.len u.bytes fit.fit)) refl in
-    plain_read s is is there e body rest (other_plain u.type_ u.len u.bytes fit.fit) names same fit means
+    let unkept = never_kept u.type_ u.len u.bytes fit.fit in
+    plain_read s is is there e (OtherBody u) rest (other_plain u.type_ u.len u.bytes fit.fit) names same fit (never_counted (length is) u.type_ unkept) (nowhere (within s is) unkept refl)
 
 blocks_again : (s : Section) (is : List Interface) (at : Place) (bodies : List Body) (bytes : List ℕ) (end : Place) → magic_order s.magic ≡ Some at.endianness
     → AreWritten at bodies bytes end
-    → (items : List Item) × Texts block_format (within s is) items bytes [] × AllZip IsBodyOf items (map kept_body bodies)
-unfolding block_format
+    → (items : List Item) × Texts marked_format (within s is) items bytes [] × AllZip IsBodyOf items (map kept_body bodies)
+unfolding marked_format
 blocks_again s is at [] bytes end names written = ([], written.0, tt)
 blocks_again s is at (body ∷ bodies) bytes end names (behind, text, more, one, parts, others) =
     let e = behind.endianness in
@@ -181,23 +218,34 @@ blocks_again s is at (body ∷ bodies) bytes end names (behind, text, more, one,
     let read = one_again s is at.endianness e body more names named one.fit in
     let item = item_in e body (within read.section read.interfaces) in
     let tail = blocks_again read.section read.interfaces behind bodies more end read.names others in
-    let there : BlockText (within s is) item bytes more = subst (λ (t : List ℕ). BlockText (within s is) item t more) (sym (parts ∙ ap (λ (t : List ℕ). t ++ more) one.text)) read.text in
+    let there : MarkedText (within s is) item bytes more = subst (λ (t : List ℕ). MarkedText (within s is) item t more) (sym (parts ∙ ap (λ (t : List ℕ). t ++ more) one.text)) read.text in
     (item ∷ tail.0, (more, there, tail.1), (says_again at.endianness e body named one.fit, tail.2))
 
-pub capture_again : (at end : Place) (s : Section) (bodies : List Body) (bytes : List ℕ) → AreWritten at (SectionBody s ∷ bodies) bytes end
-    → (items : List Item) × Front block_format opening items bytes [] × AllZip IsBodyOf items (map kept_body (SectionBody s ∷ bodies))
-unfolding block_format
-capture_again at end s bodies bytes (behind, text, more, one, parts, others) =
+-- a capture that is written has all its marks
+pub capture_marked : (at end : Place) (s : Section) (bodies : List Body) (bytes : List ℕ) → AreWritten at (SectionBody s ∷ bodies) bytes end
+    → (items : List Item) × Front marked_format opening items bytes [] × AllZip IsBodyOf items (map kept_body (SectionBody s ∷ bodies))
+unfolding marked_format block_format
+capture_marked at end s bodies bytes (behind, text, more, one, parts, others) =
     let e = behind.endianness in
     let body = SectionBody s in
     let named = one.place.0.named in
     let says = says_again at.endianness e body named one.fit in
-    let read = section_read opening e s more named one.fit (body, says.0, says.1, refl) in
+    let read = section_read opening e s more named one.fit in
     let item = item_in e body (within s []) in
     let tail = blocks_again s [] behind bodies more end named others in
-    let there : BlockText opening item bytes more = subst (λ (t : List ℕ). BlockText opening item t more) (sym (parts ∙ ap (λ (t : List ℕ). t ++ more) one.text)) read in
-    let front : Front block_format opening (item ∷ tail.0) bytes [] = record {
+    let there : MarkedText opening item bytes more = subst (λ (t : List ℕ). MarkedText opening item t more) (sym (parts ∙ ap (λ (t : List ℕ). t ++ more) one.text)) read in
+    let front : Front marked_format opening (item ∷ tail.0) bytes [] = record {
       texts = (more, there, tail.1);
-      longest = λ other after t. nothing_no_text block_format blocks_lawful _ other after t;
+      longest = λ other after t. nothing_no_text block_format blocks_lawful _ other after (marked_extends.texts _ [] after other t);
     } in
     (item ∷ tail.0, front, (says, tail.2))
+
+pub capture_again : (at end : Place) (s : Section) (bodies : List Body) (bytes : List ℕ) → AreWritten at (SectionBody s ∷ bodies) bytes end
+    → (items : List Item) × Front block_format opening items bytes [] × AllZip IsBodyOf items (map kept_body (SectionBody s ∷ bodies))
+capture_again at end s bodies bytes written =
+    let there = capture_marked at end s bodies bytes written in
+    let front : Front block_format opening there.0 bytes [] = record {
+      texts = texts_extend marked_format block_format marked_extends opening there.0 bytes [] (there.1).texts;
+      longest = λ other after t. nothing_no_text block_format blocks_lawful _ other after t;
+    } in
+    (there.0, front, there.2)

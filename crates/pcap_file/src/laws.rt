@@ -37,13 +37,15 @@ ghost use Rattle.pcap_file.specs.Sections.{Leaves};
 ghost use Rattle.pcap_file.specs.State.{State, opening};
 ghost use Rattle.pcap_file.specs.Bodies.{SaysOfBody};
 ghost use Rattle.pcap_file.specs.RawBlocks.{raw_in};
-ghost use Rattle.pcap_file.specs.Written.{IsBodyOf, IsMadeOf};
+ghost use Rattle.pcap_file.specs.Written.{IsBodyOf, IsMadeOf, IsReadable, IsReadAs, StandsAt};
 ghost use Rattle.std.specs.List.{AllZip};
+ghost use Rattle.pcap_blocks.specs.declared.block_type.BlockType.TheVariants as types;
 ghost use Rattle.pcap_blocks.specs.ParsedBlock.{Body, SectionBody};
 ghost use Rattle.pcap_blocks.specs.SectionHeader.{Section};
 ghost use Rattle.pcap_core.specs.Codec.{number_bytes};
 ghost use Rattle.pcap_written.specs.Bodies.{text_of};
 ghost use Rattle.pcap_written.specs.Capture.{AreWritten};
+ghost use Rattle.pcap_written.specs.Mixed.{GoOut, Written, type_written};
 ghost use Rattle.pcap_written.specs.Raw.{Raw, TellsRaw, raw_text};
 ghost use Rattle.pcap_written.specs.Fits.{kept_body};
 ghost use Rattle.pcap_written.specs.Writing.{IsFitIn};
@@ -147,6 +149,23 @@ pub fn copy_is_a_beginning()
 pub fn written_capture_is_read()
     ensures { (at end : Place) (section : Section) (bodies : List Body) (bytes : List ℕ) → AreWritten at (SectionBody section ∷ bodies) bytes end →
         (items : List Item) × Front block_format opening items bytes [] × AllZip IsBodyOf items (map kept_body (SectionBody section ∷ bodies)) }
+{}
+
+/// In such a capture all lists of options of sections and interfaces end with their mark, where they have an option: it is a
+/// capture also where each of them has to.
+pub fn written_capture_has_its_marks()
+    ensures { (at end : Place) (section : Section) (bodies : List Body) (bytes : List ℕ) → AreWritten at (SectionBody section ∷ bodies) bytes end →
+        (items : List Item) × Front marked_format opening items bytes [] × AllZip IsBodyOf items (map kept_body (SectionBody section ∷ bodies)) }
+{}
+
+/// Blocks of values and blocks of bytes that are written one after the other, in any order, the first of them a section header, are
+/// in front of their bytes as a capture, and nothing is behind them: each value as it was, each block of bytes with its type, its
+/// order and its body, where those that are section headers or interfaces can be read. The order and the number of interfaces that
+/// are in force behind them are those that the writer tells.
+pub fn mixed_capture_is_read()
+    ensures { (at end : Place) (first : Written) (blocks : List Written) (bytes : List ℕ) → type_written first ≡ types.SectionHeader →
+        All IsReadable (first ∷ blocks) → GoOut at (first ∷ blocks) bytes end →
+        (items : List Item) × Front block_format opening items bytes [] × AllZip IsReadAs items (first ∷ blocks) × StandsAt end (state_after block_format opening items) }
 {}
 
 /// A block that was made of a value is read as it was, with the padding where its bytes are the rest of the block, and its text is

@@ -3,7 +3,8 @@ use Rattle.std.proofs.Common.{◌≡◌, ℕ, ◌<◌, ◌/◌, ◌%◌, ◌^◌
 use Rattle.std.specs.Prelude.{ℤ, FitsSigned, Some}
 use Rattle.std.specs.Int.{w64, cast_unsigned}
 use Rattle.std.proofs.lemmas.Int.{to_z-of_z, ints}
-use Rattle.pcap_core.specs.Answer.{Order, number_in, whole}
+use Rattle.byteorder.specs.Endian.{big_number}
+use Rattle.pcap_core.specs.Answer.{Order, Number, number_in, whole}
 use Rattle.pcap_core.specs.Codec.{Encoder, IsCodec, number_bytes}
 use Rattle.pcap_core.specs.Link.{link_number}
 use Rattle.pcap_core.specs.declared.common.Endianness.{Endianness}
@@ -21,7 +22,7 @@ use Rattle.pcap_blocks.specs.EnhancedPacket.{Enhanced, EnhancedText, enhanced_pa
 use Rattle.pcap_blocks.specs.Packet.{PacketBody, PacketBodyText, packet_kind}
 use Rattle.pcap_blocks.specs.ParsedBlock.{Body, SectionBody, InterfaceBody, OldPacketBody, SimpleBody, NamesBody, StatisticsBody, EnhancedBody, JournalBody, OtherBody, BodySays}
 use Rattle.pcap_written.specs.Text.{padded_bytes, time_bytes, list_text}
-use Rattle.pcap_written.specs.Bodies.{section_text, interface_text, packet_head_text, stored_text, enhanced_text, packet_text, statistics_text, body_text, type_of, magic_in, order_under}
+use Rattle.pcap_written.specs.Bodies.{after_magic_text, section_text, interface_text, packet_head_text, stored_text, enhanced_text, packet_text, statistics_text, body_text, type_of, magic_in, order_under}
 use Rattle.pcap_written.specs.Fits.{IsFitSection, IsFitInterface, IsFitStored, IsFitEnhanced, IsFitPacket, IsFitStatistics, IsFitUnknown, kept_body}
 use Rattle.pcap_written.specs.Writing.{IsFitIn}
 use Rattle.pcap_written.proofs.OptionsAgain.{padded_again, list_again}
@@ -103,12 +104,13 @@ module _ (order : Order) (write : Encoder) (c : IsCodec order write) where
         options_are = list_again order write c interface_statistics s.options fit.options;
       }
 
-  interface_again : (i : Interface) → IsFitInterface order write i → InterfaceText order i (interface_text write i) []
-  interface_again i fit =
-      let list = list_text write interface_description i.options in
+  -- what stands before an interface's options
+  pub interface_head_again : (i : Interface) (list : List ℕ) → IsFitInterface order write i
+      → InterfaceHead order i (write 2 (link_number i.linktype) ++ (write 2 i.reserved ++ (write 4 i.snaplen ++ list))) list
+  interface_head_again i list fit =
       let after_reserved = write 4 i.snaplen ++ list in
       let after_link = write 2 i.reserved ++ after_reserved in
-      let head : InterfaceHead order i (write 2 (link_number i.linktype) ++ after_link) list = record {
+      record {
         link_number = link_number i.linktype;
         after_link = after_link;
         after_reserved = after_reserved;
@@ -116,38 +118,46 @@ module _ (order : Order) (write : Encoder) (c : IsCodec order write) where
         link_is = record { number = refl; plain = fit.plain };
         reserved_is = number_again order write c 2 i.reserved after_reserved fit.reserved;
         snaplen_is = number_again order write c 4 i.snaplen list fit.snaplen;
-      } in
-      record { after_head = list; head = head; options_are = list_again order write c interface_description i.options fit.options }
+      }
+
+  interface_again : (i : Interface) → IsFitInterface order write i → InterfaceText order i (interface_text write i) []
+  interface_again i fit =
+      let list = list_text write interface_description i.options in
+      record { after_head = list; head = interface_head_again i list fit; options_are = list_again order write c interface_description i.options fit.options }
+
+  -- what stands between a section's magic number and its options
+  pub version_again : (s : Section) (list : List ℕ) → IsFitSection order write s
+      → VersionText order s (write 2 s.major_version ++ (write 2 s.minor_version ++ (write 8 (cast_unsigned w64 s.section_length) ++ list))) list
+  version_again s list fit =
+      let bits = cast_unsigned w64 s.section_length in
+      let after_minor = write 8 bits ++ list in
+      let after_major = write 2 s.minor_version ++ after_minor in
+      record {
+        after_major = after_major;
+        after_minor = after_minor;
+        length_bits = bits;
+        major = number_again order write c 2 s.major_version after_major fit.major;
+        minor = number_again order write c 2 s.minor_version after_minor fit.minor;
+        length_number = number_again order write c 8 bits list (bits_below s.section_length fit.length_fits);
+        length_is = sym (to_z-of_z w64 s.section_length fit.length_fits);
+      }
+
+-- a section's magic number stands first, high byte first
+pub magic_again : (e : Endianness) (s : Section) → IsFitSection (number_in e) (number_bytes e) s
+    → Number big_number 4 s.magic (section_text (number_bytes e) s) (after_magic_text (number_bytes e) s)
+magic_again e s fit = number_again (number_in Big) (number_bytes Big) (codec Big) 4 s.magic (after_magic_text (number_bytes e) s) fit.magic
 
 -- a section's magic number names the order that it is written in
 section_again : (e : Endianness) (s : Section) → magic_order s.magic ≡ Some e → IsFitSection (number_in e) (number_bytes e) s
     → SectionText s (section_text (number_bytes e) s) []
 section_again e s names fit =
-    let c = codec e in
-    let write = number_bytes e in
-    let order = number_in e in
-    let bits = cast_unsigned w64 s.section_length in
-    let list = list_text write section_header s.options in
-    let after_minor = write 8 bits ++ list in
-    let after_major = write 2 s.minor_version ++ after_minor in
-    let behind = write 2 s.major_version ++ after_major in
-    let version : VersionText order s behind list = record {
-      after_major = after_major;
-      after_minor = after_minor;
-      length_bits = bits;
-      major = number_again order write c 2 s.major_version after_major fit.major;
-      minor = number_again order write c 2 s.minor_version after_minor fit.minor;
-      length_number = number_again order write c 8 bits list (bits_below s.section_length fit.length_fits);
-      length_is = sym (to_z-of_z w64 s.section_length fit.length_fits);
+    let list = list_text (number_bytes e) section_header s.options in
+    let after : AfterMagic (number_in e) s (after_magic_text (number_bytes e) s) [] = record {
+      after_version = list;
+      version = version_again (number_in e) (number_bytes e) (codec e) s list fit;
+      options_are = list_again (number_in e) (number_bytes e) (codec e) section_header s.options fit.options;
     } in
-    let after : AfterMagic order s behind [] = record { after_version = list; version = version; options_are = list_again order write c section_header s.options fit.options } in
-    record {
-      after_magic = behind;
-      endianness = e;
-      magic_is = number_again (number_in Big) (number_bytes Big) (codec Big) 4 s.magic behind fit.magic;
-      names = names;
-      after = after;
-    }
+    record { after_magic = after_magic_text (number_bytes e) s; endianness = e; magic_is = magic_again e s fit; names = names; after = after }
 
 -- a type whose number has no name is an unknown one
 other_again : (order : Order) (type : BlockType) (len : ℕ) (v : List ℕ) → IsFitUnknown (record { type_ = type; len = len; bytes = v })

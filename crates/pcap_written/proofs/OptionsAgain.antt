@@ -10,7 +10,8 @@ use Rattle.pcap_core.specs.Padded.{up_to_4, Padded, Chain}
 use Rattle.pcap_core.specs.declared.common.Endianness.{Endianness}
 use Rattle.pcap_core.proofs.Codec.{codec, number_again}
 use Rattle.pcap_blocks.specs.Values.{Entry, Kind}
-use Rattle.pcap_blocks.specs.Options.{may_end_with_body, CodeLengthText, OptionText, EndMark, OptionList, marked, with_body}
+use Rattle.pcap_blocks.specs.Options.{may_end_with_body, wants_end, CodeLengthText, OptionText, EndMark, OptionList, marked, with_body}
+use Rattle.pcap_blocks.proofs.OneList.{list_kept}
 use Rattle.pcap_written.specs.Text.{padding, padded_bytes, option_value, option_text, end_mark, list_text}
 use Rattle.pcap_written.specs.Fits.{IsFitOption, AreFit}
 
@@ -62,9 +63,13 @@ module _ (order : Order) (write : Encoder) (c : IsCodec order write) where
   mark_again : EndMark order (end_mark write) []
   mark_again = record { ignored = 0; head = subst (λ (s : List ℕ). CodeLengthText order 0 0 (write 2 0 ++ s) []) (append-nil (write 2 0)) (coded_again 0 0 [] (omega arith) (omega arith)) }
 
+  -- with its mark, where it has an option
+  pub list_marked : (kind : Kind) (os : List Entry) → AreFit order write kind os → OptionList wants_end order kind os (list_text write kind os) []
+  list_marked kind [] fit = with_body refl refl refl
+  list_marked kind (o ∷ os) fit = marked (end_mark write) (options_again kind (o ∷ os) (end_mark write) fit) mark_again
+
   pub list_again : (kind : Kind) (os : List Entry) → AreFit order write kind os → OptionList may_end_with_body order kind os (list_text write kind os) []
-  list_again kind [] fit = with_body refl tt refl
-  list_again kind (o ∷ os) fit = marked (end_mark write) (options_again kind (o ∷ os) (end_mark write) fit) mark_again
+  list_again kind os fit = list_kept order kind os (list_text write kind os) [] (list_marked kind os fit)
 
 -- the same in an order by its name
 pub option_read : (e : Endianness) (kind : Kind) (o : Entry) (rest : List ℕ) → IsFitOption (number_in e) (number_bytes e) kind o
@@ -74,3 +79,7 @@ option_read e = option_again (number_in e) (number_bytes e) (codec e)
 pub options_read : (e : Endianness) (kind : Kind) (os : List Entry) → AreFit (number_in e) (number_bytes e) kind os
     → OptionList may_end_with_body (number_in e) kind os (list_text (number_bytes e) kind os) []
 options_read e = list_again (number_in e) (number_bytes e) (codec e)
+
+pub options_marked : (e : Endianness) (kind : Kind) (os : List Entry) → AreFit (number_in e) (number_bytes e) kind os
+    → OptionList wants_end (number_in e) kind os (list_text (number_bytes e) kind os) []
+options_marked e = list_marked (number_in e) (number_bytes e) (codec e)

@@ -7,5 +7,6 @@ pub mod Capture
 pub mod Puts
 pub mod Writing
 pub mod Raw
+pub mod Mixed
 pub mod Plain
 pub mod LentStreams

@@ -5,12 +5,14 @@ ghost use Rattle.std.specs.Prelude.{◌≡◌, ◌++◌, ℕ, List, [], ◌∷�
 ghost use Rattle.pcap_core.specs.Answer.{number_in, whole};
 ghost use Rattle.pcap_core.specs.Codec.{number_bytes};
 ghost use Rattle.pcap_core.specs.declared.common.Endianness.{Endianness};
-ghost use Rattle.pcap_blocks.specs.Options.{may_end_with_body, OptionList, OptionText};
+ghost use Rattle.pcap_blocks.specs.Options.{may_end_with_body, wants_end, OptionList, OptionText};
 ghost use Rattle.pcap_blocks.specs.ParsedBlock.{Body, BodySays};
 ghost use Rattle.pcap_blocks.specs.Values.{Entry, Kind};
 ghost use Rattle.pcap_written.specs.Bodies.{body_text, magic_in, order_under, type_of};
 ghost use Rattle.pcap_written.specs.Capture.{AreWritten, IsWritten};
 ghost use Rattle.pcap_written.specs.Fits.{AreFit, IsFitOption, kept_body};
+ghost use Rattle.pcap_written.specs.Mixed.{GoesOut, GoOut, Written, of_bytes};
+ghost use Rattle.pcap_written.specs.Raw.{Raw, WritesRaw, raw_text};
 ghost use Rattle.pcap_written.specs.Text.{list_text, option_text};
 ghost use Rattle.pcap_written.specs.Writing.{IsFitIn, OpensWriter, WritesBlock, opening_place, place_of, stream_of};
 ghost use Rattle.pcap_written.specs.declared.place.Place.{Place};
@@ -26,6 +28,13 @@ pub fn written_option_is_read()
 pub fn written_options_are_read()
     ensures { (e : Endianness) (kind : Kind) (os : List Entry) → AreFit (number_in e) (number_bytes e) kind os →
         OptionList may_end_with_body (number_in e) kind os (list_text (number_bytes e) kind os) [] }
+{}
+
+/// A list of options that is written ends with its mark, where it has an option, so that it is read as it was also where a list
+/// may not end with its body.
+pub fn written_lists_end_with_their_mark()
+    ensures { (e : Endianness) (kind : Kind) (os : List Entry) → AreFit (number_in e) (number_bytes e) kind os →
+        OptionList wants_end (number_in e) kind os (list_text (number_bytes e) kind os) [] }
 {}
 
 /// A body that is written in an order, a section's in that which its magic number names, is read as it was, with the padding
@@ -53,4 +62,17 @@ pub fn good_calls_write_blocks<W>()
 pub fn good_openings_write_sections<W>()
     ensures { (contents : W → Option (List ℕ)) (writer : W) (made : PcapNgWriter W) (body : Body) → OpensWriter contents body writer (Ok made) →
         (text : List ℕ) × IsWritten opening_place body text (place_of made) × Appends (contents writer) (contents (stream_of made)) text }
+{}
+
+/// What a call of the writer puts out that does not fail and writes a block of bytes is that block, at the place where the writer
+/// stood, and the writer then stands behind it.
+pub fn good_raw_calls_write_blocks<W>()
+    ensures { (contents : W → Option (List ℕ)) (old new : PcapNgWriter W) (raw : Raw) (done : Unit {0}) → WritesRaw contents old new raw (Ok done) →
+        GoesOut (place_of old) (of_bytes raw) (raw_text raw) (place_of new) × Appends (contents (stream_of old)) (contents (stream_of new)) (raw_text raw) }
+{}
+
+/// Blocks of values and of bytes that go out, and one at the place behind them, go out together.
+pub fn mixed_blocks_go_on()
+    ensures { (at mid end : Place) (blocks : List Written) (block : Written) (bytes text : List ℕ) → GoOut at blocks bytes mid → GoesOut mid block text end →
+        GoOut at (blocks ++ block ∷ []) (bytes ++ text) end }
 {}
