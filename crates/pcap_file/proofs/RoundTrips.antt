@@ -1,32 +1,42 @@
 -- Captures that were converted to PcapNg become the packets that they were.
-use Rattle.std.proofs.Common.{◌≡◌, ◌<◌, ◌+◌, ◌/◌, ◌%◌, ◌^◌, arith, ℕ, List, [], ◌∷◌, map, refl, sym, ap, subst, ◌∙◌, Bool, true, false}
+use Rattle.std.proofs.Common.{rules, ◌≡◌, ◌<◌, ◌+◌, ◌/◌, ◌%◌, ◌^◌, arith, ℕ, List, [], ◌∷◌, map, refl, sym, ap, subst, ◌∙◌, Bool, true, false, ◌≤◌, length}
 use Rattle.std.specs.Prelude.{All}
 use Rattle.std.specs.List.{AllZip}
-use Rattle.std.proofs.lemmas.List.Elements.{All-head, All-tail}
+use Rattle.std.proofs.lemmas.List.Elements.{All-cons, All-head, All-nil, All-tail}
 use Rattle.pcap_core.specs.Answer.{Order, number_in, whole}
+use Rattle.pcap_core.specs.declared.link.DataLink.{DataLink}
+use Rattle.pcap_core.specs.Codec.{number_bytes}
 use Rattle.pcap_core.specs.Format.{Front, Texts}
+use Rattle.pcap_core.specs.Link.{IsPlain, link_number}
 use Rattle.pcap_core.specs.Headed.{good}
 use Rattle.pcap_core.specs.declared.common.Endianness.TheVariants.{Little}
 use Rattle.pcap_classic.specs.declared.pcap.header.PcapHeader.{PcapHeader}
 use Rattle.pcap_classic.specs.PacketText.{Captured}
-use Rattle.pcap_classic.specs.Written.{IsWhole}
+use Rattle.pcap_classic.specs.declared.common.TsResolution.{TsResolution}
+use Rattle.pcap_classic.specs.declared.common.TsResolution.TheVariants.{MicroSecond, NanoSecond}
+use Rattle.pcap_classic.specs.Magic.{resolution_of}
+use Rattle.pcap_classic.specs.Written.{IsWhole, IsWholeHeader, cut}
 use Rattle.pcap_blocks.specs.declared.block_type.BlockType.{BlockType}
 use Rattle.pcap_blocks.specs.declared.block_type.BlockType.TheVariants as types
 use Rattle.pcap_blocks.specs.EnhancedPacket.{Enhanced}
-use Rattle.pcap_blocks.specs.InterfaceDescription.{Interface}
-use Rattle.pcap_blocks.specs.ParsedBlock.{Body, BodySays, SectionBody, InterfaceBody, EnhancedBody}
-use Rattle.pcap_blocks.specs.SectionHeader.{Section}
+use Rattle.pcap_blocks.specs.InterfaceDescription.{Interface, interface_description}
+use Rattle.pcap_blocks.specs.ParsedBlock.{Body, BodySays, SectionBody, InterfaceBody, OldPacketBody, SimpleBody, NamesBody, StatisticsBody, EnhancedBody, JournalBody, OtherBody}
+use Rattle.pcap_blocks.specs.SectionHeader.{Section, section_header}
+use Rattle.pcap_written.specs.Bodies.{body_text}
+use Rattle.pcap_written.specs.Fits.{IsFitOption}
 use Rattle.pcap_written.specs.Plain.{plain_section}
+use Rattle.pcap_written.specs.Writing.{IsFitIn}
 use Rattle.pcap_file.specs.Blocks.{Item, BlockText, block_format}
 use Rattle.pcap_file.specs.Bodies.{SaysOfBody}
 use Rattle.pcap_file.specs.Conversion.{AreBlocksOf}
-use Rattle.pcap_file.specs.Converted.{converted, interface_for, packet_block}
+use Rattle.pcap_file.specs.Converted.{converted, in_nanoseconds, interface_for, little_texts, opening_blocks, packet_block}
 use Rattle.pcap_file.specs.Frames.{Framed}
-use Rattle.pcap_file.specs.Placed.{Becomes, PlacesBody, Turn, carried, interfaces_at, is_packet, no_packet, packets_of, placed, reasons_of}
-use Rattle.pcap_file.specs.RoundTrip.{BlocksBecome, HasSecondsInside}
+use Rattle.pcap_file.specs.Placed.{Becomes, PlacesBody, Turn, carried, interfaces_at, is_packet, no_packet, packets_of, placed, reasons_of, unplaced}
+use Rattle.pcap_file.specs.RoundTrip.{BlocksBecome, HasSecondsInside, packets_read}
 use Rattle.pcap_file.specs.State.{State, opening, within, is_kept, is_read, leads, MeansIf}
 use Rattle.pcap_file.specs.Written.{IsBodyOf}
 use Rattle.pcap_file.proofs.Bodies.{bodies_same}
+use Rattle.pcap_file.proofs.ConvertedAgain.{converted_again}
 use Rattle.pcap_file.proofs.PlacedAgain.{packet_back}
 
 -- a body of a type that isn't kept leaves what is in force
@@ -172,3 +182,94 @@ carried_same packet few =
     let seconds : packet.header.ts_sec + packet.header.ts_nsec / 10 ^ 9 ≡ packet.header.ts_sec = omega (arith, few) in
     let nanoseconds : packet.header.ts_nsec % 10 ^ 9 ≡ packet.header.ts_nsec = omega (arith, few) in
     rw (seconds, nanoseconds) refl
+
+-- ---- and the other way
+
+-- the blocks before the packets have a text where the header's link type has room in an interface
+pub opening_fit : (header : PcapHeader) → IsPlain header.datalink → link_number header.datalink < 2 ^ 16 → header.snaplen < 2 ^ 32
+    → All (IsFitIn Little) (opening_blocks header)
+opening_fit header plain link snaplen =
+    let section = SectionBody (plain_section Little) in
+    let interface = InterfaceBody (interface_for header) in
+    let section_long : length (body_text (number_bytes Little) section) ≡ 16 = refl in
+    let interface_long : length (body_text (number_bytes Little) interface) ≡ 20 = refl in
+    let resolution : IsFitOption (number_in Little) (number_bytes Little) interface_description in_nanoseconds = record { code = omega arith; no_mark = λ is. absurd cc; short = omega arith; kept = refl } in
+    let section_fit : IsFitIn Little section = record {
+      fit = record { magic = omega arith; major = omega arith; minor = omega arith; length_fits = search rules; options = All-nil (IsFitOption (number_in Little) (number_bytes Little) section_header) };
+      short = omega (arith, section_long);
+    } in
+    let interface_fit : IsFitIn Little interface = record {
+      fit = record { plain = plain; link = link; reserved = omega arith; snaplen = snaplen; options = All-cons (IsFitOption (number_in Little) (number_bytes Little) interface_description) in_nanoseconds [] resolution (All-nil _) };
+      short = omega (arith, interface_long);
+    } in
+    All-cons (IsFitIn Little) section (interface ∷ []) section_fit (All-cons (IsFitIn Little) interface [] interface_fit (All-nil (IsFitIn Little)))
+
+-- a packet of a block: it is whole, and no whole second is among its nanoseconds
+record IsPlaced (packet : Captured) : Type 0 where
+  whole : IsWhole packet
+  no_second_more : packet.header.ts_nsec < 10 ^ 9
+
+body_placed : (interfaces : List Interface) (link : DataLink) (body : Body) (packet : Captured) → PlacesBody interfaces link body packet → IsPlaced packet
+body_placed interfaces link (EnhancedBody b) packet x = record { whole = x.whole; no_second_more = x.time.time_is.split.no_second_more }
+body_placed interfaces link (OldPacketBody b) packet x = record { whole = x.whole; no_second_more = x.time.time_is.split.no_second_more }
+body_placed interfaces link (SectionBody b) packet x = absurd x
+body_placed interfaces link (InterfaceBody b) packet x = absurd x
+body_placed interfaces link (SimpleBody b) packet x = absurd x
+body_placed interfaces link (NamesBody b) packet x = absurd x
+body_placed interfaces link (StatisticsBody b) packet x = absurd x
+body_placed interfaces link (JournalBody b) packet x = absurd x
+body_placed interfaces link (OtherBody b) packet x = absurd x
+
+-- the packet's nanoseconds, cut, are no more
+cut_less : (r : TsResolution) (packet : Captured) → (cut r packet).header.ts_nsec ≤ packet.header.ts_nsec
+cut_less MicroSecond packet = omega arith
+cut_less NanoSecond packet = omega arith
+
+-- a packet of a block, cut, is carried as it is
+record IsKeptCut (r : TsResolution) (packet : Captured) : Type 0 where
+  whole : IsWhole (cut r packet)
+  inside : HasSecondsInside (cut r packet)
+  same : carried (cut r packet) ≡ cut r packet
+
+kept_cut : (r : TsResolution) (packet : Captured) → IsPlaced packet → IsKeptCut r packet
+kept_cut r packet x =
+    let less = cut_less r packet in
+    let few : (cut r packet).header.ts_nsec < 10 ^ 9 = omega (arith, less, x.no_second_more) in
+    record {
+      whole = record { seconds = x.whole.seconds; nanoseconds = omega (arith, few); included = x.whole.included; original = x.whole.original; limit = x.whole.limit };
+      inside = omega (arith, few, x.whole.seconds);
+      same = carried_same (cut r packet) few;
+    }
+
+-- the same of all packets of blocks
+record AreKeptCut (r : TsResolution) (packets : List Captured) : Type 0 where
+  wholes : All IsWhole (map (cut r) packets)
+  inside : All HasSecondsInside (map (cut r) packets)
+  same : map carried (map (cut r) packets) ≡ map (cut r) packets
+
+all_kept : (r : TsResolution) (link : DataLink) (items : List Item) (turns : List Turn) → AllZip (Becomes link) items turns → AreKeptCut r (packets_of turns)
+all_kept r link [] [] x = record { wholes = All-nil IsWhole; inside = All-nil HasSecondsInside; same = refl }
+all_kept r link [] (turn ∷ turns) x = absurd x
+all_kept r link (item ∷ items) [] x = absurd x
+all_kept r link (item ∷ items) (placed packet ∷ turns) x =
+    let one = kept_cut r packet (body_placed (interfaces_at item.after) link x.0.1 packet x.0.4) in
+    let more = all_kept r link items turns x.1 in
+    record {
+      wholes = All-cons IsWhole (cut r packet) (map (cut r) (packets_of turns)) one.whole more.wholes;
+      inside = All-cons HasSecondsInside (cut r packet) (map (cut r) (packets_of turns)) one.inside more.inside;
+      same = rw (one.same, more.same) refl;
+    }
+all_kept r link (item ∷ items) (unplaced reason ∷ turns) x = all_kept r link items turns x.1
+all_kept r link (item ∷ items) (no_packet ∷ turns) x = all_kept r link items turns x.1
+
+-- packets of blocks, as a classic capture has them, become themselves again
+pub placed_back : (header : PcapHeader) (items : List Item) (turns : List Turn) → IsWholeHeader header → link_number header.datalink < 2 ^ 16
+    → AllZip (Becomes header.datalink) items turns
+    → BlocksBecome header.datalink (packets_read header turns) (little_texts (converted header (packets_read header turns)))
+placed_back header items turns fits link become =
+    let r = resolution_of header.magic_number in
+    let packets = map (cut r) (packets_of turns) in
+    let kept = all_kept r header.datalink items turns become in
+    let blocks = converted_again header packets (opening_fit header fits.plain link fits.snaplen) kept.wholes in
+    subst (λ (ps : List Captured). BlocksBecome header.datalink ps (little_texts (converted header packets))) kept.same
+    (blocks_become header packets (little_texts (converted header packets)) kept.wholes kept.inside blocks)

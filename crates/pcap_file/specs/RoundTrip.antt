@@ -1,5 +1,5 @@
 -- Captures of blocks that are converted whole, and captures that are converted there and back.
-use Rattle.std.specs.Prelude.{◌≡◌, ◌<◌, ◌^◌, ℕ, List, [], length, true, false, None, Some, IfSome}
+use Rattle.std.specs.Prelude.{◌≡◌, ◌<◌, ◌^◌, ℕ, List, [], length, map, true, false, None, Some, IfSome}
 use Rattle.std.specs.List.{AllZip, flat_map}
 use Rattle.std.specs.Io.KnownBytes.{Appends}
 use Rattle.pcap_core.specs.declared.link.DataLink.{DataLink}
@@ -7,9 +7,9 @@ use Rattle.pcap_core.specs.Answer.{whole}
 use Rattle.pcap_core.specs.Errors.{IsMemory}
 use Rattle.pcap_core.specs.Format.{Front}
 use Rattle.pcap_classic.specs.declared.pcap.header.PcapHeader.{PcapHeader}
-use Rattle.pcap_classic.specs.Magic.{is_magic}
+use Rattle.pcap_classic.specs.Magic.{is_magic, resolution_of}
 use Rattle.pcap_classic.specs.PacketText.{Captured}
-use Rattle.pcap_classic.specs.Written.{written_under}
+use Rattle.pcap_classic.specs.Written.{cut, written_under}
 use Rattle.pcap_file.specs.declared.run.placing.IfUnplaced.{IfUnplaced}
 use Rattle.pcap_file.specs.declared.run.placing.IfUnplaced.TheVariants.{Refuse}
 use Rattle.pcap_file.specs.declared.run.placing.NgConverted.{NgConverted}
@@ -32,6 +32,10 @@ pub record BlocksBecome (link : DataLink) (packets : List Captured) (bytes : Lis
   pub become : AllZip (Becomes link) items turns
   pub packets_are : packets_of turns ≡ packets
   pub all_have_a_place : reasons_of turns ≡ []
+
+-- the packets of blocks, as they are read in a classic capture with this header
+abbrev pub packets_read : PcapHeader → List Turn → List Captured
+packets_read header turns = map (cut (resolution_of header.magic_number)) (packets_of turns)
 
 -- nothing was refused by the reader before, and the writer can take packets: no write failed, and its header has one of the four
 -- magic numbers

@@ -5,6 +5,7 @@ ghost use Rattle.pcap_core.specs.declared.common.Endianness.{Endianness};
 ghost use Rattle.pcap_core.specs.declared.common.Endianness.TheVariants.{Little};
 ghost use Rattle.pcap_core.specs.Answer.{whole};
 ghost use Rattle.pcap_core.specs.Format.{Front, Texts, Asks, IsLawful, state_after};
+ghost use Rattle.pcap_core.specs.Link.{IsPlain, link_number};
 ghost use Rattle.pcap_core.specs.Laws.{ExactlyOne, IsStable};
 ghost use Rattle.pcap_core.specs.Requested.{HeadThenRest, RequestsAt, RunRequests};
 ghost use Rattle.pcap_file.specs.Blocks.{Item, BlockText, BlockSays, block_format};
@@ -31,7 +32,7 @@ ghost use Rattle.pcap_file.specs.Opening.{OpeningSays};
 ghost use Rattle.pcap_file.specs.Pieces.{HoldsBlocks};
 ghost use Rattle.pcap_file.specs.Placed.{Becomes, PlacesBody, Turn, carried, packets_of};
 ghost use Rattle.pcap_file.specs.Placing.{PlacesRun, Sink, Source};
-ghost use Rattle.pcap_file.specs.RoundTrip.{AreReady, BlocksBecome, CanPlace, ComeBack, HasSecondsInside, IsOpened, PlacesEach};
+ghost use Rattle.pcap_file.specs.RoundTrip.{AreReady, BlocksBecome, CanPlace, ComeBack, HasSecondsInside, IsOpened, PlacesEach, packets_read};
 ghost use Rattle.pcap_file.specs.RoundTrip as whole_runs;
 ghost use Rattle.pcap_file.specs.Sections.{Leaves};
 ghost use Rattle.pcap_file.specs.State.{State, opening};
@@ -217,11 +218,13 @@ pub fn converted_packet_converts_back()
 /// A classic capture that was converted to PcapNg becomes itself again: its blocks become its packets, in order, each with its time,
 /// its length on the wire and its bytes, under the link type of its header, and nothing else; where the seconds of each are a
 /// number of 32 bits. A packet whose nanoseconds are less than a second becomes itself to the letter, and in any other the whole
-/// seconds among the nanoseconds stand with the seconds.
+/// seconds among the nanoseconds stand with the seconds. The blocks before the packets have a text where the number of the link type
+/// has two bytes.
 pub fn converted_capture_converts_back()
     ensures packets { (header : PcapHeader) (packets : List Captured) → All (IsFitIn Little) (opening_blocks header) → All IsWhole packets → All HasSecondsInside packets →
         BlocksBecome header.datalink (map carried packets) (little_texts (converted header packets)) }
     ensures same { (packet : Captured) → packet.header.ts_nsec < 10 ^ 9 → carried packet ≡ packet }
+    ensures begins { (header : PcapHeader) → IsPlain header.datalink → link_number header.datalink < 2 ^ 16 → header.snaplen < 2 ^ 32 → All (IsFitIn Little) (opening_blocks header) }
 {}
 
 /// What a conversion to PcapNg wrote where no write failed becomes the packets that it read: all of the capture's front, or the
@@ -229,6 +232,13 @@ pub fn converted_capture_converts_back()
 pub fn conversion_converts_back()
     ensures { (bytes : List ℕ) (out out_now : Option (List ℕ)) (most : ℕ) (copied : Copied) → IsBytes bytes → (c : IsConversion bytes out out_now most copied) →
         All HasSecondsInside c.packets → BlocksBecome c.header.datalink (map carried c.packets) (little_texts (converted c.header c.packets)) }
+{}
+
+/// The packets that blocks become in a classic capture, as they are read there with their times cut, become themselves again where
+/// that capture is converted to PcapNg; where the number of its link type has two bytes.
+pub fn placed_capture_converts_back()
+    ensures { (header : PcapHeader) (items : List Item) (turns : List Turn) → IsWholeHeader header → link_number header.datalink < 2 ^ 16 →
+        AllZip (Becomes header.datalink) items turns → BlocksBecome header.datalink (packets_read header turns) (little_texts (converted header (packets_read header turns))) }
 {}
 
 /// A capture of blocks that are all whole is converted whole where nothing fails: exactly the packets go out that have a place, each
