@@ -1,5 +1,6 @@
 //! What is asked of streams, and how much room and how many writes that takes.
 
+use crate::sample::reader;
 use pcap_classic::pcap::{PacketHeader, PcapReader};
 use pcap_classic::run::{Copied, Under, copy_buffered, copy_pcap, read_pcap};
 use pcap_classic::{Endianness, TsResolution};
@@ -15,15 +16,27 @@ fn is_whole(copied: &Copied, packets: u64) -> bool {
     copied.packets == packets && copied.fault.is_none()
 }
 
-// Whether a copy of one packet asks its stream for nothing behind that.
-fn copies_one(alloc: Global, mut stream: Halting, under: Under) -> bool {
+// Whether a copy of one packet asks its stream, so many bytes in a read, for nothing behind that.
+fn copies_one(alloc: Global, bytes: &[u8], step: usize, under: Under) -> bool {
+    let Ok(mut stream) = Halting::new(alloc, bytes, step) else {
+        return false;
+    };
     let mut out = Vec::new(alloc);
     let copied = copy_pcap(alloc, &mut stream, &mut out, under, 1);
     is_whole(&copied, 1) && stream.taken == 138 && stream.ends == 0
 }
 
 // The same where the copy reads through a buffer of this size.
-fn copies_one_buffered(alloc: Global, stream: Halting, under: Under, buffer: usize) -> bool {
+fn copies_one_buffered(
+    alloc: Global,
+    bytes: &[u8],
+    step: usize,
+    under: Under,
+    buffer: usize,
+) -> bool {
+    let Ok(stream) = Halting::new(alloc, bytes, step) else {
+        return false;
+    };
     let Ok(mut reader) = BufReader::with_capacity(alloc, buffer, stream) else {
         return false;
     };
@@ -35,14 +48,16 @@ fn copies_one_buffered(alloc: Global, stream: Halting, under: Under, buffer: usi
 #[test]
 fn nothing_after_the_most_copies(rt: HostRuntime) -> Result<(), Fail> {
     let whole = big(rt.alloc())?;
+    let bytes = whole.as_slice();
     let little = Under::Order(Endianness::Little, TsResolution::MicroSecond);
     for under in [Under::Same, little] {
         for step in [1, 7, 200] {
-            let stream = Halting::new(rt.alloc(), whole.as_slice(), step)?;
-            assert!(rt; copies_one(rt.alloc(), stream, under));
+            assert!(rt; copies_one(rt.alloc(), bytes, step, under), "by {step}");
             for buffer in [1, 24, 40, 100, 65_536] {
-                let stream = Halting::new(rt.alloc(), whole.as_slice(), step)?;
-                assert!(rt; copies_one_buffered(rt.alloc(), stream, under, buffer));
+                assert!(rt;
+                    copies_one_buffered(rt.alloc(), bytes, step, under, buffer),
+                    "by {step}"
+                );
             }
         }
     }
@@ -50,7 +65,10 @@ fn nothing_after_the_most_copies(rt: HostRuntime) -> Result<(), Fail> {
 }
 
 // Whether a run of one packet asks its stream for nothing behind that.
-fn reads_one(alloc: Global, mut stream: Halting) -> bool {
+fn reads_one(alloc: Global, bytes: &[u8], step: usize) -> bool {
+    let Ok(mut stream) = Halting::new(alloc, bytes, step) else {
+        return false;
+    };
     let is_one = match &read_pcap(alloc, &mut stream, 1) {
         Ok(read) => read.packets.len() == 1 && read.fault.is_none(),
         Err(_) => false,
@@ -62,8 +80,7 @@ fn reads_one(alloc: Global, mut stream: Halting) -> bool {
 fn nothing_after_the_most_packets(rt: HostRuntime) -> Result<(), Fail> {
     let whole = big(rt.alloc())?;
     for step in [1, 7, 200] {
-        let stream = Halting::new(rt.alloc(), whole.as_slice(), step)?;
-        assert!(rt; reads_one(rt.alloc(), stream));
+        assert!(rt; reads_one(rt.alloc(), whole.as_slice(), step), "by {step}");
     }
     Ok(())
 }
@@ -84,26 +101,40 @@ fn holds_the_next(reader: &mut PcapReader<Halting>, size: usize) -> bool {
     is_given && reader.data().len() == size && reader.get_ref().clear == 3
 }
 
+// Whether the five packets are held in one room.
+fn holds_all(alloc: Global, bytes: &[u8]) -> bool {
+    let Ok(mut reader) = reader(alloc, bytes, 200) else {
+        return false;
+    };
+    let mut is_so = true;
+    // room that is new is offered for the capture's header, the first packet's, and its data
+    for size in [9, 9, 1, 5, 9] {
+        is_so &= holds_the_next(&mut reader, size);
+    }
+    is_so
+}
+
 #[test]
 fn held_packets_share_one_room(rt: HostRuntime) -> Result<(), Fail> {
     let bytes = packets(rt.alloc())?;
-    let stream = Halting::new(rt.alloc(), bytes.as_slice(), 200)?;
-    let mut reader = PcapReader::new(rt.alloc(), stream)?;
-    // room that is new is offered for the capture's header, the first packet's, and its data
-    for size in [9, 9, 1, 5, 9] {
-        assert!(rt; holds_the_next(&mut reader, size));
-    }
+    assert!(rt; holds_all(rt.alloc(), bytes.as_slice()));
     Ok(())
+}
+
+// Whether a copy of the five packets holds them in one room.
+fn copies_all(alloc: Global, bytes: &[u8]) -> bool {
+    let Ok(mut stream) = Halting::new(alloc, bytes, 200) else {
+        return false;
+    };
+    let mut out = Vec::new(alloc);
+    let copied = copy_pcap(alloc, &mut stream, &mut out, Under::Same, 5);
+    is_whole(&copied, 5) && out.as_slice() == bytes && stream.clear == 3
 }
 
 #[test]
 fn copied_packets_share_one_room(rt: HostRuntime) -> Result<(), Fail> {
     let bytes = packets(rt.alloc())?;
-    let mut stream = Halting::new(rt.alloc(), bytes.as_slice(), 200)?;
-    let mut out = Vec::new(rt.alloc());
-    let copied = copy_pcap(rt.alloc(), &mut stream, &mut out, Under::Same, 5);
-    assert!(rt; is_whole(&copied, 5) && out.as_slice() == bytes.as_slice());
-    assert!(rt; stream.clear == 3);
+    assert!(rt; copies_all(rt.alloc(), bytes.as_slice()));
     Ok(())
 }
 
@@ -140,22 +171,31 @@ fn six_packets(alloc: Global) -> Result<Vec<u8>, AllocError> {
     Ok(bytes)
 }
 
+// Whether the first packet that is lent stays so while the other packets are owned.
+fn stays_lent(alloc: Global, bytes: &[u8], step: usize) -> bool {
+    let Ok(mut reader) = reader(alloc, bytes, step) else {
+        return false;
+    };
+    let is_owned = owned_length(&mut reader) == Some(98) && reader.data().is_empty();
+    let is_given = given(&mut reader).is_some();
+    let lengths = [Some(9), Some(1), Some(5), Some(9), None, None];
+    is_owned && is_given && keeps_lent_data(&mut reader, lengths)
+}
+
 #[test]
 fn lent_data_stays_while_packets_are_owned(rt: HostRuntime) -> Result<(), Fail> {
     let bytes = six_packets(rt.alloc())?;
     for step in [1, 200] {
-        let stream = Halting::new(rt.alloc(), bytes.as_slice(), step)?;
-        let mut reader = PcapReader::new(rt.alloc(), stream)?;
-        assert!(rt; owned_length(&mut reader) == Some(98) && reader.data().is_empty());
-        assert!(rt; given(&mut reader).is_some());
-        let lengths = [Some(9), Some(1), Some(5), Some(9), None, None];
-        assert!(rt; keeps_lent_data(&mut reader, lengths));
+        assert!(rt; stays_lent(rt.alloc(), bytes.as_slice(), step), "by {step}");
     }
     Ok(())
 }
 
 // Whether all of these 2000 packets go out in one write behind the header's.
-fn goes_out_together(alloc: Global, stream: Halting, bytes: &[u8]) -> bool {
+fn goes_out_together(alloc: Global, bytes: &[u8]) -> bool {
+    let Ok(stream) = Halting::new(alloc, bytes, 65_536) else {
+        return false;
+    };
     let Ok(mut reader) = BufReader::with_capacity(alloc, 65_536, stream) else {
         return false;
     };
@@ -171,7 +211,6 @@ fn packets_go_out_together(rt: HostRuntime) -> Result<(), Fail> {
     for _turn in 0..2000 {
         bytes.extend_from_slice(&[0, 0, 0, 1, 0, 0, 0, 0, 0, 0, 0, 0, 0, 0, 0, 0])?;
     }
-    let stream = Halting::new(rt.alloc(), bytes.as_slice(), 65_536)?;
-    assert!(rt; goes_out_together(rt.alloc(), stream, bytes.as_slice()));
+    assert!(rt; goes_out_together(rt.alloc(), bytes.as_slice()));
     Ok(())
 }

@@ -7,7 +7,7 @@ use pcap_classic::{Endianness, PcapError, TsResolution};
 use std::alloc::{AllocError, Global};
 use std::io::{BufReader, ErrorKind, Write};
 use std::test::Fail;
-use test_support::captures::{BIG_HEAD, big, capture, front};
+use test_support::captures::{BIG_HEAD, back, big, capture, front};
 use test_support::readers::Halting;
 use test_support::writers::Narrow;
 
@@ -118,11 +118,9 @@ fn is_torn(done: Done) -> bool {
     matches!(done.end, End::Io(_)) && done.packets == 0 && !done.read_failed && !done.write_failed
 }
 
-// A beginning of a capture and then these bytes.
-fn after(alloc: Global, beginning: &[u8], bytes: &[u8]) -> Result<Vec<u8>, AllocError> {
-    let mut capture = Vec::from_slice(alloc, beginning)?;
-    capture.extend_from_slice(bytes)?;
-    Ok(capture)
+// Whether the magic number of a header was wrong.
+fn is_wrong(done: Done) -> bool {
+    matches!(done.end, End::Refused("PcapHeader wrong magic number"))
 }
 
 // What the capture begins with in the other order and in nanoseconds.
@@ -131,24 +129,32 @@ const TURNED_HEAD: [u8; 40] = [
     0x1b, 0xa1, 0x4f, 0xf0, 0xf2, 0x18, 0x09, 0x62, 0, 0, 0, 0x62, 0, 0, 0,
 ];
 
+// Whether a copy of these bytes under this order is one packet, and this is what goes out.
+fn turns(
+    alloc: Global,
+    bytes: &[u8],
+    step: usize,
+    buffer: usize,
+    under: Under,
+    wanted: &[u8],
+) -> bool {
+    let mut out = Vec::new(alloc);
+    let done = copy(alloc, bytes, (step, 0), buffer, &mut out, under, 9);
+    is_whole(done, 1) && out.as_slice() == wanted
+}
+
 #[test]
 fn other_orders(rt: HostRuntime) -> Result<(), Fail> {
     let whole = big(rt.alloc())?;
     let wanted = capture(rt.alloc(), &TURNED_HEAD, 98)?;
+    let (bytes, wanted) = (whole.as_slice(), wanted.as_slice());
     let under = Under::Order(Endianness::Little, TsResolution::NanoSecond);
     for buffer in BUFFERS {
         for step in [1, 200] {
-            let mut out = Vec::new(rt.alloc());
-            let done = copy(
-                rt.alloc(),
-                whole.as_slice(),
-                (step, 0),
-                buffer,
-                &mut out,
-                under,
-                9,
+            assert!(rt;
+                turns(rt.alloc(), bytes, step, buffer, under, wanted),
+                "through {buffer}"
             );
-            assert!(rt; is_whole(done, 1) && out.as_slice() == wanted.as_slice());
         }
     }
     Ok(())
@@ -174,42 +180,45 @@ fn is_cut(alloc: Global, bytes: &[u8], step: usize) -> bool {
     }
 }
 
-#[test]
-fn fractions_are_cut(rt: HostRuntime) -> Result<(), Fail> {
-    let wanted = after(rt.alloc(), front(&BIG_HEAD, 24), &EMPTY)?;
+// Whether the packet goes out with whole microseconds, and is read so again.
+fn cuts(alloc: Global, step: usize, buffer: usize) -> bool {
+    let mut out = Vec::new(alloc);
     let under = Under::Order(Endianness::Big, TsResolution::MicroSecond);
+    let done = copy(alloc, &NANOSECONDS, (step, 0), buffer, &mut out, under, 9);
+    let (head, packet) = (front(out.as_slice(), 24), back(out.as_slice(), 24));
+    let is_out = head == front(&BIG_HEAD, 24) && packet == EMPTY.as_slice();
+    is_whole(done, 1) && is_out && is_cut(alloc, out.as_slice(), step)
+}
+
+#[test]
+fn fractions_are_cut(rt: HostRuntime) {
     for buffer in BUFFERS {
         for step in [1, 99] {
-            let mut out = Vec::new(rt.alloc());
-            let done = copy(
-                rt.alloc(),
-                &NANOSECONDS,
-                (step, 0),
-                buffer,
-                &mut out,
-                under,
-                9,
-            );
-            assert!(rt; is_whole(done, 1) && out.as_slice() == wanted.as_slice());
-            assert!(rt; is_cut(rt.alloc(), out.as_slice(), step));
+            assert!(rt; cuts(rt.alloc(), step, buffer), "through {buffer}");
         }
     }
-    Ok(())
+}
+
+// Whether a copy into so much room is refused for what was written, which is a beginning of the capture of this length.
+fn fills(alloc: Global, bytes: &[u8], step: usize, buffer: usize, mut output: Narrow) -> bool {
+    let room = output.room;
+    let done = copy(alloc, bytes, (step, 0), buffer, &mut output, Under::Same, 9);
+    is_unwritten(done, 0) && output.out.as_slice() == front(bytes, room)
 }
 
 #[test]
 fn every_room(rt: HostRuntime) -> Result<(), Fail> {
     let whole = big(rt.alloc())?;
+    let bytes = whole.as_slice();
     // the most bytes of one read, and whether the writer fails where it has no room, or takes nothing
     for (step, fails) in [(1, false), (50, false), (50, true), (200, false)] {
         for buffer in BUFFERS {
             for room in 0..138usize {
-                let mut output = Narrow::new(rt.alloc(), room, fails);
-                let bytes = whole.as_slice();
-                let same = Under::Same;
-                let done = copy(rt.alloc(), bytes, (step, 0), buffer, &mut output, same, 9);
-                assert!(rt; is_unwritten(done, 0));
-                assert!(rt; output.out.as_slice() == front(bytes, room));
+                let output = Narrow::new(rt.alloc(), room, fails);
+                assert!(rt;
+                    fills(rt.alloc(), bytes, step, buffer, output),
+                    "into {room}"
+                );
             }
         }
     }
@@ -256,7 +265,10 @@ fn torn_packets(rt: HostRuntime) -> Result<(), Fail> {
     for buffer in BUFFERS {
         for under in orders {
             for room in 24..170usize {
-                assert!(rt; tears(rt.alloc(), bytes.as_slice(), buffer, under, room));
+                assert!(rt;
+                    tears(rt.alloc(), bytes.as_slice(), buffer, under, room),
+                    "into {room}"
+                );
             }
         }
     }
@@ -286,24 +298,20 @@ fn halts(
 #[test]
 fn interrupted_writes(rt: HostRuntime) -> Result<(), Fail> {
     let whole = big(rt.alloc())?;
+    let bytes = whole.as_slice();
     let under = Under::Order(Endianness::Little, TsResolution::MicroSecond);
     let mut wanted = Vec::new(rt.alloc());
-    let done = copy(
-        rt.alloc(),
-        whole.as_slice(),
-        (200, 0),
-        0,
-        &mut wanted,
-        under,
-        9,
-    );
+    let done = copy(rt.alloc(), bytes, (200, 0), 0, &mut wanted, under, 9);
     assert!(rt; is_whole(done, 1));
     for (call, gone) in CALLS {
         let gone = front(wanted.as_slice(), gone);
         for is_idle in [false, true] {
             for buffer in [0, 1, 100, 65536] {
-                let bytes = whole.as_slice();
-                assert!(rt; halts(rt.alloc(), bytes, buffer, under, (call, is_idle), gone));
+                let halt = (call, is_idle);
+                assert!(rt;
+                    halts(rt.alloc(), bytes, buffer, under, halt, gone),
+                    "at {call}"
+                );
             }
         }
     }
@@ -319,8 +327,11 @@ fn interrupted_stretches(rt: HostRuntime) -> Result<(), Fail> {
         for is_idle in [false, true] {
             for buffer in [0, 1, 100, 65536] {
                 let gone = front(bytes, gone);
-                let same = Under::Same;
-                assert!(rt; halts(rt.alloc(), bytes, buffer, same, (call, is_idle), gone));
+                let halt = (call, is_idle);
+                assert!(rt;
+                    halts(rt.alloc(), bytes, buffer, Under::Same, halt, gone),
+                    "at {call}"
+                );
             }
         }
     }
@@ -346,39 +357,52 @@ fn is_unread(done: Done, fails_at: usize) -> bool {
         && done.calls == fails_at
 }
 
+// Whether a copy ends at this call of the stream, which fails, and went out up to there.
+fn stops(alloc: Global, bytes: &[u8], buffer: usize, fails_at: usize) -> bool {
+    let mut out = Vec::new(alloc);
+    let done = copy(
+        alloc,
+        bytes,
+        (1, fails_at),
+        buffer,
+        &mut out,
+        Under::Same,
+        9,
+    );
+    is_unread(done, fails_at) && out.as_slice() == front(bytes, out_before(fails_at))
+}
+
 #[test]
 fn every_failed_read(rt: HostRuntime) -> Result<(), Fail> {
     let whole = big(rt.alloc())?;
-    let bytes = whole.as_slice();
     for buffer in BUFFERS {
         for fails_at in 1..140usize {
-            let mut out = Vec::new(rt.alloc());
-            let same = Under::Same;
-            let done = copy(rt.alloc(), bytes, (1, fails_at), buffer, &mut out, same, 9);
-            assert!(rt; is_unread(done, fails_at));
-            assert!(rt; out.as_slice() == front(bytes, out_before(fails_at)));
+            assert!(rt;
+                stops(rt.alloc(), whole.as_slice(), buffer, fails_at),
+                "at {fails_at}"
+            );
         }
     }
     Ok(())
 }
 
+// Whether the capture goes out whole after so many reads at most.
+fn reads_at_most(alloc: Global, bytes: &[u8], buffer: usize, calls: usize) -> bool {
+    let mut out = Vec::new(alloc);
+    let done = copy(alloc, bytes, (200, 0), buffer, &mut out, Under::Same, 9);
+    is_whole(done, 1) && done.calls <= calls && out.as_slice() == bytes
+}
+
 #[test]
 fn one_end(rt: HostRuntime) -> Result<(), Fail> {
     let whole = big(rt.alloc())?;
-    let bytes = whole.as_slice();
     // a buffer, and how many reads there are: those of all 138 bytes, and one of the end
     for (buffer, calls) in [(24, 7), (40, 5), (100, 3), (65536, 2)] {
-        let mut out = Vec::new(rt.alloc());
-        let done = copy(
-            rt.alloc(),
-            bytes,
-            (200, 0),
-            buffer,
-            &mut out,
-            Under::Same,
-            9,
+        let bytes = whole.as_slice();
+        assert!(rt;
+            reads_at_most(rt.alloc(), bytes, buffer, calls),
+            "through {buffer}"
         );
-        assert!(rt; is_whole(done, 1) && done.calls <= calls && out.as_slice() == bytes);
     }
     Ok(())
 }
@@ -409,65 +433,106 @@ fn refuses_the_second(alloc: Global, bytes: &[u8], step: usize, buffer: usize) -
 
 #[test]
 fn most_packets(rt: HostRuntime) -> Result<(), Fail> {
-    let whole = big(rt.alloc())?;
-    let long = after(rt.alloc(), whole.as_slice(), &TOO_LONG)?;
+    let mut long = big(rt.alloc())?;
+    long.extend_from_slice(&TOO_LONG)?;
     let bytes = long.as_slice();
     for buffer in BUFFERS {
         for step in [1, 200] {
-            assert!(rt; copies(rt.alloc(), bytes, step, buffer, (0, 24)));
-            assert!(rt; copies(rt.alloc(), bytes, step, buffer, (1, 138)));
-            assert!(rt; refuses_the_second(rt.alloc(), bytes, step, buffer));
+            assert!(rt;
+                copies(rt.alloc(), bytes, step, buffer, (0, 24)),
+                "through {buffer}"
+            );
+            assert!(rt;
+                copies(rt.alloc(), bytes, step, buffer, (1, 138)),
+                "through {buffer}"
+            );
+            assert!(rt;
+                refuses_the_second(rt.alloc(), bytes, step, buffer),
+                "through {buffer}"
+            );
         }
     }
     Ok(())
 }
 
-#[test]
-fn invalid_header(rt: HostRuntime) {
+// Whether nothing is asked or written under a header with a wrong magic number.
+fn refuses_the_header(alloc: Global, buffer: usize) -> bool {
     let header = PcapHeader {
         magic_number: 0,
         ..PcapHeader::default()
     };
+    let mut out = Vec::new(alloc);
+    let under = Under::Header(header);
+    let done = copy(alloc, &BIG_HEAD, (200, 0), buffer, &mut out, under, 9);
+    is_wrong(done) && done.calls == 0 && out.is_empty() && !done.read_failed
+}
+
+#[test]
+fn invalid_header(rt: HostRuntime) {
     for buffer in BUFFERS {
-        let mut out = Vec::new(rt.alloc());
-        let under = Under::Header(header);
-        let done = copy(rt.alloc(), &BIG_HEAD, (200, 0), buffer, &mut out, under, 9);
-        assert!(rt; matches!(done.end, End::Refused("PcapHeader wrong magic number")));
-        assert!(rt; done.calls == 0 && out.is_empty() && !done.read_failed);
+        assert!(rt; refuses_the_header(rt.alloc(), buffer), "through {buffer}");
     }
+}
+
+// Whether a copy of so many bytes of the capture's header takes these, and nothing goes out.
+fn tears_the_header(alloc: Global, buffer: usize, end: usize) -> bool {
+    let mut out = Vec::new(alloc);
+    let bytes = front(&BIG_HEAD, end);
+    let done = copy(alloc, bytes, (9, 0), buffer, &mut out, Under::Same, 9);
+    is_torn(done) && done.taken == end && out.is_empty()
 }
 
 #[test]
 fn torn_headers(rt: HostRuntime) {
     for buffer in BUFFERS {
         for end in 0..24usize {
-            let mut out = Vec::new(rt.alloc());
-            let bytes = front(&BIG_HEAD, end);
-            let done = copy(rt.alloc(), bytes, (9, 0), buffer, &mut out, Under::Same, 9);
-            assert!(rt; is_torn(done) && done.taken == end && out.is_empty());
+            assert!(rt; tears_the_header(rt.alloc(), buffer, end), "at {end}");
         }
     }
+}
+
+// Whether nothing goes out of a stream with a wrong magic number.
+fn refuses_the_magic(alloc: Global, step: usize, buffer: usize) -> bool {
+    let mut out = Vec::new(alloc);
+    let done = copy(
+        alloc,
+        &[0xff; 30],
+        (step, 0),
+        buffer,
+        &mut out,
+        Under::Same,
+        9,
+    );
+    is_wrong(done) && out.is_empty()
+}
+
+// Whether the header alone goes out of a capture that ends inside of its packet.
+fn copies_the_header(alloc: Global, step: usize, buffer: usize) -> bool {
+    let mut out = Vec::new(alloc);
+    let done = copy(
+        alloc,
+        &BIG_HEAD,
+        (step, 0),
+        buffer,
+        &mut out,
+        Under::Same,
+        9,
+    );
+    is_torn(done) && out.as_slice() == front(&BIG_HEAD, 24)
 }
 
 #[test]
 fn refused_headers(rt: HostRuntime) {
     for buffer in BUFFERS {
         for step in [1, 200] {
-            let mut out = Vec::new(rt.alloc());
-            let same = Under::Same;
-            let done = copy(
-                rt.alloc(),
-                &[0xff; 30],
-                (step, 0),
-                buffer,
-                &mut out,
-                same,
-                9,
+            assert!(rt;
+                refuses_the_magic(rt.alloc(), step, buffer),
+                "through {buffer}"
             );
-            assert!(rt; matches!(done.end, End::Refused("PcapHeader wrong magic number")));
-            assert!(rt; out.is_empty());
-            let done = copy(rt.alloc(), &BIG_HEAD, (step, 0), buffer, &mut out, same, 9);
-            assert!(rt; is_torn(done) && out.as_slice() == front(&BIG_HEAD, 24));
+            assert!(rt;
+                copies_the_header(rt.alloc(), step, buffer),
+                "through {buffer}"
+            );
         }
     }
 }

@@ -56,7 +56,8 @@ fn every_room(rt: HostRuntime) -> Result<(), Fail> {
     for fails in [false, true] {
         for room in 0..138usize {
             let gone = front(whole.as_slice(), room);
-            assert!(rt; leaves(Narrow::new(rt.alloc(), room, fails), &packet, gone));
+            let output = Narrow::new(rt.alloc(), room, fails);
+            assert!(rt; leaves(output, &packet, gone), "into {room}");
         }
     }
     Ok(())
@@ -68,26 +69,37 @@ fn interrupted_calls(rt: HostRuntime) -> Result<(), Fail> {
     let packet = packet(back(whole.as_slice(), 40));
     for (call, gone) in CALLS {
         let gone = front(whole.as_slice(), gone);
-        assert!(rt; leaves(Narrow::halting(rt.alloc(), call, false), &packet, gone));
-        assert!(rt; leaves(Narrow::halting(rt.alloc(), call, true), &packet, gone));
+        for is_idle in [false, true] {
+            let output = Narrow::halting(rt.alloc(), call, is_idle);
+            assert!(rt; leaves(output, &packet, gone), "at {call}");
+        }
     }
     Ok(())
+}
+
+// Whether no writer is made over a header with a wrong magic number, and nothing is asked of its stream.
+fn refuses_the_header(output: &mut Narrow) -> bool {
+    let header = PcapHeader {
+        magic_number: 0,
+        ..PcapHeader::default()
+    };
+    matches!(
+        PcapWriter::with_header(header, output),
+        Err(PcapError::InvalidField("PcapHeader wrong magic number"))
+    )
 }
 
 #[test]
 fn invalid_header(rt: HostRuntime) {
     let mut output = Narrow::new(rt.alloc(), 1000, true);
-    let header = PcapHeader {
-        magic_number: 0,
-        ..PcapHeader::default()
-    };
-    assert!(rt;
-        matches!(
-            PcapWriter::with_header(header, &mut output),
-            Err(PcapError::InvalidField("PcapHeader wrong magic number"))
-        )
-    );
-    assert!(rt; output.out.is_empty() && output.calls == 0);
+    assert!(rt; refuses_the_header(&mut output) && output.out.is_empty() && output.calls == 0);
+}
+
+// Whether no packet of no bytes is written, for the writer that failed, and none is asked for.
+fn stays_failed(writer: &mut PcapWriter<Narrow>) -> bool {
+    writer.get_mut().room = 1000;
+    let is_refused = matches!(writer.write(1, 0, &[], 0), Err(PcapError::WriterFailed));
+    is_refused && writer.get_ref().calls == 3
 }
 
 // Writes packets of no bytes to a writer that has room for one, and tells whether each call answered as it must.
@@ -102,10 +114,7 @@ fn fits_one(writer: &mut PcapWriter<Narrow>) -> bool {
 fn empty_packet(rt: HostRuntime) -> Result<(), Fail> {
     let output = Narrow::new(rt.alloc(), 40, true);
     let mut writer = PcapWriter::with_header(PcapHeader::default(), output)?;
-    assert!(rt; fits_one(&mut writer));
-    writer.get_mut().room = 1000;
-    assert!(rt; matches!(writer.write(1, 0, &[], 0), Err(PcapError::WriterFailed)));
-    assert!(rt; writer.get_ref().calls == 3);
+    assert!(rt; fits_one(&mut writer) && stays_failed(&mut writer));
     Ok(())
 }
 
@@ -156,12 +165,17 @@ fn tells_one_flush(alloc: Global) -> bool {
     told.flush().is_err() && told.failed() && told.get_ref().calls == 1
 }
 
+// Whether a writer with room for three bytes tells that a write failed, also where it has room again.
+fn tells_for_good(alloc: Global, fails: bool) -> bool {
+    let mut told = Told::new(Narrow::new(alloc, 3, fails));
+    let began = tells(&mut told, fails);
+    still_tells(told) && began
+}
+
 #[test]
 fn told_writers(rt: HostRuntime) {
     for fails in [false, true] {
-        let mut told = Told::new(Narrow::new(rt.alloc(), 3, fails));
-        assert!(rt; tells(&mut told, fails));
-        assert!(rt; still_tells(told));
+        assert!(rt; tells_for_good(rt.alloc(), fails));
         assert!(rt; tells_a_flush(rt.alloc(), fails));
         assert!(rt; tells_one_write(rt.alloc(), fails));
     }

@@ -44,61 +44,96 @@ fn ending(
     Ok(stream)
 }
 
+// Whether the capture's header fails by the end of three reads of a beginning of it.
+fn header_fails(alloc: Global, end: (usize, ErrorKind)) -> bool {
+    match ending(alloc, front(&BIG_HEAD, 21), 7, end) {
+        Ok(mut stream) => fails_by(&PcapHeader::from_reader(&mut stream), end.1),
+        Err(_) => false,
+    }
+}
+
+// Whether a packet does, of which ten bytes of its header came, its last six, and ten of its data.
+fn packet_fails(alloc: Global, whole: &[u8], end: (usize, ErrorKind)) -> bool {
+    let Ok(mut stream) = ending(alloc, front(back(whole, 24), 26), 10, end) else {
+        return false;
+    };
+    let resolution = TsResolution::MicroSecond;
+    let packet = Packet::from_reader::<_, BigEndian>(alloc, &mut stream, resolution);
+    fails_by(&packet, end.1)
+}
+
 #[test]
 fn values(rt: HostRuntime) -> Result<(), Fail> {
     let whole = big(rt.alloc())?;
     for end in ENDS {
-        let mut stream = ending(rt.alloc(), front(&BIG_HEAD, 21), 7, end)?;
-        let header = PcapHeader::from_reader(&mut stream);
-        assert!(rt; fails_by(&header, end.1));
-        // ten bytes of the packet's header, its last six, and ten of its data
-        let bytes = front(back(whole.as_slice(), 24), 26);
-        let mut stream = ending(rt.alloc(), bytes, 10, end)?;
-        let resolution = TsResolution::MicroSecond;
-        let packet = Packet::from_reader::<_, BigEndian>(rt.alloc(), &mut stream, resolution);
-        assert!(rt; fails_by(&packet, end.1));
+        assert!(rt; header_fails(rt.alloc(), end), "at {}", end.0);
+        assert!(rt;
+            packet_fails(rt.alloc(), whole.as_slice(), end),
+            "at {}",
+            end.0
+        );
     }
     Ok(())
+}
+
+// Whether no reader is made by the end of three reads of a beginning of the capture's header.
+fn opening_fails(alloc: Global, end: (usize, ErrorKind)) -> bool {
+    match ending(alloc, front(&BIG_HEAD, 21), 7, end) {
+        Ok(stream) => fails_by(&PcapReader::new(alloc, stream), end.1),
+        Err(_) => false,
+    }
+}
+
+// Whether the packet's header fails by the end of three reads of a beginning of it.
+fn packet_header_fails(alloc: Global, end: (usize, ErrorKind)) -> bool {
+    let Ok(mut stream) = ending(alloc, front(back(&BIG_HEAD, 24), 15), 5, end) else {
+        return false;
+    };
+    let resolution = TsResolution::MicroSecond;
+    let header = PacketHeader::from_reader::<_, BigEndian>(&mut stream, resolution);
+    fails_by(&header, end.1)
 }
 
 #[test]
-fn headers(rt: HostRuntime) -> Result<(), Fail> {
+fn headers(rt: HostRuntime) {
     for end in ENDS {
-        // three reads of a beginning of the capture's header, and of the packet's
-        let stream = ending(rt.alloc(), front(&BIG_HEAD, 21), 7, end)?;
-        assert!(rt; fails_by(&PcapReader::new(rt.alloc(), stream), end.1));
-        let bytes = front(back(&BIG_HEAD, 24), 15);
-        let mut stream = ending(rt.alloc(), bytes, 5, end)?;
-        let resolution = TsResolution::MicroSecond;
-        let header = PacketHeader::from_reader::<_, BigEndian>(&mut stream, resolution);
-        assert!(rt; fails_by(&header, end.1));
+        assert!(rt; opening_fails(rt.alloc(), end), "at {}", end.0);
+        assert!(rt; packet_header_fails(rt.alloc(), end), "at {}", end.0);
     }
-    Ok(())
 }
 
-// Whether a reader's first packet fails by this kind.
-fn reader_fails(alloc: Global, stream: Halting, kind: ErrorKind) -> bool {
+// Whether a reader's first packet fails by the end of three reads of 50 bytes.
+fn reader_fails(alloc: Global, bytes: &[u8], end: (usize, ErrorKind)) -> bool {
+    let Ok(stream) = ending(alloc, bytes, 50, end) else {
+        return false;
+    };
     match PcapReader::new(alloc, stream) {
         Ok(mut reader) => match &reader.next() {
-            Some(item) => fails_by(item, kind),
+            Some(item) => fails_by(item, end.1),
             None => false,
         },
         Err(_) => false,
     }
 }
 
-fn run_fails(alloc: Global, stream: Halting, kind: ErrorKind) -> bool {
+fn run_fails(alloc: Global, bytes: &[u8], end: (usize, ErrorKind)) -> bool {
+    let Ok(stream) = ending(alloc, bytes, 50, end) else {
+        return false;
+    };
     match &read_pcap(alloc, stream, 9) {
-        Ok(read) => is_kind(&read.fault, kind),
+        Ok(read) => is_kind(&read.fault, end.1),
         Err(_) => false,
     }
 }
 
-fn copy_fails(alloc: Global, mut stream: Halting, kind: ErrorKind) -> bool {
+fn copy_fails(alloc: Global, bytes: &[u8], end: (usize, ErrorKind)) -> bool {
+    let Ok(mut stream) = ending(alloc, bytes, 50, end) else {
+        return false;
+    };
     let mut out = Vec::new(alloc);
     is_kind(
         &copy_pcap(alloc, &mut stream, &mut out, Under::Same, 9).fault,
-        kind,
+        end.1,
     )
 }
 
@@ -108,69 +143,112 @@ fn captures(rt: HostRuntime) -> Result<(), Fail> {
     // the header, the packet's header, and ten bytes of its data
     let bytes = front(whole.as_slice(), 50);
     for end in ENDS {
-        assert!(rt; reader_fails(rt.alloc(), ending(rt.alloc(), bytes, 50, end)?, end.1));
-        assert!(rt; run_fails(rt.alloc(), ending(rt.alloc(), bytes, 50, end)?, end.1));
-        assert!(rt; copy_fails(rt.alloc(), ending(rt.alloc(), bytes, 50, end)?, end.1));
+        assert!(rt; reader_fails(rt.alloc(), bytes, end), "at {}", end.0);
+        assert!(rt; run_fails(rt.alloc(), bytes, end), "at {}", end.0);
+        assert!(rt; copy_fails(rt.alloc(), bytes, end), "at {}", end.0);
     }
     Ok(())
 }
 
 // Whether a writer fails at the capture's packet, by this kind.
-fn packet_fails(output: Narrow, packet: &Packet<'_>, kind: ErrorKind) -> bool {
+fn written_packet_fails(output: Narrow, packet: &Packet<'_>, kind: ErrorKind) -> bool {
     match PcapWriter::with_header(PcapHeader::default(), output) {
         Ok(mut writer) => fails_by(&writer.write_packet(packet), kind),
         Err(_) => false,
     }
 }
 
+// Whether it does in a stream of 50 bytes, which fails or takes nothing then, and of which this call is interrupted.
+fn narrow_packet_fails(
+    alloc: Global,
+    contents: &[u8],
+    (fails, interrupted, kind): (bool, u64, ErrorKind),
+) -> bool {
+    let mut output = Narrow::new(alloc, 50, fails);
+    output.interrupted = interrupted;
+    written_packet_fails(output, &packet(contents), kind)
+}
+
 #[test]
 fn writers(rt: HostRuntime) -> Result<(), Fail> {
     let contents = contents(rt.alloc())?;
-    let packet = packet(contents.as_slice());
     // whether the writer fails where it has no room, its call that is interrupted, and the kind of the fault
     let rows = [
         (false, 0, ErrorKind::WriteZero),
         (true, 0, ErrorKind::Other),
         (false, 3, ErrorKind::Interrupted),
     ];
-    for (fails, interrupted, kind) in rows {
-        let mut output = Narrow::new(rt.alloc(), 50, fails);
-        output.interrupted = interrupted;
-        assert!(rt; packet_fails(output, &packet, kind));
+    for row in rows {
+        assert!(rt;
+            narrow_packet_fails(rt.alloc(), contents.as_slice(), row),
+            "{} {}",
+            row.0,
+            row.1
+        );
     }
     Ok(())
 }
 
-// Whether headers that are written by themselves fail by this kind.
-fn headers_fail(alloc: Global, fails: bool, kind: ErrorKind) -> bool {
+// Whether a capture's header that is written by itself fails by this kind.
+fn header_is_refused(alloc: Global, fails: bool, kind: ErrorKind) -> bool {
     let mut output = Narrow::new(alloc, 10, fails);
     let header = PcapHeader::default().write_to::<_, BigEndian>(&mut output);
+    fails_by(&header, kind)
+}
+
+fn packet_header_is_refused(alloc: Global, fails: bool, kind: ErrorKind) -> bool {
     let mut output = Narrow::new(alloc, 10, fails);
     let resolution = TsResolution::MicroSecond;
     let packet = PacketHeader::new(1, 2, 3, 4).write_to::<_, BigEndian>(&mut output, resolution);
-    fails_by(&header, kind) && fails_by(&packet, kind)
+    fails_by(&packet, kind)
+}
+
+fn opening_is_refused(alloc: Global, fails: bool, kind: ErrorKind) -> bool {
+    fails_by(&PcapWriter::new(Narrow::new(alloc, 10, fails)), kind)
+}
+
+fn opening_with_a_header_is_refused(alloc: Global, fails: bool, kind: ErrorKind) -> bool {
+    let output = Narrow::new(alloc, 10, fails);
+    fails_by(
+        &PcapWriter::with_header(PcapHeader::default(), output),
+        kind,
+    )
 }
 
 #[test]
 fn narrow_headers(rt: HostRuntime) {
-    let header = PcapHeader::default();
     for (fails, kind) in [(false, ErrorKind::WriteZero), (true, ErrorKind::Other)] {
-        let output = Narrow::new(rt.alloc(), 10, fails);
-        assert!(rt; fails_by(&PcapWriter::new(output), kind));
-        let output = Narrow::new(rt.alloc(), 10, fails);
-        assert!(rt; fails_by(&PcapWriter::with_header(header, output), kind));
-        assert!(rt; headers_fail(rt.alloc(), fails, kind));
+        assert!(rt; opening_is_refused(rt.alloc(), fails, kind), "{kind:?}");
+        assert!(rt;
+            opening_with_a_header_is_refused(rt.alloc(), fails, kind),
+            "{kind:?}"
+        );
+        assert!(rt; header_is_refused(rt.alloc(), fails, kind), "{kind:?}");
+        assert!(rt;
+            packet_header_is_refused(rt.alloc(), fails, kind),
+            "{kind:?}"
+        );
     }
+}
+
+// Whether a copy of these bytes into 50 fails by this kind.
+fn narrow_copy_fails(alloc: Global, bytes: &[u8], fails: bool, kind: ErrorKind) -> bool {
+    let Ok(mut stream) = Halting::new(alloc, bytes, 200) else {
+        return false;
+    };
+    let mut output = Narrow::new(alloc, 50, fails);
+    let copied = copy_pcap(alloc, &mut stream, &mut output, Under::Same, 9);
+    is_kind(&copied.fault, kind)
 }
 
 #[test]
 fn copies(rt: HostRuntime) -> Result<(), Fail> {
     let whole = big(rt.alloc())?;
     for (fails, kind) in [(false, ErrorKind::WriteZero), (true, ErrorKind::Other)] {
-        let mut stream = Halting::new(rt.alloc(), whole.as_slice(), 200)?;
-        let mut output = Narrow::new(rt.alloc(), 50, fails);
-        let copied = copy_pcap(rt.alloc(), &mut stream, &mut output, Under::Same, 9);
-        assert!(rt; is_kind(&copied.fault, kind));
+        assert!(rt;
+            narrow_copy_fails(rt.alloc(), whole.as_slice(), fails, kind),
+            "{kind:?}"
+        );
     }
     Ok(())
 }

@@ -57,7 +57,10 @@ fn parses_pieces(alloc: Global, all: &[u8]) -> bool {
 }
 
 // Whether a stream of them is read as all of it.
-fn reads(alloc: Global, stream: Halting) -> bool {
+fn reads(alloc: Global, all: &[u8]) -> bool {
+    let Ok(stream) = Halting::new(alloc, all, 1_000_000) else {
+        return false;
+    };
     match &read_pcap(alloc, stream, 3000) {
         Ok(read) => is_all(read.packets.as_slice()) && read.fault.is_none(),
         Err(_) => false,
@@ -71,18 +74,24 @@ fn runs(rt: HostRuntime) -> Result<(), Fail> {
     assert!(rt; parses(rt.alloc(), all));
     assert!(rt; parses_on_requests(rt.alloc(), all));
     assert!(rt; parses_pieces(rt.alloc(), all));
-    assert!(rt; reads(rt.alloc(), Halting::new(rt.alloc(), all, 1_000_000)?));
+    assert!(rt; reads(rt.alloc(), all));
     Ok(())
 }
 
 // Whether a stream of them is copied whole.
-fn copies_all(alloc: Global, mut stream: Halting, all: &[u8]) -> bool {
+fn copies_all(alloc: Global, all: &[u8]) -> bool {
+    let Ok(mut stream) = Halting::new(alloc, all, 1_000_000) else {
+        return false;
+    };
     let mut out = Vec::new(alloc);
     let copied = copy_pcap(alloc, &mut stream, &mut out, Under::Same, 3000);
     copied.packets == 2001 && out.as_slice() == all
 }
 
-fn copies_buffered(alloc: Global, stream: Halting, all: &[u8]) -> bool {
+fn copies_buffered(alloc: Global, all: &[u8]) -> bool {
+    let Ok(stream) = Halting::new(alloc, all, 1_000_000) else {
+        return false;
+    };
     let Ok(mut reader) = BufReader::with_capacity(alloc, 65_536, stream) else {
         return false;
     };
@@ -94,8 +103,7 @@ fn copies_buffered(alloc: Global, stream: Halting, all: &[u8]) -> bool {
 #[test]
 fn copies(rt: HostRuntime) -> Result<(), Fail> {
     let whole = large(rt.alloc())?;
-    let all = whole.as_slice();
-    assert!(rt; copies_all(rt.alloc(), Halting::new(rt.alloc(), all, 1_000_000)?, all));
-    assert!(rt; copies_buffered(rt.alloc(), Halting::new(rt.alloc(), all, 1_000_000)?, all));
+    assert!(rt; copies_all(rt.alloc(), whole.as_slice()));
+    assert!(rt; copies_buffered(rt.alloc(), whole.as_slice()));
     Ok(())
 }

@@ -1,7 +1,9 @@
 //! Packets that a reader lends.
 
+use crate::sample::reader;
 use pcap_classic::PcapError;
 use pcap_classic::pcap::{Packet, PacketHeader, PcapHeader, PcapReader};
+use std::alloc::Global;
 use std::test::Fail;
 use test_support::captures::{back, big, front};
 use test_support::readers::Halting;
@@ -30,19 +32,28 @@ fn lends(reader: &mut PcapReader<Halting>, contents: &[u8]) -> bool {
     is_first && is_given && is_lent && is_taken && is_last
 }
 
+// Whether one does of a stream of this capture, so many bytes at most in a read.
+fn lends_by(alloc: Global, whole: &[u8], step: usize) -> bool {
+    match reader(alloc, whole, step) {
+        Ok(mut reader) => lends(&mut reader, back(whole, 40)),
+        Err(_) => false,
+    }
+}
+
 #[test]
 fn lent_packets(rt: HostRuntime) -> Result<(), Fail> {
     let whole = big(rt.alloc())?;
     for step in [1, 7, 200] {
-        let stream = Halting::new(rt.alloc(), whole.as_slice(), step)?;
-        let mut reader = PcapReader::new(rt.alloc(), stream)?;
-        assert!(rt; lends(&mut reader, back(whole.as_slice(), 40)));
+        assert!(rt; lends_by(rt.alloc(), whole.as_slice(), step), "by {step}");
     }
     Ok(())
 }
 
 // Whether a reader is refused a packet that is torn, lends nothing, and gives nothing after it.
-fn is_torn(reader: &mut PcapReader<Halting>) -> bool {
+fn is_torn(alloc: Global, bytes: &[u8]) -> bool {
+    let Ok(mut reader) = reader(alloc, bytes, 9) else {
+        return false;
+    };
     let is_refused = matches!(reader.next_header(), Some(Err(PcapError::IoError(_))));
     is_refused && reader.data().is_empty() && reader.next_header().is_none()
 }
@@ -51,19 +62,27 @@ fn is_torn(reader: &mut PcapReader<Halting>) -> bool {
 fn torn_lent_packets(rt: HostRuntime) -> Result<(), Fail> {
     let whole = big(rt.alloc())?;
     for end in [25, 39, 40, 137] {
-        let stream = Halting::new(rt.alloc(), front(whole.as_slice(), end), 9)?;
-        let mut reader = PcapReader::new(rt.alloc(), stream)?;
-        assert!(rt; is_torn(&mut reader));
+        assert!(rt;
+            is_torn(rt.alloc(), front(whole.as_slice(), end)),
+            "at {end}"
+        );
     }
     Ok(())
+}
+
+// Whether a reader with a header that is known lends the packet of a stream without one.
+fn lends_behind(alloc: Global, whole: &[u8]) -> bool {
+    let Ok(stream) = Halting::new(alloc, back(whole, 24), 9) else {
+        return false;
+    };
+    let mut reader = PcapReader::with_header(alloc, PcapHeader::default(), stream);
+    let expected = PacketHeader::new(0x4fa11b29, 152_630_000, 98, 98);
+    given(&mut reader) == Some(expected) && reader.data() == back(whole, 40)
 }
 
 #[test]
 fn readers_of_a_known_header(rt: HostRuntime) -> Result<(), Fail> {
     let whole = big(rt.alloc())?;
-    let stream = Halting::new(rt.alloc(), back(whole.as_slice(), 24), 9)?;
-    let mut reader = PcapReader::with_header(rt.alloc(), PcapHeader::default(), stream);
-    assert!(rt; given(&mut reader) == Some(PacketHeader::new(0x4fa11b29, 152_630_000, 98, 98)));
-    assert!(rt; reader.data() == back(whole.as_slice(), 40));
+    assert!(rt; lends_behind(rt.alloc(), whole.as_slice()));
     Ok(())
 }

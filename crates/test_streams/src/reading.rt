@@ -1,6 +1,7 @@
 //! What comes off streams.
 
 use crate::kinds::fails_by;
+use crate::sample::reader;
 use byteorder::BigEndian;
 use pcap_classic::pcap::{Packet, PacketHeader, PcapHeader, PcapReader};
 use pcap_classic::run::{PcapRead, read_pcap};
@@ -43,47 +44,58 @@ fn names(item: &Option<ResultParsing<Packet<'static>>>, rule: &str) -> bool {
 }
 
 // Whether the capture's header and its packet's come off a stream, and nothing more is taken.
-fn gives_headers(stream: &mut Halting) -> bool {
-    let header = PcapHeader::from_reader(stream);
+fn gives_headers(alloc: Global, bytes: &[u8], step: usize) -> bool {
+    let Ok(mut stream) = Halting::new(alloc, bytes, step) else {
+        return false;
+    };
+    let header = PcapHeader::from_reader(&mut stream);
     let is_header = matches!(header, Ok(it) if it == PcapHeader::default()) && stream.taken == 24;
-    let packet = PacketHeader::from_reader::<_, BigEndian>(stream, TsResolution::MicroSecond);
+    let packet = PacketHeader::from_reader::<_, BigEndian>(&mut stream, TsResolution::MicroSecond);
     let expected = PacketHeader::new(0x4fa11b29, 152_630_000, 98, 98);
     is_header && matches!(packet, Ok(it) if it == expected) && stream.taken == 40
 }
 
 // Whether the capture's packet comes off a stream, and no more room is offered than its data takes.
-fn gives_the_packet(alloc: Global, mut stream: Halting, contents: &[u8]) -> bool {
+fn gives_the_packet(alloc: Global, bytes: &[u8], step: usize) -> bool {
+    let Ok(mut stream) = Halting::new(alloc, bytes, step) else {
+        return false;
+    };
     let resolution = TsResolution::MicroSecond;
     let packet = Packet::from_reader::<_, BigEndian>(alloc, &mut stream, resolution);
-    is_packet(&Some(packet), contents) && stream.taken == 114 && stream.most_room <= 98
+    is_packet(&Some(packet), back(bytes, 16)) && stream.taken == 114 && stream.most_room <= 98
 }
 
 #[test]
 fn values(rt: HostRuntime) -> Result<(), Fail> {
     let whole = big(rt.alloc())?;
-    let contents = back(whole.as_slice(), 40);
+    let bytes = whole.as_slice();
     for step in [1, 7, 200] {
-        let mut stream = Halting::new(rt.alloc(), whole.as_slice(), step)?;
-        assert!(rt; gives_headers(&mut stream));
-        let stream = Halting::new(rt.alloc(), back(whole.as_slice(), 24), step)?;
-        assert!(rt; gives_the_packet(rt.alloc(), stream, contents));
+        assert!(rt; gives_headers(rt.alloc(), bytes, step), "by {step}");
+        assert!(rt;
+            gives_the_packet(rt.alloc(), back(bytes, 24), step),
+            "by {step}"
+        );
     }
     Ok(())
+}
+
+// Whether an empty stream gives no header of a capture and none of a packet.
+fn gives_no_headers(empty: &mut Halting) -> bool {
+    let header = PcapHeader::from_reader(empty);
+    let packet = PacketHeader::from_reader::<_, BigEndian>(empty, TsResolution::NanoSecond);
+    matches!(header, Err(PcapError::IoError(_))) && matches!(packet, Err(PcapError::IoError(_)))
+}
+
+fn gives_no_packet(alloc: Global, empty: &mut Halting) -> bool {
+    let packet = Packet::from_reader::<_, BigEndian>(alloc, empty, TsResolution::NanoSecond);
+    matches!(packet, Err(PcapError::IoError(_)))
 }
 
 #[test]
 fn empty_streams(rt: HostRuntime) -> Result<(), Fail> {
     let mut empty = Halting::new(rt.alloc(), &[], 9)?;
-    let header = PcapHeader::from_reader(&mut empty);
-    assert!(rt; matches!(header, Err(PcapError::IoError(_))));
-    let header = PacketHeader::from_reader::<_, BigEndian>(&mut empty, TsResolution::NanoSecond);
-    assert!(rt; matches!(header, Err(PcapError::IoError(_))));
-    let packet = Packet::from_reader::<_, BigEndian>(
-        rt.alloc(),
-        &mut empty,
-        TsResolution::NanoSecond,
-    );
-    assert!(rt; matches!(packet, Err(PcapError::IoError(_))));
+    assert!(rt; gives_no_headers(&mut empty));
+    assert!(rt; gives_no_packet(rt.alloc(), &mut empty));
     Ok(())
 }
 
@@ -93,30 +105,34 @@ fn makes_none<T: Read + Drop>(alloc: Global, stream: T) -> bool {
 }
 
 // Whether a stream with a wrong header of 24 bytes gives no header.
-fn gives_none(mut stream: Halting) -> bool {
+fn gives_none(alloc: Global, step: usize) -> bool {
+    let Ok(mut stream) = Halting::new(alloc, &[0xff; 24], step) else {
+        return false;
+    };
     matches!(
         PcapHeader::from_reader(&mut stream),
         Err(PcapError::InvalidField("PcapHeader wrong magic number"))
     )
 }
 
-// Whether neither a reader nor a run is made of it, and just those bytes are taken.
-fn takes_the_header(alloc: Global, mut stream: Halting) -> bool {
+// Whether neither a reader nor a run is made of it and more, and just those bytes are taken.
+fn takes_the_header(alloc: Global, step: usize) -> bool {
+    let Ok(mut stream) = Halting::new(alloc, &[0xff; 40], step) else {
+        return false;
+    };
     let is_none = makes_none(alloc, &mut stream) && stream.taken == 24;
     stream.taken = 0;
     is_none && read_pcap(alloc, &mut stream, 9).is_err() && stream.taken == 24
 }
 
 #[test]
-fn wrong_headers(rt: HostRuntime) -> Result<(), Fail> {
+fn wrong_headers(rt: HostRuntime) {
     for step in [1, 9] {
-        assert!(rt; gives_none(Halting::new(rt.alloc(), &[0xff; 24], step)?));
-        let long = Halting::new(rt.alloc(), &[0xff; 40], step)?;
-        assert!(rt; takes_the_header(rt.alloc(), long));
-        let short = PcapReader::new(rt.alloc(), Halting::new(rt.alloc(), &[0xff; 10], step)?);
-        assert!(rt; fails_by(&short, ErrorKind::UnexpectedEof));
+        assert!(rt; gives_none(rt.alloc(), step), "by {step}");
+        assert!(rt; takes_the_header(rt.alloc(), step), "by {step}");
+        let short = reader(rt.alloc(), &[0xff; 10], step);
+        assert!(rt; fails_by(&short, ErrorKind::UnexpectedEof), "by {step}");
     }
-    Ok(())
 }
 
 // Whether this is what the first bytes of the capture have to give, all 138 of them being the header and one packet.
@@ -138,7 +154,10 @@ fn is_read_of(read: &ResultParsing<PcapRead>, end: usize) -> bool {
 }
 
 // Whether a run over this beginning of the capture comes to what it must, and no more room is offered than the data takes.
-fn reads_beginning(alloc: Global, mut stream: Halting, end: usize) -> bool {
+fn reads_beginning(alloc: Global, whole: &[u8], end: usize) -> bool {
+    let Ok(mut stream) = Halting::new(alloc, front(whole, end), 1) else {
+        return false;
+    };
     is_read_of(&read_pcap(alloc, &mut stream, 9), end) && stream.most_room <= 98
 }
 
@@ -146,8 +165,10 @@ fn reads_beginning(alloc: Global, mut stream: Halting, end: usize) -> bool {
 fn every_beginning(rt: HostRuntime) -> Result<(), Fail> {
     let whole = big(rt.alloc())?;
     for end in 0..139usize {
-        let stream = Halting::new(rt.alloc(), front(whole.as_slice(), end), 1)?;
-        assert!(rt; reads_beginning(rt.alloc(), stream, end));
+        assert!(rt;
+            reads_beginning(rt.alloc(), whole.as_slice(), end),
+            "at {end}"
+        );
     }
     Ok(())
 }
@@ -172,19 +193,39 @@ fn is_three(read: PcapRead, contents: &[u8]) -> bool {
     is_clean && is_each
 }
 
+// Whether a stream gives these, so many bytes at most in a read.
+fn reads_three(alloc: Global, bytes: &[u8], step: usize) -> bool {
+    let Ok(stream) = Halting::new(alloc, bytes, step) else {
+        return false;
+    };
+    match read_pcap(alloc, stream, 9) {
+        Ok(read) => is_three(read, front(back(bytes, 40), 98)),
+        Err(_) => false,
+    }
+}
+
 #[test]
 fn three_packets(rt: HostRuntime) -> Result<(), Fail> {
     let bytes = with_more(rt.alloc(), 2)?;
-    let contents = front(back(bytes.as_slice(), 40), 98);
     for step in [1, 9, 500] {
-        let stream = Halting::new(rt.alloc(), bytes.as_slice(), step)?;
-        assert!(rt; is_three(read_pcap(rt.alloc(), stream, 9)?, contents));
+        assert!(rt;
+            reads_three(rt.alloc(), bytes.as_slice(), step),
+            "by {step}"
+        );
     }
     Ok(())
 }
 
 // Whether a run that wants so many packets gives so many, and takes so many bytes.
-fn reads_most(alloc: Global, mut stream: Halting, most: u64, count: usize, taken: usize) -> bool {
+fn reads_most(
+    alloc: Global,
+    bytes: &[u8],
+    step: usize,
+    (most, count, taken): (u64, usize, usize),
+) -> bool {
+    let Ok(mut stream) = Halting::new(alloc, bytes, step) else {
+        return false;
+    };
     let is_read = match &read_pcap(alloc, &mut stream, most) {
         Ok(read) => read.fault.is_none() && !read.failed && read.packets.len() == count,
         Err(_) => false,
@@ -196,24 +237,38 @@ fn reads_most(alloc: Global, mut stream: Halting, most: u64, count: usize, taken
 fn most_packets(rt: HostRuntime) -> Result<(), Fail> {
     let mut bytes = big(rt.alloc())?;
     bytes.extend_from_slice(&[0, 0, 0, 1, 0, 0, 0, 0, 0, 0, 0, 2, 0, 0, 0, 1])?;
-    // how many packets are wanted, how many bytes are there, how many packets come, and how many bytes are taken
+    // how many bytes are there; how many packets are wanted, how many come, and how many bytes are taken
     let rows = [
-        (0, 138, 0, 24),
-        (1, 154, 1, 138),
-        (1, 143, 1, 138),
-        (1, 138, 1, 138),
+        (138, (0, 0, 24)),
+        (154, (1, 1, 138)),
+        (143, (1, 1, 138)),
+        (138, (1, 1, 138)),
     ];
     for step in [1, 200] {
-        for (most, end, count, taken) in rows {
-            let stream = Halting::new(rt.alloc(), front(bytes.as_slice(), end), step)?;
-            assert!(rt; reads_most(rt.alloc(), stream, most, count, taken));
+        for (end, row) in rows {
+            let bytes = front(bytes.as_slice(), end);
+            assert!(rt;
+                reads_most(rt.alloc(), bytes, step, row),
+                "{} of {end}",
+                row.0
+            );
         }
     }
     Ok(())
 }
 
 // Whether the capture's packet comes, the end, and both again.
-fn goes_on(reader: &mut PcapReader<EndsOnce<'_>>, contents: &[u8]) -> bool {
+fn goes_on(alloc: Global, whole: &[u8], step: usize) -> bool {
+    let stream = EndsOnce {
+        first: whole,
+        second: back(whole, 24),
+        step,
+        has_ended: false,
+    };
+    let Ok(mut reader) = PcapReader::new(alloc, stream) else {
+        return false;
+    };
+    let contents = back(whole, 40);
     let is_first = is_packet(&reader.next(), contents) && reader.next().is_none();
     is_first && is_packet(&reader.next(), contents) && reader.next().is_none()
 }
@@ -222,14 +277,7 @@ fn goes_on(reader: &mut PcapReader<EndsOnce<'_>>, contents: &[u8]) -> bool {
 fn a_stream_that_goes_on(rt: HostRuntime) -> Result<(), Fail> {
     let whole = big(rt.alloc())?;
     for step in [1, 200] {
-        let stream = EndsOnce {
-            first: whole.as_slice(),
-            second: back(whole.as_slice(), 24),
-            step,
-            has_ended: false,
-        };
-        let mut reader = PcapReader::new(rt.alloc(), stream)?;
-        assert!(rt; goes_on(&mut reader, back(whole.as_slice(), 40)));
+        assert!(rt; goes_on(rt.alloc(), whole.as_slice(), step), "by {step}");
     }
     Ok(())
 }
@@ -243,8 +291,11 @@ fn with_a_long_one(alloc: Global) -> Result<Vec<u8>, AllocError> {
     Ok(bytes)
 }
 
-// Whether the next packet is refused, and nothing comes behind it.
-fn ends_refused(reader: &mut PcapReader<Halting>) -> bool {
+// Whether the first packet is refused, and nothing comes behind it.
+fn ends_refused(alloc: Global, bytes: &[u8], step: usize) -> bool {
+    let Ok(mut reader) = reader(alloc, bytes, step) else {
+        return false;
+    };
     let is_named = names(&reader.next(), "PacketHeader incl_len > orig_len");
     let is_over = reader.next().is_none() && reader.next().is_none();
     is_named && is_over && !reader.failed()
@@ -254,9 +305,10 @@ fn ends_refused(reader: &mut PcapReader<Halting>) -> bool {
 fn refusals(rt: HostRuntime) -> Result<(), Fail> {
     let bytes = with_a_long_one(rt.alloc())?;
     for step in [1, 200] {
-        let stream = Halting::new(rt.alloc(), bytes.as_slice(), step)?;
-        let mut reader = PcapReader::new(rt.alloc(), stream)?;
-        assert!(rt; ends_refused(&mut reader));
+        assert!(rt;
+            ends_refused(rt.alloc(), bytes.as_slice(), step),
+            "by {step}"
+        );
     }
     Ok(())
 }
@@ -268,16 +320,29 @@ fn fails_for_good(reader: &mut PcapReader<Halting>, fails_at: usize) -> bool {
     is_failed && is_over && reader.get_ref().calls == fails_at
 }
 
+// Whether the packet of these bytes does where this call is interrupted.
+fn is_interrupted(alloc: Global, bytes: &[u8], step: usize, fails_at: usize) -> bool {
+    let Ok(mut stream) = Halting::new(alloc, bytes, step) else {
+        return false;
+    };
+    stream.fails_at = fails_at;
+    stream.kind = ErrorKind::Interrupted;
+    match PcapReader::new(alloc, stream) {
+        Ok(mut reader) => fails_for_good(&mut reader, fails_at),
+        Err(_) => false,
+    }
+}
+
 #[test]
 fn failed_reads(rt: HostRuntime) -> Result<(), Fail> {
     let whole = big(rt.alloc())?;
     // the most bytes of one read, and the call that fails, after 50 bytes
     for (step, fails_at) in [(1, 51), (50, 4)] {
-        let mut stream = Halting::new(rt.alloc(), front(whole.as_slice(), 50), step)?;
-        stream.fails_at = fails_at;
-        stream.kind = ErrorKind::Interrupted;
-        let mut reader = PcapReader::new(rt.alloc(), stream)?;
-        assert!(rt; fails_for_good(&mut reader, fails_at));
+        let bytes = front(whole.as_slice(), 50);
+        assert!(rt;
+            is_interrupted(rt.alloc(), bytes, step, fails_at),
+            "at {fails_at}"
+        );
     }
     Ok(())
 }
@@ -295,20 +360,32 @@ fn is_beginning(read: &ResultParsing<PcapRead>, fails_at: usize) -> bool {
     }
 }
 
+fn stops(alloc: Global, bytes: &[u8], fails_at: usize) -> bool {
+    let Ok(mut stream) = Halting::new(alloc, bytes, 1) else {
+        return false;
+    };
+    stream.fails_at = fails_at;
+    is_beginning(&read_pcap(alloc, stream, 9), fails_at)
+}
+
 #[test]
 fn every_failed_read(rt: HostRuntime) -> Result<(), Fail> {
     let bytes = with_more(rt.alloc(), 1)?;
     for fails_at in 1..254usize {
-        let mut stream = Halting::new(rt.alloc(), bytes.as_slice(), 1)?;
-        stream.fails_at = fails_at;
-        assert!(rt; is_beginning(&read_pcap(rt.alloc(), stream, 9), fails_at));
+        assert!(rt;
+            stops(rt.alloc(), bytes.as_slice(), fails_at),
+            "at {fails_at}"
+        );
     }
     Ok(())
 }
 
 // Whether a second packet is read under the magic number that was put in, and none under a wrong one.
-fn follows(reader: &mut PcapReader<Halting>, contents: &[u8]) -> bool {
-    let is_first = is_packet(&reader.next(), contents);
+fn follows(alloc: Global, bytes: &[u8], step: usize) -> bool {
+    let Ok(mut reader) = reader(alloc, bytes, step) else {
+        return false;
+    };
+    let is_first = is_packet(&reader.next(), front(back(bytes, 40), 98));
     reader.header.magic_number = 0xa1b23c4d;
     let is_second = nanoseconds(&reader.next()) == 152_630;
     reader.header.magic_number = 0;
@@ -318,11 +395,8 @@ fn follows(reader: &mut PcapReader<Halting>, contents: &[u8]) -> bool {
 #[test]
 fn changed_headers(rt: HostRuntime) -> Result<(), Fail> {
     let bytes = with_more(rt.alloc(), 1)?;
-    let contents = front(back(bytes.as_slice(), 40), 98);
     for step in [1, 300] {
-        let stream = Halting::new(rt.alloc(), bytes.as_slice(), step)?;
-        let mut reader = PcapReader::new(rt.alloc(), stream)?;
-        assert!(rt; follows(&mut reader, contents));
+        assert!(rt; follows(rt.alloc(), bytes.as_slice(), step), "by {step}");
     }
     Ok(())
 }
@@ -336,40 +410,57 @@ fn refuses(reader: &mut PcapReader<Halting>, contents: &[u8]) -> bool {
     is_first && is_named && is_over && reader.header.magic_number == 0 && !reader.failed()
 }
 
+// Whether just one byte behind that packet is taken of a stream.
+fn takes_one_more(alloc: Global, bytes: &[u8], step: usize) -> bool {
+    let Ok(mut reader) = reader(alloc, bytes, step) else {
+        return false;
+    };
+    refuses(&mut reader, front(back(bytes, 40), 98)) && reader.get_ref().taken == 138 + 1
+}
+
 #[test]
 fn wrong_magics(rt: HostRuntime) -> Result<(), Fail> {
     let bytes = with_more(rt.alloc(), 1)?;
-    let contents = front(back(bytes.as_slice(), 40), 98);
     // where the stream ends: after the second packet, or inside it
     for (end, step) in [(252, 1), (252, 300), (238, 1), (238, 300), (143, 300)] {
-        let stream = Halting::new(rt.alloc(), front(bytes.as_slice(), end), step)?;
-        let mut reader = PcapReader::new(rt.alloc(), stream)?;
-        assert!(rt; refuses(&mut reader, contents));
-        assert!(rt; reader.into_reader().taken == 138 + 1);
+        let bytes = front(bytes.as_slice(), end);
+        assert!(rt; takes_one_more(rt.alloc(), bytes, step), "{end} by {step}");
     }
     Ok(())
+}
+
+// Whether a wrong magic number is refused at once, behind one byte.
+fn refuses_at_once(alloc: Global, bytes: &[u8]) -> bool {
+    let Ok(mut reader) = PcapReader::new(alloc, bytes) else {
+        return false;
+    };
+    reader.header.magic_number = 0;
+    let is_named = names(&reader.next(), "PcapHeader wrong magic number");
+    let is_over = reader.next().is_none() && reader.header.magic_number == 0;
+    let left = reader.into_reader().len();
+    is_named && is_over && left == 29 - 24 - 1
 }
 
 #[test]
 fn wrong_magic_at_once(rt: HostRuntime) -> Result<(), Fail> {
     let whole = big(rt.alloc())?;
-    let mut reader = PcapReader::new(rt.alloc(), front(whole.as_slice(), 29))?;
-    reader.header.magic_number = 0;
-    assert!(rt; names(&reader.next(), "PcapHeader wrong magic number"));
-    assert!(rt; reader.next().is_none() && reader.header.magic_number == 0);
-    assert!(rt; reader.into_reader().len() == 29 - 24 - 1);
+    assert!(rt; refuses_at_once(rt.alloc(), front(whole.as_slice(), 29)));
     Ok(())
 }
 
-// Whether one packet of this length is read.
-fn reads_one(alloc: Global, stream: &mut Halting, length: usize) -> bool {
-    match &read_pcap(alloc, stream, 9) {
+// Whether one packet of this length is read, by the header's read, one of the packet's header, four of its data, and the end.
+fn reads_one(alloc: Global, bytes: &[u8], length: usize) -> bool {
+    let Ok(mut stream) = Halting::new(alloc, bytes, 100_000) else {
+        return false;
+    };
+    let is_one = match &read_pcap(alloc, &mut stream, 9) {
         Ok(read) => match read.packets.as_slice() {
             [packet] => read.fault.is_none() && packet.data_.len() == length,
             _ => false,
         },
         Err(_) => false,
-    }
+    };
+    is_one && stream.calls == 7 && stream.most_room == 65536
 }
 
 #[test]
@@ -377,9 +468,6 @@ fn large_packets(rt: HostRuntime) -> Result<(), Fail> {
     let mut bytes = Vec::from_slice(rt.alloc(), front(&BIG_HEAD, 24))?;
     bytes.extend_from_slice(&[0, 0, 0, 0, 0, 0, 0, 0, 0, 4, 0, 0, 0, 4, 0, 0])?;
     bytes.resize(24 + 16 + 262_144, 7)?;
-    let mut stream = Halting::new(rt.alloc(), bytes.as_slice(), 100_000)?;
-    assert!(rt; reads_one(rt.alloc(), &mut stream, 262_144));
-    // the header, a packet's header, four reads of its data, and the end
-    assert!(rt; stream.calls == 7 && stream.most_room == 65536);
+    assert!(rt; reads_one(rt.alloc(), bytes.as_slice(), 262_144));
     Ok(())
 }

@@ -10,7 +10,7 @@ use pcap_classic::{CowBytes, DataLink, Endianness, PcapError, ResultParsing, TsR
 use std::alloc::Global;
 use std::test::Fail;
 use test_support::captures::{BIG_HEAD, back, big, contents, front};
-use test_support::rows::bytes;
+use test_support::rows::are_digits;
 
 // Whether each setter gives the magic number of what was set so far, and leaves the rest.
 fn sets() -> bool {
@@ -61,27 +61,30 @@ fn writes(
     magic_number: u32,
     header: PacketHeader,
     bytes: &[u8],
-    wanted: &[u8],
-) -> ResultParsing<bool> {
-    let out = written(alloc, magic_number, header, bytes)?.into_writer();
-    let is_head = front(back(out.as_slice(), 24), 16) == wanted;
-    Ok(is_head && back(out.as_slice(), 40) == bytes)
+    digits: &str,
+) -> bool {
+    match written(alloc, magic_number, header, bytes) {
+        Ok(writer) => {
+            let out = writer.get_ref().as_slice();
+            are_digits(front(back(out, 24), 16), digits) && back(out, 40) == bytes
+        }
+        Err(_) => false,
+    }
 }
 
 // Whether the same goes out where the parts of the packet are given.
-fn writes_both_ways(
-    alloc: Global,
-    magic_number: u32,
-    header: PacketHeader,
-    bytes: &[u8],
-) -> ResultParsing<bool>
+fn writes_both_ways(alloc: Global, magic_number: u32, header: PacketHeader, bytes: &[u8]) -> bool
     requires { length bytes.now < 2 ^ 32 }
 {
-    let mut writer = written(alloc, magic_number, header, bytes)?;
+    let Ok(mut writer) = written(alloc, magic_number, header, bytes) else {
+        return false;
+    };
     let end = writer.get_ref().len();
-    writer.write(header.ts_sec, header.ts_nsec, bytes, header.orig_len)?;
-    let out = writer.into_writer();
-    Ok(back(out.as_slice(), end) == back(front(out.as_slice(), end), 24))
+    let is_written = writer
+        .write(header.ts_sec, header.ts_nsec, bytes, header.orig_len)
+        .is_ok();
+    let out = writer.get_ref().as_slice();
+    is_written && back(out, end) == back(front(out, end), 24)
 }
 
 #[test]
@@ -89,60 +92,78 @@ fn packets_under_headers(rt: HostRuntime) -> Result<(), Fail> {
     let alloc = rt.alloc();
     let contents = contents(alloc)?;
     // a magic number, a packet's header, its bytes, and the header that goes out
-    let rows: [(u32, PacketHeader, &[u8], [u8; 16]); 4] = [
+    let rows: [(u32, PacketHeader, &[u8], &str); 4] = [
         (
             0xa1b2c3d4,
             PacketHeader::new(1, 2999, 1, 5),
             &[0xaa],
-            [0, 0, 0, 1, 0, 0, 0, 2, 0, 0, 0, 1, 0, 0, 0, 5],
+            "00000001 00000002 00000001 00000005",
         ),
         (
             0xa1b23c4d,
             PacketHeader::new(1, 7, 9, 9),
             &[0xaa, 0xbb],
-            [0, 0, 0, 1, 0, 0, 0, 7, 0, 0, 0, 9, 0, 0, 0, 9],
+            "00000001 00000007 00000009 00000009",
         ),
         (
             0x4d3cb2a1,
             PacketHeader::new(0x4fa11b29, 152_630_000, 98, 98),
             contents.as_slice(),
-            [
-                0x29, 0x1b, 0xa1, 0x4f, 0xf0, 0xf2, 0x18, 0x09, 0x62, 0, 0, 0, 0x62, 0, 0, 0,
-            ],
+            "291ba14f f0f21809 62000000 62000000",
         ),
         (
             0xa1b2c3d4,
             PacketHeader::new(1, 999, 0, 0),
             &[],
-            [0, 0, 0, 1, 0, 0, 0, 0, 0, 0, 0, 0, 0, 0, 0, 0],
+            "00000001 00000000 00000000 00000000",
         ),
     ];
-    for (magic_number, header, bytes, wanted) in &rows {
-        assert!(rt; writes(alloc, *magic_number, *header, *bytes, wanted)?);
+    for (magic_number, header, bytes, digits) in &rows {
+        assert!(rt;
+            writes(alloc, *magic_number, *header, *bytes, *digits),
+            "{digits}"
+        );
         if header.incl_len as usize == bytes.len() {
-            assert!(rt; writes_both_ways(alloc, *magic_number, *header, *bytes)?);
+            assert!(rt;
+                writes_both_ways(alloc, *magic_number, *header, *bytes),
+                "{digits}"
+            );
         }
     }
     Ok(())
 }
 
-#[test]
-fn headers(rt: HostRuntime) -> Result<(), Fail> {
-    let mut wanted = [
-        0xd4, 0xc3, 0xb2, 0xa1, 2, 0, 4, 0, 0, 0, 0, 0, 0, 0, 0, 0, 0xff, 0xff, 0, 0, 1, 0, 0, 0,
-    ];
-    let little = PcapWriter::new(Vec::new(rt.alloc()))?;
-    assert!(rt; little.header.magic_number == 0xd4c3b2a1);
-    assert!(rt; little.get_ref().as_slice() == wanted.as_slice());
+// The default header, in little-endian order.
+const LITTLE: &str = "d4c3b2a1 0200 0400 00000000 00000000 ffff0000 01000000";
+
+// Whether a plain writer begins with it, and says so.
+fn begins_plain(alloc: Global) -> bool {
+    match PcapWriter::new(Vec::new(alloc)) {
+        Ok(plain) => {
+            plain.header.magic_number == 0xd4c3b2a1
+                && are_digits(plain.get_ref().as_slice(), LITTLE)
+        }
+        Err(_) => false,
+    }
+}
+
+// Whether a writer of nanoseconds begins with these digits.
+fn begins_fine(alloc: Global, digits: &str) -> bool {
     let header = PcapHeader {
         magic_number: 0x4d3cb2a1,
         ..PcapHeader::default()
     };
-    wanted[0] = 0x4d;
-    wanted[1] = 0x3c;
-    let fine = PcapWriter::with_header(header, Vec::new(rt.alloc()))?;
-    assert!(rt; fine.get_ref().as_slice() == wanted.as_slice());
-    Ok(())
+    match PcapWriter::with_header(header, Vec::new(alloc)) {
+        Ok(fine) => are_digits(fine.get_ref().as_slice(), digits),
+        Err(_) => false,
+    }
+}
+
+#[test]
+fn headers(rt: HostRuntime) {
+    assert!(rt; begins_plain(rt.alloc()));
+    let fine = "4d3cb2a1 0200 0400 00000000 00000000 ffff0000 01000000";
+    assert!(rt; begins_fine(rt.alloc(), fine));
 }
 
 // What the headers of a capture and of a packet write.
@@ -160,13 +181,19 @@ fn is_own(own: &Packet<'_>, contents: &[u8]) -> bool {
         && own.header == PacketHeader::new(0x4fa11b29, 152_630_000, 98, 98)
 }
 
+// Whether the packet of these bytes owns them as a copy, and where it gives them itself.
+fn owns(alloc: Global, contents: &[u8]) -> ResultParsing<bool> {
+    let packet = packet(contents);
+    let is_copied = is_own(&packet.to_owned(alloc)?, contents);
+    Ok(is_copied && is_own(&packet.into_owned(alloc)?, contents))
+}
+
 #[test]
 fn parts_by_themselves(rt: HostRuntime) -> Result<(), Fail> {
+    let header = PacketHeader::new(0x4fa11b29, 152_630_000, 98, 98);
+    assert!(rt; heads(rt.alloc(), &header)?.as_slice() == BIG_HEAD.as_slice());
     let contents = contents(rt.alloc())?;
-    let packet = packet(contents.as_slice());
-    assert!(rt; heads(rt.alloc(), &packet.header)?.as_slice() == BIG_HEAD.as_slice());
-    assert!(rt; is_own(&packet.to_owned(rt.alloc())?, contents.as_slice()));
-    assert!(rt; is_own(&packet.into_owned(rt.alloc())?, contents.as_slice()));
+    assert!(rt; owns(rt.alloc(), contents.as_slice())?);
     Ok(())
 }
 
@@ -177,26 +204,40 @@ fn arrays_of_headers(rt: HostRuntime) -> Result<(), Fail> {
     Ok(())
 }
 
+// Whether a packet of no bytes owns them.
+fn owns_nothing(alloc: Global) -> ResultParsing<bool> {
+    Ok(
+        !Packet::new(1, 2, &[], 0)
+            .into_owned(alloc)?
+            .data_
+            .is_borrowed(),
+    )
+}
+
 #[test]
 fn owned_packets(rt: HostRuntime) -> Result<(), Fail> {
-    let empty = Packet::new(1, 2, &[], 0).into_owned(rt.alloc())?;
-    assert!(rt; !empty.data_.is_borrowed());
+    assert!(rt; owns_nothing(rt.alloc())?);
     let owned = Packet::new_owned(1, 2, Vec::from_slice(rt.alloc(), &[7])?, 3);
     assert!(rt; owned.header == PacketHeader::new(1, 2, 1, 3));
     Ok(())
 }
 
-// Whether a header is written as these digits, and is made an array of them.
-fn goes_out<B: ByteOrder>(alloc: Global, header: &PcapHeader, digits: &str) -> Result<bool, Fail> {
-    let wanted = bytes(alloc, digits)?;
+// Whether a header is written as these digits.
+fn is_written<B: ByteOrder>(alloc: Global, header: &PcapHeader, digits: &str) -> bool {
     let mut out = Vec::new(alloc);
-    header.write_to::<_, B>(&mut out)?;
-    let array = header.to_array::<B>(alloc)?;
-    Ok(out.as_slice() == wanted.as_slice() && array.as_slice() == wanted.as_slice())
+    header.write_to::<_, B>(&mut out).is_ok() && are_digits(out.as_slice(), digits)
+}
+
+// Whether it is made an array of them.
+fn is_array<B: ByteOrder>(alloc: Global, header: &PcapHeader, digits: &str) -> bool {
+    match header.to_array::<B>(alloc) {
+        Ok(array) => are_digits(array.as_slice(), digits),
+        Err(_) => false,
+    }
 }
 
 #[test]
-fn headers_that_no_capture_has(rt: HostRuntime) -> Result<(), Fail> {
+fn headers_that_no_capture_has(rt: HostRuntime) {
     let header = PcapHeader {
         magic_number: 0,
         ts_correction: -2,
@@ -204,21 +245,25 @@ fn headers_that_no_capture_has(rt: HostRuntime) -> Result<(), Fail> {
         ..PcapHeader::default()
     };
     let big = "00000000 0002 0004 fffffffe 00000000 0000ffff 00000002";
-    assert!(rt; goes_out::<BigEndian>(rt.alloc(), &header, big)?);
+    assert!(rt; is_written::<BigEndian>(rt.alloc(), &header, big));
+    assert!(rt; is_array::<BigEndian>(rt.alloc(), &header, big));
     let little = "00000000 0200 0400 feffffff 00000000 ffff0000 02000000";
-    assert!(rt; goes_out::<LittleEndian>(rt.alloc(), &header, little)?);
-    Ok(())
+    assert!(rt; is_written::<LittleEndian>(rt.alloc(), &header, little));
+    assert!(rt; is_array::<LittleEndian>(rt.alloc(), &header, little));
 }
 
-// Whether a packet's header by itself is written as these bytes.
-fn is_written_as(alloc: Global, header: PacketHeader, wanted: &[u8]) -> ResultParsing<bool> {
+// Whether a packet's header by itself is written as these digits.
+fn is_written_as(alloc: Global, header: PacketHeader, digits: &str) -> bool {
     let mut out = Vec::new(alloc);
-    header.write_to::<_, BigEndian>(&mut out, TsResolution::MicroSecond)?;
-    Ok(out.as_slice() == wanted)
+    let resolution = TsResolution::MicroSecond;
+    let is_written = header
+        .write_to::<_, BigEndian>(&mut out, resolution)
+        .is_ok();
+    is_written && are_digits(out.as_slice(), digits)
 }
 
 #[test]
-fn lengths_that_no_capture_has(rt: HostRuntime) -> Result<(), Fail> {
+fn lengths_that_no_capture_has(rt: HostRuntime) {
     let alloc = rt.alloc();
     let rows = [
         (
@@ -239,11 +284,12 @@ fn lengths_that_no_capture_has(rt: HostRuntime) -> Result<(), Fail> {
         ),
     ];
     for (header, digits) in rows {
-        let wanted = bytes(alloc, digits)?;
-        assert!(rt; is_written_as(alloc, header, wanted.as_slice())?);
-        assert!(rt; writes(alloc, 0xa1b2c3d4, header, &[0xaa], wanted.as_slice())?);
+        assert!(rt; is_written_as(alloc, header, digits), "{digits}");
+        assert!(rt;
+            writes(alloc, 0xa1b2c3d4, header, &[0xaa], digits),
+            "{digits}"
+        );
     }
-    Ok(())
 }
 
 // Whether no packet is written under a wrong magic number, and nothing went out but these bytes.
@@ -256,23 +302,31 @@ fn refuses(writer: &mut PcapWriter<Vec<u8>>, packet: &Packet<'_>, out: &[u8]) ->
     is_refused && !writer.failed() && writer.get_ref().as_slice() == out
 }
 
+// Whether the packet goes out again in the other order, behind what went out.
+fn turns(writer: &mut PcapWriter<Vec<u8>>, packet: &Packet<'_>, contents: &[u8]) -> bool {
+    let mut header = PcapHeader::default();
+    header.set_endianness(Endianness::Little);
+    writer.header = header;
+    let before = writer.get_ref().len();
+    let is_written = writer.write_packet(packet).is_ok();
+    let out = back(writer.get_ref().as_slice(), before);
+    let is_head = are_digits(front(out, 16), "291ba14f 36540200 62000000 62000000");
+    is_written && is_head && back(out, 16) == contents
+}
+
+// Whether the packet of this capture goes out, is refused under a wrong magic number, and goes out in the other order.
+fn goes_out_in_both(alloc: Global, whole: &[u8]) -> ResultParsing<bool> {
+    let contents = back(whole, 40);
+    let packet = packet(contents);
+    let mut writer = PcapWriter::with_header(PcapHeader::default(), Vec::new(alloc))?;
+    writer.write_packet(&packet)?;
+    Ok(refuses(&mut writer, &packet, whole) && turns(&mut writer, &packet, contents))
+}
+
 #[test]
 fn orders_between_packets(rt: HostRuntime) -> Result<(), Fail> {
     let whole = big(rt.alloc())?;
-    let contents = back(whole.as_slice(), 40);
-    let packet = packet(contents);
-    let mut writer = PcapWriter::with_header(PcapHeader::default(), Vec::new(rt.alloc()))?;
-    writer.write_packet(&packet)?;
-    assert!(rt; refuses(&mut writer, &packet, whole.as_slice()));
-    writer.header.magic_number = 0xa1b2c3d4;
-    writer.header.set_endianness(Endianness::Little);
-    writer.write_packet(&packet)?;
-    let out = writer.into_writer();
-    let second = [
-        0x29, 0x1b, 0xa1, 0x4f, 0x36, 0x54, 2, 0, 0x62, 0, 0, 0, 0x62, 0, 0, 0,
-    ];
-    assert!(rt; front(back(out.as_slice(), 138), 16) == second.as_slice());
-    assert!(rt; back(out.as_slice(), 154) == contents && out.len() == 252);
+    assert!(rt; goes_out_in_both(rt.alloc(), whole.as_slice())?);
     Ok(())
 }
 
@@ -297,13 +351,16 @@ fn is_largest(run: &PcapRun, bytes: &[u8]) -> bool {
     }
 }
 
+// Whether these bytes, 262184 of them, are read as it.
+fn is_read(alloc: Global, out: &[u8], bytes: &[u8]) -> bool {
+    out.len() == 262_184 && matches!(&parse_pcap(alloc, out), Ok(run) if is_largest(run, bytes))
+}
+
 #[test]
 fn largest_packet(rt: HostRuntime) -> Result<(), Fail> {
     let mut bytes = Vec::new(rt.alloc());
     bytes.resize(262_144, 7)?;
     let out = largest(rt.alloc(), bytes.as_slice())?;
-    assert!(rt; out.len() == 262_184);
-    let run = parse_pcap(rt.alloc(), out.as_slice())?;
-    assert!(rt; is_largest(&run, bytes.as_slice()));
+    assert!(rt; is_read(rt.alloc(), out.as_slice(), bytes.as_slice()));
     Ok(())
 }
