@@ -49,7 +49,7 @@ $(PROGRAM): $(call sources_of,capcopy_run capcopy)
 	cd crates/capcopy && rt run $(JOBS_OF_RT) -- list < stdin > /dev/null
 	touch $@
 
-$(PROVED): $(call sources_of,pcapfile_c)
+$(PROVED): $(call sources_of,pcap_parts pcapfile_c)
 	cd crates/pcapfile_c && rt lib $(JOBS_OF_RT)
 	touch $@
 

@@ -2,8 +2,8 @@
  * both in memory. MIT licence.
  *
  * For all bytes the calls return, and read and write nothing but what they are given. They keep nothing between calls, and
- * may be called from any thread. Those of PcapNg take memory by malloc where a block has options or names, and give it back
- * before they return; all others take none. docs/PROMISES_C.md says what is proved.
+ * may be called from any thread. Those of PcapNg take memory by malloc where a block has options or names, or where a capture
+ * is cut, and give it back before they return; all others take none. docs/PROMISES_C.md says what is proved.
  *
  * What the proofs take from the caller, and nothing checks:
  *  - each pointer is aligned, not null, and points at a value of its type that no other pointer of the same call reaches;
@@ -39,7 +39,7 @@ enum pcapfile_status {
     PCAPFILE_NOTHING = 8,    /* no error: what the call is asked for is not there */
     PCAPFILE_NO_ROOM = 9,    /* no error: the room has to be error.missing bytes longer */
     PCAPFILE_BAD_CALL = 10,  /* a pcapfile_push, or the bytes that were put, do not fit the room: nothing was done */
-    PCAPFILE_NO_PLACE = 11   /* no error: the array of interfaces has to be longer */
+    PCAPFILE_NO_PLACE = 11   /* no error: an array has to be longer, of interfaces or of cuts */
 };
 
 /* error.rule under PCAPFILE_INVALID: the first rule that the bytes break, or, from 2001 on, why a block is not put. pcapfile_rule_name and pcapfile_rule_text tell
@@ -161,6 +161,25 @@ int32_t pcapfile_take_packet(const pcapfile_header *header, pcapfile_bytes *left
  * the refusal, and then `left` begins with what is refused: the packets before it have been taken. */
 int32_t pcapfile_take_packets(const pcapfile_header *header, pcapfile_bytes *left, pcapfile_packet *packets, size_t room,
                               size_t *taken, pcapfile_error *error);
+
+/* Where a part of a capture begins. */
+typedef struct pcapfile_cut {
+    size_t offset; /* how many bytes of the capture stand before it */
+    size_t before; /* how many packets of the capture stand before it; of PcapNg how many blocks behind the first one */
+} pcapfile_cut;
+
+#define PCAPFILE_CUT_INIT { 0, 0 }
+
+/* Where a pcap capture in memory can be cut into parts that are read side by side, so that no packet is torn. The bytes behind
+ * its header are shared equally by `parts`, and a part begins at the first bound of packets at or behind the end of each share
+ * but the last, where bytes follow: the first one behind the header, and there are fewer than `parts` only where a packet is
+ * longer than a share, or no whole packet follows. A part ends where the next one begins, and the last one with the capture.
+ * The bytes of each but the last are whole packets, and pcapfile_take_packets takes them under the capture's header; those of the
+ * last are the packets behind the last cut, and what is left.
+ * `*count` is how many parts there are, at most `parts`; `cuts` from there on is unchanged. PCAPFILE_NO_PLACE where `parts` is 0;
+ * PCAPFILE_INCOMPLETE and PCAPFILE_INVALID as pcapfile_take_header has them. Then `cuts` is unchanged, and `*count` is 0. */
+int32_t pcapfile_cut_packets(const pcapfile_bytes *capture, pcapfile_cut *cuts, size_t parts, size_t *count,
+                             pcapfile_error *error);
 
 /* Writes the 24 bytes of a capture's header into the front of `room`: the magic number high byte first, and all else in the
  * order that it tells. `*written` is 24 then.
@@ -353,6 +372,26 @@ int32_t pcapfile_read_packet(const pcapfile_section *section, const pcapfile_blo
  * call can be made once more. PCAPFILE_INVALID with rule 6 where section->magic_number is no section's. */
 int32_t pcapfile_take_ng_packets(const pcapfile_section *section, pcapfile_bytes *left, pcapfile_ng_packet *packets, size_t room,
                                  size_t *taken, pcapfile_error *error);
+
+/* Where a part of a PcapNg capture begins, and what is in force there. */
+typedef struct pcapfile_ng_cut {
+    pcapfile_cut at;
+    size_t header;     /* how many bytes of the capture stand before the section header in force */
+    size_t first;      /* the places of the interfaces in force stand from interfaces[first] on, */
+    size_t interfaces; /* so many of them, in the order of their numbers */
+} pcapfile_ng_cut;
+
+#define PCAPFILE_NG_CUT_INIT { PCAPFILE_CUT_INIT, 0, 0, 0 }
+
+/* Where a PcapNg capture in memory can be cut, as pcapfile_cut_packets does it between packets; its parts share the bytes behind
+ * the first section header. `interfaces` is filled with how many bytes of the capture stand before each interface description, up
+ * to the last cut at least, and `*known` is how many they are. A part is walked from what is in force at its cut: after
+ * PCAPFILE_SECTION_INIT pcapfile_take_block takes the block at cut.header, then those at interfaces[cut.first] to
+ * interfaces[cut.first + cut.interfaces - 1], none of which is refused but for memory, and then those of the part.
+ * PCAPFILE_NO_PLACE where `parts` is 0, or where `*known` is above `interfaces_len`: so many places are needed. PCAPFILE_NO_MEMORY,
+ * and the refusals of pcapfile_take_block for the first block. Then `cuts` and `interfaces` are unchanged, and `*count` is 0. */
+int32_t pcapfile_cut_blocks(const pcapfile_bytes *capture, pcapfile_ng_cut *cuts, size_t parts, size_t *count,
+                            size_t *interfaces, size_t interfaces_len, size_t *known, pcapfile_error *error);
 
 /* Fills `time` with the time of so many units of an interface. Of `interface` only what begins with ts_ matters; any
  * ts_base but 2 is 10. PCAPFILE_NOTHING where the seconds pass 64 bits; then `time` is unchanged. */

@@ -7,7 +7,8 @@
  *   blocks -t FILE       counts, and prints packets and nanoseconds a packet, the best of ten rounds
  *
  * Before these words `-c PIECE ROOM` takes the blocks by the calls for a capture that comes in pieces: of at most PIECE bytes, into
- * room that is ROOM bytes long at first. Batches are always of a capture in memory.
+ * room that is ROOM bytes long at first. Batches are always of a capture in memory. `-k PARTS` cuts the capture into so many parts,
+ * and lists the blocks of each by itself.
  */
 #include "file.h"
 #include "pieces.h"
@@ -18,7 +19,7 @@
 #include <string.h>
 #include <time.h>
 
-enum { INTERFACES = 64, BATCH = 3, REFUSED = 1, USAGE = 2, ENDED_EARLY = 3, NO_MEMORY = 4, NO_FILE = 4 };
+enum { INTERFACES = 64, BATCH = 3, MOST_PARTS = 9, REFUSED = 1, USAGE = 2, ENDED_EARLY = 3, NO_MEMORY = 4, NO_FILE = 4 };
 
 /* A walk, and what it needs of the interfaces of its section. */
 struct walk {
@@ -30,7 +31,7 @@ struct walk {
     uint64_t index;
 };
 
-static size_t piece, first_room;
+static size_t piece, first_room, parts;
 
 static struct walk walk_of(pcapfile_bytes all) {
     struct pieces pieces = { all, PCAPFILE_PUSH_INIT, NULL, 0, 0 };
@@ -97,17 +98,53 @@ static void print_block(struct walk *walk) {
         printf("%" PRIu64 " unknown:%" PRIu32 " %zu %s\n", walk->index, walk->block.type, walk->block.body.len + 12, word);
 }
 
-static int32_t list_blocks(struct walk *walk) {
-    int32_t status = next_block(walk);
-    if (status == PCAPFILE_OK)
-        printf("section %s %u.%u\n", walk->section.magic_number == 0x1a2b3c4d ? "big" : "little",
-               (unsigned)walk->section.version_major, (unsigned)walk->section.version_minor);
+static void print_section(const struct walk *walk) {
+    printf("section %s %u.%u\n", walk->section.magic_number == 0x1a2b3c4d ? "big" : "little",
+           (unsigned)walk->section.version_major, (unsigned)walk->section.version_minor);
+}
+
+/* The blocks of a capture or of a part. */
+static int32_t list_rest(struct walk *walk) {
+    int32_t status = PCAPFILE_OK;
     while (status == PCAPFILE_OK && has_more(walk)) {
         status = next_block(walk);
         walk->index++;
         if (status == PCAPFILE_OK) print_block(walk);
     }
     return status;
+}
+
+/* A walk that stands at a cut: over the section header in force there, its interfaces, and then `left`. */
+static int32_t walk_from(struct walk *walk, pcapfile_bytes all, const pcapfile_ng_cut *cut, const size_t *places, size_t len) {
+    *walk = walk_of((pcapfile_bytes){ all.ptr + cut->header, all.len - cut->header });
+    int32_t status = next_block(walk);
+    for (size_t i = cut->first; status == PCAPFILE_OK && i < cut->first + cut->interfaces; i++) {
+        walk->pieces.left = (pcapfile_bytes){ all.ptr + places[i], all.len - places[i] };
+        status = next_block(walk);
+    }
+    walk->pieces.left = (pcapfile_bytes){ all.ptr + cut->at.offset, len };
+    walk->index = cut->at.before;
+    return status;
+}
+
+static int32_t list_parts(struct walk *walk, pcapfile_bytes all) {
+    pcapfile_ng_cut cuts[MOST_PARTS + 1] = { PCAPFILE_NG_CUT_INIT };
+    size_t places[INTERFACES] = { 0 }, count = 0, known = 0;
+    int32_t status = pcapfile_cut_blocks(&all, cuts, parts, &count, places, INTERFACES, &known, &walk->error);
+    cuts[count].at.offset = all.len;
+    for (size_t i = 0; status == PCAPFILE_OK && i < count; i++) {
+        status = walk_from(walk, all, &cuts[i], places, cuts[i + 1].at.offset - cuts[i].at.offset);
+        if (i == 0) print_section(walk);
+        if (status == PCAPFILE_OK) status = list_rest(walk);
+    }
+    return status;
+}
+
+static int32_t list_blocks(struct walk *walk) {
+    if (parts > 0) return list_parts(walk, walk->pieces.left);
+    int32_t status = next_block(walk);
+    if (status == PCAPFILE_OK) print_section(walk);
+    return status == PCAPFILE_OK ? list_rest(walk) : status;
 }
 
 static void print_time(const struct walk *walk, const pcapfile_ng_packet *packet) {
@@ -238,8 +275,13 @@ int main(int argc, char **argv) {
         argc -= 3;
         argv += 3;
     }
+    if (argc > 3 && !strcmp(argv[1], "-k")) {
+        parts = strtoul(argv[2], NULL, 10);
+        argc -= 2;
+        argv += 2;
+    }
     const char *way = argc == 3 ? argv[1] : "-b";
-    if (argc < 2 || argc > 3) return USAGE;
+    if (argc < 2 || argc > 3 || parts > MOST_PARTS) return USAGE;
     pcapfile_bytes all = read_file(argv[argc - 1]);
     if (!all.ptr) return NO_FILE;
     struct walk walk = walk_of(all);

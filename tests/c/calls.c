@@ -78,6 +78,30 @@ static void batches(void) {
     EXPECT(taken == 0 && error.rule == PCAPFILE_RULE_CAPTURE_MAGIC && left.len == 18);
 }
 
+/* Two packets of 19 bytes. */
+static void cuts(void) {
+    uint8_t two[24 + 2 * 19];
+    pcapfile_cut cuts[3] = { { 9, 9 }, { 9, 9 }, { 9, 9 } };
+    pcapfile_error error = PCAPFILE_ERROR_INIT;
+    size_t count = 9;
+    memcpy(two, capture, sizeof capture);
+    memcpy(two + sizeof capture, capture + 24, 19);
+    pcapfile_bytes all = { two, sizeof two };
+    EXPECT(pcapfile_cut_packets(&all, cuts, 0, &count, &error) == PCAPFILE_NO_PLACE && count == 0 && cuts[0].offset == 9);
+    EXPECT(pcapfile_cut_packets(&all, cuts, 1, &count, &error) == PCAPFILE_OK && count == 1);
+    EXPECT(cuts[0].offset == 24 && cuts[0].before == 0 && cuts[1].offset == 9);
+    EXPECT(pcapfile_cut_packets(&all, cuts, 2, &count, &error) == PCAPFILE_OK && count == 2);
+    EXPECT(cuts[1].offset == 43 && cuts[1].before == 1 && cuts[2].offset == 9 && cuts[2].before == 9);
+    EXPECT(pcapfile_cut_packets(&all, cuts, 3, &count, &error) == PCAPFILE_OK && count == 2 && cuts[2].offset == 9);
+    all.len = 23;
+    cuts[0].offset = 9;
+    EXPECT(pcapfile_cut_packets(&all, cuts, 3, &count, &error) == PCAPFILE_INCOMPLETE && error.missing == 1);
+    EXPECT(count == 0 && cuts[0].offset == 9);
+    two[0] = 0;
+    all.len = sizeof two;
+    EXPECT(pcapfile_cut_packets(&all, cuts, 3, &count, &error) == PCAPFILE_INVALID && error.rule == PCAPFILE_RULE_CAPTURE_MAGIC);
+}
+
 static void writes(void) {
     uint8_t room[64], before[64];
     pcapfile_header header = { 0xd4c3b2a1, 2, 4, -2, 0, 65535, PCAPFILE_LINK_ETHERNET };
@@ -221,6 +245,28 @@ static void bodies(void) {
     section.magic_number = 0;
     EXPECT(pcapfile_read_packet(&section, &block, &packet, &error) == PCAPFILE_INVALID);
     EXPECT(error.rule == PCAPFILE_RULE_SECTION_MAGIC && packet.orig_len == 99);
+}
+
+/* The blocks above in two parts: the section's 28 bytes, then the interface's 40 and the packet's 36. */
+static void block_cuts(void) {
+    pcapfile_bytes all = { blocks, sizeof blocks };
+    pcapfile_ng_cut cuts[3] = { { { 9, 9 }, 9, 9, 9 }, { { 9, 9 }, 9, 9, 9 }, { { 9, 9 }, 9, 9, 9 } };
+    pcapfile_error error = PCAPFILE_ERROR_INIT;
+    size_t places[2] = { 9, 9 }, count = 9, known = 9;
+    EXPECT(pcapfile_cut_blocks(&all, cuts, 0, &count, places, 2, &known, &error) == PCAPFILE_NO_PLACE && count == 0 && known == 0);
+    EXPECT(pcapfile_cut_blocks(&all, cuts, 2, &count, places, 0, &known, &error) == PCAPFILE_NO_PLACE && count == 0 && known == 1);
+    EXPECT(cuts[0].at.offset == 9 && places[0] == 9);
+    EXPECT(pcapfile_cut_blocks(&all, cuts, 2, &count, places, 2, &known, &error) == PCAPFILE_OK && count == 2 && known == 1);
+    EXPECT(cuts[0].at.offset == 28 && cuts[0].at.before == 0 && cuts[0].header == 0 && cuts[0].interfaces == 0);
+    EXPECT(cuts[1].at.offset == 68 && cuts[1].at.before == 1 && cuts[1].header == 0 && cuts[1].first == 0 && cuts[1].interfaces == 1);
+    EXPECT(places[0] == 28 && places[1] == 9 && cuts[2].at.offset == 9 && cuts[2].interfaces == 9);
+    all.len = 11;
+    places[0] = 9;
+    EXPECT(pcapfile_cut_blocks(&all, cuts, 2, &count, places, 2, &known, &error) == PCAPFILE_INCOMPLETE && error.missing == 1);
+    EXPECT(count == 0 && known == 0 && cuts[1].at.offset == 68 && places[0] == 9);
+    all = (pcapfile_bytes){ (const uint8_t *)"\0\0\0\1\0\0\0\x14\0\1\0\0\0\0\0\0\0\0\0\x14", 20 };
+    EXPECT(pcapfile_cut_blocks(&all, cuts, 2, &count, places, 2, &known, &error) == PCAPFILE_INVALID && count == 0);
+    EXPECT(error.rule == PCAPFILE_RULE_SECTION_MISSING);
 }
 
 static void ng_batches(void) {
@@ -416,12 +462,14 @@ int main(void) {
     headers();
     packets();
     batches();
+    cuts();
     writes();
     pushes();
     refused_pushes();
     first_blocks();
     bodies();
     ng_batches();
+    block_cuts();
     passed_blocks();
     ng_pushes();
     times();

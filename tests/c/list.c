@@ -4,23 +4,46 @@
  *   list -b FILE         in batches
  *   list -f FILE         of every front of the file: its lines, and then its status
  *   list -t FILE         counts in batches, and prints packets and nanoseconds a packet, the best of ten rounds
+ *
+ * Before these words `-k PARTS` cuts the capture into so many parts, and lists each by itself, packet by packet.
  */
 #include "lines.h"
 
 #include <time.h>
 
-enum { BATCH = 256 };
+enum { BATCH = 256, MOST_PARTS = 9 };
 
-static int32_t list_one_by_one(pcapfile_bytes left, pcapfile_error *error) {
-    pcapfile_header header = PCAPFILE_HEADER_INIT;
+static size_t parts;
+
+/* The packets of `left`, behind so many. */
+static int32_t list_behind(uint64_t index, const pcapfile_header *header, pcapfile_bytes left, pcapfile_error *error) {
     pcapfile_packet packet = PCAPFILE_PACKET_INIT;
-    uint64_t index = 0;
-    int32_t status = pcapfile_take_header(&left, &header, error);
+    int32_t status = PCAPFILE_OK;
     while (status == PCAPFILE_OK && left.len > 0) {
-        status = pcapfile_take_packet(&header, &left, &packet, error);
+        status = pcapfile_take_packet(header, &left, &packet, error);
         if (status == PCAPFILE_OK) print_packet(++index, &packet);
     }
     return status;
+}
+
+static int32_t list_parts(const pcapfile_header *header, pcapfile_bytes all, pcapfile_error *error) {
+    pcapfile_cut cuts[MOST_PARTS + 1] = { PCAPFILE_CUT_INIT };
+    size_t count = 0;
+    int32_t status = pcapfile_cut_packets(&all, cuts, parts, &count, error);
+    cuts[count].offset = all.len;
+    for (size_t i = 0; status == PCAPFILE_OK && i < count; i++) {
+        pcapfile_bytes part = { all.ptr + cuts[i].offset, cuts[i + 1].offset - cuts[i].offset };
+        status = list_behind(cuts[i].before, header, part, error);
+    }
+    return status;
+}
+
+static int32_t list_one_by_one(pcapfile_bytes left, pcapfile_error *error) {
+    pcapfile_header header = PCAPFILE_HEADER_INIT;
+    pcapfile_bytes all = left;
+    int32_t status = pcapfile_take_header(&left, &header, error);
+    if (parts > 0) return list_parts(&header, all, error);
+    return status == PCAPFILE_OK ? list_behind(0, &header, left, error) : status;
 }
 
 static int32_t list_in_batches(pcapfile_bytes left, pcapfile_error *error) {
@@ -64,9 +87,14 @@ static int count(pcapfile_bytes all, pcapfile_error *error) {
 }
 
 int main(int argc, char **argv) {
+    if (argc > 3 && !strcmp(argv[1], "-k")) {
+        parts = strtoul(argv[2], NULL, 10);
+        argc -= 2;
+        argv += 2;
+    }
     const char *way = argc == 3 ? argv[1] : "-p";
     pcapfile_error error = PCAPFILE_ERROR_INIT;
-    if (argc < 2 || argc > 3) return USAGE;
+    if (argc < 2 || argc > 3 || parts > MOST_PARTS) return USAGE;
     pcapfile_bytes all = read_file(argv[argc - 1]);
     if (!all.ptr) return NO_FILE;
     int status = USAGE;

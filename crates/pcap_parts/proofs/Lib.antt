@@ -6,7 +6,7 @@ mod Resumed
 mod Anywhere
 mod Places
 mod Fair
-mod CutSteps
+pub mod CutSteps
 mod Walking
 mod NgCaptures
 mod Asking

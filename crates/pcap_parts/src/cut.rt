@@ -15,6 +15,7 @@ use pcap_core::ResultParsing;
 use std::alloc::{AllocError, Global};
 
 /// Where a part of a capture begins.
+#[repr(C)]
 #[derive(Clone, Copy, Debug)]
 pub struct Cut {
     /// How many bytes of the capture stand before it.
@@ -33,8 +34,9 @@ pub struct Cuts {
     pub cuts: Vec<Cut>,
 }
 
-// How many bytes there are from behind so many to the end of the next share. None behind the ends of all shares but the last.
-pub(crate) fn to_next_end(passed: usize, bytes: usize, parts: usize) -> Option<usize>
+/// How many bytes stand between those that are passed and the end of the next share, where so many parts share the bytes equally,
+/// in whole bytes, rounded up. None behind the ends of all shares but the last.
+pub fn to_next_end(passed: usize, bytes: usize, parts: usize) -> Option<usize>
     ensures { IsToNextEnd (share_of bytes parts) parts passed result }
 {
     if parts < 2 {

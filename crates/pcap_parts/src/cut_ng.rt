@@ -17,6 +17,7 @@ use pcap_file::PcapNgParser;
 use std::alloc::{AllocError, Global};
 
 /// Where a part of a PcapNg capture begins, and what is in force there.
+#[repr(C)]
 #[derive(Clone, Copy, Debug)]
 pub struct NgCut {
     /// Where it begins. Blocks are counted from behind the first section header.

@@ -13,7 +13,7 @@ mod walk;
 
 pub use again::resume;
 pub use blocks::skip_blocks;
-pub use cut::{Cut, Cuts, cut_pcap};
+pub use cut::{Cut, Cuts, cut_pcap, to_next_end};
 pub use cut_ng::{NgCut, NgCuts, cut_pcapng};
 pub use part::{parse_ng_part, parse_part};
 pub use skip::{Passed, skip_packets};

@@ -13,3 +13,4 @@ pub mod Puts
 pub mod Parts
 pub mod Fitting
 pub mod PutsAgain
+pub mod CutPlaces

@@ -16,3 +16,4 @@ pub mod PacketPushes
 pub mod Reasons
 pub mod Putting
 pub mod PutsAgain
+pub mod Cuts

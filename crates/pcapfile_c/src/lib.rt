@@ -7,8 +7,10 @@
 
 mod any_packets;
 mod batches;
+mod block_cuts;
 mod blocks;
 mod bodies;
+mod cuts;
 mod errors;
 pub mod laws;
 mod pcap;

@@ -1,0 +1,75 @@
+//! Classic captures that lie in memory: where they can be cut into parts.
+
+ghost use Rattle.std.specs.Prelude.{◌≡◌, ◌<◌, ◌≤◌, ◌-◌, length, take, drop};
+ghost use Rattle.pcap_classic.specs.PacketText.{packet_limit};
+ghost use Rattle.pcap_classic.specs.Packets.{format_under};
+ghost use Rattle.pcap_classic.specs.Parser.{header_of};
+ghost use Rattle.pcap_parts.specs.Parts.{AreCuts, AreFair};
+ghost use Rattle.pcapfile_c.specs.Cuts.{TellsCuts};
+
+use crate::errors::{PcapfileError, tell};
+use crate::shown::PcapfileBytes;
+use pcap_file::pcap::PcapParser;
+use pcap_parts::{Cut, Passed, skip_packets, to_next_end};
+
+/// Where a capture can be cut into as many parts of equal length as there are places, but for less than a packet each, so that no
+/// packet is torn. `count` says how many places are filled. The places are `pcapfile_cut` in C.
+#[unsafe(no_mangle)]
+pub extern "C" fn pcapfile_cut_packets(
+    capture: &PcapfileBytes<'_>,
+    cuts: &mut [Cut],
+    count: &mut usize,
+    error: &mut PcapfileError,
+) -> i32
+    ensures { TellsCuts capture.now.bytes.now cuts.old cuts.new count.new error.old error.new result }
+{
+    *count = 0;
+    if cuts.is_empty() {
+        return 11;
+    }
+    match PcapParser::new(capture.bytes) {
+        Ok((after, parser)) => {
+            *count = cut_packets(&parser, after, capture.bytes.len(), cuts);
+            0
+        }
+        Err(e) => tell(&e, error),
+    }
+}
+
+// Puts into the first places where the parts of the packets behind a header begin, and tells how many they are. Their last byte has
+// this place.
+fn cut_packets(parser: &PcapParser, slice: &[u8], total: usize, cuts: &mut [Cut]) -> usize
+    requires within { length slice.now ≤ total }
+    requires some { 0 < length cuts.old }
+    ensures cuts { AreCuts (format_under packet_limit (header_of parser.now)) tt slice.now (total - length slice.now) total (take result cuts.new) }
+    ensures fair { AreFair (format_under packet_limit (header_of parser.now)) tt slice.now total (total - length slice.now) (length cuts.old) (take result cuts.new) }
+    ensures filled { result ≤ length cuts.new }
+    ensures others { drop result cuts.new ≡ drop result cuts.old }
+{
+    cuts[0] = Cut {
+        offset: total - slice.len(),
+        before: 0,
+    };
+    let mut count = 1;
+    let mut before = 0;
+    let mut left = slice;
+    while let Some(wanted) = to_next_end(slice.len() - left.len(), slice.len(), cuts.len()) {
+        let Passed { items, after, rest } = skip_packets(parser, left, wanted);
+        match rest {
+            Some(_) => return count,
+            None => {
+                if after.is_empty() {
+                    return count;
+                }
+                before += items;
+                left = after;
+                cuts[count] = Cut {
+                    offset: total - left.len(),
+                    before,
+                };
+                count += 1;
+            }
+        }
+    }
+    count
+}
