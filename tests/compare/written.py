@@ -1,10 +1,14 @@
-"""What is written as PcapNg, beside tshark, capinfos and editcap, over captures: `compare(files, folder)`.
+"""What is written and converted, beside tshark, capinfos and editcap, over captures: `compare(files, folder)`.
 
 A PcapNg capture that is read whole is copied, and written again from its values (example_pcapng, example_rewrite). The copy has
 to be its bytes. What is written again may differ from it in what the format ignores, which CANONICAL says: then the blocks are
 made so in Python, by the public draft, and have to be those. tshark and capinfos have to read the same packets of both.
 A classic capture becomes a PcapNg capture (example_pcapng), of which tshark and capinfos have to read the packets that they read of
 what editcap made of it. Where a capture is refused, its packets have to be a beginning of those.
+
+A PcapNg capture becomes a classic one (example_convert), which has to be what editcap makes of it, byte for byte, and tshark has to
+read the same packets of both formats. So are converted what editcap and example_pcapng make of a classic capture. Where only one of
+the two converts it whole, MEANT says why, by the message of the one that doesn't, and what goes out has to be a beginning.
 """
 import collections
 import os
@@ -15,11 +19,20 @@ import tempfile
 from examples import BEGINNING, DIFFERENT, SAME, carried, fields, is_pcapng_file, output, program, run_example, verdict
 
 TOOLS = ("tshark", "capinfos", "editcap")
-EXAMPLES = ("example_pcapng", "example_rewrite")
+EXAMPLES = ("example_pcapng", "example_rewrite", "example_convert")
 FIELDS = ("frame.time_epoch", "frame.cap_len", "frame.len", "frame.interface_id", "frame.md5_hash")
 SECTION, INTERFACE, PACKET, SIMPLE, NAMES, STATISTICS, ENHANCED = 0x0A0D0D0A, 1, 2, 3, 4, 5, 6
 # Where the options begin in the bodies that have some, behind what has a fixed length.
 FIXED = {SECTION: 16, INTERFACE: 8, STATISTICS: 12, PACKET: 20, ENHANCED: 20}
+# Messages of a conversion to a classic capture that ends early, of editcap and then of this library, each with what makes it so.
+MEANT = {
+    "can't be written as": "editcap takes no capture without an interface, or with several of different link types",
+    "has a record type that can't be saved": "editcap takes no block that it would show and that holds no packet",
+    "SimplePacketBlock: no time": "a simple packet has no time, and editcap writes the beginning of 1970",
+    "PacketHeader incl_len > orig_len": "more is stored of a packet than it had, and editcap writes it so",
+    "PacketHeader orig_len > 0x40000": "a packet had more than 262144 bytes, and editcap writes it",
+    "Block: seconds of no 32 bits": "a packet's seconds don't fit 32 bits, and editcap writes the low 32",
+}
 CANONICAL = ("a list of options ends without its mark", "the mark stands alone", "bytes stand behind the mark", "padding is not zero")
 
 
@@ -115,7 +128,7 @@ def read_verdict(written, is_accepted, peer, room):
     return SAME if here == there and totals(path) == totals(peer) else DIFFERENT
 
 
-def pcapng_verdicts(path, room, found):
+def pcapng_verdicts(path, room, found, meant):
     with open(path, "rb") as it:
         capture = it.read()
     copy, is_copied = run_example("example_pcapng", path)
@@ -124,13 +137,49 @@ def pcapng_verdicts(path, room, found):
     wanted = capture if written == capture else canonical_capture(capture, found)
     yield "written again", verdict(written, is_accepted, wanted)
     yield "written again, by tshark and capinfos", read_verdict(written, is_accepted, path, room)
+    yield "converted to Pcap", pcap_verdict(path, room, meant)
 
 
-def classic_verdicts(path, room):
-    peer = os.path.join(room, "peer.pcapng")
+def without_interfaces(rows):
+    """Packets without their interfaces, which a classic capture doesn't have. What tshark shows of other blocks has none."""
+    return [(time, *lengths, digest) for time, *lengths, interface, digest in rows if interface]
+
+
+def pcap_verdict(path, room, meant):
+    """Whether a PcapNg capture becomes the classic capture that editcap makes of it, or a beginning for a reason that is meant,
+    which is counted. None where editcap refuses it for another one."""
+    peer, here = os.path.join(room, "peer.pcap"), os.path.join(room, "here.pcap")
+    asked = output("editcap", "-F", "nsecpcap", path, peer)
+    with open(path, "rb") as it:
+        made = output(program("example_convert"), stdin=it.read())
+    with open(here, "wb") as it:
+        it.write(made.stdout)
+    why = next((it for it in MEANT if it.encode() in asked.stderr + made.stderr), None)
+    if asked.returncode and why is None:
+        return None
+    found = [(time, *lengths, digest) for time, *lengths, _, digest in packets(here)] if made.stdout else []
+    wanted = without_interfaces(packets(path))
+    if not asked.returncode:
+        with open(peer, "rb") as it:
+            capture = it.read()
+        if made.returncode == 0:
+            return SAME if made.stdout == capture and found == wanted else DIFFERENT
+        if not capture.startswith(made.stdout):
+            return DIFFERENT
+    meant[why] += 1
+    return BEGINNING if why and found == wanted[: len(found)] else DIFFERENT
+
+
+def classic_verdicts(path, room, meant):
+    peer, here = os.path.join(room, "peer.pcapng"), os.path.join(room, "here.pcapng")
     if output("editcap", "-F", "pcapng", path, peer).returncode == 0:
         written, is_accepted = run_example("example_pcapng", path)
         yield "converted, by tshark and capinfos", read_verdict(written, is_accepted, peer, room)
+        yield "editcap's, converted to Pcap", pcap_verdict(peer, room, meant)
+        if written:
+            with open(here, "wb") as it:
+                it.write(written)
+            yield "converted, and back to Pcap", pcap_verdict(here, room, meant)
 
 
 def compare(files, folder):
@@ -139,11 +188,14 @@ def compare(files, folder):
     if missing:
         print(f"what is written was not compared: {', '.join(missing)} missing")
         return True
-    counts, found, changed = collections.defaultdict(lambda: [0, 0, 0]), collections.Counter(), 0
+    counts, found, meant, changed = collections.defaultdict(lambda: [0, 0, 0]), collections.Counter(), collections.Counter(), 0
     for path in files:
         before = found.total()
         with tempfile.TemporaryDirectory() as room:
-            for name, answer in pcapng_verdicts(path, room, found) if is_pcapng_file(path) else classic_verdicts(path, room):
+            answers = pcapng_verdicts(path, room, found, meant) if is_pcapng_file(path) else classic_verdicts(path, room, meant)
+            for name, answer in answers:
+                if answer is None:
+                    continue
                 counts[name][answer] += 1
                 if answer == DIFFERENT:
                     print(f"{os.path.relpath(path, folder)}: {name}")
@@ -151,4 +203,6 @@ def compare(files, folder):
     for name, (same, beginning, different) in counts.items():
         print(f"{name}: {same} are the same, {beginning} are a beginning that ends at a refusal, {different} differ")
     print(f"{changed} captures are written in other bytes:", "; ".join(f"{CANONICAL[why]} ({count} blocks)" for why, count in found.items() if count) or "none")
+    for why, count in meant.items():
+        print(f"{count} are a beginning since {MEANT.get(why, 'of no reason that is known')}")
     return any(same for same, _, _ in counts.values()) and not any(different for _, _, different in counts.values())
