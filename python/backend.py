@@ -26,6 +26,12 @@ Version: {VERSION}
 Summary: Reads packet captures by a proved parser
 License: MIT
 Requires-Python: >=3.9
+Provides-Extra: columns
+Requires-Dist: numpy; extra == "columns"
+Provides-Extra: pandas
+Requires-Dist: pandas; extra == "pandas"
+Provides-Extra: dask
+Requires-Dist: dask[dataframe,distributed]; extra == "dask"
 Classifier: Operating System :: POSIX :: Linux
 Classifier: Typing :: Typed
 """

@@ -13,6 +13,7 @@ from ._blocks import BlockCapture, BlockPacket, Interface
 from ._capture import Capture, Header, Packet
 from ._errors import CaptureError, Incomplete, Invalid
 from ._open import open, parse
+from ._parts import Part, parts
 from ._rules import Rule
 from ._writer import Unwritable, Writer
 
@@ -28,9 +29,11 @@ __all__ = [
     "Interface",
     "Invalid",
     "Packet",
+    "Part",
     "Rule",
     "Unwritable",
     "Writer",
     "open",
     "parse",
+    "parts",
 ]

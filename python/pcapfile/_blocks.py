@@ -2,12 +2,12 @@
 
 import ctypes
 import struct
-from typing import Any, Dict, Iterator, NamedTuple, Optional, Tuple
+from typing import Any, Dict, Iterator, List, NamedTuple, Optional, Tuple
 
 from . import _columns, _library
 from ._capture import BATCH, Packets, make
 from ._errors import error_of
-from ._source import Source, Window
+from ._source import Memory, Source, Stretch, Window
 
 
 class Interface(NamedTuple):
@@ -147,13 +147,22 @@ class BlockCapture(Packets):
     read, are passed over. Where the capture is refused, the packets before that come first. One in memory or in a file can be
     iterated over again."""
 
-    def __init__(self, source: Source) -> None:
-        super().__init__(source)
+    def __init__(self, source: Source, stretch: Optional[Stretch] = None) -> None:
+        super().__init__(source, stretch)
         self._first = Walk(source.window())
         self._first.take()
 
     def _walk(self) -> Walk:
-        """A walk over all of it, or over what a stream has not given yet."""
+        """A walk over all of it, or over what a stream has not given yet; or over the stretch, behind what is in force there."""
+        stretch, source = self._stretch, self._source
+        if stretch is not None and isinstance(source, Memory):
+            walk = Walk(source.between(stretch.header))
+            walk.take()
+            for place in stretch.interfaces:
+                walk.window = source.between(place)
+                walk.take()
+            walk.window = source.between(stretch.begin, stretch.end)
+            return walk
         window = self._source.window()
         return self._first if window is self._first.window else Walk(window)
 
@@ -179,6 +188,23 @@ class BlockCapture(Packets):
 
     def _arrays(self, batch: int) -> Iterator[Any]:
         return _columns.of_blocks(self._walk(), batch)
+
+    def _stretches(self, count: int) -> List[Stretch]:
+        window, cuts, error = self._source.window(), (_library.NgCut * count)(), _library.Error()
+        found, known, places = ctypes.c_size_t(), ctypes.c_size_t(), (ctypes.c_size_t * 64)()
+        while True:
+            status = _library.cut_blocks(window.left, cuts, count, found, places, len(places), known, error)
+            if status != _library.NO_PLACE:
+                break
+            places = (ctypes.c_size_t * known.value)()
+        if status != _library.OK:
+            raise error_of(status, error, 0)
+        here = cuts[: found.value]
+        ends = [*(cut.at.offset for cut in here[1:]), len(window.data)]
+        return [
+            Stretch(cut.at.offset, end, cut.header, tuple(places[cut.first : cut.first + cut.interfaces]))
+            for cut, end in zip(here, ends)
+        ]
 
     def __enter__(self) -> "BlockCapture":
         return self

@@ -2,11 +2,11 @@
 
 import ctypes
 import struct
-from typing import Any, Iterator, NamedTuple
+from typing import Any, Iterator, List, NamedTuple, Optional
 
 from . import _columns, _library
 from ._errors import error_of
-from ._source import Source, Window
+from ._source import Memory, Source, Stretch, Window
 
 # How many packets one call into the library takes, and how many for columns.
 BATCH = 512
@@ -57,30 +57,45 @@ class Packet(NamedTuple):
 
 
 class Packets:
-    """The packets of a capture in memory, in a file or out of a stream."""
+    """The packets of a capture in memory, in a file or out of a stream, or those of a stretch of one in memory or in a file."""
 
-    def __init__(self, source: Source) -> None:
-        self._source = source
+    def __init__(self, source: Source, stretch: Optional[Stretch] = None) -> None:
+        self._source, self._stretch = source, stretch
 
     def __iter__(self) -> Iterator[Any]:
         raise NotImplementedError
 
-    def columns(self, batch: int = COLUMNS) -> Iterator[Any]:
+    def columns(self, batch: int = COLUMNS, threads: int = 1) -> Iterator[Any]:
         """The packets as columns, so many of them at once: arrays of numpy with the fields `time_ns`, `len`, `orig_len`,
         `interface`, `link` and `offset`, or an `array` for each by its name where numpy is missing.
+
+        So many threads walk stretches of a capture in memory or in a file side by side, where numpy is there; the packets come in
+        the same order, and at the end of a stretch fewer at once. A stream is walked by one.
 
         `time_ns` is in nanoseconds since 1970, and -2^63, numpy's NaT, where a packet has no time or 64 bits don't hold it.
         `len` and `orig_len` are the stored and the original length, `offset` is where the stored bytes begin in the capture,
         and `link` is 2^32 - 1 where the interface isn't known. Where the capture is refused, the packets before that come
         first."""
-        return self._arrays(batch) if _columns.numpy is not None else _columns.of_packets(self, batch)
+        if _columns.numpy is None:
+            return _columns.of_packets(self, batch)
+        if threads > 1 and self._stretch is None and isinstance(self._source, Memory):
+            return _columns.side_by_side(self, len(self._source), batch, threads)
+        return self._arrays(batch)
 
     def _arrays(self, batch: int) -> Iterator[Any]:
         raise NotImplementedError
 
-    def to_pandas(self) -> Any:
+    def to_pandas(self, threads: int = 1) -> Any:
         """All packets as a DataFrame of pandas: `time`, NaT where there is none, and the other columns."""
-        return _columns.to_pandas(self._arrays(COLUMNS))
+        return _columns.to_pandas(self.columns(COLUMNS, threads))
+
+    def _stretches(self, count: int) -> List[Stretch]:
+        """Where it can be cut into so many stretches of equal length, at most."""
+        raise NotImplementedError
+
+    def _over(self, stretch: Stretch) -> "Packets":
+        """The packets of a stretch of it."""
+        return type(self)(self._source, stretch)
 
     def close(self) -> None:
         """Lets the capture go. Data of its packets that is still used keeps a file mapped."""
@@ -94,8 +109,8 @@ class Capture(Packets):
     """A capture: iterate over it for its packets. Where it is refused, the packets before that come first. One in memory or in a
     file can be iterated over again."""
 
-    def __init__(self, source: Source) -> None:
-        super().__init__(source)
+    def __init__(self, source: Source, stretch: Optional[Stretch] = None) -> None:
+        super().__init__(source, stretch)
         window = self._source.window()
         header, error = _library.Header(), _library.Error()
         while (status := _library.take_header(window.left, header, error)) != _library.OK:
@@ -110,7 +125,9 @@ class Capture(Packets):
         return self.header.link
 
     def _window(self) -> Window:
-        """What is behind the header, or behind the packets that a stream has given."""
+        """What is behind the header, or behind the packets that a stream has given; or the stretch."""
+        if self._stretch is not None and isinstance(self._source, Memory):
+            return self._source.between(self._stretch.begin, self._stretch.end)
         window = self._source.window()
         if window is not self._after_header:
             _library.take_header(window.left, _library.Header(), _library.Error())
@@ -145,6 +162,15 @@ class Capture(Packets):
 
     def _arrays(self, batch: int) -> Iterator[Any]:
         return _columns.of_capture(self, batch)
+
+    def _stretches(self, count: int) -> List[Stretch]:
+        window, cuts = self._source.window(), (_library.Cut * count)()
+        found, error = ctypes.c_size_t(), _library.Error()
+        status = _library.cut_packets(window.left, cuts, count, found, error)
+        if status != _library.OK:
+            raise error_of(status, error, 0)
+        begins = [cut.offset for cut in cuts[: found.value]]
+        return [Stretch(begin, end) for begin, end in zip(begins, [*begins[1:], len(window.data)])]
 
     def __enter__(self) -> "Capture":
         return self

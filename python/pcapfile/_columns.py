@@ -2,7 +2,9 @@
 
 import ctypes
 from array import array
-from typing import TYPE_CHECKING, Any, Dict, Iterator
+from collections import deque
+from concurrent.futures import Future, ThreadPoolExecutor
+from typing import TYPE_CHECKING, Any, Deque, Dict, Iterator, List, Optional, Tuple
 
 from . import _library
 from ._errors import CaptureError
@@ -34,6 +36,43 @@ _TYPES = [
 ]
 
 _SIMPLE_PACKET = 3
+
+# How many bytes of a capture a thread walks at once.
+_STRETCH = 1 << 24
+
+
+def side_by_side(capture: "Packets", size: int, batch: int, threads: int) -> Iterator[Any]:
+    """The columns of a capture of this size, of which so many threads walk stretches, in the capture's order."""
+    stretches = capture._stretches(max(threads, size // _STRETCH))
+    waiting: Deque["Future[Tuple[List[Any], Optional[CaptureError]]]"] = deque()
+    pool = ThreadPoolExecutor(threads)
+    try:
+        for stretch in stretches:
+            waiting.append(pool.submit(_walked, capture._over(stretch), batch))
+            if len(waiting) > 2 * threads:
+                yield from _given(waiting.popleft().result())
+        while waiting:
+            yield from _given(waiting.popleft().result())
+    finally:
+        pool.shutdown(cancel_futures=True)
+
+
+def _walked(part: "Packets", batch: int) -> "Tuple[List[Any], Optional[CaptureError]]":
+    """All columns of a part, and the refusal behind them."""
+    columns: List[Any] = []
+    try:
+        for arrays in part._arrays(batch):
+            columns.append(arrays)
+    except CaptureError as error:
+        return columns, error
+    return columns, None
+
+
+def _given(walked: "Tuple[List[Any], Optional[CaptureError]]") -> Iterator[Any]:
+    columns, refusal = walked
+    yield from columns
+    if refusal is not None:
+        raise refusal
 
 
 def of_packets(capture: "Packets", batch: int) -> Iterator[Dict[str, "array[int]"]]:

@@ -1,5 +1,7 @@
 """Why a capture is refused."""
 
+from typing import Any, Tuple
+
 from . import _library
 from ._rules import Rule
 
@@ -11,6 +13,10 @@ class CaptureError(Exception):
     def __init__(self, message: str, offset: int, status: int) -> None:
         super().__init__(f"{message} (at byte {offset})")
         self.offset, self.status = offset, status
+        self._made_of: Tuple[Any, ...] = (message, offset, status)
+
+    def __reduce__(self) -> Tuple[Any, ...]:
+        return type(self), self._made_of
 
 
 class Incomplete(CaptureError):
@@ -19,6 +25,7 @@ class Incomplete(CaptureError):
     def __init__(self, missing: int, offset: int) -> None:
         super().__init__(f"{missing} bytes are missing", offset, _library.INCOMPLETE)
         self.missing = missing
+        self._made_of = (missing, offset)
 
 
 class Invalid(CaptureError):
@@ -30,6 +37,7 @@ class Invalid(CaptureError):
         self.rule = _library.rule_name(number)
         self.text = _library.rule_text(number)
         super().__init__(f"{self.rule}: {self.text}", offset, _library.INVALID)
+        self._made_of = (number, offset)
 
 
 def error_of(status: int, error: _library.Error, offset: int) -> CaptureError:

@@ -6,7 +6,7 @@ import os
 from pathlib import Path
 from typing import Any, Callable
 
-OK, INCOMPLETE, BAD_VALUE, INVALID, NOT_UTF8, NO_MEMORY, NOTHING, NO_ROOM = 0, 1, 2, 3, 4, 6, 8, 9
+OK, INCOMPLETE, BAD_VALUE, INVALID, NOT_UTF8, NO_MEMORY, NOTHING, NO_ROOM, NO_PLACE = 0, 1, 2, 3, 4, 6, 8, 9, 11
 
 
 class Bytes(ctypes.Structure):
@@ -71,6 +71,14 @@ class Time(ctypes.Structure):
     _fields_ = [("seconds", ctypes.c_int64), ("nanoseconds", ctypes.c_uint32)]
 
 
+class Cut(ctypes.Structure):
+    _fields_ = [("offset", ctypes.c_size_t), ("before", ctypes.c_size_t)]
+
+
+class NgCut(ctypes.Structure):
+    _fields_ = [("at", Cut), ("header", ctypes.c_size_t), ("first", ctypes.c_size_t), ("interfaces", ctypes.c_size_t)]
+
+
 class Error(ctypes.Structure):
     _fields_ = [("rule", ctypes.c_uint32), ("missing", ctypes.c_size_t)]
 
@@ -125,6 +133,23 @@ take_ng_packets.argtypes = [
     _to(Error),
 ]
 take_ng_packets.restype = ctypes.c_int32
+
+cut_packets = _library.pcapfile_cut_packets
+cut_packets.argtypes = [_to(Bytes), _to(Cut), ctypes.c_size_t, _to(ctypes.c_size_t), _to(Error)]
+cut_packets.restype = ctypes.c_int32
+
+cut_blocks = _library.pcapfile_cut_blocks
+cut_blocks.argtypes = [
+    _to(Bytes),
+    _to(NgCut),
+    ctypes.c_size_t,
+    _to(ctypes.c_size_t),
+    _to(ctypes.c_size_t),
+    ctypes.c_size_t,
+    _to(ctypes.c_size_t),
+    _to(Error),
+]
+cut_blocks.restype = ctypes.c_int32
 
 
 def _writing(name: str, *structs: Any) -> Callable[..., int]:

@@ -4,11 +4,11 @@ import mmap
 import os
 import stat
 from builtins import open as _open
-from typing import Any, Union
+from typing import Any, Optional, Union
 
 from ._blocks import BlockCapture
 from ._capture import Capture
-from ._source import Data, Memory, Source, Stream, Window
+from ._source import Data, Memory, Source, Stream, Stretch, Window
 
 # The type of a section header, with which each PcapNg capture begins.
 _SECTION = b"\x0a\x0d\x0d\x0a"
@@ -16,7 +16,7 @@ _SECTION = b"\x0a\x0d\x0d\x0a"
 
 def parse(data: Data) -> Union[Capture, BlockCapture]:
     """The capture that these bytes are. They must not change while it is used."""
-    return _capture_of(Memory(data))
+    return capture_of(Memory(data))
 
 
 def open(file: Union[str, bytes, os.PathLike, Any]) -> Union[Capture, BlockCapture]:
@@ -27,22 +27,31 @@ def open(file: Union[str, bytes, os.PathLike, Any]) -> Union[Capture, BlockCaptu
     asked for, in memory that doesn't grow with the capture; it can be iterated over once. The stream is closed with the
     capture."""
     if not isinstance(file, (str, bytes, os.PathLike)):
-        return _capture_of(Stream(file))
+        return capture_of(Stream(file))
     stream = _open(file, "rb", buffering=0)
     status = os.fstat(stream.fileno())
     if stat.S_ISREG(status.st_mode) and status.st_size > 0:
         with stream:
             return parse(mmap.mmap(stream.fileno(), 0, access=mmap.ACCESS_READ))
     try:
-        return _capture_of(Stream(stream))
+        return capture_of(Stream(stream))
     except BaseException:
         stream.close()
         raise
 
 
-def _capture_of(source: Source) -> Union[Capture, BlockCapture]:
+def mapped(path: Union[str, bytes, os.PathLike]) -> Memory:
+    """What is in a regular file."""
+    with _open(path, "rb", buffering=0) as stream:
+        status = os.fstat(stream.fileno())
+        if not stat.S_ISREG(status.st_mode):
+            raise ValueError("only a capture in a regular file has parts")
+        return Memory(mmap.mmap(stream.fileno(), 0, access=mmap.ACCESS_READ) if status.st_size > 0 else b"")
+
+
+def capture_of(source: Source, stretch: Optional[Stretch] = None) -> Union[Capture, BlockCapture]:
     window = source.window()
-    return BlockCapture(source) if _front(window) == _SECTION else Capture(source)
+    return BlockCapture(source, stretch) if _front(window) == _SECTION else Capture(source, stretch)
 
 
 def _front(window: Window) -> bytes:

@@ -1,7 +1,7 @@
 """Where the bytes of captures come from: memory, a mapped file, or a stream."""
 
 import mmap
-from typing import Any, Optional, Union
+from typing import Any, NamedTuple, Optional, Tuple, Union
 
 from . import _library
 
@@ -35,15 +35,32 @@ class Window:
         return False
 
 
+class Stretch(NamedTuple):
+    """Whole packets or blocks of a capture, between two places in it, or what is left of it. Of PcapNg also where the section
+    header in force there stands, and its interfaces."""
+
+    begin: int
+    end: int
+    header: int = 0
+    interfaces: Tuple[int, ...] = ()
+
+
 class Memory:
-    """Bytes in memory or in a mapped file, until they are closed. Each walk over them begins at their front."""
+    """Bytes in memory or in a mapped file, until they are closed. A walk begins at their front, or at that of a stretch."""
 
     def __init__(self, data: Data) -> None:
         self._bytes = memoryview(data).cast("B")
         self._file: Optional[mmap.mmap] = data if isinstance(data, mmap.mmap) else None
 
+    def __len__(self) -> int:
+        return len(self._bytes)
+
     def window(self) -> Window:
         return Window(self._bytes)
+
+    def between(self, begin: int, end: Optional[int] = None) -> Window:
+        """Those between two places, or from a place on. They are kept as long as the window is."""
+        return Window(self._bytes[begin:end], begin)
 
     def close(self) -> None:
         self._bytes.release()

@@ -150,7 +150,7 @@ class Columns(unittest.TestCase):
     def test_the_chart_of_the_page(self):
         times = [500_000, 999_999, 2_000_000]
         packets = [enhanced(0, time, bytes(size)) for time, size in zip(times, [3, 4, 8])]
-        (chart,) = re.findall(r"^```py\n(.*?)^```$", PAGE.read_text(), re.S | re.M)
+        (chart,) = re.findall(r"^```py\n(import matplotlib.*?)^```$", PAGE.read_text(), re.S | re.M)
         made = {}
         matplotlib.use("svg")
         with tempfile.TemporaryDirectory() as room, inside(room):
