@@ -1,15 +1,20 @@
 -- The body of a block is read as one thing.
-use Rattle.std.proofs.Common.{◌≡◌, ℕ, List, sym, ◌∙◌}
+use Rattle.std.proofs.Common.{◌≡◌, ℕ, List, refl, ap, sym, ◌∙◌}
 use Rattle.pcap_core.specs.declared.errors.PcapError.{PcapError}
 use Rattle.pcap_core.specs.declared.errors.PcapError.TheVariants as errors
-use Rattle.pcap_core.specs.Answer.{faulty, lacks, number_in, Refuses, whole}
+use Rattle.pcap_core.specs.Answer.{Order, faulty, lacks, number_in, Refuses, whole}
 use Rattle.pcap_core.specs.Errors.{IsMemory}
 use Rattle.pcap_core.specs.Faults.{Fault, Shows}
 use Rattle.pcap_core.proofs.Refusals.{shown_fault}
-use Rattle.pcap_blocks.specs.ParsedBlock.{Body}
+use Rattle.pcap_blocks.specs.declared.block_type.BlockType.{BlockType}
+use Rattle.pcap_blocks.specs.declared.block_type.BlockType.TheVariants as types
+use Rattle.pcap_blocks.specs.ParsedBlock.{Body, BodySays}
+use Rattle.pcap_blocks.specs.UnknownBlock.{UnknownBody}
 use Rattle.pcap_blocks.proofs.OneBody.{body_one}
+use Rattle.pcap_written.specs.Bodies.{type_of}
 use Rattle.pcap_file.specs.Bodies.{SaysOfBody}
 use Rattle.pcap_file.specs.Frames.{Framed}
+use Rattle.pcap_file.specs.Placed.{is_packet}
 
 -- a block has one body
 pub bodies_same : (b : Framed) (x y : Body) (r t : List ℕ) → SaysOfBody b (whole x r) → SaysOfBody b (whole y t) → x ≡ y
@@ -17,6 +22,22 @@ bodies_same b x y r t p q =
     let o = body_one (number_in b.endianness) b.type_ b.body in
     let e : whole x r ≡ whole y t = o.only (whole x r) p ∙ sym (o.only (whole y t) q) in
     cc
+
+-- a body is read of a block of its own type
+pub type_is : (order : Order) (type : BlockType) (s : List ℕ) (body : Body) (rest : List ℕ) → BodySays order type s (whole body rest) → type_of body ≡ type
+type_is order types.SectionHeader s body rest says = rw says.1 refl
+type_is order types.InterfaceDescription s body rest says = rw says.1 refl
+type_is order types.Packet s body rest says = rw says.1 refl
+type_is order types.SimplePacket s body rest says = rw says.1 refl
+type_is order types.NameResolution s body rest says = rw says.1 refl
+type_is order types.InterfaceStatistics s body rest says = rw says.1 refl
+type_is order types.EnhancedPacket s body rest says = rw says.1 refl
+type_is order types.SystemdJournalExport s body rest says = rw says.1 refl
+type_is order (types.Unknown n) s body rest says = rw says.1 (ap (λ (u : UnknownBody). u.type_) says.2.0)
+
+-- a block holds a packet where its body is a packet's
+pub packet_as_body : (b : Framed) (body : Body) (rest : List ℕ) → SaysOfBody b (whole body rest) → is_packet b.type_ ≡ is_packet (type_of body)
+packet_as_body b body rest says = ap is_packet (sym (type_is (number_in b.endianness) b.type_ b.body body rest says))
 
 module _ (b : Framed) (body : Body) (rest : List ℕ) (says : SaysOfBody b (whole body rest)) where
   no_lack : (n : ℕ) → SaysOfBody b (lacks n) → ⊥

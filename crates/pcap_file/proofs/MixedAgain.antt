@@ -57,20 +57,39 @@ record IsLed (q : State) (behind : Place) (b : Framed) : Type 0 where
   counted : length interfaces ≡ behind.interfaces
   means : Means q b (good (within section interfaces))
 
+-- a section header of bytes
+abbrev header_raw : Endianness → List ℕ → Raw
+header_raw e body = record { type_ = types.SectionHeader; endianness = e; body = body }
+
 -- a section header's body names the order of the place behind it
 section_led : (q : State) (behind : Place) (e : Endianness) (body : List ℕ) → magic_order (big_number 4 (take 4 body)) ≡ Some behind.endianness
     → behind.interfaces ≡ 0
-    → ((section : Section) (rest : List ℕ) → SaysOfBody (framed_raw (record { type_ = types.SectionHeader; endianness = e; body = body })) (whole (SectionBody section) rest)
-    → Means q (framed_raw (record { type_ = types.SectionHeader; endianness = e; body = body })) (good (within section [])))
-    → IsReadable (of_bytes (record { type_ = types.SectionHeader; endianness = e; body = body }))
-    → IsLed q behind (framed_raw (record { type_ = types.SectionHeader; endianness = e; body = body }))
+    → ((section : Section) (rest : List ℕ) → SaysOfBody (framed_raw (header_raw e body)) (whole (SectionBody section) rest)
+    → Means q (framed_raw (header_raw e body)) (good (within section [])))
+    → IsReadable (of_bytes (header_raw e body)) → IsLed q behind (framed_raw (header_raw e body))
 section_led q behind e body named none means readable =
     let read = readable refl in
     let text = read.2.2 in
     let section = read.2.0 in
-    let says : SaysOfBody (framed_raw (record { type_ = types.SectionHeader; endianness = e; body = body })) (whole (SectionBody section) read.1) = (section, refl, text) in
+    let says : SaysOfBody (framed_raw (header_raw e body)) (whole (SectionBody section) read.1) = (section, refl, text) in
     let magic : section.magic ≡ big_number 4 (take 4 body) = sym (first_number section.magic body text.after_magic text.magic_is) in
     record { section = section; interfaces = []; names = ap magic_order magic ∙ named; counted = sym none; means = means section read.1 says }
+
+-- a block of bytes is read where its frame is
+raw_here : (q : State) (behind : Place) (raw : Raw) (text rest : List ℕ) → text ≡ raw_text raw → IsLed q behind (framed_raw raw)
+    → FrameText (order_at q) (framed_raw raw) (raw_text raw ++ rest) rest
+    → IsReadHere q behind (of_bytes raw) text rest
+raw_here q behind raw text rest is_text led frame =
+    let item : Item = record { block = framed_raw raw; after = within led.section led.interfaces } in
+    record {
+      framed = framed_raw raw;
+      section = led.section;
+      interfaces = led.interfaces;
+      names = led.names;
+      counted = led.counted;
+      read = subst (λ (t : List ℕ). BlockText q item (t ++ rest) rest) (sym is_text) (record { frame = frame; means = led.means });
+      as_it_was = refl;
+    }
 
 module _ (s : Section) (is : List Interface) (at behind : Place) (names : magic_order s.magic ≡ Some at.endianness) (counted : length is ≡ at.interfaces) where
   abbrev here : State
@@ -124,18 +143,10 @@ module _ (s : Section) (is : List Interface) (at behind : Place) (names : magic_
       }
   read_here (of_bytes raw) text rest readable (tells, is_text) =
       let b = framed_raw raw in
-      let led = raw_led raw.type_ raw.endianness raw.body tells readable in
+      let there = raw_again at behind raw.type_ raw.endianness raw.body rest tells in
       let frame : FrameText (order_at here) b (raw_text raw ++ rest) rest =
-      subst (λ (o : Endianness). FrameText o b (raw_text raw ++ rest) rest) (order_within at.endianness s is names) (raw_again at behind raw.type_ raw.endianness raw.body rest tells) in
-      record {
-        framed = b;
-        section = led.section;
-        interfaces = led.interfaces;
-        names = led.names;
-        counted = led.counted;
-        read = subst (λ (t : List ℕ). BlockText here (record { block = b; after = within led.section led.interfaces }) (t ++ rest) rest) (sym is_text) (record { frame = frame; means = led.means });
-        as_it_was = refl;
-      }
+      subst (λ (o : Endianness). FrameText o b (raw_text raw ++ rest) rest) (order_within at.endianness s is names) there in
+      raw_here here behind raw text rest is_text (raw_led raw.type_ raw.endianness raw.body tells readable) frame
 
 -- a section header is read where a capture begins
 first_here : (at behind : Place) (block : Written) (text rest : List ℕ) → type_written block ≡ types.SectionHeader → IsReadable block
@@ -172,20 +183,9 @@ first_here at behind (of_bytes raw) text rest is readable one = raw_first at beh
         → GoesOut at (of_bytes (record { type_ = type; endianness = e; body = body })) text behind
         → IsReadHere opening behind (of_bytes (record { type_ = type; endianness = e; body = body })) text rest
     raw_first at behind types.SectionHeader e body text rest is readable ((fit, place, same), is_text) =
-        let raw : Raw = record { type_ = types.SectionHeader; endianness = e; body = body } in
-        let b = framed_raw raw in
-        let led = section_led opening behind e body place.0.named place.1 (λ section rest says. (SectionBody section, rest, says, refl)) readable in
         let named : magic_order (big_number 4 (take 4 body)) ≡ Some e = place.0.named ∙ ap (λ (o : Endianness). Some o) same in
-        let frame : FrameText (order_at opening) b (raw_text raw ++ rest) rest = section_again (order_at opening) e body rest fit named in
-        record {
-          framed = b;
-          section = led.section;
-          interfaces = led.interfaces;
-          names = led.names;
-          counted = led.counted;
-          read = subst (λ (t : List ℕ). BlockText opening (record { block = b; after = within led.section led.interfaces }) (t ++ rest) rest) (sym is_text) (record { frame = frame; means = led.means });
-          as_it_was = refl;
-        }
+        let led = section_led opening behind e body place.0.named place.1 (λ section rest says. (SectionBody section, rest, says, refl)) readable in
+        raw_here opening behind (header_raw e body) text rest is_text led (section_again (order_at opening) e body rest fit named)
     raw_first at behind types.InterfaceDescription e body text rest is readable one = absurd cc
     raw_first at behind types.Packet e body text rest is readable one = absurd cc
     raw_first at behind types.SimplePacket e body text rest is readable one = absurd cc

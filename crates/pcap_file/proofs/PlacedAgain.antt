@@ -14,16 +14,21 @@ use Rattle.pcap_file.specs.Converted.{interface_for, packet_block}
 use Rattle.pcap_file.specs.Placed.{Becomes, PlacesBody, Turn, carried, interfaces_at, no_packet, packets_of, placed, unplaced}
 use Rattle.pcap_file.proofs.ConvertedAgain.{exactly_timed}
 
-body_whole : (interfaces : List Interface) (link : DataLink) (body : Body) (packet : Captured) → PlacesBody interfaces link body packet → IsWhole packet
-body_whole interfaces link (EnhancedBody b) packet x = x.whole
-body_whole interfaces link (OldPacketBody b) packet x = x.whole
-body_whole interfaces link (SectionBody b) packet x = absurd x
-body_whole interfaces link (InterfaceBody b) packet x = absurd x
-body_whole interfaces link (SimpleBody b) packet x = absurd x
-body_whole interfaces link (NamesBody b) packet x = absurd x
-body_whole interfaces link (StatisticsBody b) packet x = absurd x
-body_whole interfaces link (JournalBody b) packet x = absurd x
-body_whole interfaces link (OtherBody b) packet x = absurd x
+-- a packet of a block: it is whole, and no whole second is among its nanoseconds
+pub record IsPlaced (packet : Captured) : Type 0 where
+  pub whole : IsWhole packet
+  pub no_second_more : packet.header.ts_nsec < 10 ^ 9
+
+pub body_placed : (interfaces : List Interface) (link : DataLink) (body : Body) (packet : Captured) → PlacesBody interfaces link body packet → IsPlaced packet
+body_placed interfaces link (EnhancedBody b) packet x = record { whole = x.whole; no_second_more = x.time.time_is.split.no_second_more }
+body_placed interfaces link (OldPacketBody b) packet x = record { whole = x.whole; no_second_more = x.time.time_is.split.no_second_more }
+body_placed interfaces link (SectionBody b) packet x = absurd x
+body_placed interfaces link (InterfaceBody b) packet x = absurd x
+body_placed interfaces link (SimpleBody b) packet x = absurd x
+body_placed interfaces link (NamesBody b) packet x = absurd x
+body_placed interfaces link (StatisticsBody b) packet x = absurd x
+body_placed interfaces link (JournalBody b) packet x = absurd x
+body_placed interfaces link (OtherBody b) packet x = absurd x
 
 -- packets of blocks have room in a classic capture
 pub packets_whole : (link : DataLink) (items : List Item) (turns : List Turn) → AllZip (Becomes link) items turns → All IsWhole (packets_of turns)
@@ -31,7 +36,7 @@ packets_whole link [] [] x = All-nil IsWhole
 packets_whole link [] (turn ∷ turns) x = absurd x
 packets_whole link (item ∷ items) [] x = absurd x
 packets_whole link (item ∷ items) (placed packet ∷ turns) x =
-    All-cons IsWhole packet (packets_of turns) (body_whole (interfaces_at item.after) link x.0.1 packet x.0.4) (packets_whole link items turns x.1)
+    All-cons IsWhole packet (packets_of turns) (body_placed (interfaces_at item.after) link x.0.1 packet x.0.4).whole (packets_whole link items turns x.1)
 packets_whole link (item ∷ items) (unplaced reason ∷ turns) x = packets_whole link items turns x.1
 packets_whole link (item ∷ items) (no_packet ∷ turns) x = packets_whole link items turns x.1
 

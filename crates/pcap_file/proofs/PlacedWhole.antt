@@ -1,5 +1,5 @@
 -- A capture of blocks that is converted whole.
-use Rattle.std.proofs.Common.{◌≡◌, ◌≤◌, ◌+◌, ℕ, List, [], ◌∷◌, ◌++◌, length, refl, ap, sym, ◌∙◌, subst, arith, length-append, append-nil, true, false, Some, None, inl, inr, suc}
+use Rattle.std.proofs.Common.{◌≡◌, ◌≤◌, ◌+◌, ℕ, List, [], ◌∷◌, ◌++◌, length, refl, ap, sym, ◌∙◌, subst, arith, length-append, append-nil, true, false, Some, None, inl, inr, suc, Ok}
 use Rattle.std.specs.Prelude.{Option, IfSome}
 use Rattle.std.specs.List.{AllZip, flat_map}
 use Rattle.std.specs.Io.KnownBytes.{Appends, Consumes, IsAtEnd}
@@ -8,7 +8,7 @@ use Rattle.std.proofs.lemmas.Bool.{true≢false}
 use Rattle.std.proofs.lemmas.List.Concat.{flat_map-append, flat_map-cons}
 use Rattle.std.proofs.lemmas.Slice.Zip.{AllZip-long}
 use Rattle.pcap_core.specs.declared.errors.PcapError.{PcapError}
-use Rattle.pcap_core.specs.Answer.{Order, number_in, whole}
+use Rattle.pcap_core.specs.Answer.{whole}
 use Rattle.pcap_core.specs.Errors.{IsMemory}
 use Rattle.pcap_core.specs.Format.{Front, Texts}
 use Rattle.pcap_core.specs.Headed.{good}
@@ -19,9 +19,9 @@ use Rattle.pcap_classic.specs.declared.pcap.header.PcapHeader.{PcapHeader}
 use Rattle.pcap_classic.specs.Magic.{is_magic}
 use Rattle.pcap_classic.specs.PacketText.{Captured}
 use Rattle.pcap_classic.specs.Written.{written_under}
-use Rattle.pcap_blocks.specs.declared.block_type.BlockType.{BlockType}
 use Rattle.pcap_blocks.specs.InterfaceDescription.{Interface}
-use Rattle.pcap_blocks.specs.ParsedBlock.{Body, BodySays, SectionBody, InterfaceBody, OldPacketBody, SimpleBody, NamesBody, StatisticsBody, EnhancedBody, JournalBody, OtherBody}
+use Rattle.pcap_blocks.specs.ParsedBlock.{Body, SectionBody, InterfaceBody, OldPacketBody, SimpleBody, NamesBody, StatisticsBody, EnhancedBody, JournalBody, OtherBody}
+use Rattle.pcap_written.specs.Bodies.{type_of}
 use Rattle.pcap_file.specs.declared.run.placing.IfUnplaced.{IfUnplaced}
 use Rattle.pcap_file.specs.declared.run.placing.IfUnplaced.TheVariants.{Refuse}
 use Rattle.pcap_file.specs.declared.run.placing.NgConverted.{NgConverted}
@@ -29,14 +29,16 @@ use Rattle.pcap_file.specs.Blocks.{Item, BlockText, block_format}
 use Rattle.pcap_file.specs.Frames.{Framed}
 use Rattle.pcap_file.specs.Opening.{OpeningSays}
 use Rattle.pcap_file.specs.Placed.{Becomes, BecomesIn, Turn, interfaces_at, is_packet, no_packet, packets_of, placed, reason_of_turn, reasons_of, unplaced}
-use Rattle.pcap_file.specs.Placing.{CannotWrite, EndsPlacing, FailsBlock, FailsNext, PlacesAll, PlacesRun, Sink, Source, TakesNext, TakesNone}
+use Rattle.pcap_file.specs.Placing.{CannotWrite, EndsPlacing, FailsBlock, FailsNext, PlacesAll, PlacesRun, Sink, Source, TakesNext, TakesNone, source_of}
+use Rattle.pcap_file.specs.declared.pcapng.reader.PcapNgReader.{PcapNgReader}
+use Rattle.pcap_file.specs.Reader.{OpensReader, state_of, stream_of, text_of}
 use Rattle.pcap_file.specs.RoundTrip.{AreReady, BlocksBecome, CanPlace, ComeBack, IsOpened, NothingFailed, PlacesEach}
 use Rattle.pcap_file.specs.State.{State, leads, opening}
 use Rattle.pcap_file.proofs.AcceptedBlocks.{no_cause, taken_known}
 use Rattle.pcap_file.proofs.BlockFormat.{blocks_lawful}
-use Rattle.pcap_file.proofs.Bodies.{refused_for_memory}
+use Rattle.pcap_file.proofs.Bodies.{packet_as_body, refused_for_memory}
+use Rattle.pcap_file.proofs.FirstBlock.{opening_stable}
 use Rattle.pcap_file.proofs.OneTurn.{packet_is_read, turn_same, turns_same}
-use Rattle.pcap_file.proofs.RoundTrips.{section_type}
 
 -- a list that is zipped with another, in two parts
 zip_split : {X Y : Type 0} (P : X → Y → Type 0) (xs more : List X) (ys : List Y) → AllZip P (xs ++ more) ys
@@ -214,17 +216,16 @@ module _ (header : PcapHeader) (choice : IfUnplaced) (turns : List Turn) (a b : 
 -- ---- what was converted comes back
 
 -- a first block is no packet's
-opened : (order : Order) (type : BlockType) (s : List ℕ) (body : Body) (rest : List ℕ) (q : State) → BodySays order type s (whole body rest)
-    → leads opening body ≡ good q → is_packet type ≡ false
-opened order type s (SectionBody x) rest q says e = section_type order type s x rest says
-opened order type s (InterfaceBody x) rest q says e = absurd cc
-opened order type s (OldPacketBody x) rest q says e = absurd cc
-opened order type s (SimpleBody x) rest q says e = absurd cc
-opened order type s (NamesBody x) rest q says e = absurd cc
-opened order type s (StatisticsBody x) rest q says e = absurd cc
-opened order type s (EnhancedBody x) rest q says e = absurd cc
-opened order type s (JournalBody x) rest q says e = absurd cc
-opened order type s (OtherBody x) rest q says e = absurd cc
+opened : (body : Body) (q : State) → leads opening body ≡ good q → is_packet (type_of body) ≡ false
+opened (SectionBody x) q e = refl
+opened (InterfaceBody x) q e = absurd cc
+opened (OldPacketBody x) q e = absurd cc
+opened (SimpleBody x) q e = absurd cc
+opened (NamesBody x) q e = absurd cc
+opened (StatisticsBody x) q e = absurd cc
+opened (EnhancedBody x) q e = absurd cc
+opened (JournalBody x) q e = absurd cc
+opened (OtherBody x) q e = absurd cc
 
 none_of_first : (interfaces : List Interface) (link : DataLink) (b : Framed) (t : Turn) → is_packet b.type_ ≡ false → BecomesIn interfaces link b t
     → t ≡ no_packet
@@ -253,7 +254,7 @@ behind link packets q bytes after (item ∷ items) [] first front become are non
 behind link packets q bytes after (item ∷ items) (turn ∷ turns) first front become are none =
     let one = text_same block_format blocks_lawful opening item (record { block = first.0; after = q }) bytes front.texts.0 after front.texts.1 first.1 in
     let means = first.1.means in
-    let unread = opened (number_in first.0.endianness) first.0.type_ first.0.body means.0 means.1 q means.2 means.3 in
+    let unread = packet_as_body first.0 means.0 means.1 means.2 ∙ opened means.0 q means.3 in
     let is_none : turn ≡ no_packet =
     none_of_first (interfaces_at item.after) link item.block turn (subst (λ (i : Item). is_packet i.block.type_ ≡ false) (sym one.0) unread) become.0 in
     let here : Front block_format item.after items front.texts.0 [] = record { texts = front.texts.2; longest = front.longest } in
@@ -282,3 +283,15 @@ come_back header choice packets bytes a b c d most converted x few opens ready f
       none_left_out = each.left_out ∙ ap length l.all_have_a_place;
       out = subst (λ (ps : List Captured). Appends c.out d.out (flat_map (written_under header) ps)) l.packets_are each.out;
     }
+
+-- a reader that was made of known bytes stands behind the first block of these
+pub opened_ready : (T : Type 0) (remaining : T → Option (List ℕ)) (stream : T) (reader : PcapNgReader T) (bytes : List ℕ) → remaining stream ≡ Some bytes
+    → OpensReader remaining stream (Ok reader)
+    → IsOpened bytes (source_of remaining reader) × ((source_of remaining reader).done ≡ false)
+opened_ready T remaining stream reader bytes known (fresh, unfailed, (first, took)) =
+    let text = text_of reader in
+    let left = remaining (stream_of reader) in
+    let l = taken_known bytes text left (subst (λ (o : Option (List ℕ)). Consumes o left text) known took) in
+    let grown : OpeningSays (text ++ l.0) (whole (state_of reader) l.0) = opening_stable.text text l.0 [] (state_of reader) first in
+    let there : OpeningSays bytes (whole (state_of reader) l.0) = subst (λ (t : List ℕ). OpeningSays t (whole (state_of reader) l.0)) (sym l.2) grown in
+    (record { after = l.0; first = there; left = l.1 }, fresh)

@@ -113,6 +113,7 @@ module _ (header : PcapHeader) (choice : IfUnplaced) where
     took = takes_none block_format a.state a.left;
     in_force = refl;
     goes_on = refl;
+    none_behind_a_refusal = λ is. refl;
     become = tt;
     allowed = λ is. refl;
     out = Appends-nil c.out;
@@ -140,6 +141,7 @@ module _ (header : PcapHeader) (choice : IfUnplaced) where
         took = takes_more block_format blocks_lawful a.state items one.item a.left b.left next.left so_far.took here;
         in_force = state_push block_format a.state items one.item ∙ one.next.leads;
         goes_on = one.next.goes_on ∙ sym one.next.went_on ∙ so_far.goes_on;
+        none_behind_a_refusal = λ is. absurd (true≢false (sym is ∙ sym so_far.goes_on ∙ one.next.went_on));
         become = all_zipped_more (Becomes header.datalink) items turns one.item one.turn so_far.become one.becomes;
         allowed = λ is. reasons ∙ both (reasons_of turns) (reason_of_turn one.turn) (so_far.allowed is) (one.goes.allowed is);
         out = subst (λ (l : List ℕ). Appends c.out behind.out l) (sym texts)
@@ -161,6 +163,7 @@ module _ (header : PcapHeader) (choice : IfUnplaced) where
     took = all.took;
     in_force = all.in_force;
     goes_on = all.goes_on;
+    none_behind_a_refusal = all.none_behind_a_refusal;
     become = all.become;
     allowed = all.allowed;
     out = all.out;

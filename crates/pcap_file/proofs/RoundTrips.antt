@@ -18,9 +18,8 @@ use Rattle.pcap_classic.specs.Magic.{resolution_of}
 use Rattle.pcap_classic.specs.Written.{IsWhole, IsWholeHeader, cut}
 use Rattle.pcap_blocks.specs.declared.block_type.BlockType.{BlockType}
 use Rattle.pcap_blocks.specs.declared.block_type.BlockType.TheVariants as types
-use Rattle.pcap_blocks.specs.EnhancedPacket.{Enhanced}
 use Rattle.pcap_blocks.specs.InterfaceDescription.{Interface, interface_description}
-use Rattle.pcap_blocks.specs.ParsedBlock.{Body, BodySays, SectionBody, InterfaceBody, OldPacketBody, SimpleBody, NamesBody, StatisticsBody, EnhancedBody, JournalBody, OtherBody}
+use Rattle.pcap_blocks.specs.ParsedBlock.{Body, BodySays, SectionBody, InterfaceBody}
 use Rattle.pcap_blocks.specs.SectionHeader.{Section, section_header}
 use Rattle.pcap_written.specs.Bodies.{body_text}
 use Rattle.pcap_written.specs.Fits.{IsFitOption}
@@ -31,13 +30,13 @@ use Rattle.pcap_file.specs.Bodies.{SaysOfBody}
 use Rattle.pcap_file.specs.Conversion.{AreBlocksOf}
 use Rattle.pcap_file.specs.Converted.{converted, in_nanoseconds, interface_for, little_texts, opening_blocks, packet_block}
 use Rattle.pcap_file.specs.Frames.{Framed}
-use Rattle.pcap_file.specs.Placed.{Becomes, PlacesBody, Turn, carried, interfaces_at, is_packet, no_packet, packets_of, placed, reasons_of, unplaced}
+use Rattle.pcap_file.specs.Placed.{Becomes, PlacesBody, Turn, carried, interfaces_at, no_packet, packets_of, placed, reasons_of, unplaced}
 use Rattle.pcap_file.specs.RoundTrip.{BlocksBecome, HasSecondsInside, packets_read}
 use Rattle.pcap_file.specs.State.{State, opening, within, is_kept, is_read, leads, MeansIf}
 use Rattle.pcap_file.specs.Written.{IsBodyOf}
-use Rattle.pcap_file.proofs.Bodies.{bodies_same}
+use Rattle.pcap_file.proofs.Bodies.{bodies_same, packet_as_body}
 use Rattle.pcap_file.proofs.ConvertedAgain.{converted_again}
-use Rattle.pcap_file.proofs.PlacedAgain.{packet_back}
+use Rattle.pcap_file.proofs.PlacedAgain.{IsPlaced, body_placed, packet_back}
 
 -- a body of a type that isn't kept leaves what is in force
 unkept_stays : (section : Section) (interfaces : List Interface) (order : Order) (type : BlockType) (s : List ℕ) (body : Body) (rest : List ℕ)
@@ -64,44 +63,6 @@ led (within section interfaces) b body rest next false says is means =
 -- a block leads where its body does
 pub leads_by_body : (q : State) (item : Item) (body : Body) (s rest : List ℕ) → BlockText q item s rest → IsBodyOf item body → leads q body ≡ good item.after
 leads_by_body q item body s rest text is = led q item.block body is.0 item.after (is_read q item.block.type_) is.1 refl text.means
-
--- the body of an enhanced packet is a packet's
-packet_type : (order : Order) (type : BlockType) (s : List ℕ) (x : Enhanced) (rest : List ℕ) → BodySays order type s (whole (EnhancedBody x) rest)
-    → is_packet type ≡ true
-packet_type order types.SectionHeader s x rest says = let e = says.1 in absurd cc
-packet_type order types.InterfaceDescription s x rest says = let e = says.1 in absurd cc
-packet_type order types.Packet s x rest says = refl
-packet_type order types.SimplePacket s x rest says = refl
-packet_type order types.NameResolution s x rest says = let e = says.1 in absurd cc
-packet_type order types.InterfaceStatistics s x rest says = let e = says.1 in absurd cc
-packet_type order types.EnhancedPacket s x rest says = refl
-packet_type order types.SystemdJournalExport s x rest says = let e = says.1 in absurd cc
-packet_type order (types.Unknown n) s x rest says = let e = says.1 in absurd cc
-
--- the body of a section header or of an interface is no packet's
-pub section_type : (order : Order) (type : BlockType) (s : List ℕ) (x : Section) (rest : List ℕ) → BodySays order type s (whole (SectionBody x) rest)
-    → is_packet type ≡ false
-section_type order types.SectionHeader s x rest says = refl
-section_type order types.InterfaceDescription s x rest says = refl
-section_type order types.Packet s x rest says = let e = says.1 in absurd cc
-section_type order types.SimplePacket s x rest says = let e = says.1 in absurd cc
-section_type order types.NameResolution s x rest says = refl
-section_type order types.InterfaceStatistics s x rest says = refl
-section_type order types.EnhancedPacket s x rest says = let e = says.1 in absurd cc
-section_type order types.SystemdJournalExport s x rest says = refl
-section_type order (types.Unknown n) s x rest says = refl
-
-interface_type : (order : Order) (type : BlockType) (s : List ℕ) (x : Interface) (rest : List ℕ) → BodySays order type s (whole (InterfaceBody x) rest)
-    → is_packet type ≡ false
-interface_type order types.SectionHeader s x rest says = refl
-interface_type order types.InterfaceDescription s x rest says = refl
-interface_type order types.Packet s x rest says = let e = says.1 in absurd cc
-interface_type order types.SimplePacket s x rest says = let e = says.1 in absurd cc
-interface_type order types.NameResolution s x rest says = refl
-interface_type order types.InterfaceStatistics s x rest says = refl
-interface_type order types.EnhancedPacket s x rest says = let e = says.1 in absurd cc
-interface_type order types.SystemdJournalExport s x rest says = refl
-interface_type order (types.Unknown n) s x rest says = refl
 
 good_in : (a c : State) → good a ≡ good c → a ≡ c
 good_in a c e = cc
@@ -138,7 +99,7 @@ module _ (header : PcapHeader) (section : Section) where
       let back = packet_back header packet (All-head IsWhole packet packets wholes) (All-head HasSecondsInside packet packets inside) in
       let places : PlacesBody (interfaces_at item.after) link body (carried packet) = subst (λ (q : State). PlacesBody (interfaces_at q) link body (carried packet)) there back in
       let behind : Texts block_format described items texts.0 rest = subst (λ (q : State). Texts block_format q items texts.0 rest) (sym there) texts.2 in (
-        (packet_type (number_in item.block.endianness) item.block.type_ item.block.body _ is.0 is.1, body, is.0, is.1, places),
+        (packet_as_body item.block body is.0 is.1, body, is.0, is.1, places),
         packets_become packets items texts.0 rest (All-tail IsWhole packet packets wholes) (All-tail HasSecondsInside packet packets inside) behind bodies.1,
       )
 
@@ -160,8 +121,8 @@ become header packets bytes (first ∷ second ∷ items) wholes inside front bod
     let there : described header section ≡ second.after =
     good_in (described header section) second.after (leads_by_body (within section []) second (InterfaceBody interface) texts.0 more.0 more.1 is_second) in
     let behind : Texts block_format (described header section) items more.0 [] = subst (λ (q : State). Texts block_format q items more.0 []) (sym there) more.2 in
-    let opens = section_type (number_in first.block.endianness) first.block.type_ first.block.body section is_first.0 is_first.1 in
-    let describes = interface_type (number_in second.block.endianness) second.block.type_ second.block.body interface is_second.0 is_second.1 in
+    let opens = packet_as_body first.block (SectionBody section) is_first.0 is_first.1 in
+    let describes = packet_as_body second.block (InterfaceBody interface) is_second.0 is_second.1 in
     record {
       items = first ∷ second ∷ items;
       turns = no_packet ∷ no_packet ∷ turns_of packets;
@@ -203,22 +164,6 @@ opening_fit header plain link snaplen =
       short = omega (arith, interface_long);
     } in
     All-cons (IsFitIn Little) section (interface ∷ []) section_fit (All-cons (IsFitIn Little) interface [] interface_fit (All-nil (IsFitIn Little)))
-
--- a packet of a block: it is whole, and no whole second is among its nanoseconds
-record IsPlaced (packet : Captured) : Type 0 where
-  whole : IsWhole packet
-  no_second_more : packet.header.ts_nsec < 10 ^ 9
-
-body_placed : (interfaces : List Interface) (link : DataLink) (body : Body) (packet : Captured) → PlacesBody interfaces link body packet → IsPlaced packet
-body_placed interfaces link (EnhancedBody b) packet x = record { whole = x.whole; no_second_more = x.time.time_is.split.no_second_more }
-body_placed interfaces link (OldPacketBody b) packet x = record { whole = x.whole; no_second_more = x.time.time_is.split.no_second_more }
-body_placed interfaces link (SectionBody b) packet x = absurd x
-body_placed interfaces link (InterfaceBody b) packet x = absurd x
-body_placed interfaces link (SimpleBody b) packet x = absurd x
-body_placed interfaces link (NamesBody b) packet x = absurd x
-body_placed interfaces link (StatisticsBody b) packet x = absurd x
-body_placed interfaces link (JournalBody b) packet x = absurd x
-body_placed interfaces link (OtherBody b) packet x = absurd x
 
 -- the packet's nanoseconds, cut, are no more
 cut_less : (r : TsResolution) (packet : Captured) → (cut r packet).header.ts_nsec ≤ packet.header.ts_nsec

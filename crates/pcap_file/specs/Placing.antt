@@ -187,6 +187,7 @@ pub record PlacesAll (header : PcapHeader) (choice : IfUnplaced) (a b : Source) 
   pub took : TakesTexts block_format a.state items a.left b.left
   pub in_force : state_after block_format a.state items ≡ b.state
   pub goes_on : b.done ≡ a.done
+  pub none_behind_a_refusal : a.done ≡ true → items ≡ []
   pub become : AllZip (Becomes header.datalink) items turns
   pub allowed : choice ≡ Refuse → reasons_of turns ≡ []
   pub out : Appends c.out d.out (flat_map (written_under header) (packets_of turns))

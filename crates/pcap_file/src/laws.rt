@@ -31,7 +31,9 @@ ghost use Rattle.pcap_file.specs.MarkedLists.{marked_format};
 ghost use Rattle.pcap_file.specs.Opening.{OpeningSays};
 ghost use Rattle.pcap_file.specs.Pieces.{HoldsBlocks};
 ghost use Rattle.pcap_file.specs.Placed.{Becomes, PlacesBody, Turn, carried, packets_of};
-ghost use Rattle.pcap_file.specs.Placing.{PlacesRun, Sink, Source};
+ghost use Rattle.pcap_file.specs.Placing.{PlacesRun, Sink, Source, source_of};
+ghost use Rattle.pcap_file.specs.Reader.{OpensReader};
+ghost use Rattle.pcap_file.specs.declared.pcapng.reader.PcapNgReader.{PcapNgReader};
 ghost use Rattle.pcap_file.specs.RoundTrip.{AreReady, BlocksBecome, CanPlace, ComeBack, HasSecondsInside, IsOpened, PlacesEach, packets_read};
 ghost use Rattle.pcap_file.specs.RoundTrip as whole_runs;
 ghost use Rattle.pcap_file.specs.Sections.{Leaves};
@@ -247,6 +249,12 @@ pub fn accepted_capture_is_placed()
     ensures { (header : PcapHeader) (choice : IfUnplaced) (turns : List Turn) (a b : Source) (c d : Sink) (most : ℕ) (converted : NgConverted) →
         CanPlace header choice a turns → AreReady header a c → length turns ≤ most → whole_runs.NothingFailed b d converted →
         PlacesRun header choice a b c d most converted → PlacesEach header turns c d converted }
+{}
+
+/// A reader that was made of a stream whose bytes are known stands behind their first block, and goes on.
+pub fn opened_reader_is_ready<T>()
+    ensures { (remaining : T → Option (List ℕ)) (stream : T) (reader : PcapNgReader T) (bytes : List ℕ) → remaining stream ≡ Some bytes →
+        OpensReader remaining stream (Ok reader) → IsOpened bytes (source_of remaining reader) × ((source_of remaining reader).done ≡ false) }
 {}
 
 /// A capture whose blocks become these packets is converted to them where nothing fails: exactly these packets go out, so that a

@@ -69,7 +69,8 @@ enum Became {
 /// what its writer has written: each enhanced packet and each obsolete packet block becomes one packet, with the time that its
 /// interface's clock shows, its length on the wire and its bytes; all other blocks become none. The writer's header says in
 /// which order and resolution packets are written, and which link type they all have. Each packet goes out before the next
-/// block is read. Where there is no fault exactly these blocks were taken from the reader.
+/// block is read. Where there is no fault exactly these blocks were taken from the reader; from one that has refused something
+/// before there are none.
 ///
 /// A packet that has no place in a classic capture is refused before a byte of it goes out, by `InvalidField` with the message
 /// of an `Unplaced`, or is left out and counted, as `unplaced` says.
