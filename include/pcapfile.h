@@ -134,8 +134,8 @@ typedef struct pcapfile_packet {
 
 #define PCAPFILE_PACKET_INIT { 0, 0, 0, PCAPFILE_NO_BYTES }
 
-/* Why a call was refused. Left as it is where the status is PCAPFILE_OK, PCAPFILE_NOTHING or PCAPFILE_BAD_CALL, and else
- * written. */
+/* Why a call was refused. Left as it is where the status is PCAPFILE_OK, PCAPFILE_NOTHING, PCAPFILE_BAD_CALL or
+ * PCAPFILE_NO_PLACE, and else written. */
 typedef struct pcapfile_error {
     uint32_t rule;  /* of PCAPFILE_INVALID; else 0 */
     size_t missing; /* of PCAPFILE_INCOMPLETE and PCAPFILE_NO_ROOM: above 0; else 0 */
