@@ -1,12 +1,12 @@
 mod BlockLists
 mod Lines
-mod Listing
+pub mod Listing
 mod PacketLists
 mod PacketLines
 mod Skipping
 mod Exits
 mod Kept
-mod Turns
+pub mod Turns
 mod Digits
 mod FixedPoint
 mod AskedWords

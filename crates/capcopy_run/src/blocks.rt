@@ -25,7 +25,7 @@ use std::io::{BufRead, Write};
 
 // Puts the name of a block's kind before the text that begins at `end`, and returns where it begins then.
 fn put_kind(room: &mut [u8; ROOM], end: usize, type_: BlockType) -> usize
-    requires { (28 ≤ end) × (end ≤ 105) }
+    requires { (28 ≤ end) × (end ≤ 126) }
     ensures start { (result ≤ end) × (end ≤ result + 28) }
     ensures text { drop result room.new ≡ kind_name type_ ++ drop end room.old }
 {
@@ -93,7 +93,7 @@ fn body_word(alloc: Global, block: &Block) -> Result<&'static str, Exit>
 // Makes the line of the block at this index at the end of the room, and returns where it begins.
 fn make_block_line(room: &mut [u8; ROOM], index: u64, block: &Block, word: &str) -> usize
     requires { IsBodyWord (framed_of block.now) word.now }
-    ensures within { result ≤ 105 }
+    ensures within { result ≤ 126 }
     ensures line { IsBlockLine index (framed_of block.now) (drop result room.new) }
 {
     let start = put_byte(room, ROOM, b'\n');

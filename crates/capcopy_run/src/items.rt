@@ -11,7 +11,7 @@ use std::alloc::Global;
 use std::io::{BufRead, Write};
 
 /// What writes a line for each item of one kind.
-pub(crate) trait Lister {
+pub trait Lister {
     ghost Setting: { Type 0 };
 
     ghost State: { Type 0 };
@@ -28,7 +28,8 @@ pub(crate) trait Lister {
 
     ghost state: { Self → State };
 
-    /// Writes a line for each item that lies whole at the front of these bytes, and returns how many bytes these are.
+    /// Writes a line for each item that lies whole at the front of these bytes, and returns how many bytes these are. Each that is
+    /// listed is counted, up to `most` of them. An error of the output is `Io`; `Memory` where a line can't be made.
     fn list_shown<W: Write>(
         &mut self,
         alloc: Global,
@@ -44,7 +45,8 @@ pub(crate) trait Lister {
         ensures memory { IfErr result (λ exit. IsMemoryExit exit → grows) }
         ensures walks { WalkGives is_line (format (setting self.old)) (state self.old) (state self.new) shown.now (W.contents output.old) (W.contents output.new) listed.old listed.new most result };
 
-    /// Writes the line of the item at the front of the input, and says whether there was one.
+    /// Writes the line of the item at the front of the input, and says whether there was one. The errors are those of
+    /// `list_shown`, `Io` where the input fails or ends early, and `Refused` where the item is.
     fn list_torn<R: BufRead, W: Write>(
         &mut self,
         alloc: Global,
@@ -90,8 +92,9 @@ fn list_some<L: Lister, R: BufRead, W: Write>(
     lister.list_torn(alloc, input, output, listed, most)
 }
 
-/// Writes a line for each item of the input, `most` of them at most.
-pub(crate) fn list_items<L: Lister, R: BufRead, W: Write>(
+/// Writes a line for each item of the input, `most` of them at most, which ends with `Most`. The other errors are those of the
+/// lister, and `Io` where the output can't be flushed.
+pub fn list_items<L: Lister, R: BufRead, W: Write>(
     alloc: Global,
     lister: &mut L,
     input: &mut R,

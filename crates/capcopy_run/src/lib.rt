@@ -15,5 +15,8 @@ mod words;
 
 pub use commands::run;
 pub use exit::Exit;
+pub use items::{Lister, list_items};
+pub use line::{ROOM, put_byte, put_nine_digits, put_number, put_word};
+pub use output::put_line;
 pub use uninterrupted::Uninterrupted;
 pub use words::{Arguments, MOST, WordList, Words, run_words};

@@ -8,8 +8,8 @@ ghost use Rattle.capcopy_run.specs.PacketLines.{nine_digits, packet_line};
 use itoa::write_digits;
 use pcap_file::pcap::PacketHeader;
 
-/// Room for the longest line: five numbers of at most twenty digits, and a byte after each.
-pub(crate) const ROOM: usize = 105;
+/// Room for the longest line, in bytes: six numbers of at most twenty digits, and a byte after each.
+pub const ROOM: usize = 126;
 
 // The two digits of each number below a hundred.
 static TWO_DIGITS: [u8; 200] =
@@ -21,9 +21,9 @@ const ONE: u64 = 144_115_188_075_855_872;
 // The fraction above one hundred-millionth that is next to it.
 const HUNDRED_MILLIONTH: u64 = 1_441_151_881;
 
-// Puts a word before the text that begins at `end`, and returns where it begins then.
-pub(crate) fn put_word(room: &mut [u8; ROOM], end: usize, word: &str) -> usize
-    requires { (length word.now ≤ end) × (end ≤ 105) }
+/// Puts a word before the text that begins at `end`, and returns where it begins then.
+pub fn put_word(room: &mut [u8; ROOM], end: usize, word: &str) -> usize
+    requires { (length word.now ≤ end) × (end ≤ 126) }
     ensures start { result + length word.now ≡ end }
     ensures text { drop result room.new ≡ word.now ++ drop end room.old }
 {
@@ -32,9 +32,9 @@ pub(crate) fn put_word(room: &mut [u8; ROOM], end: usize, word: &str) -> usize
     start
 }
 
-// Puts a byte before the text that begins at `end`, and returns where it begins then.
-pub(crate) fn put_byte(room: &mut [u8; ROOM], end: usize, byte: u8) -> usize
-    requires { (0 < end) × (end ≤ 105) }
+/// Puts a byte before the text that begins at `end`, and returns where it begins then.
+pub fn put_byte(room: &mut [u8; ROOM], end: usize, byte: u8) -> usize
+    requires { (0 < end) × (end ≤ 126) }
     ensures start { result + 1 ≡ end }
     ensures text { drop result room.new ≡ byte ∷ drop end room.old }
 {
@@ -43,9 +43,9 @@ pub(crate) fn put_byte(room: &mut [u8; ROOM], end: usize, byte: u8) -> usize
     start
 }
 
-// Puts a number before the text that begins at `end`, and returns where it begins then.
-pub(crate) fn put_number(room: &mut [u8; ROOM], end: usize, number: u64) -> usize
-    requires { (20 ≤ end) × (end ≤ 105) }
+/// Puts the digits of a number before the text that begins at `end`, and returns where it begins then.
+pub fn put_number(room: &mut [u8; ROOM], end: usize, number: u64) -> usize
+    requires { (20 ≤ end) × (end ≤ 126) }
     ensures start { (result ≤ end) × (end ≤ result + 20) }
     ensures text { drop result room.new ≡ decimal number ++ drop end room.old }
 {
@@ -54,7 +54,7 @@ pub(crate) fn put_number(room: &mut [u8; ROOM], end: usize, number: u64) -> usiz
 
 // Puts the two digits of a number before the text that begins at `end`, and returns where it begins then.
 fn put_two_digits(room: &mut [u8; ROOM], end: usize, number: u64) -> usize
-    requires { (2 ≤ end) × (end ≤ 105) × (number < 100) }
+    requires { (2 ≤ end) × (end ≤ 126) × (number < 100) }
     ensures start { result + 2 ≡ end }
     ensures text { drop result room.new ≡ last_digits 2 number ++ drop end room.old }
 {
@@ -65,9 +65,10 @@ fn put_two_digits(room: &mut [u8; ROOM], end: usize, number: u64) -> usize
     start
 }
 
-// Puts a number before the text that begins at `end`, with zeros before it to nine digits.
-fn put_nine_digits(room: &mut [u8; ROOM], end: usize, number: u32) -> usize
-    requires { (20 ≤ end) × (end ≤ 105) }
+/// Puts the digits of a number, with zeros before them to nine, before the text that begins at `end`, and returns where it
+/// begins then.
+pub fn put_nine_digits(room: &mut [u8; ROOM], end: usize, number: u32) -> usize
+    requires { (20 ≤ end) × (end ≤ 126) }
     ensures start { (result ≤ end) × (end ≤ result + 20) }
     ensures text { drop result room.new ≡ nine_digits number ++ drop end room.old }
 {
@@ -87,7 +88,7 @@ fn put_nine_digits(room: &mut [u8; ROOM], end: usize, number: u32) -> usize
 // Puts seconds before the text that begins at `end`. Since March 1973 they have nine digits or more.
 #[inline(always)]
 fn put_seconds(room: &mut [u8; ROOM], end: usize, seconds: u32) -> usize
-    requires { (20 ≤ end) × (end ≤ 105) }
+    requires { (20 ≤ end) × (end ≤ 126) }
     ensures start { (result ≤ end) × (end ≤ result + 20) }
     ensures text { drop result room.new ≡ decimal seconds ++ drop end room.old }
 {
@@ -100,7 +101,7 @@ fn put_seconds(room: &mut [u8; ROOM], end: usize, seconds: u32) -> usize
 /// Makes the line of the packet at this index at the end of the room, and returns where it begins.
 #[inline(always)]
 pub(crate) fn make_line(room: &mut [u8; ROOM], index: u64, header: PacketHeader) -> usize
-    ensures within { result ≤ 105 }
+    ensures within { result ≤ 126 }
     ensures line { drop result room.new ≡ packet_line index header }
 {
     let start = put_byte(room, ROOM, b'\n');

@@ -8,8 +8,8 @@ use crate::Exit;
 use std::io;
 use std::io::{ErrorKind, Write};
 
-// Writes all of a line, or up to a call that fails or takes nothing of it.
-pub(crate) fn put_line<W: Write>(output: &mut W, line: &[u8]) -> Result<(), Exit>
+/// Writes all of a line, or up to a call that fails or takes nothing of it, which is `Io`.
+pub fn put_line<W: Write>(output: &mut W, line: &[u8]) -> Result<(), Exit>
     ensures writes { WritesLine (λ bytes. bytes ≡ line.now) (W.contents output.old) (W.contents output.new) result }
     ensures no_memory { IfErr result (λ exit. IsMemoryExit exit → ⊥) }
 {

@@ -1,13 +1,10 @@
 //! The word `check`.
 
 use crate::input::{STANDARD, buffered};
-use pcapfile_run::{Checked, End, check_blocks, check_packets};
+use pcapfile_run::{Checked, End, Format, check_blocks, check_packets, format_of};
 use std::fs::File;
 use std::io;
-use std::io::{BufRead, Read};
-
-/// The first byte of a capture of blocks, in either order. No classic capture begins with it.
-const FIRST_OF_BLOCKS: u8 = 10;
+use std::io::Read;
 
 /// Writes a line for each capture, and gives the status: that of the worst of them.
 pub(crate) fn check_files(rt: &HostRuntime, names: &[&str]) -> anyhow::Result<u8> {
@@ -43,8 +40,8 @@ fn read_and_check(rt: &HostRuntime, name: &str) -> io::Result<Checked> {
 
 fn check_stream<R: Read + Drop>(rt: &HostRuntime, stream: R) -> io::Result<Checked> {
     let mut input = buffered(rt.alloc(), stream)?;
-    if input.fill_buf()?.first() == Some(&FIRST_OF_BLOCKS) {
-        return Ok(check_blocks(rt.alloc(), input));
+    match format_of(&mut input)? {
+        Format::Pcap => Ok(check_packets(rt.alloc(), input)),
+        Format::PcapNg => Ok(check_blocks(rt.alloc(), input)),
     }
-    Ok(check_packets(rt.alloc(), input))
 }

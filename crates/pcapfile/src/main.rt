@@ -3,6 +3,8 @@
 
 mod check;
 mod input;
+mod list;
+mod tell;
 mod words;
 
 use std::env;
@@ -37,6 +39,10 @@ fn run(rt: &HostRuntime) -> anyhow::Result<u8> {
         Some(("check", check)) => {
             check::check_files(rt, check.get_strs(words::FILES).unwrap_or_default())
         }
+        Some(("list", list)) => list::list_files(
+            rt,
+            list.get_strs(words::FILES).unwrap_or_default(),
+        ),
         _ => Ok(0),
     }
 }

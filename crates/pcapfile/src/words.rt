@@ -15,6 +15,13 @@ const STATUSES: &str = "Exit status:
   3  a file can't be opened or read, or the output can't be written
   4  memory ran out";
 
+const LIST: &str =
+    "Writes a line for each packet: index, time, stored/original length, and of PcapNg the interface.
+
+The time is that of the packet in seconds since 1970 and nanoseconds, and - where it has none. A
+packet of PcapNg whose body is refused has the line 'index refused'. The names of several captures
+stand before their lines.";
+
 /// The program's command line.
 pub(crate) fn command<'a>(alloc: Global) -> Result<Command<'a>, AllocError> {
     Command::new(alloc, "pcapfile")
@@ -23,7 +30,8 @@ pub(crate) fn command<'a>(alloc: Global) -> Result<Command<'a>, AllocError> {
         .after_help(STATUSES)
         .subcommand_required(true)
         .arg_required_else_help(true)
-        .subcommand(check(alloc)?)
+        .subcommand(check(alloc)?)?
+        .subcommand(list(alloc)?)
 }
 
 fn check<'a>(alloc: Global) -> Result<Command<'a>, AllocError> {
@@ -31,6 +39,13 @@ fn check<'a>(alloc: Global) -> Result<Command<'a>, AllocError> {
         .about(
             "Tells of each capture how many packets or blocks it has, or which rule is broken at which byte.",
         )
+        .after_help(STATUSES)
+        .arg(files(alloc))
+}
+
+fn list<'a>(alloc: Global) -> Result<Command<'a>, AllocError> {
+    Command::new(alloc, "list")
+        .about(LIST)
         .after_help(STATUSES)
         .arg(files(alloc))
 }

@@ -1,12 +1,12 @@
 -- Why no item follows, by what stopped a run.
-use Rattle.std.proofs.Common.{◌≡◌, ◌<◌, ◌≤◌, ◌+◌, ◌⊎◌, ℕ, List, [], ◌++◌, length, Bool, true, false, Option, Some, None, inl, inr, refl, sym, ap, ◌∙◌, subst, arith, length-append, append_assoc}
+use Rattle.std.proofs.Common.{◌≡◌, ◌≤◌, ◌+◌, ◌⊎◌, ℕ, List, [], ◌++◌, length, Bool, true, false, Option, Some, None, inl, inr, sym, ap, ◌∙◌, subst, arith, length-append, append_assoc}
 use Rattle.std.specs.Prelude.{⊤, IfNone}
 use Rattle.pcap_core.specs.declared.errors.PcapError.{PcapError}
 use Rattle.pcap_core.specs.declared.errors.PcapError.TheVariants as errors
 use Rattle.pcap_core.specs.declared.rules.Rule.{Rule}
 use Rattle.pcap_core.specs.Answer.{Verdict}
 use Rattle.pcap_core.specs.Errors.{IsIo, IsMemory}
-use Rattle.pcap_core.specs.Faults.{Fault, Invalid, Io, Utf8, Names, Shows, rule_message}
+use Rattle.pcap_core.specs.Faults.{Fault, Invalid, Io, Utf8, Names, Shows}
 use Rattle.pcap_core.specs.Format.{Format, Texts, IsLawful, state_after}
 use Rattle.pcap_core.specs.Reading.{IsFaultOf, IsShort, IsTorn, HasCause, read_failed, no_memory, torn, refused}
 use Rattle.pcap_core.specs.Takes.{EndsFront, TakesTexts, TakesItems, Stops}

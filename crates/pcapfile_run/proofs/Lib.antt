@@ -1,3 +1,6 @@
+mod BodyLines
 mod Ends
+mod Numbered
 mod Passing
+mod StoredLists
 mod Told

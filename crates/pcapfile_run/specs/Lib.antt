@@ -1,3 +1,5 @@
 pub mod Checks
+pub mod FileLines
 pub mod Lines
+pub mod Numbered
 pub mod Passing

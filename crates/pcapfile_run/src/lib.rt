@@ -3,7 +3,11 @@
 
 mod captures;
 mod checked;
+mod lines;
+mod listing;
+mod packets;
 mod pass;
 
 pub use captures::{check_blocks, check_packets};
 pub use checked::{Checked, End, Format};
+pub use listing::{format_of, list};

@@ -1,4 +1,4 @@
-use Rattle.std.proofs.Common.{◌≡◌, ◌∙◌, length, refl, sym, ap, subst, arith, None, Some, inl, inr}
+use Rattle.std.proofs.Common.{length, sym, ap, arith, None, Some, inl, inr}
 use Rattle.std.proofs.KnownBytes.{Keeps-refl}
 use Rattle.pcap_file.specs.Blocks.{block_format}
 use Rattle.pcap_file.specs.Reader.{state_of, stream_of, has_failed, text_of, lent_item}

@@ -1,4 +1,4 @@
-use Rattle.std.proofs.Common.{◌≡◌, ◌+◌, ◌∙◌, refl, sym, ap, subst, arith, None, Some, inl, inr}
+use Rattle.std.proofs.Common.{◌+◌, ◌∙◌, refl, subst, arith, None, Some, inl, inr}
 use Rattle.std.proofs.KnownBytes.{Keeps-refl}
 use Rattle.pcap_core.specs.Reading.{HasCause, Takes, TakesAsked}
 use Rattle.pcap_classic.specs.declared.pcap.header.PcapHeader.{PcapHeader}

@@ -1,0 +1,56 @@
+//! The word `list`.
+
+use crate::input::{STANDARD, buffered};
+use crate::tell::{tell_exit, tell_io};
+use capcopy_run::{Exit, Uninterrupted};
+use pcapfile_run::list;
+use std::fs::File;
+use std::io;
+use std::io::{BufWriter, Read, Write};
+
+/// The size of the buffer before standard output, in bytes.
+const OUTPUT: usize = 65_536;
+
+/// Writes the packets of each capture, behind its name where there are several, and gives the status: that of the worst of them.
+pub(crate) fn list_files(rt: &HostRuntime, names: &[&str]) -> anyhow::Result<u8> {
+    let stdout = Uninterrupted::new(rt.stdout());
+    let mut output = BufWriter::with_capacity(rt.alloc(), OUTPUT, stdout)?;
+    let mut status = 0;
+    for name in names {
+        let listed = open_and_list(rt, name, names.len() > 1, &mut output);
+        // What was listed goes out before what is said of it.
+        output.flush()?;
+        status = match listed {
+            Ok(exit) => tell_exit(rt, name, &exit)?,
+            Err(error) => tell_io(rt, name, &error)?,
+        }
+        .max(status);
+    }
+    Ok(status)
+}
+
+fn open_and_list<W: Write>(
+    rt: &HostRuntime,
+    name: &str,
+    is_headed: bool,
+    output: &mut W,
+) -> io::Result<Exit> {
+    let heading = if is_headed { Some(name) } else { None };
+    if name == STANDARD {
+        return list_stream(rt, rt.stdin(), heading, output);
+    }
+    list_stream(rt, File::open(rt, name)?, heading, output)
+}
+
+fn list_stream<R: Read + Drop, W: Write>(
+    rt: &HostRuntime,
+    stream: R,
+    heading: Option<&str>,
+    output: &mut W,
+) -> io::Result<Exit> {
+    if let Some(name) = heading {
+        writeln!(output, "{name}:")?;
+    }
+    let mut input = buffered(rt.alloc(), stream)?;
+    Ok(list(rt.alloc(), &mut input, output, u64::MAX))
+}

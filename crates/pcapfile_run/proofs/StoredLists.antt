@@ -1,0 +1,75 @@
+-- Packets of blocks that are listed.
+use Rattle.std.proofs.Common.{◌≡◌, ℕ, List, Bool, Option, None, Some, Result, IfSome, refl, subst}
+use Rattle.std.specs.Io.KnownBytes.{Keeps}
+use Rattle.std.proofs.KnownBytes.{Appends-nil}
+use Rattle.pcap_core.specs.declared.errors.PcapError.{PcapError}
+use Rattle.pcap_core.specs.Answer.{whole}
+use Rattle.pcap_core.specs.Format.{IsLawful}
+use Rattle.pcap_core.specs.Reading.{HasCause, Takes, TakesAsked}
+use Rattle.pcap_blocks.specs.InterfaceDescription.{Interface}
+use Rattle.pcap_file.specs.Blocks.{Item, BlockSays, block_format}
+use Rattle.pcap_file.specs.Opening.{OpeningSays}
+use Rattle.pcap_file.specs.Placed.{interfaces_at}
+use Rattle.pcap_file.specs.State.{State}
+use Rattle.pcap_file.proofs.BlockFormat.{blocks_lawful, block_said}
+use Rattle.pcap_file.proofs.FirstBlock.{opening_stable}
+use Rattle.capcopy_run.specs.declared.exit.Exit.{Exit}
+use Rattle.capcopy_run.specs.Exits.{exit_of}
+use Rattle.capcopy_run.specs.Lines.{WritesLine}
+use Rattle.capcopy_run.specs.Listing.{ListsItems, ListsUntil}
+use Rattle.capcopy_run.proofs.Listing.{lists_known}
+use Rattle.pcapfile_run.specs.declared.checked.Format.{Format}
+use Rattle.pcapfile_run.specs.FileLines.{ListsAs, format_at, IsLineIf, IsNumberedLine, is_packet_item, numbered_blocks, stored_lines}
+use Rattle.pcapfile_run.specs.Numbered.{number_behind, numbered_behind}
+use Rattle.pcapfile_run.proofs.Numbered.{numbered_lawful, numbered_there, numbered_taken, cause_numbered, asked_numbered}
+
+pub stored_lawful : IsLawful numbered_blocks
+unfolding numbered_blocks
+stored_lawful = numbered_lawful block_format is_packet_item blocks_lawful
+
+module _ (q : State) (n : ℕ) where
+  -- a block at the front of bytes
+  pub stored_said : (item : Item) (s rest : List ℕ) → BlockSays q s (whole item rest) → numbered_blocks.says (q, n) s (whole (numbered_behind is_packet_item n item) rest)
+  unfolding numbered_blocks
+  stored_said item s rest text = numbered_there block_format is_packet_item q n s rest item (block_said q item s rest text)
+
+  -- where it leads
+  pub stored_goes : (m : ℕ) (item : Item) → m ≡ number_behind (is_packet_item item) n → numbered_blocks.goes (q, n) (numbered_behind is_packet_item n item) ≡ (item.after, m)
+  unfolding numbered_blocks block_format
+  stored_goes m item counts = rw counts refl
+
+  -- one that was taken off a stream, or that was refused there
+  pub stored_taken : (before after : Option (List ℕ)) (item : Item) → Takes (block_format.says q) before after item → Takes (numbered_blocks.says (q, n)) before after (numbered_behind is_packet_item n item)
+  unfolding numbered_blocks
+  stored_taken before after item took = numbered_taken block_format is_packet_item q n before after item took
+
+  pub stored_cause : (known : Option (List ℕ)) (failed : Bool) (e : PcapError) → HasCause (block_format.says q) known failed e → HasCause (numbered_blocks.says (q, n)) known failed e
+  unfolding numbered_blocks
+  stored_cause known failed e cause = cause_numbered block_format is_packet_item q n known failed e cause
+
+  pub stored_asked : (before after : Option (List ℕ)) → TakesAsked (block_format.says q) before after → TakesAsked (numbered_blocks.says (q, n)) before after
+  unfolding numbered_blocks
+  stored_asked before after asked = asked_numbered block_format is_packet_item q n before after asked
+
+-- the line of a block behind n packets is that of its number
+pub stored_written : (index n m : ℕ) (item : Item) (interfaces : List Interface) (before now : Option (List ℕ)) (result : Result (Unit {0}) Exit) → m ≡ number_behind (is_packet_item item) n
+    → interfaces ≡ interfaces_at item.after → WritesLine (IsLineIf (is_packet_item item) interfaces m item.block) before now result
+    → WritesLine (IsNumberedLine index (numbered_behind is_packet_item n item)) before now result
+stored_written index n m item interfaces before now result counts described writes =
+    let numbered = subst (λ (k : ℕ). WritesLine (IsLineIf (is_packet_item item) interfaces k item.block) before now result) counts writes in
+    subst (λ (l : List Interface). WritesLine (IsLineIf (is_packet_item item) l (number_behind (is_packet_item item) n) item.block) before now result) described numbered
+
+-- a capture whose first block was taken, and whose packets were listed
+pub stored_known : (q : State) (bytes known before : Option (List ℕ)) → Takes OpeningSays bytes known q → (most : ℕ) (now after : Option (List ℕ)) (result : Result (Unit {0}) Exit)
+    → ListsItems IsNumberedLine numbered_blocks (q, 0) known now before after most result → IfSome bytes (λ s. ListsUntil stored_lines most s now before after (exit_of result))
+stored_known q bytes known before took most now after result run =
+    lists_known stored_lines opening_stable q stored_lawful bytes known before before took (Appends-nil before) most now after result run
+
+-- a capture of this format that was listed behind its first byte, which was only looked at
+pub lists_told : (format : Format) (most : ℕ) (before mid now out_before out_now : Option (List ℕ)) (exit : Exit) → Keeps before mid → IfSome before (λ s. format ≡ format_at s)
+    → IfSome mid (λ s. ListsAs format most s now out_before out_now exit) → IfSome before (λ s. ListsAs (format_at s) most s now out_before out_now exit)
+lists_told format most None mid now out_before out_now exit kept told lists = tt
+lists_told format most (Some s) None now out_before out_now exit kept told lists = absurd kept
+lists_told format most (Some s) (Some t) now out_before out_now exit kept told lists =
+    let same = subst (λ (l : List ℕ). ListsAs format most l now out_before out_now exit) kept lists in
+    subst (λ (f : Format). ListsAs f most s now out_before out_now exit) told same

@@ -1,0 +1,106 @@
+-- What the word list writes of captures in files.
+use Rattle.std.specs.Prelude.{◌≡◌, ◌≢◌, ◌<◌, ◌^◌, ◌⊎◌, ◌==◌, if◌then◌else◌, ⊤, ℕ, pos, List, [], ◌∷◌, ◌++◌, length, take, Bool, true, false, Option, None, Some, codes}
+use Rattle.std.specs.List.{slice_get}
+use Rattle.std.specs.Fmt.{decimal}
+use Rattle.pcap_core.specs.Answer.{whole, faulty}
+use Rattle.pcap_core.specs.Faults.{Fault}
+use Rattle.pcap_core.specs.Format.{Format}
+use Rattle.pcap_times.specs.declared.clock.Timestamp.{Timestamp}
+use Rattle.pcap_blocks.specs.InterfaceDescription.{Interface}
+use Rattle.pcap_blocks.specs.InterfaceTimes.{IsTimeAt}
+use Rattle.pcap_blocks.specs.StoredBytes.{stored_len}
+use Rattle.pcap_blocks.specs.ParsedBlock.{Body, EnhancedBody, OldPacketBody, SimpleBody}
+use Rattle.pcap_file.specs.Blocks.{Item, block_format}
+use Rattle.pcap_file.specs.Bodies.{SaysOfBody}
+use Rattle.pcap_file.specs.Frames.{Framed}
+use Rattle.pcap_file.specs.Opening.{OpeningSays}
+use Rattle.pcap_file.specs.Placed.{interfaces_at, is_packet}
+use Rattle.pcap_file.specs.State.{State}
+use Rattle.capcopy_run.specs.declared.exit.Exit.{Exit}
+use Rattle.capcopy_run.specs.Listing.{Kind, ListsUntil}
+use Rattle.capcopy_run.specs.PacketLines.{nine_digits, packet_lines}
+use Rattle.pcapfile_run.specs.declared.checked.Format.{Format as CaptureFormat}
+use Rattle.pcapfile_run.specs.declared.checked.Format.TheVariants.{Pcap, PcapNg}
+use Rattle.pcapfile_run.specs.Numbered.{Numbered, numbered}
+
+-- the block holds a packet
+abbrev pub is_packet_item : Item → Bool
+is_packet_item item = is_packet item.block.type_
+
+-- blocks, of which those that hold packets are numbered
+unfoldable pub numbered_blocks : Format (State × ℕ) (Numbered Item)
+numbered_blocks = numbered block_format is_packet_item
+
+-- a time in seconds and nanoseconds, where its seconds are a number of 64 bits, and else a hyphen
+abbrev pub ShowsTime : Timestamp → List ℕ → Type 0
+ShowsTime time text =
+    ((s : ℕ) × (s < 2 ^ 64) × (time.seconds ≡ pos s) × (text ≡ decimal s ++ (codes "." ++ nine_digits time.nanoseconds)))
+    ⊎ (((s : ℕ) → s < 2 ^ 64 → time.seconds ≢ pos s) × (text ≡ codes "-"))
+
+-- the time at which this interface's clock has counted so many units; a hyphen where there is no interface
+abbrev pub IsTimeText : Option Interface → ℕ → List ℕ → Type 0
+IsTimeText (Some interface) units text = (time : Timestamp) × IsTimeAt interface units time × ShowsTime time text
+IsTimeText None units text = text ≡ codes "-"
+
+-- the end of a line: the stored and the original length of a packet, and its interface
+abbrev pub lengths_text : ℕ → ℕ → ℕ → List ℕ
+lengths_text stored original interface = codes " " ++ (decimal stored ++ (codes "/" ++ (decimal original ++ (codes " " ++ (decimal interface ++ codes "\n")))))
+
+-- the line of the packet of this number: its number, its time, and the end
+abbrev pub stored_line : ℕ → List ℕ → ℕ → ℕ → ℕ → List ℕ
+stored_line number time stored original interface = decimal number ++ (codes " " ++ (time ++ lengths_text stored original interface))
+
+-- the snaplen of an interface, which is no limit where there is none
+abbrev pub snaplen_of : Option Interface → ℕ
+snaplen_of (Some interface) = interface.snaplen
+snaplen_of None = 0
+
+-- the line of the packet of a body, where these interfaces are described; a simple packet has no time, and came by the first
+abbrev pub IsBodyLine : List Interface → ℕ → Body → List ℕ → Type 0
+IsBodyLine interfaces number (EnhancedBody b) line =
+    (time : List ℕ) × IsTimeText (slice_get interfaces b.interface_id) b.packet.timestamp time
+    × (line ≡ stored_line number time (length b.packet.bytes) b.packet.original_len b.interface_id)
+IsBodyLine interfaces number (OldPacketBody b) line =
+    (time : List ℕ) × IsTimeText (slice_get interfaces b.interface_id) b.packet.timestamp time
+    × (line ≡ stored_line number time (length b.packet.bytes) b.packet.original_len b.interface_id)
+IsBodyLine interfaces number (SimpleBody b) line =
+    let stored = take (stored_len b.original_len (snaplen_of (slice_get interfaces 0))) b.bytes in
+    line ≡ stored_line number (codes "-") (length stored) b.original_len 0
+IsBodyLine interfaces number _ line = line ≡ []
+
+-- the line of the packet that a block holds, or that its body is refused
+abbrev pub IsStoredLine : List Interface → ℕ → Framed → List ℕ → Type 0
+IsStoredLine interfaces number block line =
+    ((body : Body) × (rest : List ℕ) × SaysOfBody block (whole body rest) × IsBodyLine interfaces number body line)
+    ⊎ ((fault : Fault) × SaysOfBody block (faulty fault) × (line ≡ decimal number ++ codes " refused\n"))
+
+-- the line of a block, which has none where it holds no packet
+abbrev pub IsLineIf : Bool → List Interface → ℕ → Framed → List ℕ → Type 0
+IsLineIf true interfaces number block line = IsStoredLine interfaces number block line
+IsLineIf false interfaces number block line = line ≡ []
+
+-- the line of a numbered block, whatever its index among all blocks
+abbrev pub IsNumberedLine : ℕ → Numbered Item → List ℕ → Type 0
+IsNumberedLine index numbered line =
+    IsLineIf (is_packet_item numbered.item) (interfaces_at numbered.item.after) numbered.number numbered.item.block line
+
+-- captures of blocks: a line for each that holds a packet
+abbrev pub stored_lines : Kind State (State × ℕ) (Numbered Item)
+stored_lines = record {
+  opens = OpeningSays;
+  grows = ⊤;
+  heading = λ q. [];
+  format = λ q. numbered_blocks;
+  start = λ q. (q, 0);
+  IsLine = IsNumberedLine;
+}
+
+-- the format of a capture by its first byte: a section header begins with 10, in either order
+abbrev pub format_at : List ℕ → CaptureFormat
+format_at [] = Pcap
+format_at (byte ∷ bytes) = if byte == 10 then PcapNg else Pcap
+
+-- what a run that ended so has taken and written of a capture of this format
+abbrev pub ListsAs : CaptureFormat → ℕ → List ℕ → Option (List ℕ) → Option (List ℕ) → Option (List ℕ) → Exit → Type 0
+ListsAs Pcap = ListsUntil packet_lines
+ListsAs PcapNg = ListsUntil stored_lines

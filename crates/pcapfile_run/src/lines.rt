@@ -1,0 +1,137 @@
+//! Lines of packets that blocks hold, made from their end to their beginning.
+
+ghost use Rattle.std.specs.Prelude.{◌≡◌, ◌≢◌, ◌≤◌, ◌+◌, ◌<◌, ◌^◌, ◌++◌, ℕ, List, pos, length, drop, map, codes, option_map, slice_get, MatchOption};
+ghost use Rattle.std.specs.Fmt.{decimal};
+ghost use Rattle.pcap_blocks.specs.InterfaceDescription.{interface_of};
+ghost use Rattle.pcap_blocks.specs.ParsedBlock.{body_of};
+ghost use Rattle.pcapfile_run.specs.FileLines.{IsBodyLine, IsTimeText, ShowsTime, lengths_text, snaplen_of};
+
+use capcopy_run::{ROOM, put_byte, put_nine_digits, put_number, put_word};
+use pcap_file::pcapng::{InterfaceDescriptionBlock, ParsedBlock, Timestamp};
+
+// The seconds of a time, where they are a number of 64 bits.
+fn seconds_of(time: Timestamp) -> Option<u64>
+    ensures { MatchOption result ((s : ℕ) → s < 2 ^ 64 → time.seconds ≢ pos s) (λ s. (s < 2 ^ 64) × (time.seconds ≡ pos s)) }
+{
+    u64::try_from(time.seconds).ok()
+}
+
+// Puts a time before the text that begins at `end`, and returns where it begins then.
+fn put_time(room: &mut [u8; ROOM], end: usize, time: Timestamp) -> usize
+    requires { (41 ≤ end) × (end ≤ 126) }
+    ensures start { (result ≤ end) × (end ≤ result + 41) }
+    ensures text { (text : List ℕ) × ShowsTime time text × (drop result room.new ≡ text ++ drop end room.old) }
+{
+    let Some(seconds) = seconds_of(time) else {
+        return put_byte(room, end, b'-');
+    };
+    let start = put_nine_digits(room, end, time.nanoseconds);
+    let start = put_byte(room, start, b'.');
+    put_number(room, start, seconds)
+}
+
+// Puts the time before the text that begins at `end` at which an interface's clock has counted so many units.
+fn put_time_at(
+    room: &mut [u8; ROOM],
+    end: usize,
+    interface: Option<&InterfaceDescriptionBlock<'static>>,
+    units: u64,
+) -> usize
+    requires { (41 ≤ end) × (end ≤ 126) }
+    ensures start { (result ≤ end) × (end ≤ result + 41) }
+    ensures text { (text : List ℕ) × IsTimeText (option_map (λ i. interface_of i.now) interface.entry) units text × (drop result room.new ≡ text ++ drop end room.old) }
+{
+    match interface {
+        None => put_byte(room, end, b'-'),
+        Some(interface) => put_time(room, end, interface.timestamp(units)),
+    }
+}
+
+// Makes the end of a line, which tells the lengths of a packet and its interface, and returns where it begins.
+fn put_lengths(room: &mut [u8; ROOM], stored: usize, original: u32, interface: u32) -> usize
+    ensures start { (62 ≤ result) × (result ≤ 126) }
+    ensures text { drop result room.new ≡ lengths_text stored original interface }
+{
+    let start = put_byte(room, ROOM, b'\n');
+    let start = put_number(room, start, u64::from(interface));
+    let start = put_byte(room, start, b' ');
+    let start = put_number(room, start, u64::from(original));
+    let start = put_byte(room, start, b'/');
+    let start = put_number(room, start, stored as u64);
+    put_byte(room, start, b' ')
+}
+
+// Puts the number of a packet before the line that goes on at `end`, and returns where it begins then.
+fn put_packet_number(room: &mut [u8; ROOM], end: usize, number: u64) -> usize
+    requires { (21 ≤ end) × (end ≤ 126) }
+    ensures start { result ≤ end }
+    ensures text { drop result room.new ≡ decimal number ++ (codes " " ++ drop end room.old) }
+{
+    let start = put_byte(room, end, b' ');
+    put_number(room, start, number)
+}
+
+fn interface_at<'a>(
+    interfaces: &'a [InterfaceDescriptionBlock<'static>],
+    number: u32,
+) -> Option<&'a InterfaceDescriptionBlock<'static>>
+    ensures { option_map (λ interface. interface_of interface.now) result ≡ slice_get (map interface_of interfaces.now) number }
+{
+    interfaces.get(number as usize)
+}
+
+// The snaplen of an interface, in bytes, or 0 where it isn't described.
+fn snaplen_at(interfaces: &[InterfaceDescriptionBlock<'static>], number: u32) -> u32
+    ensures { result ≡ snaplen_of (slice_get (map interface_of interfaces.now) number) }
+{
+    match interface_at(interfaces, number) {
+        None => 0,
+        Some(interface) => interface.snaplen,
+    }
+}
+
+/// Makes the line of the packet of this number that a body is, at the end of the room, and returns where it begins. It is empty
+/// for any other body.
+pub(crate) fn make_body_line(
+    room: &mut [u8; ROOM],
+    number: u64,
+    interfaces: &[InterfaceDescriptionBlock<'static>],
+    parsed: &ParsedBlock,
+) -> usize
+    ensures within { result ≤ 126 }
+    ensures line { IsBodyLine (map interface_of interfaces.now) number (body_of parsed.now) (drop result room.new) }
+{
+    match parsed {
+        ParsedBlock::EnhancedPacket(block) => {
+            let stored = block.data_.as_slice().len();
+            let start = put_lengths(room, stored, block.original_len, block.interface_id);
+            let interface = interface_at(interfaces, block.interface_id);
+            let start = put_time_at(room, start, interface, block.timestamp);
+            put_packet_number(room, start, number)
+        }
+        ParsedBlock::Packet(block) => {
+            let id = u32::from(block.interface_id);
+            let stored = block.data_.as_slice().len();
+            let start = put_lengths(room, stored, block.original_len, id);
+            let interface = interface_at(interfaces, id);
+            let start = put_time_at(room, start, interface, block.timestamp);
+            put_packet_number(room, start, number)
+        }
+        ParsedBlock::SimplePacket(block) => {
+            let stored = block.stored(snaplen_at(interfaces, 0)).len();
+            let start = put_lengths(room, stored, block.original_len, 0);
+            let start = put_byte(room, start, b'-');
+            put_packet_number(room, start, number)
+        }
+        _ => ROOM,
+    }
+}
+
+/// Makes the line of the packet of this number whose body is refused, at the end of the room, and returns where it begins.
+pub(crate) fn make_refused_line(room: &mut [u8; ROOM], number: u64) -> usize
+    ensures within { result ≤ 126 }
+    ensures line { drop result room.new ≡ decimal number ++ codes " refused\n" }
+{
+    let start = put_word(room, ROOM, " refused\n");
+    put_number(room, start, number)
+}

@@ -1,0 +1,72 @@
+//! Lists of packets of captures of either format.
+
+ghost use Rattle.std.specs.Prelude.{◌≡◌, IfOk, IfSome};
+ghost use Rattle.std.specs.Io.KnownBytes.{Keeps};
+ghost use Rattle.capcopy_run.specs.Exits.{exit_of};
+ghost use Rattle.pcapfile_run.specs.FileLines.{ListsAs, format_at};
+
+use crate::checked::Format;
+use crate::packets::list_stored;
+use capcopy_run::{Exit, run};
+use std::alloc::Global;
+use std::io;
+use std::io::{BufRead, Write};
+
+/// The first byte of a capture of blocks, in either order. No classic capture begins with it.
+const FIRST_OF_BLOCKS: u8 = 10;
+
+/// The format of the capture that the input holds, by its first byte, which is not taken. An input without a byte is told as a
+/// classic capture, whose reading then refuses it. The errors are those of the input.
+pub fn format_of<R: BufRead>(input: &mut R) -> io::Result<Format>
+    ensures keeps { Keeps (R.remaining input.old) (R.remaining input.new) }
+    ensures tells { IfOk result (λ format. IfSome (R.remaining input.old) (λ s. format ≡ format_at s)) }
+{
+    if input.fill_buf()?.first() == Some(&FIRST_OF_BLOCKS) {
+        return Ok(Format::PcapNg);
+    }
+    Ok(Format::Pcap)
+}
+
+fn exit_at(done: Result<(), Exit>) -> Exit
+    ensures { result ≡ exit_of done }
+{
+    match done {
+        Ok(()) => Exit::Done,
+        Err(exit) => exit,
+    }
+}
+
+// Writes the lines of a capture of this format.
+fn list_as<R: BufRead, W: Write>(
+    alloc: Global,
+    format: Format,
+    input: &mut R,
+    output: &mut W,
+    most: u64,
+) -> Exit
+    ensures { IfSome (R.remaining input.old) (λ s. ListsAs format most s (R.remaining input.new) (W.contents output.old) (W.contents output.new) result) }
+{
+    match format {
+        Format::Pcap => run(alloc, &["list"], input, output, most),
+        Format::PcapNg => exit_at(list_stored(alloc, input, output, most)),
+    }
+}
+
+/// Writes a line for each packet of the capture that the input holds, of either format, with `most` packets or blocks at most.
+///
+/// Those of a classic capture are the lines of `list` of `capcopy_run`: `index sec.nsec stored/original`. Those of a capture of
+/// blocks have the number of the packet's interface behind them: `index sec.nsec stored/original interface`. The time is that
+/// which the interface's clock shows; a hyphen stands in its place where the packet has none, as a simple packet, where its
+/// interface is not described, and where the seconds since 1970 are no number of 64 bits. A packet whose body is refused has
+/// the line `index refused`.
+///
+/// What refuses the rest is told after the lines of the packets before it. The output is flushed each time before the input is
+/// asked for more.
+pub fn list<R: BufRead, W: Write>(alloc: Global, input: &mut R, output: &mut W, most: u64) -> Exit
+    ensures { IfSome (R.remaining input.old) (λ s. ListsAs (format_at s) most s (R.remaining input.new) (W.contents output.old) (W.contents output.new) result) }
+{
+    match format_of(input) {
+        Err(error) => Exit::from(error),
+        Ok(format) => list_as(alloc, format, input, output, most),
+    }
+}

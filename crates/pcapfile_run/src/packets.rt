@@ -1,0 +1,163 @@
+//! The packets of a capture of blocks, a line each.
+
+ghost use Rattle.std.specs.Prelude.{⊤, ◌≡◌, ◌≤◌, ℕ, drop, map, IfSome, MatchResult};
+ghost use Rattle.pcap_blocks.specs.InterfaceDescription.{interface_of};
+ghost use Rattle.pcap_file.specs.Blocks.{Item};
+ghost use Rattle.pcap_file.specs.Bodies.{GrowsInBody};
+ghost use Rattle.pcap_file.specs.Frames.{framed_of};
+ghost use Rattle.pcap_file.specs.Parser.{state_of};
+ghost use Rattle.pcap_file.specs.Placed.{is_packet};
+ghost use Rattle.pcap_file.specs.State.{State};
+ghost use Rattle.capcopy_run.specs.declared.exit.Exit.TheVariants as exits;
+ghost use Rattle.capcopy_run.specs.Exits.{exit_of};
+ghost use Rattle.capcopy_run.specs.Lines.{WritesLine};
+ghost use Rattle.capcopy_run.specs.Listing.{ListsUntil};
+ghost use Rattle.pcapfile_run.specs.FileLines.{IsLineIf, IsNumberedLine, IsStoredLine, numbered_blocks, stored_lines};
+ghost use Rattle.pcapfile_run.specs.Numbered.{Numbered, number_behind};
+
+use crate::lines::{make_body_line, make_refused_line};
+use capcopy_run::{Exit, Lister, ROOM, list_items, put_line};
+use pcap_file::PcapError;
+use pcap_file::pcapng::{Block, BlockType, InterfaceDescriptionBlock, PcapNgParser};
+use std::alloc::Global;
+use std::io::{BufRead, Write};
+
+// Whether blocks of this type hold a packet.
+fn holds_packet(type_: BlockType) -> bool
+    ensures { result ≡ is_packet type_ }
+{
+    matches!(
+        type_,
+        BlockType::EnhancedPacket | BlockType::Packet | BlockType::SimplePacket
+    )
+}
+
+// Makes the line of the packet of this number that a block holds, and returns where it begins.
+fn make_line(
+    alloc: Global,
+    room: &mut [u8; ROOM],
+    number: u64,
+    interfaces: &[InterfaceDescriptionBlock<'static>],
+    block: &Block,
+) -> Result<usize, Exit>
+    ensures { MatchResult result (λ start. (start ≤ 126) × IsStoredLine (map interface_of interfaces.now) number (framed_of block.now) (drop start room.new)) (λ exit. (exit ≡ exits.Memory) × GrowsInBody (framed_of block.now)) }
+{
+    match block.parsed(alloc) {
+        Ok(parsed) => Ok(make_body_line(room, number, interfaces, &parsed)),
+        Err(PcapError::OutOfMemory(_)) => Err(Exit::Memory),
+        Err(_) => Ok(make_refused_line(room, number)),
+    }
+}
+
+// Writes that line.
+fn write_packet<W: Write>(
+    alloc: Global,
+    output: &mut W,
+    number: u64,
+    interfaces: &[InterfaceDescriptionBlock<'static>],
+    block: &Block,
+) -> Result<(), Exit>
+    ensures { WritesLine (IsStoredLine (map interface_of interfaces.now) number (framed_of block.now)) (W.contents output.old) (W.contents output.new) result }
+{
+    let mut room = [0; ROOM];
+    let start = make_line(alloc, &mut room, number, interfaces, block)?;
+    put_line(output, &room[start..])
+}
+
+// Writes the line of a block behind so many packets, and counts the packet that it holds.
+fn write_block<W: Write>(
+    alloc: Global,
+    output: &mut W,
+    packets: &mut u64,
+    interfaces: &[InterfaceDescriptionBlock<'static>],
+    block: &Block,
+) -> Result<(), Exit>
+    ensures counts { packets.new ≡ number_behind (is_packet block.now.type_) packets.old }
+    ensures writes { WritesLine (IsLineIf (is_packet block.now.type_) (map interface_of interfaces.now) packets.new (framed_of block.now)) (W.contents output.old) (W.contents output.new) result }
+{
+    if !holds_packet(block.type_) {
+        return Ok(());
+    }
+    *packets = packets.saturating_add(1);
+    write_packet(alloc, output, *packets, interfaces, block)
+}
+
+// The packets of a capture of blocks, and how many there were.
+#[derive(Drop)]
+struct StoredPackets {
+    parser: PcapNgParser,
+    packets: u64,
+}
+
+impl Lister for StoredPackets {
+    ghost Setting = { Unit {0} };
+
+    ghost State = { State × ℕ };
+
+    ghost Value = { Numbered Item };
+
+    ghost grows = { ⊤ };
+
+    ghost is_line = { IsNumberedLine };
+
+    ghost format = { λ setting. numbered_blocks };
+
+    ghost setting = { λ stored. tt };
+
+    ghost state = { λ stored. (state_of stored.parser, stored.packets) };
+
+    fn list_shown<W: Write>(
+        &mut self,
+        alloc: Global,
+        shown: &[u8],
+        output: &mut W,
+        listed: &mut u64,
+        most: u64,
+    ) -> Result<usize, Exit> {
+        let mut rest = shown;
+        while *listed < most {
+            match self.parser.next_block(rest) {
+                Ok((after, block)) => {
+                    let interfaces = self.parser.interfaces();
+                    write_block(alloc, output, &mut self.packets, interfaces, &block)?;
+                    *listed += 1;
+                    rest = after;
+                }
+                Err(PcapError::OutOfMemory(_)) => return Err(Exit::Memory),
+                Err(_) => break,
+            }
+        }
+        Ok(shown.len() - rest.len())
+    }
+
+    fn list_torn<R: BufRead, W: Write>(
+        &mut self,
+        alloc: Global,
+        input: &mut R,
+        output: &mut W,
+        listed: &mut u64,
+        most: u64,
+    ) -> Result<bool, Exit> {
+        let Some(block) = self.parser.read_block(input)? else {
+            return Ok(false);
+        };
+        let interfaces = self.parser.interfaces();
+        write_block(alloc, output, &mut self.packets, interfaces, &block)?;
+        *listed += 1;
+        Ok(true)
+    }
+}
+
+/// Writes a line for each packet of a capture of blocks, of which `most` blocks are taken at most behind the first.
+pub(crate) fn list_stored<R: BufRead, W: Write>(
+    alloc: Global,
+    input: &mut R,
+    output: &mut W,
+    most: u64,
+) -> Result<(), Exit>
+    ensures { IfSome (R.remaining input.old) (λ s. ListsUntil stored_lines most s (R.remaining input.new) (W.contents output.old) (W.contents output.new) (exit_of result)) }
+{
+    let parser = PcapNgParser::from_reader(alloc, input)?;
+    let mut stored = StoredPackets { parser, packets: 0 };
+    list_items(alloc, &mut stored, input, output, most)
+}

@@ -1,0 +1,9 @@
+//! The words of `pcapfile` over inputs and outputs in memory.
+#![tactic(auto)]
+
+#[cfg(test)]
+mod check;
+#[cfg(test)]
+mod inputs;
+#[cfg(test)]
+mod list;
