@@ -3,78 +3,108 @@
 use pcap_classic::pcap::{Packet, PcapHeader, PcapParser, PcapReader, PcapWriter};
 use pcap_classic::rules::Rule;
 use pcap_classic::{CowBytes, DataLink, Endianness, PcapError, TsResolution};
-use std::alloc::AllocError;
+use std::alloc::{AllocError, Global};
+use std::fmt::Debug;
 use std::io::ErrorKind;
 use std::string::String;
 use std::test::Fail;
 use std::{io, str};
 use test_support::captures::BIG_HEAD;
 
-#[test]
-fn texts(rt: HostRuntime) -> Result<(), Fail> {
-    let Err(not_text) = str::from_utf8(&[0xff]) else {
-        return Ok(assert!(rt; false, "ff is no text"));
-    };
-    let Err(no_text) = String::from_utf8(Vec::from_slice(rt.alloc(), &[0xff])?) else {
-        return Ok(assert!(rt; false, "ff is no text"));
-    };
-    let rows = [
-        (PcapError::IncompleteBuffer(7), "Need at least 7 more bytes"),
-        (
-            PcapError::from(io::Error::from(ErrorKind::UnexpectedEof)),
-            "Error reading bytes",
-        ),
-        (PcapError::InvalidField("x"), "Invalid field value: x"),
-        (
-            PcapError::from(Rule::CaptureMagic),
-            "Invalid field value: PcapHeader wrong magic number",
-        ),
-        (PcapError::from(not_text), "UTF8 error"),
-        (PcapError::from(no_text), "UTF8 error"),
-        (PcapError::from(AllocError), "Out of memory"),
-        (PcapError::WriterFailed, "Writer failed earlier"),
-    ];
-    for (error, text) in &rows {
-        let shown = format!(in rt.alloc(); "{error}")?;
-        assert_eq!(rt; shown.as_str(), *text);
+// Whether an error has this message.
+fn says(alloc: Global, error: &PcapError, text: &str) -> bool {
+    match format!(in alloc; "{error}") {
+        Ok(shown) => shown.as_str() == text,
+        Err(_) => false,
     }
-    Ok(())
+}
+
+#[test]
+fn texts(rt: HostRuntime) {
+    let alloc = rt.alloc();
+    let magic = "Invalid field value: PcapHeader wrong magic number";
+    assert!(rt;
+        says(
+            alloc,
+            &PcapError::IncompleteBuffer(7),
+            "Need at least 7 more bytes"
+        )
+    );
+    assert!(rt;
+        says(
+            alloc,
+            &PcapError::InvalidField("x"),
+            "Invalid field value: x"
+        )
+    );
+    assert!(rt; says(alloc, &PcapError::from(Rule::CaptureMagic), magic));
+    assert!(rt; says(alloc, &PcapError::WriterFailed, "Writer failed earlier"));
+}
+
+// Whether an error of a stream becomes an `IoError`, and has its message.
+fn becomes_io(alloc: Global) -> bool {
+    let error = PcapError::from(io::Error::from(ErrorKind::UnexpectedEof));
+    matches!(error, PcapError::IoError(_)) && says(alloc, &error, "Error reading bytes")
+}
+
+fn becomes_memory(alloc: Global) -> bool {
+    let error = PcapError::from(AllocError);
+    matches!(error, PcapError::OutOfMemory(_)) && says(alloc, &error, "Out of memory")
+}
+
+// Whether the error of bytes that are no text becomes a `Utf8Error`.
+fn becomes_utf8(alloc: Global) -> bool {
+    match str::from_utf8(&[0xff]) {
+        Err(error) => {
+            let error = PcapError::from(error);
+            matches!(error, PcapError::Utf8Error(_)) && says(alloc, &error, "UTF8 error")
+        }
+        Ok(_) => false,
+    }
+}
+
+// Whether that of owned bytes becomes a `FromUtf8Error`.
+fn becomes_from_utf8(alloc: Global, bytes: Vec<u8>) -> bool {
+    match String::from_utf8(bytes) {
+        Err(error) => {
+            let error = PcapError::from(error);
+            matches!(error, PcapError::FromUtf8Error(_)) && says(alloc, &error, "UTF8 error")
+        }
+        Ok(_) => false,
+    }
 }
 
 #[test]
 fn variants(rt: HostRuntime) -> Result<(), Fail> {
-    assert!(rt;
-        matches!(
-            PcapError::from(io::Error::from(ErrorKind::UnexpectedEof)),
-            PcapError::IoError(_)
-        )
-    );
-    assert!(rt; matches!(PcapError::from(AllocError), PcapError::OutOfMemory(_)));
-    match str::from_utf8(&[0xff]) {
-        Err(error) => assert!(rt; matches!(PcapError::from(error), PcapError::Utf8Error(_))),
-        Ok(_) => assert!(rt; false, "ff is no text"),
-    }
+    assert!(rt; becomes_io(rt.alloc()));
+    assert!(rt; becomes_memory(rt.alloc()));
+    assert!(rt; becomes_utf8(rt.alloc()));
     let bytes = Vec::from_slice(rt.alloc(), &[0xff])?;
-    match String::from_utf8(bytes) {
-        Err(error) => assert!(rt; matches!(PcapError::from(error), PcapError::FromUtf8Error(_))),
-        Ok(_) => assert!(rt; false, "ff is no text"),
-    }
+    assert!(rt; becomes_from_utf8(rt.alloc(), bytes));
     Ok(())
 }
 
 #[test]
 fn wrong_magic(rt: HostRuntime) {
-    match PcapParser::new(&[0xff; 24]) {
-        Err(PcapError::InvalidField(message)) => assert_eq!(rt;
-            message,
-            "PcapHeader wrong magic number"
-        ),
-        _ => assert!(rt; false, "no fault"),
+    assert!(rt;
+        matches!(
+            PcapParser::new(&[0xff; 24]),
+            Err(PcapError::InvalidField("PcapHeader wrong magic number"))
+        )
+    );
+}
+
+// Whether a value is shown as this text.
+fn is_shown<T: Debug>(alloc: Global, value: &T, text: &str) -> bool {
+    match format!(in alloc; "{value:?}") {
+        Ok(shown) => shown.as_str() == text,
+        Err(_) => false,
     }
 }
 
 #[test]
-fn debug_texts(rt: HostRuntime) -> Result<(), Fail> {
+fn debug_texts(rt: HostRuntime) {
+    let alloc = rt.alloc();
     let header = PcapHeader {
         magic_number: 1,
         version_major: 2,
@@ -84,62 +114,75 @@ fn debug_texts(rt: HostRuntime) -> Result<(), Fail> {
         snaplen: 5,
         datalink: DataLink::Unknown(6),
     };
-    let shown = format!(in rt.alloc();
-        "{header:?} {:?} {:?}",
-        Endianness::Big,
-        TsResolution::NanoSecond
-    )?;
-    assert_eq!(rt;
-        shown.as_str(),
-        "PcapHeader { magic_number: 1, version_major: 2, version_minor: 4, ts_correction: 0, ts_accuracy: 0, snaplen: 5, datalink: Unknown(6) } Big NanoSecond"
+    let text =
+        "PcapHeader { magic_number: 1, version_major: 2, version_minor: 4, ts_correction: 0, ts_accuracy: 0, snaplen: 5, datalink: Unknown(6) }";
+    assert!(rt; is_shown(alloc, &header, text));
+    assert!(rt; is_shown(alloc, &Endianness::Big, "Big"));
+    assert!(rt; is_shown(alloc, &TsResolution::NanoSecond, "NanoSecond"));
+    assert!(rt;
+        is_shown(
+            alloc,
+            &PcapError::IncompleteBuffer(7),
+            "IncompleteBuffer(7)"
+        )
     );
-    Ok(())
+    assert!(rt; is_shown(alloc, &PcapError::InvalidField("x"), "InvalidField(\"x\")"));
+    assert!(rt; is_shown(alloc, &PcapError::WriterFailed, "WriterFailed"));
 }
 
 #[test]
 fn debug_texts_of_packets(rt: HostRuntime) -> Result<(), Fail> {
-    let owned = CowBytes::Owned(Vec::from_slice(rt.alloc(), &[7])?);
-    let packet = Packet::new(1, 2, &[5, 6], 3);
-    let shown = format!(in rt.alloc(); "{packet:?} {owned:?}")?;
-    assert_eq!(rt;
-        shown.as_str(),
-        "Packet { header: PacketHeader { ts_sec: 1, ts_nsec: 2, incl_len: 2, orig_len: 3 }, data_: Borrowed([5, 6]) } Owned([7])"
-    );
+    let text =
+        "Packet { header: PacketHeader { ts_sec: 1, ts_nsec: 2, incl_len: 2, orig_len: 3 }, data_: Borrowed([5, 6]) }";
+    assert!(rt; is_shown(rt.alloc(), &Packet::new(1, 2, &[5, 6], 3), text));
+    let owned = Vec::from_slice(rt.alloc(), &[7])?;
+    assert!(rt; is_shown(rt.alloc(), &CowBytes::Owned(owned), "Owned([7])"));
     Ok(())
 }
 
-#[test]
-fn debug_text_of_a_parser(rt: HostRuntime) -> Result<(), Fail> {
-    let (_, parser) = PcapParser::new(&BIG_HEAD)?;
-    let shown = format!(in rt.alloc(); "{parser:?}")?;
-    assert_eq!(rt;
-        shown.as_str(),
-        "PcapParser { header: PcapHeader { magic_number: 2712847316, version_major: 2, version_minor: 4, ts_correction: 0, ts_accuracy: 0, snaplen: 65535, datalink: ETHERNET } }"
-    );
-    Ok(())
-}
-
-#[test]
-fn debug_texts_of_readers_and_writers(rt: HostRuntime) -> Result<(), Fail> {
-    let reader = PcapReader::new(rt.alloc(), BIG_HEAD.as_slice())?;
-    let shown = format!(in rt.alloc(); "{reader:?}")?;
-    assert!(rt; shown.starts_with("PcapReader { header: PcapHeader { magic_number: 2712847316, "));
-    let writer = PcapWriter::new(Vec::new(rt.alloc()))?;
-    let shown = format!(in rt.alloc(); "{writer:?}")?;
-    assert!(rt; shown.starts_with("PcapWriter { header: PcapHeader { magic_number: 3569595041, "));
-    Ok(())
-}
-
-#[test]
-fn debug_texts_of_errors(rt: HostRuntime) -> Result<(), Fail> {
-    let rows = [
-        (PcapError::IncompleteBuffer(7), "IncompleteBuffer(7)"),
-        (PcapError::InvalidField("x"), "InvalidField(\"x\")"),
-        (PcapError::WriterFailed, "WriterFailed"),
-    ];
-    for (error, text) in &rows {
-        let shown = format!(in rt.alloc(); "{error:?}")?;
-        assert_eq!(rt; shown.as_str(), *text);
+// Whether a parser of the capture is shown by its header.
+fn shows_a_parser(alloc: Global) -> bool {
+    let text =
+        "PcapParser { header: PcapHeader { magic_number: 2712847316, version_major: 2, version_minor: 4, ts_correction: 0, ts_accuracy: 0, snaplen: 65535, datalink: ETHERNET } }";
+    match &PcapParser::new(&BIG_HEAD) {
+        Ok((_, parser)) => is_shown(alloc, parser, text),
+        Err(_) => false,
     }
-    Ok(())
+}
+
+// Whether a value is shown by a text that begins so.
+fn begins<T: Debug>(alloc: Global, value: &T, text: &str) -> bool {
+    match format!(in alloc; "{value:?}") {
+        Ok(shown) => shown.starts_with(text),
+        Err(_) => false,
+    }
+}
+
+fn shows_a_reader(alloc: Global) -> bool {
+    match &PcapReader::new(alloc, BIG_HEAD.as_slice()) {
+        Ok(reader) => begins(
+            alloc,
+            reader,
+            "PcapReader { header: PcapHeader { magic_number: 2712847316, ",
+        ),
+        Err(_) => false,
+    }
+}
+
+fn shows_a_writer(alloc: Global) -> bool {
+    match &PcapWriter::new(Vec::new(alloc)) {
+        Ok(writer) => begins(
+            alloc,
+            writer,
+            "PcapWriter { header: PcapHeader { magic_number: 3569595041, ",
+        ),
+        Err(_) => false,
+    }
+}
+
+#[test]
+fn debug_texts_of_parsers_readers_and_writers(rt: HostRuntime) {
+    assert!(rt; shows_a_parser(rt.alloc()));
+    assert!(rt; shows_a_reader(rt.alloc()));
+    assert!(rt; shows_a_writer(rt.alloc()));
 }

@@ -4,34 +4,39 @@ use byteorder::BigEndian;
 use pcap_classic::pcap::{Packet, PacketHeader, PcapHeader, PcapParser};
 use pcap_classic::run::{PcapRun, Rest, parse_pcap};
 use pcap_classic::{CowBytes, DataLink, Endianness, PcapError, ResultParsing, TsResolution};
-use std::alloc::Global;
+use std::alloc::{AllocError, Global};
 use std::test::Fail;
 use std::time::Duration;
-use test_support::captures::{back, big, front, little, pattern};
+use test_support::captures::{BIG_HEAD, LITTLE_HEAD, back, big, capture, front, pattern};
+
+// Whether a call that ended so lacks this many bytes.
+fn lacks(error: &Option<PcapError>, n: usize) -> bool {
+    match error {
+        Some(PcapError::IncompleteBuffer(lack)) => *lack == n,
+        _ => false,
+    }
+}
+
+// Whether a parser of the capture asks for its packet's header, and then for the data.
+fn asks(bytes: &[u8]) -> bool {
+    match PcapParser::new(bytes) {
+        Ok((rest, parser)) => {
+            rest.len() == 114
+                && parser.header().snaplen == 65535
+                && lacks(&parser.next_packet(&[]).err(), 16)
+                && lacks(&parser.next_packet(front(rest, 16)).err(), 98)
+        }
+        Err(_) => false,
+    }
+}
 
 #[test]
 fn requests(rt: HostRuntime) -> Result<(), Fail> {
+    assert!(rt; lacks(&PcapHeader::from_slice(front(&BIG_HEAD, 23)).err(), 1));
+    assert!(rt; lacks(&PcapParser::new(&[]).err(), 24));
+    assert!(rt; lacks(&PcapParser::new(&[7; 10]).err(), 14));
     let bytes = big(rt.alloc())?;
-    let header = PcapHeader::from_slice(front(bytes.as_slice(), 23));
-    assert!(rt; matches!(header, Err(PcapError::IncompleteBuffer(1))));
-    assert!(rt; matches!(PcapParser::new(&[]), Err(PcapError::IncompleteBuffer(24))));
-    assert!(rt;
-        matches!(
-            PcapParser::new(&[7; 10]),
-            Err(PcapError::IncompleteBuffer(14))
-        )
-    );
-    let (rest, parser) = PcapParser::new(bytes.as_slice())?;
-    assert_eq!(rt; rest.len(), 114);
-    assert_eq!(rt; parser.header().snaplen, 65535);
-    assert!(rt;
-        matches!(
-            parser.next_packet(&[]),
-            Err(PcapError::IncompleteBuffer(16))
-        )
-    );
-    let head = parser.next_packet(front(rest, 16));
-    assert!(rt; matches!(head, Err(PcapError::IncompleteBuffer(98))));
+    assert!(rt; asks(bytes.as_slice()));
     Ok(())
 }
 
@@ -53,43 +58,63 @@ fn is_run_of_beginning(run: &ResultParsing<PcapRun>, end: usize) -> bool {
 fn every_beginning(rt: HostRuntime) -> Result<(), Fail> {
     let bytes = big(rt.alloc())?;
     for end in 0..139 {
-        let run = parse_pcap(rt.alloc(), front(bytes.as_slice(), end));
-        assert!(rt; is_run_of_beginning(&run, end), "at {end}");
+        let beginning = front(bytes.as_slice(), end);
+        assert!(rt;
+            is_run_of_beginning(&parse_pcap(rt.alloc(), beginning), end),
+            "at {end}"
+        );
     }
     Ok(())
 }
 
+// What a capture's header and its packet's say.
+#[derive(Clone, Copy)]
+struct Said {
+    endianness: Endianness,
+    snaplen: u32,
+    packet: PacketHeader,
+}
+
+// Whether a run over these bytes has one packet, and it and the capture's header say this.
+fn is_run(run: &PcapRun, bytes: &[u8], said: Said) -> bool {
+    let header = &run.header;
+    let is_header = header.has_valid_magic()
+        && header.endianness() == said.endianness
+        && header.ts_resolution() == TsResolution::MicroSecond
+        && header.snaplen == said.snaplen
+        && header.datalink == DataLink::ETHERNET;
+    let is_whole = run.used == bytes.len() && matches!(run.rest, Rest::Clean);
+    let is_packet = match run.packets.as_slice() {
+        [packet] => is_lent(packet, said.packet, back(bytes, 40)),
+        _ => false,
+    };
+    is_header && is_whole && is_packet
+}
+
+// Whether a packet has this header, and lends these bytes.
+fn is_lent(packet: &Packet<'_>, header: PacketHeader, bytes: &[u8]) -> bool {
+    packet.header == header && packet.data_.is_borrowed() && packet.data_.as_slice() == bytes
+}
+
+fn is_whole(alloc: Global, bytes: &[u8], said: Said) -> bool {
+    matches!(&parse_pcap(alloc, bytes), Ok(run) if is_run(run, bytes, said))
+}
+
 #[test]
 fn whole_captures(rt: HostRuntime) -> Result<(), Fail> {
-    let rows = [
-        (
-            big(rt.alloc())?,
-            Endianness::Big,
-            65535,
-            PacketHeader::new(0x4fa11b29, 152_630_000, 0x62, 0x62),
-        ),
-        (
-            little(rt.alloc())?,
-            Endianness::Little,
-            0x1000,
-            PacketHeader::new(0x4f633248, 0, 0x75, 0x75),
-        ),
-    ];
-    for (bytes, endianness, snaplen, header) in &rows {
-        let run = parse_pcap(rt.alloc(), bytes.as_slice())?;
-        assert!(rt; run.header.has_valid_magic());
-        assert_eq!(rt; run.header.endianness(), *endianness);
-        assert_eq!(rt; run.header.ts_resolution(), TsResolution::MicroSecond);
-        assert_eq!(rt; run.header.snaplen, *snaplen);
-        assert_eq!(rt; run.header.datalink, DataLink::ETHERNET);
-        assert_eq!(rt; run.used, bytes.len());
-        assert!(rt; matches!(run.rest, Rest::Clean));
-        assert_eq!(rt; run.packets.len(), 1);
-        for packet in &run.packets {
-            assert_eq!(rt; packet.header, *header);
-            assert!(rt; packet.data_.is_borrowed());
-            assert_eq!(rt; packet.data_.as_slice(), back(bytes.as_slice(), 40));
-        }
+    let big = Said {
+        endianness: Endianness::Big,
+        snaplen: 65535,
+        packet: PacketHeader::new(0x4fa11b29, 152_630_000, 0x62, 0x62),
+    };
+    let little = Said {
+        endianness: Endianness::Little,
+        snaplen: 0x1000,
+        packet: PacketHeader::new(0x4f633248, 0, 0x75, 0x75),
+    };
+    for (head, end, said) in [(&BIG_HEAD, 98, big), (&LITTLE_HEAD, 117, little)] {
+        let bytes = capture(rt.alloc(), head, end)?;
+        assert!(rt; is_whole(rt.alloc(), bytes.as_slice(), said), "{end} bytes");
     }
     Ok(())
 }
@@ -99,6 +124,21 @@ fn head(numbers: [u8; 12]) -> [u8; 16] {
     let mut head = [0; 16];
     head[4..].copy_from_slice(&numbers);
     head
+}
+
+// Whether a packet with this head is refused for this fault.
+fn is_refused(numbers: [u8; 12], text: &str) -> bool {
+    match Packet::from_slice::<BigEndian>(&head(numbers), TsResolution::MicroSecond) {
+        Err(PcapError::InvalidField(fault)) => fault == text,
+        _ => false,
+    }
+}
+
+// Whether so many bytes are missing of one with this head.
+fn is_asked(numbers: [u8; 12], lack: usize) -> bool {
+    let bytes = head(numbers);
+    let packet = Packet::from_slice::<BigEndian>(&bytes, TsResolution::MicroSecond);
+    lacks(&packet.err(), lack)
 }
 
 #[test]
@@ -134,26 +174,34 @@ fn heads_of_packets(rt: HostRuntime) {
         ),
     ];
     for (numbers, text) in refused {
-        match Packet::from_slice::<BigEndian>(&head(numbers), TsResolution::MicroSecond) {
-            Err(PcapError::InvalidField(fault)) => assert_eq!(rt; fault, text),
-            _ => assert!(rt; false, "no fault"),
-        }
+        assert!(rt; is_refused(numbers, text), "{numbers:?}");
     }
     let asking = [
         ([0, 0, 0, 0, 0, 1, 0, 0, 0, 1, 0, 0], 65536),
         ([0, 0, 0, 0, 0, 4, 0, 0, 0, 4, 0, 0], 262144),
     ];
     for (numbers, lack) in asking {
-        let bytes = head(numbers);
-        match Packet::from_slice::<BigEndian>(&bytes, TsResolution::MicroSecond) {
-            Err(PcapError::IncompleteBuffer(n)) => assert_eq!(rt; n, lack),
-            _ => assert!(rt; false, "no request: {lack}"),
+        assert!(rt; is_asked(numbers, lack), "{lack}");
+    }
+}
+
+// Whether one with this head is a packet without bytes, of this original length, at so many nanoseconds.
+fn is_empty(numbers: [u8; 12], ts_nsec: u32, orig_len: u32) -> bool {
+    let bytes = head(numbers);
+    match Packet::from_slice::<BigEndian>(&bytes, TsResolution::MicroSecond) {
+        Ok((rest, packet)) => {
+            let seconds = ts_nsec as u64 / 1_000_000_000;
+            rest.is_empty()
+                && packet.data_.is_empty()
+                && packet.header == PacketHeader::new(0, ts_nsec, 0, orig_len)
+                && packet.header.timestamp() == Duration::new(seconds, ts_nsec % 1_000_000_000)
         }
+        Err(_) => false,
     }
 }
 
 #[test]
-fn empty_packets(rt: HostRuntime) -> Result<(), Fail> {
+fn empty_packets(rt: HostRuntime) {
     let rows = [
         (
             [0, 0x41, 0x89, 0x37, 0, 0, 0, 0, 0, 0, 0, 0],
@@ -163,17 +211,27 @@ fn empty_packets(rt: HostRuntime) -> Result<(), Fail> {
         ([0, 0, 0, 0, 0, 0, 0, 0, 0, 1, 0, 0], 0, 65536),
     ];
     for (numbers, ts_nsec, orig_len) in rows {
-        let bytes = head(numbers);
-        let (rest, packet) = Packet::from_slice::<BigEndian>(&bytes, TsResolution::MicroSecond)?;
-        assert!(rt; rest.is_empty() && packet.data_.is_empty());
-        assert_eq!(rt; packet.header, PacketHeader::new(0, ts_nsec, 0, orig_len));
-        assert_eq!(rt;
-            packet.header.timestamp(),
-            Duration::new(ts_nsec as u64 / 1_000_000_000, ts_nsec % 1_000_000_000)
-        );
+        assert!(rt; is_empty(numbers, ts_nsec, orig_len), "{numbers:?}");
     }
-    assert_eq!(rt; PacketHeader::default(), PacketHeader::new(0, 0, 0, 0));
-    Ok(())
+    assert!(rt; PacketHeader::default() == PacketHeader::new(0, 0, 0, 0));
+}
+
+// Whether a packet has a header with this stored length, and owns these bytes.
+fn is_own(own: &Packet<'_>, incl_len: u32, bytes: &[u8]) -> bool {
+    own.header == PacketHeader::new(1, 2, incl_len, 3)
+        && !own.data_.is_borrowed()
+        && own.data_.as_slice() == bytes
+}
+
+// Whether a packet of these bytes that states this length owns them as a copy, and where it gives them itself.
+fn owns(alloc: Global, incl_len: u32, bytes: &[u8]) -> ResultParsing<bool> {
+    let packet = Packet {
+        header: PacketHeader::new(1, 2, incl_len, 3),
+        data_: CowBytes::Borrowed(bytes),
+    };
+    let is_copied = is_own(&packet.to_owned(alloc)?, incl_len, bytes);
+    let is_given = is_own(&packet.into_owned(alloc)?, incl_len, bytes);
+    Ok(is_copied && is_given)
 }
 
 #[test]
@@ -189,41 +247,32 @@ fn owned_packets(rt: HostRuntime) -> Result<(), Fail> {
         (262_144, 262_144),
     ] {
         let bytes = front(pattern.as_slice(), len);
-        let packet = Packet {
-            header: PacketHeader::new(1, 2, incl_len, 3),
-            data_: CowBytes::Borrowed(bytes),
-        };
-        for own in [packet.to_owned(rt.alloc())?, packet.into_owned(rt.alloc())?] {
-            assert_eq!(rt; own.header, PacketHeader::new(1, 2, incl_len, 3));
-            assert!(rt;
-                !own.data_.is_borrowed() && own.data_.as_slice() == bytes,
-                "{len} bytes"
-            );
-        }
+        assert!(rt; owns(rt.alloc(), incl_len, bytes)?, "{len} bytes");
     }
     Ok(())
 }
 
-// Whether these are the same header and bytes, held in the same way.
-fn is_copy(packet: &Packet, clone: &Packet) -> bool {
-    packet.header == clone.header
-        && packet.data_.as_slice() == clone.data_.as_slice()
-        && packet.data_.is_borrowed() == clone.data_.is_borrowed()
+// Whether the clone of a packet has the same header and bytes, held in the same way.
+fn is_cloned(packet: &Packet<'_>) -> Result<bool, AllocError> {
+    let clone = packet.clone()?;
+    let is_held = packet.data_.is_borrowed() == clone.data_.is_borrowed();
+    let is_same = packet.data_.as_slice() == clone.data_.as_slice();
+    Ok(is_held && is_same && packet.header == clone.header)
 }
 
 #[test]
 fn clones(rt: HostRuntime) -> Result<(), Fail> {
-    let owned = Packet {
-        header: PacketHeader::new(1, 2, 3, 4),
-        data_: CowBytes::Owned(Vec::from_slice(rt.alloc(), &[5, 6])?),
-    };
-    let borrowed = Packet {
-        header: PacketHeader::new(1, 2, 3, 4),
-        data_: CowBytes::Borrowed(&[5, 6]),
-    };
-    assert!(rt; is_copy(&owned, &owned.clone()?));
-    assert!(rt; is_copy(&borrowed, &borrowed.clone()?));
+    let header = PacketHeader::new(1, 2, 3, 4);
+    let data_ = CowBytes::Owned(Vec::from_slice(rt.alloc(), &[5, 6])?);
+    assert!(rt; is_cloned(&Packet { header, data_ })?);
+    let data_ = CowBytes::Borrowed(&[5, 6]);
+    assert!(rt; is_cloned(&Packet { header, data_ })?);
     Ok(())
+}
+
+// Whether this number is this link type, and the other way round.
+fn is_link(number: u32, link: DataLink) -> bool {
+    DataLink::from(number) == link && u32::from(link) == number
 }
 
 #[test]
@@ -238,10 +287,9 @@ fn link_types(rt: HostRuntime) {
         (269, DataLink::Unknown(269)),
     ];
     for (number, link) in rows {
-        assert_eq!(rt; DataLink::from(number), link);
-        assert_eq!(rt; u32::from(link), number);
+        assert!(rt; is_link(number, link), "{number}");
     }
-    assert_ne!(rt; DataLink::Unknown(1), DataLink::ETHERNET);
-    assert_eq!(rt; u32::from(DataLink::Unknown(1)), 1);
-    assert_eq!(rt; Endianness::new::<BigEndian>(), Endianness::Big);
+    assert!(rt; DataLink::Unknown(1) != DataLink::ETHERNET);
+    assert!(rt; u32::from(DataLink::Unknown(1)) == 1);
+    assert!(rt; Endianness::new::<BigEndian>() == Endianness::Big);
 }

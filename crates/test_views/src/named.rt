@@ -5,8 +5,22 @@ use pcap_blocks::{
     EnhancedPacketBlock, InterfaceDescriptionBlock, InterfaceStatisticsBlock, NameResolutionBlock,
     PacketBlock, SectionHeaderBlock,
 };
+use std::alloc::Global;
 use std::test::*;
 use test_support::rows::bytes;
+
+// Whether a section has a comment, a hardware, a system and an application of these names.
+fn names_a_section(alloc: Global, body: &[u8]) -> bool {
+    match &SectionHeaderBlock::from_slice(alloc, body) {
+        Ok((_, section)) => {
+            section.comment() == Some("a")
+                && section.hardware() == Some("b")
+                && section.os() == Some("c")
+                && section.application() == Some("d")
+        }
+        Err(_) => false,
+    }
+}
 
 #[test]
 fn names_of_a_section(rt: HostRuntime) -> Result<(), Fail> {
@@ -14,12 +28,35 @@ fn names_of_a_section(rt: HostRuntime) -> Result<(), Fail> {
         rt.alloc(),
         "1a2b3c4d 0001 0000 ffffffffffffffff 0004 0001 64000000 0001 0001 61000000 0001 0001 78000000 0002 0001 62000000 0003 0001 63000000",
     )?;
-    let (_, section) = SectionHeaderBlock::from_slice(rt.alloc(), body.as_slice())?;
-    assert_eq!(rt; section.comment(), Some("a"));
-    assert_eq!(rt; section.hardware(), Some("b"));
-    assert_eq!(rt; section.os(), Some("c"));
-    assert_eq!(rt; section.application(), Some("d"));
+    assert!(rt; names_a_section(rt.alloc(), body.as_slice()));
     Ok(())
+}
+
+// Whether an interface has all that has a name.
+fn names_an_interface(alloc: Global, body: &[u8]) -> bool {
+    match &InterfaceDescriptionBlock::from_slice::<BigEndian>(alloc, body) {
+        Ok((_, interface)) => {
+            interface.comment() == Some("a")
+                && interface.name() == Some("eth0")
+                && interface.description() == Some("c")
+                && interface.os() == Some("d")
+                && interface.hardware() == Some("e")
+                && interface.speed() == Some(1_000_000_000u64)
+        }
+        Err(_) => false,
+    }
+}
+
+// Whether it has neither a comment nor a name nor a speed.
+fn names_nothing(alloc: Global, body: &[u8]) -> bool {
+    match &InterfaceDescriptionBlock::from_slice::<BigEndian>(alloc, body) {
+        Ok((_, interface)) => {
+            interface.comment().is_none()
+                && interface.name().is_none()
+                && interface.speed().is_none()
+        }
+        Err(_) => false,
+    }
 }
 
 #[test]
@@ -28,16 +65,7 @@ fn names_of_an_interface(rt: HostRuntime) -> Result<(), Fail> {
         rt.alloc(),
         "0001 0000 00040000 000f 0001 65000000 000c 0001 64000000 0008 0008 000000003b9aca00 0003 0001 63000000 0002 0004 65746830 0002 0001 78000000 0001 0001 61000000",
     )?;
-    let (_, interface) = InterfaceDescriptionBlock::from_slice::<BigEndian>(
-        rt.alloc(),
-        body.as_slice(),
-    )?;
-    assert_eq!(rt; interface.comment(), Some("a"));
-    assert_eq!(rt; interface.name(), Some("eth0"));
-    assert_eq!(rt; interface.description(), Some("c"));
-    assert_eq!(rt; interface.os(), Some("d"));
-    assert_eq!(rt; interface.hardware(), Some("e"));
-    assert_eq!(rt; interface.speed(), Some(1_000_000_000u64));
+    assert!(rt; names_an_interface(rt.alloc(), body.as_slice()));
     Ok(())
 }
 
@@ -48,14 +76,22 @@ fn an_interface_without_names(rt: HostRuntime) -> Result<(), Fail> {
         rt.alloc(),
         "0001 0000 00040000 0bac 0005 00000001 61 000000 0063 0001 61000000 0009 0001 06000000",
     )?;
-    let (_, interface) = InterfaceDescriptionBlock::from_slice::<BigEndian>(
-        rt.alloc(),
-        body.as_slice(),
-    )?;
-    assert_eq!(rt; interface.comment(), None);
-    assert_eq!(rt; interface.name(), None);
-    assert_eq!(rt; interface.speed(), None);
+    assert!(rt; names_nothing(rt.alloc(), body.as_slice()));
     Ok(())
+}
+
+fn comments_on_a_packet(alloc: Global, body: &[u8]) -> bool {
+    match &EnhancedPacketBlock::from_slice::<BigEndian>(alloc, body) {
+        Ok((_, packet)) => packet.comment() == Some("hi"),
+        Err(_) => false,
+    }
+}
+
+fn comments_on_an_obsolete_packet(alloc: Global, body: &[u8]) -> bool {
+    match &PacketBlock::from_slice::<BigEndian>(alloc, body) {
+        Ok((_, packet)) => packet.comment() == Some("hi"),
+        Err(_) => false,
+    }
 }
 
 #[test]
@@ -64,28 +100,43 @@ fn comments_on_packets(rt: HostRuntime) -> Result<(), Fail> {
         rt.alloc(),
         "00000000 00000000 00000000 00000000 00000000 0004 0008 0000000000000001 0001 0002 68690000",
     )?;
-    let (_, packet) = EnhancedPacketBlock::from_slice::<BigEndian>(rt.alloc(), body.as_slice())?;
-    assert_eq!(rt; packet.comment(), Some("hi"));
-    let (_, packet) = PacketBlock::from_slice::<BigEndian>(rt.alloc(), body.as_slice())?;
-    assert_eq!(rt; packet.comment(), Some("hi"));
+    assert!(rt; comments_on_a_packet(rt.alloc(), body.as_slice()));
+    assert!(rt; comments_on_an_obsolete_packet(rt.alloc(), body.as_slice()));
     Ok(())
 }
 
+fn comments_on_names(alloc: Global, body: &[u8]) -> bool {
+    match &NameResolutionBlock::from_slice::<BigEndian>(alloc, body) {
+        Ok((_, names)) => names.comment() == Some("a"),
+        Err(_) => false,
+    }
+}
+
 #[test]
-fn comments_on_names_and_statistics(rt: HostRuntime) -> Result<(), Fail> {
+fn names_with_a_comment(rt: HostRuntime) -> Result<(), Fail> {
     let body = bytes(rt.alloc(), "0000 0000 0001 0001 61000000")?;
-    let (_, names) = NameResolutionBlock::from_slice::<BigEndian>(rt.alloc(), body.as_slice())?;
-    assert_eq!(rt; names.comment(), Some("a"));
+    assert!(rt; comments_on_names(rt.alloc(), body.as_slice()));
+    Ok(())
+}
+
+// Whether statistics have this comment and these numbers.
+fn counts(alloc: Global, body: &[u8]) -> bool {
+    match &InterfaceStatisticsBlock::from_slice::<BigEndian>(alloc, body) {
+        Ok((_, statistics)) => {
+            statistics.comment() == Some("b")
+                && statistics.received() == Some(100u64)
+                && statistics.dropped() == Some(3u64)
+        }
+        Err(_) => false,
+    }
+}
+
+#[test]
+fn statistics_with_a_comment(rt: HostRuntime) -> Result<(), Fail> {
     let body = bytes(
         rt.alloc(),
         "00000000 00000000 00000000 0005 0008 0000000000000003 0004 0008 0000000000000064 0001 0001 62000000",
     )?;
-    let (_, statistics) = InterfaceStatisticsBlock::from_slice::<BigEndian>(
-        rt.alloc(),
-        body.as_slice(),
-    )?;
-    assert_eq!(rt; statistics.comment(), Some("b"));
-    assert_eq!(rt; statistics.received(), Some(100u64));
-    assert_eq!(rt; statistics.dropped(), Some(3u64));
+    assert!(rt; counts(rt.alloc(), body.as_slice()));
     Ok(())
 }

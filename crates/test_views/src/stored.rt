@@ -2,9 +2,21 @@
 
 use byteorder::BigEndian;
 use pcap_blocks::SimplePacketBlock;
-use pcap_core::CowBytes;
+use pcap_core::{CowBytes, ResultParsing};
+use std::alloc::Global;
 use std::test::*;
 use test_support::rows::bytes;
+
+// Whether so many bytes of a simple packet of this body are stored under this snaplen: 1, 2, 3 and so on.
+fn stores(body: &[u8], snaplen: u32, len: usize) -> bool {
+    match &SimplePacketBlock::from_slice::<BigEndian>(body) {
+        Ok((_, packet)) => {
+            let stored = packet.stored(snaplen);
+            stored.len() == len && [1u8, 2, 3, 4, 5].starts_with(stored)
+        }
+        Err(_) => false,
+    }
+}
 
 // The body of a simple packet, the snaplen, and how many of its bytes are stored.
 #[test]
@@ -18,20 +30,25 @@ fn stored_bytes(rt: HostRuntime) -> Result<(), Fail> {
         ("00000000", 0, 0),
     ] {
         let body = bytes(rt.alloc(), digits)?;
-        let (_, packet) = SimplePacketBlock::from_slice::<BigEndian>(body.as_slice())?;
-        let stored = packet.stored(snaplen);
-        assert!(rt; [1u8, 2, 3, 4, 5].starts_with(stored), "{digits}");
-        assert_eq!(rt; stored.len(), len, "{digits}");
+        assert!(rt; stores(body.as_slice(), snaplen, len), "{digits}");
     }
     Ok(())
+}
+
+// Whether bytes that are owned are not lent.
+fn are_owned(alloc: Global, bytes: &[u8]) -> ResultParsing<bool> {
+    Ok(
+        CowBytes::Borrowed(bytes)
+            .into_owned(alloc)?
+            .as_borrowed()
+            .is_none(),
+    )
 }
 
 #[test]
 fn lent_bytes(rt: HostRuntime) -> Result<(), Fail> {
     let bytes = [1u8, 2];
-    let lent = CowBytes::Borrowed(&bytes).as_borrowed();
-    assert_eq!(rt; lent, Some(bytes.as_slice()));
-    let owned = CowBytes::Borrowed(&bytes).into_owned(rt.alloc())?;
-    assert_eq!(rt; owned.as_borrowed(), None);
+    assert!(rt; CowBytes::Borrowed(&bytes).as_borrowed() == Some(bytes.as_slice()));
+    assert!(rt; are_owned(rt.alloc(), &bytes)?);
     Ok(())
 }
