@@ -9,19 +9,21 @@ LONGEST = ":".join(f"glibc.cpu.x86_rep_{way}_threshold=100000000" for way in ("m
 COUNTED = dict(os.environ, GLIBC_TUNABLES=LONGEST)
 
 
-def count(command, given):
-    """The instructions of one run over this input, and what it wrote. Nothing where it fails."""
+def count(command, given, inside=None):
+    """The instructions of one run over this input, inside functions of this name alone where one is given, and what it wrote.
+    Nothing where it fails."""
     valgrind = ["valgrind", "--tool=callgrind", "--callgrind-out-file=/dev/null"]
+    valgrind += [f"--toggle-collect={inside}"] if inside else []
     with open(given, "rb") as bytes_in:
         run = subprocess.run(valgrind + command, stdin=bytes_in, capture_output=True, env=COUNTED)
     found = re.search(rb"Collected : (\d+)", run.stderr)
     return (int(found[1]), run.stdout) if found and run.returncode == 0 else None
 
 
-def per_item(program, call, given, items):
+def per_item(program, call, given, items, inside=None):
     """The instructions of one call for each item, and the sum that the program told. Reading the input and starting cost
     the same in both runs, so they fall out."""
-    few, many = (count([program, call, str(passes)], given) for passes in (5, 10))
+    few, many = (count([program, call, str(passes)], given, inside) for passes in (5, 10))
     return ((many[0] - few[0]) / 5 / items, many[1]) if few and many else None
 
 

@@ -1,9 +1,9 @@
 /* walk CALL PASSES < CAPTURE: takes each packet of a capture by the library's C header, so many times over, and prints a sum: of
  * a classic capture that of their nanoseconds and stored bytes, as `measured_calls next_packet` does, and of a PcapNg one that
  * of their units of time and stored bytes. CALL is take_packet or take_ng_packet for one in a call, take_packets or
- * take_ng_packets for 256, or push_next or push_ng_next, which tells nanoseconds, for one in a call of a capture that comes in
- * pieces of 64 KiB. open_next takes one in a call of pcapfile_open.h, of either format, and tells nanoseconds too; for that
- * standard input has to be a file. */
+ * take_ng_packets for 256. Of a capture that comes in pieces, into room of 256 KiB, it is push_next for one in a call and
+ * push_packets for 256, and push_ng_next and push_ng_packets, which tell nanoseconds. open_next takes one in a call of
+ * pcapfile_open.h, of either format, and tells nanoseconds too; for that standard input has to be a file. */
 #include "pcapfile_open.h"
 
 #include <inttypes.h>
@@ -12,7 +12,7 @@
 #include <string.h>
 #include <unistd.h>
 
-enum { BATCH = 256, PIECE = 1 << 16 };
+enum { BATCH = 256, ROOM = 1 << 18 };
 
 static int32_t add_batches(pcapfile_bytes left, uint64_t *sum) {
     static pcapfile_packet packets[BATCH];
@@ -39,46 +39,82 @@ static int32_t add_packets(pcapfile_bytes left, uint64_t *sum) {
     return status;
 }
 
+/* A capture that comes in pieces, as many bytes at once as the room has space for. */
+struct pieces {
+    pcapfile_bytes left;
+    pcapfile_push push;
+    pcapfile_section section;
+};
+
+static uint8_t room[ROOM];
+static pcapfile_interface interfaces[8] = { PCAPFILE_INTERFACE_INIT };
+
+/* Another piece, or the end: then 0. */
+static int come(struct pieces *walk, pcapfile_error *error) {
+    if (walk->left.len == 0) return 0;
+    pcapfile_push_space(&walk->push, room, ROOM, error->missing, error);
+    size_t count = ROOM - walk->push.end;
+    if (count > walk->left.len) count = walk->left.len;
+    memcpy(room + walk->push.end, walk->left.ptr, count);
+    walk->left = (pcapfile_bytes){ walk->left.ptr + count, walk->left.len - count };
+    pcapfile_push_put(&walk->push, room, ROOM, count);
+    return 1;
+}
+
+static int32_t ended(const struct pieces *walk, int32_t status) {
+    return status == PCAPFILE_INCOMPLETE && walk->push.begin == walk->push.end ? PCAPFILE_OK : status;
+}
+
 static int32_t add_pieces(pcapfile_bytes left, uint64_t *sum) {
-    static uint8_t room[1 << 19];
-    pcapfile_push push = PCAPFILE_PUSH_INIT;
+    struct pieces walk = { left, PCAPFILE_PUSH_INIT, PCAPFILE_SECTION_INIT };
     pcapfile_packet packet = PCAPFILE_PACKET_INIT;
     pcapfile_error error = PCAPFILE_ERROR_INIT;
     int32_t status;
-    for (;;) {
-        while ((status = pcapfile_push_next(&push, room, sizeof room, &packet, &error)) == PCAPFILE_OK)
+    do
+        while ((status = pcapfile_push_next(&walk.push, room, ROOM, &packet, &error)) == PCAPFILE_OK)
             *sum += packet.ts_nsec + packet.bytes.len;
-        if (status != PCAPFILE_INCOMPLETE || left.len == 0) break;
-        pcapfile_push_space(&push, room, sizeof room, error.missing, &error);
-        size_t count = sizeof room - push.end < PIECE ? sizeof room - push.end : PIECE;
-        if (count > left.len) count = left.len;
-        memcpy(room + push.end, left.ptr, count);
-        left = (pcapfile_bytes){ left.ptr + count, left.len - count };
-        pcapfile_push_put(&push, room, sizeof room, count);
-    }
-    return status == PCAPFILE_INCOMPLETE && push.begin == push.end ? PCAPFILE_OK : status;
+    while (status == PCAPFILE_INCOMPLETE && come(&walk, &error));
+    return ended(&walk, status);
+}
+
+static int32_t add_pushed_batches(pcapfile_bytes left, uint64_t *sum) {
+    static pcapfile_packet packets[BATCH];
+    struct pieces walk = { left, PCAPFILE_PUSH_INIT, PCAPFILE_SECTION_INIT };
+    pcapfile_error error = PCAPFILE_ERROR_INIT;
+    int32_t status;
+    for (size_t i = 0; i < BATCH; i++) packets[i] = (pcapfile_packet)PCAPFILE_PACKET_INIT;
+    do {
+        size_t taken = 0;
+        status = pcapfile_push_packets(&walk.push, room, ROOM, packets, BATCH, &taken, &error);
+        for (size_t i = 0; i < taken; i++) *sum += packets[i].ts_nsec + packets[i].bytes.len;
+    } while (status == PCAPFILE_OK || (status == PCAPFILE_INCOMPLETE && come(&walk, &error)));
+    return ended(&walk, status);
 }
 
 static int32_t add_ng_pieces(pcapfile_bytes left, uint64_t *sum) {
-    static uint8_t room[1 << 19];
-    pcapfile_push push = PCAPFILE_PUSH_INIT;
-    pcapfile_section section = PCAPFILE_SECTION_INIT;
-    pcapfile_interface interfaces[8] = { PCAPFILE_INTERFACE_INIT };
+    struct pieces walk = { left, PCAPFILE_PUSH_INIT, PCAPFILE_SECTION_INIT };
     pcapfile_any_packet packet = PCAPFILE_ANY_PACKET_INIT;
     pcapfile_error error = PCAPFILE_ERROR_INIT;
     int32_t status;
-    for (;;) {
-        while ((status = pcapfile_push_ng_next(&push, &section, room, sizeof room, interfaces, 8, &packet, &error)) == PCAPFILE_OK)
+    do
+        while ((status = pcapfile_push_ng_next(&walk.push, &walk.section, room, ROOM, interfaces, 8, &packet, &error)) == PCAPFILE_OK)
             *sum += packet.time.nanoseconds + packet.bytes.len;
-        if (status != PCAPFILE_INCOMPLETE || left.len == 0) break;
-        pcapfile_push_space(&push, room, sizeof room, error.missing, &error);
-        size_t count = sizeof room - push.end < PIECE ? sizeof room - push.end : PIECE;
-        if (count > left.len) count = left.len;
-        memcpy(room + push.end, left.ptr, count);
-        left = (pcapfile_bytes){ left.ptr + count, left.len - count };
-        pcapfile_push_put(&push, room, sizeof room, count);
-    }
-    return status == PCAPFILE_INCOMPLETE && push.begin == push.end ? PCAPFILE_OK : status;
+    while (status == PCAPFILE_INCOMPLETE && come(&walk, &error));
+    return ended(&walk, status);
+}
+
+static int32_t add_pushed_ng_batches(pcapfile_bytes left, uint64_t *sum) {
+    static pcapfile_any_packet packets[BATCH];
+    struct pieces walk = { left, PCAPFILE_PUSH_INIT, PCAPFILE_SECTION_INIT };
+    pcapfile_error error = PCAPFILE_ERROR_INIT;
+    int32_t status;
+    for (size_t i = 0; i < BATCH; i++) packets[i] = (pcapfile_any_packet)PCAPFILE_ANY_PACKET_INIT;
+    do {
+        size_t taken = 0;
+        status = pcapfile_push_ng_packets(&walk.push, &walk.section, room, ROOM, interfaces, 8, packets, BATCH, &taken, &error);
+        for (size_t i = 0; i < taken; i++) *sum += packets[i].time.nanoseconds + packets[i].bytes.len;
+    } while (status == PCAPFILE_OK || (status == PCAPFILE_INCOMPLETE && come(&walk, &error)));
+    return ended(&walk, status);
 }
 
 static int32_t add_ng_packets(pcapfile_bytes left, uint64_t *sum) {
@@ -130,7 +166,9 @@ static const struct {
     { "take_packet", add_packets },
     { "take_packets", add_batches },
     { "push_next", add_pieces },
+    { "push_packets", add_pushed_batches },
     { "push_ng_next", add_ng_pieces },
+    { "push_ng_packets", add_pushed_ng_batches },
     { "open_next", add_opened },
     { "take_ng_packet", add_ng_packets },
     { "take_ng_packets", add_ng_batches },

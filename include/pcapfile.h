@@ -233,6 +233,13 @@ int32_t pcapfile_push_put(pcapfile_push *push, const uint8_t *room, size_t room_
 int32_t pcapfile_push_next(pcapfile_push *push, const uint8_t *room, size_t room_len, pcapfile_packet *packet,
                            pcapfile_error *error);
 
+/* Takes packets as pcapfile_push_next does, until `packets_len` of them are in `packets`, or what is held gives no other one.
+ * `*taken` is how many they are; `packets` from there on is unchanged. The status is PCAPFILE_OK where `packets` is full. Else it
+ * is the one that pcapfile_push_next would tell next, as PCAPFILE_INCOMPLETE where nothing is held any more: the packets before
+ * have been taken, and are used before more space is made. */
+int32_t pcapfile_push_packets(pcapfile_push *push, const uint8_t *room, size_t room_len, pcapfile_packet *packets,
+                              size_t packets_len, size_t *taken, pcapfile_error *error);
+
 /* Captures in PcapNg are walked block by block. What a program needs of interfaces it keeps itself:
  *
  *     pcapfile_section section = PCAPFILE_SECTION_INIT;
@@ -331,6 +338,14 @@ typedef struct pcapfile_any_packet {
 int32_t pcapfile_push_ng_next(pcapfile_push *push, pcapfile_section *section, const uint8_t *room, size_t room_len,
                               pcapfile_interface *interfaces, size_t interfaces_len, pcapfile_any_packet *packet,
                               pcapfile_error *error);
+
+/* Takes packets as pcapfile_push_ng_next does, until `packets_len` of them are in `packets`, or what is held gives no other one.
+ * `*taken` is how many they are; `packets` from there on is unchanged. The status is PCAPFILE_OK where `packets` is full, and
+ * then nothing behind the last packet was taken. Else it is the one that pcapfile_push_ng_next would tell next: the packets before
+ * have been taken, and are used before more space is made. */
+int32_t pcapfile_push_ng_packets(pcapfile_push *push, pcapfile_section *section, const uint8_t *room, size_t room_len,
+                                 pcapfile_interface *interfaces, size_t interfaces_len, pcapfile_any_packet *packets,
+                                 size_t packets_len, size_t *taken, pcapfile_error *error);
 
 /* Takes the block at the front of `left`, which begins after it then, and puts into `section` what is in force after it.
  * The first block is a section header. The bodies of the first block, of section headers and of interfaces are read with it.

@@ -1,13 +1,17 @@
-/* The packets of a PcapNg capture that comes in pieces, by the library's call for them.
+/* The packets of a PcapNg capture that comes in pieces, by the library's calls for them.
  *
- *   packets PIECE ROOM FILE    the file comes in pieces of at most PIECE bytes, into room that is ROOM bytes long at first: a line
- *                              for each packet, as `open` prints it, and a line `refused` for each refusal
+ *   packets [-b COUNT] PIECE ROOM FILE    the file comes in pieces of at most PIECE bytes, into room that is ROOM bytes long at
+ *                                         first, and its packets are taken one by one, or up to COUNT in a call: a line for each
+ *                                         packet, as `open` prints it, and a line `refused` for each refusal
  */
 #include "any.h"
 #include "file.h"
 #include "pieces.h"
 
-enum { REFUSED = 1, USAGE = 2, ENDED_EARLY = 3, NO_MEMORY = 4, NO_FILE = 4 };
+enum { REFUSED = 1, USAGE = 2, ENDED_EARLY = 3, NO_MEMORY = 4, NO_FILE = 4, MOST = 8 };
+
+static size_t count;
+static pcapfile_any_packet packets[MOST];
 
 struct walk {
     struct pieces pieces;
@@ -26,17 +30,37 @@ static int32_t grow_places(struct walk *walk) {
     return PCAPFILE_OK;
 }
 
-static int32_t next(struct walk *walk, pcapfile_any_packet *packet) {
+/* Takes packets, one or as many as there are places, and prints them. Places behind them have to stay as they were. */
+static int32_t take(struct walk *walk) {
+    const pcapfile_any_packet none = PCAPFILE_ANY_PACKET_INIT;
+    struct pieces *pieces = &walk->pieces;
+    size_t taken = MOST;
+    int32_t status;
+    for (size_t i = 0; i < MOST; i++) packets[i] = none;
+    if (count == 0) {
+        status = pcapfile_push_ng_next(&pieces->push, &walk->section, pieces->room, pieces->room_len, walk->interfaces,
+                                       walk->interfaces_len, packets, &walk->error);
+        taken = status == PCAPFILE_OK;
+    } else {
+        status = pcapfile_push_ng_packets(&pieces->push, &walk->section, pieces->room, pieces->room_len, walk->interfaces,
+                                          walk->interfaces_len, packets, count, &taken, &walk->error);
+        if (taken > count || (taken == count) != (status == PCAPFILE_OK)) abort();
+    }
+    for (size_t i = 0; i < taken; i++) print_any(stdout, packets + i);
+    for (size_t i = taken; i < MOST; i++)
+        if (packets[i].bytes.len != 0 || packets[i].orig_len != 0) abort();
+    return status;
+}
+
+/* Prints packets until the capture has ended, or what follows is refused. */
+static int32_t print_more(struct walk *walk) {
     struct pieces *pieces = &walk->pieces;
     for (;;) {
-        int32_t status = pcapfile_push_ng_next(&pieces->push, &walk->section, pieces->room, pieces->room_len, walk->interfaces,
-                                               walk->interfaces_len, packet, &walk->error);
+        int32_t status = take(walk);
         if (status == PCAPFILE_NO_PLACE)
             status = grow_places(walk);
         else if (status == PCAPFILE_INCOMPLETE && pieces->left.len > 0)
             status = come(pieces, walk->error.missing, &walk->error);
-        else
-            return status;
         if (status != PCAPFILE_OK) return status;
     }
 }
@@ -51,13 +75,8 @@ static int passes(struct walk *walk, int32_t status) {
 }
 
 static int32_t list_packets(struct walk *walk) {
-    pcapfile_any_packet packet = PCAPFILE_ANY_PACKET_INIT;
     for (;;) {
-        int32_t status = next(walk, &packet);
-        if (status == PCAPFILE_OK) {
-            print_any(stdout, &packet);
-            continue;
-        }
+        int32_t status = print_more(walk);
         if (status == PCAPFILE_INCOMPLETE && walk->section.magic_number != 0 && walk->pieces.push.begin == walk->pieces.push.end)
             return PCAPFILE_OK;
         printf("refused\n");
@@ -76,6 +95,12 @@ static int status_of(int32_t status) {
 }
 
 int main(int argc, char **argv) {
+    if (argc > 3 && !strcmp(argv[1], "-b")) {
+        count = strtoul(argv[2], NULL, 10);
+        if (count == 0 || count > MOST) return USAGE;
+        argc -= 2;
+        argv += 2;
+    }
     size_t piece = argc == 4 ? strtoul(argv[1], NULL, 10) : 0, room = argc == 4 ? strtoul(argv[2], NULL, 10) : 0;
     if (piece == 0 || room == 0) return USAGE;
     pcapfile_bytes all = read_file(argv[3]);

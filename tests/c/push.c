@@ -1,21 +1,43 @@
 /* The lines of `capcopy list`, by the library's calls for a capture that comes in pieces.
  *
- *   push PIECE ROOM FILE        the file comes in pieces of at most PIECE bytes, into room that is ROOM bytes long at first
- *   push PIECE ROOM -f FILE     every front of the file so: its lines, and then its status
+ *   push [-b COUNT] PIECE ROOM FILE        the file comes in pieces of at most PIECE bytes, into room that is ROOM bytes long at
+ *                                          first, and its packets are taken one by one, or up to COUNT in a call
+ *   push [-b COUNT] PIECE ROOM -f FILE     every front of the file so: its lines, and then its status
  */
 #include "lines.h"
 #include "pieces.h"
 
-static size_t piece, first_room;
+enum { MOST = 8 };
+
+static size_t piece, first_room, count;
+static pcapfile_packet packets[MOST];
+
+/* Takes packets, one or as many as there are places, and says how many. Places behind them have to stay as they were. */
+static int32_t take(struct pieces *walk, size_t *taken, pcapfile_error *error) {
+    const pcapfile_packet none = PCAPFILE_PACKET_INIT;
+    int32_t status;
+    for (size_t i = 0; i < MOST; i++) packets[i] = none;
+    if (count == 0) {
+        status = pcapfile_push_next(&walk->push, walk->room, walk->room_len, packets, error);
+        *taken = status == PCAPFILE_OK;
+    } else {
+        *taken = MOST;
+        status = pcapfile_push_packets(&walk->push, walk->room, walk->room_len, packets, count, taken, error);
+        if (*taken > count || (*taken == count) != (status == PCAPFILE_OK)) abort();
+    }
+    for (size_t i = *taken; i < MOST; i++)
+        if (packets[i].bytes.len != 0 || packets[i].orig_len != 0) abort();
+    return status;
+}
 
 static int32_t list_pieces(pcapfile_bytes all, pcapfile_error *error) {
     struct pieces walk = pieces_of(all, piece, first_room);
-    pcapfile_packet packet = PCAPFILE_PACKET_INIT;
     uint64_t index = 0;
     int32_t status = walk.room ? PCAPFILE_OK : PCAPFILE_NO_MEMORY;
     while (status == PCAPFILE_OK) {
-        status = pcapfile_push_next(&walk.push, walk.room, walk.room_len, &packet, error);
-        if (status == PCAPFILE_OK) print_packet(++index, &packet);
+        size_t taken;
+        status = take(&walk, &taken, error);
+        for (size_t i = 0; i < taken; i++) print_packet(++index, packets + i);
         if (status == PCAPFILE_INCOMPLETE && walk.left.len > 0) status = come(&walk, error->missing, error);
     }
     if (status == PCAPFILE_INCOMPLETE && walk.push.header.magic_number != 0 && walk.push.begin == walk.push.end)
@@ -26,6 +48,12 @@ static int32_t list_pieces(pcapfile_bytes all, pcapfile_error *error) {
 
 int main(int argc, char **argv) {
     pcapfile_error error = PCAPFILE_ERROR_INIT;
+    if (argc > 3 && !strcmp(argv[1], "-b")) {
+        count = strtoul(argv[2], NULL, 10);
+        if (count == 0 || count > MOST) return USAGE;
+        argc -= 2;
+        argv += 2;
+    }
     int of_fronts = argc == 5 && !strcmp(argv[3], "-f");
     if (argc != 4 && !of_fronts) return USAGE;
     piece = strtoul(argv[1], NULL, 10);

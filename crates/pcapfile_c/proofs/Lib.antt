@@ -3,11 +3,14 @@ pub mod Many
 pub mod Leading
 pub mod Passages
 pub mod Pushed
+pub mod PushedPackets
 pub mod Pushes
 pub mod PushedBlocks
 pub mod RoomLaws
 pub mod BlockLaws
 pub mod Passing
+pub mod PacketsCome
+pub mod PushedNgPackets
 pub mod PacketLaws
 pub mod Puts
 pub mod Parts

@@ -70,7 +70,7 @@ packet_ends magic s rest p x =
     (o.0, o.1)
 
 -- what follows the header's text
-opened_ends : (before now : PcapfileHeader) (s after : List ℕ) → Opened before now s after → (t : List ℕ) × (s ≡ t ++ after)
+pub opened_ends : (before now : PcapfileHeader) (s after : List ℕ) → Opened before now s after → (t : List ℕ) × (s ≡ t ++ after)
 opened_ends before now s after (inl x) = ([], sym x.2)
 opened_ends before now s after (inr x) = header_opening.ends s after x.1 x.3
 

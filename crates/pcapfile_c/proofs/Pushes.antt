@@ -1,10 +1,11 @@
 -- Calls on a capture that comes in pieces, one after the other.
-use Rattle.std.proofs.Common.{take, drop, ◌≡◌, ℕ, ℤ, List, [], ◌∷◌, ◌++◌, false, Bool, T, refl, sym, ap, subst, ◌∙◌, append_assoc, append-nil, inl, inr, pos}
+use Rattle.std.proofs.Common.{take, drop, map, ◌≡◌, ℕ, ℤ, List, [], ◌∷◌, ◌++◌, false, Bool, T, refl, sym, ap, subst, ◌∙◌, append_assoc, append-nil, inl, inr, pos}
 use Rattle.std.specs.Prelude.{IsTrue, ◌≢◌, ◌⊎◌}
+use Rattle.std.proofs.lemmas.List.Concat.{flat_map-append}
 use Rattle.pcap_core.specs.Answer.{Verdict, number_in, whole, lacks, faulty}
 use Rattle.pcap_core.specs.Faults.{Fault, Invalid, Io, Utf8}
 use Rattle.pcap_core.specs.Format.{Front, Texts}
-use Rattle.pcap_core.proofs.Formats.{fault_no_text, lacks_no_text, texts_more, texts_push}
+use Rattle.pcap_core.proofs.Formats.{fault_no_text, lacks_no_text, texts_all, texts_more, texts_push}
 use Rattle.pcap_classic.specs.declared.pcap.header.PcapHeader.{PcapHeader}
 use Rattle.pcap_classic.specs.Front.{CaptureFront}
 use Rattle.pcap_classic.specs.HeaderText.{HeaderSays, HeaderText}
@@ -19,9 +20,11 @@ use Rattle.pcapfile_c.specs.declared.push.PcapfilePush.{PcapfilePush}
 use Rattle.pcapfile_c.specs.declared.shown.PcapfileHeader.{PcapfileHeader}
 use Rattle.pcapfile_c.specs.declared.shown.PcapfilePacket.{PcapfilePacket}
 use Rattle.pcapfile_c.specs.Calls.{PacketsSaid}
-use Rattle.pcapfile_c.specs.Push.{MakesSpace, Opened, TakesFront, TakesNext, held_in}
-use Rattle.pcapfile_c.specs.Pushes.{Call, Calls, HaveEnded, all_given, all_put, under_status}
-use Rattle.pcapfile_c.specs.Pushes.Call.{space, put, next, between}
+use Rattle.pcapfile_c.specs.Push.{MakesSpace, Opened, TakesFront, held_in}
+use Rattle.pcapfile_c.specs.PushBatches.{TakesFrontPackets}
+use Rattle.pcapfile_c.specs.Pushes.{Call, Calls, HaveEnded, TakingCall, all_given, all_put, under_status}
+use Rattle.pcapfile_c.specs.Pushes.Call.{space, put, takes, between}
+use Rattle.pcapfile_c.specs.Pushes.TakingCall.{one, many}
 use Rattle.pcapfile_c.specs.Refusals.{TellsRefusal}
 use Rattle.pcapfile_c.specs.Shown.{captured, shown_header}
 
@@ -106,6 +109,33 @@ space_keeps before push room now wanted error told z (inl x) = rw (x.2, x.3) (re
 space_keeps before push room now wanted error told z (inr (inl x)) = rw (x.2, x.3) (refl, refl)
 space_keeps before push room now wanted error told z (inr (inr x)) = (x.2.header, x.2.held)
 
+-- packets were taken, or none
+many_come : (before now : PcapfileHeader) (held rest s : List ℕ) (packets : List Captured) (old places : List PcapfilePacket) (taken : ℕ) (error told : PcapfileError) (z : ℤ)
+    → TakesFrontPackets before now held rest old places taken error told z → HaveCome s before held packets → HaveCome (s ++ []) now rest (packets ++ map captured (take taken places))
+many_come before now held rest s packets old places taken error told z (inl x) come =
+    let more = map captured (take taken places) in
+    let o = opened_comes before now held x.0 s packets x.1 come in
+    let magic = o.0.magic_number in
+    let there : Under magic more x.0 rest = subst (λ (h : PcapfileHeader). Under h.magic_number more x.0 rest) o.2 x.2.texts in
+    let texts = texts_all (packet_format packet_limit (number_in (order_of magic)) (resolution_of magic)) tt packets more o.1 x.0 rest o.4 there in
+    rw (append-nil s) (inr (o.0, o.1, o.2, o.3, texts))
+many_come before now held rest s packets old places taken error told z (inr x) come =
+    unmoved before now held rest s [] packets (map captured (take taken places)) x.2 x.3 refl (ap (λ (n : ℕ). map captured (take n places)) x.0.0) come
+
+-- a call that takes packets
+taking_comes : (before push : PcapfilePush) (room s : List ℕ) (packets given : List Captured) (z : ℤ) → TakingCall before push room z given → HaveCome s before.header (held_in before room) packets
+    → HaveCome s push.header (held_in push room) (packets ++ given)
+taking_comes before push room s packets given z (one old packet error told (inl x)) come =
+    rw (← append-nil s) (next_comes before.header push.header (held_in before room) (held_in push room) s packets old packet error told z x.3 come)
+taking_comes before push room s packets given z (one old packet error told (inr x)) come =
+    let none : under_status z (captured packet ∷ []) ≡ [] = ap (λ (k : ℤ). under_status k (captured packet ∷ [])) x.0 in
+    rw (← append-nil s) (unmoved before.header push.header (held_in before room) (held_in push room) s [] packets (under_status z (captured packet ∷ [])) (ap (λ (p : PcapfilePush). p.header) x.2) (ap (λ (p : PcapfilePush). held_in p room) x.2) refl none come)
+taking_comes before push room s packets given z (many old places taken error told (inl x)) come =
+    rw (← append-nil s) (many_come before.header push.header (held_in before room) (held_in push room) s packets old places taken error told z x.3 come)
+taking_comes before push room s packets given z (many old places taken error told (inr x)) come =
+    let none : map captured (take taken places) ≡ [] = ap (λ (n : ℕ). map captured (take n places)) x.3.0 in
+    rw (← append-nil s) (unmoved before.header push.header (held_in before room) (held_in push room) s [] packets (map captured (take taken places)) (ap (λ (p : PcapfilePush). p.header) x.2) (ap (λ (p : PcapfilePush). held_in p room) x.2) refl none come)
+
 -- a call
 call_comes : (before push : PcapfilePush) (room now s t : List ℕ) (packets more : List Captured) → Call before room push now t more → HaveCome s before.header (held_in before room) packets
     → HaveCome (s ++ t) push.header (held_in push now) (packets ++ more)
@@ -122,11 +152,8 @@ call_comes before push room now s t packets more (put count z same (inr x)) come
     let bytes = take count (drop before.end room) in
     let none : under_status z bytes ≡ [] = ap (λ (k : ℤ). under_status k bytes) x.0 in
     unmoved before.header push.header (held_in before room) (held_in push now) s (under_status z bytes) packets [] (ap (λ (p : PcapfilePush). p.header) x.1) (rw (x.1, same) refl) none refl come
-call_comes before push room now s t packets more (next old packet error told z same (inl x)) come =
-    rw same (next_comes before.header push.header (held_in before room) (held_in push room) s packets old packet error told z x.3 come)
-call_comes before push room now s t packets more (next old packet error told z same (inr x)) come =
-    let none : under_status z (captured packet ∷ []) ≡ [] = ap (λ (k : ℤ). under_status k (captured packet ∷ [])) x.0 in
-    unmoved before.header push.header (held_in before room) (held_in push now) s [] packets (under_status z (captured packet ∷ [])) (ap (λ (p : PcapfilePush). p.header) x.2) (rw (x.2, same) refl) refl none come
+call_comes before push room now s t packets more (takes z given same call) come =
+    rw (same, append-nil s) (taking_comes before push room s packets given z call come)
 call_comes before push room now s t packets more (between kept front) come =
     let held : held_in push now ≡ held_in before room = ap (λ (p : PcapfilePush). held_in p now) kept ∙ front in
     unmoved before.header push.header (held_in before room) (held_in push now) s [] packets [] (ap (λ (p : PcapfilePush). p.header) kept) held refl refl come
@@ -160,31 +187,43 @@ no_packet magic left told z (inr (inl x)) v after text = fault_no_packet magic l
 no_packet magic left told z (inr (inr (inl x))) v after text = fault_no_packet magic left Io x.2 v after text
 no_packet magic left told z (inr (inr (inr x))) v after text = fault_no_packet magic left Utf8 x.2 v after text
 
+-- why no packet follows behind the header in force
+abbrev Refuses : PcapfilePush → List ℕ → ℤ → Type 0
+Refuses push room z = (told : PcapfileError) × TellsRefusal (PacketsSaid push.header.magic_number (held_in push room)) told z
+
+taking_refuses : (before push : PcapfilePush) (room : List ℕ) (given : List Captured) (z : ℤ) → TakingCall before push room z given → z ≢ pos 0 → z ≢ pos 10 → IsTrue (is_magic push.header.magic_number) → Refuses push room z
+taking_refuses before push room given z (one old packet error told (inl (lies, within, end, inl x))) some known valid = absurd (some x.0)
+taking_refuses before push room given z (one old packet error told (inl (lies, within, end, inr (inl x)))) some known valid = (told, x.2)
+taking_refuses before push room given z (one old packet error told (inl (lies, within, end, inr (inr x)))) some known valid =
+    let none : is_magic push.header.magic_number ≡ false = subst (λ (h : PcapfileHeader). is_magic h.magic_number ≡ false) (sym x.2) x.1 in
+    absurd (not_both (is_magic push.header.magic_number) valid none)
+taking_refuses before push room given z (one old packet error told (inr x)) some known valid = absurd (known x.0)
+taking_refuses before push room given z (many old places taken error told (inl (lies, within, end, inl x))) some known valid = elim x.2.ends [
+  | inl e ↦ absurd (some e.0)
+  | inr e ↦ (told, e.1)
+]
+taking_refuses before push room given z (many old places taken error told (inl (lies, within, end, inr x))) some known valid =
+    let none : is_magic push.header.magic_number ≡ false = subst (λ (h : PcapfileHeader). is_magic h.magic_number ≡ false) (sym x.2) x.1 in
+    absurd (not_both (is_magic push.header.magic_number) valid none)
+taking_refuses before push room given z (many old places taken error told (inr x)) some known valid = absurd (known x.0)
+
 -- where a packet is refused behind all packets that came, these are the front's
-front_come : (before now : PcapfileHeader) (held left s : List ℕ) (packets : List Captured) (told : PcapfileError) (z : ℤ) → Opened before now held left
-    → TellsRefusal (PacketsSaid now.magic_number left) told z → HaveCome s before held packets
-    → (header : PcapHeader) × (now ≡ shown_header header) × CaptureFront packet_limit header packets s left
-front_come before now held left s packets told z opened refused come =
-    let o = opened_comes before now held left s packets opened come in
+front_come : (now : PcapfileHeader) (left s : List ℕ) (packets : List Captured) (told : PcapfileError) (z : ℤ) → IsTrue (is_magic now.magic_number) → TellsRefusal (PacketsSaid now.magic_number left) told z
+    → HaveCome s now left packets → (header : PcapHeader) × (now ≡ shown_header header) × CaptureFront packet_limit header packets s left
+front_come now left s packets told z valid refused (inl x) = absurd (not_both (is_magic now.magic_number) valid x.0)
+front_come now left s packets told z valid refused (inr o) =
     let here : TellsRefusal (PacketsSaid o.0.magic_number left) told z = subst (λ (h : PcapfileHeader). TellsRefusal (PacketsSaid h.magic_number left) told z) o.2 refused in
     let front : Front (format_under packet_limit o.0) tt packets o.1 left = record { texts = o.4; longest = λ v after text. no_packet o.0.magic_number left told z here v after text } in
     (o.0, o.2, record { after = o.1; header_text = o.3; front = front })
-
--- the same where a call tells that no packet follows
-last_come : (last push : PcapfilePush) (now s : List ℕ) (packets : List Captured) (old packet : PcapfilePacket) (error told : PcapfileError) (z : ℤ) → IsTrue (is_magic push.header.magic_number)
-    → TakesNext last push now old packet error told z → z ≢ pos 0 → z ≢ pos 10 → HaveCome s last.header (held_in last now) packets
-    → (header : PcapHeader) × (push.header ≡ shown_header header) × CaptureFront packet_limit header packets s (held_in push now)
-last_come last push now s packets old packet error told z valid (inl (lies, within, end, inl x)) some known come = absurd (some x.0)
-last_come last push now s packets old packet error told z valid (inl (lies, within, end, inr (inl x))) some known come =
-    front_come last.header push.header (held_in last now) (held_in push now) s packets told z x.1 x.2 come
-last_come last push now s packets old packet error told z valid (inl (lies, within, end, inr (inr x))) some known come =
-    let none : is_magic push.header.magic_number ≡ false = subst (λ (h : PcapfileHeader). is_magic h.magic_number ≡ false) (sym x.2) x.1 in
-    absurd (not_both (is_magic push.header.magic_number) valid none)
-last_come last push now s packets old packet error told z valid (inr x) some known come = absurd (known x.0)
 
 -- The law: however the bytes are cut, and whatever calls are made, what they gave are the packets of the front of all bytes.
 pub pushes_front : (calls : List (List ℕ × List Captured)) (push : PcapfilePush) (room : List ℕ) → HaveEnded calls push room
     → (header : PcapHeader) × (push.header ≡ shown_header header) × CaptureFront packet_limit header (all_given calls) (all_put calls) (held_in push room)
 pushes_front calls push room x =
-    let come = calls_come calls x.start x.last x.start_room room [] [] x.made (inl (x.fresh, x.empty, refl)) in
-    last_come x.last push room (all_put calls) (all_given calls) x.old x.packet x.error x.told x.status x.opened x.tells x.refused x.lay_within come
+    let come = calls_come x.earlier x.start x.last x.start_room room [] [] x.made (inl (x.fresh, x.empty, refl)) in
+    let there = taking_comes x.last push room (all_put x.earlier) (all_given x.earlier) x.given x.status x.tells come in
+    let refused = taking_refuses x.last push room x.given x.status x.tells x.refused x.lay_within x.opened in
+    let put : all_put calls ≡ all_put x.earlier = ap all_put x.all ∙ flat_map-append (λ call. call.0) x.earlier (([], x.given) ∷ []) ∙ append-nil (all_put x.earlier) in
+    let given : all_given calls ≡ all_given x.earlier ++ x.given =
+    ap all_given x.all ∙ flat_map-append (λ call. call.1) x.earlier (([], x.given) ∷ []) ∙ ap (λ (l : List Captured). all_given x.earlier ++ l) (append-nil x.given) in
+    rw (put, given) (front_come push.header (held_in push room) (all_put x.earlier) (all_given x.earlier ++ x.given) refused.0 x.status x.opened refused.1 there)

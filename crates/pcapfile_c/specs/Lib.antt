@@ -6,12 +6,15 @@ pub mod Blocks
 pub mod Bodies
 pub mod Batches
 pub mod Push
+pub mod PushBatches
 pub mod Pushes
 pub mod PushBlocks
 pub mod RoomCalls
 pub mod BlockPushes
 pub mod AnyPackets
 pub mod PushPackets
+pub mod ReadBlocks
+pub mod PushNgBatches
 pub mod PacketPushes
 pub mod Reasons
 pub mod Putting

@@ -27,6 +27,7 @@ pub struct PcapfileAnyPacket<'a> {
 
 impl PcapfileSection {
     // The interface of this number, where the section has it so far.
+    #[inline(always)]
     pub(crate) fn interface_at(
         &self,
         interfaces: &[PcapfileInterface],
@@ -44,6 +45,7 @@ impl PcapfileSection {
 
 impl<'a> PcapfileAnyPacket<'a> {
     // What C sees of a packet of a section whose interfaces stand in the first places.
+    #[inline(always)]
     pub(crate) fn new(
         packet: PcapfileNgPacket<'a>,
         section: &PcapfileSection,
@@ -58,6 +60,7 @@ impl<'a> PcapfileAnyPacket<'a> {
     }
 
     // What C sees of a packet of this interface.
+    #[inline(always)]
     fn of_interface(
         packet: PcapfileNgPacket<'a>,
         interface: PcapfileInterface,
@@ -101,6 +104,7 @@ const NO_TIME: PcapfileTime = PcapfileTime {
 const SIMPLE: u32 = 3;
 
 // The bytes that are stored of a packet: behind those of a simple one padding follows.
+#[inline(always)]
 fn stored<'a>(packet: PcapfileNgPacket<'a>, snaplen: u32) -> &'a [u8]
     ensures { result.now ≡ stored_bytes packet.entry snaplen }
 {
@@ -116,6 +120,7 @@ fn stored<'a>(packet: PcapfileNgPacket<'a>, snaplen: u32) -> &'a [u8]
 }
 
 // The time of a packet by the clock of its interface, and 1 where it has one.
+#[inline(always)]
 fn time_in(packet: &PcapfileNgPacket<'_>, interface: &PcapfileInterface) -> (u8, PcapfileTime)
     ensures { TellsPacketTime (clock_shown interface.now) packet.now result.0 result.1 }
 {

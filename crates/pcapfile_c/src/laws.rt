@@ -14,11 +14,12 @@ ghost use Rattle.pcapfile_c.specs.declared.push.PcapfilePush.{PcapfilePush};
 ghost use Rattle.pcapfile_c.specs.Blocks.{ShowsState, ShowsBlock};
 ghost use Rattle.pcapfile_c.specs.BlockPushes.{BlocksHaveEnded};
 ghost use Rattle.pcapfile_c.specs.declared.any_packets.PcapfileAnyPacket.{PcapfileAnyPacket};
-ghost use Rattle.pcapfile_c.specs.PacketPushes.{PacketsHaveEnded, ShowsThere, each_under, is_packet_there, read_format};
+ghost use Rattle.pcapfile_c.specs.PacketPushes.{PacketsHaveEnded};
 ghost use Rattle.pcapfile_c.specs.Push.{held_in};
 ghost use Rattle.pcapfile_c.specs.Pushes.{HaveEnded, all_given, all_put};
 ghost use Rattle.pcapfile_c.specs.Putting.{Given, a_section};
 ghost use Rattle.pcapfile_c.specs.PutsAgain.{ArePut, IsReadAs};
+ghost use Rattle.pcapfile_c.specs.ReadBlocks.{ShowsThere, each_under, is_packet_there, read_format};
 ghost use Rattle.pcapfile_c.specs.Shown.{shown_header};
 
 /// However a capture is cut, and whatever calls are made in any order, in any rooms in which C leaves what is held: where a call

@@ -15,6 +15,7 @@ mod errors;
 pub mod laws;
 mod pcap;
 mod push;
+mod push_batches;
 mod push_blocks;
 mod push_packets;
 mod putting;

@@ -58,7 +58,8 @@ pub extern "C" fn pcapfile_push_ng_next<'a>(
 }
 
 // Takes the packet at the front of `left`, and the blocks before it.
-fn take_packet<'a>(
+#[inline(always)]
+pub(crate) fn take_packet<'a>(
     alloc: Global,
     section: &mut PcapfileSection,
     left: &mut PcapfileBytes<'a>,

@@ -1,0 +1,48 @@
+-- Many packets of a capture that comes in pieces.
+use Rattle.std.proofs.Common.{◌≡◌, ◌≤◌, ◌-◌, ℕ, ℤ, List, [], ◌++◌, length, map, take, drop, refl, sym, ap, subst, ◌∙◌, arith, append_assoc, length-append, length-take, inl, inr}
+use Rattle.pcap_core.specs.Answer.{number_in}
+use Rattle.pcap_core.proofs.Formats.{texts_own}
+use Rattle.pcap_classic.specs.Magic.{order_of, resolution_of}
+use Rattle.pcap_classic.specs.Packets.{packet_format}
+use Rattle.pcap_classic.specs.PacketText.{packet_limit}
+use Rattle.pcap_classic.proofs.HeadedPackets.{packets_lawful}
+use Rattle.pcapfile_c.specs.declared.errors.PcapfileError.{PcapfileError}
+use Rattle.pcapfile_c.specs.declared.push.PcapfilePush.{PcapfilePush}
+use Rattle.pcapfile_c.specs.declared.shown.PcapfileHeader.{PcapfileHeader}
+use Rattle.pcapfile_c.specs.declared.shown.PcapfilePacket.{PcapfilePacket}
+use Rattle.pcapfile_c.specs.Push.{LiesWithin, held_in}
+use Rattle.pcapfile_c.specs.PushBatches.{FillsPlaces, TakesFrontPackets, TakesNextPackets}
+use Rattle.pcapfile_c.specs.Shown.{captured}
+use Rattle.pcapfile_c.proofs.Pushed.{held_rest, opened_ends, with_rest}
+
+-- what is left is the end of what was there
+fills_ends : (magic : ℕ) (s rest : List ℕ) (old packets : List PcapfilePacket) (taken : ℕ) (error told : PcapfileError) (z : ℤ)
+    → FillsPlaces magic s rest old packets taken error told z → (t : List ℕ) × (s ≡ t ++ rest)
+fills_ends magic s rest old packets taken error told z x =
+    let order = number_in (order_of magic) in
+    let r = resolution_of magic in
+    let o = texts_own (packet_format packet_limit order r) (packets_lawful packet_limit order r) tt (map captured (take taken packets)) s rest x.texts in
+    (o.0, o.1)
+
+pub packets_end : (before now : PcapfileHeader) (s rest : List ℕ) (old packets : List PcapfilePacket) (taken : ℕ) (error told : PcapfileError) (z : ℤ)
+    → TakesFrontPackets before now s rest old packets taken error told z → (t : List ℕ) × (s ≡ t ++ rest)
+packets_end before now s rest old packets taken error told z (inl x) =
+    let o = opened_ends before now s x.0 x.1 in
+    let p = fills_ends now.magic_number x.0 rest old packets taken error told z x.2 in
+    (o.0 ++ p.0, o.1 ∙ ap (λ (l : List ℕ). o.0 ++ l) p.1 ∙ sym (append_assoc o.0 p.0 rest))
+packets_end before now s rest old packets taken error told z (inr x) = ([], sym x.3)
+
+-- no more is left than stood there
+pub rest_fits : (b e : ℕ) (room held t rest : List ℕ) → held ≡ take (e - b) (drop b room) → held ≡ t ++ rest → length rest ≤ e
+rest_fits b e room held t rest is text = omega (arith, ap length is ∙ length-take (e - b) (drop b room), ap length text ∙ length-append t rest)
+
+-- packets are taken from what is held
+pub packets_take : (before : PcapfilePush) (header : PcapfileHeader) (room s rest : List ℕ) (old packets : List PcapfilePacket) (taken : ℕ) (error told : PcapfileError) (z : ℤ)
+    → LiesWithin before room → s ≡ held_in before room → TakesFrontPackets before.header header s rest old packets taken error told z
+    → TakesNextPackets before (with_rest before header rest) room old packets taken error told z
+packets_take before header room s rest old packets taken error told z lies is takes =
+    let o = packets_end before.header header s rest old packets taken error told z takes in
+    let same : drop (before.end - length rest) (take before.end room) ≡ rest = held_rest before room s o.0 rest lies is o.1 in
+    let here : TakesFrontPackets before.header header (held_in before room) rest old packets taken error told z = subst (λ (l : List ℕ). TakesFrontPackets before.header header l rest old packets taken error told z) is takes in
+    let there = subst (λ (l : List ℕ). TakesFrontPackets before.header header (held_in before room) l old packets taken error told z) (sym same) here in
+    inl (lies, (omega arith, lies.1), refl, there)

@@ -1,0 +1,161 @@
+//! Captures of either format that come in pieces, in room that the caller has: their packets, many in one call.
+
+ghost use Rattle.std.specs.Prelude.{◌≡◌, ◌≤◌, length, false, IsTrue, None};
+ghost use Rattle.pcap_classic.specs.Magic.{is_magic};
+ghost use Rattle.pcap_file.specs.State.{State};
+ghost use Rattle.pcapfile_c.specs.Blocks.{order_shown};
+ghost use Rattle.pcapfile_c.specs.PushBatches.{FillsPlaces, TakesFrontPackets, TakesNextPackets};
+ghost use Rattle.pcapfile_c.specs.PushNgBatches.{TakesFrontNgPackets, TakesNextNgPackets, RefusesNextNgPackets};
+ghost use Rattle.pcapfile_c.specs.PushPackets.{ShowsInForce};
+
+use crate::any_packets::PcapfileAnyPacket;
+use crate::blocks::PcapfileSection;
+use crate::bodies::PcapfileInterface;
+use crate::errors::{PcapfileError, tell};
+use crate::pcap::{pcapfile_take_header, pcapfile_take_packets};
+use crate::push::PcapfilePush;
+use crate::push_packets::take_packet;
+use crate::shown::{PcapfileBytes, PcapfileHeader, PcapfilePacket};
+use pcap_core::rules::Rule;
+use pcap_file::PcapError;
+use std::alloc::Global;
+
+/// Takes packets at the front of what is held until each place is filled or what is left is refused, and the capture's header
+/// before them where that isn't taken yet. `taken` says how many they are. Their bytes lie in the room. Status 0: each place is
+/// filled. Other statuses as of `pcapfile_push_next`.
+#[unsafe(no_mangle)]
+pub extern "C" fn pcapfile_push_packets<'a>(
+    push: &mut PcapfilePush,
+    room: &'a [u8],
+    packets: &mut [PcapfilePacket<'a>],
+    taken: &mut usize,
+    error: &mut PcapfileError,
+) -> i32
+    ensures { TakesNextPackets push.old push.new room.now packets.old packets.new taken.new error.old error.new result }
+{
+    *taken = 0;
+    let Some(held) = room.get(push.begin..push.end) else {
+        return 10;
+    };
+    let mut left = PcapfileBytes { bytes: held };
+    let status = take_front_packets(&mut push.header, &mut left, packets, taken, error);
+    push.begin = push.end - left.bytes.len();
+    status
+}
+
+// Takes packets at the front of `left`, and the header before them where none is in force.
+fn take_front_packets<'a>(
+    header: &mut PcapfileHeader,
+    left: &mut PcapfileBytes<'a>,
+    packets: &mut [PcapfilePacket<'a>],
+    taken: &mut usize,
+    error: &mut PcapfileError,
+) -> i32
+    requires { taken.old ≡ 0 }
+    ensures { TakesFrontPackets header.old header.new left.old.bytes.now left.new.bytes.now packets.old packets.new taken.new error.old error.new result }
+{
+    match header.kind() {
+        Some(_) => fill_places(header, left, packets, taken, error),
+        None => take_first_packets(header, left, packets, taken, error),
+    }
+}
+
+// Takes the header at the front of `left`, and packets behind it.
+#[cold]
+#[inline(never)]
+fn take_first_packets<'a>(
+    header: &mut PcapfileHeader,
+    left: &mut PcapfileBytes<'a>,
+    packets: &mut [PcapfilePacket<'a>],
+    taken: &mut usize,
+    error: &mut PcapfileError,
+) -> i32
+    requires none_taken { taken.old ≡ 0 }
+    requires none_in_force { is_magic header.old.magic_number ≡ false }
+    ensures { TakesFrontPackets header.old header.new left.old.bytes.now left.new.bytes.now packets.old packets.new taken.new error.old error.new result }
+{
+    let status = pcapfile_take_header(left, header, error);
+    if status != 0 {
+        return status;
+    }
+    fill_places(header, left, packets, taken, error)
+}
+
+// Takes packets at the front of `left`, behind the header in force, until each place is filled or what is left is refused.
+fn fill_places<'a>(
+    header: &PcapfileHeader,
+    left: &mut PcapfileBytes<'a>,
+    packets: &mut [PcapfilePacket<'a>],
+    taken: &mut usize,
+    error: &mut PcapfileError,
+) -> i32
+    requires { IsTrue (is_magic header.now.magic_number) }
+    ensures { FillsPlaces header.now.magic_number left.old.bytes.now left.new.bytes.now packets.old packets.new taken.new error.old error.new result }
+{
+    let status = pcapfile_take_packets(header, left, packets, taken, error);
+    if status == 0 && *taken < packets.len() {
+        return tell(&PcapError::IncompleteBuffer(16), error);
+    }
+    status
+}
+
+/// Takes packets of a PcapNg capture at the front of what is held, with the blocks before each as `pcapfile_push_ng_next` does,
+/// until each place is filled or what is left gives none. `taken` says how many they are. Their bytes lie in the room. Status 0:
+/// each place is filled, and nothing behind the last packet was taken. Other statuses as of `pcapfile_push_ng_next`.
+#[unsafe(no_mangle)]
+pub extern "C" fn pcapfile_push_ng_packets<'a>(
+    alloc: Global,
+    push: &mut PcapfilePush,
+    section: &mut PcapfileSection,
+    room: &'a [u8],
+    interfaces: &mut [PcapfileInterface],
+    packets: &mut [PcapfileAnyPacket<'a>],
+    taken: &mut usize,
+    error: &mut PcapfileError,
+) -> i32
+    ensures taken { (q : State) → ShowsInForce section.old interfaces.old q →
+        TakesNextNgPackets q push.old push.new section.old section.new interfaces.old interfaces.new room.now packets.old packets.new taken.new error.old error.new result }
+    ensures refused { order_shown section.old.magic_number ≡ None →
+        RefusesNextNgPackets push.old push.new section.old section.new interfaces.old interfaces.new room.now packets.old packets.new taken.new error.old error.new result }
+{
+    *taken = 0;
+    let Some(held) = room.get(push.begin..push.end) else {
+        return 10;
+    };
+    if interfaces.len() < section.interfaces as usize {
+        return 10;
+    }
+    if section.order().is_none() {
+        return tell(&PcapError::from(Rule::SectionMagic), error);
+    }
+    let mut left = PcapfileBytes { bytes: held };
+    let status = take_ng_packets(alloc, section, &mut left, interfaces, packets, taken, error);
+    push.begin = push.end - left.bytes.len();
+    status
+}
+
+// Takes packets at the front of `left`, and the blocks before each.
+fn take_ng_packets<'a>(
+    alloc: Global,
+    section: &mut PcapfileSection,
+    left: &mut PcapfileBytes<'a>,
+    interfaces: &mut [PcapfileInterface],
+    packets: &mut [PcapfileAnyPacket<'a>],
+    taken: &mut usize,
+    error: &mut PcapfileError,
+) -> i32
+    requires { taken.old ≡ 0 }
+    ensures taken { (q : State) → ShowsInForce section.old interfaces.old q →
+        TakesFrontNgPackets q section.new interfaces.new left.old.bytes.now left.new.bytes.now packets.old packets.new taken.new error.old error.new result }
+    ensures fewer { length left.new.bytes.now ≤ length left.old.bytes.now }
+{
+    while *taken < packets.len() {
+        let packet = &mut packets[*taken];
+        let status = take_packet(alloc, section, left, interfaces, packet, error);
+        if status != 0 {
+            return status;
+        }
+        *taken += 1;
+    }
+    0
+}
