@@ -6,9 +6,9 @@ use Rattle.pcapfile_c.proofs.blocks.PcapfileSection.enhanced.Goals as goal
 pub returns-in-Some-Big-clause-tells : goal.returns-in-Some-Big-clause-tells
 returns-in-Some-Big-clause-tells c e names =
     let same : Big ≡ e = sym c.in-Some-Big.field-0-is ∙ same_Some c.in-Some-Big.field-0 e (sym c.in-Some-Big.is ∙ c.endianness.ensures ∙ names) in
-    rw (← same) c.from_slice.ensures.tells
+    rw (← same) c.enhanced_in.ensures
 
 pub returns-in-Some-Little-clause-tells : goal.returns-in-Some-Little-clause-tells
 returns-in-Some-Little-clause-tells c e names =
     let same : Little ≡ e = sym c.in-Some-Little.field-0-is ∙ same_Some c.in-Some-Little.field-0 e (sym c.in-Some-Little.is ∙ c.endianness.ensures ∙ names) in
-    rw (← same) c.from_slice-in-Some-Little.ensures.tells
+    rw (← same) c.enhanced_in-in-Some-Little.ensures
