@@ -97,7 +97,7 @@ nothing_refused header fault shown =
     ]
 
 -- where a capture ends, no cause but a failed read and want of memory is left
-no_cause : (header : PcapHeader) (failed : Bool) (e : PcapError) → failed ≡ false → (IsMemory e → ⊥) → HasCause (PacketIsSaid header) (Some []) failed e → ⊥
+pub no_cause : (header : PcapHeader) (failed : Bool) (e : PcapError) → failed ≡ false → (IsMemory e → ⊥) → HasCause (PacketIsSaid header) (Some []) failed e → ⊥
 no_cause header failed e unfailed memory cause =
     elim cause [
       | read_failed io is ↦ absurd (let x : true ≡ false = sym is ∙ unfailed in cc)
@@ -116,7 +116,7 @@ no_stop header more failed (Some e) unfailed memory stops =
     ]
 
 -- the header of a capture is not refused
-no_header_refusal : (header : PcapHeader) (bytes after : List ℕ) (now : Option (List ℕ)) (failed : Bool) (fault : Option PcapError) → failed ≡ false → HeaderText header bytes after
+pub no_header_refusal : (header : PcapHeader) (bytes after : List ℕ) (now : Option (List ℕ)) (failed : Bool) (fault : Option PcapError) → failed ≡ false → HeaderText header bytes after
     → IsSomeAnd fault (λ e. ReadsTold HeaderSays (λ (h : PcapHeader). h) (Some bytes) now failed (Err e)) → ⊥
 no_header_refusal header bytes after now failed None unfailed text refusal = refusal
 no_header_refusal header bytes after now failed (Some e) unfailed text refusal =

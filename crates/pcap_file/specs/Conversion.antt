@@ -1,5 +1,5 @@
 -- What a conversion wrote, as it is read.
-use Rattle.std.specs.Prelude.{◌≡◌, ◌+◌, ◌/◌, ◌%◌, ◌^◌, ℕ, List, [], length, Option, pos}
+use Rattle.std.specs.Prelude.{◌≡◌, ◌+◌, ◌/◌, ◌%◌, ◌^◌, ℕ, List, [], length, Option, None, pos}
 use Rattle.std.specs.Io.KnownBytes.{Appends}
 use Rattle.std.specs.List.{AllZip}
 use Rattle.pcap_core.specs.Format.{Front}
@@ -32,6 +32,12 @@ pub record IsConversion (bytes : List ℕ) (out_before out_now : Option (List �
   pub count : length packets ≡ copied.packets
   pub out : Appends out_before out_now (little_texts (converted header packets))
   pub blocks : AreBlocksOf header packets (little_texts (converted header packets))
+
+-- the blocks of all of these packets went out, and nothing was refused
+pub record ConvertsEach (header : PcapHeader) (packets : List Captured) (out_before out_now : Option (List ℕ)) (copied : Copied) : Type 0 where
+  pub fine : copied.fault ≡ None
+  pub count : copied.packets ≡ length packets
+  pub out : Appends out_before out_now (little_texts (converted header packets))
 
 -- a packet's time: its seconds, with those among its nanoseconds, and the nanoseconds that are left
 abbrev pub exact_time : Captured → Timestamp

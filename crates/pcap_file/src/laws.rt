@@ -14,12 +14,13 @@ ghost use Rattle.pcap_classic.specs.declared.pcap.header.PcapHeader.{PcapHeader}
 ghost use Rattle.pcap_classic.specs.declared.run.copy.Copied.{Copied};
 ghost use Rattle.pcap_classic.specs.PacketText.{Captured, packet_limit};
 ghost use Rattle.pcap_core.specs.Bytes.{IsBytes};
-ghost use Rattle.pcap_file.specs.Conversion.{IsConversion, exact_time};
+ghost use Rattle.pcap_file.specs.Conversion.{ConvertsEach, IsConversion, exact_time};
 ghost use Rattle.pcap_classic.specs.Front.{CaptureFront};
 ghost use Rattle.pcap_classic.specs.Magic.{resolution_of};
 ghost use Rattle.pcap_classic.specs.Written.{IsWhole, IsWholeHeader, capture, cut};
 ghost use Rattle.pcap_file.specs.Converted.{converted, interface_for, little_texts, opening_blocks, packet_block, time_of};
-ghost use Rattle.pcap_file.specs.Converts.{ConvertsPackets};
+ghost use Rattle.pcap_file.specs.Converts.{ConvertRun, ConvertsPackets};
+ghost use Rattle.pcap_classic.specs.Copies as classic_runs;
 ghost use Rattle.pcap_file.specs.declared.pcapng.copying.NgCopied.{NgCopied};
 ghost use Rattle.pcap_file.specs.declared.run.placing.IfUnplaced.{IfUnplaced};
 ghost use Rattle.pcap_file.specs.declared.run.placing.NgConverted.{NgConverted};
@@ -196,6 +197,14 @@ pub fn read_block_is_written()
 pub fn conversion_is_read()
     ensures { (bytes : List ℕ) (now out out_now : Option (List ℕ)) (most : ℕ) (copied : Copied) → IsBytes bytes → copied.write_failed ≡ false →
         ConvertsPackets (Some bytes) now out out_now most copied → IsConversion bytes out out_now most copied }
+{}
+
+/// A classic capture that is accepted whole is converted whole where nothing fails: the section, the interface and the block of each
+/// of its packets go out; where the number of its link type has two bytes, and there are not more packets than `most`.
+pub fn accepted_capture_is_converted()
+    ensures { (header : PcapHeader) (packets : List Captured) (bytes : List ℕ) (now out out_now : Option (List ℕ)) (most : ℕ) (copied : Copied) →
+        IsWholeHeader header → link_number header.datalink < 2 ^ 16 → CaptureFront packet_limit header packets bytes [] → length packets ≤ most →
+        classic_runs.NothingFailed copied → ConvertRun (Some bytes) now out out_now most copied → ConvertsEach header packets out out_now copied }
 {}
 
 /// The clock of a converted capture's interface has counted exactly the packet's time in the units of its block.
