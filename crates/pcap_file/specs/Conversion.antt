@@ -1,11 +1,12 @@
 -- What a conversion wrote, as it is read.
-use Rattle.std.specs.Prelude.{◌≡◌, ◌+◌, ◌/◌, ◌%◌, ◌^◌, ℕ, List, [], length, Option, None, pos}
+use Rattle.std.specs.Prelude.{◌≡◌, ◌+◌, ◌/◌, ◌%◌, ◌^◌, ◌++◌, ℕ, List, [], length, Option, None, pos}
 use Rattle.std.specs.Io.KnownBytes.{Appends}
 use Rattle.std.specs.List.{AllZip}
 use Rattle.pcap_core.specs.Format.{Front}
 use Rattle.pcap_core.specs.Takes.{ReadsFront}
 use Rattle.pcap_classic.specs.declared.pcap.header.PcapHeader.{PcapHeader}
 use Rattle.pcap_classic.specs.declared.run.copy.Copied.{Copied}
+use Rattle.pcap_classic.specs.Front.{CaptureFront}
 use Rattle.pcap_classic.specs.HeaderText.{HeaderText}
 use Rattle.pcap_classic.specs.Packets.{format_under}
 use Rattle.pcap_classic.specs.PacketText.{Captured, packet_limit}
@@ -42,3 +43,12 @@ pub record ConvertsEach (header : PcapHeader) (packets : List Captured) (out_bef
 -- a packet's time: its seconds, with those among its nanoseconds, and the nanoseconds that are left
 abbrev pub exact_time : Captured → Timestamp
 exact_time packet = record { seconds = pos (packet.header.ts_sec + packet.header.ts_nsec / 10 ^ 9); nanoseconds = packet.header.ts_nsec % 10 ^ 9 }
+
+-- the bytes are a beginning of the conversion of these bytes' capture: of its header, and of all packets of its front
+pub record BeginsConverted (bytes gone : List ℕ) : Type 0 where
+  pub header : PcapHeader
+  pub packets : List Captured
+  pub rest : List ℕ
+  pub front : CaptureFront packet_limit header packets bytes rest
+  pub more : List ℕ
+  pub split : little_texts (converted header packets) ≡ gone ++ more

@@ -1,6 +1,6 @@
 //! Laws of the grammar of blocks. Each contract is the law.
 
-ghost use Rattle.std.specs.Prelude.{◌≡◌, ◌≤◌, ◌<◌, ◌^◌, ℕ, List, [], ◌∷◌, ◌++◌, length, map, All, Option, Some, Ok, false};
+ghost use Rattle.std.specs.Prelude.{◌≡◌, ◌⊎◌, ◌≤◌, ◌<◌, ◌^◌, ℕ, List, [], ◌∷◌, ◌++◌, length, map, All, Option, Some, Ok, false};
 ghost use Rattle.pcap_core.specs.declared.common.Endianness.{Endianness};
 ghost use Rattle.pcap_core.specs.declared.common.Endianness.TheVariants.{Little};
 ghost use Rattle.pcap_core.specs.Answer.{whole};
@@ -14,7 +14,7 @@ ghost use Rattle.pcap_classic.specs.declared.pcap.header.PcapHeader.{PcapHeader}
 ghost use Rattle.pcap_classic.specs.declared.run.copy.Copied.{Copied};
 ghost use Rattle.pcap_classic.specs.PacketText.{Captured, packet_limit};
 ghost use Rattle.pcap_core.specs.Bytes.{IsBytes};
-ghost use Rattle.pcap_file.specs.Conversion.{ConvertsEach, IsConversion, exact_time};
+ghost use Rattle.pcap_file.specs.Conversion.{BeginsConverted, ConvertsEach, IsConversion, exact_time};
 ghost use Rattle.pcap_classic.specs.Front.{CaptureFront};
 ghost use Rattle.pcap_classic.specs.Magic.{resolution_of};
 ghost use Rattle.pcap_classic.specs.Written.{IsWhole, IsWholeHeader, capture, cut};
@@ -197,6 +197,13 @@ pub fn read_block_is_written()
 pub fn conversion_is_read()
     ensures { (bytes : List ℕ) (now out out_now : Option (List ℕ)) (most : ℕ) (copied : Copied) → IsBytes bytes → copied.write_failed ≡ false →
         ConvertsPackets (Some bytes) now out out_now most copied → IsConversion bytes out out_now most copied }
+{}
+
+/// Whatever is refused or fails, what a conversion to PcapNg has written is nothing, or a beginning of the conversion of the capture's
+/// front: of its section, its interface, and the block of each of its packets.
+pub fn conversion_is_a_beginning()
+    ensures { (bytes : List ℕ) (now out out_now : Option (List ℕ)) (most : ℕ) (copied : Copied) → ConvertRun (Some bytes) now out out_now most copied →
+        (gone : List ℕ) × Appends out out_now gone × ((gone ≡ []) ⊎ BeginsConverted bytes gone) }
 {}
 
 /// A classic capture that is accepted whole is converted whole where nothing fails: the section, the interface and the block of each
