@@ -31,7 +31,7 @@ DIST = pcapfile-$(VERSION)-$(shell uname -sm | tr 'A-Z ' 'a-z-')
 KIT = $(shell dirname "$$(dirname "$$(readlink -f "$$(command -v rt)")")")
 PROVED = crates/pcapfile_c/out/libpcapfile_c.a
 PROGRAM = crates/capcopy/out/capcopy
-LIBRARIES = pcap_core pcap_times pcap_classic pcap_blocks pcap_written pcap_file
+LIBRARIES = pcap_core pcap_times pcap_classic pcap_tolerant pcap_blocks pcap_written pcap_file pcap_parts
 JOBS_OF_RT = $(if $(JOBS),--jobs $(JOBS))
 sources_of = crates.txt $(shell find $(foreach crate,$(LIBRARIES) $(1),$(wildcard $(foreach part,src specs proofs,crates/$(crate)/$(part)))) -type f)
 

@@ -134,6 +134,35 @@ typedef struct pcapfile_packet {
 
 #define PCAPFILE_PACKET_INIT { 0, 0, 0, PCAPFILE_NO_BYTES }
 
+/* A time. */
+typedef struct pcapfile_time {
+    int64_t seconds;      /* since 1970-01-01 00:00:00 UTC, below 0 before it */
+    uint32_t nanoseconds; /* after these seconds, below 1000000000; less is cut */
+} pcapfile_time;
+
+#define PCAPFILE_TIME_INIT { 0, 0 }
+
+/* The bits of pcapfile_packet_as_is.flaws, in the rules' order: 1 << N for the rule of number N. */
+enum pcapfile_flaw {
+    PCAPFILE_FLAW_FRACTION_TOO_LARGE = 1 << PCAPFILE_RULE_FRACTION_TOO_LARGE,
+    PCAPFILE_FLAW_INCLUDED_TOO_LONG = 1 << PCAPFILE_RULE_INCLUDED_TOO_LONG,
+    PCAPFILE_FLAW_ORIGINAL_TOO_LONG = 1 << PCAPFILE_RULE_ORIGINAL_TOO_LONG,
+    PCAPFILE_FLAW_INCLUDED_PAST_ORIGINAL = 1 << PCAPFILE_RULE_INCLUDED_PAST_ORIGINAL
+};
+
+/* A packet as it stands: its numbers as they were written, and the rules that it breaks. */
+typedef struct pcapfile_packet_as_is {
+    uint32_t ts_sec;      /* since 1970 */
+    uint32_t ts_fraction; /* of that second, in microseconds or nanoseconds as the capture has them; it may pass one second */
+    uint32_t orig_len;    /* how many bytes it had on the wire, as it says: it may be less than bytes.len */
+    uint32_t flaws;       /* a bit of enum pcapfile_flaw for each rule that it breaks; 0 where it breaks none */
+    uint32_t first_flaw;  /* the first of these rules, by which pcapfile_take_packet refuses it; 0 where it breaks none */
+    pcapfile_time time;   /* its time, exact: the whole seconds of ts_fraction are carried */
+    pcapfile_bytes bytes; /* those that are stored, lent from the capture */
+} pcapfile_packet_as_is;
+
+#define PCAPFILE_PACKET_AS_IS_INIT { 0, 0, 0, 0, 0, PCAPFILE_TIME_INIT, PCAPFILE_NO_BYTES }
+
 /* Why a call was refused. Left as it is where the status is PCAPFILE_OK, PCAPFILE_NOTHING, PCAPFILE_BAD_CALL or
  * PCAPFILE_NO_PLACE, and else written. */
 typedef struct pcapfile_error {
@@ -161,6 +190,24 @@ int32_t pcapfile_take_packet(const pcapfile_header *header, pcapfile_bytes *left
  * the refusal, and then `left` begins with what is refused: the packets before it have been taken. */
 int32_t pcapfile_take_packets(const pcapfile_header *header, pcapfile_bytes *left, pcapfile_packet *packets, size_t room,
                               size_t *taken, pcapfile_error *error);
+
+/* Takes the packet at the front of `left` as pcapfile_take_packet does, but leaves out none for a rule of 2 to 5 that it breaks:
+ * packet->flaws tells these. `limit` is the most bytes that a packet may store here, so that a broken length doesn't ask for
+ * gigabytes; one below 262144 is taken for 262144.
+ * PCAPFILE_INCOMPLETE where bytes of the packet's header, or then of its data, are missing. PCAPFILE_INVALID with rule 3 where
+ * its stored length is above the limit, or with rule 1 where header->magic_number is none of the four. Then `left` and `packet`
+ * are unchanged. */
+int32_t pcapfile_take_packet_as_is(const pcapfile_header *header, pcapfile_bytes *left, uint32_t limit,
+                                   pcapfile_packet_as_is *packet, pcapfile_error *error);
+
+/* Tells the first place of `bytes` from which `row` packets with data stand one behind the other that break no rule, or fewer, at
+ * least one, to the end of `bytes`: where packets stand again behind garbage. It is a guess, since garbage may look like packets;
+ * a row of 3 is seldom wrong, one of 0 is everywhere. Of `header` only the magic number matters. At most `row` heads are read at
+ * each place.
+ * PCAPFILE_NOTHING where there is no such place. PCAPFILE_INVALID with rule 1 where header->magic_number is none of the four.
+ * Then `place` is unchanged. */
+int32_t pcapfile_resync(const pcapfile_header *header, const pcapfile_bytes *bytes, size_t row, size_t *place,
+                        pcapfile_error *error);
 
 /* Where a part of a capture begins. */
 typedef struct pcapfile_cut {
@@ -305,14 +352,6 @@ typedef struct pcapfile_ng_packet {
 } pcapfile_ng_packet;
 
 #define PCAPFILE_NG_PACKET_INIT { 0, 0, 0, 0, PCAPFILE_NO_BYTES }
-
-/* A time. */
-typedef struct pcapfile_time {
-    int64_t seconds;      /* since 1970-01-01 00:00:00 UTC, below 0 before it */
-    uint32_t nanoseconds; /* after these seconds, below 1000000000; less is cut */
-} pcapfile_time;
-
-#define PCAPFILE_TIME_INIT { 0, 0 }
 
 /* A packet of either format. */
 typedef struct pcapfile_any_packet {

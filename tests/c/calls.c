@@ -55,6 +55,87 @@ static void packets(void) {
     EXPECT(error.rule == PCAPFILE_RULE_CAPTURE_MAGIC && left.len == 19);
 }
 
+/* A head that breaks these rules, and three bytes. */
+static void as_is_row(uint32_t fraction, uint32_t original, uint32_t flaws, uint32_t first, int64_t seconds, uint32_t nanoseconds) {
+    uint8_t bytes[19];
+    memcpy(bytes, capture + 24, sizeof bytes);
+    for (int i = 0; i < 4; i++) {
+        bytes[4 + i] = (uint8_t)(fraction >> 8 * i);
+        bytes[12 + i] = (uint8_t)(original >> 8 * i);
+    }
+    pcapfile_bytes left = { bytes, sizeof bytes }, strictly = left;
+    pcapfile_header header = { 0xd4c3b2a1, 2, 4, 0, 0, 65535, 1 };
+    pcapfile_packet_as_is packet = PCAPFILE_PACKET_AS_IS_INIT;
+    pcapfile_packet strict = PCAPFILE_PACKET_INIT;
+    pcapfile_error error = PCAPFILE_ERROR_INIT;
+    EXPECT(pcapfile_take_packet_as_is(&header, &left, 0, &packet, &error) == PCAPFILE_OK);
+    EXPECT(left.len == 0 && packet.bytes.ptr == bytes + 16 && packet.bytes.len == 3);
+    EXPECT(packet.ts_sec == 7 && packet.ts_fraction == fraction && packet.orig_len == original);
+    EXPECT(packet.flaws == flaws && packet.first_flaw == first);
+    EXPECT(packet.time.seconds == seconds && packet.time.nanoseconds == nanoseconds);
+    EXPECT(pcapfile_take_packet(&header, &strictly, &strict, &error) == (first ? PCAPFILE_INVALID : PCAPFILE_OK));
+    EXPECT(error.rule == first);
+}
+
+static void packets_as_is(void) {
+    const uint32_t fraction = PCAPFILE_FLAW_FRACTION_TOO_LARGE, past = PCAPFILE_FLAW_INCLUDED_PAST_ORIGINAL;
+    as_is_row(8, 5, 0, 0, 7, 8000);
+    as_is_row(1999999, 3, 0, 0, 8, 999999000);
+    as_is_row(4294967, 3, 0, 0, 11, 294967000);
+    as_is_row(4294968, 3, fraction, PCAPFILE_RULE_FRACTION_TOO_LARGE, 11, 294968000);
+    as_is_row(0xffffffff, 2, fraction | past, PCAPFILE_RULE_FRACTION_TOO_LARGE, 4301, 967295000);
+    as_is_row(0, 2, past, PCAPFILE_RULE_INCLUDED_PAST_ORIGINAL, 7, 0);
+    as_is_row(0, 262144, 0, 0, 7, 0);
+    as_is_row(0, 262145, PCAPFILE_FLAW_ORIGINAL_TOO_LONG, PCAPFILE_RULE_ORIGINAL_TOO_LONG, 7, 0);
+}
+
+/* A stored length of 262146 bytes, above and below the limit. */
+static void packets_as_is_below_a_limit(void) {
+    static uint8_t bytes[16 + 262146] = { 0, 0, 0, 0, 0, 0, 0, 0, 2, 0, 4, 0, 1, 0, 4, 0 };
+    pcapfile_bytes left = { bytes, sizeof bytes };
+    pcapfile_header header = { 0xd4c3b2a1, 2, 4, 0, 0, 65535, 1 };
+    pcapfile_packet_as_is packet = PCAPFILE_PACKET_AS_IS_INIT;
+    pcapfile_error error = PCAPFILE_ERROR_INIT;
+    EXPECT(pcapfile_take_packet_as_is(&header, &left, 262145, &packet, &error) == PCAPFILE_INVALID);
+    EXPECT(error.rule == PCAPFILE_RULE_INCLUDED_TOO_LONG && left.len == sizeof bytes && packet.flaws == 0);
+    left.len = 20;
+    EXPECT(pcapfile_take_packet_as_is(&header, &left, 0, &packet, &error) == PCAPFILE_INVALID);
+    EXPECT(pcapfile_take_packet_as_is(&header, &left, 262146, &packet, &error) == PCAPFILE_INCOMPLETE);
+    EXPECT(error.missing == 262142 && error.rule == 0 && left.len == 20);
+    left.len = 7;
+    EXPECT(pcapfile_take_packet_as_is(&header, &left, 0, &packet, &error) == PCAPFILE_INCOMPLETE && error.missing == 9);
+    left.len = sizeof bytes;
+    EXPECT(pcapfile_take_packet_as_is(&header, &left, 262146, &packet, &error) == PCAPFILE_OK);
+    EXPECT(packet.bytes.len == 262146 && packet.orig_len == 262145 && left.len == 0);
+    EXPECT(packet.flaws == (1 << 3 | 1 << 4 | 1 << 5) && packet.first_flaw == PCAPFILE_RULE_INCLUDED_TOO_LONG);
+    header.magic_number = 7;
+    left.len = 0;
+    EXPECT(pcapfile_take_packet_as_is(&header, &left, 0, &packet, &error) == PCAPFILE_INVALID);
+    EXPECT(error.rule == PCAPFILE_RULE_CAPTURE_MAGIC && error.missing == 0 && packet.bytes.len == 262146);
+}
+
+/* Seven bytes of garbage before three packets, and before one that breaks a rule. */
+static void resyncs(void) {
+    uint8_t bytes[7 + 3 * 19];
+    pcapfile_bytes all = { bytes, sizeof bytes };
+    pcapfile_header header = { 0xd4c3b2a1, 2, 4, 0, 0, 65535, 1 };
+    pcapfile_error error = PCAPFILE_ERROR_INIT;
+    size_t place = 99;
+    memset(bytes, 0xff, 7);
+    for (size_t at = 7; at < sizeof bytes; at += 19) memcpy(bytes + at, capture + 24, 19);
+    EXPECT(pcapfile_resync(&header, &all, 3, &place, &error) == PCAPFILE_OK && place == 7);
+    EXPECT(pcapfile_resync(&header, &all, 4, &place, &error) == PCAPFILE_OK && place == 7);
+    bytes[7 + 19 + 12] = 2;
+    EXPECT(pcapfile_resync(&header, &all, 2, &place, &error) == PCAPFILE_OK && place == 7 + 2 * 19);
+    EXPECT(pcapfile_resync(&header, &all, 1, &place, &error) == PCAPFILE_OK && place == 7);
+    EXPECT(pcapfile_resync(&header, &all, 0, &place, &error) == PCAPFILE_OK && place == 0);
+    all.len = 7 + 18;
+    EXPECT(pcapfile_resync(&header, &all, 1, &place, &error) == PCAPFILE_NOTHING && place == 0);
+    header.magic_number = 7;
+    EXPECT(pcapfile_resync(&header, &all, 1, &place, &error) == PCAPFILE_INVALID && place == 0);
+    EXPECT(error.rule == PCAPFILE_RULE_CAPTURE_MAGIC && error.missing == 0);
+}
+
 static void batches(void) {
     uint8_t twice[2 * 19];
     pcapfile_packet packets[3] = { PCAPFILE_PACKET_INIT, PCAPFILE_PACKET_INIT, PCAPFILE_PACKET_INIT };
@@ -461,6 +542,9 @@ int main(void) {
     version();
     headers();
     packets();
+    packets_as_is();
+    packets_as_is_below_a_limit();
+    resyncs();
     batches();
     cuts();
     writes();

@@ -20,3 +20,4 @@ pub mod Reasons
 pub mod Putting
 pub mod PutsAgain
 pub mod Cuts
+pub mod AsIs

@@ -6,6 +6,7 @@
 #![tactic(auto)]
 
 mod any_packets;
+mod as_is;
 mod batches;
 mod block_cuts;
 mod blocks;
