@@ -9,6 +9,7 @@ The parser is the library `libpcapfile.so`, proved never to read outside of the 
 looked for at PCAPFILE_LIBRARY, then in the folder of this package, then where the system keeps libraries.
 """
 
+from ._as_is import CaptureAsIs, PacketAsIs
 from ._blocks import BlockCapture, BlockPacket, Interface
 from ._capture import Capture, Header, Packet
 from ._errors import CaptureError, Incomplete, Invalid
@@ -23,12 +24,14 @@ __all__ = [
     "BlockCapture",
     "BlockPacket",
     "Capture",
+    "CaptureAsIs",
     "CaptureError",
     "Header",
     "Incomplete",
     "Interface",
     "Invalid",
     "Packet",
+    "PacketAsIs",
     "Part",
     "Rule",
     "Unwritable",

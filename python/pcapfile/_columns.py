@@ -102,6 +102,15 @@ def of_packets(capture: "Packets", batch: int) -> Iterator[Dict[str, "array[int]
         raise refusal
 
 
+def arrays_of(capture: "Packets", batch: int) -> Iterator[Any]:
+    """The columns of each so many packets, one by one, as arrays of numpy."""
+    for columns in of_packets(capture, batch):
+        rows = numpy.zeros(len(columns["offset"]), [(name, kind) for name, kind, _ in _TYPES])
+        for name, _, _ in _TYPES:
+            rows[name] = columns[name]
+        yield rows
+
+
 class _Room:
     """Room for so many packets, that the library fills in, and numpy reads by the names of their fields."""
 

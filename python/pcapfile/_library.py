@@ -79,6 +79,18 @@ class NgCut(ctypes.Structure):
     _fields_ = [("at", Cut), ("header", ctypes.c_size_t), ("first", ctypes.c_size_t), ("interfaces", ctypes.c_size_t)]
 
 
+class PacketAsIs(ctypes.Structure):
+    _fields_ = [
+        ("ts_sec", ctypes.c_uint32),
+        ("ts_fraction", ctypes.c_uint32),
+        ("orig_len", ctypes.c_uint32),
+        ("flaws", ctypes.c_uint32),
+        ("first_flaw", ctypes.c_uint32),
+        ("time", Time),
+        ("bytes", Bytes),
+    ]
+
+
 class Error(ctypes.Structure):
     _fields_ = [("rule", ctypes.c_uint32), ("missing", ctypes.c_size_t)]
 
@@ -110,6 +122,10 @@ take_header.restype = ctypes.c_int32
 take_packets = _library.pcapfile_take_packets
 take_packets.argtypes = [_to(Header), _to(Bytes), _to(Packet), ctypes.c_size_t, _to(ctypes.c_size_t), _to(Error)]
 take_packets.restype = ctypes.c_int32
+
+take_packet_as_is = _library.pcapfile_take_packet_as_is
+take_packet_as_is.argtypes = [_to(Header), _to(Bytes), ctypes.c_uint32, _to(PacketAsIs), _to(Error)]
+take_packet_as_is.restype = ctypes.c_int32
 
 take_block = _library.pcapfile_take_block
 take_block.argtypes = [_to(Section), _to(Bytes), _to(Block), _to(Error)]

@@ -6,6 +6,7 @@ import stat
 from builtins import open as _open
 from typing import Any, Optional, Union
 
+from ._as_is import CaptureAsIs
 from ._blocks import BlockCapture
 from ._capture import Capture
 from ._source import Data, Memory, Source, Stream, Stretch, Window
@@ -14,27 +15,30 @@ from ._source import Data, Memory, Source, Stream, Stretch, Window
 _SECTION = b"\x0a\x0d\x0d\x0a"
 
 
-def parse(data: Data) -> Union[Capture, BlockCapture]:
-    """The capture that these bytes are. They must not change while it is used."""
-    return capture_of(Memory(data))
+def parse(data: Data, *, strict: bool = True) -> Union[Capture, BlockCapture]:
+    """The capture that these bytes are. They must not change while it is used.
+
+    Where it is classic and `strict` is False, its packets are given as they stand, each with the rules that it breaks as `flaws`;
+    a PcapNg capture is a ValueError then."""
+    return capture_of(Memory(data), strict=strict)
 
 
-def open(file: Union[str, bytes, os.PathLike, Any]) -> Union[Capture, BlockCapture]:
+def open(file: Union[str, bytes, os.PathLike, Any], *, strict: bool = True) -> Union[Capture, BlockCapture]:
     """The capture in a file of this name, or in what a stream reads: an object that has `readinto` or `read`, as an open file, a
     pipe's, or a socket's `makefile("rb")`.
 
     A regular file is mapped and not read, and must not change while it is used. All else is read piece by piece, as packets are
     asked for, in memory that doesn't grow with the capture; it can be iterated over once. The stream is closed with the
-    capture."""
+    capture. `strict` is that of `parse`."""
     if not isinstance(file, (str, bytes, os.PathLike)):
-        return capture_of(Stream(file))
+        return capture_of(Stream(file), strict=strict)
     stream = _open(file, "rb", buffering=0)
     status = os.fstat(stream.fileno())
     if stat.S_ISREG(status.st_mode) and status.st_size > 0:
         with stream:
-            return parse(mmap.mmap(stream.fileno(), 0, access=mmap.ACCESS_READ))
+            return parse(mmap.mmap(stream.fileno(), 0, access=mmap.ACCESS_READ), strict=strict)
     try:
-        return capture_of(Stream(stream))
+        return capture_of(Stream(stream), strict=strict)
     except BaseException:
         stream.close()
         raise
@@ -49,9 +53,12 @@ def mapped(path: Union[str, bytes, os.PathLike]) -> Memory:
         return Memory(mmap.mmap(stream.fileno(), 0, access=mmap.ACCESS_READ) if status.st_size > 0 else b"")
 
 
-def capture_of(source: Source, stretch: Optional[Stretch] = None) -> Union[Capture, BlockCapture]:
-    window = source.window()
-    return BlockCapture(source, stretch) if _front(window) == _SECTION else Capture(source, stretch)
+def capture_of(source: Source, stretch: Optional[Stretch] = None, strict: bool = True) -> Union[Capture, BlockCapture]:
+    if _front(source.window()) != _SECTION:
+        return (Capture if strict else CaptureAsIs)(source, stretch)
+    if not strict:
+        raise ValueError("strict=False is for classic captures, and this one is PcapNg")
+    return BlockCapture(source, stretch)
 
 
 def _front(window: Window) -> bytes:
