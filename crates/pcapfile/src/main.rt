@@ -2,11 +2,15 @@
 #![tactic(auto)]
 
 mod check;
+mod convert;
 mod input;
 mod list;
 mod tell;
 mod words;
 
+use clap::ArgMatches;
+use convert::Conversion;
+use pcapfile_run::Format;
 use std::env;
 use std::process::ExitCode;
 
@@ -21,6 +25,20 @@ fn main(rt: HostRuntime) -> ExitCode {
             let _ = eprintln!(rt; "pcapfile: {error}");
             ExitCode::from(FAILED)
         }
+    }
+}
+
+// What the word `convert` is asked for.
+fn conversion<'a>(words: &ArgMatches<'a>) -> Conversion<'a> {
+    let to = match words.get_str(words::TO) {
+        Some("pcap") => Some(Format::Pcap),
+        Some("pcapng") => Some(Format::PcapNg),
+        _ => None,
+    };
+    Conversion {
+        from: words.get_str(words::IN).unwrap_or_default(),
+        to,
+        out: words.get_str(words::OUT).unwrap_or_default(),
     }
 }
 
@@ -39,6 +57,7 @@ fn run(rt: &HostRuntime) -> anyhow::Result<u8> {
         Some(("check", check)) => {
             check::check_files(rt, check.get_strs(words::FILES).unwrap_or_default())
         }
+        Some(("convert", words)) => convert::convert_file(rt, &conversion(words)),
         Some(("list", list)) => list::list_files(
             rt,
             list.get_strs(words::FILES).unwrap_or_default(),

@@ -1,0 +1,286 @@
+//! The word `convert`.
+
+use crate::FAILED;
+use crate::input::{STANDARD, buffered};
+use crate::tell::{tell_error, tell_io};
+use capcopy_run::Uninterrupted;
+use pcap_file::pcap::PcapHeader;
+use pcap_file::pcapng::{BlockType, InterfaceDescriptionBlock};
+use pcap_file::run::{
+    IfUnplaced, Under, convert_to_pcap, convert_to_pcapng, copy_buffered, copy_pcapng_buffered,
+};
+use pcap_file::{DataLink, PcapError, PcapNgReader, PcapWriter, ResultParsing};
+use pcapfile_run::{Format, format_of};
+use std::alloc::Global;
+use std::fs::File;
+use std::io::{BufRead, BufWriter, Read, Write};
+use std::{fs, io};
+
+/// The size of the buffer before the output, in bytes.
+const OUTPUT: usize = 65_536;
+
+/// The magic number of a little-endian classic capture in nanoseconds.
+const LITTLE_NANOSECONDS: u32 = 0x4D3C_B2A1;
+
+/// The snaplen of a classic capture whose packets have any length that such a capture may have, in bytes.
+const WHOLE_PACKETS: u32 = 262_144;
+
+/// What the word is asked for.
+#[derive(Drop)]
+pub(crate) struct Conversion<'a> {
+    /// The name of the capture that is read.
+    pub(crate) from: &'a str,
+    /// The format of the other one, or none for that which the first one is not of.
+    pub(crate) to: Option<Format>,
+    /// The name of the other one.
+    pub(crate) out: &'a str,
+}
+
+/// The blocks before the first interface.
+#[derive(Drop)]
+struct Early {
+    /// How many of them hold a packet.
+    packets: u64,
+    /// How many don't.
+    others: u64,
+}
+
+/// How a conversion ended.
+#[derive(Drop)]
+struct Ended {
+    /// How many packets have no place in the other format.
+    left_out: u64,
+    /// How many blocks without a packet were left out.
+    others: u64,
+    /// What ended it before the end of the capture.
+    fault: Option<PcapError>,
+    /// Whether that was a write.
+    write_failed: bool,
+}
+
+impl Ended {
+    // A conversion in which everything has a place.
+    fn whole(fault: Option<PcapError>, write_failed: bool) -> Ended {
+        Ended {
+            left_out: 0,
+            others: 0,
+            fault,
+            write_failed,
+        }
+    }
+}
+
+/// Converts a capture, and gives the status. A file is written under another name in the same folder, and has its own once all
+/// of it is there.
+pub(crate) fn convert_file(rt: &HostRuntime, asked: &Conversion) -> anyhow::Result<u8> {
+    if asked.out == STANDARD {
+        let ended = open_and_convert(rt, asked, Uninterrupted::new(rt.stdout()));
+        return tell_ended(rt, asked, &ended);
+    }
+    if asked.out == asked.from {
+        eprintln!(rt; "pcapfile: {}: is the capture that is read", asked.out)?;
+        return Ok(FAILED);
+    }
+    let unfinished = format!(in rt.alloc(); "{}.part", asked.out)?;
+    let file = match File::create_new(rt, unfinished.as_str()) {
+        Ok(file) => file,
+        Err(error) => return tell_io(rt, unfinished.as_str(), &error),
+    };
+    let ended = open_and_convert(rt, asked, Uninterrupted::new(file));
+    let told = match tell_ended(rt, asked, &ended) {
+        Ok(0) => name_finished(rt, unfinished.as_str(), asked.out),
+        failed => failed,
+    };
+    if !matches!(&told, Ok(0)) {
+        // What made this fail has been told.
+        let _ = fs::remove_file(rt, unfinished.as_str());
+    }
+    told
+}
+
+fn name_finished(rt: &HostRuntime, unfinished: &str, out: &str) -> anyhow::Result<u8> {
+    match fs::rename(rt, unfinished, out) {
+        Ok(()) => Ok(0),
+        Err(error) => tell_io(rt, out, &error),
+    }
+}
+
+fn tell_ended(
+    rt: &HostRuntime,
+    asked: &Conversion,
+    ended: &io::Result<Ended>,
+) -> anyhow::Result<u8> {
+    let ended = match ended {
+        Ok(ended) => ended,
+        Err(error) => return tell_io(rt, asked.from, error),
+    };
+    let from = asked.from;
+    let (packets, blocks) = (ended.left_out, ended.others);
+    if packets > 0 {
+        eprintln!(rt; "pcapfile: {from}: {packets} packets have no place there, and are left out")?;
+    }
+    if blocks > 0 {
+        eprintln!(rt; "pcapfile: {from}: {blocks} blocks without a packet are left out")?;
+    }
+    match &ended.fault {
+        None => Ok(0),
+        Some(error) if ended.write_failed => tell_error(rt, asked.out, error),
+        Some(error) => tell_error(rt, from, error),
+    }
+}
+
+fn open_and_convert<W: Write + Drop>(
+    rt: &HostRuntime,
+    asked: &Conversion,
+    output: W,
+) -> io::Result<Ended> {
+    if asked.from == STANDARD {
+        return convert_stream(rt, rt.stdin(), asked.to, output);
+    }
+    convert_stream(rt, File::open(rt, asked.from)?, asked.to, output)
+}
+
+fn convert_stream<R: Read + Drop, W: Write + Drop>(
+    rt: &HostRuntime,
+    stream: R,
+    to: Option<Format>,
+    output: W,
+) -> io::Result<Ended> {
+    let mut input = buffered(rt.alloc(), stream)?;
+    let output = BufWriter::with_capacity(rt.alloc(), OUTPUT, output)?;
+    let from = format_of(&mut input)?;
+    Ok(match to.unwrap_or(other(from)) {
+        Format::Pcap => convert_to_packets(rt.alloc(), from, input, output),
+        Format::PcapNg => convert_to_blocks(rt.alloc(), from, input, output),
+    })
+}
+
+fn convert_to_blocks<R: BufRead + Drop, W: Write + Drop>(
+    alloc: Global,
+    from: Format,
+    mut input: R,
+    mut output: W,
+) -> Ended {
+    let ended = match from {
+        Format::Pcap => {
+            let copied = convert_to_pcapng(alloc, &mut input, &mut output, u64::MAX);
+            Ended::whole(copied.fault, copied.write_failed)
+        }
+        Format::PcapNg => {
+            let copied = copy_pcapng_buffered(alloc, &mut input, &mut output, u64::MAX);
+            Ended::whole(copied.fault, copied.write_failed)
+        }
+    };
+    flushed(output, ended)
+}
+
+fn convert_to_packets<R: BufRead + Drop, W: Write + Drop>(
+    alloc: Global,
+    from: Format,
+    mut input: R,
+    mut output: W,
+) -> Ended {
+    if let Format::Pcap = from {
+        let copied = copy_buffered(alloc, &mut input, &mut output, Under::Same, u64::MAX);
+        return flushed(output, Ended::whole(copied.fault, copied.write_failed));
+    }
+    match place_blocks(alloc, input, output) {
+        Ok(ended) => ended,
+        Err(error) => Ended::whole(Some(error), false),
+    }
+}
+
+// Writes the packets of blocks under the link type and the snaplen of their first interface.
+fn place_blocks<R: Read + Drop, W: Write + Drop>(
+    alloc: Global,
+    input: R,
+    output: W,
+) -> ResultParsing<Ended> {
+    let mut reader = PcapNgReader::new(alloc, input)?;
+    let early = pass_to_interface(&mut reader)?;
+    let header = header_under(reader.interfaces());
+    let mut writer = match PcapWriter::with_header(header, output) {
+        Ok(writer) => writer,
+        Err(error) => return Ok(Ended::whole(Some(error), true)),
+    };
+    let converted = convert_to_pcap(
+        alloc,
+        &mut reader,
+        &mut writer,
+        IfUnplaced::LeaveOut,
+        u64::MAX,
+    );
+    let packets = converted.packets.saturating_add(converted.left_out);
+    let ended = Ended {
+        left_out: early.packets.saturating_add(converted.left_out),
+        others: early
+            .others
+            .saturating_add(converted.blocks.saturating_sub(packets)),
+        fault: converted.fault,
+        write_failed: writer.failed(),
+    };
+    Ok(flushed(writer.into_writer(), ended))
+}
+
+// Passes blocks until an interface is described, and counts those before it.
+fn pass_to_interface<R: Read + Drop>(reader: &mut PcapNgReader<R>) -> ResultParsing<Early> {
+    let mut early = Early {
+        packets: 0,
+        others: 0,
+    };
+    for _turn in 0..u64::MAX {
+        let Some(header) = reader.next_header() else {
+            break;
+        };
+        let type_ = header?.type_;
+        if !reader.interfaces().is_empty() {
+            break;
+        }
+        if holds_packet(type_) {
+            early.packets = early.packets.saturating_add(1);
+        } else {
+            early.others = early.others.saturating_add(1);
+        }
+    }
+    Ok(early)
+}
+
+fn holds_packet(type_: BlockType) -> bool {
+    matches!(
+        type_,
+        BlockType::EnhancedPacket | BlockType::Packet | BlockType::SimplePacket
+    )
+}
+
+// The header of the classic capture that blocks become. Without an interface it is that of Ethernet.
+fn header_under(interfaces: &[InterfaceDescriptionBlock<'static>]) -> PcapHeader {
+    let mut header = PcapHeader::default();
+    header.magic_number = LITTLE_NANOSECONDS;
+    header.datalink = DataLink::ETHERNET;
+    header.snaplen = WHOLE_PACKETS;
+    if let Some(first) = interfaces.first() {
+        header.datalink = first.linktype;
+        if first.snaplen > 0 {
+            header.snaplen = first.snaplen;
+        }
+    }
+    header
+}
+
+fn other(format: Format) -> Format {
+    match format {
+        Format::Pcap => Format::PcapNg,
+        Format::PcapNg => Format::Pcap,
+    }
+}
+
+// How a conversion ended once its output is flushed.
+fn flushed<W: Write + Drop>(mut output: W, mut ended: Ended) -> Ended {
+    if let Err(error) = output.flush() {
+        if ended.fault.is_none() {
+            ended.fault = Some(PcapError::IoError(error));
+            ended.write_failed = true;
+        }
+    }
+    ended
+}
