@@ -34,20 +34,26 @@ fn shown(alloc: Global, bytes: &[u8]) -> Option<(usize, usize, u64)> {
     }
 }
 
+// The same of what stands behind a section.
+fn shown_behind(alloc: Global, more: &[u8]) -> Option<(usize, usize, u64)> {
+    shown(alloc, with_section(alloc, more)?.as_slice())
+}
+
 #[test]
 fn requests_are_exact(rt: HostRuntime) {
-    let alloc = rt.alloc();
-    assert_eq!(rt; shown(alloc, &SECTIONS[..28]), Some((0, 0, 2)));
-    assert_eq!(rt; shown(alloc, &SECTIONS), Some((3, 0, 8)));
-    assert_eq!(rt; shown(alloc, &SECTIONS[..20]), Some((0, 8, 0)));
-    let empty = with_section(alloc, &[0, 0, 0, 0xff, 0, 0, 0, 12, 0, 0, 0, 12]).expect(
-        &rt, "memory",
-    );
-    assert_eq!(rt; shown(alloc, &empty), Some((1, 0, 3)));
-    let large = with_section(alloc, &[0, 0, 0, 0xff, 0xff, 0xff, 0xff, 0xfc, 0, 0, 0, 0]).expect(
-        &rt, "memory",
-    );
-    assert_eq!(rt; shown(alloc, &large), Some((0, 4294967280, 4)));
+    for (end, wanted) in [(28, (0, 0, 2)), (96, (3, 0, 8)), (20, (0, 8, 0))] {
+        assert_eq!(rt; shown(rt.alloc(), &SECTIONS[..end]), Some(wanted));
+    }
+    // a block without a body, and one that states nearly all bytes there may be
+    for (more, wanted) in [
+        ([0, 0, 0, 0xff, 0, 0, 0, 12, 0, 0, 0, 12], (1, 0, 3)),
+        (
+            [0, 0, 0, 0xff, 0xff, 0xff, 0xff, 0xfc, 0, 0, 0, 0],
+            (0, 4294967280, 4),
+        ),
+    ] {
+        assert_eq!(rt; shown_behind(rt.alloc(), &more), Some(wanted));
+    }
 }
 
 // What the pieces between two cuts hold: the numbers after each, and how many bytes were taken in all.
@@ -113,15 +119,22 @@ fn shown_of_refused(alloc: Global, bytes: &[u8]) -> Option<usize> {
 // The head of a block is twelve bytes. A head that is refused shows no more, and a block no more than it states.
 #[test]
 fn nothing_is_asked_for_behind_a_refused_first_block(rt: HostRuntime) {
-    let alloc = rt.alloc();
-    let unaligned = [0, 0, 0, 0x99, 0, 0, 0, 0x0d, 0, 0, 0, 0, 7, 7, 7, 7];
-    assert_eq!(rt; shown_of_refused(alloc, &unaligned), Some(12));
-    let short = [0, 0, 0, 0x99, 0, 0, 0, 8, 0, 0, 0, 0, 7, 7, 7, 7];
-    assert_eq!(rt; shown_of_refused(alloc, &short), Some(12));
-    let no_section = [
-        0, 0, 0, 0x99, 0, 0, 0, 0x10, 0, 0, 0, 0, 0, 0, 0, 0x10, 7, 7, 7, 7,
+    let rows: [(&[u8], usize); 4] = [
+        // its length is no multiple of four
+        (&[0, 0, 0, 0x99, 0, 0, 0, 0x0d, 0, 0, 0, 0, 7, 7, 7, 7], 12),
+        // it is too short
+        (&[0, 0, 0, 0x99, 0, 0, 0, 8, 0, 0, 0, 0, 7, 7, 7, 7], 12),
+        // it is no section
+        (
+            &[
+                0, 0, 0, 0x99, 0, 0, 0, 0x10, 0, 0, 0, 0, 0, 0, 0, 0x10, 7, 7, 7, 7,
+            ],
+            16,
+        ),
+        // it is torn
+        (&[0, 0, 0, 0x99, 0, 0, 0, 0x10, 0, 0, 0, 0, 0], 13),
     ];
-    assert_eq!(rt; shown_of_refused(alloc, &no_section), Some(16));
-    let torn = [0, 0, 0, 0x99, 0, 0, 0, 0x10, 0, 0, 0, 0, 0];
-    assert_eq!(rt; shown_of_refused(alloc, &torn), Some(13));
+    for (bytes, len) in rows {
+        assert_eq!(rt; shown_of_refused(rt.alloc(), bytes), Some(len));
+    }
 }

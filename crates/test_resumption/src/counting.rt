@@ -94,32 +94,48 @@ fn capture(alloc: Global) -> Option<Vec<u8>> {
 // and it gives each packet at a call of its own. So a packet costs three calls at most.
 #[test]
 fn no_piece_asks_anew(rt: HostRuntime) {
-    let alloc = rt.alloc();
-    let bytes = capture(alloc).expect(&rt, "memory");
-    // pieces of one and of four bytes end where each head and each packet does: the calls are behind the header; at the head of
-    // the first packet, at its end and behind it; at the end of the empty one and behind it; and so at the last one
-    assert_eq!(rt; asked(alloc, &bytes, 1), Some((3, 9)));
-    assert_eq!(rt; asked(alloc, &bytes, 4), Some((3, 9)));
-    assert_eq!(rt;
-        asked(alloc, &bytes[..bytes.len().min(172)], 4),
-        Some((2, 7))
-    );
-    // the same of pieces that end elsewhere
-    assert_eq!(rt; asked(alloc, &bytes, 10), Some((3, 9)));
-    // all at once: three packets, and behind them
-    assert_eq!(rt; asked(alloc, &bytes, 176), Some((3, 4)));
+    let bytes = capture(rt.alloc()).expect(&rt, "memory");
+    // how many bytes there are, how many each piece has, and then how many packets come and how many calls there are
+    let rows = [
+        // pieces of one and of four bytes end where each head and each packet does: the calls are behind the header; at the head
+        // of the first packet, at its end and behind it; at the end of the empty one and behind it; and so at the last one
+        (176, 1, (3, 9)),
+        (176, 4, (3, 9)),
+        (172, 4, (2, 7)),
+        // the same of pieces that end elsewhere
+        (176, 10, (3, 9)),
+        // all at once: three packets, and behind them
+        (176, 176, (3, 4)),
+    ];
+    for (end, size, wanted) in rows {
+        let front = &bytes[..bytes.len().min(end)];
+        assert_eq!(rt;
+            asked(rt.alloc(), front, size),
+            Some(wanted),
+            "pieces of {size}"
+        );
+    }
+}
+
+// The capture, a head that is refused, and zeros.
+fn refused_capture(alloc: Global) -> Option<Vec<u8>> {
+    let mut bytes = capture(alloc)?;
+    bytes.resize(192, 0xff).ok()?;
+    bytes.resize(300, 0).ok()?;
+    Some(bytes)
 }
 
 // A refused head ends the calls, however much comes behind it.
 #[test]
 fn nothing_is_asked_behind_a_refusal(rt: HostRuntime) {
-    let alloc = rt.alloc();
-    let mut bytes = capture(alloc).expect(&rt, "memory");
-    bytes.resize(192, 0xff).expect(&rt, "memory");
-    bytes.resize(300, 0).expect(&rt, "memory");
-    assert_eq!(rt; asked(alloc, &bytes, 1), Some((3, 10)));
-    assert_eq!(rt; asked(alloc, &bytes, 4), Some((3, 10)));
-    assert_eq!(rt; asked(alloc, &bytes, 300), Some((3, 4)));
+    let bytes = refused_capture(rt.alloc()).expect(&rt, "memory");
+    for (size, wanted) in [(1, (3, 10)), (4, (3, 10)), (300, (3, 4))] {
+        assert_eq!(rt;
+            asked(rt.alloc(), &bytes, size),
+            Some(wanted),
+            "pieces of {size}"
+        );
+    }
 }
 
 // A parser of packets that has memory for a header and no byte more.

@@ -41,14 +41,18 @@ fn shown(alloc: Global, bytes: &[u8]) -> Option<(usize, usize, u64)> {
 
 #[test]
 fn requests_are_exact(rt: HostRuntime) {
-    let alloc = rt.alloc();
-    let bytes = whole(alloc).expect(&rt, "memory");
-    assert_eq!(rt; shown(alloc, &bytes), Some((1, 0, 3)));
-    assert_eq!(rt; shown(alloc, &HEAD), Some((0, 98, 3)));
-    assert_eq!(rt; shown(alloc, &HEAD[..30]), Some((0, 10, 2)));
-    assert_eq!(rt; shown(alloc, &HEAD[..10]), Some((0, 14, 0)));
-    assert_eq!(rt; shown(alloc, &EMPTY_PACKET), Some((1, 0, 2)));
-    assert_eq!(rt; shown(alloc, &[]), Some((0, 24, 0)));
+    let bytes = whole(rt.alloc()).expect(&rt, "memory");
+    let rows: [(&[u8], (usize, usize, u64)); 6] = [
+        (&bytes, (1, 0, 3)),
+        (&HEAD, (0, 98, 3)),
+        (&HEAD[..30], (0, 10, 2)),
+        (&HEAD[..10], (0, 14, 0)),
+        (&EMPTY_PACKET, (1, 0, 2)),
+        (&[], (0, 24, 0)),
+    ];
+    for (bytes, wanted) in rows {
+        assert_eq!(rt; shown(rt.alloc(), bytes), Some(wanted));
+    }
 }
 
 // What the pieces between two cuts hold: the numbers after each, and how many bytes were taken in all.
@@ -94,7 +98,7 @@ fn every_cutting_gives_the_same(rt: HostRuntime) {
 }
 
 // What pieces give.
-#[derive(Debug, Drop, PartialEq)]
+#[derive(Clone, Copy, Debug, PartialEq)]
 struct Given {
     // How many pieces there are, and how many of them hold no packet yet.
     pieces: usize,
@@ -147,14 +151,18 @@ fn one_packet(pieces: usize, empty: usize, missing: Option<usize>) -> Option<Giv
 // The head ends with the 40th byte, and the packet with the last.
 #[test]
 fn bytes_are_pieces(rt: HostRuntime) {
-    let alloc = rt.alloc();
-    let bytes = whole(alloc).expect(&rt, "memory");
-    assert_eq!(rt; bytewise(alloc, &bytes, 1), one_packet(277, 275, Some(0)));
-    assert_eq!(rt; bytewise(alloc, &bytes, 39), one_packet(143, 141, Some(0)));
-    assert_eq!(rt; bytewise(alloc, &bytes, 40), one_packet(143, 141, Some(0)));
-    assert_eq!(rt; bytewise(alloc, &bytes, 41), one_packet(143, 141, Some(0)));
-    assert_eq!(rt; bytewise(alloc, &bytes, 137), one_packet(141, 139, Some(0)));
-    assert_eq!(rt; bytewise(alloc, &bytes, 138), one_packet(140, 138, Some(0)));
+    let bytes = whole(rt.alloc()).expect(&rt, "memory");
+    for (run, pieces, empty) in [
+        (1, 277, 275),
+        (39, 143, 141),
+        (40, 143, 141),
+        (41, 143, 141),
+        (137, 141, 139),
+        (138, 140, 138),
+    ] {
+        let wanted = one_packet(pieces, empty, Some(0));
+        assert_eq!(rt; bytewise(rt.alloc(), &bytes, run), wanted, "runs of {run}");
+    }
 }
 
 #[test]
@@ -175,25 +183,28 @@ fn nothing_is_asked_for_behind_a_refused_header(rt: HostRuntime) {
     assert_eq!(rt; window.seen().len(), 24);
 }
 
+// The capture's packet, a head, and then so many of this byte.
+fn whole_and(alloc: Global, head: &[u8], byte: u8, count: usize) -> Option<Vec<u8>> {
+    let mut bytes = whole(alloc)?;
+    bytes.extend_from_slice(head).ok()?;
+    for _turn in 0..count {
+        bytes.push(byte).ok()?;
+    }
+    Some(bytes)
+}
+
 // Ten bytes of the second packet's data came.
 #[test]
 fn bytes_end_within_a_packet(rt: HostRuntime) {
-    let alloc = rt.alloc();
-    let mut bytes = whole(alloc).expect(&rt, "memory");
-    bytes.extend_from_slice(&HEAD[24..]).expect(&rt, "memory");
-    bytes.extend_from_slice(&[0; 10]).expect(&rt, "memory");
-    assert_eq!(rt;
-        bytewise(alloc, &bytes, 164),
-        one_packet(166, 138, Some(88))
-    );
+    let bytes = whole_and(rt.alloc(), &HEAD[24..], 0, 10).expect(&rt, "memory");
+    let wanted = one_packet(166, 138, Some(88));
+    assert_eq!(rt; bytewise(rt.alloc(), &bytes, 164), wanted);
 }
 
 // The second packet states a length that none may have, and bytes go on behind its head.
 #[test]
 fn bytes_go_on_behind_a_refusal(rt: HostRuntime) {
-    let alloc = rt.alloc();
-    let mut bytes = whole(alloc).expect(&rt, "memory");
-    bytes.extend_from_slice(&[0xff; 16]).expect(&rt, "memory");
-    bytes.extend_from_slice(&[0; 30]).expect(&rt, "memory");
-    assert_eq!(rt; bytewise(alloc, &bytes, 184), one_packet(186, 138, None));
+    let bytes = whole_and(rt.alloc(), &[0xff; 16], 0, 30).expect(&rt, "memory");
+    let wanted = one_packet(186, 138, None);
+    assert_eq!(rt; bytewise(rt.alloc(), &bytes, 184), wanted);
 }
