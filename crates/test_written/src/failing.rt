@@ -6,7 +6,7 @@ use pcap_core::{CowBytes, Endianness, PcapError, ResultParsing};
 use pcap_written::{PcapNgBlock, PcapNgWriter};
 use std::alloc::Global;
 use std::borrow::CowStr;
-use std::io::Write;
+use std::io::{ErrorKind, Write};
 use std::test::*;
 use test_support::captures::front;
 use test_support::rows::bytes;
@@ -138,6 +138,30 @@ fn halted_calls(rt: HostRuntime) -> Result<(), Fail> {
                 "at {call}"
             );
         }
+    }
+    Ok(())
+}
+
+// Writes a section, an interface, and a packet of two bytes without options.
+fn write_plain(alloc: Global, output: &mut Narrow) -> ResultParsing<()> {
+    let mut writer = PcapNgWriter::with_endianness(alloc, Endianness::Big, output)?;
+    writer.write_pcapng_block(&interface(alloc))?;
+    writer.write_packet(0, 1, &[0x61, 0x62], 2)
+}
+
+// Whether the interruption of this call of the stream is told as one.
+fn tells_interrupted(alloc: Global, call: u64) -> bool {
+    match write_plain(alloc, &mut Narrow::halting(alloc, call, false)) {
+        Err(PcapError::IoError(error)) => error.kind() == ErrorKind::Interrupted,
+        _ => false,
+    }
+}
+
+#[test]
+fn interrupted_calls(rt: HostRuntime) -> Result<(), Fail> {
+    // three for the section, two for the interface, three for what stands before the packet's bytes, and one for each of the rest
+    for call in 1..11u64 {
+        assert!(rt; tells_interrupted(rt.alloc(), call), "at {call}");
     }
     Ok(())
 }
