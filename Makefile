@@ -1,12 +1,12 @@
-# The program capcopy and the library pcapfile for C.
+# The programs capcopy and pcapfile, and the library pcapfile for C.
 #
-#   make                                     builds both; `rt` proves them first
+#   make                                     builds them; `rt` proves them first
 #   make check                               the tests of the library, through C, Python and Rust
-#   make install PREFIX=/usr DESTDIR=room    installs both, with header, man page, completions and pkg-config's file
+#   make install PREFIX=/usr DESTDIR=room    installs them, with header, man pages, completions and pkg-config's file
 #   make uninstall                           removes what that installed, by the same words
 #   make wheel                               out/pcapfile-VERSION-*.whl, the package for Python with the library in it
 #   make dist                                out/pcapfile-VERSION-SYSTEM.tar.gz, which is used where it is unpacked
-#   make deb                                 out/*.deb: libpcapfile0, libpcapfile-dev, python3-pcapfile and capcopy
+#   make deb                                 out/*.deb: libpcapfile0, libpcapfile-dev, python3-pcapfile and pcapfile
 #
 # `rt` of the Rattle toolchain has to be on the PATH. The first proof takes minutes; JOBS is how many jobs it may use.
 
@@ -30,8 +30,11 @@ PYTHON ?= python3
 DIST = pcapfile-$(VERSION)-$(shell uname -sm | tr 'A-Z ' 'a-z-')
 KIT = $(shell dirname "$$(dirname "$$(readlink -f "$$(command -v rt)")")")
 PROVED = crates/pcapfile_c/out/libpcapfile_c.a
-PROGRAM = crates/capcopy/out/capcopy
+COPIES = crates/capcopy/out/capcopy
+FILES = crates/pcapfile/out/pcapfile
 LIBRARIES = pcap_core pcap_times pcap_classic pcap_tolerant pcap_blocks pcap_written pcap_file pcap_parts
+# The toolchain's ports that the library and the programs hold.
+PORTS = byteorder thiserror itoa clap strsim
 JOBS_OF_RT = $(if $(JOBS),--jobs $(JOBS))
 sources_of = crates.txt $(shell find $(foreach crate,$(LIBRARIES) $(1),$(wildcard $(foreach part,src specs proofs,crates/$(crate)/$(part)))) -type f)
 
@@ -43,11 +46,21 @@ endif
 
 .PHONY: all check install uninstall wheel dist deb clean
 
-all: $(PROGRAM) $(OUT)/libpcapfile.a $(OUT)/libpcapfile.so.$(ABI) $(OUT)/licences
+all: $(COPIES) $(FILES) $(OUT)/pages $(OUT)/libpcapfile.a $(OUT)/libpcapfile.so.$(ABI) $(OUT)/licences
 
-$(PROGRAM): $(call sources_of,capcopy_run capcopy)
+$(COPIES): $(call sources_of,capcopy_run capcopy)
 	cd crates/capcopy && rt run $(JOBS_OF_RT) -- list < stdin > /dev/null
 	touch $@
+
+$(FILES): $(call sources_of,capcopy_run pcapfile_run pcapfile)
+	cd crates/pcapfile && rt run $(JOBS_OF_RT) -- --version > /dev/null
+	touch $@
+
+# The man page and the completions of the program for files, out of its help.
+$(OUT)/pages: $(FILES) packages/pages VERSION
+	rm -rf $@
+	mkdir -p $@
+	$(PYTHON) packages/pages $(FILES) $@
 
 $(PROVED): $(call sources_of,pcap_parts pcapfile_c)
 	cd crates/pcapfile_c && rt lib $(JOBS_OF_RT)
@@ -68,21 +81,19 @@ $(OUT)/libpcapfile.so.$(ABI): $(OUT)/libpcapfile.o include/names
 	ln -sf libpcapfile.so.$(ABI) $(OUT)/libpcapfile.so
 
 # What goes with all that is built: the licences of the parts that it holds, and what is said of those that have none.
-$(OUT)/licences: LICENSE NOTICE
+$(OUT)/licences: LICENSE NOTICE Makefile
 	rm -rf $@
 	mkdir -p $@
 	cp LICENSE NOTICE $@
-	cp $(KIT)/rattle/byteorder/LICENSE-MIT $@/LICENSE.byteorder
-	cp $(KIT)/rattle/thiserror/LICENSE $@/LICENSE.thiserror
-	cp $(KIT)/rattle/itoa/LICENSE $@/LICENSE.itoa
+	$(foreach port,$(PORTS),cp $(firstword $(wildcard $(foreach name,LICENSE LICENSE-MIT,$(KIT)/rattle/$(port)/$(name)))) $@/LICENSE.$(port) &&) :
 
 check: all
 	tests/c/run
 
 install: all
 	install -d $(BINDIR) $(INCDIR) $(LIBDIR)/pkgconfig $(MANDIR) $(DOCDIR) $(SHAREDIR) $(BASHDIR) $(ZSHDIR)
-	install -m 755 $(PROGRAM) $(BINDIR)/capcopy
-	strip $(BINDIR)/capcopy
+	install -m 755 $(COPIES) $(FILES) $(BINDIR)/
+	strip $(BINDIR)/capcopy $(BINDIR)/pcapfile
 	install -m 644 include/pcapfile.h include/pcapfile_open.h $(INCDIR)/
 	install -m 644 c/open.c $(SHAREDIR)/open.c
 	install -m 644 $(OUT)/libpcapfile.a $(LIBDIR)/libpcapfile.a
@@ -93,17 +104,19 @@ install: all
 	    'Description: Reads and writes packet captures by a proved parser' 'Version: $(VERSION)' \
 	    'Cflags: -I$${includedir}' 'Libs: -L$${libdir} -lpcapfile' > $(LIBDIR)/pkgconfig/pcapfile.pc
 	chmod 644 $(LIBDIR)/pkgconfig/pcapfile.pc
-	install -m 644 capcopy.1 $(MANDIR)/capcopy.1
+	install -m 644 capcopy.1 $(OUT)/pages/pcapfile.1 $(MANDIR)/
 	install -m 644 packages/completions/capcopy.bash $(BASHDIR)/capcopy
-	install -m 644 packages/completions/_capcopy $(ZSHDIR)/_capcopy
+	install -m 644 $(OUT)/pages/pcapfile.bash $(BASHDIR)/pcapfile
+	install -m 644 packages/completions/_capcopy $(OUT)/pages/_pcapfile $(ZSHDIR)/
 	install -m 644 CHANGELOG.md $(OUT)/licences/* $(DOCDIR)
 
 uninstall:
-	rm -f $(BINDIR)/capcopy $(INCDIR)/pcapfile.h $(INCDIR)/pcapfile_open.h $(LIBDIR)/libpcapfile.a $(LIBDIR)/libpcapfile.so.$(ABI)
-	rm -f $(LIBDIR)/libpcapfile.so $(LIBDIR)/pkgconfig/pcapfile.pc $(MANDIR)/capcopy.1 $(BASHDIR)/capcopy $(ZSHDIR)/_capcopy
+	rm -f $(INCDIR)/pcapfile.h $(INCDIR)/pcapfile_open.h $(LIBDIR)/libpcapfile.a $(LIBDIR)/libpcapfile.so.$(ABI)
+	rm -f $(LIBDIR)/libpcapfile.so $(LIBDIR)/pkgconfig/pcapfile.pc
+	rm -f $(foreach program,capcopy pcapfile,$(BINDIR)/$(program) $(MANDIR)/$(program).1 $(BASHDIR)/$(program) $(ZSHDIR)/_$(program))
 	rm -rf $(DOCDIR) $(SHAREDIR)
 
-wheel: all
+wheel: $(OUT)/libpcapfile.so.$(ABI) $(OUT)/licences
 	rm -f $(OUT)/*.whl
 	$(PYTHON) python/backend.py $(OUT)
 
