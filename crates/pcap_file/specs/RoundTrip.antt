@@ -1,5 +1,5 @@
 -- Captures of blocks that are converted whole, and captures that are converted there and back.
-use Rattle.std.specs.Prelude.{◌≡◌, ◌<◌, ◌^◌, ℕ, List, [], length, map, true, false, None, Some, IfSome}
+use Rattle.std.specs.Prelude.{◌≡◌, ◌<◌, ◌^◌, ◌++◌, ℕ, List, [], ◌∷◌, length, map, true, false, None, Some, IfSome, ⊤}
 use Rattle.std.specs.List.{AllZip, flat_map}
 use Rattle.std.specs.Io.KnownBytes.{Appends}
 use Rattle.pcap_core.specs.declared.link.DataLink.{DataLink}
@@ -15,9 +15,9 @@ use Rattle.pcap_file.specs.declared.run.placing.IfUnplaced.TheVariants.{Refuse}
 use Rattle.pcap_file.specs.declared.run.placing.NgConverted.{NgConverted}
 use Rattle.pcap_file.specs.Blocks.{Item, block_format}
 use Rattle.pcap_file.specs.Opening.{OpeningSays}
-use Rattle.pcap_file.specs.Placed.{Becomes, Turn, carried, packets_of, reasons_of}
+use Rattle.pcap_file.specs.Placed.{Becomes, Turn, carried, packets_of, reason_of_turn, reasons_of}
 use Rattle.pcap_file.specs.Placing.{Sink, Source}
-use Rattle.pcap_file.specs.State.{opening}
+use Rattle.pcap_file.specs.State.{State, opening}
 
 -- a packet's seconds, with the whole seconds among its nanoseconds, are a number of 32 bits
 abbrev pub HasSecondsInside : Captured → Type 0
@@ -66,6 +66,27 @@ pub record PlacesEach (header : PcapHeader) (turns : List Turn) (c d : Sink) (co
   pub packets : converted.packets ≡ length (packets_of turns)
   pub left_out : converted.left_out ≡ length (reasons_of turns)
   pub out : Appends c.out d.out (flat_map (written_under header) (packets_of turns))
+
+-- blocks at the front of these bytes become this, and each packet of theirs has a place, or may be left out
+pub record PlacesRow (header : PcapHeader) (choice : IfUnplaced) (q : State) (bytes : List ℕ) (turns : List Turn) : Type 0 where
+  pub items : List Item
+  pub others : List Item
+  pub rest : List ℕ
+  pub front : Front block_format q (items ++ others) bytes rest
+  pub become : AllZip (Becomes header.datalink) items turns
+  pub allowed : choice ≡ Refuse → reasons_of turns ≡ []
+
+-- the first of these blocks, where there is one, becomes nothing, or a packet without a place that may not be left out
+abbrev pub GoesNoFurther : PcapHeader → IfUnplaced → List Item → Type 0
+GoesNoFurther header choice [] = ⊤
+GoesNoFurther header choice (item ∷ items) = (turn : Turn) → Becomes header.datalink item turn → (choice ≡ Refuse → reason_of_turn turn ≡ []) → ⊥
+
+-- the bytes are a beginning of the packets that blocks at the front of these bytes become
+pub record BeginsPlaced (header : PcapHeader) (choice : IfUnplaced) (q : State) (bytes gone : List ℕ) : Type 0 where
+  pub turns : List Turn
+  pub row : PlacesRow header choice q bytes turns
+  pub more : List ℕ
+  pub split : flat_map (written_under header) (packets_of turns) ≡ gone ++ more
 
 -- a reader stands behind the first block of these bytes
 pub record IsOpened (bytes : List ℕ) (a : Source) : Type 0 where

@@ -14,10 +14,15 @@ use Rattle.pcap_file.specs.State.{is_kept}
 abbrev pub LeavesInForce : Framed → Type 0
 LeavesInForce b = is_kept b.type_ ≡ false
 
--- what follows the block at the front of the bytes, where one stands there whole and leaves what is in force
-abbrev pub PassesBlock : Endianness → List ℕ → Option (Bor (List ℕ)) → Type 0
-PassesBlock e s (Some after) = (b : Framed) × FrameText e b s after.now × LeavesInForce b
-PassesBlock e s None = (b : Framed) (after : List ℕ) → FrameText e b s after → LeavesInForce b → ⊥
+-- each block that stands whole at the front of the bytes and leaves what is in force has fewer bytes than so many behind it
+abbrev pub NoneBefore : Endianness → ℕ → List ℕ → Type 0
+NoneBefore e n s = (b : Framed) (after : List ℕ) → FrameText e b s after → LeavesInForce b → length after < n
+
+-- what follows the block at the front of the bytes, where one stands there whole, leaves what is in force, and has so many bytes
+-- behind it
+abbrev pub PassesBlock : Endianness → ℕ → List ℕ → Option (Bor (List ℕ)) → Type 0
+PassesBlock e n s (Some after) = ((b : Framed) × FrameText e b s after.now × LeavesInForce b) × (n ≤ length after.now)
+PassesBlock e n s None = NoneBefore e n s
 
 -- the bytes are so many blocks one behind the other, which leave what is in force
 pub record IsStretch (e : Endianness) (bytes : List ℕ) (n : ℕ) : Type 0 where

@@ -17,7 +17,7 @@ ghost use Rattle.pcap_core.specs.Bytes.{IsBytes};
 ghost use Rattle.pcap_file.specs.Conversion.{BeginsConverted, ConvertsEach, IsConversion, exact_time};
 ghost use Rattle.pcap_classic.specs.Front.{CaptureFront};
 ghost use Rattle.pcap_classic.specs.Magic.{resolution_of};
-ghost use Rattle.pcap_classic.specs.Written.{IsWhole, IsWholeHeader, capture, cut};
+ghost use Rattle.pcap_classic.specs.Written.{IsWhole, IsWholeHeader, capture, cut, written_under};
 ghost use Rattle.pcap_file.specs.Converted.{converted, interface_for, little_texts, opening_blocks, packet_block, time_of};
 ghost use Rattle.pcap_file.specs.Converts.{ConvertRun, ConvertsPackets};
 ghost use Rattle.pcap_classic.specs.Copies as classic_runs;
@@ -35,14 +35,14 @@ ghost use Rattle.pcap_file.specs.Placed.{Becomes, PlacesBody, Turn, carried, pac
 ghost use Rattle.pcap_file.specs.Placing.{PlacesRun, Sink, Source, source_of};
 ghost use Rattle.pcap_file.specs.Reader.{OpensReader};
 ghost use Rattle.pcap_file.specs.declared.pcapng.reader.PcapNgReader.{PcapNgReader};
-ghost use Rattle.pcap_file.specs.RoundTrip.{AreReady, BlocksBecome, CanPlace, ComeBack, HasSecondsInside, IsOpened, PlacesEach, packets_read};
+ghost use Rattle.pcap_file.specs.RoundTrip.{AreReady, BeginsPlaced, BlocksBecome, CanPlace, ComeBack, GoesNoFurther, HasSecondsInside, IsOpened, PlacesEach, PlacesRow, packets_read};
 ghost use Rattle.pcap_file.specs.RoundTrip as whole_runs;
 ghost use Rattle.pcap_file.specs.Sections.{Leaves};
 ghost use Rattle.pcap_file.specs.State.{State, opening};
 ghost use Rattle.pcap_file.specs.Bodies.{SaysOfBody};
 ghost use Rattle.pcap_file.specs.RawBlocks.{raw_in};
 ghost use Rattle.pcap_file.specs.Written.{IsBodyOf, IsMadeOf, IsReadable, IsReadAs, StandsAt};
-ghost use Rattle.std.specs.List.{AllZip};
+ghost use Rattle.std.specs.List.{AllZip, flat_map};
 ghost use Rattle.pcap_blocks.specs.declared.block_type.BlockType.TheVariants as types;
 ghost use Rattle.pcap_blocks.specs.ParsedBlock.{Body, SectionBody};
 ghost use Rattle.pcap_blocks.specs.SectionHeader.{Section};
@@ -265,6 +265,18 @@ pub fn accepted_capture_is_placed()
     ensures { (header : PcapHeader) (choice : IfUnplaced) (turns : List Turn) (a b : Source) (c d : Sink) (most : ℕ) (converted : NgConverted) →
         CanPlace header choice a turns → AreReady header a c → length turns ≤ most → whole_runs.NothingFailed b d converted →
         PlacesRun header choice a b c d most converted → PlacesEach header turns c d converted }
+{}
+
+/// Whatever is refused or fails, what a conversion to a classic capture has written is a beginning of the packets of blocks at the
+/// front of what was left of the stream, where each of these blocks becomes a packet that has a place, or one that may be left out,
+/// or none. So it is a beginning of what the whole conversion writes: of the packets of all blocks up to the first that becomes none
+/// of these.
+pub fn placing_is_a_beginning()
+    ensures begins { (header : PcapHeader) (choice : IfUnplaced) (bytes : List ℕ) (a b : Source) (c d : Sink) (most : ℕ) (converted : NgConverted) →
+        a.left ≡ Some bytes → PlacesRun header choice a b c d most converted → (gone : List ℕ) × Appends c.out d.out gone × BeginsPlaced header choice a.state bytes gone }
+    ensures whole { (header : PcapHeader) (choice : IfUnplaced) (turns : List Turn) (bytes : List ℕ) (a b : Source) (c d : Sink) (most : ℕ) (converted : NgConverted) →
+        a.left ≡ Some bytes → (row : PlacesRow header choice a.state bytes turns) → GoesNoFurther header choice row.others → PlacesRun header choice a b c d most converted →
+        (gone rest : List ℕ) × (flat_map (written_under header) (packets_of turns) ≡ gone ++ rest) × Appends c.out d.out gone }
 {}
 
 /// A reader that was made of a stream whose bytes are known stands behind their first block, and goes on.

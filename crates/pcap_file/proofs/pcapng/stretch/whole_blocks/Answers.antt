@@ -1,11 +1,18 @@
-use Rattle.std.proofs.Common.{arith}
+use Rattle.std.proofs.Common.{arith, inl, inr}
+use Rattle.pcap_file.proofs.Frames.{frame_long}
 use Rattle.pcap_file.proofs.Stretched.{more_taken}
 use Rattle.pcap_file.proofs.pcapng.stretch.whole_blocks.Goals as goal
 
-pub loop-blocks-preserved : goal.loop-blocks-preserved
-loop-blocks-preserved c =
-    let passed = c.in-Some.ensures in
-    record {
-      so_far = more_taken c.args.order c.args.bytes.now c.loop-blocks.rest.now c.in-Some.after.now c.loop-blocks.blocks passed.0 c.loop-blocks.invariant.so_far passed.1 passed.2;
-      within = omega (arith, c.loop-blocks-test.true);
-    }
+pub returns-in-Some-clause-passes : goal.returns-in-Some-clause-passes
+returns-in-Some-clause-passes c =
+    let passed = c.in-Some.ensures.0 in
+    let before = c.blocks_before_a_head-blocks in
+    more_taken c.args.order c.args.bytes.now before.result.1.now c.in-Some.after.now before.result.0 passed.0 before.ensures.passes passed.1 passed.2
+
+pub returns-in-Some-clause-ends : goal.returns-in-Some-clause-ends
+returns-in-Some-clause-ends c =
+    let passed = c.in-Some.ensures.0 in
+    elim c.blocks_before_a_head-blocks.ensures.ends [
+      | inl all ↦ absurd (c.if-blocks-most.false all)
+      | inr none ↦ inr (λ b after text leaves. absurd (omega (arith, none passed.0 c.in-Some.after.now passed.1 passed.2, frame_long c.args.order b c.in-Some.after.now after text)))
+    ]
