@@ -1,4 +1,5 @@
 """What the toolchain's check says of functions whose bodies are changed."""
+import contextlib
 import json
 import os
 import re
@@ -31,9 +32,9 @@ class NoVerdict(Exception):
     """The check did not come to judge the functions."""
 
 
-def crates():
+def crates(top=TOP):
     """The libraries that each crate of the repository names in crates.txt, and whether it is a static one."""
-    with open(f"{TOP}/crates.txt", encoding="utf-8") as lines:
+    with open(f"{top}/crates.txt", encoding="utf-8") as lines:
         rows = [line.split(":") for line in lines if not line.startswith("#")]
     return {head.split()[0]: (named.split(), "staticlib" in head) for head, named in rows}
 
@@ -103,12 +104,12 @@ def with_holes(name, texts, functions):
 def judged(name, texts, batch, now, kept):
     """Each edit of the batch with why it isn't refused as it says, or None, where these texts have them all. First no other
     function is proved; what isn't refused so is judged again beside all proofs."""
-    functions = {edit.function for edit in batch}
-    try:
-        told = check(name, with_holes(name, now, functions), functions, kept)
-        refused = [edit for edit in batch if fault_of(edit, told, name) is None]
-    except NoVerdict:
-        refused = []
+    functions, refused = {edit.function for edit in batch}, []
+    holed = with_holes(name, now, functions)
+    if holed != now:
+        with contextlib.suppress(NoVerdict):
+            told = check(name, holed, functions, kept)
+            refused = [edit for edit in batch if fault_of(edit, told, name) is None]
     left = [edit for edit in batch if edit not in refused]
     return [(edit, None) for edit in refused] + (judged_whole(name, texts, left, now, kept) if left else [])
 
