@@ -191,6 +191,22 @@ int32_t pcapfile_take_packet(const pcapfile_header *header, pcapfile_bytes *left
 int32_t pcapfile_take_packets(const pcapfile_header *header, pcapfile_bytes *left, pcapfile_packet *packets, size_t room,
                               size_t *taken, pcapfile_error *error);
 
+/* A packet in numbers: columns of these are what programs compute with. */
+typedef struct pcapfile_row {
+    int64_t time_ns;       /* in nanoseconds since 1970 */
+    uint32_t len;          /* how many bytes are stored */
+    uint32_t orig_len;     /* how many bytes it had on the wire */
+    uint32_t interface_id; /* 0 */
+    uint32_t link;         /* the header's */
+    uint64_t offset;       /* where its stored bytes begin, in bytes from where `left` began before the call */
+} pcapfile_row;
+
+#define PCAPFILE_ROW_INIT { 0, 0, 0, 0, 0, 0 }
+
+/* As pcapfile_take_packets, with rows in place of packets. Of `header` only the magic number and the link type matter. */
+int32_t pcapfile_take_rows(const pcapfile_header *header, pcapfile_bytes *left, pcapfile_row *rows, size_t room,
+                           size_t *taken, pcapfile_error *error);
+
 /* Takes the packet at the front of `left` as pcapfile_take_packet does, but leaves out none for a rule of 2 to 5 that it breaks:
  * packet->flaws tells these. `limit` is the most bytes that a packet may store here, so that a broken length doesn't ask for
  * gigabytes; one below 262144 is taken for 262144.
@@ -426,6 +442,22 @@ int32_t pcapfile_read_packet(const pcapfile_section *section, const pcapfile_blo
  * call can be made once more. PCAPFILE_INVALID with rule 6 where section->magic_number is no section's. */
 int32_t pcapfile_take_ng_packets(const pcapfile_section *section, pcapfile_bytes *left, pcapfile_ng_packet *packets, size_t room,
                                  size_t *taken, pcapfile_error *error);
+
+/* A packet of PcapNg in numbers. */
+typedef struct pcapfile_ng_row {
+    uint64_t timestamp;    /* in units of the interface; 0 for a simple packet, which has no time */
+    uint32_t len;          /* how many bytes are stored; for a simple packet all that follow in the block */
+    uint32_t orig_len;     /* how many bytes it had on the wire */
+    uint32_t interface_id; /* the number of its interface */
+    uint32_t type;         /* of its block: 6 enhanced, 3 simple, 2 obsolete */
+    uint64_t offset;       /* where its stored bytes begin, in bytes from where `left` began before the call */
+} pcapfile_ng_row;
+
+#define PCAPFILE_NG_ROW_INIT { 0, 0, 0, 0, 0, 0 }
+
+/* As pcapfile_take_ng_packets, with rows in place of packets. */
+int32_t pcapfile_take_ng_rows(const pcapfile_section *section, pcapfile_bytes *left, pcapfile_ng_row *rows, size_t room,
+                              size_t *taken, pcapfile_error *error);
 
 /* Where a part of a PcapNg capture begins, and what is in force there. */
 typedef struct pcapfile_ng_cut {

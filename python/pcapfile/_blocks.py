@@ -5,8 +5,8 @@ import struct
 from typing import Any, Dict, Iterator, List, NamedTuple, Optional, Tuple
 
 from . import _columns, _library
-from ._capture import BATCH, Packets, make
-from ._errors import error_of
+from ._capture import BATCH, Packets, Take, make
+from ._errors import CaptureError, error_of
 from ._source import Memory, Source, Stretch, Window
 
 
@@ -56,6 +56,9 @@ class BlockPacket(NamedTuple):
 
 _SIMPLE_PACKET = 3
 
+# The magic number of a section whose numbers are high byte first.
+_BIG = 0x1A2B3C4D
+
 # A packet as the library fills it in: its block's type, interface, original length, units of time, and where its bytes lie.
 _PACKET = struct.Struct("@IIIQPN")
 
@@ -100,6 +103,9 @@ class _Known(_Unknown):
 class Walk:
     """The blocks of a capture, and the interfaces of the section in force."""
 
+    # Rows as the library fills them in: with units of time, and the type of the block in place of the link.
+    rows = [("timestamp", "u8"), ("len", "u4"), ("orig_len", "u4"), ("interface", "u4"), ("type", "u4"), ("offset", "u8")]
+
     def __init__(self, window: Window) -> None:
         self.window = window
         self.section, self.error = _library.Section(), _library.Error()
@@ -126,20 +132,60 @@ class Walk:
         if _library.read_interface(self.section, self.block, shown, self.error) == _library.OK:
             self.known[number] = _Known(shown)
 
-    def batches(self, packets: Any, room: int, taken: ctypes.c_size_t) -> Iterator[Window]:
-        """Fills in so many packets as there is room for, batch by batch, and tells where their bytes lie."""
+    @property
+    def state(self) -> Any:
+        """What is in force."""
+        interfaces = {number: known.interface for number, known in self.known.items()}
+        return self.section.magic_number, self.section.interfaces, interfaces
+
+    def over(self, window: Window) -> "Walk":
+        """A walk over other bytes of the same capture, from where the same is in force."""
+        walk = Walk(window)
+        walk.section, walk.known = _library.Section.from_buffer_copy(self.section), dict(self.known)
+        return walk
+
+    def ahead(self, window: Window) -> "Walk":
+        """A walk from what is in force at the first packet of the same bytes."""
+        walk = self.over(window)
+        packet, taken = _library.NgPacket(0, 0, 0, 0, _library.no_bytes()), ctypes.c_size_t()
+        try:
+            for _ in walk.batches(lambda left, error: _library.take_ng_packets(walk.section, left, packet, 1, taken, error)):
+                if taken.value > 0:
+                    break
+        except CaptureError:
+            pass
+        return walk
+
+    def batches(self, take: Take) -> Iterator[bool]:
+        """Lets a call take packets until there are no more. It goes on after each call, and tells whether what is in force stays
+        so."""
         window = self.window
         while window.left.len > 0 or window.more(1):
             window.offset  # raises where the capture is closed
-            status = _library.take_ng_packets(self.section, window.left, packets, room, taken, self.error)
-            if taken.value > 0:
-                yield window
+            status = take(window.left, self.error)
+            stays = status in (_library.OK, _library.INCOMPLETE)
+            yield stays
             is_cut = status == _library.INCOMPLETE and not window.more(self.error.missing)
             if is_cut or status == _library.NO_MEMORY:
                 raise error_of(status, self.error, window.offset)
-            if status not in (_library.OK, _library.INCOMPLETE):
+            if not stays:
                 # A section, an interface, a packet that can't be read, or a refusal.
                 self.take()
+
+    def take_rows(self, left: _library.Bytes, rows: int, room: int, taken: ctypes.c_size_t, error: _library.Error) -> int:
+        status: int = _library.take_ng_rows(self.section, left, rows, room, taken, error)
+        return status
+
+    def settle(self, rows: Any) -> None:
+        """Makes rows that were filled in into rows of columns."""
+        _columns.settle_blocks(rows, self.known)
+
+    def guess(self, data: memoryview, place: int) -> Optional[int]:
+        """Where blocks seem to stand again in bytes from this place of the capture on."""
+        order = ">" if self.section.magic_number == _BIG else "<"
+        begin = -place % 4
+        found = _columns.guess_block(data[begin:], order)
+        return None if found is None else place + begin + found
 
 
 class BlockCapture(Packets):
@@ -152,25 +198,27 @@ class BlockCapture(Packets):
         self._first = Walk(source.window())
         self._first.take()
 
-    def _walk(self) -> Walk:
-        """A walk over all of it, or over what a stream has not given yet; or over the stretch, behind what is in force there."""
-        stretch, source = self._stretch, self._source
-        if stretch is not None and isinstance(source, Memory):
-            walk = Walk(source.between(stretch.header))
+    def _walk(self, lends: bool = True) -> Walk:
+        source, stretch = self._source, self._stretch
+        if not isinstance(source, Memory):
+            return self._first
+        bytes_between = source.between if lends else source.read
+        if stretch is None:
+            return Walk(bytes_between(0, len(source)))
+        walk = Walk(source.between(stretch.header))
+        walk.take()
+        for place in stretch.interfaces:
+            walk.window = source.between(place)
             walk.take()
-            for place in stretch.interfaces:
-                walk.window = source.between(place)
-                walk.take()
-            walk.window = source.between(stretch.begin, stretch.end)
-            return walk
-        window = self._source.window()
-        return self._first if window is self._first.window else Walk(window)
+        walk.window = bytes_between(stretch.begin, stretch.end)
+        return walk
 
     def __iter__(self) -> Iterator[BlockPacket]:
         walk, taken = self._walk(), ctypes.c_size_t()
         packets = (_library.NgPacket * BATCH)(*[_library.NgPacket(0, 0, 0, 0, _library.no_bytes())] * BATCH)
         fields = memoryview(packets).cast("B")
-        for window in walk.batches(packets, BATCH, taken):
+        window = walk.window
+        for _ in walk.batches(lambda left, error: _library.take_ng_packets(walk.section, left, packets, BATCH, taken, error)):
             data, start, base, last = window.data, window.start, window.base, None
             for kind, number, original, units, at, length in _PACKET.iter_unpack(fields[: taken.value * _PACKET.size]):
                 if number != last:
@@ -185,9 +233,6 @@ class BlockCapture(Packets):
                 at -= start
                 lent = data[at : at + length]
                 yield make(BlockPacket, (seconds, nanoseconds, original, lent, units, number, interface, base + at))
-
-    def _arrays(self, batch: int) -> Iterator[Any]:
-        return _columns.of_blocks(self._walk(), batch)
 
     def _stretches(self, count: int) -> List[Stretch]:
         window, cuts, error = self._source.window(), (_library.NgCut * count)(), _library.Error()

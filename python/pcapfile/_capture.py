@@ -2,18 +2,21 @@
 
 import ctypes
 import struct
-from typing import Any, Iterator, List, NamedTuple, Optional
+from typing import Any, Callable, Iterator, List, NamedTuple, Optional
 
 from . import _columns, _library
+from ._columns import COLUMNS
 from ._errors import error_of
 from ._source import Memory, Source, Stretch, Window
 
-# How many packets one call into the library takes, and how many for columns.
+# How many packets one call into the library takes.
 BATCH = 512
-COLUMNS = 65536
 
 # A packet as the library fills it in: seconds, nanoseconds, original length, and where its bytes lie.
 _PACKET = struct.Struct("@IIIPN")
+
+# A call that takes packets from the front of bytes, and answers its status.
+Take = Callable[[_library.Bytes, _library.Error], int]
 
 # Makes a packet of its fields. `Packet(..)` is a function in Python, and takes twice as long.
 make = tuple.__new__
@@ -78,24 +81,32 @@ class Packets:
         first."""
         if _columns.numpy is None:
             return _columns.of_packets(self, batch)
-        if threads > 1 and self._stretch is None and isinstance(self._source, Memory):
-            return _columns.side_by_side(self, len(self._source), batch, threads)
+        if threads > 1 and isinstance(self._source, Memory):
+            return self._side_by_side(batch, threads)
         return self._arrays(batch)
 
     def _arrays(self, batch: int) -> Iterator[Any]:
+        return _columns.of_walk(self._walk(lends=False), batch)
+
+    def _side_by_side(self, batch: int, threads: int) -> Iterator[Any]:
+        return _columns.side_by_side(self._walk(lends=False), self._source, self._end(), batch, threads)
+
+    def _walk(self, lends: bool = True) -> Any:
+        """A walk over all packets, or over those that a stream has not given yet, or over the stretch; over bytes that are lent, or
+        over such as may be gone when the walk goes on."""
         raise NotImplementedError
+
+    def _end(self) -> int:
+        """Where the capture ends, or the stretch."""
+        return len(self._source) if self._stretch is None else self._stretch.end
 
     def to_pandas(self, threads: int = 1) -> Any:
         """All packets as a DataFrame of pandas: `time`, NaT where there is none, and the other columns."""
-        return _columns.to_pandas(self.columns(COLUMNS, threads))
+        return _columns.to_pandas(self.columns(COLUMNS, threads), self._end() if isinstance(self._source, Memory) else 0)
 
     def _stretches(self, count: int) -> List[Stretch]:
         """Where it can be cut into so many stretches of equal length, at most."""
         raise NotImplementedError
-
-    def _over(self, stretch: Stretch) -> "Packets":
-        """The packets of a stretch of it."""
-        return type(self)(self._source, stretch)
 
     def close(self) -> None:
         """Lets the capture go. Data of its packets that is still used keeps a file mapped."""
@@ -103,6 +114,57 @@ class Packets:
 
     def __exit__(self, *_: object) -> None:
         self.close()
+
+
+class Walk:
+    """A walk over the packets behind a header."""
+
+    # Of PcapNg what is in force. Here the header is, all the time.
+    state: Any = None
+
+    # Each row that the library fills in is a row of columns.
+    rows = _columns.KINDS
+
+    def __init__(self, header: _library.Header, window: Window) -> None:
+        self.header, self.window = header, window
+
+    def over(self, window: Window) -> "Walk":
+        """A walk over other bytes of the same capture, from where the same is in force."""
+        return Walk(self.header, window)
+
+    def ahead(self, window: Window) -> "Walk":
+        """A walk from what is in force at the first packet of the same bytes."""
+        return self.over(window)
+
+    def batches(self, take: Take) -> Iterator[bool]:
+        """Lets a call take packets until there are no more. It goes on after each call, and tells whether what is in force stays
+        so."""
+        window, error = self.window, _library.Error()
+        while True:
+            window.offset  # raises where the capture is closed
+            status = take(window.left, error)
+            yield True
+            if status not in (_library.OK, _library.INCOMPLETE):
+                raise error_of(status, error, window.offset)
+            if window.left.len > 0 and status == _library.OK:
+                continue
+            if not window.more(error.missing if status == _library.INCOMPLETE else 1):
+                break
+        if status != _library.OK:
+            raise error_of(status, error, window.offset)
+
+    def take_rows(self, left: _library.Bytes, rows: int, room: int, taken: ctypes.c_size_t, error: _library.Error) -> int:
+        status: int = _library.take_rows(self.header, left, rows, room, taken, error)
+        return status
+
+    def settle(self, rows: Any) -> None:
+        """Makes rows that were filled in into rows of columns."""
+
+    def guess(self, data: memoryview, place: int) -> Optional[int]:
+        """Where packets seem to stand again in bytes from this place of the capture on."""
+        found, bytes_here = ctypes.c_size_t(), Window(data).left
+        status = _library.resync(self.header, bytes_here, _columns.IN_A_ROW, found, _library.Error())
+        return place + found.value if status == _library.OK else None
 
 
 class Capture(Packets):
@@ -124,44 +186,23 @@ class Capture(Packets):
         """The number of the link type of the packets' first layer."""
         return self.header.link
 
-    def _window(self) -> Window:
-        """What is behind the header, or behind the packets that a stream has given; or the stretch."""
-        if self._stretch is not None and isinstance(self._source, Memory):
-            return self._source.between(self._stretch.begin, self._stretch.end)
-        window = self._source.window()
-        if window is not self._after_header:
-            _library.take_header(window.left, _library.Header(), _library.Error())
-        return window
-
-    def _batches(self, packets: Any, room: int, taken: ctypes.c_size_t) -> Iterator[Window]:
-        """Fills in so many packets as there is room for, batch by batch, and tells where their bytes lie."""
-        window, error = self._window(), _library.Error()
-        while True:
-            window.offset  # raises where the capture is closed
-            status = _library.take_packets(self._header, window.left, packets, room, taken, error)
-            if taken.value > 0:
-                yield window
-            if status not in (_library.OK, _library.INCOMPLETE):
-                raise error_of(status, error, window.offset)
-            if window.left.len > 0 and status == _library.OK:
-                continue
-            if not window.more(error.missing if status == _library.INCOMPLETE else 1):
-                break
-        if status != _library.OK:
-            raise error_of(status, error, window.offset)
+    def _walk(self, lends: bool = True) -> "Walk":
+        if not isinstance(self._source, Memory):
+            return Walk(self._header, self._after_header)
+        begin = self._after_header.offset if self._stretch is None else self._stretch.begin
+        bytes_between = self._source.between if lends else self._source.read
+        return Walk(self._header, bytes_between(begin, self._end()))
 
     def __iter__(self) -> Iterator[Packet]:
         packets = (_library.Packet * BATCH)(*[_library.Packet(0, 0, 0, _library.no_bytes())] * BATCH)
         fields = memoryview(packets).cast("B")
-        taken, link = ctypes.c_size_t(), self.link
-        for window in self._batches(packets, BATCH, taken):
+        taken, link, walk = ctypes.c_size_t(), self.link, self._walk()
+        window = walk.window
+        for _ in walk.batches(lambda left, error: _library.take_packets(self._header, left, packets, BATCH, taken, error)):
             data, start, base = window.data, window.start, window.base
             for seconds, nanoseconds, original, at, length in _PACKET.iter_unpack(fields[: taken.value * _PACKET.size]):
                 at -= start
                 yield make(Packet, (seconds, nanoseconds, original, data[at : at + length], link, base + at))
-
-    def _arrays(self, batch: int) -> Iterator[Any]:
-        return _columns.of_capture(self, batch)
 
     def _stretches(self, count: int) -> List[Stretch]:
         window, cuts = self._source.window(), (_library.Cut * count)()

@@ -4,10 +4,12 @@ import ctypes
 from array import array
 from collections import deque
 from concurrent.futures import Future, ThreadPoolExecutor
-from typing import TYPE_CHECKING, Any, Deque, Dict, Iterator, List, Optional, Tuple
+from itertools import chain
+from typing import TYPE_CHECKING, Any, Deque, Dict, Iterator, List, NamedTuple, Optional, Tuple
 
 from . import _library
-from ._errors import CaptureError
+from ._errors import CaptureError, Incomplete
+from ._source import Pieces
 
 try:
     import numpy
@@ -15,9 +17,11 @@ except ImportError:
     numpy = None  # type: ignore[assignment]
 
 if TYPE_CHECKING:
-    from ._blocks import Walk
-    from ._capture import Capture, Packets
-    from ._source import Window
+    from ._capture import Packets
+    from ._source import Memory
+
+# How many packets columns have at once.
+COLUMNS = 65536
 
 # The time of a packet that has none, and that of one whose nanoseconds pass 64 bits: numpy's NaT.
 NO_TIME = -(2**63)
@@ -35,44 +39,102 @@ _TYPES = [
     ("offset", "u8", "Q"),
 ]
 
+# Each column and its type in a row of numpy.
+KINDS = [(name, kind) for name, kind, _ in _TYPES]
+
 _SIMPLE_PACKET = 3
 
 # How many bytes of a capture a thread walks at once.
 _STRETCH = 1 << 24
 
+# How many packets or blocks have to stand in a row where a stretch is guessed to begin, and how many bytes are searched for that.
+IN_A_ROW = 4
+_SEARCHED = 1 << 20
 
-def side_by_side(capture: "Packets", size: int, batch: int, threads: int) -> Iterator[Any]:
-    """The columns of a capture of this size, of which so many threads walk stretches, in the capture's order."""
-    stretches = capture._stretches(max(threads, size // _STRETCH))
-    waiting: Deque["Future[Tuple[List[Any], Optional[CaptureError]]]"] = deque()
-    pool = ThreadPoolExecutor(threads)
+
+def side_by_side(walk: Any, source: "Memory", end: int, batch: int, threads: int) -> Iterator[Any]:
+    """The columns of a walk up to a place of its capture, stretches of which so many threads walk, in the capture's order.
+
+    No stretch is known to begin between two packets: that is guessed, and a stretch counts only where the walk of all before it
+    ends at its front, with the same in force as it was walked with. Otherwise it is walked again from there."""
+    begin = walk.window.offset
+    seems = walk.ahead(source.read(begin, end))
+    stretches = _guessed(seems, source, begin, end, threads)
+    waiting: Deque[Tuple[int, int, Any, "Future[_Walked]"]] = deque()
+    pool, most, ahead = ThreadPoolExecutor(threads), 2 * threads, 2 * threads
+    reached, now = begin, walk
     try:
-        for stretch in stretches:
-            waiting.append(pool.submit(_walked, capture._over(stretch), batch))
-            if len(waiting) > 2 * threads:
-                yield from _given(waiting.popleft().result())
-        while waiting:
-            yield from _given(waiting.popleft().result())
+        while True:
+            while len(waiting) < ahead and (stretch := next(stretches, None)):
+                start = walk if stretch[0] == begin else seems
+                waiting.append((*stretch, start.state, pool.submit(_walked, start.over(source.read(*stretch)), batch)))
+            if not waiting:
+                break
+            first, last, state, walked = waiting.popleft()
+            if state != now.state:
+                for others in waiting:
+                    others[3].cancel()
+                stretches = chain([other[:2] for other in waiting], stretches)
+                waiting.clear()
+                seems, ahead = now, 1
+            if first == reached and state == now.state:
+                found, ahead = walked.result(), min(2 * ahead, most)
+            else:
+                found = _walked(now.over(source.read(reached, last)), batch)
+            yield from found.columns
+            reached, now = last, found.walk
+            if found.refusal is not None:
+                if last == end or not isinstance(found.refusal, Incomplete):
+                    raise found.refusal
+                reached = found.refusal.offset
     finally:
         pool.shutdown(cancel_futures=True)
 
 
-def _walked(part: "Packets", batch: int) -> "Tuple[List[Any], Optional[CaptureError]]":
-    """All columns of a part, and the refusal behind them."""
+class _Walked(NamedTuple):
+    """All columns of a walk, the walk at its end, and the refusal there."""
+
+    columns: List[Any]
+    walk: Any
+    refusal: Optional[CaptureError]
+
+
+def _walked(walk: Any, batch: int) -> _Walked:
     columns: List[Any] = []
     try:
-        for arrays in part._arrays(batch):
-            columns.append(arrays)
+        for rows in of_walk(walk, batch):
+            columns.append(rows)
     except CaptureError as error:
-        return columns, error
-    return columns, None
+        return _Walked(columns, walk, error)
+    return _Walked(columns, walk, None)
 
 
-def _given(walked: "Tuple[List[Any], Optional[CaptureError]]") -> Iterator[Any]:
-    columns, refusal = walked
-    yield from columns
-    if refusal is not None:
-        raise refusal
+def _guessed(walk: Any, source: "Memory", begin: int, end: int, threads: int) -> Iterator[Tuple[int, int]]:
+    """Stretches of about equal length between two places, each up to where packets seem to stand again."""
+    count = max(threads, (end - begin) // _STRETCH)
+    for place in [begin + (end - begin) * k // count for k in range(1, count)]:
+        guess = walk.guess(source.view(place, min(place + _SEARCHED, end)), place)
+        if guess is not None and begin < guess < end:
+            yield begin, guess
+            begin = guess
+    yield begin, end
+
+
+def guess_block(data: memoryview, order: str) -> Optional[int]:
+    """The first place from which blocks follow on each other, as their lengths tell, the first of them with a packet."""
+    words = numpy.frombuffer(data[: len(data) // 4 * 4], order + "u4")
+    for first in numpy.flatnonzero((words == 6) | (words == 3) | (words == 2)).tolist():
+        at, found = first, 0
+        while found < IN_A_ROW and at + 1 < len(words):
+            length = int(words[at + 1])
+            last = at + length // 4 - 1
+            if length % 4 > 0 or length < 12 or (last < len(words) and words[last] != length):
+                break
+            at, found = last + 1, found + 1
+        else:
+            if found > 0:
+                return first * 4
+    return None
 
 
 def of_packets(capture: "Packets", batch: int) -> Iterator[Dict[str, "array[int]"]]:
@@ -105,76 +167,92 @@ def of_packets(capture: "Packets", batch: int) -> Iterator[Dict[str, "array[int]
 def arrays_of(capture: "Packets", batch: int) -> Iterator[Any]:
     """The columns of each so many packets, one by one, as arrays of numpy."""
     for columns in of_packets(capture, batch):
-        rows = numpy.zeros(len(columns["offset"]), [(name, kind) for name, kind, _ in _TYPES])
+        rows = numpy.zeros(len(columns["offset"]), KINDS)
         for name, _, _ in _TYPES:
             rows[name] = columns[name]
         yield rows
 
 
-class _Room:
-    """Room for so many packets, that the library fills in, and numpy reads by the names of their fields."""
+class _Rows:
+    """Rows of a walk, so many at once, that the library fills in out of one window after another."""
 
-    def __init__(self, struct: Any, fields: Any, count: int) -> None:
-        self._rows = numpy.zeros(count, numpy.dtype(fields, align=True))
-        self._rows["at"] = _library.no_bytes().ptr
-        self.packets = (struct * count).from_buffer(self._rows)
-        self.taken = ctypes.c_size_t()
+    def __init__(self, walk: Any, size: int) -> None:
+        self._walk, self._kind, self._size = walk, numpy.dtype(walk.rows), size
+        self._taken = ctypes.c_size_t()
+        self._begin()
 
-    def filled(self) -> Any:
-        return self._rows[: self.taken.value]
+    def _begin(self) -> None:
+        self._rows = numpy.empty(self._size, self._kind)
+        self._offsets, self._at = self._rows["offset"], self._rows.ctypes.data
+        self.count = self._settled = 0
 
+    def is_full(self) -> bool:
+        return self.count == self._size
 
-def _columns(rows: Any, window: "Window") -> Any:
-    """New columns for these packets: what stands in the packets themselves is filled in."""
-    columns = numpy.zeros(len(rows), [(name, kind) for name, kind, _ in _TYPES])
-    columns["len"], columns["orig_len"] = rows["len"], rows["orig_len"]
-    columns["offset"] = rows["at"] - numpy.uint64(window.start) + numpy.uint64(window.base)
-    return columns
+    def take(self, left: _library.Bytes, error: _library.Error) -> int:
+        """Takes rows into the places behind those that are filled."""
+        place = self._walk.window.offset
+        at = self._at + self.count * self._kind.itemsize
+        status: int = self._walk.take_rows(left, at, self._size - self.count, self._taken, error)
+        begin = self.count
+        self.count += self._taken.value
+        self._offsets[begin : self.count] += numpy.uint64(place)
+        return status
 
+    def settle(self) -> None:
+        """Makes what was filled in into columns, by what is in force."""
+        if self.count > self._settled:
+            self._walk.settle(self._rows[self._settled : self.count])
+            self._settled = self.count
 
-_PACKET = [("sec", "u4"), ("nsec", "u4"), ("orig_len", "u4"), ("at", "u8"), ("len", "u8")]
-
-
-def of_capture(capture: "Capture", batch: int) -> Iterator[Any]:
-    """The columns of each so many packets of a classic capture."""
-    room = _Room(_library.Packet, _PACKET, batch)
-    for window in capture._batches(room.packets, batch, room.taken):
-        rows = room.filled()
-        columns = _columns(rows, window)
-        columns["time_ns"] = rows["sec"].astype("i8") * 1_000_000_000 + rows["nsec"]
-        columns["link"] = capture.link
-        yield columns
-
-
-_NG_PACKET = [("type", "u4"), ("interface", "u4"), ("orig_len", "u4"), ("units", "u8"), ("at", "u8"), ("len", "u8")]
-
-
-def of_blocks(walk: "Walk", batch: int) -> Iterator[Any]:
-    """The columns of each so many packets of a PcapNg capture."""
-    room = _Room(_library.NgPacket, _NG_PACKET, batch)
-    for window in walk.batches(room.packets, batch, room.taken):
-        yield _block_columns(room.filled(), walk, window)
+    def given(self) -> Any:
+        self.settle()
+        rows = self._rows[: self.count].view(KINDS)
+        self._begin()
+        return rows
 
 
-def _block_columns(rows: Any, walk: "Walk", window: "Window") -> Any:
-    columns = _columns(rows, window)
-    columns["interface"] = rows["interface"]
+def of_walk(walk: Any, batch: int) -> Iterator[Any]:
+    """The columns of each so many packets of a walk. Those of a stream come as soon as their bytes have."""
+    rows, refusal = _Rows(walk, batch), None
+    comes = not isinstance(walk.window, Pieces)
+    try:
+        for stays in walk.batches(rows.take):
+            if not stays:
+                rows.settle()
+            if rows.is_full() or (comes and rows.count > 0):
+                yield rows.given()
+    except CaptureError as error:
+        refusal = error
+    if rows.count > 0:
+        yield rows.given()
+    if refusal is not None:
+        raise refusal
+
+
+def settle_blocks(rows: Any, known: Any) -> None:
+    """Makes rows of PcapNg into columns: units of an interface into times, and types of blocks into link types."""
+    numbers, is_simple = rows["interface"], rows["type"] == _SIMPLE_PACKET
+    only = known.get(int(numbers[0]))
+    if only is not None and only.per_second and not is_simple.any() and (numbers == numbers[0]).all():
+        rows["timestamp"] = _times(rows["timestamp"], only).view("u8")
+        rows["type"] = only.interface.link
+        return
+    original, columns = rows.copy(), rows.view(KINDS)
     columns["time_ns"], columns["link"] = NO_TIME, NO_LINK
-    is_simple = rows["type"] == _SIMPLE_PACKET
     if is_simple.any():
-        columns["len"][is_simple] = numpy.minimum(rows["len"], rows["orig_len"])[is_simple]
-    for number in numpy.unique(rows["interface"]):
-        known = walk.known.get(int(number))
-        if known is None:
+        columns["len"][is_simple] = numpy.minimum(original["len"], original["orig_len"])[is_simple]
+    for number in numpy.unique(numbers):
+        found = known.get(int(number))
+        if found is None:
             continue
-        here = rows["interface"] == number
-        columns["link"][here] = known.interface.link
-        if known.interface.snaplen > 0:
+        here = numbers == number
+        columns["link"][here] = found.interface.link
+        if found.interface.snaplen > 0:
             cut = here & is_simple
-            columns["len"][cut] = numpy.minimum(columns["len"][cut], known.interface.snaplen)
+            columns["len"][cut] = numpy.minimum(columns["len"][cut], found.interface.snaplen)
         timed = here & ~is_simple
-        columns["time_ns"][timed] = _times(rows["units"][timed], known)
-    return columns
+        columns["time_ns"][timed] = _times(original["timestamp"][timed], found)
 
 
 def _times(units: Any, known: Any) -> Any:
@@ -182,8 +260,9 @@ def _times(units: Any, known: Any) -> Any:
     if not known.per_second:
         return numpy.fromiter((_time(known, int(count)) for count in units), "i8", len(units))
     most = (2**63 - 1) // known.nanoseconds
-    times = numpy.minimum(units, numpy.uint64(most)).astype("i8") * known.nanoseconds
-    times[units > most] = NO_TIME
+    times = (units * numpy.uint64(known.nanoseconds)).view("i8")
+    if units.max(initial=0) > most:
+        times[units > most] = NO_TIME
     return times
 
 
@@ -195,15 +274,32 @@ def _time(known: Any, units: int) -> int:
     return time if abs(time) < 2**63 else NO_TIME
 
 
-def to_pandas(batches: Iterator[Any]) -> Any:
+def _joined(batches: Iterator[Any], end: int) -> Dict[str, Any]:
+    """Each column of all batches. By where the capture ends, room is made for all of its packets at once."""
+    columns, count = {name: numpy.empty(0, kind) for name, kind in KINDS}, 0
+    for rows in batches:
+        begin, count = count, count + len(rows)
+        if count > len(columns["len"]):
+            passed = int(rows["offset"][-1]) + 1
+            room = min(count * max(end, passed) // passed + COLUMNS, 64 * count)
+            columns = {name: _longer(column, begin, room) for name, column in columns.items()}
+        for name, column in columns.items():
+            column[begin:count] = rows[name]
+    return {name: column[:count] for name, column in columns.items()}
+
+
+def _longer(column: Any, count: int, room: int) -> Any:
+    longer = numpy.empty(room, column.dtype)
+    longer[:count] = column[:count]
+    return longer
+
+
+def to_pandas(batches: Iterator[Any], end: int = 0) -> Any:
     """A DataFrame of these columns, whose `time` is NaT where a packet has none."""
     try:
         import pandas
     except ImportError as error:
         raise ImportError("to_pandas needs pandas: 'pip install pandas', or Debian's python3-pandas") from error
-    names = [name for name, _, _ in _TYPES]
-    kinds = [(name, kind) for name, kind, _ in _TYPES]
-    rows = numpy.concatenate([numpy.zeros(0, kinds), *batches])
-    frame = pandas.DataFrame({name: rows[name] for name in names[1:]})
-    frame.insert(0, "time", pandas.to_datetime(rows["time_ns"].view("M8[ns]")))
-    return frame
+    columns = _joined(batches, end)
+    times = columns.pop("time_ns").view("M8[ns]")
+    return pandas.DataFrame({"time": times, **columns}, copy=False)

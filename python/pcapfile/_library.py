@@ -150,6 +150,18 @@ take_ng_packets.argtypes = [
 ]
 take_ng_packets.restype = ctypes.c_int32
 
+take_rows = _library.pcapfile_take_rows
+take_rows.argtypes = [_to(Header), _to(Bytes), ctypes.c_void_p, ctypes.c_size_t, _to(ctypes.c_size_t), _to(Error)]
+take_rows.restype = ctypes.c_int32
+
+take_ng_rows = _library.pcapfile_take_ng_rows
+take_ng_rows.argtypes = [_to(Section), _to(Bytes), ctypes.c_void_p, ctypes.c_size_t, _to(ctypes.c_size_t), _to(Error)]
+take_ng_rows.restype = ctypes.c_int32
+
+resync = _library.pcapfile_resync
+resync.argtypes = [_to(Header), _to(Bytes), ctypes.c_size_t, _to(ctypes.c_size_t), _to(Error)]
+resync.restype = ctypes.c_int32
+
 cut_packets = _library.pcapfile_cut_packets
 cut_packets.argtypes = [_to(Bytes), _to(Cut), ctypes.c_size_t, _to(ctypes.c_size_t), _to(Error)]
 cut_packets.restype = ctypes.c_int32

@@ -4,7 +4,7 @@ import mmap
 import os
 import stat
 from builtins import open as _open
-from typing import Any, Optional, Union
+from typing import Any, BinaryIO, Optional, Union
 
 from ._as_is import CaptureAsIs
 from ._blocks import BlockCapture
@@ -34,10 +34,9 @@ def open(file: Union[str, bytes, os.PathLike, Any], *, strict: bool = True) -> U
         return capture_of(Stream(file), strict=strict)
     stream = _open(file, "rb", buffering=0)
     status = os.fstat(stream.fileno())
-    if stat.S_ISREG(status.st_mode) and status.st_size > 0:
-        with stream:
-            return parse(mmap.mmap(stream.fileno(), 0, access=mmap.ACCESS_READ), strict=strict)
     try:
+        if stat.S_ISREG(status.st_mode) and status.st_size > 0:
+            return capture_of(_mapped(stream), strict=strict)
         return capture_of(Stream(stream), strict=strict)
     except BaseException:
         stream.close()
@@ -46,11 +45,29 @@ def open(file: Union[str, bytes, os.PathLike, Any], *, strict: bool = True) -> U
 
 def mapped(path: Union[str, bytes, os.PathLike]) -> Memory:
     """What is in a regular file."""
-    with _open(path, "rb", buffering=0) as stream:
+    stream = _open(path, "rb", buffering=0)
+    try:
         status = os.fstat(stream.fileno())
         if not stat.S_ISREG(status.st_mode):
             raise ValueError("only a capture in a regular file has parts")
-        return Memory(mmap.mmap(stream.fileno(), 0, access=mmap.ACCESS_READ) if status.st_size > 0 else b"")
+        return _mapped(stream) if status.st_size > 0 else Memory(b"", stream)
+    except BaseException:
+        stream.close()
+        raise
+
+
+def in_file(path: Union[str, bytes, os.PathLike], stretch: Optional[Stretch] = None) -> Union[Capture, BlockCapture]:
+    """The capture in a regular file, or a stretch of it."""
+    source = mapped(path)
+    try:
+        return capture_of(source, stretch)
+    except BaseException:
+        source.close()
+        raise
+
+
+def _mapped(stream: BinaryIO) -> Memory:
+    return Memory(mmap.mmap(stream.fileno(), 0, access=mmap.ACCESS_READ), stream)
 
 
 def capture_of(source: Source, stretch: Optional[Stretch] = None, strict: bool = True) -> Union[Capture, BlockCapture]:

@@ -2,11 +2,12 @@
 
 import os
 from dataclasses import dataclass
-from typing import Any, Iterator, List, Union
+from typing import Any, Iterator, List, Optional, Union
 
 from ._blocks import BlockCapture
-from ._capture import COLUMNS, Capture
-from ._open import capture_of, mapped
+from ._capture import Capture
+from ._columns import COLUMNS
+from ._open import in_file
 from ._source import Stretch
 
 
@@ -30,7 +31,7 @@ class Part:
 
     def open(self) -> Union[Capture, BlockCapture]:
         """The capture, whose packets are those of the part."""
-        return capture_of(mapped(self.path), self.stretch)
+        return in_file(self.path, self.stretch)
 
     def __iter__(self) -> Iterator[Any]:
         with self.open() as capture:
@@ -47,14 +48,35 @@ class Part:
             return capture.to_pandas()
 
 
-def parts(path: Union[str, bytes, os.PathLike], count: int) -> List[Part]:
+def parts(path: Union[str, bytes, os.PathLike], count: Optional[int] = None, *, at_least: int = 0) -> List[Part]:
     """So many parts of the capture in a regular file, of equal length but for less than a packet or block each. There are fewer
-    where a packet is longer than a share, or where the capture is refused before the last of them; the refusal then comes in the
-    last part. Their packets joined are those of the capture.
+    where a packet is longer than a share, where a part would have fewer than `at_least` bytes, or where the capture is refused
+    before the last of them; the refusal then comes in the last part. Their packets joined are those of the capture. Without
+    `count` there are as many as have `at_least` bytes each.
 
     Cutting passes over the packets once, and reads nothing but their headers. A `CaptureError` comes where the capture is refused
     at its front."""
-    if count < 1:
+    if count is None and at_least < 1:
+        raise ValueError("either how many parts, or how many bytes each has at least")
+    if count is not None and count < 1:
         raise ValueError("a capture has at least one part")
-    with capture_of(mapped(path)) as capture:
-        return [Part(os.fspath(path), stretch) for stretch in capture._stretches(count)]
+    with in_file(path) as capture:
+        if at_least > 0:
+            most = max(os.stat(path).st_size // at_least, 1)
+            count = most if count is None else min(count, most)
+        return [Part(os.fspath(path), stretch) for stretch in _joined(capture._stretches(count or 1), at_least)]
+
+
+def _joined(stretches: List[Stretch], at_least: int) -> List[Stretch]:
+    """Those that have fewer bytes joined to the one before them, and the first to the one behind it."""
+    joined: List[Stretch] = []
+    for stretch in stretches:
+        if joined and (_length(stretch) < at_least or _length(joined[-1]) < at_least):
+            joined[-1] = joined[-1]._replace(end=stretch.end)
+        else:
+            joined.append(stretch)
+    return joined
+
+
+def _length(stretch: Stretch) -> int:
+    return stretch.end - stretch.begin

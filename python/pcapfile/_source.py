@@ -1,7 +1,8 @@
 """Where the bytes of captures come from: memory, a mapped file, or a stream."""
 
 import mmap
-from typing import Any, NamedTuple, Optional, Tuple, Union
+import os
+from typing import Any, BinaryIO, NamedTuple, Optional, Tuple, Union
 
 from . import _library
 
@@ -9,6 +10,9 @@ Data = Union[bytes, bytearray, memoryview, mmap.mmap]
 
 # How many bytes of a stream are asked for at once, unless a packet needs more.
 CHUNK = 1 << 18
+
+# How many bytes of a file are read at once where none of them are lent: they stay in a processor's cache.
+PIECE = 1 << 18
 
 
 class Window:
@@ -48,9 +52,10 @@ class Stretch(NamedTuple):
 class Memory:
     """Bytes in memory or in a mapped file, until they are closed. A walk begins at their front, or at that of a stretch."""
 
-    def __init__(self, data: Data) -> None:
+    def __init__(self, data: Data, file: Optional[BinaryIO] = None) -> None:
         self._bytes = memoryview(data).cast("B")
-        self._file: Optional[mmap.mmap] = data if isinstance(data, mmap.mmap) else None
+        self._map: Optional[mmap.mmap] = data if isinstance(data, mmap.mmap) else None
+        self._file = file
 
     def __len__(self) -> int:
         return len(self._bytes)
@@ -58,17 +63,59 @@ class Memory:
     def window(self) -> Window:
         return Window(self._bytes)
 
+    def view(self, begin: int, end: int) -> memoryview:
+        return self._bytes[begin:end]
+
     def between(self, begin: int, end: Optional[int] = None) -> Window:
-        """Those between two places, or from a place on. They are kept as long as the window is."""
-        return Window(self._bytes[begin:end], begin)
+        """Those between two places, or from a place on. Those that end before the last are kept as long as the window is."""
+        if end is not None and end < len(self):
+            return Window(self._bytes[begin:end], begin)
+        window = Window(self._bytes)
+        window.left.ptr, window.left.len = window.start + begin, len(self) - begin
+        return window
+
+    def read(self, begin: int, end: int) -> Window:
+        """Those between two places, of which none are lent. Those of a file are read, as mapping each page costs more."""
+        if self._file is None or not hasattr(os, "preadv"):
+            return self.between(begin, end)
+        return Pieces(self._file, begin, end)
 
     def close(self) -> None:
         self._bytes.release()
         if self._file is not None:
+            self._file.close()
+        if self._map is not None:
             try:
-                self._file.close()
+                self._map.close()
             except BufferError:
                 pass
+
+
+class Pieces(Window):
+    """Bytes of a file between two places, which are read piece by piece into the same memory: none of them may be lent."""
+
+    def __init__(self, file: BinaryIO, begin: int, end: int) -> None:
+        self._file, self._next, self._end = file, begin, end
+        super().__init__(memoryview(bytearray(PIECE)))
+        self.left.len = 0
+
+    @property
+    def offset(self) -> int:
+        if self._file.closed:
+            raise ValueError("the capture is closed")
+        return self._next - self.left.len
+
+    def more(self, missing: int) -> bool:
+        held, room = self.left.len, self.data
+        begin = self.left.ptr - self.start
+        if 2 * held > len(room):
+            self._show(memoryview(bytearray(2 * len(room))), 0)
+        self.data[:held] = room[begin : begin + held]
+        wanted = min(len(self.data) - held, self._end - self._next)
+        count = os.preadv(self._file.fileno(), [self.data[held : held + wanted]], self._next) if wanted > 0 else 0
+        self.left.ptr, self.left.len = self.start, held + count
+        self._next += count
+        return count > 0
 
 
 class Stream(Window):

@@ -1,11 +1,13 @@
 """Tests of captures as DataFrames of dask."""
 
+import shutil
+import subprocess
 import tempfile
 import unittest
 from pathlib import Path
 
 import pcapfile
-from test_pcapfile import HEADER, INTERFACE, SECTION, block, enhanced, packet
+from test_pcapfile import HEADER, INTERFACE, NANOSECONDS, SECTION, block, enhanced, packet
 
 try:
     import dask
@@ -75,6 +77,35 @@ class Frames(unittest.TestCase):
         with distributed.LocalCluster(3, threads_per_worker=1, dashboard_address=None) as cluster, distributed.Client(cluster):
             frame = pcapfile.dask.read(self.paths, 9).compute()
         pandas.testing.assert_frame_equal(frame, self.whole())
+
+    def twenty(self):
+        """Ten captures of each format, with lengths, times and interfaces that differ."""
+        for n in range(10):
+            classic = b"".join(packet(1_600_000_000 + m, 1000 * n + m, bytes(m * n % 97), 97 + m) for m in range(60))
+            yield self.written(f"{n}.pcap", HEADER + classic)
+            blocks = b"".join(enhanced(m % 2, 10**14 * (n + 1) + 12_345 * m, bytes(m * n % 53)) for m in range(60))
+            yield self.written(f"{n}.pcapng", SECTION + INTERFACE + NANOSECONDS + blocks)
+
+    @unittest.skipIf(distributed is None, "distributed is missing")
+    def test_twenty_files_on_three_workers(self):
+        self.paths = list(self.twenty())
+        self.sizes = [path.stat().st_size for path in self.paths]
+        with distributed.LocalCluster(3, threads_per_worker=1, dashboard_address=None) as cluster, distributed.Client(cluster):
+            frame = pcapfile.dask.read(self.paths, 5).compute()
+        pandas.testing.assert_frame_equal(frame, self.whole())
+        if shutil.which("tshark"):
+            columns = (frame[name] for name in ("time", "len", "orig_len", "interface"))
+            rows = [(time.value, *others) for time, *others in zip(*columns)]
+            self.assertEqual(rows, [row for path in self.paths for row in told_by_tshark(path)])
+
+
+def told_by_tshark(path):
+    """Time in nanoseconds, stored and original length, and interface, which tshark leaves out where there is none."""
+    fields = ["frame.time_epoch", "frame.cap_len", "frame.len", "frame.interface_id"]
+    command = ["tshark", "-n", "-r", path, "-T", "fields", *(word for field in fields for word in ("-e", field))]
+    lines = subprocess.run(command, check=True, capture_output=True, text=True).stdout.splitlines()
+    for time, stored, original, interface in (line.split("\t") for line in lines):
+        yield int(time.replace(".", "")), int(stored), int(original), int(interface or 0)
 
 
 @unittest.skipIf(dask is not None, "dask is there")

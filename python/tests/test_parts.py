@@ -137,6 +137,21 @@ class Parts(unittest.TestCase):
         parts = pcapfile.parts(path, 9)
         self.assertEqual([[it.seconds for it in part] for part in parts], [[1], [2]])
 
+    def test_parts_of_at_least_so_many_bytes(self):
+        path = self.written(HEADER + b"".join(packet(n, 0, bytes(n % 40)) for n in range(300)))
+        whole = told(pcapfile.open(path))
+        size = path.stat().st_size - len(HEADER)
+        for at_least in (1, 55, 100, 1000, 6000, size, size + 1):
+            for count in (None, 7):
+                parts = pcapfile.parts(path, count, at_least=at_least)
+                self.assertEqual(told(joined(parts)), whole)
+                lengths = [part.end - part.begin for part in parts]
+                self.assertGreaterEqual(min(lengths), min(at_least, size))
+                self.assertLess(max(lengths), 2 * max(at_least, size // 7) + 2 * 56)
+        self.assertEqual(len(pcapfile.parts(path, at_least=1)), 300)
+        self.assertEqual(len(pcapfile.parts(path, 7, at_least=1)), 7)
+        self.assertRaises(ValueError, pcapfile.parts, path)
+
     def test_a_torn_capture(self):
         path = self.written(HEADER + b"".join(packet(n, 0, b"abcd") for n in range(90))[:-1])
         *whole, last = pcapfile.parts(path, 4)

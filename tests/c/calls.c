@@ -159,6 +159,33 @@ static void batches(void) {
     EXPECT(taken == 0 && error.rule == PCAPFILE_RULE_CAPTURE_MAGIC && left.len == 18);
 }
 
+/* Two packets of 19 bytes, of which the places are counted by hand. */
+static void rows(void) {
+    uint8_t twice[2 * 19];
+    pcapfile_row rows[3] = { PCAPFILE_ROW_INIT, PCAPFILE_ROW_INIT, PCAPFILE_ROW_INIT };
+    pcapfile_packet packet = PCAPFILE_PACKET_INIT;
+    pcapfile_header header = { 0xd4c3b2a1, 2, 4, 0, 0, 65535, 113 };
+    pcapfile_error error = PCAPFILE_ERROR_INIT;
+    size_t taken = 9;
+    memcpy(twice, capture + 24, 19);
+    memcpy(twice + 19, capture + 24, 19);
+    pcapfile_bytes left = { twice, sizeof twice }, one = left;
+    EXPECT(pcapfile_take_packet(&header, &one, &packet, &error) == PCAPFILE_OK);
+    EXPECT(pcapfile_take_rows(&header, &left, rows, 1, &taken, &error) == PCAPFILE_OK);
+    EXPECT(taken == 1 && left.len == 19 && rows[0].offset == 16 && rows[1].offset == 0);
+    left = (pcapfile_bytes){ twice, sizeof twice };
+    EXPECT(pcapfile_take_rows(&header, &left, rows, 3, &taken, &error) == PCAPFILE_OK && taken == 2 && left.len == 0);
+    EXPECT(rows[1].offset == 35 && rows[1].len == 3 && rows[1].orig_len == packet.orig_len && rows[1].interface_id == 0);
+    EXPECT(rows[1].link == 113 && rows[1].time_ns == (int64_t)packet.ts_sec * 1000000000 + packet.ts_nsec && rows[2].len == 0);
+    left = (pcapfile_bytes){ twice, sizeof twice - 1 };
+    EXPECT(pcapfile_take_rows(&header, &left, rows, 3, &taken, &error) == PCAPFILE_INCOMPLETE && taken == 1);
+    EXPECT(left.ptr == twice + 19 && error.missing == 1);
+    EXPECT(pcapfile_take_rows(&header, &left, rows, 0, &taken, &error) == PCAPFILE_OK && taken == 0);
+    header.magic_number = 7;
+    EXPECT(pcapfile_take_rows(&header, &left, rows, 3, &taken, &error) == PCAPFILE_INVALID && taken == 0);
+    EXPECT(error.rule == PCAPFILE_RULE_CAPTURE_MAGIC && left.len == 18);
+}
+
 /* Two packets of 19 bytes. */
 static void cuts(void) {
     uint8_t two[24 + 2 * 19];
@@ -375,6 +402,34 @@ static void ng_batches(void) {
     EXPECT(section.interfaces == 1 && section.magic_number == 0x4d3c2b1a);
 }
 
+static void ng_rows(void) {
+    static const uint8_t simple[] = { 3, 0, 0, 0, 20, 0, 0, 0, 2, 0, 0, 0, 'a', 'b', 0, 0, 20, 0, 0, 0 };
+    uint8_t bytes[36 + 20];
+    pcapfile_section section = PCAPFILE_SECTION_INIT;
+    pcapfile_bytes left = { blocks, sizeof blocks }, before = left;
+    pcapfile_block block = PCAPFILE_BLOCK_INIT;
+    pcapfile_ng_row rows[3] = { PCAPFILE_NG_ROW_INIT, PCAPFILE_NG_ROW_INIT, PCAPFILE_NG_ROW_INIT };
+    pcapfile_error error = PCAPFILE_ERROR_INIT;
+    size_t taken = 9;
+    EXPECT(pcapfile_take_ng_rows(&section, &left, rows, 3, &taken, &error) == PCAPFILE_INVALID && taken == 0);
+    EXPECT(error.rule == PCAPFILE_RULE_SECTION_MAGIC && !memcmp(&left, &before, sizeof left));
+    EXPECT(pcapfile_take_block(&section, &left, &block, &error) == PCAPFILE_OK);
+    EXPECT(pcapfile_take_ng_rows(&section, &left, rows, 3, &taken, &error) == PCAPFILE_NOTHING && taken == 0);
+    EXPECT(pcapfile_take_block(&section, &left, &block, &error) == PCAPFILE_OK && left.len == 36);
+    memcpy(bytes, left.ptr, 36);
+    memcpy(bytes + 36, simple, 20);
+    left = (pcapfile_bytes){ bytes, sizeof bytes };
+    EXPECT(pcapfile_take_ng_rows(&section, &left, rows, 1, &taken, &error) == PCAPFILE_OK && taken == 1 && left.len == 20);
+    EXPECT(rows[0].type == 6 && rows[0].interface_id == 0 && rows[0].orig_len == 5 && rows[0].timestamp == 7);
+    EXPECT(rows[0].len == 3 && rows[0].offset == 28 && rows[1].type == 0);
+    left = (pcapfile_bytes){ bytes, sizeof bytes };
+    EXPECT(pcapfile_take_ng_rows(&section, &left, rows, 3, &taken, &error) == PCAPFILE_OK && taken == 2 && left.len == 0);
+    EXPECT(rows[1].type == 3 && rows[1].timestamp == 0 && rows[1].len == 4 && rows[1].orig_len == 2 && rows[1].offset == 48);
+    left.len = 19;
+    left.ptr = bytes + 36;
+    EXPECT(pcapfile_take_ng_rows(&section, &left, rows, 3, &taken, &error) == PCAPFILE_INCOMPLETE && taken == 0 && error.missing == 1);
+}
+
 /* Two enhanced packets of no bytes, with a block of an unknown type before each and one behind, and then a packet whose body says
  * that it has 1 byte and has none. */
 static void passed_blocks(void) {
@@ -546,6 +601,7 @@ int main(void) {
     packets_as_is_below_a_limit();
     resyncs();
     batches();
+    rows();
     cuts();
     writes();
     pushes();
@@ -553,6 +609,7 @@ int main(void) {
     first_blocks();
     bodies();
     ng_batches();
+    ng_rows();
     block_cuts();
     passed_blocks();
     ng_pushes();

@@ -17,3 +17,4 @@ pub mod Parts
 pub mod Fitting
 pub mod PutsAgain
 pub mod CutPlaces
+pub mod RowTexts

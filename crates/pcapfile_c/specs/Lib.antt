@@ -20,4 +20,5 @@ pub mod Reasons
 pub mod Putting
 pub mod PutsAgain
 pub mod Cuts
+pub mod Rows
 pub mod AsIs

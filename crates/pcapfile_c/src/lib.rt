@@ -21,6 +21,7 @@ mod push_blocks;
 mod push_packets;
 mod putting;
 mod reasons;
+mod rows;
 mod rule_texts;
 mod shown;
 mod texts;

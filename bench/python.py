@@ -1,0 +1,78 @@
+"""python.py FILE WAY ROUNDS: walks over a capture's packets through Python, and prints how many they are, and the least seconds
+by the clock and of the processor. A way whose module isn't installed prints nothing."""
+
+import importlib.util
+import sys
+import time
+
+THREADS = 3
+
+
+def iterate(path):
+    import pcapfile
+
+    with pcapfile.open(path) as capture:
+        return sum(1 for _ in capture)
+
+
+def columns(path, threads=1):
+    import pcapfile
+
+    with pcapfile.open(path) as capture:
+        return sum(len(rows) for rows in capture.columns(threads=threads))
+
+
+def by_threads(path):
+    return columns(path, THREADS)
+
+
+def frame(path):
+    import pcapfile
+
+    with pcapfile.open(path) as capture:
+        return len(capture.to_pandas())
+
+
+def by_dpkt(path):
+    import dpkt
+
+    with open(path, "rb") as file:
+        return sum(1 for _ in dpkt.pcap.UniversalReader(file))
+
+
+def by_scapy(path):
+    from scapy.utils import RawPcapReader
+
+    packets = RawPcapReader(path)
+    count = sum(1 for _ in packets)
+    packets.close()
+    return count
+
+
+# Each way, and what it needs.
+WAYS = {
+    "iteration": (iterate, ()),
+    "columns": (columns, ("numpy",)),
+    "columns(threads=3)": (by_threads, ("numpy",)),
+    "to_pandas": (frame, ("pandas",)),
+    "dpkt": (by_dpkt, ("dpkt",)),
+    "scapy, undecoded": (by_scapy, ("scapy",)),
+}
+
+
+def main():
+    path, way, rounds = sys.argv[1], sys.argv[2], int(sys.argv[3])
+    walk, needs = WAYS[way]
+    if any(importlib.util.find_spec(module) is None for module in needs):
+        return
+    walls, processors = [], []
+    for _ in range(rounds):
+        wall, processor = time.perf_counter(), time.process_time()
+        count = walk(path)
+        walls.append(time.perf_counter() - wall)
+        processors.append(time.process_time() - processor)
+    print(count, min(walls), min(processors))
+
+
+if __name__ == "__main__":
+    main()
