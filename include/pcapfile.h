@@ -3,7 +3,7 @@
  *
  * For all bytes the calls return, and read and write nothing but what they are given. They keep nothing between calls, and
  * may be called from any thread. Those of PcapNg take memory by malloc where a block has options or names, or where a capture
- * is cut, and give it back before they return; all others take none. docs/PROMISES_C.md says what is proved.
+ * is cut, and give it back before they return; all others, and those that take options and names, take none. docs/PROMISES_C.md says what is proved.
  *
  * What the proofs take from the caller, and nothing checks:
  *  - each pointer is aligned, not null, and points at a value of its type that no other pointer of the same call reaches;
@@ -433,6 +433,52 @@ int32_t pcapfile_read_interface(const pcapfile_section *section, const pcapfile_
 int32_t pcapfile_read_packet(const pcapfile_section *section, const pcapfile_block *block, pcapfile_ng_packet *packet,
                              pcapfile_error *error);
 
+/* An option of a block. */
+typedef struct pcapfile_option {
+    uint16_t code;        /* above 0. The draft names them by the type of their block, as 1 for a comment in each */
+    pcapfile_bytes value; /* without padding, lent from the capture. Numbers in it have the order of section->magic_number */
+} pcapfile_option;
+
+#define PCAPFILE_OPTION_INIT { 0, PCAPFILE_NO_BYTES }
+
+/* Fills `options` with the bytes of a block's body in which its options stand, for pcapfile_take_option; they may be none.
+ * PCAPFILE_NOTHING where blocks of its type have no options: simple packets, journals, and types without a meaning.
+ * PCAPFILE_INVALID where the body is too short for what stands before them, or PCAPFILE_INVALID, PCAPFILE_BAD_VALUE or
+ * PCAPFILE_NOT_UTF8 for the first record of a name resolution block that is refused; rule 6 where section->magic_number is no
+ * section's. Then `options` is unchanged. Takes no memory. */
+int32_t pcapfile_options(const pcapfile_section *section, const pcapfile_block *block, pcapfile_bytes *options,
+                         pcapfile_error *error);
+
+/* Takes the option at the front of `left`, which begins after it then, as it stands: no value is judged. Of `section` only the
+ * magic number matters.
+ * PCAPFILE_NOTHING where the list is over: its mark stands there, or `left` has no bytes. PCAPFILE_INVALID with rule 17 or 18 where
+ * no option can be found, or with rule 6. Then `left` and `option` are unchanged. Takes no memory. */
+int32_t pcapfile_take_option(const pcapfile_section *section, pcapfile_bytes *left, pcapfile_option *option,
+                             pcapfile_error *error);
+
+/* A record of a name resolution block: an address and its names. */
+typedef struct pcapfile_record {
+    uint16_t type;          /* 1 of an IPv4 address, 2 of an IPv6 address, or another above 0 */
+    pcapfile_bytes address; /* 4 or 16 bytes, lent from the capture; of another type the whole value */
+    pcapfile_bytes names;   /* for pcapfile_take_name; none of another type */
+} pcapfile_record;
+
+#define PCAPFILE_RECORD_INIT { 0, PCAPFILE_NO_BYTES, PCAPFILE_NO_BYTES }
+
+/* Takes the record at the front of `left`, which begins after it then; `left` begins as the body of a block of type
+ * PCAPFILE_BLOCK_NAMES. Of `section` only the magic number matters.
+ * PCAPFILE_NOTHING where the record stands that ends the others; behind it are the options, for pcapfile_options.
+ * PCAPFILE_BAD_VALUE under 4 bytes, PCAPFILE_INVALID for the first rule of 20 to 25 that the record breaks, or for rule 6, and
+ * PCAPFILE_NOT_UTF8 for a name. Then `left` and `record` are unchanged. Takes no memory. */
+int32_t pcapfile_take_record(const pcapfile_section *section, pcapfile_bytes *left, pcapfile_record *record,
+                             pcapfile_error *error);
+
+/* Takes the name at the front of `left`, which begins after its zero byte then: so name->ptr is a string of C's. Those of a record
+ * that was taken are not refused.
+ * PCAPFILE_NOTHING where `left` has no bytes. PCAPFILE_INVALID with rule 24, or PCAPFILE_NOT_UTF8. Then `left` and `name` are
+ * unchanged. Takes no memory. */
+int32_t pcapfile_take_name(pcapfile_bytes *left, pcapfile_bytes *name, pcapfile_error *error);
+
 /* Takes the packets at the front of `left` as pcapfile_take_block and pcapfile_read_packet do, and passes over the other blocks
  * between them, until `room` of them are in `packets`, or no bytes are left, or a section header or an interface follows, or
  * what is left is refused. Of `section` only the magic number matters; it stays in force, since no such block is taken.
@@ -482,6 +528,25 @@ int32_t pcapfile_cut_blocks(const pcapfile_bytes *capture, pcapfile_ng_cut *cuts
 /* Fills `time` with the time of so many units of an interface. Of `interface` only what begins with ts_ matters; any
  * ts_base but 2 is 10. PCAPFILE_NOTHING where the seconds pass 64 bits; then `time` is unchanged. */
 int32_t pcapfile_time_of(const pcapfile_interface *interface, uint64_t timestamp, pcapfile_time *time);
+
+/* What a walk over the packets of a capture of either format keeps between two of them. */
+typedef struct pcapfile_capture {
+    pcapfile_header header;   /* of a pcap capture; its magic number is 0 before the first call, and in a PcapNg capture */
+    pcapfile_section section; /* of a PcapNg capture; likewise, and in a pcap capture */
+} pcapfile_capture;
+
+#define PCAPFILE_CAPTURE_INIT { PCAPFILE_HEADER_INIT, PCAPFILE_SECTION_INIT }
+
+/* Takes the packet at the front of `left`, which begins after it then, of a capture of either format in memory: what stands before
+ * it is taken too, the header of a pcap capture, or blocks, as pcapfile_push_ng_next does it. Which format it is, the first bytes
+ * say, and then what is in force.
+ * PCAPFILE_NOTHING where the capture ends, behind its header, a packet or a block. PCAPFILE_NO_PLACE where an interface follows and
+ * capture->section.interfaces is `interfaces_len`: the same call with a longer array goes on. PCAPFILE_BAD_CALL where it is above,
+ * and then nothing changed. PCAPFILE_INCOMPLETE and the other refusals as pcapfile_take_packet, or pcapfile_take_block and
+ * pcapfile_read_packet, have them; `left` begins with what is refused then, and pcapfile_take_block, with capture->section, passes
+ * over a packet whose body is. `packet` is unchanged but under PCAPFILE_OK. */
+int32_t pcapfile_take_any(pcapfile_capture *capture, pcapfile_bytes *left, pcapfile_interface *interfaces,
+                          size_t interfaces_len, pcapfile_any_packet *packet, pcapfile_error *error);
 
 /* A capture in PcapNg is put block by block, each behind the one before it: a section header, the interfaces of the section, and
  * their packets.

@@ -240,7 +240,7 @@ static void writes(void) {
 
 /* The capture above in room for 32 bytes: 24 come, then 16, then 3. */
 static void pushes(void) {
-    uint8_t room[32];
+    uint8_t room[32] = { 0 };
     pcapfile_push push = PCAPFILE_PUSH_INIT;
     pcapfile_packet packet = PCAPFILE_PACKET_INIT;
     pcapfile_error error = PCAPFILE_ERROR_INIT;
@@ -484,6 +484,77 @@ static void ng_pushes(void) {
     EXPECT(error.rule == PCAPFILE_RULE_SECTION_MAGIC && push.begin == sizeof blocks - 36 && section.interfaces == 2);
 }
 
+static const uint8_t option_bytes[] = { 1, 0, 3, 0, 'h', 'o', 'w', 9, 0, 0, 5, 0, 1, 0, 9, 0 };
+
+static void options(void) {
+    pcapfile_section section = PCAPFILE_SECTION_LITTLE_ENDIAN, none = PCAPFILE_SECTION_INIT;
+    pcapfile_block block = { PCAPFILE_BLOCK_STATISTICS, { option_bytes, 12 } };
+    pcapfile_bytes left = { option_bytes, sizeof option_bytes };
+    pcapfile_option option = PCAPFILE_OPTION_INIT;
+    pcapfile_error error = { 5, 6 };
+    EXPECT(pcapfile_take_option(&none, &left, &option, &error) == PCAPFILE_INVALID && error.rule == PCAPFILE_RULE_SECTION_MAGIC);
+    EXPECT(pcapfile_options(&none, &block, &left, &error) == PCAPFILE_INVALID && error.rule == PCAPFILE_RULE_SECTION_MAGIC);
+    EXPECT(pcapfile_take_option(&section, &left, &option, &error) == PCAPFILE_OK);
+    EXPECT(option.code == 1 && option.value.ptr == option_bytes + 4 && option.value.len == 3 && left.ptr == option_bytes + 8);
+    /* The mark, whatever follows it, each time. */
+    for (int i = 0; i < 2; i++) EXPECT(pcapfile_take_option(&section, &left, &option, &error) == PCAPFILE_NOTHING);
+    EXPECT(left.ptr == option_bytes + 8 && left.len == 8 && option.code == 1);
+    left = (pcapfile_bytes){ option_bytes + 12, 4 };
+    EXPECT(pcapfile_take_option(&section, &left, &option, &error) == PCAPFILE_INVALID && error.rule == PCAPFILE_RULE_OPTION_CUT);
+    left.len = 3;
+    EXPECT(pcapfile_take_option(&section, &left, &option, &error) == PCAPFILE_INVALID && error.rule == PCAPFILE_RULE_OPTION_TOO_SHORT);
+    EXPECT(left.ptr == option_bytes + 12 && left.len == 3 && option.value.len == 3);
+    EXPECT(pcapfile_options(&section, &block, &left, &error) == PCAPFILE_OK && left.len == 0);
+    EXPECT(pcapfile_take_option(&section, &left, &option, &error) == PCAPFILE_NOTHING);
+    block.body.len = 11;
+    EXPECT(pcapfile_options(&section, &block, &left, &error) == PCAPFILE_INVALID && error.rule == PCAPFILE_RULE_STATISTICS_TOO_SHORT);
+    block.type = PCAPFILE_BLOCK_SIMPLE_PACKET;
+    error.rule = 77;
+    EXPECT(pcapfile_options(&section, &block, &left, &error) == PCAPFILE_NOTHING && error.rule == 77);
+}
+
+static void names(void) {
+    static const uint8_t bytes[] = { 1, 0, 7, 0, 10, 0, 0, 1, 'm', 'e', 0, 0, 0, 0, 0, 0 };
+    pcapfile_section section = PCAPFILE_SECTION_LITTLE_ENDIAN, none = PCAPFILE_SECTION_INIT;
+    pcapfile_block block = { PCAPFILE_BLOCK_NAMES, { bytes, sizeof bytes } };
+    pcapfile_bytes left = block.body, name = PCAPFILE_NO_BYTES;
+    pcapfile_record record = PCAPFILE_RECORD_INIT;
+    pcapfile_error error = PCAPFILE_ERROR_INIT;
+    EXPECT(pcapfile_take_record(&none, &left, &record, &error) == PCAPFILE_INVALID && error.rule == PCAPFILE_RULE_SECTION_MAGIC);
+    EXPECT(pcapfile_take_record(&section, &left, &record, &error) == PCAPFILE_OK && left.len == 4);
+    EXPECT(record.type == 1 && record.address.ptr == bytes + 4 && record.address.len == 4 && record.names.ptr == bytes + 8);
+    for (int i = 0; i < 2; i++) EXPECT(pcapfile_take_record(&section, &left, &record, &error) == PCAPFILE_NOTHING && left.len == 4);
+    EXPECT(pcapfile_take_name(&record.names, &name, &error) == PCAPFILE_OK && name.ptr == bytes + 8 && name.len == 2);
+    EXPECT(pcapfile_take_name(&record.names, &name, &error) == PCAPFILE_NOTHING && name.len == 2);
+    EXPECT(pcapfile_options(&section, &block, &left, &error) == PCAPFILE_OK && left.len == 0);
+    left = (pcapfile_bytes){ bytes + 8, 2 };
+    EXPECT(pcapfile_take_name(&left, &name, &error) == PCAPFILE_INVALID && error.rule == PCAPFILE_RULE_NAME_UNENDED && left.len == 2);
+    block.body.len = 12;
+    EXPECT(pcapfile_options(&section, &block, &left, &error) == PCAPFILE_BAD_VALUE && left.len == 2);
+}
+
+static void either_format(void) {
+    pcapfile_capture walk = PCAPFILE_CAPTURE_INIT;
+    pcapfile_bytes left = { capture, sizeof capture };
+    pcapfile_interface interfaces[1] = { PCAPFILE_INTERFACE_INIT };
+    pcapfile_any_packet packet = PCAPFILE_ANY_PACKET_INIT;
+    pcapfile_error error = { 5, 6 };
+    EXPECT(pcapfile_take_any(&walk, &left, interfaces, 1, &packet, &error) == PCAPFILE_OK && error.missing == 6);
+    EXPECT(packet.link == 1 && packet.has_interface == 1 && packet.has_time == 1 && packet.time.nanoseconds == 8000);
+    EXPECT(packet.bytes.ptr == capture + 40 && packet.orig_len == 5 && walk.header.snaplen == 65535);
+    for (int i = 0; i < 2; i++) EXPECT(pcapfile_take_any(&walk, &left, interfaces, 1, &packet, &error) == PCAPFILE_NOTHING);
+    EXPECT(error.rule == 5 && error.missing == 6 && left.len == 0);
+    walk = (pcapfile_capture)PCAPFILE_CAPTURE_INIT;
+    EXPECT(pcapfile_take_any(&walk, &left, interfaces, 1, &packet, &error) == PCAPFILE_INCOMPLETE && error.missing == 24);
+    walk.section = (pcapfile_section)PCAPFILE_SECTION_LITTLE_ENDIAN;
+    EXPECT(pcapfile_take_any(&walk, &left, interfaces, 1, &packet, &error) == PCAPFILE_NOTHING);
+    walk.section.interfaces = 2;
+    EXPECT(pcapfile_take_any(&walk, &left, interfaces, 1, &packet, &error) == PCAPFILE_BAD_CALL);
+    walk.section = (pcapfile_section){ 7, 1, 0, 0 };
+    EXPECT(pcapfile_take_any(&walk, &left, interfaces, 1, &packet, &error) == PCAPFILE_INVALID);
+    EXPECT(error.rule == PCAPFILE_RULE_SECTION_MAGIC && packet.orig_len == 5);
+}
+
 static void times(void) {
     pcapfile_interface interface = { 1, 0, 10, 9, 2 };
     pcapfile_time time = PCAPFILE_TIME_INIT;
@@ -613,6 +684,9 @@ int main(void) {
     block_cuts();
     passed_blocks();
     ng_pushes();
+    options();
+    names();
+    either_format();
     times();
     puts_blocks();
     refused_puts();

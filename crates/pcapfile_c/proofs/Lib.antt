@@ -18,3 +18,5 @@ pub mod Fitting
 pub mod PutsAgain
 pub mod CutPlaces
 pub mod RowTexts
+mod TakenOptions
+mod EitherFormat

@@ -22,3 +22,6 @@ pub mod PutsAgain
 pub mod Cuts
 pub mod Rows
 pub mod AsIs
+pub mod Options
+pub mod Records
+pub mod AnyCaptures

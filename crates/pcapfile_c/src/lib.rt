@@ -5,6 +5,7 @@
 //! requires anything of its arguments' values.
 #![tactic(auto)]
 
+mod any;
 mod any_packets;
 mod as_is;
 mod batches;
@@ -14,6 +15,7 @@ mod bodies;
 mod cuts;
 mod errors;
 pub mod laws;
+mod options;
 mod pcap;
 mod push;
 mod push_batches;
@@ -21,6 +23,7 @@ mod push_blocks;
 mod push_packets;
 mod putting;
 mod reasons;
+mod records;
 mod rows;
 mod rule_texts;
 mod shown;

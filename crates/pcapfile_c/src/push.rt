@@ -88,7 +88,7 @@ pub extern "C" fn pcapfile_push_next<'a>(
 
 // Takes the packet at the front of `left`, and the header before it where none is in force.
 #[inline(always)]
-fn take_front<'a>(
+pub(crate) fn take_front<'a>(
     header: &mut PcapfileHeader,
     left: &mut PcapfileBytes<'a>,
     packet: &mut PcapfilePacket<'a>,

@@ -1,0 +1,126 @@
+-- What the calls that find and take options answer ('Options').
+use Rattle.std.specs.Prelude.{◌≡◌, ◌≢◌, ◌<◌, ◌⊎◌, ℕ, ℤ, pos, List, [], length, Bool, true, false, Option, Some, None, Result, Ok, Err}
+use Rattle.std.specs.Borrow.{Bor}
+use Rattle.pcap_core.specs.declared.common.Endianness.{Endianness}
+use Rattle.pcap_core.specs.declared.errors.PcapError.{PcapError}
+use Rattle.pcap_core.specs.declared.rules.Rule.{Rule}
+use Rattle.pcap_core.specs.declared.rules.Rule.TheVariants.{SectionTooShort, InterfaceTooShort, StatisticsTooShort, EnhancedTooShort, EnhancedCut}
+use Rattle.pcap_core.specs.Answer.{Order, number_in, Verdict, whole, faulty, Says}
+use Rattle.pcap_core.specs.Faults.{Fault, Invalid, Shows}
+use Rattle.pcap_core.specs.Padded.{Padded, Behind, up_to_4}
+use Rattle.pcap_blocks.specs.declared.block_type.BlockType.{BlockType}
+use Rattle.pcap_blocks.specs.declared.block_type.BlockType.TheVariants as types
+use Rattle.pcap_blocks.specs.BlockType.{block_type}
+use Rattle.pcap_blocks.specs.NameResolution.{RecordsText, RecordsFault}
+use Rattle.pcap_blocks.specs.Options.{OptionText, EndMark, OptionSays}
+use Rattle.pcap_blocks.specs.Record.{NameRecord}
+use Rattle.pcap_blocks.specs.StoredPacket.{Stored, StoredHead}
+use Rattle.pcap_blocks.specs.Values.{Entry, Unknown}
+use Rattle.pcap_raw_options.specs.UpTo.{no_kind}
+use Rattle.pcapfile_c.specs.declared.blocks.PcapfileBlock.{PcapfileBlock}
+use Rattle.pcapfile_c.specs.declared.errors.PcapfileError.{PcapfileError}
+use Rattle.pcapfile_c.specs.declared.options.PcapfileOption.{PcapfileOption}
+use Rattle.pcapfile_c.specs.declared.shown.PcapfileBytes.{PcapfileBytes}
+use Rattle.pcapfile_c.specs.Refusals.{TellsRefusal}
+
+-- the option that a struct shows: its code, and its value as it stands
+abbrev pub option_shown : PcapfileOption → Entry
+option_shown shown = record { code = shown.code; value = Unknown (length shown.value.now) shown.value.now }
+
+-- the list of options is over: at its mark, or since no byte is left
+abbrev pub IsOverAt : Order → List ℕ → Type 0
+IsOverAt order s = (s ≡ []) ⊎ ((rest : List ℕ) × EndMark order s rest)
+
+-- the option at the front of bytes, and what follows it; or the list is over there
+abbrev pub OptionTells : Order → List ℕ → Result (Option (Bor (List ℕ) × PcapfileOption)) PcapError → Type 0
+OptionTells order s (Ok (Some (rest, shown))) = OptionText order no_kind (option_shown shown) s rest.now
+OptionTells order s (Ok None) = IsOverAt order s
+OptionTells order s (Err e) = (s ≢ []) × Shows (λ fault. OptionSays order no_kind s (faulty fault)) e
+
+-- Status 0: an option stands there, the struct shows it, and what follows it is left. Status 8: the list is over there. The error
+-- is as it was then. Another status: no option can be found there. Then what is left and the struct are as they were.
+abbrev pub TakesOption : Endianness → PcapfileBytes → PcapfileBytes → PcapfileOption → PcapfileOption → PcapfileError → PcapfileError → ℤ → Type 0
+TakesOption e left now before after error told status =
+    ((status ≡ pos 0) × (told ≡ error) × OptionText (number_in e) no_kind (option_shown after) left.bytes.now now.bytes.now)
+    ⊎ (((status ≡ pos 8) × (told ≡ error) × (now ≡ left) × (after ≡ before) × IsOverAt (number_in e) left.bytes.now)
+    ⊎ ((now ≡ left) × (after ≡ before) × (left.bytes.now ≢ []) × TellsRefusal (OptionSays (number_in e) no_kind left.bytes.now) told status))
+
+-- what is said of a body whose options stand behind so many bytes: what these are, or that it is too short
+abbrev pub FixedSays : ℕ → Rule → List ℕ → Verdict (Unit {0}) → Type 0
+FixedSays n too_short s = Says (λ nothing rest. Behind n s rest) (λ lack. ⊥) (λ fault. (fault ≡ Invalid too_short) × (length s < n))
+
+-- s is an interface, the time and the lengths of a packet, its bytes with their padding, and then rest
+pub record PacketText (order : Order) (s rest : List ℕ) : Type 0 where
+  pub packet : Stored
+  pub after_interface : List ℕ
+  pub after_head : List ℕ
+  pub interface : Behind 4 s after_interface
+  pub head : StoredHead order packet after_interface after_head
+  pub captured : length packet.bytes ≡ packet.captured_len
+  pub padded : Padded packet.bytes after_head rest
+
+-- the first fault of a packet's body before its options
+pub data PacketFault (order : Order) (s : List ℕ) : Fault → Type 0 where
+  short : length s < 20 → PacketFault order s (Invalid EnhancedTooShort)
+  cut : (packet : Stored) (after_interface after_head : List ℕ) → Behind 4 s after_interface → StoredHead order packet after_interface after_head
+      → length after_head < up_to_4 packet.captured_len → PacketFault order s (Invalid EnhancedCut)
+
+-- what is said of a packet's body where its options are asked for
+abbrev pub PacketSays : Order → List ℕ → Verdict (Unit {0}) → Type 0
+PacketSays order s = Says (λ nothing rest. PacketText order s rest) (λ lack. ⊥) (PacketFault order s)
+
+-- what is said of a name resolution body where its options are asked for: they stand behind the end of the records
+abbrev pub NamesSay : Order → List ℕ → Verdict (Unit {0}) → Type 0
+NamesSay order s = Says (λ nothing rest. (records : List NameRecord) × RecordsText order records s rest) (λ lack. ⊥) (RecordsFault order s)
+
+-- bodies of this type have options
+abbrev pub has_options : BlockType → Bool
+has_options types.SectionHeader = true
+has_options types.InterfaceDescription = true
+has_options types.Packet = true
+has_options types.SimplePacket = false
+has_options types.NameResolution = true
+has_options types.InterfaceStatistics = true
+has_options types.EnhancedPacket = true
+has_options types.SystemdJournalExport = false
+has_options (types.Unknown n) = false
+
+-- what is said of the body of a block of this type where its options are asked for: they begin at rest, or a fault stands before
+abbrev pub OptionsSay : Order → BlockType → List ℕ → Verdict (Unit {0}) → Type 0
+OptionsSay order types.SectionHeader s = FixedSays 16 SectionTooShort s
+OptionsSay order types.InterfaceDescription s = FixedSays 8 InterfaceTooShort s
+OptionsSay order types.Packet s = PacketSays order s
+OptionsSay order types.SimplePacket s = λ verdict. ⊥
+OptionsSay order types.NameResolution s = NamesSay order s
+OptionsSay order types.InterfaceStatistics s = FixedSays 12 StatisticsTooShort s
+OptionsSay order types.EnhancedPacket s = PacketSays order s
+OptionsSay order types.SystemdJournalExport s = λ verdict. ⊥
+OptionsSay order (types.Unknown n) s = λ verdict. ⊥
+
+-- where something begins in bytes, or why it doesn't
+abbrev pub BeginsTells : (Verdict (Unit {0}) → Type 0) → Result (Bor (List ℕ)) PcapError → Type 0
+BeginsTells IsSaid (Ok rest) = IsSaid (whole tt rest.now)
+BeginsTells IsSaid (Err e) = Shows (λ fault. IsSaid (faulty fault)) e
+
+-- what so many bytes are followed by
+abbrev pub FixedTells : ℕ → Rule → List ℕ → Result (Bor (List ℕ)) PcapError → Type 0
+FixedTells n too_short s = BeginsTells (FixedSays n too_short s)
+
+-- what a packet's bytes and their padding are followed by
+abbrev pub PacketTells : Order → List ℕ → Result (Bor (List ℕ)) PcapError → Type 0
+PacketTells order s = BeginsTells (PacketSays order s)
+
+-- where the options of the body of a block of this type begin; or it has none
+abbrev pub OptionsTell : Order → BlockType → List ℕ → Result (Option (Bor (List ℕ))) PcapError → Type 0
+OptionsTell order type s (Ok (Some options)) = OptionsSay order type s (whole tt options.now)
+OptionsTell order type s (Ok None) = has_options type ≡ false
+OptionsTell order type s (Err e) = Shows (λ fault. OptionsSay order type s (faulty fault)) e
+
+-- Status 0: the options of the block begin at the bytes that are shown. Status 8: blocks of its type have none. The error is as it
+-- was then. Another status: a fault stands before them. Then the bytes that are shown are as they were.
+abbrev pub FindsOptions : Endianness → PcapfileBlock → PcapfileBytes → PcapfileBytes → PcapfileError → PcapfileError → ℤ → Type 0
+FindsOptions e block before after error told status =
+    let IsSaid = OptionsSay (number_in e) (block_type block.type_) block.body.now in
+    ((status ≡ pos 0) × (told ≡ error) × IsSaid (whole tt after.bytes.now))
+    ⊎ (((status ≡ pos 8) × (told ≡ error) × (after ≡ before) × (has_options (block_type block.type_) ≡ false))
+    ⊎ ((after ≡ before) × TellsRefusal IsSaid told status))

@@ -1,0 +1,189 @@
+//! Captures of either format that lie in memory: their packets, by one call.
+
+ghost use Rattle.std.specs.Prelude.{◌≡◌, ◌↔◌, pos, None, IsTrue};
+ghost use Rattle.pcap_classic.specs.Magic.{is_magic};
+ghost use Rattle.pcap_file.specs.State.{State};
+ghost use Rattle.pcapfile_c.specs.AnyCaptures.{IsNg, HasEnded, TakesAnyPacket, TakesAnyNgPacket, TakesHeaded, TakesSectioned, RefusesAnyPacket, TakesCaptured, TakesWithPlaces, RefusesWithPlaces, ShowsCaptured};
+ghost use Rattle.pcapfile_c.specs.Blocks.{order_shown};
+ghost use Rattle.pcapfile_c.specs.PushPackets.{ShowsInForce};
+ghost use Rattle.pcapfile_c.specs.Shown.{captured};
+
+use crate::any_packets::PcapfileAnyPacket;
+use crate::blocks::PcapfileSection;
+use crate::bodies::{PcapfileInterface, PcapfileTime};
+use crate::errors::{PcapfileError, tell};
+use crate::push::take_front;
+use crate::push_packets::take_packet;
+use crate::shown::{PcapfileBytes, PcapfileHeader, PcapfilePacket};
+use pcap_core::rules::Rule;
+use pcap_file::PcapError;
+use pcap_file::pcap::PcapHeader;
+use std::alloc::Global;
+
+/// What a walk over the packets of a capture of either format keeps between two of them. In C: `pcapfile_capture`.
+#[repr(C)]
+#[derive(Clone, Copy)]
+pub struct PcapfileCapture {
+    /// Of a pcap capture. Its magic number is 0 until it is taken, and in a PcapNg capture.
+    pub header: PcapfileHeader,
+    /// Of a PcapNg capture. Its magic number is 0 until the first is taken, and in a pcap capture.
+    pub section: PcapfileSection,
+}
+
+// The first bytes of a PcapNg capture.
+const SECTION: [u8; 4] = [0x0A, 0x0D, 0x0D, 0x0A];
+
+/// Takes the packet at the front of `left`, and what stands before it: a capture's header, or blocks, of which a section header is
+/// put into `capture`, and an interface into the first place of `interfaces` that none of its section has. What is in force, or
+/// else the first bytes, say which format it is. Status 8: nothing is left behind the header or a block. Other statuses as of
+/// `pcapfile_push_next` and `pcapfile_push_ng_next`; status 10 where `capture` has more interfaces than there are places.
+#[unsafe(no_mangle)]
+pub extern "C" fn pcapfile_take_any<'a>(
+    alloc: Global,
+    capture: &mut PcapfileCapture,
+    left: &mut PcapfileBytes<'a>,
+    interfaces: &mut [PcapfileInterface],
+    packet: &mut PcapfileAnyPacket<'a>,
+    error: &mut PcapfileError,
+) -> i32
+    ensures packets { (IsNg capture.old left.old.bytes.now → ⊥) →
+        TakesAnyPacket capture.old capture.new interfaces.old interfaces.new left.old.bytes.now left.new.bytes.now packet.old packet.new error.old error.new result }
+    ensures blocks { (q : State) → IsNg capture.old left.old.bytes.now → ShowsInForce capture.old.section interfaces.old q →
+        TakesAnyNgPacket q capture.old capture.new interfaces.old interfaces.new left.old.bytes.now left.new.bytes.now packet.old packet.new error.old error.new result }
+    ensures refused { IsNg capture.old left.old.bytes.now → order_shown capture.old.section.magic_number ≡ None →
+        RefusesAnyPacket capture.old capture.new interfaces.old interfaces.new left.old.bytes.now left.new.bytes.now packet.old packet.new error.old error.new result }
+{
+    let before = *error;
+    let status = take_either(alloc, capture, left, interfaces, packet, error);
+    if capture.is_end(status, left.bytes) {
+        *error = before;
+        return 8;
+    }
+    status
+}
+
+// The same, but that the end of a capture is told as a request for more.
+fn take_either<'a>(
+    alloc: Global,
+    capture: &mut PcapfileCapture,
+    left: &mut PcapfileBytes<'a>,
+    interfaces: &mut [PcapfileInterface],
+    packet: &mut PcapfileAnyPacket<'a>,
+    error: &mut PcapfileError,
+) -> i32
+    ensures packets { (IsNg capture.old left.old.bytes.now → ⊥) →
+        TakesHeaded capture.old capture.new interfaces.old interfaces.new left.old.bytes.now left.new.bytes.now packet.old packet.new error.old error.new result }
+    ensures blocks { (q : State) → IsNg capture.old left.old.bytes.now → ShowsInForce capture.old.section interfaces.old q →
+        TakesSectioned q capture.old capture.new interfaces.old interfaces.new left.old.bytes.now left.new.bytes.now packet.old packet.new error.old error.new result }
+    ensures refused { IsNg capture.old left.old.bytes.now → order_shown capture.old.section.magic_number ≡ None →
+        RefusesAnyPacket capture.old capture.new interfaces.old interfaces.new left.old.bytes.now left.new.bytes.now packet.old packet.new error.old error.new result }
+{
+    if capture.is_ng(left.bytes) {
+        take_any_block(alloc, &mut capture.section, left, interfaces, packet, error)
+    } else {
+        take_any_packet(&mut capture.header, left, packet, error)
+    }
+}
+
+// Takes the packet of a pcap capture at the front of `left`, and the header before it where none is in force.
+fn take_any_packet<'a>(
+    header: &mut PcapfileHeader,
+    left: &mut PcapfileBytes<'a>,
+    packet: &mut PcapfileAnyPacket<'a>,
+    error: &mut PcapfileError,
+) -> i32
+    ensures { TakesCaptured header.old header.new left.old.bytes.now left.new.bytes.now packet.old packet.new error.old error.new result }
+{
+    let mut found = PcapfilePacket {
+        ts_sec: 0,
+        ts_nsec: 0,
+        orig_len: 0,
+        bytes: &[],
+    };
+    let status = take_front(header, left, &mut found, error);
+    if status != 0 {
+        return status;
+    }
+    *packet = PcapfileAnyPacket::of_capture(&found, header);
+    0
+}
+
+// Takes the packet of a PcapNg capture at the front of `left`, and the blocks before it.
+fn take_any_block<'a>(
+    alloc: Global,
+    section: &mut PcapfileSection,
+    left: &mut PcapfileBytes<'a>,
+    interfaces: &mut [PcapfileInterface],
+    packet: &mut PcapfileAnyPacket<'a>,
+    error: &mut PcapfileError,
+) -> i32
+    ensures taken { (q : State) → ShowsInForce section.old interfaces.old q →
+        TakesWithPlaces q section.old section.new interfaces.old interfaces.new left.old.bytes.now left.new.bytes.now packet.old packet.new error.old error.new result }
+    ensures refused { order_shown section.old.magic_number ≡ None →
+        RefusesWithPlaces section.old section.new interfaces.old interfaces.new left.old.bytes.now left.new.bytes.now packet.old packet.new error.old error.new result }
+{
+    if interfaces.len() < section.interfaces as usize {
+        return 10;
+    }
+    if section.order().is_none() {
+        return tell(&PcapError::from(Rule::SectionMagic), error);
+    }
+    take_packet(alloc, section, left, interfaces, packet, error)
+}
+
+impl PcapfileCapture {
+    // Whether the capture is PcapNg: what is in force says so, or else its first bytes.
+    fn is_ng(&self, bytes: &[u8]) -> bool
+        ensures { IsTrue result ↔ IsNg self.now bytes.now }
+    {
+        if self.section.magic_number != 0 {
+            return true;
+        }
+        !self.header.is_in_force() && bytes.starts_with(&SECTION)
+    }
+
+    // Whether a walk that stopped with this status has come to the end of a capture.
+    fn is_end(&self, status: i32, left: &[u8]) -> bool
+        ensures { IsTrue result ↔ (status ≡ pos 1) × HasEnded self.now left.now }
+    {
+        status == 1
+            && left.is_empty()
+            && (self.section.magic_number != 0 || self.header.is_in_force())
+    }
+}
+
+impl PcapfileHeader {
+    // Whether its magic number is one of the four.
+    fn is_in_force(&self) -> bool
+        ensures { IsTrue result ↔ IsTrue (is_magic self.now.magic_number) }
+    {
+        let header = PcapHeader {
+            magic_number: self.magic_number,
+            ..PcapHeader::default()
+        };
+        header.has_valid_magic()
+    }
+}
+
+impl<'a> PcapfileAnyPacket<'a> {
+    // What C sees of a packet behind this header.
+    pub(crate) fn of_capture(
+        packet: &PcapfilePacket<'a>,
+        header: &PcapfileHeader,
+    ) -> PcapfileAnyPacket<'a>
+        ensures { ShowsCaptured header.now.link (captured packet.now) result }
+    {
+        PcapfileAnyPacket {
+            link: header.link,
+            interface_id: 0,
+            has_interface: 1,
+            has_time: 1,
+            orig_len: packet.orig_len,
+            time: PcapfileTime {
+                seconds: i64::from(packet.ts_sec),
+                nanoseconds: packet.ts_nsec,
+            },
+            bytes: packet.bytes,
+        }
+    }
+}

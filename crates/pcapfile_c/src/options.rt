@@ -1,0 +1,168 @@
+//! PcapNg captures that lie in memory: the options of their blocks, as they stand.
+
+ghost use Rattle.std.specs.Prelude.{◌≡◌, None, Some, IsErrAnd};
+ghost use Rattle.pcap_core.specs.declared.common.Endianness.{Endianness};
+ghost use Rattle.pcap_core.specs.declared.rules.Rule.TheVariants.{SectionMagic};
+ghost use Rattle.pcap_core.specs.Answer.{number_in};
+ghost use Rattle.pcap_core.specs.Faults.{Names};
+ghost use Rattle.pcap_blocks.specs.SectionHeader.{magic_order};
+ghost use Rattle.pcapfile_c.specs.Bodies.{RefusesSection};
+ghost use Rattle.pcapfile_c.specs.Options.{FindsOptions, TakesOption, OptionsTell, OptionTells, FixedTells, PacketTells};
+
+use crate::blocks::{PcapfileBlock, PcapfileSection};
+use crate::errors::{PcapfileError, tell};
+use crate::records::behind_records;
+use crate::shown::PcapfileBytes;
+use byteorder::{BigEndian, ByteOrder, LittleEndian};
+use pcap_blocks::BlockType;
+use pcap_core::fields::{split_padded, split_u16, split_u32};
+use pcap_core::rules::Rule;
+use pcap_core::{Endianness, PcapError, ResultParsing};
+
+/// An option: its code, and its value, which lies in the capture. In C: `pcapfile_option`.
+#[repr(C)]
+#[derive(Clone, Copy)]
+pub struct PcapfileOption<'a> {
+    pub code: u16,
+    /// Without padding.
+    pub value: &'a [u8],
+}
+
+/// Shows the bytes in which the options of a block stand. Status 8: blocks of its type have none.
+#[unsafe(no_mangle)]
+pub extern "C" fn pcapfile_options<'a>(
+    section: &PcapfileSection,
+    block: &PcapfileBlock<'a>,
+    options: &mut PcapfileBytes<'a>,
+    error: &mut PcapfileError,
+) -> i32
+    ensures found { (e : Endianness) → magic_order section.now.magic_number ≡ Some e →
+        FindsOptions e block.now options.old options.new error.old error.new result }
+    ensures refused { magic_order section.now.magic_number ≡ None → RefusesSection options.old options.new error.new result }
+{
+    match section.options(BlockType::from(block.type_), block.body) {
+        Ok(Some(found)) => {
+            options.bytes = found;
+            0
+        }
+        Ok(None) => 8,
+        Err(e) => tell(&e, error),
+    }
+}
+
+/// Takes the option at the front of `left`, whatever its value says. Status 8: the list is over, at its mark, or since nothing is
+/// left.
+#[unsafe(no_mangle)]
+pub extern "C" fn pcapfile_take_option<'a>(
+    section: &PcapfileSection,
+    left: &mut PcapfileBytes<'a>,
+    option: &mut PcapfileOption<'a>,
+    error: &mut PcapfileError,
+) -> i32
+    ensures taken { (e : Endianness) → magic_order section.now.magic_number ≡ Some e →
+        TakesOption e left.old left.new option.old option.new error.old error.new result }
+    ensures refused { magic_order section.now.magic_number ≡ None →
+        (left.new ≡ left.old) × RefusesSection option.old option.new error.new result }
+{
+    match section.option(left.bytes) {
+        Ok(Some((rest, found))) => {
+            *option = found;
+            left.bytes = rest;
+            0
+        }
+        Ok(None) => 8,
+        Err(e) => tell(&e, error),
+    }
+}
+
+impl PcapfileSection {
+    // The bytes in which the options of a body of this type stand. None where such a body has none.
+    fn options<'a>(&self, type_: BlockType, body: &'a [u8]) -> ResultParsing<Option<&'a [u8]>>
+        ensures tells { (e : Endianness) → magic_order self.now.magic_number ≡ Some e → OptionsTell (number_in e) type_ body.now result }
+        ensures refused { magic_order self.now.magic_number ≡ None → IsErrAnd result (Names SectionMagic) }
+    {
+        match self.endianness() {
+            Some(Endianness::Big) => options_in::<BigEndian>(type_, body),
+            Some(Endianness::Little) => options_in::<LittleEndian>(type_, body),
+            None => Err(PcapError::from(Rule::SectionMagic)),
+        }
+    }
+
+    // The option at the front of a slice, behind what follows it. None where the list is over there.
+    fn option<'a>(&self, slice: &'a [u8]) -> ResultParsing<Option<(&'a [u8], PcapfileOption<'a>)>>
+        ensures tells { (e : Endianness) → magic_order self.now.magic_number ≡ Some e → OptionTells (number_in e) slice.now result }
+        ensures refused { magic_order self.now.magic_number ≡ None → IsErrAnd result (Names SectionMagic) }
+    {
+        match self.endianness() {
+            Some(Endianness::Big) => option_in::<BigEndian>(slice),
+            Some(Endianness::Little) => option_in::<LittleEndian>(slice),
+            None => Err(PcapError::from(Rule::SectionMagic)),
+        }
+    }
+}
+
+// The bytes in which the options of a body of this type stand. None where such a body has none.
+fn options_in<'a, B: ByteOrder>(type_: BlockType, body: &'a [u8]) -> ResultParsing<Option<&'a [u8]>>
+    ensures { OptionsTell B.number_of type_ body.now result }
+{
+    match type_ {
+        BlockType::SectionHeader => Ok(Some(behind(body, 16, Rule::SectionTooShort)?)),
+        BlockType::InterfaceDescription => Ok(Some(behind(body, 8, Rule::InterfaceTooShort)?)),
+        BlockType::InterfaceStatistics => Ok(Some(behind(body, 12, Rule::StatisticsTooShort)?)),
+        BlockType::EnhancedPacket | BlockType::Packet => Ok(Some(behind_packet::<B>(body)?)),
+        BlockType::NameResolution => Ok(Some(behind_records::<B>(body)?)),
+        _ => Ok(None),
+    }
+}
+
+// What follows so many bytes of a body.
+fn behind(body: &[u8], len: usize, too_short: Rule) -> ResultParsing<&[u8]>
+    ensures { FixedTells len too_short body.now result }
+{
+    if body.len() < len {
+        return Err(PcapError::from(too_short));
+    }
+    let (_head, rest) = body.split_at(len);
+    Ok(rest)
+}
+
+// What follows the bytes of a packet and their padding in its body.
+fn behind_packet<B: ByteOrder>(body: &[u8]) -> ResultParsing<&[u8]>
+    ensures { PacketTells B.number_of body.now result }
+{
+    if body.len() < 20 {
+        return Err(PcapError::from(Rule::EnhancedTooShort));
+    }
+    let (_interface, rest) = body.split_at(4);
+    let (_high, rest) = split_u32::<B>(rest);
+    let (_low, rest) = split_u32::<B>(rest);
+    let (captured_len, rest) = split_u32::<B>(rest);
+    let (_original_len, rest) = split_u32::<B>(rest);
+    match split_padded(rest, captured_len as usize) {
+        Some((_bytes, options)) => Ok(options),
+        None => Err(PcapError::from(Rule::EnhancedCut)),
+    }
+}
+
+// The option at the front of a slice, behind what follows it. None where the list is over there.
+fn option_in<'a, B: ByteOrder>(
+    slice: &'a [u8],
+) -> ResultParsing<Option<(&'a [u8], PcapfileOption<'a>)>>
+    ensures { OptionTells B.number_of slice.now result }
+{
+    if slice.is_empty() {
+        return Ok(None);
+    }
+    if slice.len() < 4 {
+        return Err(PcapError::from(Rule::OptionTooShort));
+    }
+    let (code, rest) = split_u16::<B>(slice);
+    let (len, rest) = split_u16::<B>(rest);
+    if code == 0 {
+        return Ok(None);
+    }
+    match split_padded(rest, len as usize) {
+        Some((value, rest)) => Ok(Some((rest, PcapfileOption { code, value }))),
+        None => Err(PcapError::from(Rule::OptionCut)),
+    }
+}

@@ -1,0 +1,186 @@
+//! PcapNg captures that lie in memory: the addresses of name resolution blocks, and their names.
+
+ghost use Rattle.std.specs.Prelude.{◌≡◌, ◌<◌, ◌^◌, None, Some, IsErrAnd};
+ghost use Rattle.pcap_core.specs.declared.common.Endianness.{Endianness};
+ghost use Rattle.pcap_core.specs.declared.rules.Rule.TheVariants.{SectionMagic};
+ghost use Rattle.pcap_core.specs.Answer.{number_in};
+ghost use Rattle.pcap_core.specs.Faults.{Names};
+ghost use Rattle.pcap_blocks.specs.Record.{form_of};
+ghost use Rattle.pcap_blocks.specs.SectionHeader.{magic_order};
+ghost use Rattle.pcapfile_c.specs.Bodies.{RefusesSection};
+ghost use Rattle.pcapfile_c.specs.Records.{TakesRecord, TakesName, RecordTells, RecordsTell, ValueTells, AddressTells, NamesTell};
+
+use crate::blocks::PcapfileSection;
+use crate::errors::{PcapfileError, tell};
+use crate::shown::PcapfileBytes;
+use byteorder::{BigEndian, ByteOrder, LittleEndian};
+use pcap_blocks::str_from_u8_null_terminated;
+use pcap_core::fields::{split_padded, split_u16};
+use pcap_core::rules::Rule;
+use pcap_core::{Endianness, PcapError, ResultParsing};
+use std::io;
+
+/// A record of a name resolution block; its bytes lie in the capture. In C: `pcapfile_record`.
+#[repr(C)]
+#[derive(Clone, Copy)]
+pub struct PcapfileRecord<'a> {
+    /// 1 for an IPv4 address, 2 for an IPv6 address, or another number.
+    pub type_: u16,
+    /// The address, of 4 or 16 bytes; of another type the whole value.
+    pub address: &'a [u8],
+    /// Its names, a zero byte behind each. None for another type.
+    pub names: &'a [u8],
+}
+
+/// Takes the record at the front of `left`, all of whose names are good. Status 8: the end of the records stands there.
+#[unsafe(no_mangle)]
+pub extern "C" fn pcapfile_take_record<'a>(
+    section: &PcapfileSection,
+    left: &mut PcapfileBytes<'a>,
+    shown: &mut PcapfileRecord<'a>,
+    error: &mut PcapfileError,
+) -> i32
+    ensures taken { (e : Endianness) → magic_order section.now.magic_number ≡ Some e →
+        TakesRecord e left.old left.new shown.old shown.new error.old error.new result }
+    ensures refused { magic_order section.now.magic_number ≡ None →
+        (left.new ≡ left.old) × RefusesSection shown.old shown.new error.new result }
+{
+    match section.record(left.bytes) {
+        Ok((rest, Some(found))) => {
+            *shown = found;
+            left.bytes = rest;
+            0
+        }
+        Ok((_rest, None)) => 8,
+        Err(e) => tell(&e, error),
+    }
+}
+
+/// Takes the name at the front of `left`, behind which a zero byte stands. Status 8: nothing is left.
+#[unsafe(no_mangle)]
+pub extern "C" fn pcapfile_take_name<'a>(
+    left: &mut PcapfileBytes<'a>,
+    name: &mut PcapfileBytes<'a>,
+    error: &mut PcapfileError,
+) -> i32
+    ensures { TakesName left.old left.new name.old name.new error.old error.new result }
+{
+    if left.bytes.is_empty() {
+        return 8;
+    }
+    match str_from_u8_null_terminated(left.bytes) {
+        Ok((rest, found)) => {
+            name.bytes = found.as_bytes();
+            left.bytes = rest;
+            0
+        }
+        Err(e) => tell(&e, error),
+    }
+}
+
+impl PcapfileSection {
+    // The record at the front of a slice, and what follows it. None where it is the end of the records.
+    fn record<'a>(&self, slice: &'a [u8]) -> ResultParsing<(&'a [u8], Option<PcapfileRecord<'a>>)>
+        ensures tells { (e : Endianness) → magic_order self.now.magic_number ≡ Some e → RecordTells (number_in e) slice.now result }
+        ensures refused { magic_order self.now.magic_number ≡ None → IsErrAnd result (Names SectionMagic) }
+    {
+        match self.endianness() {
+            Some(Endianness::Big) => record_in::<BigEndian>(slice),
+            Some(Endianness::Little) => record_in::<LittleEndian>(slice),
+            None => Err(PcapError::from(Rule::SectionMagic)),
+        }
+    }
+}
+
+// What follows the records of a body, and their end.
+pub(crate) fn behind_records<B: ByteOrder>(body: &[u8]) -> ResultParsing<&[u8]>
+    ensures { RecordsTell B.number_of body.now result }
+{
+    let mut left = body;
+    loop {
+        let (rest, record) = record_in::<B>(left)?;
+        left = rest;
+        match record {
+            Some(_) => {}
+            None => return Ok(rest),
+        }
+    }
+}
+
+// The record at the front of a slice, and what follows it. None where it is the end of the records.
+fn record_in<'a, B: ByteOrder>(
+    slice: &'a [u8],
+) -> ResultParsing<(&'a [u8], Option<PcapfileRecord<'a>>)>
+    ensures { RecordTells B.number_of slice.now result }
+{
+    if slice.len() < 4 {
+        return Err(PcapError::from(io::Error::from(io::ErrorKind::UnexpectedEof)));
+    }
+    let (type_, rest) = split_u16::<B>(slice);
+    let (len, after) = split_u16::<B>(rest);
+    if after.len() < len as usize {
+        return Err(PcapError::from(Rule::RecordCut));
+    }
+    let (value, _more) = after.split_at(len as usize);
+    let record = record_of(type_, value)?;
+    match split_padded(after, len as usize) {
+        Some((_value, rest)) => Ok((rest, record)),
+        None => Err(PcapError::from(Rule::RecordUnpadded)),
+    }
+}
+
+// The record of this type whose value is all of a slice. None where it is the end of the records.
+fn record_of<'a>(type_: u16, value: &'a [u8]) -> ResultParsing<Option<PcapfileRecord<'a>>>
+    ensures { ValueTells (form_of type_) value.now result }
+{
+    match type_ {
+        0 => {
+            if value.is_empty() {
+                Ok(None)
+            } else {
+                Err(PcapError::from(Rule::EndNotEmpty))
+            }
+        }
+        1 => Ok(Some(address_of(type_, value, 4, Rule::Ipv4RecordTooShort)?)),
+        2 => Ok(Some(address_of(type_, value, 16, Rule::Ipv6RecordTooShort)?)),
+        _ => Ok(Some(PcapfileRecord {
+            type_,
+            address: value,
+            names: &[],
+        })),
+    }
+}
+
+// The record of this type whose value is an address of this width, and names.
+fn address_of<'a>(
+    type_: u16,
+    value: &'a [u8],
+    width: usize,
+    too_short: Rule,
+) -> ResultParsing<PcapfileRecord<'a>>
+    requires { width < 2 ^ 16 }
+    ensures { AddressTells type_ width too_short value.now result }
+{
+    if value.len() < width + 2 {
+        return Err(PcapError::from(too_short));
+    }
+    let (address, names) = value.split_at(width);
+    read_names(names)?;
+    Ok(PcapfileRecord {
+        type_,
+        address,
+        names,
+    })
+}
+
+// Reads the names that all of a slice is, and keeps none.
+fn read_names(names: &[u8]) -> ResultParsing<()>
+    ensures { NamesTell names.now result }
+{
+    let mut left = names;
+    while !left.is_empty() {
+        let (rest, _name) = str_from_u8_null_terminated(left)?;
+        left = rest;
+    }
+    Ok(())
+}
