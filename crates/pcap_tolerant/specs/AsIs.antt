@@ -1,5 +1,5 @@
 -- The text of a packet as it stands, what it lacks, and the rules that it breaks ('Packet Record').
-use Rattle.std.specs.Prelude.{◌≡◌, ◌<◌, ◌≤◌, ◌+◌, ◌⊎◌, ℕ, List, [], ◌∷◌, ◌++◌, length, Bool, Option, Some, None, max, nat_lt, if◌then◌else◌}
+use Rattle.std.specs.Prelude.{◌≡◌, ◌<◌, ◌≤◌, ◌+◌, ◌⊎◌, ℕ, List, [], ◌∷◌, ◌++◌, length, Bool, true, Option, Some, None, max, nat_lt, if◌then◌else◌}
 use Rattle.pcap_classic.specs.declared.common.TsResolution.{TsResolution}
 use Rattle.pcap_core.specs.declared.rules.Rule.{Rule}
 use Rattle.pcap_core.specs.declared.rules.Rule.TheVariants.{FractionTooLarge, IncludedTooLong, OriginalTooLong, IncludedPastOriginal}
@@ -23,6 +23,11 @@ flaws_of r head = record {
   original_too_long = nat_lt packet_limit head.original;
   included_past_original = nat_lt head.original head.included;
 }
+
+-- a rule is broken
+abbrev pub breaks_one : Flaws → Bool
+breaks_one f =
+    if f.fraction_too_large then true else if f.included_too_long then true else if f.original_too_long then true else f.included_past_original
 
 -- a rule in front of others where it is broken
 abbrev pub where_broken : Bool → Rule → List Rule → List Rule

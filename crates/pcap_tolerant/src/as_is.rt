@@ -6,7 +6,7 @@ ghost use Rattle.pcap_core.specs.Answer.{Tells, number_in};
 ghost use Rattle.pcap_classic.specs.Magic.{is_magic, order_of, resolution_of};
 ghost use Rattle.pcap_classic.specs.Parser.{header_of};
 ghost use Rattle.pcap_classic.specs.PacketText.{Head, nanoseconds};
-ghost use Rattle.pcap_tolerant.specs.AsIs.{flaws_of, rules_of, first_rule, raised, as_it_is, AsIsSays};
+ghost use Rattle.pcap_tolerant.specs.AsIs.{breaks_one, flaws_of, rules_of, first_rule, raised, as_it_is, AsIsSays};
 
 use byteorder::{BigEndian, ByteOrder, LittleEndian};
 use pcap_classic::TsResolution;
@@ -33,6 +33,16 @@ pub struct Flaws {
 }
 
 impl Flaws {
+    /// Whether the packet breaks a rule.
+    pub fn is_broken(&self) -> bool
+        ensures { result ≡ breaks_one self.now }
+    {
+        self.fraction_too_large
+            || self.included_too_long
+            || self.original_too_long
+            || self.included_past_original
+    }
+
     /// The first rule that the packet breaks, in the rules' order: the one that the strict reading refuses it by. None where
     /// it breaks none.
     pub fn first(&self) -> Option<Rule>

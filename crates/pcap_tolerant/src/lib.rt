@@ -6,5 +6,7 @@
 pub mod as_is;
 pub mod laws;
 pub mod resync;
+mod run;
 
 pub use as_is::{Flaws, PacketAsIs, next_packet_as_is};
+pub use run::{PcapRunAsIs, parse_pcap_as_is};

@@ -1,0 +1,69 @@
+-- Packets as they stand behind a header, which is the state of their format with the limit.
+use Rattle.std.proofs.Common.{◌≡◌, ℕ, List, [], ◌∷◌, refl, sym, ap, subst, ◌∙◌, arith}
+use Rattle.std.proofs.lemmas.List.{map-id}
+use Rattle.pcap_core.specs.declared.errors.PcapError.{PcapError}
+use Rattle.pcap_core.specs.declared.run.items.Ended.{Ended}
+use Rattle.pcap_core.specs.Answer.{number_in, whole}
+use Rattle.pcap_core.specs.Format.{Front, IsLawful, Texts, state_after}
+use Rattle.pcap_core.specs.Items.{EndsWith, GrowsIn, LeadsTo, ShowsFault, rest_of}
+use Rattle.pcap_core.specs.Run.{IsRest}
+use Rattle.pcap_core.proofs.Items.{ended_rest, grows_some, leads_front}
+use Rattle.pcap_classic.specs.declared.pcap.header.PcapHeader.{PcapHeader}
+use Rattle.pcap_classic.specs.HeaderText.{HeaderText}
+use Rattle.pcap_classic.specs.Magic.{order_of, resolution_of}
+use Rattle.pcap_tolerant.specs.AsIs.{AsIs, raised, as_is_format}
+use Rattle.pcap_tolerant.specs.Run.{as_is_under, Setting, any_as_is, HasPacketAsIs}
+use Rattle.pcap_tolerant.proofs.AsIs.{as_is_lawful}
+
+under_lawful : (q : Setting) → IsLawful (as_is_under q.limit q.header)
+under_lawful q = as_is_lawful (raised q.limit) (number_in (order_of q.header.magic_number)) (resolution_of q.header.magic_number)
+
+pub any_lawful : IsLawful any_as_is
+unfolding as_is_format
+any_lawful = record {
+  one = λ q s. (under_lawful q).one tt s;
+  stable = λ q. (under_lawful q).stable tt;
+  own = λ q s rest packet x. (under_lawful q).own tt s rest packet x;
+  some = omega arith;
+  asks = λ q s n x. (under_lawful q).asks tt s n x;
+  short = λ q s n sum some. (under_lawful q).short tt s n sum some;
+  last = λ q s more n m long x count y. (under_lawful q).last tt s more n m long x count y;
+}
+
+state_stays : (q : Setting) (packets : List AsIs) → state_after any_as_is q packets ≡ q
+state_stays q [] = refl
+state_stays q (packet ∷ packets) = state_stays q packets
+
+texts_under : (q : Setting) (packets : List AsIs) (s rest : List ℕ) → Texts any_as_is q packets s rest → Texts (as_is_under q.limit q.header) tt packets s rest
+texts_under q [] s rest texts = texts
+texts_under q (packet ∷ packets) s rest texts = (texts.0, texts.1, texts_under q packets texts.0 rest texts.2)
+
+-- the front of a capture, by its header and the limit as a state
+front_under : (q : Setting) (packets : List AsIs) (s rest : List ℕ) → Front any_as_is q packets s rest → Front (as_is_under q.limit q.header) tt packets s rest
+front_under q packets s rest front = record {
+  texts = texts_under q packets s rest front.texts;
+  longest = λ packet after x. front.longest packet after (subst (λ (p : Setting). any_as_is.says p rest (whole packet after)) (sym (state_stays q packets)) x);
+}
+
+-- the packets of a run, and what is said of its rest
+pub record RunUnder (q next : Setting) (packets : List AsIs) (s left : List ℕ) (ended : Ended PcapError) : Type 0 where
+  pub same : q ≡ next
+  pub front : Front (as_is_under q.limit q.header) tt packets s left
+  pub rest : IsRest ((as_is_under q.limit q.header).says tt) left (rest_of ended)
+
+pub run_under : (q next : Setting) (packets : List AsIs) (s left : List ℕ) (ended : Ended PcapError) → LeadsTo any_as_is (λ packet. packet) q next packets s left
+    → EndsWith ShowsFault (any_as_is.says next) left ended → RunUnder q next packets s left ended
+run_under q next packets s left ended leads ends =
+    let same : q ≡ next = sym (state_stays q leads.values) ∙ leads.state_is in
+    let all : leads.values ≡ packets = sym (map-id leads.values) ∙ leads.parts in
+    let front = leads_front any_as_is any_lawful (λ packet. packet) ShowsFault q next packets s left ended leads ends in
+    record {
+      same = same;
+      front = subst (λ (l : List AsIs). Front (as_is_under q.limit q.header) tt l s left) all (front_under q leads.values s left front);
+      rest = rw same (ended_rest (any_as_is.says next) left ended ends);
+    }
+
+pub has_packet : (q : Setting) (bytes rest : List ℕ) → HeaderText q.header bytes rest → GrowsIn any_as_is (λ _ _. ⊥) q rest → HasPacketAsIs q.limit bytes
+has_packet q bytes rest text grown =
+    let some = grows_some any_as_is any_lawful q rest grown in
+    (q.header, some.0, some.1, some.2, record { after = rest; header_text = text; front = front_under q (some.0 ∷ some.1) rest some.2 some.3 })

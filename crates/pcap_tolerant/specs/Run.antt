@@ -1,0 +1,51 @@
+-- What a run over a whole slice tells, with packets as they stand.
+use Rattle.std.specs.Prelude.{◌≡◌, ◌+◌, ℕ, List, ◌∷◌, length, map, Bool}
+use Rattle.pcap_core.specs.Answer.{number_in}
+use Rattle.pcap_core.specs.Format.{Format, Front}
+use Rattle.pcap_core.specs.Run.{IsRest}
+use Rattle.pcap_classic.specs.declared.pcap.header.PcapHeader.{PcapHeader}
+use Rattle.pcap_classic.specs.HeaderText.{HeaderText}
+use Rattle.pcap_classic.specs.Magic.{order_of, resolution_of}
+use Rattle.pcap_classic.specs.Parser.{header_of}
+use Rattle.pcap_tolerant.specs.declared.as_is.PacketAsIs.{PacketAsIs}
+use Rattle.pcap_tolerant.specs.declared.run.ParserAsIs.{ParserAsIs}
+use Rattle.pcap_tolerant.specs.declared.run.PcapRunAsIs.{PcapRunAsIs}
+use Rattle.pcap_tolerant.specs.AsIs.{AsIs, raised, breaks_one, as_it_is, as_is_format}
+
+-- the packet breaks a rule
+abbrev pub is_flawed : PacketAsIs → Bool
+is_flawed packet = breaks_one packet.flaws
+
+-- packets of at most limit bytes as they stand, behind this header
+abbrev pub as_is_under : ℕ → PcapHeader → Format (Unit {0}) AsIs
+as_is_under limit header = as_is_format (raised limit) (number_in (order_of header.magic_number)) (resolution_of header.magic_number)
+
+-- a header, and the caller's limit
+pub record Setting : Type 0 where
+  pub header : PcapHeader
+  pub limit : ℕ
+
+-- packets as they stand behind any header and under any limit, which are the state
+abbrev pub any_as_is : Format Setting AsIs
+any_as_is = record { says = λ setting. (as_is_under setting.limit setting.header).says tt; goes = λ setting packet. setting; head = 16 }
+
+-- what a parser is set to
+abbrev pub setting_of : ParserAsIs → Setting
+setting_of p = record { header = header_of p.parser; limit = p.limit }
+
+-- s is the header's text, the texts of these packets as they stand and rest, and no packet's text begins rest
+pub record FrontAsIs (limit : ℕ) (header : PcapHeader) (packets : List AsIs) (s rest : List ℕ) : Type 0 where
+  pub after : List ℕ
+  pub header_text : HeaderText header s after
+  pub front : Front (as_is_under limit header) tt packets after rest
+
+-- The run is the front of s: its header and packets as they stand, its length, and what is said of its rest.
+pub record IsRunAsIs (limit : ℕ) (run : PcapRunAsIs) (s : List ℕ) : Type 0 where
+  pub left : List ℕ
+  pub front : FrontAsIs limit run.header (map as_it_is run.packets.items) s left
+  pub used : run.used + length left ≡ length s
+  pub rest : IsRest ((as_is_under limit run.header).says tt) left run.rest
+
+-- a header and at least one packet as it stands are in front of s
+abbrev pub HasPacketAsIs : ℕ → List ℕ → Type 0
+HasPacketAsIs limit s = (header : PcapHeader) × (first : AsIs) × (packets : List AsIs) × (rest : List ℕ) × FrontAsIs limit header (first ∷ packets) s rest

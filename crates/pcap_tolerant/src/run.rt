@@ -1,0 +1,115 @@
+//! A whole run over a capture, which leaves no packet out for what is wrong with it.
+
+ghost use Rattle.std.specs.Prelude.{◌≡◌, ⊤, count_by, position, IfOk, IfErr};
+ghost use Rattle.pcap_core.specs.Answer.{Refuses};
+ghost use Rattle.pcap_core.specs.Errors.{IsMemory};
+ghost use Rattle.pcap_classic.specs.HeaderText.{LacksHeader, HasHeaderFault};
+ghost use Rattle.pcap_tolerant.specs.Run.{is_flawed, IsRunAsIs, HasPacketAsIs};
+
+use crate::as_is::{PacketAsIs, next_packet_as_is};
+use pcap_classic::pcap::{PcapHeader, PcapParser};
+use pcap_core::run::{Found, Items, found_in, parse_items};
+use pcap_core::{PcapError, Rest, ResultParsing};
+use std::alloc::{AllocError, Global};
+
+/// A capture's header and its packets as they stand, how many bytes they take, and what stands behind them.
+#[derive(Debug, Drop)]
+pub struct PcapRunAsIs<'a> {
+    /// The capture's header.
+    pub header: PcapHeader,
+    /// Its packets as they stand, in order. Their bytes are lent.
+    pub packets: Vec<PacketAsIs<'a>>,
+    /// How many bytes the header and the packets take.
+    pub used: usize,
+    /// What stands behind them.
+    pub rest: Rest,
+}
+
+impl PcapRunAsIs<'_> {
+    /// How many of the packets break a rule.
+    pub fn flawed(&self) -> usize
+        ensures { result ≡ count_by is_flawed self.now.packets.items }
+    {
+        self.packets
+            .iter()
+            .filter(|packet| packet.flaws.is_broken())
+            .count()
+    }
+
+    /// The place of the first packet that breaks a rule, counted from 0: the strict reading ends before it. None where none does.
+    pub fn first_flawed(&self) -> Option<usize>
+        ensures { result ≡ position is_flawed self.now.packets.items }
+    {
+        self.packets
+            .iter()
+            .position(|packet| packet.flaws.is_broken())
+    }
+}
+
+// A parser that gives packets as they stand, of at most so many bytes.
+#[derive(Drop)]
+struct ParserAsIs {
+    parser: PcapParser,
+    limit: u32,
+}
+
+impl<'a> Items<'a> for ParserAsIs {
+    ghost use Rattle.pcap_core.specs.Items.{ShowsFault};
+    ghost use Rattle.pcap_tolerant.specs.AsIs.{AsIs, as_it_is};
+    ghost use Rattle.pcap_tolerant.specs.Run.{Setting, setting_of, any_as_is};
+
+    type Item = PacketAsIs<'a>;
+
+    type Refusal = PcapError;
+
+    ghost State = { Setting };
+
+    ghost Value = { AsIs };
+
+    ghost Part = { AsIs };
+
+    ghost format = { any_as_is };
+
+    ghost state = { setting_of };
+
+    ghost part = { λ packet. packet };
+
+    ghost view = { as_it_is };
+
+    ghost lent = { λ _. ⊤ };
+
+    ghost shows = { ShowsFault };
+
+    ghost grows = { λ _ _. ⊥ };
+
+    fn next_item(
+        &mut self,
+        slice: &'a [u8],
+    ) -> Result<Found<(&'a [u8], PacketAsIs<'a>), PcapError>, AllocError> {
+        found_in(next_packet_as_is(&self.parser, slice, self.limit))
+    }
+}
+
+/// The whole run over one slice: its header, all packets of its longest front as they stand, and what is said of the rest. Only a
+/// packet whose stored length is above the limit, in bytes, ends it as a refusal; a limit below 262144 is taken for 262144.
+///
+/// Where the header is refused, that refusal. `OutOfMemory` where the list of packets can't grow.
+pub fn parse_pcap_as_is<'a>(
+    alloc: Global,
+    bytes: &'a [u8],
+    limit: u32,
+) -> ResultParsing<PcapRunAsIs<'a>>
+    ensures front { IfOk result (λ run. IsRunAsIs limit run bytes.now) }
+    ensures refused { IfErr result (Refuses ⊤ (LacksHeader bytes.now) (HasHeaderFault bytes.now)) }
+    ensures memory { IfErr result (λ e. IsMemory e → HasPacketAsIs limit bytes.now) }
+{
+    let (after_header, parser) = PcapParser::new(bytes)?;
+    let mut parser = ParserAsIs { parser, limit };
+    let run = parse_items(alloc, &mut parser, after_header)?;
+    Ok(PcapRunAsIs {
+        header: *parser.parser.header(),
+        packets: run.items,
+        used: bytes.len() - after_header.len() + run.used,
+        rest: Rest::from(run.ended),
+    })
+}
