@@ -1,0 +1,4 @@
+mod Chosen
+mod FrontCuts
+mod JoinedParts
+mod Passing

@@ -1,0 +1,82 @@
+use Rattle.std.proofs.Common.{◌∙◌, ◌≡◌, refl, inl, inr, [], List, ℕ, Bool, true, Err, rules, subst}
+use Rattle.std.proofs.lemmas.Result.{err_from_is_err_and}
+use Rattle.std.proofs.KnownBytes.{Keeps-refl}
+use Rattle.pcap_core.specs.Held.{held_bytes}
+use Rattle.pcap_core.specs.Format.{Format}
+use Rattle.pcap_core.specs.Reading.{HasCause, TakesAsked}
+use Rattle.pcap_classic.specs.PacketText.{Captured, packet_limit}
+use Rattle.pcap_classic.specs.StatedPackets.{held_packet}
+use Rattle.pcap_classic.proofs.Captures.{under_valid}
+use Rattle.pcap_classic.proofs.Copied.{torn_write}
+use Rattle.pcap_classic.proofs.Packets.{reader_lawful, reader_whole}
+use Rattle.pcap_classic.proofs.StatedPackets.{shown_stands}
+use Rattle.std.specs.Prelude.{if◌then◌else◌}
+use Rattle.std.specs.Io.KnownBytes.{Appends}
+use Rattle.pcap_core.specs.Writing.{WritesAll}
+use Rattle.pcapfile_cut.specs.Choice.{Stored}
+use Rattle.pcapfile_cut.proofs.cutting.cut_next.Goals as goal
+
+pub fill_item-requires-clause-lawful : goal.fill_item-requires-clause-lawful
+fill_item-requires-clause-lawful g c = reader_lawful packet_limit c.args.header.now
+
+pub returns-in_err-head-clause-steps : goal.returns-in_err-head-clause-steps
+returns-in_err-head-clause-steps g c =
+    let p = err_from_is_err_and c.from_residual.result c.from_residual.ensures.1 in
+    rw (p.1, p.2) (
+      refl,
+      refl,
+      inr (record {
+        refused = under_valid packet_limit c.args.header.now c.requires.valid (λ (f : Format (Unit {0}) Captured). HasCause (f.says tt) (g.R.Read.remaining c.args.input.now) c.fill_item.new.has_failed c.in_err-head.field-0.0) c.in_err-head.ensures.fills.0;
+        part = under_valid packet_limit c.args.header.now c.requires.valid (λ (f : Format (Unit {0}) Captured). TakesAsked (f.says tt) (g.R.Read.remaining c.args.input.now) (g.R.Read.remaining c.fill_item.new.stream)) c.in_err-head.ensures.fills.1;
+        no_write_failed = c.requires.no_write_failed;
+        went = Keeps-refl _;
+      }),
+    )
+
+pub returns-in_err-put_if-clause-steps : goal.returns-in_err-put_if-clause-steps
+returns-in_err-put_if-clause-steps g c =
+    let filled = rw c.in-Some.is at c.in_ok-head.ensures.fills in
+    let held = held_bytes c.fill_item.new.held in
+    let stored : Stored = record { packet = held_packet held c.in-Some.head; text = held } in
+    let p = err_from_is_err_and c.from_residual-in_err-put_if.result c.from_residual-in_err-put_if.ensures.1 in
+    let out = g.W.Write.contents c.args.output.now in
+    let out_now = g.W.Write.contents c.put_if.new.output in
+    let e = c.in_err-put_if.field-0.0 in
+    let is : c.takes-is_wanted.result ≡ true = c.in_err-put_if.ensures.wanted in
+    let went : WritesAll out out_now (if c.takes-is_wanted.result then c.as_slice.result.now else []) (Err e) = c.in_err-put_if.ensures.out in
+    let all_went : WritesAll out out_now c.as_slice.result.now (Err e) = subst (λ (b : Bool). WritesAll out out_now (if b then c.as_slice.result.now else []) (Err e)) is went in
+    let part = torn_write held out out_now e (subst (λ (s : List ℕ). WritesAll out out_now s (Err e)) c.as_slice.ensures all_went) in
+    rw (p.1, p.2) (
+      refl,
+      refl,
+      inl (record {
+        stored = stored;
+        is_stored = (reader_whole packet_limit c.args.header.now held [] stored.packet (shown_stands c.args.header.now c.in-Some.head held filled.1)).1;
+        took = filled.4;
+        is_wanted = subst (λ (b : Bool). b ≡ true) c.takes-is_wanted.ensures is;
+        refused = part.0;
+        no_read_failed = filled.0;
+        write_failed = c.in_err-put_if.ensures.told;
+        went = part.1;
+      }),
+    )
+
+pub returns-clause-steps : goal.returns-clause-steps
+returns-clause-steps g c =
+    let filled = rw c.in-Some.is at c.in_ok-head.ensures.fills in
+    let held = held_bytes c.fill_item.new.held in
+    let stored : Stored = record { packet = held_packet held c.in-Some.head; text = held } in
+    let out = g.W.Write.contents c.args.output.now in
+    let out_now = g.W.Write.contents c.put_if.new.output in
+    let went : Appends out out_now (if c.takes-is_wanted.result then c.as_slice.result.now else []) = c.in_ok-put_if.ensures.out in
+    let went_held : Appends out out_now (if c.takes-is_wanted.result then held else []) = subst (λ (s : List ℕ). Appends out out_now (if c.takes-is_wanted.result then s else [])) c.as_slice.ensures went in
+    record {
+      stored = stored;
+      is_stored = (reader_whole packet_limit c.args.header.now held [] stored.packet (shown_stands c.args.header.now c.in-Some.head held filled.1)).1;
+      took = filled.4;
+      went = subst (λ (b : Bool). Appends out out_now (if b then held else [])) c.takes-is_wanted.ensures went_held;
+      packets = refl;
+      bytes = search rules;
+      no_read_failed = filled.0;
+      no_write_failed = c.in_ok-put_if.ensures.told ∙ c.requires.no_write_failed;
+    }

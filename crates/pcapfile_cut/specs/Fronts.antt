@@ -1,0 +1,96 @@
+-- What a cut says of the front of the bytes behind a header, and what is said of parts that are cut and joined.
+use Rattle.std.specs.Prelude.{⊤, ◌≡◌, ◌++◌, ◌⊎◌, ℕ, List, [], ◌∷◌, length, map, Option, None, Some}
+use Rattle.std.specs.List.{AllZip, flat_map}
+use Rattle.std.specs.Option.{IsSomeAnd}
+use Rattle.std.specs.Io.KnownBytes.{Appends, Keeps}
+use Rattle.pcap_core.specs.Format.{Front, Texts}
+use Rattle.pcap_core.specs.Reading.{TakesAsked}
+use Rattle.pcap_classic.specs.declared.pcap.header.PcapHeader.{PcapHeader}
+use Rattle.pcap_classic.specs.Copies.{StopsFront}
+use Rattle.pcap_classic.specs.PacketText.{Captured}
+use Rattle.pcapfile_cut.specs.declared.cutting.Outcome.{Outcome}
+use Rattle.pcapfile_cut.specs.declared.joining.Joined.{Joined}
+use Rattle.pcapfile_cut.specs.declared.joining.Joined.TheVariants.{Packets}
+use Rattle.pcapfile_cut.specs.declared.opening.Opening.{Opening}
+use Rattle.pcapfile_cut.specs.declared.wanted.Wanted.{Wanted}
+use Rattle.pcapfile_cut.specs.declared.wanted.Wanted.TheVariants.{All, Numbers, Times, Bytes}
+use Rattle.pcapfile_cut.specs.Choice.{Stored, WantsMore, chosen, text_of}
+use Rattle.pcapfile_cut.specs.Cuts.{EndsTorn, OpensPart, PacketIsSaid, packets_under}
+use Rattle.pcapfile_cut.specs.Joins.{JoinsPart}
+use Rattle.pcapfile_cut.specs.Openings.{bytes_of, header_of}
+
+-- the packets alone
+abbrev pub packets_of : List Stored → List Captured
+packets_of stored = map (λ (s : Stored). s.packet) stored
+
+-- no packet of the front is left and nothing behind it, or no more is wanted; and nothing was refused
+pub record EndsAll (wanted : Wanted) (more : List Stored) (rest left : List ℕ) (now mid out_now : Option (List ℕ)) (outcome : Outcome) : Type 0 where
+  pub fine : outcome.fault ≡ None
+  pub taken : Keeps (Some left) now
+  pub went : Keeps mid out_now
+  pub why : ((more ≡ []) × (rest ≡ [])) ⊎ (WantsMore wanted outcome.packets outcome.bytes → ⊥)
+
+-- the next packet of the front was taken, which is wanted, and a write failed in its text
+pub record TearsNext (header : PcapHeader) (wanted : Wanted) (packets more : List Stored) (left : List ℕ) (now mid out_now : Option (List ℕ)) (outcome : Outcome) : Type 0 where
+  pub ends : EndsTorn header wanted packets (Some left) now mid out_now outcome
+  pub others : List Captured
+  pub next : packets_of more ≡ ends.torn.packet ∷ others
+
+-- what is behind the packets was refused: a read failed, or memory, or they are all of the front and the rest is refused
+pub record RefusesRest (header : PcapHeader) (more : List Stored) (rest left : List ℕ) (now mid out_now : Option (List ℕ)) (outcome : Outcome) : Type 0 where
+  pub refused : IsSomeAnd outcome.fault (StopsFront header (packets_of more) rest outcome.read_failed)
+  pub part : TakesAsked (PacketIsSaid header) (Some left) now
+  pub went : Keeps mid out_now
+
+-- the packets of the front of s are those that were passed and more; of those that were passed the ones that are wanted went out,
+-- which are the first of all of the front that are wanted
+pub record CutsFront (header : PcapHeader) (wanted : Wanted) (s : List ℕ) (now out out_now : Option (List ℕ)) (outcome : Outcome) : Type 0 where
+  pub packets : List Stored
+  pub more : List Stored
+  pub left : List ℕ
+  pub rest : List ℕ
+  pub mid : Option (List ℕ)
+  pub front : Front (packets_under header) tt (packets_of (packets ++ more)) s rest
+  pub bytes : s ≡ text_of (packets ++ more) ++ rest
+  pub place : s ≡ text_of packets ++ left
+  pub went : Appends out mid (text_of (chosen wanted packets))
+  pub count : outcome.packets ≡ length packets
+  pub first_ones : (others : List Stored) × (chosen wanted (packets ++ more) ≡ chosen wanted packets ++ others)
+  pub ends : EndsAll wanted more rest left now mid out_now outcome ⊎ TearsNext header wanted packets more left now mid out_now outcome
+      ⊎ RefusesRest header more rest left now mid out_now outcome
+
+-- all packets that are passed are wanted
+abbrev pub TakesAll : Wanted → Type 0
+TakesAll All = ⊤
+TakesAll (Numbers first last) = first ≡ 1
+TakesAll (Times from until) = ⊥
+TakesAll (Bytes most) = ⊤
+
+-- these parts are cut one after another, each into a writer that held nothing, out of packets whose bytes are s, without a fault;
+-- what no part took is left
+abbrev pub CutsInto : Opening → List Wanted → List (List ℕ) → List ℕ → List ℕ → Type 0
+CutsInto opening [] [] s left = s ≡ left
+CutsInto opening (wanted ∷ wants) (part ∷ parts) s left =
+    TakesAll wanted × ((behind : List ℕ) × (outcome : Outcome) × OpensPart opening wanted (Some s) (Some behind) (Some []) (Some part) outcome × (outcome.fault ≡ None) × CutsInto opening wants parts behind left)
+CutsInto opening _ _ s left = ⊥
+
+-- the part is the opening and the texts of these packets
+abbrev pub IsPart : Opening → List Captured → List ℕ → Type 0
+IsPart opening packets part = (text : List ℕ) × (part ≡ bytes_of opening ++ text) × Texts (packets_under (header_of opening)) tt packets text []
+
+-- the packets of s up to left are those of the parts, joined
+pub record HoldsPackets (opening : Opening) (parts : List (List ℕ)) (s left : List ℕ) : Type 0 where
+  pub packets : List (List Captured)
+  pub each : AllZip (IsPart opening) packets parts
+  pub all : Texts (packets_under (header_of opening)) tt (flat_map (λ (ps : List Captured). ps) packets) s left
+
+-- a part was joined without a fault, and had fewer packets than can be counted
+abbrev pub IsJoined : Joined → Type 0
+IsJoined (Packets outcome) = (outcome.fault ≡ None) × WantsMore All outcome.packets outcome.bytes
+IsJoined _ = ⊥
+
+-- these parts were joined behind others, one after another
+abbrev pub JoinsOthers : Opening → List (List ℕ) → List ℕ → List ℕ → Type 0
+JoinsOthers opening [] out out_now = out_now ≡ out
+JoinsOthers opening (part ∷ parts) out out_now =
+    (now : Option (List ℕ)) × (mid : List ℕ) × (joined : Joined) × JoinsPart opening (Some part) now (Some out) (Some mid) joined × IsJoined joined × JoinsOthers opening parts mid out_now

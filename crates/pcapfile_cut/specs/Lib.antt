@@ -1,0 +1,5 @@
+pub mod Choice
+pub mod Cuts
+pub mod Fronts
+pub mod Joins
+pub mod Openings

@@ -1,0 +1,155 @@
+//! Packets that are cut out of a classic capture.
+
+ghost use Rattle.std.specs.Prelude.{◌≡◌, ◌≤◌, ◌<◌, ◌+◌, ◌^◌, [], true, false, if◌then◌else◌, IsTrue, IfErr, IfOk, IfSome, OnOk, MatchResult};
+ghost use Rattle.pcap_core.specs.Held.{held_bytes};
+ghost use Rattle.pcap_core.specs.Writing.{WritesAll};
+ghost use Rattle.pcap_classic.specs.Magic.{is_magic};
+ghost use Rattle.pcapfile_cut.specs.Cuts.{CutsBehind, CutsPart, IsNew, StepsCut, outcome_of};
+
+use crate::opening::Opening;
+use crate::wanted::Wanted;
+use pcap_classic::pcap::{PacketsUnder, PcapHeader};
+use pcap_core::stream::{Held, fill_item, put};
+use pcap_core::{PcapError, ResultParsing};
+use std::alloc::Global;
+use std::io::{Read, Write};
+
+/// How a cut ended.
+#[derive(Debug, Drop)]
+pub struct Outcome {
+    /// How many whole packets were passed, those that were cut out among them.
+    pub packets: u64,
+    /// How many bytes these packets take. The largest number stands for all above it.
+    pub bytes: u64,
+    /// Why the cut ended before the end of the capture and before the last packet that is wanted.
+    pub fault: Option<PcapError>,
+    /// Whether a read failed.
+    pub read_failed: bool,
+    /// Whether a write failed.
+    pub write_failed: bool,
+}
+
+impl Outcome {
+    // A cut of which nothing is done.
+    pub(crate) fn none() -> Outcome
+        ensures { IsNew result }
+    {
+        Outcome {
+            packets: 0,
+            bytes: 0,
+            fault: None,
+            read_failed: false,
+            write_failed: false,
+        }
+    }
+}
+
+/// Writes a part of a capture: its opening, and the packets that are wanted, as their bytes stood. The input stands behind the
+/// opening, or behind an earlier part.
+///
+/// Where there is no fault exactly the packets that are counted were taken: they end with the input, or with the last one that is
+/// wanted. A rest that is refused gives what `PcapReader` gives there, all that is wanted before it has gone out, and no more of
+/// it was taken than was missing. `IoError` also where a write failed: a beginning of the text that comes next has gone out then,
+/// and that packet was taken. `OutOfMemory` where a packet can't be held.
+pub fn cut_part<R: Read, W: Write>(
+    alloc: Global,
+    opening: &Opening,
+    input: &mut R,
+    output: &mut W,
+    wanted: Wanted,
+) -> Outcome
+    ensures { CutsPart opening.now wanted (R.remaining input.old) (R.remaining input.new) (W.contents output.old) (W.contents output.new) result }
+{
+    let mut outcome = Outcome::none();
+    outcome.fault = cut_under(alloc, opening, input, output, wanted, &mut outcome).err();
+    outcome
+}
+
+// Writes the opening and the packets, and counts these.
+fn cut_under<R: Read, W: Write>(
+    alloc: Global,
+    opening: &Opening,
+    input: &mut R,
+    output: &mut W,
+    wanted: Wanted,
+    outcome: &mut Outcome,
+) -> ResultParsing<()>
+    requires { IsNew outcome.old }
+    ensures { CutsPart opening.now wanted (R.remaining input.old) (R.remaining input.new) (W.contents output.old) (W.contents output.new) (outcome_of outcome.new result) }
+{
+    put(output, &mut outcome.write_failed, opening.bytes())?;
+    cut_packets(alloc, opening.header(), input, output, wanted, outcome)
+}
+
+// Writes the packets that are wanted, and counts all that are passed.
+pub(crate) fn cut_packets<R: Read, W: Write>(
+    alloc: Global,
+    header: &PcapHeader,
+    input: &mut R,
+    output: &mut W,
+    wanted: Wanted,
+    outcome: &mut Outcome,
+) -> ResultParsing<()>
+    requires valid { IsTrue (is_magic header.now.magic_number) }
+    requires new { IsNew outcome.old }
+    ensures { CutsBehind header.now wanted (R.remaining input.old) (R.remaining input.new) (W.contents output.old) (W.contents output.new) (outcome_of outcome.new result) }
+{
+    let mut held = Held::new(alloc);
+    while wanted.wants_more(outcome.packets, outcome.bytes) {
+        if !cut_next(header, input, output, wanted, outcome, &mut held)? {
+            return Ok(());
+        }
+    }
+    Ok(())
+}
+
+// Passes the next packet, which is held meanwhile, writes it where it is wanted, and says whether there was one.
+fn cut_next<R: Read, W: Write>(
+    header: &PcapHeader,
+    input: &mut R,
+    output: &mut W,
+    wanted: Wanted,
+    outcome: &mut Outcome,
+    held: &mut Held,
+) -> ResultParsing<bool>
+    requires valid { IsTrue (is_magic header.now.magic_number) }
+    requires countable { outcome.old.packets + 1 < 2 ^ 64 }
+    requires no_read_failed { outcome.old.read_failed ≡ false }
+    requires no_write_failed { outcome.old.write_failed ≡ false }
+    requires between { held_bytes held.old ≡ [] }
+    ensures steps { StepsCut header.now wanted (R.remaining input.old) (R.remaining input.new) (W.contents output.old) (W.contents output.new) outcome.old outcome.new result }
+    ensures between { OnOk result (held_bytes held.new ≡ []) }
+{
+    let packets = PacketsUnder { header };
+    let Some(head) = fill_item(&packets, input, &mut outcome.read_failed, held)? else {
+        return Ok(false);
+    };
+    let is_wanted = wanted.takes(outcome.packets + 1, &head);
+    put_if(
+        output,
+        &mut outcome.write_failed,
+        is_wanted,
+        held.as_slice(),
+    )?;
+    outcome.packets += 1;
+    outcome.bytes = outcome.bytes.saturating_add(held.as_slice().len() as u64);
+    held.clear();
+    Ok(true)
+}
+
+// Writes the bytes where they are wanted.
+fn put_if<W: Write>(
+    output: &mut W,
+    has_failed: &mut bool,
+    is_wanted: bool,
+    bytes: &[u8],
+) -> ResultParsing<()>
+    ensures out { WritesAll (W.contents output.old) (W.contents output.new) (if is_wanted then bytes.now else []) result }
+    ensures told { MatchResult result (λ _. has_failed.new ≡ has_failed.old) (λ _. has_failed.new ≡ true) }
+    ensures wanted { IfErr result (λ _. is_wanted ≡ true) }
+{
+    if !is_wanted {
+        return Ok(());
+    }
+    put(output, has_failed, bytes)
+}

@@ -1,0 +1,61 @@
+//! The opening of a classic capture.
+
+ghost use Rattle.std.specs.Prelude.{◌≡◌, ◌↔◌, [], false, true, IsTrue, IfOk};
+ghost use Rattle.std.specs.Io.KnownBytes.{Consumes};
+ghost use Rattle.pcap_classic.specs.HeaderText.{HeaderSays, HeaderText};
+ghost use Rattle.pcap_classic.specs.Magic.{is_magic};
+ghost use Rattle.pcap_core.specs.Reading.{ReadsTold};
+
+use pcap_classic::pcap::PcapHeader;
+use pcap_core::ResultParsing;
+use pcap_core::stream::fill_array;
+use std::io::Read;
+
+/// The header of a classic capture, with its 24 bytes as they stood.
+#[derive(Clone, Copy, Debug)]
+pub struct Opening {
+    pub(crate) header: PcapHeader,
+    pub(crate) bytes: [u8; 24],
+    pub ghost valid: { IsTrue (is_magic header.magic_number) },
+}
+
+impl Opening {
+    ghost use Rattle.pcapfile_cut.specs.Openings.{bytes_of, header_of};
+
+    /// Reads the header of a capture off a stream that has not failed, and says whether it failed then. Exactly 24 bytes are
+    /// taken.
+    ///
+    /// `InvalidField` where the magic number is none of the four. `IoError` where a read failed, or the stream ended early.
+    pub fn read<R: Read>(input: &mut R, read_failed: &mut bool) -> ResultParsing<Opening>
+        requires { read_failed.old ≡ false }
+        ensures told { ReadsTold HeaderSays header_of (R.remaining input.old) (R.remaining input.new) read_failed.new result }
+        ensures bytes { IfOk result (λ opening. HeaderText (header_of opening) (bytes_of opening) [] × Consumes (R.remaining input.old) (R.remaining input.new) (bytes_of opening)) }
+    {
+        let mut bytes = [0; 24];
+        fill_array(input, read_failed, &mut bytes)?;
+        let (_, header) = PcapHeader::from_slice(&bytes)?;
+        Ok(Opening { header, bytes })
+    }
+
+    /// The header.
+    pub fn header(&self) -> &PcapHeader
+        ensures header { result.now ≡ header_of self.now }
+        ensures valid { IsTrue (is_magic (header_of self.now).magic_number) }
+    {
+        &self.header
+    }
+
+    /// Its bytes as they stood.
+    pub fn bytes(&self) -> &[u8]
+        ensures { result.now ≡ bytes_of self.now }
+    {
+        &self.bytes
+    }
+
+    /// Whether the bytes of both are the same.
+    pub fn is_same(&self, other: &Opening) -> bool
+        ensures { IsTrue result ↔ (bytes_of self.now ≡ bytes_of other.now) }
+    {
+        self.bytes() == other.bytes()
+    }
+}
