@@ -10,8 +10,11 @@
 
 /* How long the room is at first. */
 #ifndef PCAPFILE_FIRST_ROOM
-#define PCAPFILE_FIRST_ROOM 262144
+#define PCAPFILE_FIRST_ROOM 131072
 #endif
+
+/* How many packets of a pcap capture are taken by one call of the library. */
+enum { BATCH = 32 };
 
 struct pcapfile_reader {
     int descriptor;
@@ -25,6 +28,7 @@ struct pcapfile_reader {
     pcapfile_section section; /* of a PcapNg capture, likewise */
     pcapfile_interface *interfaces;
     size_t interfaces_len;
+    pcapfile_packet packets[BATCH]; /* what the last call took of a pcap capture */
 };
 
 /* Makes the room longer by what is missing, and by no more than it was long, so that a broken length takes no memory for bytes
@@ -62,6 +66,7 @@ pcapfile_reader *pcapfile_fdopen(int descriptor) {
         return NULL;
     }
     *reader = (pcapfile_reader){ .descriptor = descriptor, .limit = PCAPFILE_LIMIT, .room_len = PCAPFILE_FIRST_ROOM };
+    for (size_t i = 0; i < BATCH; i++) reader->packets[i] = (pcapfile_packet)PCAPFILE_PACKET_INIT;
     reader->room = malloc(PCAPFILE_FIRST_ROOM);
     if (!reader->room || grow_interfaces(reader) != PCAPFILE_OK) {
         let_go(reader);
@@ -134,17 +139,24 @@ static int32_t read_more(pcapfile_reader *reader, size_t missing) {
     return has_begun(reader) && reader->push.begin == reader->push.end ? PCAPFILE_END : PCAPFILE_INCOMPLETE;
 }
 
-/* Takes the next packet of what is held. */
-static int32_t take(pcapfile_reader *reader, pcapfile_any_packet *any, pcapfile_error *error) {
-    pcapfile_packet packet = PCAPFILE_PACKET_INIT;
+static pcapfile_any_packet any_of(const pcapfile_reader *reader, const pcapfile_packet *packet) {
+    pcapfile_time time = { packet->ts_sec, packet->ts_nsec };
+    return (pcapfile_any_packet){ reader->push.header.link, 0, 1, 1, packet->orig_len, time, packet->bytes };
+}
+
+/* Takes packets of what is held as pcapfile_push_ng_packets does, in either format. */
+static int32_t take(pcapfile_reader *reader, pcapfile_any_packet *packets, size_t room, size_t *taken, pcapfile_error *error) {
+    int32_t status = PCAPFILE_OK;
     if (is_ng(reader))
-        return pcapfile_push_ng_next(&reader->push, &reader->section, reader->room, reader->room_len, reader->interfaces,
-                                     reader->interfaces_len, any, error);
-    int32_t status = pcapfile_push_next(&reader->push, reader->room, reader->room_len, &packet, error);
-    if (status != PCAPFILE_OK) return status;
-    pcapfile_time time = { packet.ts_sec, packet.ts_nsec };
-    *any = (pcapfile_any_packet){ reader->push.header.link, 0, 1, 1, packet.orig_len, time, packet.bytes };
-    return PCAPFILE_OK;
+        return pcapfile_push_ng_packets(&reader->push, &reader->section, reader->room, reader->room_len, reader->interfaces,
+                                        reader->interfaces_len, packets, room, taken, error);
+    for (*taken = 0; status == PCAPFILE_OK && *taken < room;) {
+        size_t some, most = room - *taken < BATCH ? room - *taken : BATCH;
+        status = pcapfile_push_packets(&reader->push, reader->room, reader->room_len, reader->packets, most, &some, error);
+        for (size_t i = 0; i < some; i++) packets[*taken + i] = any_of(reader, &reader->packets[i]);
+        *taken += some;
+    }
+    return status;
 }
 
 /* Passes over a packet whose body the last call refused; what else was refused is refused again. */
@@ -168,18 +180,21 @@ static int32_t provide(pcapfile_reader *reader, int32_t status, const pcapfile_e
     }
 }
 
-int32_t pcapfile_next(pcapfile_reader *reader, pcapfile_any_packet *packet, pcapfile_error *error) {
-    int32_t status = pass_refused(reader, error);
-    while (status == PCAPFILE_OK && (status = take(reader, packet, error)) != PCAPFILE_OK)
+int32_t pcapfile_next_batch(pcapfile_reader *reader, pcapfile_any_packet *packets, size_t room, size_t *taken,
+                            pcapfile_error *error) {
+    pcapfile_error why = PCAPFILE_ERROR_INIT;
+    int32_t status = room > 0 ? pass_refused(reader, error) : PCAPFILE_OK;
+    *taken = 0;
+    while (status == PCAPFILE_OK && *taken < room) {
+        status = take(reader, packets, room, taken, &why);
+        if (*taken > 0) return PCAPFILE_OK; /* what comes behind them is told by the next call */
+        *error = why;
         status = provide(reader, status, error);
+    }
     return status;
 }
 
-int32_t pcapfile_next_batch(pcapfile_reader *reader, pcapfile_any_packet *packets, size_t room, size_t *taken,
-                            pcapfile_error *error) {
-    pcapfile_error later = PCAPFILE_ERROR_INIT;
-    int32_t status = room > 0 ? pcapfile_next(reader, packets, error) : PCAPFILE_OK;
-    *taken = room > 0 && status == PCAPFILE_OK;
-    while (*taken > 0 && *taken < room && take(reader, packets + *taken, &later) == PCAPFILE_OK) ++*taken;
-    return status;
+int32_t pcapfile_next(pcapfile_reader *reader, pcapfile_any_packet *packet, pcapfile_error *error) {
+    size_t taken;
+    return pcapfile_next_batch(reader, packet, 1, &taken, error);
 }

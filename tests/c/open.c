@@ -5,6 +5,7 @@
  *   open -b BATCH FILE     the same by batches
  *   open -r BYTES FILE     the same with reads of at most so many bytes
  *   open -p FILE           the same of standard input
+ *   open -q                counts the packets of standard input, and tells how many KiB were resident at most
  *   open -m LEN FILE       whether a limit one byte below the first packet's LEN is told, and the list goes on under LEN
  *   open -x FILE           each read and each allocation fails in turn, and is made again: the lines stay the same
  */
@@ -159,10 +160,34 @@ static int list_reader(pcapfile_reader *reader) {
     return status;
 }
 
+/* The most KiB that were resident, as the system tells. */
+static unsigned long resident(void) {
+    char line[256];
+    unsigned long most = 0;
+    FILE *in = fopen("/proc/self/status", "r");
+    while (in && fgets(line, sizeof line, in))
+        if (!strncmp(line, "VmHWM:", 6)) most = strtoul(line + 6, NULL, 10);
+    if (in) fclose(in);
+    return most;
+}
+
+static int count_packets(pcapfile_reader *reader) {
+    pcapfile_any_packet packet = PCAPFILE_ANY_PACKET_INIT;
+    pcapfile_error error = PCAPFILE_ERROR_INIT;
+    unsigned long count = 0;
+    int32_t status;
+    if (!reader) return NO_MEMORY;
+    while ((status = pcapfile_next(reader, &packet, &error)) == PCAPFILE_OK) count++;
+    pcapfile_close(reader);
+    printf("%lu %lu\n", count, resident());
+    return status_of(status);
+}
+
 int main(int argc, char **argv) {
     const char *way = argc > 1 && argv[1][0] == '-' ? argv[1] : "", *file = argv[argc - 1];
     if (argc < 2) return USAGE;
     if (!strcmp(way, "-p")) return list_reader(pcapfile_fdopen(0));
+    if (!strcmp(way, "-q")) return count_packets(pcapfile_fdopen(0));
     if (!strcmp(way, "-x")) return fail_each(file);
     if (!strcmp(way, "-m") && argc == 4) return stops_at_the_limit(file, strtoul(argv[2], NULL, 10));
     if (!strcmp(way, "-b") && argc == 4) batch = strtoul(argv[2], NULL, 10);
