@@ -1,5 +1,6 @@
 //! The packets of a capture of either format that comes out of a stream, as `tests/c/open.c` prints them. `stream FILE`: by reads
-//! of any length, and a line `refused` for a packet that is refused, behind which it goes on where it can. `stream -r BYTES FILE`: by reads of at most so many bytes.
+//! of any length, and a line `refused` for a packet that is refused, behind which it goes on where it can. `stream -r BYTES FILE`: by
+//! reads of at most so many bytes. `stream -b FILE`: by as many packets at once as were read.
 
 use pcapfile::{AnyPacket, Error, Reader};
 use std::fs::File;
@@ -39,14 +40,24 @@ fn status_of(error: &io::Error) -> u8 {
     }
 }
 
-fn list(stream: impl Read) -> u8 {
+/// Prints the next packet, or those that were read, and tells how many.
+fn print_next(reader: &mut Reader<impl Read>, in_batches: bool) -> io::Result<usize> {
+    if !in_batches {
+        return Ok(reader.next_packet()?.map(|packet| print(&packet)).into_iter().count());
+    }
+    let packets = reader.next_packets()?;
+    let count = packets.len();
+    packets.for_each(|packet| print(&packet));
+    Ok(count)
+}
+
+fn list(stream: impl Read, in_batches: bool) -> u8 {
     let mut reader = Reader::new(stream);
     let mut refused = None;
     loop {
-        let printed = reader.next_packet().map(|packet| packet.map(|packet| print(&packet)));
-        match printed {
-            Ok(Some(())) => {}
-            Ok(None) => return 0,
+        match print_next(&mut reader, in_batches) {
+            Ok(0) => return 0,
+            Ok(_) => {}
             Err(error) if refused == Some(reader.offset()) => return status_of(&error),
             Err(_) => {
                 refused = Some(reader.offset());
@@ -59,8 +70,9 @@ fn list(stream: impl Read) -> u8 {
 fn main() -> ExitCode {
     let words: Vec<_> = std::env::args().skip(1).collect();
     let most = if words.len() == 3 { words[1].parse().unwrap_or(1) } else { usize::MAX };
+    let in_batches = words.first().is_some_and(|word| word == "-b");
     match words.last().map(File::open) {
-        Some(Ok(stream)) => ExitCode::from(list(Few { stream, most, is_interrupted: false })),
+        Some(Ok(stream)) => ExitCode::from(list(Few { stream, most, is_interrupted: false }, in_batches)),
         _ => ExitCode::from(4),
     }
 }

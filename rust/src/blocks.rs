@@ -73,7 +73,35 @@ pub struct BlockPacket<'a> {
     pub data: &'a [u8],
 }
 
+/// An option of a block as it stands; its value lies in the capture.
+#[derive(Clone, Copy, Debug, PartialEq, Eq)]
+pub struct BlockOption<'a> {
+    /// Its code, above 0, which the type of its block gives a meaning.
+    pub code: u16,
+    /// Its value, without padding.
+    pub value: &'a [u8],
+}
+
+/// An address of a name resolution block, and its names.
+#[derive(Clone, Copy, Debug, PartialEq, Eq)]
+pub struct NameRecord<'a> {
+    /// 1 of an IPv4 address, 2 of an IPv6 address, or another number.
+    pub type_: u16,
+    /// Of 4 or 16 bytes; of another type the whole value.
+    pub address: &'a [u8],
+    names: &'a [u8],
+}
+
 const NOTHING: i32 = 8;
+
+/// The bytes that the library lends of these.
+fn lent<'a>(of: &'a [u8], bytes: calls::Bytes) -> &'a [u8] {
+    if bytes.len == 0 {
+        return &[];
+    }
+    let at = bytes.ptr as usize - of.as_ptr() as usize;
+    &of[at..at + bytes.len]
+}
 
 impl Interface {
     /// An interface whose times are nanoseconds since 1970.
@@ -119,13 +147,119 @@ impl<'a> Block<'a> {
         }
     }
 
+    /// Its options, as an iterator, of which a refusal is the last item. None of a block whose type has no options.
+    pub fn options(&self) -> Result<Options<'a>, Error> {
+        let (mut left, mut error) = (calls::Bytes::of(b""), calls::Error::default());
+        // SAFETY: each pointer is that of a value of its own, and the body is a slice's.
+        match unsafe { calls::pcapfile_options(&self.section, &self.raw(), &mut left, &mut error) } {
+            0 => Ok(Options { section: self.section, left: lent(self.body, left) }),
+            NOTHING => Ok(Options { section: self.section, left: &[] }),
+            status => Err(Error::of(status, error)),
+        }
+    }
+
+    /// The addresses of a name resolution block, as an iterator, of which a refusal is the last item. None of another block.
+    pub fn records(&self) -> Records<'a> {
+        const NAMES: u32 = 4;
+        Records { section: self.section, left: self.body, is_done: self.type_ != NAMES }
+    }
+
     fn lent(&self, packet: &calls::NgPacket) -> BlockPacket<'a> {
-        let at = packet.bytes.ptr as usize - self.body.as_ptr() as usize;
         BlockPacket {
             interface_id: packet.interface_id,
             timestamp: packet.timestamp,
             original_len: packet.orig_len,
-            data: &self.body[at..at + packet.bytes.len],
+            data: lent(self.body, packet.bytes),
+        }
+    }
+}
+
+/// The options of a block.
+#[derive(Clone, Debug)]
+pub struct Options<'a> {
+    section: Section,
+    left: &'a [u8],
+}
+
+impl<'a> Iterator for Options<'a> {
+    type Item = Result<BlockOption<'a>, Error>;
+
+    fn next(&mut self) -> Option<Self::Item> {
+        let (mut left, mut error) = (calls::Bytes::of(self.left), calls::Error::default());
+        let mut option = calls::BlockOption { code: 0, value: calls::Bytes::of(b"") };
+        // SAFETY: each pointer is that of a value of its own, and `left` is a slice's.
+        let status = unsafe { calls::pcapfile_take_option(&self.section, &mut left, &mut option, &mut error) };
+        let bytes = core::mem::take(&mut self.left);
+        match status {
+            0 => {
+                self.left = lent(bytes, left);
+                Some(Ok(BlockOption { code: option.code, value: lent(bytes, option.value) }))
+            }
+            NOTHING => None,
+            status => Some(Err(Error::of(status, error))),
+        }
+    }
+}
+
+/// The addresses of a name resolution block.
+#[derive(Clone, Debug)]
+pub struct Records<'a> {
+    section: Section,
+    left: &'a [u8],
+    is_done: bool,
+}
+
+impl<'a> Iterator for Records<'a> {
+    type Item = Result<NameRecord<'a>, Error>;
+
+    fn next(&mut self) -> Option<Self::Item> {
+        if self.is_done {
+            return None;
+        }
+        let (bytes, none) = (self.left, calls::Bytes::of(b""));
+        let (mut left, mut error) = (calls::Bytes::of(bytes), calls::Error::default());
+        let mut record = calls::Record { type_: 0, address: none, names: none };
+        // SAFETY: each pointer is that of a value of its own, and `left` is a slice's.
+        let status = unsafe { calls::pcapfile_take_record(&self.section, &mut left, &mut record, &mut error) };
+        self.is_done = status != 0;
+        match status {
+            0 => {
+                self.left = lent(bytes, left);
+                let (address, names) = (lent(bytes, record.address), lent(bytes, record.names));
+                Some(Ok(NameRecord { type_: record.type_, address, names }))
+            }
+            NOTHING => None,
+            status => Some(Err(Error::of(status, error))),
+        }
+    }
+}
+
+impl<'a> NameRecord<'a> {
+    /// Its names.
+    pub fn names(&self) -> Names<'a> {
+        Names { left: self.names }
+    }
+}
+
+/// The names of an address.
+#[derive(Clone, Debug)]
+pub struct Names<'a> {
+    left: &'a [u8],
+}
+
+impl<'a> Iterator for Names<'a> {
+    type Item = &'a str;
+
+    fn next(&mut self) -> Option<&'a str> {
+        let (bytes, mut left) = (self.left, calls::Bytes::of(self.left));
+        let (mut name, mut error) = (calls::Bytes::of(b""), calls::Error::default());
+        // SAFETY: each pointer is that of a value of its own, and `left` is a slice's.
+        match unsafe { calls::pcapfile_take_name(&mut left, &mut name, &mut error) } {
+            0 => {
+                self.left = lent(bytes, left);
+                core::str::from_utf8(lent(bytes, name)).ok()
+            }
+            _ => None,
         }
     }
 }

@@ -43,6 +43,44 @@ pub struct NgPacket {
 }
 
 #[repr(C)]
+#[derive(Clone, Copy)]
+pub struct BlockOption {
+    pub code: u16,
+    pub value: Bytes,
+}
+
+#[repr(C)]
+#[derive(Clone, Copy)]
+pub struct Record {
+    pub type_: u16,
+    pub address: Bytes,
+    pub names: Bytes,
+}
+
+#[cfg(feature = "std")]
+#[repr(C)]
+#[derive(Clone, Copy)]
+pub struct AnyPacket {
+    pub link: u32,
+    pub interface_id: u32,
+    pub has_interface: u8,
+    pub has_time: u8,
+    pub orig_len: u32,
+    pub time: crate::Time,
+    pub bytes: Bytes,
+}
+
+/// What of a room is held, and of a classic capture its header.
+#[cfg(feature = "std")]
+#[repr(C)]
+#[derive(Clone, Copy, Default)]
+pub struct Push {
+    pub header: crate::Header,
+    pub begin: usize,
+    pub end: usize,
+}
+
+#[repr(C)]
 #[derive(Clone, Copy, Default)]
 pub struct Error {
     pub rule: u32,
@@ -116,6 +154,57 @@ extern "C" {
         section: *const crate::Section,
         block: *const Block,
         packet: *mut NgPacket,
+        error: *mut Error,
+    ) -> i32;
+    pub fn pcapfile_options(
+        section: *const crate::Section,
+        block: *const Block,
+        options: *mut Bytes,
+        error: *mut Error,
+    ) -> i32;
+    pub fn pcapfile_take_option(
+        section: *const crate::Section,
+        left: *mut Bytes,
+        option: *mut BlockOption,
+        error: *mut Error,
+    ) -> i32;
+    pub fn pcapfile_take_record(
+        section: *const crate::Section,
+        left: *mut Bytes,
+        record: *mut Record,
+        error: *mut Error,
+    ) -> i32;
+    pub fn pcapfile_take_name(left: *mut Bytes, name: *mut Bytes, error: *mut Error) -> i32;
+    #[cfg(feature = "std")]
+    pub fn pcapfile_push_packets(
+        push: *mut Push,
+        room: *const u8,
+        room_len: usize,
+        packets: *mut Packet,
+        packets_len: usize,
+        taken: *mut usize,
+        error: *mut Error,
+    ) -> i32;
+    #[cfg(feature = "std")]
+    pub fn pcapfile_push_ng_packets(
+        push: *mut Push,
+        section: *mut crate::Section,
+        room: *const u8,
+        room_len: usize,
+        interfaces: *mut crate::Interface,
+        interfaces_len: usize,
+        packets: *mut AnyPacket,
+        packets_len: usize,
+        taken: *mut usize,
+        error: *mut Error,
+    ) -> i32;
+    #[cfg(feature = "std")]
+    pub fn pcapfile_push_block(
+        push: *mut Push,
+        section: *mut crate::Section,
+        room: *const u8,
+        room_len: usize,
+        block: *mut Block,
         error: *mut Error,
     ) -> i32;
     pub fn pcapfile_time_of(interface: *const crate::Interface, timestamp: u64, time: *mut crate::Time) -> i32;

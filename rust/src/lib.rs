@@ -23,9 +23,9 @@ mod reader;
 #[cfg(feature = "std")]
 mod writer;
 
-pub use blocks::{Block, BlockPacket, Blocks, Interface, Section, Time};
+pub use blocks::{Block, BlockOption, BlockPacket, Blocks, Interface, NameRecord, Names, Options, Records, Section, Time};
 #[cfg(feature = "std")]
-pub use reader::{AnyPacket, Reader};
+pub use reader::{AnyPacket, Packets, Reader};
 pub use rules::Rule;
 #[cfg(feature = "std")]
 pub use writer::{BlockWriter, Writer};

@@ -1,14 +1,19 @@
 //! Captures that come out of streams.
 
-use crate::{Block, Blocks, Capture, Error, Header, Interface, Section, Time};
-use core::ops::Range;
+use crate::calls;
+use crate::{Error, Header, Interface, Section, Time};
 use std::io::{self, Read};
 use std::vec::Vec;
 
 /// How many bytes of a stream are asked for at once, unless a packet needs more.
 const CHUNK: usize = 1 << 18;
+/// How many packets one call of the library takes at most.
+const BATCH: usize = 64;
 const SECTION: [u8; 4] = [0x0a, 0x0d, 0x0d, 0x0a];
-const SIMPLE_PACKET: u32 = 3;
+const OK: i32 = 0;
+const INCOMPLETE: i32 = 1;
+const NO_MEMORY: i32 = 6;
+const NO_PLACE: i32 = 11;
 
 /// A packet of a capture of either format.
 #[derive(Clone, Copy, Debug, PartialEq, Eq)]
@@ -26,42 +31,49 @@ pub struct AnyPacket<'a> {
     pub data: &'a [u8],
 }
 
-/// A packet that was found, and where its bytes lie among those that are held.
-struct Found {
-    link: Option<u32>,
-    interface_id: u32,
-    time: Option<Time>,
-    original_len: u32,
-    data: Range<usize>,
-}
-
-/// A packet, or none where it is something else that is good, or why it is refused although it is known where it ends.
-type Taken = Result<Option<Found>, Error>;
-
-/// What a capture has shown of its format so far.
-enum Format {
-    Unknown,
-    Packets(Header),
-    Blocks(Section, Vec<Interface>),
-}
-
 /// Reads packets of a capture of either format out of a stream, into room that grows to what one packet or block needs. It asks
 /// for more than a packet at once, so the stream needs no buffer of its own.
 pub struct Reader<R> {
     stream: R,
     room: Vec<u8>,
-    held: Range<usize>,
+    /// What of the room is held, and of a classic capture its header, whose magic number is 0 until it came.
+    push: calls::Push,
+    /// Of a PcapNg capture, likewise.
+    section: Section,
+    interfaces: Vec<Interface>,
     /// How many bytes of the capture came before the room's first.
     gone: u64,
-    /// Of what is held so many bytes are a refused packet, which the next call passes over.
-    refused: usize,
-    format: Format,
+    /// What stands at the front of what is held was refused.
+    has_refused: bool,
+    /// What the last call took of a classic capture, and of a PcapNg one.
+    packets: Vec<calls::Packet>,
+    ng_packets: Vec<calls::AnyPacket>,
 }
+
+// SAFETY: the pointers in it are those of its own room, and are read only while that is lent.
+unsafe impl<R: Send> Send for Reader<R> {}
+// SAFETY: nothing reads them behind a shared reference.
+unsafe impl<R: Sync> Sync for Reader<R> {}
 
 impl<R: Read> Reader<R> {
     /// A reader of the capture that the stream gives, from its first byte on. Nothing is read yet.
     pub fn new(stream: R) -> Reader<R> {
-        Reader { stream, room: Vec::new(), held: 0..0, gone: 0, refused: 0, format: Format::Unknown }
+        let bytes = calls::Bytes::of(b"");
+        let none = calls::Packet { ts_sec: 0, ts_nsec: 0, orig_len: 0, bytes };
+        let time = Time::default();
+        let none_of_any =
+            calls::AnyPacket { link: 0, interface_id: 0, has_interface: 0, has_time: 0, orig_len: 0, time, bytes };
+        Reader {
+            stream,
+            room: Vec::new(),
+            push: calls::Push::default(),
+            section: Section::default(),
+            interfaces: Vec::new(),
+            gone: 0,
+            has_refused: false,
+            packets: std::vec![none; BATCH],
+            ng_packets: std::vec![none_of_any; BATCH],
+        }
     }
 
     /// The next packet; blocks of other kinds are passed over. None behind the last.
@@ -71,53 +83,33 @@ impl<R: Read> Reader<R> {
     /// A call after an error goes on where the stream does, and behind a packet of PcapNg whose body is refused; else it says
     /// the error again.
     pub fn next_packet(&mut self) -> io::Result<Option<AnyPacket<'_>>> {
-        let found = loop {
-            match self.take() {
-                Ok(Some(found)) => break found,
-                Ok(None) => {}
-                Err(Error::Incomplete(missing)) => {
-                    if self.read_more(missing)? > 0 {
-                        continue;
-                    }
-                    if self.held.is_empty() && !matches!(self.format, Format::Unknown) {
-                        return Ok(None);
-                    }
-                    return Err(io::Error::new(io::ErrorKind::UnexpectedEof, Error::Incomplete(missing)));
-                }
-                Err(error) => return Err(io::Error::new(io::ErrorKind::InvalidData, error)),
-            }
-        };
-        let Found { link, interface_id, time, original_len, data } = found;
-        Ok(Some(AnyPacket { link, interface_id, time, original_len, data: &self.room[data] }))
+        Ok(self.take_some(1)?.next())
+    }
+
+    /// As `next_packet`, for as many packets as are whole in what was read so far, 64 at most and at least one: all are lent
+    /// together. None behind the last. A refusal behind some of them is told by the next call.
+    pub fn next_packets(&mut self) -> io::Result<Packets<'_>> {
+        self.take_some(BATCH)
     }
 
     /// How many bytes of the capture lie before what the next call looks at; after a refusal, where the refused item begins.
     pub fn offset(&self) -> u64 {
-        self.gone + self.held.start as u64
+        self.gone + self.push.begin as u64
     }
 
     /// The header of a classic capture, once its first packet was asked for.
     pub fn header(&self) -> Option<&Header> {
-        match &self.format {
-            Format::Packets(header) => Some(header),
-            _ => None,
-        }
+        (self.push.header.magic_number != 0).then_some(&self.push.header)
     }
 
     /// What is in force in a PcapNg capture behind the packets that were given, once the first was asked for.
     pub fn section(&self) -> Option<&Section> {
-        match &self.format {
-            Format::Blocks(section, _) => Some(section),
-            _ => None,
-        }
+        (self.section.magic_number != 0).then_some(&self.section)
     }
 
     /// The interfaces of the section in force, by their numbers; none in a classic capture.
     pub fn interfaces(&self) -> &[Interface] {
-        match &self.format {
-            Format::Blocks(_, interfaces) => interfaces,
-            _ => &[],
-        }
+        &self.interfaces[..self.section.interfaces as usize]
     }
 
     /// The stream. Bytes behind the packets that were given may have been read from it.
@@ -125,12 +117,115 @@ impl<R: Read> Reader<R> {
         &self.stream
     }
 
+    fn has_begun(&self) -> bool {
+        self.header().is_some() || self.section().is_some()
+    }
+
+    /// Whether the capture is PcapNg: what is in force says so, or before that its first bytes.
+    fn is_ng(&self) -> bool {
+        if self.has_begun() {
+            return self.section().is_some();
+        }
+        self.room[self.push.begin..self.push.end].starts_with(&SECTION)
+    }
+
+    /// Takes so many packets at most, and reads until there is one.
+    fn take_some(&mut self, most: usize) -> io::Result<Packets<'_>> {
+        self.pass_refused()?;
+        let taken = loop {
+            let mut error = calls::Error::default();
+            let (status, taken) = self.take(most, &mut error);
+            match status {
+                _ if taken > 0 => break taken,
+                INCOMPLETE => {
+                    if self.read_more(error.missing)? > 0 {
+                        continue;
+                    }
+                    if self.push.begin == self.push.end && self.has_begun() {
+                        break 0;
+                    }
+                    return Err(io::Error::new(io::ErrorKind::UnexpectedEof, Error::of(status, error)));
+                }
+                NO_PLACE => self.interfaces.resize(self.interfaces.len() * 2 + 1, Interface::default()),
+                _ => {
+                    self.has_refused = status != NO_MEMORY;
+                    return Err(io::Error::new(io::ErrorKind::InvalidData, Error::of(status, error)));
+                }
+            }
+        };
+        let is_ng = self.is_ng();
+        Ok(Packets {
+            room: &self.room,
+            link: self.push.header.link,
+            packets: if is_ng { [].iter() } else { self.packets[..taken].iter() },
+            ng_packets: if is_ng { self.ng_packets[..taken].iter() } else { [].iter() },
+        })
+    }
+
+    /// Passes over a packet whose body the last call refused; what else was refused is refused again.
+    fn pass_refused(&mut self) -> io::Result<()> {
+        if !self.has_refused || !self.is_ng() {
+            return Ok(());
+        }
+        let mut block = calls::Block { type_: 0, body: calls::Bytes::of(b"") };
+        let (mut error, room) = (calls::Error::default(), &self.room);
+        // SAFETY: each pointer is that of a value of its own, and the room is a slice's.
+        let status = unsafe {
+            calls::pcapfile_push_block(
+                &mut self.push,
+                &mut self.section,
+                room.as_ptr(),
+                room.len(),
+                &mut block,
+                &mut error,
+            )
+        };
+        self.has_refused = status != OK;
+        match status {
+            OK => Ok(()),
+            _ => Err(io::Error::new(io::ErrorKind::InvalidData, Error::of(status, error))),
+        }
+    }
+
+    /// Takes so many packets at most of what is held, and tells how many, and why they are no more.
+    fn take(&mut self, most: usize, error: &mut calls::Error) -> (i32, usize) {
+        let (mut taken, is_ng, room) = (0, self.is_ng(), &self.room);
+        // SAFETY: each pointer is that of a value of its own, and the room and the arrays are slices', `most` places of them.
+        let status = unsafe {
+            if is_ng {
+                calls::pcapfile_push_ng_packets(
+                    &mut self.push,
+                    &mut self.section,
+                    room.as_ptr(),
+                    room.len(),
+                    self.interfaces.as_mut_ptr(),
+                    self.interfaces.len(),
+                    self.ng_packets[..most].as_mut_ptr(),
+                    most,
+                    &mut taken,
+                    error,
+                )
+            } else {
+                calls::pcapfile_push_packets(
+                    &mut self.push,
+                    room.as_ptr(),
+                    room.len(),
+                    self.packets[..most].as_mut_ptr(),
+                    most,
+                    &mut taken,
+                    error,
+                )
+            }
+        };
+        (status, taken)
+    }
+
     /// Reads once behind what is held, which moves to the front of the room before. How many bytes came.
     fn read_more(&mut self, missing: usize) -> io::Result<usize> {
-        let len = self.held.len();
-        self.gone += self.held.start as u64;
-        self.room.copy_within(self.held.clone(), 0);
-        self.held = 0..len;
+        let len = self.push.end - self.push.begin;
+        self.gone += self.push.begin as u64;
+        self.room.copy_within(self.push.begin..self.push.end, 0);
+        (self.push.begin, self.push.end) = (0, len);
         // Twice what is held at most, so that a broken length doesn't take memory for bytes that never come.
         let wanted = len + missing.min(len).max(CHUNK);
         if self.room.len() < wanted {
@@ -143,108 +238,63 @@ impl<R: Read> Reader<R> {
                 read => break read?,
             }
         };
-        self.held.end += count;
+        self.push.end += count;
         Ok(count)
     }
+}
 
-    /// Takes the header, packet or block at the front of what is held. None where it is no packet.
-    fn take(&mut self) -> Result<Option<Found>, Error> {
-        self.held.start += core::mem::take(&mut self.refused);
-        let Reader { room, held, format, .. } = self;
-        let bytes = &room[held.clone()];
-        let (left, found) = match format {
-            Format::Unknown if bytes.starts_with(&SECTION) => {
-                let mut interfaces = Vec::new();
-                let (section, left, found) = take_block(Section::default(), &mut interfaces, bytes, held.start)?;
-                *format = Format::Blocks(section, interfaces);
-                (left, found)
-            }
-            Format::Unknown => {
-                let capture = Capture::parse(bytes)?;
-                *format = Format::Packets(*capture.header());
-                (capture.rest().len(), Ok(None))
-            }
-            Format::Packets(header) => take_packet(header, bytes, held.start)?,
-            Format::Blocks(section, interfaces) => {
-                let (after, left, found) = take_block(*section, interfaces, bytes, held.start)?;
-                *section = after;
-                (left, found)
-            }
-        };
-        match found {
-            Ok(_) => held.start = held.end - left,
-            Err(_) => self.refused = bytes.len() - left,
+/// Packets of a capture, which are lent together.
+pub struct Packets<'a> {
+    room: &'a [u8],
+    link: u32,
+    packets: core::slice::Iter<'a, calls::Packet>,
+    ng_packets: core::slice::Iter<'a, calls::AnyPacket>,
+}
+
+impl<'a> Packets<'a> {
+    /// The bytes that the library lends of the room.
+    fn lent(&self, bytes: calls::Bytes) -> &'a [u8] {
+        if bytes.len == 0 {
+            return &[];
         }
-        found
+        let at = bytes.ptr as usize - self.room.as_ptr() as usize;
+        &self.room[at..at + bytes.len]
+    }
+
+    fn next_ng(&mut self) -> Option<AnyPacket<'a>> {
+        let packet = self.ng_packets.next()?;
+        Some(AnyPacket {
+            link: (packet.has_interface != 0).then_some(packet.link),
+            interface_id: packet.interface_id,
+            time: (packet.has_time != 0).then_some(packet.time),
+            original_len: packet.orig_len,
+            data: self.lent(packet.bytes),
+        })
+    }
+
+    fn next_classic(&mut self) -> Option<AnyPacket<'a>> {
+        let packet = self.packets.next()?;
+        Some(AnyPacket {
+            link: Some(self.link),
+            interface_id: 0,
+            time: Some(Time { seconds: packet.ts_sec.into(), nanoseconds: packet.ts_nsec }),
+            original_len: packet.orig_len,
+            data: self.lent(packet.bytes),
+        })
     }
 }
 
-/// How many bytes are left behind a packet, and the packet.
-fn take_packet(header: &Header, bytes: &[u8], at: usize) -> Result<(usize, Taken), Error> {
-    let mut capture = Capture::at(*header, bytes);
-    let packet = Capture::take(&mut capture)?;
-    let left = capture.rest().len();
-    let end = at + bytes.len() - left;
-    let time = Time { seconds: packet.seconds.into(), nanoseconds: packet.nanoseconds };
-    let found = Found {
-        link: Some(header.link),
-        interface_id: 0,
-        time: Some(time),
-        original_len: packet.original_len,
-        data: end - packet.data.len()..end,
-    };
-    Ok((left, Ok(Some(found))))
+impl<'a> Iterator for Packets<'a> {
+    type Item = AnyPacket<'a>;
+
+    fn next(&mut self) -> Option<AnyPacket<'a>> {
+        self.next_ng().or_else(|| self.next_classic())
+    }
+
+    fn size_hint(&self) -> (usize, Option<usize>) {
+        let len = self.ng_packets.len() + self.packets.len();
+        (len, Some(len))
+    }
 }
 
-/// What is in force behind a block, how many bytes are left there, and the packet that it is, or why its body is refused. Of an
-/// interface what is needed is kept.
-fn take_block(
-    section: Section,
-    interfaces: &mut Vec<Interface>,
-    bytes: &[u8],
-    at: usize,
-) -> Result<(Section, usize, Taken), Error> {
-    let mut blocks = Blocks::at(section, bytes);
-    let block = Blocks::take(&mut blocks)?;
-    let after = *blocks.section();
-    let found = match block.type_ {
-        1 => {
-            interfaces.extend(block.interface()?);
-            Ok(None)
-        }
-        2 | SIMPLE_PACKET | 6 => found_in(&block, interfaces, bytes, at),
-        _ => Ok(None),
-    };
-    if let Err(Error::NoMemory) = found {
-        return Err(Error::NoMemory);
-    }
-    if after.interfaces == 0 {
-        interfaces.clear();
-    }
-    Ok((after, blocks.rest().len(), found))
-}
-
-fn found_in(
-    block: &Block<'_>,
-    interfaces: &[Interface],
-    bytes: &[u8],
-    at: usize,
-) -> Taken {
-    let Some(packet) = block.packet()? else { return Ok(None) };
-    let interface = interfaces.get(packet.interface_id as usize);
-    let is_simple = block.type_ == SIMPLE_PACKET;
-    let begin = at + (packet.data.as_ptr() as usize - bytes.as_ptr() as usize);
-    let mut len = packet.data.len();
-    if is_simple {
-        let snaplen = interfaces.first().map_or(0, |it| it.snaplen);
-        let most = if snaplen == 0 { packet.original_len } else { packet.original_len.min(snaplen) };
-        len = len.min(most as usize);
-    }
-    Ok(Some(Found {
-        link: interface.map(|it| it.link),
-        interface_id: packet.interface_id,
-        time: interface.filter(|_| !is_simple).and_then(|it| it.time(packet.timestamp)),
-        original_len: packet.original_len,
-        data: begin..begin + len,
-    }))
-}
+impl ExactSizeIterator for Packets<'_> {}
