@@ -14,6 +14,7 @@ from ._blocks import BlockCapture, BlockPacket, Interface
 from ._capture import Capture, Header, Packet
 from ._errors import CaptureError, Incomplete, Invalid
 from ._open import open, parse
+from ._options import Block, NameRecord, Option
 from ._parts import Part, parts
 from ._rules import Rule
 from ._writer import Unwritable, Writer
@@ -21,6 +22,7 @@ from ._writer import Unwritable, Writer
 __version__ = "0.2.0"
 
 __all__ = [
+    "Block",
     "BlockCapture",
     "BlockPacket",
     "Capture",
@@ -30,6 +32,8 @@ __all__ = [
     "Incomplete",
     "Interface",
     "Invalid",
+    "NameRecord",
+    "Option",
     "Packet",
     "PacketAsIs",
     "Part",

@@ -7,6 +7,7 @@ from typing import Any, Dict, Iterator, List, NamedTuple, Optional, Tuple
 from . import _columns, _library
 from ._capture import BATCH, Packets, Take, make
 from ._errors import CaptureError, error_of
+from ._options import Block
 from ._source import Memory, Source, Stretch, Window
 
 
@@ -127,6 +128,13 @@ class Walk:
         self.window.offset  # raises where the capture is closed
         return _library.take_block(self.section, self.window.left, self.block, self.error)
 
+    def shown(self) -> Block:
+        """The block that was taken last."""
+        window, length = self.window, self.block.body.len
+        end = len(window.data) - window.left.len - 4
+        body = window.data[end - length : end]
+        return Block(self.block.type, body, window.base + end - length, self.section.magic_number)
+
     def _keep(self, number: int) -> None:
         shown = _library.Interface()
         if _library.read_interface(self.section, self.block, shown, self.error) == _library.OK:
@@ -197,9 +205,12 @@ class BlockCapture(Packets):
         super().__init__(source, stretch)
         self._first = Walk(source.window())
         self._first.take()
+        # The first block of a stream, until something of it is asked for.
+        self._head: Optional[Block] = self._first.shown()
 
     def _walk(self, lends: bool = True) -> Walk:
-        source, stretch = self._source, self._stretch
+        """A walk over all of it, or over what a stream has not given yet; or over the stretch, behind what is in force there."""
+        source, stretch, self._head = self._source, self._stretch, None
         if not isinstance(source, Memory):
             return self._first
         bytes_between = source.between if lends else source.read
@@ -233,6 +244,16 @@ class BlockCapture(Packets):
                 at -= start
                 lent = data[at : at + length]
                 yield make(BlockPacket, (seconds, nanoseconds, original, lent, units, number, interface, base + at))
+
+    def blocks(self) -> Iterator[Block]:
+        """All blocks, those of packets among them, with their bodies as they stand. Where the capture is refused, the blocks before
+        that come first."""
+        head, walk = self._head, self._walk()
+        if head is not None and walk is self._first:
+            yield head
+        while walk.window.left.len > 0 or walk.window.more(1):
+            walk.take()
+            yield walk.shown()
 
     def _stretches(self, count: int) -> List[Stretch]:
         window, cuts, error = self._source.window(), (_library.NgCut * count)(), _library.Error()

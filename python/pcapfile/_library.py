@@ -91,6 +91,14 @@ class PacketAsIs(ctypes.Structure):
     ]
 
 
+class Option(ctypes.Structure):
+    _fields_ = [("code", ctypes.c_uint16), ("value", Bytes)]
+
+
+class Record(ctypes.Structure):
+    _fields_ = [("type", ctypes.c_uint16), ("address", Bytes), ("names", Bytes)]
+
+
 class Error(ctypes.Structure):
     _fields_ = [("rule", ctypes.c_uint32), ("missing", ctypes.c_size_t)]
 
@@ -138,6 +146,22 @@ read_interface.restype = ctypes.c_int32
 read_packet = _library.pcapfile_read_packet
 read_packet.argtypes = [_to(Section), _to(Block), _to(NgPacket), _to(Error)]
 read_packet.restype = ctypes.c_int32
+
+options = _library.pcapfile_options
+options.argtypes = [_to(Section), _to(Block), _to(Bytes), _to(Error)]
+options.restype = ctypes.c_int32
+
+take_option = _library.pcapfile_take_option
+take_option.argtypes = [_to(Section), _to(Bytes), _to(Option), _to(Error)]
+take_option.restype = ctypes.c_int32
+
+take_record = _library.pcapfile_take_record
+take_record.argtypes = [_to(Section), _to(Bytes), _to(Record), _to(Error)]
+take_record.restype = ctypes.c_int32
+
+take_name = _library.pcapfile_take_name
+take_name.argtypes = [_to(Bytes), _to(Bytes), _to(Error)]
+take_name.restype = ctypes.c_int32
 
 take_ng_packets = _library.pcapfile_take_ng_packets
 take_ng_packets.argtypes = [
