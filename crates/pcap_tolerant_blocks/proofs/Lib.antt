@@ -1,0 +1,4 @@
+mod Lists
+mod StrictLists
+mod StrictBodies
+mod Bodies

@@ -1,0 +1,75 @@
+-- Options that are read one behind the other, as they stand.
+use Rattle.std.proofs.Common.{◌≡◌, ◌≢◌, ◌<◌, ℕ, List, [], ◌∷◌, ◌++◌, length, map, Option, Some, None, Result, Ok, Err, IfErr, refl, sym, ap, subst, ◌∙◌, arith, append_assoc}
+use Rattle.std.proofs.lemmas.List.{append-nil, map-append}
+use Rattle.pcap_core.specs.Answer.{Order}
+use Rattle.pcap_core.specs.Faults.{Fault}
+use Rattle.pcap_core.specs.Padded.{Chain}
+use Rattle.pcap_core.proofs.Padded.{chain_more}
+use Rattle.pcap_blocks.specs.Values.{Entry, Kind}
+use Rattle.pcap_blocks.specs.Options.{may_end_with_body, OptionFault}
+use Rattle.pcap_blocks.proofs.OneList.{head_length}
+use Rattle.pcap_raw_options.specs.UpTo.{StopsAt, no_kind}
+use Rattle.pcap_tolerant_blocks.specs.declared.flaws.Flaw.{Flaw}
+use Rattle.pcap_tolerant_blocks.specs.Flaws.{Said, said_of}
+use Rattle.pcap_tolerant_blocks.specs.OptionsAsIs.{Judged, JudgedText, entry_in, cut_by, flaws_in, OptionsAsIs}
+
+-- what holds anyway holds where a call fails
+pub holds_on_err : {A E : Type 0} (P : Type 0) → P → (r : Result A E) → IfErr r (λ e. P)
+holds_on_err P p (Ok x) = tt
+holds_on_err P p (Err e) = p
+
+some_length : (s : List ℕ) → s ≢ [] → 0 < length s
+some_length [] some = absurd (some refl)
+some_length (b ∷ s) some = omega arith
+
+flaws_push : (each : List Judged) (option : Judged) → flaws_in (each ++ option ∷ []) [] ≡ flaws_in each [] ++ option.flaws
+flaws_push [] option = append-nil option.flaws
+flaws_push (first ∷ each) option = ap (λ (l : List Said). first.flaws ++ l) (flaws_push each option) ∙ sym (append_assoc first.flaws (flaws_in each []) option.flaws)
+
+flaws_last : (each : List Judged) (last : List Said) → flaws_in each last ≡ flaws_in each [] ++ last
+flaws_last [] last = refl
+flaws_last (first ∷ each) last = ap (λ (l : List Said). first.flaws ++ l) (flaws_last each last) ∙ sym (append_assoc first.flaws (flaws_in each []) last)
+
+-- these options were read of s, and left is to be read
+pub record ReadSoFar (order : Order) (kind : Kind) (options : List Entry) (flaws : List Said) (s left : List ℕ) : Type 0 where
+  pub each : List Judged
+  pub are : Chain (JudgedText order kind) each s left
+  pub options_are : options ≡ map entry_in each
+  pub flaws_are : flaws ≡ flaws_in each []
+
+module _ (order : Order) (kind : Kind) where
+  pub read_more : (options : List Entry) (flaws : List Said) (s left after : List ℕ) (option : Judged) → ReadSoFar order kind options flaws s left → JudgedText order kind option left after
+      → ReadSoFar order kind (options ++ option.entry ∷ []) (flaws ++ option.flaws) s after
+  read_more options flaws s left after option so_far is = record {
+    each = so_far.each ++ option ∷ [];
+    are = chain_more (JudgedText order kind) so_far.each s left after option so_far.are is;
+    options_are = ap (λ (l : List Entry). l ++ option.entry ∷ []) so_far.options_are ∙ sym (map-append entry_in so_far.each (option ∷ []));
+    flaws_are = ap (λ (l : List Said). l ++ option.flaws) so_far.flaws_are ∙ sym (flaws_push so_far.each option);
+  }
+
+  pub read_ends : (options : List Entry) (flaws : List Said) (s left rest : List ℕ) (cut : Option Fault) → ReadSoFar order kind options flaws s left
+      → StopsAt may_end_with_body order no_kind options cut left rest → OptionsAsIs order kind options (flaws ++ cut_by cut) s rest
+  read_ends options flaws s left rest cut so_far stops = record {
+    each = so_far.each;
+    cut = cut;
+    stop = left;
+    are = so_far.are;
+    stops = stops;
+    options_are = so_far.options_are;
+    flaws_are = ap (λ (l : List Said). l ++ cut_by cut) so_far.flaws_are ∙ sym (flaws_last so_far.each (cut_by cut));
+  }
+
+  -- a flaw that ends the list
+  pub read_cut : (options : List Entry) (flaws : List Flaw) (flaw : Flaw) (s left : List ℕ) (fault : Fault) → said_of flaw ≡ record { code = None; fault = fault } → ReadSoFar order kind options (map said_of flaws) s left → left ≢ []
+      → OptionFault order no_kind left fault → OptionsAsIs order kind options (map said_of (flaws ++ flaw ∷ [])) s left
+  read_cut options flaws flaw s left fault is so_far some stands =
+      let said : map said_of (flaws ++ flaw ∷ []) ≡ map said_of flaws ++ cut_by (Some fault) = map-append said_of flaws (flaw ∷ []) ∙ ap (λ (x : Said). map said_of flaws ++ x ∷ []) is in
+      subst (λ (l : List Said). OptionsAsIs order kind options l s left) (sym said) (read_ends options (map said_of flaws) s left left (Some fault) so_far (λ over. some, stands, refl))
+
+  some_items : (each : List Judged) (s left : List ℕ) → Chain (JudgedText order kind) each s left → left ≢ [] → 0 < length s
+  some_items [] s left are some = subst (λ (t : List ℕ). 0 < length t) (sym are) (some_length left some)
+  some_items (option ∷ each) s left are some = omega (arith, head_length order are.1.code (length are.1.v) s are.1.after_head are.1.head)
+
+  -- where bytes are left, there were some
+  pub some_read : (options : List Entry) (flaws : List Said) (s left : List ℕ) → ReadSoFar order kind options flaws s left → left ≢ [] → 0 < length s
+  some_read options flaws s left so_far some = some_items so_far.each s left so_far.are some

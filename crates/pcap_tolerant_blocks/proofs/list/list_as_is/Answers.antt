@@ -1,0 +1,25 @@
+use Rattle.std.proofs.Common.{◌<◌, length, map}
+use Rattle.std.proofs.lemmas.List.{map-append}
+use Rattle.pcap_blocks.proofs.ReadOptions.{not_empty}
+use Rattle.pcap_tolerant_blocks.specs.Flaws.{said_of}
+use Rattle.pcap_tolerant_blocks.specs.OptionsAsIs.{judged_of}
+use Rattle.pcap_tolerant_blocks.proofs.Lists.{holds_on_err, read_more, read_cut, some_read}
+use Rattle.pcap_tolerant_blocks.proofs.list.list_as_is.Goals as goal
+
+pub returns-in_err-push-in-Err-clause-memory : goal.returns-in_err-push-in-Err-clause-memory
+returns-in_err-push-in-Err-clause-memory g c =
+    holds_on_err (0 < length c.args.slice.now) (some_read g.B.ByteOrder.number_of g.O.ReadsValue.kind _ _ _ _ c.loop-left.invariant (not_empty _ c.loop-left-test.ensures)) c.from_residual.result
+
+pub returns-in-Err-clause-read : goal.returns-in-Err-clause-read
+returns-in-Err-clause-read g c =
+    rw c.in_ok-push-in-Err.ensures.items (read_cut g.B.ByteOrder.number_of g.O.ReadsValue.kind _ c.loop-left.flaws.items c.of_body.result _ _ _ c.of_body.ensures c.loop-left.invariant (not_empty _ c.loop-left-test.ensures) c.in-Err.ensures.tells)
+
+pub returns-in_err-keep-in-Some-clause-memory : goal.returns-in_err-keep-in-Some-clause-memory
+returns-in_err-keep-in-Some-clause-memory g c =
+    holds_on_err (0 < length c.args.slice.now) (some_read g.B.ByteOrder.number_of g.O.ReadsValue.kind _ _ _ _ c.loop-left.invariant (not_empty _ c.loop-left-test.ensures)) c.from_residual-in_err-keep-in-Some.result
+
+pub loop-left-preserved : goal.loop-left-preserved
+loop-left-preserved g c =
+    let view = g.O.ReadsValue.view in
+    let text = rw c.in-Some.is at c.in-Ok.ensures.tells in
+    rw (c.in_ok-keep-in-Some.ensures.options, map-append, c.in_ok-keep-in-Some.ensures.flaws) (read_more g.B.ByteOrder.number_of g.O.ReadsValue.kind (map view c.loop-left.options.items) (map said_of c.loop-left.flaws.items) c.args.slice.now c.loop-left.left.now c.in-Ok.read.0.now (judged_of view c.in-Some.read) c.loop-left.invariant text)

@@ -1,0 +1,50 @@
+-- What is wrong with a body, and what the strict reading says of the same bytes.
+use Rattle.std.specs.Prelude.{◌≡◌, ℕ, List, [], ◌∷◌, Option, Some, None, Result, Ok, Err}
+use Rattle.pcap_core.specs.Answer.{Verdict, whole, faulty}
+use Rattle.pcap_core.specs.Faults.{Fault, Invalid, Io, Utf8}
+use Rattle.pcap_core.specs.declared.rules.Rule.{Rule}
+use Rattle.pcap_blocks.specs.Values.{Value, Entry}
+use Rattle.pcap_tolerant_blocks.specs.declared.flaws.Broken.{Broken}
+use Rattle.pcap_tolerant_blocks.specs.declared.flaws.Broken.TheVariants as broken
+use Rattle.pcap_tolerant_blocks.specs.declared.flaws.Flaw.{Flaw}
+
+-- the fault for which the strict reading refuses
+abbrev pub fault_of : Broken → Fault
+fault_of (broken.Rule rule) = Invalid rule
+fault_of broken.TooShort = Io
+fault_of broken.NotUtf8 = Utf8
+
+-- a fault, and the code of the option whose value it is, or none, where it is that of a body or a list
+pub record Said : Type 0 where
+  pub code : Option ℕ
+  pub fault : Fault
+
+-- what a flaw of the code says
+abbrev pub said_of : Flaw → Said
+said_of flaw = record { code = flaw.code; fault = fault_of flaw.broken }
+
+-- a body's flaw and no other
+abbrev pub alone : Rule → List Said
+alone rule = record { code = None; fault = Invalid rule } ∷ []
+
+-- what a call tells that reads a value: what it holds, or its fault
+abbrev pub IsRead : {X V : Type 0} → Result V Fault → (X → V) → Result X Broken → Type 0
+IsRead read view (Ok x) = read ≡ Ok (view x)
+IsRead read view (Err b) = read ≡ Err (fault_of b)
+
+-- what a call tells that reads the value of an option of this code
+abbrev pub IsOption : {X : Type 0} → ℕ → Result Value Fault → (X → Entry) → Result X Broken → Type 0
+IsOption code read view (Ok x) = ((view x).code ≡ code) × (read ≡ Ok (view x).value)
+IsOption code read view (Err b) = read ≡ Err (fault_of b)
+
+-- what the strict reading says where this value with these flaws stands: that value and the same rest where it has no flaw, and
+-- else its first flaw
+abbrev pub StrictIs : {V : Type 0} → List Said → V → List ℕ → Verdict V → Type 0
+StrictIs [] value rest v = v ≡ whole value rest
+StrictIs (first ∷ others) value rest v = v ≡ faulty first.fault
+
+-- the same of a value that may not be there: it is there where it has no flaw
+abbrev pub StrictIsWhere : {V : Type 0} → List Said → Option V → List ℕ → Verdict V → Type 0
+StrictIsWhere flaws (Some value) rest v = StrictIs flaws value rest v
+StrictIsWhere [] None rest v = ⊥
+StrictIsWhere (first ∷ others) None rest v = v ≡ faulty first.fault

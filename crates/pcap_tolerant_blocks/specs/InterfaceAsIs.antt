@@ -1,0 +1,28 @@
+-- Interfaces as they stand ('Interface Description Block').
+use Rattle.std.specs.Prelude.{◌≡◌, ◌<◌, ℕ, List, length, map, Option, Some, None}
+use Rattle.std.specs.Option.{option_map}
+use Rattle.pcap_core.specs.Answer.{Order}
+use Rattle.pcap_core.specs.declared.rules.Rule.TheVariants.{InterfaceTooShort}
+use Rattle.pcap_blocks.specs.InterfaceDescription.{Interface, InterfaceHead, interface_description, interface_of}
+use Rattle.pcap_tolerant_blocks.specs.Flaws.{Said, said_of, alone}
+use Rattle.pcap_tolerant_blocks.specs.OptionsAsIs.{OptionsAsIs}
+use Rattle.pcap_tolerant_blocks.specs.declared.interface.InterfaceAsIs.{InterfaceAsIs}
+
+-- s is the head of an interface and its options as they stand, with these flaws, and then rest
+pub record WithHead (order : Order) (interface : Interface) (flaws : List Said) (s rest : List ℕ) : Type 0 where
+  pub after_head : List ℕ
+  pub head : InterfaceHead order interface s after_head
+  pub options_are : OptionsAsIs order interface_description interface.options flaws after_head rest
+
+-- s is an interface as it stands, with these flaws, and then rest; none where it has no room for its head, and then all is left
+abbrev pub InterfaceText : Order → Option Interface → List Said → List ℕ → List ℕ → Type 0
+InterfaceText order None flaws s rest = (length s < 8) × (flaws ≡ alone InterfaceTooShort) × (rest ≡ s)
+InterfaceText order (Some interface) flaws s rest = WithHead order interface flaws s rest
+
+-- the interface of the code, where there is one
+abbrev pub interface_in : InterfaceAsIs → Option Interface
+interface_in x = option_map interface_of x.interface
+
+-- what is wrong with it
+abbrev pub flaws_said : InterfaceAsIs → List Said
+flaws_said x = map said_of x.flaws.items

@@ -1,0 +1,113 @@
+//! Enhanced packets as they stand.
+
+ghost use Rattle.std.specs.Prelude.{◌≡◌, ◌≤◌, ◌+◌, length, IfOk};
+ghost use Rattle.pcap_blocks.specs.EnhancedPacket.{enhanced_packet, enhanced_entry};
+ghost use Rattle.pcap_blocks.specs.Time.{TimeText};
+ghost use Rattle.pcap_tolerant_blocks.specs.EnhancedAsIs.{EnhancedText, enhanced_in, flaws_said};
+
+use crate::flaws::{Broken, Flaw};
+use crate::list::{ReadsValue, list_as_is};
+use crate::values::{custom_bytes_value, custom_string_value, string_value, u32_value, u64_value};
+use byteorder::ByteOrder;
+use pcap_blocks::{EnhancedPacketBlock, EnhancedPacketOption, UnknownOption};
+use pcap_core::CowBytes;
+use pcap_core::fields::{split_padded, split_u32};
+use pcap_core::rules::Rule;
+use std::alloc::{AllocError, Global};
+
+/// An enhanced packet as it stands, and what is wrong with it.
+#[derive(Debug, Drop)]
+pub struct EnhancedAsIs<'a> {
+    /// The packet. An option whose value breaks its rule is one of an unknown code, with its bytes. None where the body has no
+    /// room for the packet's head, or for the bytes that this states.
+    pub packet: Option<EnhancedPacketBlock<'a>>,
+    /// What is wrong, in the order of the text: the strict reading refuses the packet for the first of these.
+    pub flaws: Vec<Flaw>,
+}
+
+impl<'a> EnhancedAsIs<'a> {
+    /// The packet that a block's body is as it stands, and what follows its options: these end at their mark, with the slice, or
+    /// where no next one can be found. All is left where there is no packet. Strings and bytes are borrowed from the slice.
+    ///
+    /// `AllocError` where a list can't grow.
+    pub fn from_slice<B: ByteOrder>(
+        alloc: Global,
+        slice: &'a [u8],
+    ) -> Result<(&'a [u8], Self), AllocError>
+        ensures read { IfOk result (λ x. EnhancedText B.number_of (enhanced_in x.1) (flaws_said x.1) slice.now x.0.now) }
+    {
+        if slice.len() < 20 {
+            let flaws = Flaw::alone(alloc, Rule::EnhancedTooShort)?;
+            return Ok((
+                slice,
+                EnhancedAsIs {
+                    packet: None,
+                    flaws,
+                },
+            ));
+        }
+        let (interface_id, rest) = split_u32::<B>(slice);
+        let (timestamp, rest) = split_time::<B>(rest);
+        let (captured_len, rest) = split_u32::<B>(rest);
+        let (original_len, rest) = split_u32::<B>(rest);
+        let Some((bytes, rest)) = split_padded(rest, captured_len as usize) else {
+            let flaws = Flaw::alone(alloc, Rule::EnhancedCut)?;
+            return Ok((
+                slice,
+                EnhancedAsIs {
+                    packet: None,
+                    flaws,
+                },
+            ));
+        };
+        let list = list_as_is::<EnhancedPacketOption, B>(alloc, rest)?;
+        let packet = EnhancedPacketBlock {
+            interface_id,
+            timestamp,
+            captured_len,
+            original_len,
+            data_: CowBytes::Borrowed(bytes),
+            options: list.options,
+        };
+        Ok((
+            list.left,
+            EnhancedAsIs {
+                packet: Some(packet),
+                flaws: list.flaws,
+            },
+        ))
+    }
+}
+
+// The time in the first eight bytes, its high half first, and the bytes after them.
+fn split_time<B: ByteOrder>(bytes: &[u8]) -> (u64, &[u8])
+    requires { 8 ≤ length bytes.now }
+    ensures time { TimeText B.number_of result.0 bytes.now result.1.now }
+    ensures rest { length result.1.now + 8 ≡ length bytes.now }
+{
+    let (high, rest) = split_u32::<B>(bytes);
+    let (low, rest) = split_u32::<B>(rest);
+    ((u64::from(high) << 32) + u64::from(low), rest)
+}
+
+impl<'a> ReadsValue<'a> for EnhancedPacketOption<'a> {
+    ghost kind = { enhanced_packet };
+
+    ghost view = { enhanced_entry };
+
+    fn from_value<B: ByteOrder>(code: u16, len: u16, value: &'a [u8]) -> Result<Self, Broken> {
+        Ok(match code {
+            1 => Self::Comment(string_value(value)?),
+            2 => Self::Flags(u32_value::<B>(value, Rule::EnhancedFlagsLength)?),
+            3 => Self::Hash(CowBytes::Borrowed(value)),
+            4 => Self::DropCount(u64_value::<B>(value, Rule::EnhancedDropCountLength)?),
+            2988 | 19372 => Self::CustomUtf8(custom_string_value::<B>(code, value)?),
+            2989 | 19373 => Self::CustomBinary(custom_bytes_value::<B>(code, value)?),
+            _ => Self::Unknown(UnknownOption::new(code, len, value)),
+        })
+    }
+
+    fn unread(option: UnknownOption<'a>) -> Self {
+        Self::Unknown(option)
+    }
+}

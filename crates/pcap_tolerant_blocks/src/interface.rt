@@ -1,0 +1,102 @@
+//! Interfaces as they stand.
+
+ghost use Rattle.std.specs.Prelude.{◌≡◌, ◌<◌, length, IfOk, IfErr};
+ghost use Rattle.pcap_blocks.specs.InterfaceDescription.{interface_description, interface_entry};
+ghost use Rattle.pcap_tolerant_blocks.specs.InterfaceAsIs.{InterfaceText, interface_in, flaws_said};
+
+use crate::flaws::{Broken, Flaw};
+use crate::list::{ReadsValue, list_as_is};
+use crate::values::{
+    custom_bytes_value, custom_string_value, fixed_value, some_value, string_value, u8_value,
+    u32_value, u64_value,
+};
+use byteorder::ByteOrder;
+use pcap_blocks::{InterfaceDescriptionBlock, InterfaceDescriptionOption, UnknownOption};
+use pcap_core::DataLink;
+use pcap_core::fields::{split_u16, split_u32};
+use pcap_core::rules::Rule;
+use std::alloc::{AllocError, Global};
+
+/// An interface as it stands, and what is wrong with it.
+#[derive(Debug, Drop)]
+pub struct InterfaceAsIs<'a> {
+    /// The interface. An option whose value breaks its rule is one of an unknown code, with its bytes. None where the body has no
+    /// room for the interface's head.
+    pub interface: Option<InterfaceDescriptionBlock<'a>>,
+    /// What is wrong, in the order of the text: the strict reading refuses the interface for the first of these.
+    pub flaws: Vec<Flaw>,
+}
+
+impl<'a> InterfaceAsIs<'a> {
+    /// The interface that a block's body is as it stands, and what follows its options: these end at their mark, with the slice,
+    /// or where no next one can be found. Strings and bytes are borrowed from the slice.
+    ///
+    /// `AllocError` where a list can't grow; an empty slice needs no memory but for its flaw.
+    pub fn from_slice<B: ByteOrder>(
+        alloc: Global,
+        slice: &'a [u8],
+    ) -> Result<(&'a [u8], Self), AllocError>
+        ensures read { IfOk result (λ x. InterfaceText B.number_of (interface_in x.1) (flaws_said x.1) slice.now x.0.now) }
+    {
+        if slice.len() < 8 {
+            let flaws = Flaw::alone(alloc, Rule::InterfaceTooShort)?;
+            return Ok((
+                slice,
+                InterfaceAsIs {
+                    interface: None,
+                    flaws,
+                },
+            ));
+        }
+        let (linktype, rest) = split_u16::<B>(slice);
+        let (reserved, rest) = split_u16::<B>(rest);
+        let (snaplen, rest) = split_u32::<B>(rest);
+        let list = list_as_is::<InterfaceDescriptionOption, B>(alloc, rest)?;
+        let interface = InterfaceDescriptionBlock {
+            linktype: DataLink::from(u32::from(linktype)),
+            reserved,
+            snaplen,
+            options: list.options,
+        };
+        Ok((
+            list.left,
+            InterfaceAsIs {
+                interface: Some(interface),
+                flaws: list.flaws,
+            },
+        ))
+    }
+}
+
+impl<'a> ReadsValue<'a> for InterfaceDescriptionOption<'a> {
+    ghost kind = { interface_description };
+
+    ghost view = { interface_entry };
+
+    fn from_value<B: ByteOrder>(code: u16, len: u16, value: &'a [u8]) -> Result<Self, Broken> {
+        Ok(match code {
+            1 => Self::Comment(string_value(value)?),
+            2 => Self::IfName(string_value(value)?),
+            3 => Self::IfDescription(string_value(value)?),
+            4 => Self::IfIpv4Addr(fixed_value(value, 8, Rule::InterfaceIpv4Length)?),
+            5 => Self::IfIpv6Addr(fixed_value(value, 17, Rule::InterfaceIpv6Length)?),
+            6 => Self::IfMacAddr(fixed_value(value, 6, Rule::InterfaceMacLength)?),
+            7 => Self::IfEuIAddr(u64_value::<B>(value, Rule::InterfaceEuiLength)?),
+            8 => Self::IfSpeed(u64_value::<B>(value, Rule::InterfaceSpeedLength)?),
+            9 => Self::IfTsResol(u8_value(value, Rule::InterfaceResolutionLength)?),
+            10 => Self::IfTzone(u32_value::<B>(value, Rule::InterfaceZoneLength)?),
+            11 => Self::IfFilter(some_value(value, Rule::InterfaceFilterEmpty)?),
+            12 => Self::IfOs(string_value(value)?),
+            13 => Self::IfFcsLen(u8_value(value, Rule::InterfaceFcsLength)?),
+            14 => Self::IfTsOffset(u64_value::<B>(value, Rule::InterfaceOffsetLength)?),
+            15 => Self::IfHardware(string_value(value)?),
+            2988 | 19372 => Self::CustomUtf8(custom_string_value::<B>(code, value)?),
+            2989 | 19373 => Self::CustomBinary(custom_bytes_value::<B>(code, value)?),
+            _ => Self::Unknown(UnknownOption::new(code, len, value)),
+        })
+    }
+
+    fn unread(option: UnknownOption<'a>) -> Self {
+        Self::Unknown(option)
+    }
+}

@@ -1,0 +1,41 @@
+//! Laws of bodies as they stand. Each contract is the law.
+
+ghost use Rattle.std.specs.Prelude.{◌≡◌, List, ℕ, Option};
+ghost use Rattle.pcap_core.specs.Answer.{Order, Verdict};
+ghost use Rattle.pcap_blocks.specs.Values.{Entry, Kind};
+ghost use Rattle.pcap_blocks.specs.Options.{may_end_with_body, ListSays};
+ghost use Rattle.pcap_blocks.specs.InterfaceDescription.{Interface, InterfaceSays};
+ghost use Rattle.pcap_core.specs.Faults.{Fault};
+ghost use Rattle.pcap_blocks.specs.EnhancedPacket.{Enhanced, EnhancedSays};
+ghost use Rattle.pcap_blocks.specs.SectionHeader.{Section, SectionFault, SectionSays};
+ghost use Rattle.pcap_tolerant_blocks.specs.EnhancedAsIs.{EnhancedText};
+ghost use Rattle.pcap_tolerant_blocks.specs.SectionAsIs.{SectionText, NoSection};
+ghost use Rattle.pcap_tolerant_blocks.specs.Flaws.{Said, StrictIs, StrictIsWhere};
+ghost use Rattle.pcap_tolerant_blocks.specs.InterfaceAsIs.{InterfaceText};
+ghost use Rattle.pcap_tolerant_blocks.specs.OptionsAsIs.{OptionsAsIs};
+
+/// What the strict reading says of the same options: the same list where it has no flaw, and else its first flaw.
+pub fn strict_options_are()
+    ensures { (order : Order) (kind : Kind) (options : List Entry) (flaws : List Said) (s rest : List ℕ) (v : Verdict (List Entry)) →
+        OptionsAsIs order kind options flaws s rest → ListSays may_end_with_body order kind s v → StrictIs flaws options rest v }
+{}
+
+/// What the strict reading says of the same interface: that interface where it has no flaw, and else its first flaw.
+pub fn strict_interface_is()
+    ensures { (order : Order) (interface : Option Interface) (flaws : List Said) (s rest : List ℕ) (v : Verdict Interface) →
+        InterfaceText order interface flaws s rest → InterfaceSays order s v → StrictIsWhere flaws interface rest v }
+{}
+
+/// What the strict reading says of the same section: that section where it has no flaw, and else its first flaw; and where no order
+/// of bytes is known, the same refusal.
+pub fn strict_section_is()
+    ensures read { (section : Section) (flaws : List Said) (s rest : List ℕ) (v : Verdict Section) →
+        SectionText section flaws s rest → SectionSays s v → StrictIs flaws section rest v }
+    ensures refused { (s : List ℕ) (fault : Fault) → NoSection s fault → SectionFault s fault }
+{}
+
+/// What the strict reading says of the same enhanced packet: that packet where it has no flaw, and else its first flaw.
+pub fn strict_enhanced_is()
+    ensures { (order : Order) (enhanced : Option Enhanced) (flaws : List Said) (s rest : List ℕ) (v : Verdict Enhanced) →
+        EnhancedText order enhanced flaws s rest → EnhancedSays order s v → StrictIsWhere flaws enhanced rest v }
+{}

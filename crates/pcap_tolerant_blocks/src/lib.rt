@@ -1,0 +1,17 @@
+//! PcapNg blocks as strangers write them: bodies with what is wrong with them, where the strict calls end at the first fault.
+#![tactic(auto)]
+
+mod enhanced;
+mod flaws;
+mod in_force;
+mod interface;
+pub mod laws;
+mod list;
+mod section;
+mod values;
+
+pub use enhanced::EnhancedAsIs;
+pub use flaws::{Broken, Flaw};
+pub use in_force::InterfacesAsIs;
+pub use interface::InterfaceAsIs;
+pub use section::SectionAsIs;

@@ -1,0 +1,157 @@
+//! Lists of options as they stand.
+
+ghost use Rattle.std.specs.Prelude.{◌≡◌, ◌<◌, [], ◌∷◌, ◌++◌, length, map, IfOk, IfErr, OnOk, MatchResult, MatchOption};
+ghost use Rattle.pcap_core.specs.Faults.{Invalid};
+ghost use Rattle.pcap_blocks.specs.Values.{Entry, Kind, shape_at, value_of};
+ghost use Rattle.pcap_blocks.specs.Options.{EndMark, OptionFault};
+ghost use Rattle.pcap_blocks.specs.CommonOptions.{unknown_entry};
+ghost use Rattle.pcap_raw_options.specs.UpTo.{no_kind};
+ghost use Rattle.pcap_tolerant_blocks.specs.Flaws.{IsOption, said_of};
+ghost use Rattle.pcap_tolerant_blocks.specs.OptionsAsIs.{judged, judged_of, JudgedText, ListsAsIs, flaws_or_none};
+
+use crate::flaws::{Broken, Flaw};
+use byteorder::ByteOrder;
+use pcap_blocks::UnknownOption;
+use pcap_core::fields::{split_padded, split_u16};
+use pcap_core::rules::Rule;
+use std::alloc::{AllocError, Global};
+
+// The options of one kind of block.
+pub(crate) trait ReadsValue<'a>: Sized {
+    // The shapes of the values, by their codes.
+    ghost kind: { Kind };
+
+    // The option, wherever its bytes lie.
+    ghost view: { Self → Entry };
+
+    // The option of this code whose value is all of a slice, of this length, or what stands against it.
+    fn from_value<B: ByteOrder>(code: u16, len: u16, value: &'a [u8]) -> Result<Self, Broken>
+        requires { len ≡ length value.now }
+        ensures tells { IsOption code (value_of B.number_of (shape_at kind code) value.now) view result };
+
+    // An option that is only its bytes.
+    fn unread(option: UnknownOption<'a>) -> Self
+        ensures same { view result ≡ unknown_entry option.entry };
+}
+
+// An option, and what is wrong with its value.
+#[derive(Drop)]
+pub(crate) struct OptionAsIs<O> {
+    pub(crate) option: O,
+    pub(crate) flaw: Option<Flaw>,
+}
+
+// Options as they stand, what is wrong with them, and what is left.
+#[derive(Drop)]
+pub(crate) struct ListAsIs<'a, O> {
+    pub(crate) options: Vec<O>,
+    pub(crate) flaws: Vec<Flaw>,
+    pub(crate) left: &'a [u8],
+}
+
+// The option of this code and bytes as it stands.
+fn judge<'a, O: ReadsValue<'a>, B: ByteOrder>(code: u16, len: u16, value: &'a [u8]) -> OptionAsIs<O>
+    requires { len ≡ length value.now }
+    ensures { judged_of O.view result ≡ judged code value.now (value_of B.number_of (shape_at O.kind code) value.now) }
+{
+    match O::from_value::<B>(code, len, value) {
+        Ok(option) => OptionAsIs { option, flaw: None },
+        Err(broken) => OptionAsIs {
+            option: O::unread(UnknownOption::new(code, len, value)),
+            flaw: Some(Flaw {
+                code: Some(code),
+                broken,
+            }),
+        },
+    }
+}
+
+// The option at the front of a slice as it stands, or none at the mark that ends a list, and what follows it; else why there
+// is none.
+fn option_as_is<'a, O: ReadsValue<'a>, B: ByteOrder>(
+    slice: &'a [u8],
+) -> Result<(&'a [u8], Option<OptionAsIs<O>>), Rule>
+    ensures tells { MatchResult result
+        (λ x. MatchOption x.1 (EndMark B.number_of slice.now x.0.now) (λ o. JudgedText B.number_of O.kind (judged_of O.view o) slice.now x.0.now))
+        (λ rule. OptionFault B.number_of no_kind slice.now (Invalid rule)) }
+{
+    if slice.len() < 4 {
+        return Err(Rule::OptionTooShort);
+    }
+    let (code, rest) = split_u16::<B>(slice);
+    let (len, rest) = split_u16::<B>(rest);
+    if code == 0 {
+        return Ok((rest, None));
+    }
+    let Some((value, rest)) = split_padded(rest, len as usize) else {
+        return Err(Rule::OptionCut);
+    };
+    Ok((rest, Some(judge::<O, B>(code, len, value))))
+}
+
+// Puts a flaw behind the others, where there is one.
+fn note(flaws: &mut Vec<Flaw>, flaw: Option<Flaw>) -> Result<(), AllocError>
+    ensures items { OnOk result (map said_of flaws.new.items ≡ map said_of flaws.old.items ++ flaws_or_none flaw) }
+{
+    if let Some(flaw) = flaw {
+        flaws.push(flaw)?;
+    }
+    Ok(())
+}
+
+// Puts an option behind the others, and what is wrong with it behind theirs.
+fn keep<O: Drop>(
+    options: &mut Vec<O>,
+    flaws: &mut Vec<Flaw>,
+    read: OptionAsIs<O>,
+) -> Result<(), AllocError>
+    ensures options { OnOk result (options.new.items ≡ options.old.items ++ read.option ∷ []) }
+    ensures flaws { OnOk result (map said_of flaws.new.items ≡ map said_of flaws.old.items ++ flaws_or_none read.flaw) }
+{
+    let OptionAsIs { option, flaw } = read;
+    options.push(option)?;
+    note(flaws, flaw)?;
+    Ok(())
+}
+
+// The options at the front of a slice as they stand: to the mark, to the end of the slice, or to where no option can be found.
+pub(crate) fn list_as_is<'a, O: ReadsValue<'a> + Drop, B: ByteOrder>(
+    alloc: Global,
+    slice: &'a [u8],
+) -> Result<ListAsIs<'a, O>, AllocError>
+    ensures read { IfOk result (ListsAsIs B.number_of O.kind O.view slice.now) }
+    ensures memory { IfErr result (λ _. 0 < length slice.now) }
+{
+    let mut options = Vec::new(alloc);
+    let mut flaws = Vec::new(alloc);
+    let mut left = slice;
+    while !left.is_empty() {
+        let (after, option) = match option_as_is::<O, B>(left) {
+            Ok(read) => read,
+            Err(rule) => {
+                flaws.push(Flaw::of_body(rule))?;
+                return Ok(ListAsIs {
+                    options,
+                    flaws,
+                    left,
+                });
+            }
+        };
+        left = after;
+        match option {
+            Some(read) => keep(&mut options, &mut flaws, read)?,
+            None => {
+                return Ok(ListAsIs {
+                    options,
+                    flaws,
+                    left,
+                });
+            }
+        }
+    }
+    Ok(ListAsIs {
+        options,
+        flaws,
+        left,
+    })
+}

@@ -1,0 +1,100 @@
+//! Sections as they stand.
+
+ghost use Rattle.std.specs.Prelude.{◌≡◌, ◌≤◌, ⊤, length, map, Some, IfOk, IfErr};
+ghost use Rattle.pcap_core.specs.Answer.{Refuses};
+ghost use Rattle.pcap_blocks.specs.SectionHeader.{section_header, section_entry, section_of, magic_order};
+ghost use Rattle.pcap_tolerant_blocks.specs.Flaws.{said_of};
+ghost use Rattle.pcap_tolerant_blocks.specs.SectionAsIs.{AfterMagic, SectionText, NoSection};
+
+use crate::flaws::{Broken, Flaw};
+use crate::list::{ReadsValue, list_as_is};
+use crate::values::{custom_bytes_value, custom_string_value, string_value};
+use byteorder::{BigEndian, ByteOrder, LittleEndian};
+use pcap_blocks::{SectionHeaderBlock, SectionHeaderOption, UnknownOption};
+use pcap_core::fields::{split_u16, split_u32, split_u64};
+use pcap_core::rules::Rule;
+use pcap_core::{PcapError, ResultParsing};
+use std::alloc::{AllocError, Global};
+
+/// A section as it stands, and what is wrong with it.
+#[derive(Debug, Drop)]
+pub struct SectionAsIs<'a> {
+    /// The section. An option whose value breaks its rule is one of an unknown code, with its bytes.
+    pub section: SectionHeaderBlock<'a>,
+    /// What is wrong, in the order of the text: the strict reading refuses the section for the first of these.
+    pub flaws: Vec<Flaw>,
+}
+
+impl<'a> SectionAsIs<'a> {
+    /// The section that a block's body is as it stands, and what follows its options: these end at their mark, with the slice, or
+    /// where no next one can be found. Strings and bytes are borrowed from the slice.
+    ///
+    /// `InvalidField` under 16 bytes, and then where the magic number is neither of the two, so that no order of bytes is known.
+    /// `OutOfMemory` where a list can't grow.
+    pub fn from_slice(alloc: Global, slice: &'a [u8]) -> ResultParsing<(&'a [u8], Self)>
+        ensures read { IfOk result (λ x. SectionText (section_of x.1.section) (map said_of x.1.flaws.items) slice.now x.0.now) }
+        ensures refused { IfErr result (Refuses ⊤ (λ _. ⊥) (NoSection slice.now)) }
+    {
+        if slice.len() < 16 {
+            return Err(PcapError::from(Rule::SectionTooShort));
+        }
+        let (magic, rest) = split_u32::<BigEndian>(slice);
+        match magic {
+            0x1A2B3C4D => Ok(behind_magic::<BigEndian>(alloc, magic, rest)?),
+            0x4D3C2B1A => Ok(behind_magic::<LittleEndian>(alloc, magic, rest)?),
+            _ => Err(PcapError::from(Rule::SectionMagic)),
+        }
+    }
+}
+
+// The section of this magic number as it stands, from what follows that, and what follows its options.
+fn behind_magic<'a, B: ByteOrder>(
+    alloc: Global,
+    magic: u32,
+    slice: &'a [u8],
+) -> Result<(&'a [u8], SectionAsIs<'a>), AllocError>
+    requires { 12 ≤ length slice.now }
+    ensures magic { IfOk result (λ x. x.1.section.magic ≡ magic) }
+    ensures read { IfOk result (λ x. AfterMagic B.number_of (section_of x.1.section) (map said_of x.1.flaws.items) slice.now x.0.now) }
+{
+    let (major_version, rest) = split_u16::<B>(slice);
+    let (minor_version, rest) = split_u16::<B>(rest);
+    let (section_length, rest) = split_u64::<B>(rest);
+    let list = list_as_is::<SectionHeaderOption, B>(alloc, rest)?;
+    let section = SectionHeaderBlock {
+        magic,
+        major_version,
+        minor_version,
+        section_length: section_length.cast_signed(),
+        options: list.options,
+    };
+    Ok((
+        list.left,
+        SectionAsIs {
+            section,
+            flaws: list.flaws,
+        },
+    ))
+}
+
+impl<'a> ReadsValue<'a> for SectionHeaderOption<'a> {
+    ghost kind = { section_header };
+
+    ghost view = { section_entry };
+
+    fn from_value<B: ByteOrder>(code: u16, len: u16, value: &'a [u8]) -> Result<Self, Broken> {
+        Ok(match code {
+            1 => Self::Comment(string_value(value)?),
+            2 => Self::Hardware(string_value(value)?),
+            3 => Self::OS(string_value(value)?),
+            4 => Self::UserApplication(string_value(value)?),
+            2988 | 19372 => Self::CustomUtf8(custom_string_value::<B>(code, value)?),
+            2989 | 19373 => Self::CustomBinary(custom_bytes_value::<B>(code, value)?),
+            _ => Self::Unknown(UnknownOption::new(code, len, value)),
+        })
+    }
+
+    fn unread(option: UnknownOption<'a>) -> Self {
+        Self::Unknown(option)
+    }
+}
