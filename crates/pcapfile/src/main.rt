@@ -1,21 +1,33 @@
 //! Tells what captures in files hold: `pcapfile --help` lists the words.
 #![tactic(auto)]
 
+mod blocks;
 mod check;
 mod convert;
+mod cut;
 mod input;
+mod join;
 mod list;
+mod output;
+mod ranges;
+mod source;
 mod tell;
 mod words;
 
 use clap::ArgMatches;
 use convert::Conversion;
+use cut::{Cutting, Way};
+use join::Joining;
+use pcapfile_cut::Wanted;
 use pcapfile_run::Format;
 use std::env;
 use std::process::ExitCode;
 
 /// The status of a program that could not read its words or write its answer.
 const FAILED: u8 = 3;
+
+/// The status of words that are not understood.
+const USAGE: u8 = 2;
 
 fn main(rt: HostRuntime) -> ExitCode {
     match run(&rt) {
@@ -42,6 +54,58 @@ fn conversion<'a>(words: &ArgMatches<'a>) -> Conversion<'a> {
     }
 }
 
+// How the words ask for a capture to be cut, or which of them isn't understood.
+fn way(words: &ArgMatches) -> Result<Way, &'static str> {
+    if let Some(packets) = words.get_one::<u64>(words::EVERY) {
+        return Ok(Way::Every(packets));
+    }
+    if let Some(parts) = words.get_one::<u64>(words::PARTS) {
+        return Ok(Way::Parts(parts));
+    }
+    if let Some(bytes) = words.get_one::<u64>(words::BYTES) {
+        return Ok(Way::Bytes(bytes));
+    }
+    if let Some(text) = words.get_str(words::PACKETS) {
+        let (first, last) = ranges::packets(text).ok_or(words::PACKETS)?;
+        return Ok(Way::One(Wanted::Numbers { first, last }));
+    }
+    let from = match words.get_str(words::FROM) {
+        Some(text) => ranges::time(text).ok_or(words::FROM)?,
+        None => 0,
+    };
+    let until = match words.get_str(words::UNTIL) {
+        Some(text) => ranges::time(text).ok_or(words::UNTIL)?,
+        None => u64::MAX,
+    };
+    Ok(Way::One(Wanted::Times { from, until }))
+}
+
+fn cut_out(rt: &HostRuntime, words: &ArgMatches) -> anyhow::Result<u8> {
+    let way = match way(words) {
+        Ok(way) => way,
+        Err(word) => {
+            eprintln!(rt;
+                "error: the value of --{word} is not understood; 'pcapfile cut --help' has the forms"
+            )?;
+            return Ok(USAGE);
+        }
+    };
+    let asked = Cutting {
+        from: words.get_str(words::CAPTURE).unwrap_or_default(),
+        out: words.get_str(words::OUT).unwrap_or_default(),
+        way,
+    };
+    cut::cut_file(rt, &asked)
+}
+
+fn join_parts(rt: &HostRuntime, words: &ArgMatches) -> anyhow::Result<u8> {
+    let asked = Joining {
+        parts: words.get_strs(words::PARTS_IN).unwrap_or_default(),
+        out: words.get_str(words::OUT).unwrap_or_default(),
+    };
+    join::join_files(rt, &asked)
+}
+
 // Does what the words ask for, and gives the status.
 fn run(rt: &HostRuntime) -> anyhow::Result<u8> {
     let words: Vec<String> = env::args(rt)?.collect(rt.alloc())?;
@@ -58,6 +122,8 @@ fn run(rt: &HostRuntime) -> anyhow::Result<u8> {
             check::check_files(rt, check.get_strs(words::FILES).unwrap_or_default())
         }
         Some(("convert", words)) => convert::convert_file(rt, &conversion(words)),
+        Some(("cut", words)) => cut_out(rt, words),
+        Some(("join", words)) => join_parts(rt, words),
         Some(("list", list)) => list::list_files(
             rt,
             list.get_strs(words::FILES).unwrap_or_default(),

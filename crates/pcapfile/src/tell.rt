@@ -3,11 +3,12 @@
 use crate::FAILED;
 use capcopy_run::Exit;
 use pcap_file::PcapError;
+use pcapfile_cut::Outcome;
 use std::io;
 use std::io::ErrorKind;
 
 /// The status of a capture that is cut short or refused.
-const AT_FAULT: u8 = 1;
+pub(crate) const AT_FAULT: u8 = 1;
 
 /// The status where memory ran out.
 const NO_MEMORY: u8 = 4;
@@ -46,4 +47,34 @@ pub(crate) fn tell_exit(rt: &HostRuntime, name: &str, exit: &Exit) -> anyhow::Re
         Exit::Memory => eprintln!(rt; "pcapfile: {name}: out of memory")?,
     }
     Ok(exit.status())
+}
+
+/// Says what ended a cut of a capture before its end, and at which byte where packets were read from this one on, and gives the
+/// status.
+pub(crate) fn tell_outcome(
+    rt: &HostRuntime,
+    from: &str,
+    place: u64,
+    out: &str,
+    outcome: &Outcome,
+) -> anyhow::Result<u8> {
+    let Some(error) = &outcome.fault else {
+        return Ok(0);
+    };
+    if outcome.write_failed {
+        return tell_error(rt, out, error);
+    }
+    let byte = place.saturating_add(outcome.bytes);
+    if let Some(rule) = error.rule() {
+        let (number, text) = (rule.number(), rule.text());
+        eprintln!(rt; "pcapfile: {from}: refused at byte {byte} by rule {number}: {text}")?;
+        return Ok(AT_FAULT);
+    }
+    match error {
+        PcapError::IoError(_) if !outcome.read_failed => {
+            eprintln!(rt; "pcapfile: {from}: cut short at byte {byte}")?;
+            Ok(AT_FAULT)
+        }
+        error => tell_error(rt, from, error),
+    }
 }

@@ -1,5 +1,6 @@
 //! The words of the program and their help.
 
+use clap::builder::ValueParser;
 use clap::{Arg, Command};
 use std::alloc::{AllocError, Global};
 
@@ -8,6 +9,30 @@ pub(crate) const FILES: &str = "FILE";
 
 /// The name of the capture that is converted.
 pub(crate) const IN: &str = "IN";
+
+/// The name of the capture that is cut.
+pub(crate) const CAPTURE: &str = "CAPTURE";
+
+/// The name of the parts that are joined.
+pub(crate) const PARTS_IN: &str = "PART";
+
+/// The name of the packets that are cut out.
+pub(crate) const PACKETS: &str = "packets";
+
+/// The name of the earliest time that is cut out.
+pub(crate) const FROM: &str = "from";
+
+/// The name of the time before which it is cut out.
+pub(crate) const UNTIL: &str = "until";
+
+/// The name of how many packets a part has.
+pub(crate) const EVERY: &str = "every";
+
+/// The name of how many parts there are.
+pub(crate) const PARTS: &str = "parts";
+
+/// The name of how many bytes a part has.
+pub(crate) const BYTES: &str = "bytes";
 
 /// The name of where the other one goes.
 pub(crate) const OUT: &str = "output";
@@ -41,6 +66,23 @@ capture of blocks becomes a little-endian classic capture in nanoseconds, of the
 first interface. What has no place there is left out, and said on standard error. The file is
 written as OUT.part, and is named OUT once all of it is there.";
 
+const CUT: &str =
+    "Writes a part of a capture, or all of it in parts: header and packets as their bytes stand.
+
+One part is that of --packets, or of --from and --until, or all, and is OUT. The parts of --every,
+--parts and --bytes are OUT with a number before its extension, in five digits, so that a shell has
+them in their order: OUT.pcap becomes OUT-00001.pcap, OUT-00002.pcap and so on. 'pcapfile join' gives
+the capture back. Each file is written as FILE.part, and is named FILE once all of it is there; where
+the capture is at fault the parts before the fault stay.
+
+A time is in seconds since 1970, as 1700000000.25, or as 2023-11-14T22:13:20.25Z.";
+
+const JOIN: &str =
+    "Writes the parts of a capture as one: the first as it is, and the packets of each other.
+
+The headers of all parts are the same bytes. The file is written as OUT.part, and is named OUT once
+all of it is there.";
+
 /// The program's command line.
 pub(crate) fn command<'a>(alloc: Global) -> Result<Command<'a>, AllocError> {
     Command::new(alloc, "pcapfile")
@@ -51,7 +93,9 @@ pub(crate) fn command<'a>(alloc: Global) -> Result<Command<'a>, AllocError> {
         .arg_required_else_help(true)
         .subcommand(check(alloc)?)?
         .subcommand(list(alloc)?)?
-        .subcommand(convert(alloc)?)
+        .subcommand(convert(alloc)?)?
+        .subcommand(cut(alloc)?)?
+        .subcommand(join(alloc)?)
 }
 
 fn check<'a>(alloc: Global) -> Result<Command<'a>, AllocError> {
@@ -90,6 +134,79 @@ fn convert<'a>(alloc: Global) -> Result<Command<'a>, AllocError> {
         .after_help(STATUSES)
         .arg(from)?
         .arg(to)?
+        .arg(out)
+}
+
+fn cut<'a>(alloc: Global) -> Result<Command<'a>, AllocError> {
+    let from = Arg::new(alloc, CAPTURE)
+        .required(true)
+        .help("The capture that is cut; - is standard input");
+    let out = Arg::new(alloc, OUT)
+        .short('o')
+        .long("output")
+        .value_name("OUT")
+        .required(true)
+        .help("Where it goes; - is standard output, of one part");
+    let ways = [PACKETS, EVERY, PARTS, BYTES];
+    let packets = Arg::new(alloc, PACKETS)
+        .long("packets")
+        .value_name("RANGE")
+        .conflicts_with_all(&[FROM, UNTIL, EVERY, PARTS, BYTES])?
+        .help("Those of these numbers as list has them: 10-20, 10-, -20 or 10");
+    let earliest = Arg::new(alloc, FROM)
+        .long("from")
+        .value_name("TIME")
+        .conflicts_with_all(&ways)?
+        .help("Those at this time and later");
+    let until = Arg::new(alloc, UNTIL)
+        .long("until")
+        .value_name("TIME")
+        .conflicts_with_all(&ways)?
+        .help("Those before this time");
+    let every = number(alloc, EVERY)
+        .conflicts_with_all(&[PARTS, BYTES])?
+        .help("Parts of so many packets");
+    let parts = number(alloc, PARTS)
+        .conflicts_with_all(&[EVERY, BYTES])?
+        .help("So many parts of nearly equal length, of a file");
+    let bytes = number(alloc, BYTES)
+        .conflicts_with_all(&[EVERY, PARTS])?
+        .help("Parts that end with the packet at which they have so many bytes");
+    Command::new(alloc, "cut")
+        .about(CUT)
+        .after_help(STATUSES)
+        .arg(from)?
+        .arg(packets)?
+        .arg(earliest)?
+        .arg(until)?
+        .arg(every)?
+        .arg(parts)?
+        .arg(bytes)?
+        .arg(out)
+}
+
+fn number<'a>(alloc: Global, name: &'a str) -> Arg<'a> {
+    Arg::new(alloc, name)
+        .long(name)
+        .value_name("N")
+        .value_parser(ValueParser::unsigned(1, u64::MAX))
+}
+
+fn join<'a>(alloc: Global) -> Result<Command<'a>, AllocError> {
+    let parts = Arg::new(alloc, PARTS_IN)
+        .required(true)
+        .num_args(1..)
+        .help("The parts in their order");
+    let out = Arg::new(alloc, OUT)
+        .short('o')
+        .long("output")
+        .value_name("OUT")
+        .required(true)
+        .help("Where the capture goes; - is standard output");
+    Command::new(alloc, "join")
+        .about(JOIN)
+        .after_help(STATUSES)
+        .arg(parts)?
         .arg(out)
 }
 

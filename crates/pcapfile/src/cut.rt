@@ -1,0 +1,223 @@
+//! The word `cut`.
+
+use crate::USAGE;
+use crate::blocks::Blocks;
+use crate::input::{STANDARD, buffered};
+use crate::output::{OUTPUT, Unfinished, tell_read};
+use crate::source::{Packets, Source, flushed};
+use crate::tell::{tell_error, tell_io, tell_outcome};
+use capcopy_run::Uninterrupted;
+use pcap_parts::to_next_end;
+use pcapfile_cut::{Outcome, Wanted};
+use pcapfile_run::{Format, format_of};
+use std::alloc::Global;
+use std::fs::File;
+use std::io;
+use std::io::{BufWriter, Read, Write};
+
+/// What the word is asked for.
+#[derive(Drop)]
+pub(crate) struct Cutting<'a> {
+    /// The name of the capture.
+    pub(crate) from: &'a str,
+    /// The name of its part, or what the names of its parts are made of.
+    pub(crate) out: &'a str,
+    /// How it is cut.
+    pub(crate) way: Way,
+}
+
+/// How a capture is cut.
+#[derive(Clone, Copy)]
+pub(crate) enum Way {
+    /// One part.
+    One(Wanted),
+    /// Parts of so many packets.
+    Every(u64),
+    /// So many parts of nearly the same length.
+    Parts(u64),
+    /// Parts that end with the packet at which they have so many bytes.
+    Bytes(u64),
+}
+
+/// Where a capture is read.
+#[derive(Clone, Copy)]
+struct Place {
+    /// How many bytes open it.
+    opening: u64,
+    /// How many bytes are read of what follows.
+    passed: u64,
+    /// How many bytes follow the opening, where that is known.
+    length: u64,
+}
+
+impl Way {
+    // Which of the next packets make a part that so many bytes open. Each part gets one packet at least.
+    fn wanted(self, opening: u64, place: Place) -> Wanted {
+        match self {
+            Way::One(wanted) => wanted,
+            Way::Every(packets) => Wanted::Numbers {
+                first: 1,
+                last: packets.max(1),
+            },
+            Way::Bytes(bytes) => Wanted::Bytes(bytes.saturating_sub(opening).max(1)),
+            Way::Parts(parts) => next_share(place, parts),
+        }
+    }
+
+    fn is_many(self) -> bool {
+        !matches!(self, Way::One(_))
+    }
+}
+
+// The packets up to the end of the next of so many shares, or all behind the last but one.
+fn next_share(place: Place, parts: u64) -> Wanted {
+    match to_next_end(place.passed as usize, place.length as usize, parts as usize) {
+        Some(bytes) => Wanted::Bytes(bytes as u64),
+        None => Wanted::All,
+    }
+}
+
+/// Cuts a capture, and gives the status.
+pub(crate) fn cut_file(rt: &HostRuntime, asked: &Cutting) -> anyhow::Result<u8> {
+    if asked.from == STANDARD {
+        if let Way::Parts(_) = asked.way {
+            eprintln!(rt; "error: --parts asks for a file, whose length is known")?;
+            return Ok(USAGE);
+        }
+        return cut_stream(rt, asked, rt.stdin(), 0);
+    }
+    let file = match File::open(rt, asked.from) {
+        Ok(file) => file,
+        Err(error) => return tell_io(rt, asked.from, &error),
+    };
+    match file.metadata() {
+        Ok(metadata) => cut_stream(rt, asked, file, metadata.len()),
+        Err(error) => tell_io(rt, asked.from, &error),
+    }
+}
+
+fn cut_stream<R: Read + Drop>(
+    rt: &HostRuntime,
+    asked: &Cutting,
+    stream: R,
+    length: u64,
+) -> anyhow::Result<u8> {
+    let mut input = buffered(rt.alloc(), stream)?;
+    match format_of(&mut input) {
+        Err(error) => tell_io(rt, asked.from, &error),
+        Ok(Format::Pcap) => match Packets::new(input) {
+            Ok(mut packets) => cut_source(rt, asked, &mut packets, length),
+            Err(error) => tell_error(rt, asked.from, &error),
+        },
+        Ok(Format::PcapNg) => match Blocks::new(rt.alloc(), input) {
+            Ok(mut blocks) => cut_source(rt, asked, &mut blocks, length),
+            Err(error) => tell_error(rt, asked.from, &error),
+        },
+    }
+}
+
+fn cut_source<S: Source>(
+    rt: &HostRuntime,
+    asked: &Cutting,
+    source: &mut S,
+    length: u64,
+) -> anyhow::Result<u8> {
+    let opening = source.opening_len();
+    let mut place = Place {
+        opening,
+        passed: 0,
+        length: length.saturating_sub(opening),
+    };
+    if !asked.way.is_many() {
+        return write_part(rt, asked, asked.out, source, &mut place);
+    }
+    for number in 1..u64::MAX {
+        let name = part_name(rt.alloc(), asked.out, number)?;
+        let status = write_part(rt, asked, name.as_str(), source, &mut place)?;
+        if status != 0 {
+            return Ok(status);
+        }
+        match source.is_at_end() {
+            Ok(true) => break,
+            Ok(false) => {}
+            Err(error) => return tell_io(rt, asked.from, &error),
+        }
+    }
+    Ok(0)
+}
+
+// The name of a part: its number stands before the extension of the name that is given, in five digits or more.
+fn part_name(alloc: Global, out: &str, number: u64) -> anyhow::Result<String> {
+    let (folder, file) = match out.rsplit_once('/') {
+        Some((folder, file)) => (Some(folder), file),
+        None => (None, out),
+    };
+    let name = match file.rsplit_once('.') {
+        Some((stem, extension)) if !stem.is_empty() => {
+            format!(in alloc; "{stem}-{number:05}.{extension}")?
+        }
+        _ => format!(in alloc; "{file}-{number:05}")?,
+    };
+    match folder {
+        Some(folder) => Ok(format!(in alloc; "{folder}/{name}")?),
+        None => Ok(name),
+    }
+}
+
+// Writes one part, and gives the status. The place moves behind what was read.
+fn write_part<S: Source>(
+    rt: &HostRuntime,
+    asked: &Cutting,
+    name: &str,
+    source: &mut S,
+    place: &mut Place,
+) -> anyhow::Result<u8> {
+    if name == STANDARD && !asked.way.is_many() {
+        let stdout = Uninterrupted::new(rt.stdout());
+        let written = write_to(rt.alloc(), asked.way, source, *place, stdout);
+        return tell_written(rt, asked, name, *place, &written);
+    }
+    if name == asked.from {
+        return tell_read(rt, name);
+    }
+    let unfinished = Unfinished::new(rt, name)?;
+    let file = match unfinished.create(rt) {
+        Ok(file) => Uninterrupted::new(file),
+        Err(error) => return tell_io(rt, unfinished.part(), &error),
+    };
+    let written = write_to(rt.alloc(), asked.way, source, *place, file);
+    let told = tell_written(rt, asked, name, *place, &written);
+    if let Ok(outcome) = &written {
+        place.passed = place.passed.saturating_add(outcome.bytes);
+    }
+    unfinished.finish(rt, told)
+}
+
+fn write_to<S: Source, W: Write + Drop>(
+    alloc: Global,
+    way: Way,
+    source: &mut S,
+    place: Place,
+    output: W,
+) -> io::Result<Outcome> {
+    let mut output = BufWriter::with_capacity(alloc, OUTPUT, output)?;
+    let wanted = way.wanted(source.opening_len(), place);
+    let outcome = source.write_part(alloc, &mut output, wanted, way.is_many());
+    Ok(flushed(&mut output, outcome))
+}
+
+fn tell_written(
+    rt: &HostRuntime,
+    asked: &Cutting,
+    name: &str,
+    place: Place,
+    written: &io::Result<Outcome>,
+) -> anyhow::Result<u8> {
+    match written {
+        Ok(outcome) => {
+            let byte = place.opening.saturating_add(place.passed);
+            tell_outcome(rt, asked.from, byte, name, outcome)
+        }
+        Err(error) => tell_io(rt, name, error),
+    }
+}

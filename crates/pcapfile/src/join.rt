@@ -1,0 +1,175 @@
+//! The word `join`.
+
+use crate::blocks::{Blocks, join_blocks};
+use crate::input::{STANDARD, buffered};
+use crate::output::{OUTPUT, Unfinished, tell_read};
+use crate::source::{Packets, Source};
+use crate::tell::{AT_FAULT, tell_error, tell_io, tell_outcome};
+use capcopy_run::Uninterrupted;
+use pcapfile_cut::{Joined, Opening, Wanted, join_part};
+use pcapfile_run::{Format, format_of};
+use std::fs::File;
+use std::io;
+use std::io::{BufReader, BufWriter, Write};
+
+/// What the word is asked for.
+#[derive(Drop)]
+pub(crate) struct Joining<'a> {
+    /// The names of the parts, in their order.
+    pub(crate) parts: &'a [&'a str],
+    /// The name of the capture that they become.
+    pub(crate) out: &'a str,
+}
+
+type Input = BufReader<Uninterrupted<File>>;
+
+/// Joins parts of a capture, and gives the status.
+pub(crate) fn join_files(rt: &HostRuntime, asked: &Joining) -> anyhow::Result<u8> {
+    if asked.out == STANDARD {
+        return join_into(rt, asked, Uninterrupted::new(rt.stdout()));
+    }
+    for part in asked.parts {
+        if *part == asked.out {
+            return tell_read(rt, part);
+        }
+    }
+    let unfinished = Unfinished::new(rt, asked.out)?;
+    let file = match unfinished.create(rt) {
+        Ok(file) => Uninterrupted::new(file),
+        Err(error) => return tell_io(rt, unfinished.part(), &error),
+    };
+    let told = join_into(rt, asked, file);
+    unfinished.finish(rt, told)
+}
+
+fn join_into<W: Write + Drop>(rt: &HostRuntime, asked: &Joining, output: W) -> anyhow::Result<u8> {
+    let mut output = BufWriter::with_capacity(rt.alloc(), OUTPUT, output)?;
+    let status = join_parts(rt, asked, &mut output)?;
+    if status != 0 {
+        return Ok(status);
+    }
+    match output.flush() {
+        Ok(()) => Ok(0),
+        Err(error) => tell_io(rt, asked.out, &error),
+    }
+}
+
+fn join_parts<W: Write>(rt: &HostRuntime, asked: &Joining, output: &mut W) -> anyhow::Result<u8> {
+    let Some((first, others)) = asked.parts.split_first() else {
+        return Ok(0);
+    };
+    let (format, input) = match open(rt, first) {
+        Ok(opened) => opened,
+        Err(error) => return tell_io(rt, first, &error),
+    };
+    match format {
+        Format::Pcap => match Packets::new(input) {
+            Ok(mut packets) => {
+                let opening = *packets.opening();
+                let status = write_first(rt, asked, first, &mut packets, output)?;
+                join_packets(rt, asked, others, &opening, status, output)
+            }
+            Err(error) => tell_error(rt, first, &error),
+        },
+        Format::PcapNg => match Blocks::new(rt.alloc(), input) {
+            Ok(mut blocks) => {
+                let status = write_first(rt, asked, first, &mut blocks, output)?;
+                join_others(rt, asked, others, blocks, status, output)
+            }
+            Err(error) => tell_error(rt, first, &error),
+        },
+    }
+}
+
+fn open(rt: &HostRuntime, name: &str) -> io::Result<(Format, Input)> {
+    let mut input = buffered(rt.alloc(), File::open(rt, name)?)?;
+    let format = format_of(&mut input)?;
+    Ok((format, input))
+}
+
+// Writes the first part as it is, and gives the status.
+fn write_first<S: Source, W: Write>(
+    rt: &HostRuntime,
+    asked: &Joining,
+    name: &str,
+    source: &mut S,
+    output: &mut W,
+) -> anyhow::Result<u8> {
+    let place = source.opening_len();
+    let outcome = source.write_part(rt.alloc(), output, Wanted::All, false);
+    tell_outcome(rt, name, place, asked.out, &outcome)
+}
+
+// Writes the packets of the others behind a first part that was written with this status.
+fn join_packets<W: Write>(
+    rt: &HostRuntime,
+    asked: &Joining,
+    others: &[&str],
+    opening: &Opening,
+    first: u8,
+    output: &mut W,
+) -> anyhow::Result<u8> {
+    let mut status = first;
+    for part in others {
+        if status != 0 {
+            break;
+        }
+        status = match open(rt, part) {
+            Ok((_, input)) => join_next(rt, asked, part, opening, input, output)?,
+            Err(error) => tell_io(rt, part, &error)?,
+        };
+    }
+    Ok(status)
+}
+
+fn join_next<W: Write>(
+    rt: &HostRuntime,
+    asked: &Joining,
+    part: &str,
+    opening: &Opening,
+    mut input: Input,
+    output: &mut W,
+) -> anyhow::Result<u8> {
+    match join_part(rt.alloc(), opening, &mut input, output) {
+        Joined::Unopened(error) => tell_error(rt, part, &error),
+        Joined::OtherHeader => {
+            eprintln!(rt; "pcapfile: {part}: its header is not that of the first part")?;
+            Ok(AT_FAULT)
+        }
+        Joined::Packets(outcome) => {
+            let place = opening.bytes().len() as u64;
+            tell_outcome(rt, part, place, asked.out, &outcome)
+        }
+    }
+}
+
+// Writes the blocks of the others behind a first part that was written with this status.
+fn join_others<W: Write>(
+    rt: &HostRuntime,
+    asked: &Joining,
+    others: &[&str],
+    first: Blocks<Input>,
+    written: u8,
+    output: &mut W,
+) -> anyhow::Result<u8> {
+    let mut before = first;
+    let mut status = written;
+    for part in others {
+        if status != 0 {
+            break;
+        }
+        let input = match open(rt, part) {
+            Ok((_, input)) => input,
+            Err(error) => return tell_io(rt, part, &error),
+        };
+        let mut blocks = match Blocks::new(rt.alloc(), input) {
+            Ok(blocks) => blocks,
+            Err(error) => return tell_error(rt, part, &error),
+        };
+        let place = blocks.opening_len();
+        let outcome = join_blocks(rt.alloc(), &mut blocks, before.in_force(), output);
+        status = tell_outcome(rt, part, place, asked.out, &outcome)?;
+        before = blocks;
+    }
+    Ok(status)
+}

@@ -1,0 +1,309 @@
+"""What `pcapfile cut` and `pcapfile join` write. Packets are sliced here by struct alone, and found by editcap where it is there."""
+import os
+import shutil
+import struct
+import subprocess
+import tempfile
+
+DONE, AT_FAULT, USAGE, FAILED = 0, 1, 2, 3
+SECONDS = 60
+
+
+def ran(tally, folder, *words, given=b"", most=None):
+    return tally.run(folder, list(words), given, most, None)
+
+
+def pieces(capture, ends):
+    """The header of a classic capture, and each packet's bytes."""
+    return capture[: ends[0]], [capture[a:b] for a, b in zip(ends, ends[1:])]
+
+
+def expects(tally, help, name, held, words, wanted, status=DONE, said=""):
+    """That the words end so, and leave these files beside those that were there."""
+    with tempfile.TemporaryDirectory() as folder:
+        for path, content in held.items():
+            help.put(folder, path, content)
+        code, written, told = ran(tally, folder, *words)
+        left = help.files(folder)
+    added = {path: content for path, content in left.items() if held.get(path) != content}
+    gone = [path for path in held if path not in left]
+    tally.note(
+        name,
+        (code, told) != (status, said) and f"it ended with {code} and said {told!r}, and not with {status} and {said!r}",
+        written and f"it wrote {written!r}",
+        gone and f"it took away {gone}",
+        sorted(added) != sorted(wanted) and f"it made {sorted(added)}, and not {sorted(wanted)}",
+        sorted(added) == sorted(wanted) and added != wanted and f"{[it for it in added if added[it] != wanted[it]]} have other bytes",
+    )
+    return added
+
+
+def numbered(parts):
+    return {f"out-{k + 1:05}.pcap": part for k, part in enumerate(parts)}
+
+
+def joins(tally, help, name, parts, capture):
+    expects(tally, help, name, parts, ["join", *sorted(parts), "-o", "all"], {"all": capture})
+
+
+def try_parts(tally, help):
+    """Parts of every so many packets, so many bytes and so many in all, by slices; and joined they are the capture again."""
+    for order, magic, fraction, counts in (("<", 0xA1B2C3D4, 1000, (0, 1, 9)), (">", 0xA1B23C4D, 1, (7,))):
+        for count in counts:
+            packets = [(k * 1000003000, 90, bytes([k]) * (k * k)) for k in range(count)]
+            capture, ends = help.classic(order, magic, fraction, 101, packets)
+            header, texts = pieces(capture, ends)
+            for n in range(1, 10):
+                name = f"{count} packets, {order}{magic:x}, {n}"
+                each = [header + b"".join(texts[k : k + n]) for k in range(0, max(count, 1), n)]
+                made = expects(tally, help, f"{name} each", {"in": capture}, ["cut", "in", "--every", str(n), "-o", "out.pcap"], numbered(each))
+                joins(tally, help, f"{name} each, joined", made, capture)
+                by_bytes = heaped(header, texts, 24 + 20 * n)
+                made = expects(tally, help, f"{name} by bytes", {"in": capture}, ["cut", "in", "--bytes", str(24 + 20 * n), "-o", "out.pcap"], numbered(by_bytes))
+                joins(tally, help, f"{name} by bytes, joined", made, capture)
+                shared = shares(header, texts, n)
+                made = expects(tally, help, f"{name} parts", {"in": capture}, ["cut", "in", "--parts", str(n), "-o", "out.pcap"], numbered(shared))
+                joins(tally, help, f"{name} parts, joined", made, capture)
+
+
+def heaped(header, texts, size):
+    """Parts that end with the packet at which they have so many bytes."""
+    parts = [header]
+    for k, text in enumerate(texts):
+        parts[-1] += text
+        if len(parts[-1]) >= size and k + 1 < len(texts):
+            parts.append(header)
+    return parts
+
+
+def shares(header, texts, n):
+    """Parts that end with the packet at which the next of n equal shares of the bytes ends."""
+    total = sum(map(len, texts))
+    share = (max(total, 1) - 1) // n + 1
+    ends = [share * k for k in range(1, n)]
+    parts, passed = [header], 0
+    for k, text in enumerate(texts):
+        parts[-1] += text
+        before, passed = passed, passed + len(text)
+        if k + 1 < len(texts) and any(before < end <= passed for end in ends):
+            parts.append(header)
+    return parts
+
+
+def try_ranges(tally, help):
+    """Ranges of packets and of times, by slices, and as editcap has them."""
+    count = 6
+    packets = [(1700000000250000000 + k * 500000000, 90, bytes([k]) * k) for k in range(count)]
+    capture, ends = help.classic("<", 0xA1B2C3D4, 1000, 1, packets)
+    header, texts = pieces(capture, ends)
+
+    def part(*words, chosen, editcap=None):
+        wanted = header + b"".join(chosen)
+        made = expects(tally, help, " ".join(words), {"in": capture}, ["cut", "in", *words, "-o", "out"], {"out": wanted})
+        if editcap and shutil.which("editcap"):
+            given = edited(capture, editcap)
+            found = help.packets_of(made.get("out", header))
+            tally.note(f"editcap {editcap}", found != help.packets_of(given) and f"it has {help.packets_of(given)}, and not {found}")
+
+    for first in range(1, count + 2):
+        for last in range(first, count + 2):
+            part("--packets", f"{first}-{last}", chosen=texts[first - 1 : last], editcap=["-r", "IN", "OUT", f"{first}-{last}"])
+        part("--packets", f"{first}-", chosen=texts[first - 1 :])
+        part(f"--packets=-{first}", chosen=texts[:first])
+        part("--packets", f"{first}", chosen=texts[first - 1 : first], editcap=["-r", "IN", "OUT", f"{first}"])
+    stamps = [f"{1700000000 + (250 + 500 * k) // 1000}.{(250 + 500 * k) % 1000:03}" for k in range(count)]
+    for a in range(count):
+        part("--from", stamps[a], chosen=texts[a:], editcap=["-A", stamps[a], "IN", "OUT"])
+        part("--until", stamps[a], chosen=texts[:a], editcap=["-B", stamps[a], "IN", "OUT"])
+        for b in range(a, count):
+            part("--from", stamps[a], "--until", stamps[b], chosen=texts[a:b])
+    part("--from", "2023-11-14T22:13:21.25Z", chosen=texts[2:])
+    part("--until", "2023-11-14T23:13:21.25+01:00", chosen=texts[:2])
+    part("--from", "1700000001", "--until", "1700000001.250000001", chosen=texts[2:3])
+    part("--from", "1960-01-01T00:00:00Z", chosen=texts)
+    part(chosen=texts)
+
+
+def edited(capture, words):
+    with tempfile.TemporaryDirectory() as folder:
+        names = {"IN": os.path.join(folder, "in"), "OUT": os.path.join(folder, "out")}
+        with open(names["IN"], "wb") as it:
+            it.write(capture)
+        words = ["editcap", "-F", "pcap", *(names.get(it, it) for it in words)]
+        subprocess.run(words, check=True, capture_output=True, timeout=SECONDS, env={**os.environ, "TZ": "UTC"})
+        with open(names["OUT"], "rb") as it:
+            return it.read()
+
+
+def try_faults(tally, help):
+    """A capture that is cut at each byte or breaks a rule; what can't be opened, written, named or joined."""
+    packets = [(k * 1000, 60, bytes(range(k))) for k in (3, 0, 9)]
+    capture, ends = help.classic(">", 0xA1B2C3D4, 1000, 1, packets)
+    header, texts = pieces(capture, ends)
+    one = numbered([header + texts[0]])
+    for at in range(len(capture)):
+        if at in ends:
+            continue
+        before = [it for it in ends if it < at]
+        said = f"pcapfile: in: cut short at byte {before[-1]}\n" if before else "pcapfile: in: cut short\n"
+        held = {"in": capture[:at], "out": b"old"}
+        expects(tally, help, f"{at} bytes", held, ["cut", "in", "-o", "out"], {}, AT_FAULT, said)
+        wanted = numbered([header + it for it in texts[: len(before) - 1]]) if before else {}
+        expects(tally, help, f"{at} bytes, each", held, ["cut", "in", "--every", "1", "-o", "out.pcap"], wanted, AT_FAULT, said)
+        if before:
+            expects(tally, help, f"{at} bytes behind a part", {**one, **held}, ["join", *one, "in", "-o", "all"], {}, AT_FAULT, said)
+    broken = capture[: ends[1]] + struct.pack(">IIII", 1, 0, 2, 1) + b"hi"
+    other = help.classic(">", 0xA1B2C3D4, 1000, 2, packets)[0]
+    in_range = ["cut", "in", "--packets", "1", "-o", "out"]
+    held = {"in": capture}
+    rule = "pcapfile: in: refused at byte {} by rule ".format(ends[1])
+    for name, before, words, status, said in (
+        ("a rule", {"in": broken}, ["cut", "in", "-o", "out"], AT_FAULT, rule),
+        ("no capture", {"in": b"these are 24 or more bytes"}, ["cut", "in", "-o", "out"], AT_FAULT, "pcapfile: in: Invalid field value: PcapHeader wrong"),
+        ("no input", {}, in_range, FAILED, "pcapfile: in: "),
+        ("no folder", held, ["cut", "in", "-o", "no/out"], FAILED, "pcapfile: no/out.part: "),
+        ("a part that is there", {**held, "out.part": b"other"}, in_range, FAILED, "pcapfile: out.part: "),
+        ("the capture itself", held, ["cut", "in", "-o", "in"], FAILED, "pcapfile: in: is a capture that is read\n"),
+        ("no range", held, ["cut", "in", "--packets", "3-2", "-o", "out"], USAGE, "error: the value of --packets"),
+        ("packet 0", held, ["cut", "in", "--packets", "0", "-o", "out"], USAGE, "error: the value of --packets"),
+        ("no time", held, ["cut", "in", "--from", "noon", "-o", "out"], USAGE, "error: the value of --from"),
+        ("ten digits", held, ["cut", "in", "--until", "1.1234567890", "-o", "out"], USAGE, "error: the value of --until"),
+        ("two ways", held, ["cut", "in", "--every", "2", "--parts", "2", "-o", "out"], USAGE, "error: "),
+        ("parts of no packet", held, ["cut", "in", "--every", "0", "-o", "out"], USAGE, "error: "),
+        ("another header", {**held, "b": other}, ["join", "in", "b", "-o", "all"], AT_FAULT, "pcapfile: b: its header is not that of the first part\n"),
+        ("a part that is none", {**held, "b": b""}, ["join", "in", "b", "-o", "all"], AT_FAULT, "pcapfile: b: cut short"),
+        ("no part", held, ["join", "in", "b", "-o", "all"], FAILED, "pcapfile: b: "),
+        ("a part for the whole", held, ["join", "in", "-o", "in"], FAILED, "pcapfile: in: is a capture that is read\n"),
+    ):
+        fails(tally, help, name, before, words, status, said)
+    expects(tally, help, "a range before a fault", {"in": broken}, in_range, {"out": header + texts[0]})
+    long, _ = help.classic("<", 0xA1B2C3D4, 1000, 1, [(k, 1000, bytes(1000)) for k in range(200)])
+    for most in (0, 1, 65536, 100000):
+        fails(tally, help, f"{most} bytes of room", {"in": long, "out": b"old"}, ["cut", "in", "-o", "out"], FAILED, "pcapfile: out: ", most)
+        fails(tally, help, f"{most} bytes of room, joined", {"in": long, "out": b"old"}, ["join", "in", "-o", "out"], FAILED, "pcapfile: out: ", most)
+
+
+def fails(tally, help, name, held, words, status, said, most=None):
+    """That the words end so, say so, and leave what was there."""
+    with tempfile.TemporaryDirectory() as folder:
+        for path, content in held.items():
+            help.put(folder, path, content)
+        code, written, told = ran(tally, folder, *words, most=most)
+        left = help.files(folder)
+    tally.note(
+        name,
+        (code != status or not told.startswith(said)) and f"it ended with {code} and said {told!r}",
+        written and f"it wrote {written!r}",
+        left != held and f"it left {sorted(left)}",
+    )
+
+
+def try_pipes(tally, help):
+    """Standard input and output."""
+    packets = [(k * 1000, 60, bytes(range(k))) for k in range(5)]
+    capture, ends = help.classic("<", 0xA1B2C3D4, 1000, 1, packets)
+    header, texts = pieces(capture, ends)
+    with tempfile.TemporaryDirectory() as folder:
+        ended = ran(tally, folder, "cut", "-", "--packets", "2-3", "-o", "-", given=capture)
+        tally.note("through pipes", ended != (DONE, header + b"".join(texts[1:3]), "") and f"it ended with {ended}")
+        ended = ran(tally, folder, "cut", "-", "--every", "2", "-o", "a.b/../x", given=capture)
+        tally.note("no such folder", ended[0] != FAILED and f"it ended with {ended}")
+        ended = ran(tally, folder, "cut", "-", "--every", "2", "-o", "x", given=capture)
+        made = help.files(folder)
+        tally.note("parts of standard input", (ended[0], sorted(made)) != (DONE, ["x-00001", "x-00002", "x-00003"]) and f"it made {sorted(made)}, {ended}")
+        ended = ran(tally, folder, "join", *sorted(made), "-o", "-")
+        tally.note("joined into a pipe", ended != (DONE, capture, "") and f"it ended with {ended[0]}")
+        ended = ran(tally, folder, "cut", "-", "--parts", "2", "-o", "x", given=capture)
+        tally.note("parts of a pipe", ended[0] != USAGE and f"it ended with {ended}")
+
+
+SECTION, INTERFACE, SIMPLE, NAMES, STATISTICS, PACKET = 0x0A0D0D0A, 1, 3, 4, 5, 6
+
+
+def sections(help, order, count):
+    """A capture of blocks as (number, text): two sections, interfaces between packets, names, and statistics at the end."""
+    def one(number, body):
+        return number, help.block(order, number, body)
+
+    def packet(k):
+        return one(*help.enhanced(order, k % 2, 1700000000250000 + k * 500000, 60, bytes([k]) * k))
+
+    head = struct.pack(order + "IHHq", 0x1A2B3C4D, 1, 0, -1)
+    found = [one(SECTION, head), one(*help.interface(order, 1)), one(NAMES, bytes(4)), one(*help.interface(order, 1))]
+    for k in range(count):
+        if k == 3:
+            found += [one(SECTION, head + bytes(4)), one(*help.interface(order, 1, 96)), one(*help.interface(order, 101))]
+        if k == 5:
+            found.append(one(*help.interface(order, 105)))
+        found.append(packet(k))
+    return [*found, one(STATISTICS, bytes(12))]
+
+
+def block_parts(found, is_enough):
+    """Parts that end before the packet at which is_enough(where the part began, its packets, its blocks' bytes, its opening's bytes)."""
+    in_force, parts, passed = [found[0][1]], [found[0][1]], 0
+    opening, begun, count, size = len(found[0][1]), 0, 0, 0
+    for number, text in found[1:]:
+        if number == PACKET:
+            if count and is_enough(begun, count, size, opening):
+                parts.append(b"".join(in_force))
+                opening, begun, count, size = len(parts[-1]), passed, 0, 0
+            count += 1
+        parts[-1] += text
+        passed, size = passed + len(text), size + len(text)
+        if number == SECTION:
+            in_force = []
+        if number in (SECTION, INTERFACE):
+            in_force.append(text)
+    return parts
+
+
+def try_blocks(tally, help):
+    """Parts of blocks, by what is in force where each begins; and joined they are the capture again."""
+    for order, counts in (("<", (0, 9)), (">", (7,))):
+        for count in counts:
+            found = sections(help, order, count)
+            capture = b"".join(text for _, text in found)
+            behind = len(capture) - len(found[0][1])
+            for n in range(1, 10):
+                share = (behind - 1) // n + 1
+                ways = (
+                    ("--every", n, lambda begun, packets, size, opening: packets >= n),
+                    ("--bytes", 100 + 20 * n, lambda begun, packets, size, opening: opening + size >= 100 + 20 * n),
+                    ("--parts", n, lambda begun, packets, size, opening: any(begun < share * k <= begun + size for k in range(1, n))),
+                )
+                for word, value, is_enough in ways:
+                    name = f"{count} packets in blocks, {order}, {word} {value}"
+                    wanted = numbered(block_parts(found, is_enough))
+                    made = expects(tally, help, name, {"in": capture}, ["cut", "in", word, str(value), "-o", "out.pcap"], wanted)
+                    joins(tally, help, f"{name}, joined", made, capture)
+    try_block_ranges(tally, help, sections(help, ">", 7))
+
+
+def try_block_ranges(tally, help, found):
+    capture = b"".join(text for _, text in found)
+    places = [at for at, (number, _) in enumerate(found) if number == PACKET]
+    for first in range(1, 8):
+        for last in range(first, 9):
+            start = places[first - 1] if first > 1 else 1
+            opens = max(at for at in range(start) if found[at][0] == SECTION)
+            opening = [text for number, text in found[opens:start] if number in (SECTION, INTERFACE)]
+            end = places[last - 1] + 1 if last <= 7 else len(found)
+            wanted = b"".join([*opening, *(text for _, text in found[start:end])])
+            expects(tally, help, f"blocks of packets {first}-{last}", {"in": capture}, ["cut", "in", "--packets", f"{first}-{last}", "-o", "out"], {"out": wanted})
+    for k in range(7):
+        stamp = f"{1700000000 + (250 + 500 * k) // 1000}.{(250 + 500 * k) % 1000:03}"
+        later, before = set(places[k:]), set(places[:k])
+        for word, those in (("--from", later), ("--until", before)):
+            wanted = b"".join(text for at, (number, text) in enumerate(found) if number != PACKET or at in those)
+            expects(tally, help, f"blocks {word} {stamp}", {"in": capture}, ["cut", "in", word, stamp, "-o", "out"], {"out": wanted})
+    ends = [sum(len(text) for _, text in found[: k + 1]) for k in range(len(found))]
+    for at in range(ends[0] + 1, len(capture), 3):
+        if at not in ends:
+            place = max(end for end in ends if end < at)
+            fails(tally, help, f"{at} bytes of blocks", {"in": capture[:at]}, ["cut", "in", "-o", "out"], AT_FAULT, f"pcapfile: in: cut short at byte {place}\n")
+
+
+def try_all(tally, help):
+    for tries in (try_parts, try_ranges, try_faults, try_pipes, try_blocks):
+        tries(tally, help)
