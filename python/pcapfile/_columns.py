@@ -51,6 +51,9 @@ _STRETCH = 1 << 24
 IN_A_ROW = 4
 _SEARCHED = 1 << 20
 
+# How many of these are mostly enough.
+_NEAR = 1 << 14
+
 
 def side_by_side(walk: Any, source: "Memory", end: int, batch: int, threads: int) -> Iterator[Any]:
     """The columns of a walk up to a place of its capture, stretches of which so many threads walk, in the capture's order.
@@ -122,6 +125,11 @@ def _guessed(walk: Any, source: "Memory", begin: int, end: int, threads: int) ->
 
 def guess_block(data: memoryview, order: str) -> Optional[int]:
     """The first place from which blocks follow on each other, as their lengths tell, the first of them with a packet."""
+    near = _block_in(data[:_NEAR], order)
+    return _block_in(data, order) if near is None else near
+
+
+def _block_in(data: memoryview, order: str) -> Optional[int]:
     words = numpy.frombuffer(data[: len(data) // 4 * 4], order + "u4")
     for first in numpy.flatnonzero((words == 6) | (words == 3) | (words == 2)).tolist():
         at, found = first, 0
