@@ -1,0 +1,13 @@
+use Rattle.std.proofs.Common.{refl}
+use Rattle.std.proofs.lemmas.Result.{err_from_is_err_and}
+use Rattle.pcap_classic.proofs.Copied.{torn_write}
+use Rattle.pcapfile_merge.proofs.merging.merge_next.Goals as goal
+
+pub returns-in_err-put_held : goal.returns-in_err-put_held
+returns-in_err-put_held g c =
+    let p = err_from_is_err_and c.from_residual.result c.from_residual.ensures.1 in
+    let part = torn_write _ _ _ _ c.in_err-put_held.ensures in
+    rw (p.1, p.2) (refl, part.0, part.1)
+
+pub returns : goal.returns
+returns g c = (c.advance.ensures, c.in_ok-put_held.ensures)

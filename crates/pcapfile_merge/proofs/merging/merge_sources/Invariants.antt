@@ -1,0 +1,12 @@
+use Rattle.std.proofs.Common.{◌≤◌, ◌-◌}
+use Rattle.pcapfile_merge.proofs.Steps.{Going}
+use Rattle.pcapfile_merge.proofs.merging.merge_sources.Given as goal
+
+abbrev pub invariant-loop-packets : goal.invariant-loop-packets
+invariant-loop-packets g l = record {
+  so_far : Going (g.R.Read.remaining) l.fn.sources l.sources (g.W.Write.contents l.fn.writer) (g.W.Write.contents l.writer) l.packets;
+  within : l.packets ≤ l.most;
+}
+
+abbrev pub decreases-loop-packets : goal.decreases-loop-packets
+decreases-loop-packets g l = l.most - l.packets

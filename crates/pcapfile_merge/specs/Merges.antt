@@ -1,0 +1,40 @@
+-- Packets of several inputs that are merged by their times.
+use Rattle.std.specs.Prelude.{⊤, ◌≡◌, ◌==◌, if◌then◌else◌, ℕ, List, [], ◌∷◌, ◌++◌, length}
+use Rattle.std.specs.List.{AllByRecursion}
+
+module _ {P : Type 0} (IsEarlier : P → P → Type 0) where
+  -- an input whose packets are these has none at the time of this one or before it: its first packet comes later
+  abbrev pub ComesLater : P → List P → Type 0
+  ComesLater p [] = ⊤
+  ComesLater p (q ∷ qs) = IsEarlier p q
+
+  -- an input whose packets are these has none before this one: its first packet is not earlier
+  abbrev pub IsNotBefore : P → List P → Type 0
+  IsNotBefore p [] = ⊤
+  IsNotBefore p (q ∷ qs) = IsEarlier q p → ⊥
+
+  -- The first of the inputs whose next packet is the earliest gives it, and these packets are left.
+  pub record Gives (inputs : List (List P)) (place : ℕ) (p : P) (left : List (List P)) : Type 0 where
+    pub front : List (List P)
+    pub rest : List P
+    pub back : List (List P)
+    pub place_is : place ≡ length front
+    pub inputs_are : inputs ≡ front ++ (p ∷ rest) ∷ back
+    pub left_are : left ≡ front ++ rest ∷ back
+    pub later : AllByRecursion (ComesLater p) front
+    pub not_before : AllByRecursion (IsNotBefore p) back
+
+  -- the inputs give these packets, each with the place of its input, one after the other, and these are left
+  abbrev pub Merges : List (List P) → List (ℕ × P) → List (List P) → Type 0
+  Merges inputs [] left = inputs ≡ left
+  Merges inputs (given ∷ out) left = (between : List (List P)) × Gives inputs given.0 given.1 between × Merges between out left
+
+  -- no packet is earlier than the one before it
+  abbrev pub IsSorted : List P → Type 0
+  IsSorted [] = ⊤
+  IsSorted (p ∷ ps) = IsNotBefore p ps × IsSorted ps
+
+-- the packets among these that the input of this place gave
+abbrev pub given_by : {P : Type 0} → ℕ → List (ℕ × P) → List P
+given_by place [] = []
+given_by place (given ∷ out) = if given.0 == place then given.1 ∷ given_by place out else given_by place out

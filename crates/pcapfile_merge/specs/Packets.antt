@@ -1,0 +1,44 @@
+-- Packets that are merged, and their times.
+use Rattle.std.specs.Prelude.{⊤, ◌≡◌, ◌⊎◌, ◌<◌, ◌<ℤ◌, ℕ, List, Bool, true, false, Option, None, Some}
+use Rattle.pcap_times.specs.declared.clock.Timestamp.{Timestamp}
+use Rattle.pcap_classic.specs.PacketText.{Captured}
+use Rattle.pcap_file.specs.Conversion.{exact_time}
+use Rattle.pcap_file.specs.Converted.{time_of}
+
+-- A packet that is merged: the number of its interface among those of all inputs, its time where it has one, its time in the units
+-- of its interface's clock, its length on the wire and its bytes.
+pub record Packet : Type 0 where
+  pub number : ℕ
+  pub time : Option Timestamp
+  pub units : ℕ
+  pub original_len : ℕ
+  pub bytes : List ℕ
+
+-- one time is before another
+abbrev pub IsTimeBefore : Timestamp → Timestamp → Type 0
+IsTimeBefore t u = (t.seconds <ℤ u.seconds) ⊎ ((t.seconds ≡ u.seconds) × (t.nanoseconds < u.nanoseconds))
+
+-- no time is before each time
+abbrev pub IsBefore : Option Timestamp → Option Timestamp → Type 0
+IsBefore None None = ⊥
+IsBefore None (Some u) = ⊤
+IsBefore (Some t) None = ⊥
+IsBefore (Some t) (Some u) = IsTimeBefore t u
+
+abbrev pub TellsBefore : Option Timestamp → Option Timestamp → Bool → Type 0
+TellsBefore t u true = IsBefore t u
+TellsBefore t u false = IsBefore t u → ⊥
+
+-- a packet is earlier than another one: it is of an earlier time, or of none where the other has one
+abbrev pub IsEarlier : Packet → Packet → Type 0
+IsEarlier p q = IsBefore p.time q.time
+
+-- the packet of a classic capture whose interface has this number: its units are nanoseconds
+abbrev pub packet_of : ℕ → Captured → Packet
+packet_of number captured = record {
+  number = number;
+  time = Some (exact_time captured);
+  units = time_of captured;
+  original_len = captured.header.orig_len;
+  bytes = captured.bytes;
+}

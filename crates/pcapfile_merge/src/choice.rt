@@ -1,0 +1,45 @@
+//! Which of several captures gives the next packet.
+
+ghost use Rattle.pcapfile_merge.specs.Choosing.{BestWith, Chooses};
+
+use crate::packet::{Pending, is_before};
+use crate::source::Source;
+use pcap_file::pcapng::Timestamp;
+
+/// The place of a source, and the time of its next packet.
+#[derive(Clone, Copy)]
+pub(crate) struct Best {
+    pub(crate) place: usize,
+    pub(crate) time: Option<Timestamp>,
+}
+
+// The better one of the best so far and of the source at a place that holds this packet.
+fn best_with(best: Option<Best>, place: usize, next: Option<Pending>) -> Option<Best>
+    ensures { BestWith best place next result }
+{
+    let Some(pending) = next else {
+        return best;
+    };
+    let time = pending.time;
+    let Some(found) = best else {
+        return Some(Best { place, time });
+    };
+    if !is_before(time, found.time) {
+        return best;
+    }
+    Some(Best { place, time })
+}
+
+/// The place of the first of the sources whose next packet is the earliest. None where no source has a packet.
+pub(crate) fn earliest<R>(sources: &[Source<R>]) -> Option<usize>
+    ensures { Chooses sources.now result }
+{
+    let mut best = None;
+    for place in 0..sources.len() {
+        best = best_with(best, place, sources[place].next());
+    }
+    match best {
+        None => None,
+        Some(best) => Some(best.place),
+    }
+}

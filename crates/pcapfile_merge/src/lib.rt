@@ -1,0 +1,13 @@
+//! Captures that are merged by time.
+#![tactic(auto)]
+
+mod choice;
+pub mod laws;
+mod merging;
+mod packet;
+mod reader;
+mod source;
+
+pub use merging::{Merged, merge_packets};
+pub use reader::Reader;
+pub use source::Source;

@@ -1,0 +1,104 @@
+//! Captures whose packets are merged.
+
+ghost use Rattle.std.specs.Prelude.{◌≡◌, ◌≤◌, ◌<◌, length, Some};
+ghost use Rattle.pcap_core.specs.Writing.{WritesAll};
+ghost use Rattle.pcapfile_merge.specs.Choosing.{Chooses};
+ghost use Rattle.pcapfile_merge.specs.Holding.{Holds};
+ghost use Rattle.pcapfile_merge.specs.Merging.{MergesAt, MergesNext, MergesRun, outcome_of, texts};
+ghost use Rattle.pcapfile_merge.specs.Sources.{pending_of};
+
+use crate::choice::earliest;
+use crate::source::Source;
+use byteorder::LittleEndian;
+use pcap_file::{PcapError, ResultParsing};
+use pcap_written::put_packet;
+use std::io::{Read, Write};
+
+/// How a merge ended.
+#[derive(Debug, Drop)]
+pub struct Merged {
+    /// How many packets went out.
+    pub packets: u64,
+    /// Why a packet was not written.
+    pub fault: Option<PcapError>,
+}
+
+/// Merges the packets of sources.
+pub fn merge_packets<R: Read + Drop, W: Write>(
+    sources: &mut [Source<R>],
+    writer: &mut W,
+    most: u64,
+) -> Merged
+    ensures most { result.packets ≤ most }
+    ensures run { MergesRun R.remaining sources.old sources.new (W.contents writer.old) (W.contents writer.new) most result }
+{
+    let mut merged = Merged {
+        packets: 0,
+        fault: None,
+    };
+    merged.fault = merge_sources(sources, writer, most, &mut merged.packets).err();
+    merged
+}
+
+// Merges the packets of sources, and counts them.
+fn merge_sources<R: Read + Drop, W: Write>(
+    sources: &mut [Source<R>],
+    writer: &mut W,
+    most: u64,
+    packets: &mut u64,
+) -> ResultParsing<()>
+    requires { packets.old ≡ 0 }
+    ensures most { packets.new ≤ most }
+    ensures run { MergesRun R.remaining sources.old sources.new (W.contents writer.old) (W.contents writer.new) most (outcome_of packets.new result) }
+{
+    while *packets < most {
+        let place = match earliest(sources) {
+            None => return Ok(()),
+            Some(place) => place,
+        };
+        merge_at(sources, place, writer)?;
+        *packets += 1;
+    }
+    Ok(())
+}
+
+// Writes the packet of the source at the place that was chosen, and takes its next one.
+fn merge_at<R: Read + Drop, W: Write>(
+    sources: &mut [Source<R>],
+    place: usize,
+    writer: &mut W,
+) -> ResultParsing<()>
+    requires chosen { Chooses sources.old (Some place) }
+    requires within { place < length sources.old }
+    ensures { MergesAt R.remaining place sources.old sources.new (W.contents writer.old) (W.contents writer.new) result }
+{
+    merge_next(&mut sources[place], writer)
+}
+
+// Writes the packet that a source holds, and takes its next one.
+fn merge_next<R: Read + Drop, W: Write>(source: &mut Source<R>, writer: &mut W) -> ResultParsing<()>
+    requires { Holds source.old.taken.next }
+    ensures { MergesNext R.remaining source.old source.new (W.contents writer.old) (W.contents writer.new) result }
+{
+    put_held(source, writer)?;
+    source.advance();
+    Ok(())
+}
+
+// Writes the packet that a source holds.
+fn put_held<R, W: Write>(source: &Source<R>, writer: &mut W) -> ResultParsing<()>
+    ensures { WritesAll (W.contents writer.old) (W.contents writer.new) (texts (pending_of source.now)) result }
+{
+    let Some(pending) = source.taken.next else {
+        return Ok(());
+    };
+    let mut has_failed = false;
+    put_packet::<W, LittleEndian>(
+        writer,
+        &mut has_failed,
+        pending.number,
+        pending.units,
+        source.reader.data(pending),
+        pending.original_len,
+    )
+}

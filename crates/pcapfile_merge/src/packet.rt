@@ -1,0 +1,34 @@
+//! The packet that a capture gives next.
+
+ghost use Rattle.pcapfile_merge.specs.Packets.{TellsBefore};
+
+use pcap_file::pcapng::Timestamp;
+use pcap_times::laws::times_are_ordered;
+
+/// What a reader says of the packet that it holds.
+#[derive(Clone, Copy)]
+pub(crate) struct Pending {
+    /// The number of its interface among those of all captures.
+    pub(crate) number: u32,
+    /// Its time, where it has one.
+    pub(crate) time: Option<Timestamp>,
+    /// Its time in the units of its interface's clock.
+    pub(crate) units: u64,
+    /// Its length on the wire, in bytes.
+    pub(crate) original_len: u32,
+    /// How many bytes stand before its own in the body of its block.
+    pub(crate) start: usize,
+    /// How many bytes of it are stored.
+    pub(crate) len: usize,
+}
+
+/// Whether a packet of the first time goes before one of the second. One without a time goes before each that has one.
+pub(crate) fn is_before(left: Option<Timestamp>, right: Option<Timestamp>) -> bool
+    ensures { TellsBefore left right result }
+{
+    match (left, right) {
+        (_, None) => false,
+        (None, Some(_)) => true,
+        (Some(left), Some(right)) => times_are_ordered(left, right),
+    }
+}

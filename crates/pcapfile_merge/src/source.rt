@@ -1,0 +1,81 @@
+//! A capture that is merged with others.
+
+ghost use Rattle.std.specs.Prelude.{◌≡◌, [], option_map};
+ghost use Rattle.pcapfile_merge.specs.Holding.{Holds, HoldsFew, IsReady, IsReadyIf};
+
+use crate::packet::Pending;
+use crate::reader::{Interfaces, Reader, Taken};
+use pcap_file::PcapError;
+use std::alloc::Global;
+use std::io::Read;
+
+/// A capture that is merged with others: its reader, which holds the packet that it gives next.
+#[derive(Drop)]
+pub struct Source<R> {
+    alloc: Global,
+    pub(crate) reader: Reader<R>,
+    pub(crate) base: u32,
+    pub(crate) taken: Taken,
+    ghost few: { HoldsFew reader taken.next },
+    ghost ready: { IsReadyIf reader taken.next },
+}
+
+impl<R: Read + Drop> Source<R> {
+    ghost use Rattle.pcapfile_merge.specs.Holding.{before_of};
+    ghost use Rattle.pcapfile_merge.specs.Sources.{Advances, Gave};
+
+    /// Makes a source of a reader that has refused nothing, and takes its first packet. What refuses that packet ends the
+    /// source (`fault`). Its interfaces have numbers from `base` on.
+    pub fn new(alloc: Global, reader: Reader<R>, base: u32) -> Source<R>
+        requires { IsReady reader }
+        ensures base { result.base ≡ base }
+        ensures gave { Gave R.remaining (before_of R.remaining reader) result [] }
+    {
+        let mut reader = reader;
+        let taken = reader.take_next(alloc, base, Interfaces::Open);
+        Source {
+            alloc,
+            reader,
+            base,
+            taken,
+        }
+    }
+
+    // Takes the next packet.
+    pub(crate) fn advance(&mut self)
+        requires { Holds self.old.taken.next }
+        ensures { Advances R.remaining self.old self.new }
+    {
+        self.taken = Taken {
+            next: None,
+            fault: None,
+        };
+        let taken = self
+            .reader
+            .take_next(self.alloc, self.base, Interfaces::Closed);
+        self.taken = taken;
+    }
+}
+
+impl<R> Source<R> {
+    // The packet that it gives next. None where it has no more.
+    pub(crate) fn next(&self) -> Option<Pending>
+        ensures { result ≡ self.now.taken.next }
+    {
+        self.taken.next
+    }
+
+    /// Its reader, which holds the packet that it gives next.
+    pub fn reader(&self) -> &Reader<R>
+        ensures { result.now ≡ self.now.reader }
+    {
+        &self.reader
+    }
+
+    /// What refused the packet behind those that it gave. None where the capture ended behind them, or goes on.
+    pub fn fault(&self) -> Option<&PcapError>
+        ensures { option_map (λ error. error.now) result ≡ self.now.taken.fault }
+    {
+        self.taken.fault.as_ref()
+    }
+}
