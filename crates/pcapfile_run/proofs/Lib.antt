@@ -1,6 +1,6 @@
 mod BodyLines
-mod Ends
+pub mod Ends
 mod Numbered
-mod Passing
+pub mod Passing
 mod StoredLists
-mod Told
+pub mod Told

@@ -89,7 +89,7 @@ blocks_refused (Some s) e end why is = (
   }),
 )
 
-opened_more : (t rest : List ℕ) (q : State) → OpeningSays t (whole q []) → OpeningSays (t ++ rest) (whole q rest)
+pub opened_more : (t rest : List ℕ) (q : State) → OpeningSays t (whole q []) → OpeningSays (t ++ rest) (whole q rest)
 unfolding block_format
 opened_more t rest q says = (says.0, (blocks_lawful.stable opening).text t rest [] (record { block = says.0; after = q }) says.1)
 

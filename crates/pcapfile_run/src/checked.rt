@@ -124,8 +124,8 @@ impl fmt::Display for Checked {
     }
 }
 
-// Why a run ended with this fault, or without one behind so many items.
-pub(crate) fn end_of(fault: Option<PcapError>, read_failed: bool, items: u64, most: u64) -> End
+/// Why a run ended with this fault, or without one behind so many items of at most so many.
+pub fn end_of(fault: Option<PcapError>, read_failed: bool, items: u64, most: u64) -> End
     ensures { EndIs fault read_failed items most result }
 {
     match fault {

@@ -9,5 +9,5 @@ mod packets;
 mod pass;
 
 pub use captures::{check_blocks, check_packets};
-pub use checked::{Checked, End, Format};
+pub use checked::{Checked, End, Format, end_of};
 pub use listing::{format_of, list};

@@ -1,0 +1,150 @@
+-- Captures of which it is told what they hold.
+use Rattle.std.proofs.Common.{◌≡◌, ◌<◌, ◌≤◌, ◌+◌, ◌^◌, ℕ, List, [], ◌++◌, length, Bool, true, Option, Some, None, Err, inl, inr, refl, sym, ap, ◌∙◌, subst, arith, length-append, append_assoc}
+use Rattle.std.specs.Prelude.{⊤, IfSome}
+use Rattle.pcap_core.specs.declared.errors.PcapError.{PcapError}
+use Rattle.pcap_core.specs.Answer.{number_in, whole}
+use Rattle.pcap_core.specs.Format.{Format, Texts, IsLawful, state_after}
+use Rattle.pcap_core.specs.Reading.{Takes, ReadsTold}
+use Rattle.pcap_core.specs.Takes.{TakesTexts, TakesItems, Stops}
+use Rattle.pcap_core.proofs.Formats.{texts_more}
+use Rattle.pcap_core.proofs.Taking.{run_reads}
+use Rattle.pcap_classic.specs.declared.pcap.header.PcapHeader.{PcapHeader}
+use Rattle.pcap_classic.specs.HeaderText.{HeaderText, HeaderSays}
+use Rattle.pcap_classic.specs.Magic.{order_of, resolution_of}
+use Rattle.pcap_classic.specs.Packets.{format_under, reader_format}
+use Rattle.pcap_classic.specs.PacketText.{packet_limit, Captured}
+use Rattle.pcap_classic.proofs.Captures.{under_valid}
+use Rattle.pcap_classic.proofs.HeadedPackets.{packets_lawful}
+use Rattle.pcap_classic.proofs.Stable.{header_stable}
+use Rattle.pcap_classic.proofs.Texts.{header_length}
+use Rattle.pcap_file.specs.Blocks.{block_format}
+use Rattle.pcap_file.specs.Lent.{TakesText}
+use Rattle.pcap_file.specs.Opening.{OpeningSays, RefusesOpening}
+use Rattle.pcap_file.specs.State.{State}
+use Rattle.pcap_file.proofs.BlockFormat.{blocks_lawful}
+use Rattle.pcapfile_run.specs.declared.checked.Checked.{Checked}
+use Rattle.pcapfile_run.specs.declared.checked.End.{End}
+use Rattle.pcapfile_run.specs.declared.checked.Format.{Format as CaptureFormat}
+use Rattle.pcapfile_run.specs.declared.checked.Format.TheVariants.{Pcap, PcapNg}
+use Rattle.pcapfile_run.specs.Checks.{FaultIs, EndIs, most_passed}
+use Rattle.pcapfile_run.specs.Passing.{counted}
+use Rattle.pcapfile_run.proofs.Ends.{fails_at, stops_at}
+use Rattle.pcapfile_run.proofs.Passing.{counted_behind}
+use Rattle.pcapfile_run.proofs.Told.{opened_more}
+use Rattle.pcapfile_info.specs.declared.progress.Progress.{Progress}
+use Rattle.pcapfile_info.specs.declared.seen.Sight.{Sight}
+use Rattle.pcapfile_info.specs.declared.totals.Totals.{Totals}
+use Rattle.pcapfile_info.specs.Information.{InformsItems, InformsPackets, InformsBlocks}
+use Rattle.pcapfile_info.specs.Sights.{IsPacketSight, IsBlockSight}
+use Rattle.pcapfile_info.specs.Telling.{AreSights, TellsItems}
+use Rattle.pcapfile_info.specs.Totals.{TotalsAre}
+
+-- what a check finds
+abbrev pub checked_of : CaptureFormat → ℕ → ℕ → End → Checked
+checked_of format items bytes end = record { format = format; items = items; bytes = bytes; end = end }
+
+-- items that were passed behind what was counted, as they are told
+module _ {S V : Type 0} (f : Format S V) (laws : IsLawful f) (q : S) (IsSight : ℕ → V → Sight → Type 0) (first : ℕ) (s opening after : List ℕ) (joined : s ≡ opening ++ after) (now : Option (List ℕ)) (failed : Bool) (old new : Progress) (fault : Option PcapError) (checked : Checked) where
+  informed_left : (vs : List V) (left : Option (List ℕ)) (took : TakesTexts f q vs (Some after) left) → length vs ≤ most_passed → Stops (f.says (state_after f q vs)) left now failed (length vs) most_passed fault
+      → (sights : List Sight) → AreSights IsSight first vs sights → TotalsAre first sights new.totals
+      → old.bytes ≡ counted (length opening) → checked.items ≡ old.items + length vs → checked.bytes ≡ counted (old.bytes + length took.bytes) → EndIs fault failed checked.items (old.items + most_passed) checked.end
+      → InformsItems f q IsSight first s after old.items checked new.totals
+  informed_left vs None took within stops sights are totals before items bytes end = absurd took.took
+  informed_left vs (Some left) took within stops sights are totals before items bytes end =
+      let run : TakesItems f q (Some after) now failed most_passed vs fault = record { left = Some left; took = took; within = within; stops = stops } in
+      let reads = run_reads f laws q after now failed most_passed vs fault run in
+      let all : Texts f q vs (took.bytes ++ left) left = texts_more f laws q vs took.bytes [] left took.texts in
+      record {
+        checks = record {
+          items = vs;
+          more = reads.more;
+          front_bytes = opening ++ took.bytes;
+          left = left;
+          rest = reads.rest;
+          front = reads.front;
+          texts = subst (λ (l : List ℕ). Texts f q vs l left) (sym took.took) all;
+          place = joined ∙ ap (λ (l : List ℕ). opening ++ l) took.took ∙ sym (append_assoc opening took.bytes left);
+          bytes = counted_behind old.bytes checked.bytes (length opening) (length took.bytes) before bytes ∙ ap counted (sym (length-append opening took.bytes));
+          count = items;
+          stops = stops_at (f.says (state_after f q vs)) reads.rest reads.more checked.items (length vs) old.items most_passed items within fault failed checked.end reads.ends end;
+        };
+        sights = sights;
+        are_sights = are;
+        totals_are = totals;
+      }
+
+  pub items_informed : TellsItems f q IsSight first (Some after) now failed most_passed old new fault → old.bytes ≡ counted (length opening) → checked.items ≡ new.items → checked.bytes ≡ new.bytes
+      → EndIs fault failed checked.items (old.items + most_passed) checked.end → InformsItems f q IsSight first s after old.items checked new.totals
+  items_informed tells before items bytes end =
+      informed_left tells.items tells.run.left tells.run.took tells.run.within tells.run.stops tells.sights tells.are_sights tells.totals before (items ∙ tells.number) (bytes ∙ tells.bytes) end
+
+-- the header is refused
+pub packets_refused : (known now : Option (List ℕ)) (failed : Bool) (e : PcapError) (end : End) (totals : Totals) → TotalsAre 1 [] totals → ReadsTold HeaderSays (λ (header : PcapHeader). header) known now failed (Err e) → FaultIs e failed end
+    → IfSome known (λ s. InformsPackets s (checked_of Pcap 0 0 end) None totals)
+packets_refused None now failed e end totals nothing reads is = tt
+packets_refused (Some s) now failed e end totals nothing reads is = (
+  refl,
+  inl (
+    record {
+      items = refl;
+      bytes = refl;
+      fails = fails_at ⊥ HeaderSays s e failed end (elim reads.1 [ inl io ↦ inl io | inr (inl short) ↦ inr (inl short) | inr (inr stands) ↦ inr (inr (inr stands.0)) ]) is;
+    },
+    refl,
+    nothing,
+  ),
+)
+
+packets_behind : (header : PcapHeader) (s after : List ℕ) (took : Takes HeaderSays (Some s) (Some after) header) (now : Option (List ℕ)) (failed : Bool) (old new : Progress) (fault : Option PcapError) (end : End) → old.items ≡ 0 → old.bytes ≡ 24
+    → TellsItems (reader_format packet_limit header) tt IsPacketSight 1 (Some after) now failed most_passed old new fault → EndIs fault failed new.items most_passed end
+    → InformsPackets s (checked_of Pcap new.items new.bytes end) (Some header) new.totals
+packets_behind header s after took now failed old new fault end items bytes tells is =
+    let under = under_valid packet_limit header took.1.valid (λ (f : Format (Unit {0}) Captured). TellsItems f tt IsPacketSight 1 (Some after) now failed most_passed old new fault) tells in
+    let text : HeaderText header s after = subst (λ (l : List ℕ). HeaderText header l after) (sym took.2) (header_stable.text took.0 after [] header took.1) in
+    let long : old.bytes ≡ counted (length took.0) = omega (arith, bytes, header_length header took.0 [] took.1) in
+    let checked : Checked = record { format = Pcap; items = new.items; bytes = new.bytes; end = end } in
+    let ends = subst (λ (n : ℕ). EndIs fault failed new.items (n + most_passed) end) (sym items) is in
+    let informs = items_informed (format_under packet_limit header) (packets_lawful packet_limit (number_in (order_of header.magic_number)) (resolution_of header.magic_number)) tt IsPacketSight 1 s took.0 after took.2 now failed old new fault checked under long refl refl ends in
+    (refl, inr (header, after, text, refl, subst (λ (n : ℕ). InformsItems (format_under packet_limit header) tt IsPacketSight 1 s after n checked new.totals) items informs))
+
+-- the header is read, and then packets by a reader of it
+pub packets_informed : (header read : PcapHeader) → read ≡ header → (known after behind now : Option (List ℕ)) → behind ≡ after → (failed : Bool) (old new : Progress) (fault : Option PcapError) (end : End) → old.items ≡ 0 → old.bytes ≡ 24
+    → Takes HeaderSays known after header → TellsItems (reader_format packet_limit read) tt IsPacketSight 1 behind now failed most_passed old new fault → EndIs fault failed new.items most_passed end
+    → IfSome known (λ s. InformsPackets s (checked_of Pcap new.items new.bytes end) (Some header) new.totals)
+packets_informed header read same None after behind now stream failed old new fault end items bytes took tells is = tt
+packets_informed header read same (Some s) None behind now stream failed old new fault end items bytes took tells is = absurd took.2
+packets_informed header read same (Some s) (Some after) behind now stream failed old new fault end items bytes took tells is =
+    let there = subst (λ (h : PcapHeader). TellsItems (reader_format packet_limit h) tt IsPacketSight 1 behind now failed most_passed old new fault) same tells in
+    let here = subst (λ (l : Option (List ℕ)). TellsItems (reader_format packet_limit header) tt IsPacketSight 1 l now failed most_passed old new fault) stream there in
+    packets_behind header s after took now failed old new fault end items bytes here is
+
+-- the first block is refused
+pub blocks_refused : (known : Option (List ℕ)) (e : PcapError) (end : End) (totals : Totals) → TotalsAre 0 [] totals → RefusesOpening known e → FaultIs e true end
+    → IfSome known (λ s. InformsBlocks s (checked_of PcapNg 0 0 end) None totals)
+blocks_refused None e end totals nothing why is = tt
+blocks_refused (Some s) e end totals nothing why is = (
+  refl,
+  refl,
+  inl (
+    record {
+      items = refl;
+      bytes = refl;
+      fails = fails_at ⊤ OpeningSays s e true end (elim why [ inl io ↦ inl (io, refl) | inr (inl memory) ↦ inr (inr (inl (tt, memory))) | inr (inr stands) ↦ inr (inr (inr stands)) ]) is;
+    },
+    nothing,
+  ),
+)
+
+-- the first block is read, and then blocks
+pub blocks_informed : (known after now : Option (List ℕ)) (text : List ℕ) (first : State) (n : ℕ) → n ≡ length text → n < 2 ^ 64 → (failed : Bool) (old new : Progress) (fault : Option PcapError) (end : End) → old.items ≡ 1 → old.bytes ≡ n
+    → TakesText OpeningSays known after text first → TellsItems block_format first IsBlockSight 0 after now failed most_passed old new fault → EndIs fault failed new.items 18446744073709551615 end
+    → IfSome known (λ s. InformsBlocks s (checked_of PcapNg new.items new.bytes end) None new.totals)
+blocks_informed None after now text first n long room failed old new fault end items bytes took tells is = tt
+blocks_informed (Some s) None now text first n long room failed old new fault end items bytes took tells is = absurd took.1
+blocks_informed (Some s) (Some after) now text first n long room failed old new fault end items bytes took tells is =
+    let opens = subst (λ (l : List ℕ). OpeningSays l (whole first after)) (sym took.1) (opened_more text after first took.0) in
+    let start : old.bytes ≡ counted (length text) = omega (arith, bytes, long, room) in
+    let checked : Checked = record { format = PcapNg; items = new.items; bytes = new.bytes; end = end } in
+    let ends = subst (λ (m : ℕ). EndIs fault failed new.items (m + most_passed) end) (sym items) is in
+    let informs = items_informed block_format blocks_lawful first IsBlockSight 0 s text after took.1 now failed old new fault checked tells start refl refl ends in
+    (refl, refl, inr (first, after, opens, subst (λ (m : ℕ). InformsItems block_format first IsBlockSight 0 s after m checked new.totals) items informs))

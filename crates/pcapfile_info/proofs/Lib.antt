@@ -1,0 +1,5 @@
+mod Bodies
+mod Informing
+mod Tallying
+mod Telling
+mod Totalling

@@ -1,0 +1,116 @@
+-- One packet more.
+use Rattle.std.proofs.Common.{◌≡◌, ◌<◌, ◌≤◌, ◌+◌, ◌-◌, ◌^◌, ◌⊎◌, ◌++◌, ◌∷◌, [], ℕ, List, Bool, true, false, cond, Option, None, Some, length, min, filter_map, inl, inr, refl, sym, ap, ◌∙◌, subst, arith, length-append, append-nil}
+use Rattle.std.specs.Prelude.{All, Contains, count_by, filter, sum_by, slice_index, slice_set}
+use Rattle.std.proofs.lemmas.Bool.{cases_eq, eq-eqb, ne_eqb}
+use Rattle.std.proofs.lemmas.List.{get_or-set_same, get_or-set_other}
+use Rattle.std.proofs.lemmas.List.Elements.{All-push, All-nil, All-weaker, Contains-append_left, Contains-push, filter_map-append, filter-append}
+use Rattle.std.proofs.lemmas.List.Sums.{sum_by_push, length-filter}
+use Rattle.pcap_times.specs.declared.clock.Timestamp.{Timestamp}
+use Rattle.pcapfile_run.specs.Passing.{counted}
+use Rattle.pcapfile_info.specs.declared.seen.Seen.{Seen}
+use Rattle.pcapfile_info.specs.declared.tally.Tally.{Tally}
+use Rattle.pcapfile_info.specs.Tallies.{IsBefore, IsEarlierOf, IsEarliestWith, IsLaterOf, IsLatestWith, IsEarliest, IsLatest, Tallies, times_of, size_class, is_of_class}
+
+-- counting goes on where it stopped
+pub counted_push : (a n k : ℕ) → a ≡ counted n → counted (a + k) ≡ counted (n + k)
+counted_push a n k e = omega (arith, e)
+
+-- times are ordered
+before_itself : (t : Timestamp) → IsBefore t t → ⊥
+before_itself t before = grind (arith, before)
+
+before_both : (s t : Timestamp) → IsBefore s t → IsBefore t s → ⊥
+before_both s t one other = grind (arith, one, other)
+
+before_later : (s t u : Timestamp) → IsBefore s t → (IsBefore u t → ⊥) → IsBefore s u
+before_later s t u one none = grind (arith, one, none)
+
+later_than : (s t u : Timestamp) → (IsBefore t s → ⊥) → IsBefore t u → IsBefore s u
+later_than s t u none one = grind (arith, none, one)
+
+earliest_push : (times : List Timestamp) (known : Option Timestamp) (time earliest : Timestamp) → IsEarliest times known → IsEarlierOf known time earliest → IsEarliest (times ++ time ∷ []) (Some earliest)
+earliest_push times None time earliest none is =
+    subst (λ (t : Timestamp). Contains (times ++ time ∷ []) t × All (λ s. IsBefore s t → ⊥) (times ++ time ∷ [])) (sym is)
+    (Contains-push times time, All-push (λ s. IsBefore s time → ⊥) times time (subst (λ (l : List Timestamp). All (λ s. IsBefore s time → ⊥) l) (sym none) (All-nil (λ s. IsBefore s time → ⊥))) (before_itself time))
+earliest_push times (Some known) time earliest (among, first) is = elim is [
+  | inl (before, same) ↦
+      subst (λ (t : Timestamp). Contains (times ++ time ∷ []) t × All (λ s. IsBefore s t → ⊥) (times ++ time ∷ [])) (sym same)
+      (Contains-append_left times (time ∷ []) known among, All-push (λ s. IsBefore s known → ⊥) times time first (λ after. before_both known time before after))
+  | inr (later, same) ↦
+      subst (λ (t : Timestamp). Contains (times ++ time ∷ []) t × All (λ s. IsBefore s t → ⊥) (times ++ time ∷ [])) (sym same) (
+        Contains-push times time,
+        All-push (λ s. IsBefore s time → ⊥) times time (All-weaker (λ s. IsBefore s known → ⊥) (λ s. IsBefore s time → ⊥) (λ s none before. none (before_later s time known before later)) times first) (before_itself time),
+      )
+]
+
+latest_push : (times : List Timestamp) (known : Option Timestamp) (time latest : Timestamp) → IsLatest times known → IsLaterOf known time latest → IsLatest (times ++ time ∷ []) (Some latest)
+latest_push times None time latest none is =
+    subst (λ (t : Timestamp). Contains (times ++ time ∷ []) t × All (λ s. IsBefore t s → ⊥) (times ++ time ∷ [])) (sym is)
+    (Contains-push times time, All-push (λ s. IsBefore time s → ⊥) times time (subst (λ (l : List Timestamp). All (λ s. IsBefore time s → ⊥) l) (sym none) (All-nil (λ s. IsBefore time s → ⊥))) (before_itself time))
+latest_push times (Some known) time latest (among, last) is = elim is [
+  | inl (before, same) ↦
+      subst (λ (t : Timestamp). Contains (times ++ time ∷ []) t × All (λ s. IsBefore t s → ⊥) (times ++ time ∷ [])) (sym same)
+      (Contains-append_left times (time ∷ []) known among, All-push (λ s. IsBefore known s → ⊥) times time last (λ after. before_both known time after before))
+  | inr (earlier, same) ↦
+      subst (λ (t : Timestamp). Contains (times ++ time ∷ []) t × All (λ s. IsBefore t s → ⊥) (times ++ time ∷ [])) (sym same) (
+        Contains-push times time,
+        All-push (λ s. IsBefore time s → ⊥) times time (All-weaker (λ s. IsBefore known s → ⊥) (λ s. IsBefore time s → ⊥) (λ s none before. none (later_than known time s earlier before)) times last) (before_itself time),
+      )
+]
+
+-- the earliest and the latest of the times of packets behind one more
+module _ (packets : List Seen) (known : Option Timestamp) where
+  earliest_behind : (seen : Seen) (time earliest : Option Timestamp) → seen.time ≡ time → IsEarliest (times_of packets) known → IsEarliestWith known time earliest → IsEarliest (times_of (packets ++ seen ∷ [])) earliest
+  earliest_behind seen None earliest is before with =
+      rw (with, filter_map-append (λ (p : Seen). p.time) packets (seen ∷ []), is, append-nil (times_of packets)) before
+  earliest_behind seen (Some time) None is before with = absurd with
+  earliest_behind seen (Some time) (Some earliest) is before with =
+      rw (filter_map-append (λ (p : Seen). p.time) packets (seen ∷ []), is) (earliest_push (times_of packets) known time earliest before with)
+
+  latest_behind : (seen : Seen) (time latest : Option Timestamp) → seen.time ≡ time → IsLatest (times_of packets) known → IsLatestWith known time latest → IsLatest (times_of (packets ++ seen ∷ [])) latest
+  latest_behind seen None latest is before with =
+      rw (with, filter_map-append (λ (p : Seen). p.time) packets (seen ∷ []), is, append-nil (times_of packets)) before
+  latest_behind seen (Some time) None is before with = absurd with
+  latest_behind seen (Some time) (Some latest) is before with =
+      rw (filter_map-append (λ (p : Seen). p.time) packets (seen ∷ []), is) (latest_push (times_of packets) known time latest before with)
+
+-- one of a class more
+one_or_none : {X : Type 0} (x : X) (b : Bool) → length (cond b (x ∷ []) []) ≡ cond b 1 0
+one_or_none x true = refl
+one_or_none x false = refl
+
+pub count_push : {X : Type 0} (p : X → Bool) (xs : List X) (x : X) → count_by p (xs ++ x ∷ []) ≡ count_by p xs + cond (p x) 1 0
+count_push p xs x =
+    sym (length-filter p (xs ++ x ∷ [])) ∙ ap length (filter-append p xs (x ∷ [])) ∙ length-append (filter p xs) (filter p (x ∷ []))
+    ∙ ap (λ (n : ℕ). n + length (filter p (x ∷ []))) (length-filter p xs) ∙ ap (λ (n : ℕ). count_by p xs + n) (one_or_none x (p x))
+
+pub sizes_push : (old new : List ℕ) (packets : List Seen) (seen : Seen) (class more : ℕ) → class ≡ size_class seen.original → class < 10 → length old ≡ 10
+    → more ≡ counted (slice_index old class + 1) → new ≡ slice_set old class more
+    → ((k : ℕ) → k < 10 → slice_index old k ≡ counted (count_by (is_of_class k) packets))
+    → (k : ℕ) → k < 10 → slice_index new k ≡ counted (count_by (is_of_class k) (packets ++ seen ∷ []))
+sizes_push old new packets seen class more is within long is_more is_new before k less =
+    let pushed = count_push (is_of_class k) packets seen in
+    elim (cases_eq k class) [
+      | inl same ↦
+          let one : is_of_class k seen ≡ true = eq-eqb (size_class seen.original) k (sym is ∙ sym same) in
+          let there : slice_index new k ≡ more = ap (λ (l : List ℕ). slice_index l k) is_new ∙ ap (λ (i : ℕ). slice_index (slice_set old class more) i) same ∙ get_or-set_same old class more 0 (omega (arith, long, within)) in
+          let counts : count_by (is_of_class k) (packets ++ seen ∷ []) ≡ count_by (is_of_class k) packets + 1 = pushed ∙ ap (λ (b : Bool). count_by (is_of_class k) packets + cond b 1 0) one in
+          there ∙ is_more ∙ counted_push (slice_index old class) (count_by (is_of_class k) packets) 1 (ap (slice_index old) (sym same) ∙ before k less) ∙ ap counted (sym counts)
+      | inr other ↦
+          let none : is_of_class k seen ≡ false = ne_eqb (size_class seen.original) k (λ at. other (sym at ∙ sym is)) in
+          let there : slice_index new k ≡ slice_index old k = ap (λ (l : List ℕ). slice_index l k) is_new ∙ get_or-set_other old class k more 0 other in
+          let counts : count_by (is_of_class k) (packets ++ seen ∷ []) ≡ count_by (is_of_class k) packets + 0 = pushed ∙ ap (λ (b : Bool). count_by (is_of_class k) packets + cond b 1 0) none in
+          there ∙ before k less ∙ ap counted (omega (arith, counts))
+    ]
+
+pub tally_push : (packets : List Seen) (seen : Seen) (old new : Tally) → Tallies packets old → new.packets ≡ counted (old.packets + 1) → new.stored ≡ counted (old.stored + seen.stored)
+    → new.original ≡ counted (old.original + seen.original) → IsEarliestWith old.earliest seen.time new.earliest → IsLatestWith old.latest seen.time new.latest
+    → ((k : ℕ) → k < 10 → slice_index new.sizes k ≡ counted (count_by (is_of_class k) (packets ++ seen ∷ []))) → Tallies (packets ++ seen ∷ []) new
+tally_push packets seen old new before number stored original earliest latest sizes = record {
+  number = number ∙ counted_push old.packets (length packets) 1 before.number ∙ ap counted (sym (length-append packets (seen ∷ [])));
+  stored = stored ∙ counted_push old.stored (sum_by (λ p. p.stored) packets) seen.stored before.stored ∙ ap counted (sym (sum_by_push (λ (p : Seen). p.stored) packets seen));
+  original = original ∙ counted_push old.original (sum_by (λ p. p.original) packets) seen.original before.original ∙ ap counted (sym (sum_by_push (λ (p : Seen). p.original) packets seen));
+  earliest = earliest_behind packets old.earliest seen seen.time new.earliest refl before.earliest earliest;
+  latest = latest_behind packets old.latest seen seen.time new.latest refl before.latest latest;
+  sizes = sizes;
+}

@@ -1,0 +1,125 @@
+-- Items of which it is told what is seen, one after another.
+use Rattle.std.proofs.Common.{◌≡◌, ◌<◌, ◌≤◌, ◌+◌, ◌^◌, ℕ, List, [], ◌∷◌, ◌++◌, length, Bool, false, Option, Some, None, refl, sym, ap, ◌∙◌, subst, arith, length-append}
+use Rattle.std.specs.Prelude.{sum_by}
+use Rattle.std.specs.Io.KnownBytes.{Keeps, Consumes}
+use Rattle.std.proofs.KnownBytes.{Consumes-nil, Consumes-trans}
+use Rattle.pcap_core.specs.declared.errors.PcapError.{PcapError}
+use Rattle.pcap_core.specs.Answer.{whole}
+use Rattle.pcap_core.specs.Errors.{IsMemory}
+use Rattle.pcap_core.specs.Format.{Format, IsLawful}
+use Rattle.pcap_core.specs.Reading.{HasCause, Takes, TakesAsked, no_memory}
+use Rattle.pcap_core.specs.Takes.{Stops}
+use Rattle.pcap_core.proofs.Asked.{asked_text}
+use Rattle.std.proofs.lemmas.List.Sums.{sum_by-cons}
+use Rattle.pcap_core.proofs.Formats.{state_push, texts_more, texts_push}
+use Rattle.pcapfile_run.specs.Passing.{counted}
+use Rattle.pcapfile_info.specs.declared.progress.Progress.{Progress}
+use Rattle.pcapfile_info.specs.declared.seen.Sight.{Sight}
+use Rattle.pcapfile_info.specs.declared.totals.Totals.{Totals}
+use Rattle.pcapfile_info.specs.Telling.{AddsItem, AddsNothing, AreSights, SameCounts, Telling, TellsItems}
+use Rattle.pcapfile_info.specs.Totals.{TotalsAre, interfaces_in}
+
+-- one item more, of which this is seen
+sights_push : {V : Type 0} (IsSight : ℕ → V → Sight → Type 0) (n : ℕ) (vs : List V) (sights : List Sight) (v : V) (sight : Sight) → AreSights IsSight n vs sights
+    → IsSight (n + sum_by interfaces_in sights) v sight → AreSights IsSight n (vs ++ v ∷ []) (sights ++ sight ∷ [])
+sights_push IsSight n [] [] v sight are is = (subst (λ (m : ℕ). IsSight m v sight) (omega arith) is, tt)
+sights_push IsSight n [] (seen ∷ sights) v sight are is = absurd are
+sights_push IsSight n (w ∷ vs) [] v sight are is = absurd are
+sights_push IsSight n (w ∷ vs) (seen ∷ sights) v sight (first, are) is =
+    let behind : n + sum_by interfaces_in (seen ∷ sights) ≡ n + interfaces_in seen + sum_by interfaces_in sights = omega (arith, sum_by-cons interfaces_in seen sights) in
+    (first, sights_push IsSight (n + interfaces_in seen) vs sights v sight are (subst (λ (m : ℕ). IsSight m v sight) behind is))
+
+bytes_more : (a b c m n : ℕ) → b ≡ counted (a + m) → c ≡ counted (b + n) → c ≡ counted (a + (m + n))
+bytes_more a b c m n first second = omega arith
+
+bytes_same : (n : ℕ) → n < 2 ^ 64 → n ≡ counted (n + 0)
+bytes_same n room = omega (arith, room)
+
+-- where the counts stayed, nothing is added
+pub nothing_same : (old new : Progress) → SameCounts old new → AddsNothing old new
+nothing_same old new same = (same.0, same.1, λ first sights before. subst (λ (t : Totals). TotalsAre first sights t) (sym same.2) before)
+
+-- and what is added afterwards is all that is
+pub nothing_behind : (old mid new : Progress) → SameCounts old mid → AddsNothing mid new → AddsNothing old new
+nothing_behind old mid new same adds = (adds.0 ∙ same.0, adds.1 ∙ same.1, λ first sights before. adds.2 first sights (subst (λ (t : Totals). TotalsAre first sights t) (sym same.2) before))
+
+pub item_behind : (sight : Sight) (k : ℕ) (old mid new : Progress) → SameCounts old mid → AddsItem sight k mid new → AddsItem sight k old new
+item_behind sight k old mid new same adds = (
+  adds.0 ∙ ap (λ (n : ℕ). n + 1) same.0,
+  adds.1 ∙ ap (λ (n : ℕ). counted (n + k)) same.1,
+  λ first sights before. adds.2 first sights (subst (λ (t : Totals). TotalsAre first sights t) (sym same.2) before),
+)
+
+module _ {S V : Type 0} (f : Format S V) (q : S) (IsSight : ℕ → V → Sight → Type 0) (first : ℕ) where
+  -- nothing is passed yet
+  pub telling_none : (before : Option (List ℕ)) (old : Progress) → old.bytes < 2 ^ 64 → TotalsAre first [] old.totals → Telling f q IsSight first q before before old old 0
+  telling_none before old room nothing = record {
+    items = [];
+    count = refl;
+    leads = refl;
+    took = record { bytes = []; texts = refl; took = Consumes-nil before };
+    number = omega arith;
+    bytes = bytes_same old.bytes room;
+    sights = [];
+    are_sights = tt;
+    totals = nothing;
+  }
+
+  -- one item more, of so many bytes, of which this is seen
+  pub telling_more : IsLawful f → (here there : S) (before left now : Option (List ℕ)) (old mid new : Progress) (n k : ℕ) (item : V) (sight : Sight) → Telling f q IsSight first here before left old mid n
+      → (took : Takes (f.says here) left now item) → f.goes here item ≡ there → length took.0 ≡ k → IsSight (length mid.totals.interfaces.items) item sight → AddsItem sight k mid new
+      → Telling f q IsSight first there before now old new (n + 1)
+  telling_more laws here there before left now old mid new n k item sight so_far took goes long is adds =
+      let both = subst (λ (s : S). (t : Takes (f.says s) left now item) × (length t.0 ≡ k)) (sym so_far.leads) (took, long) in
+      record {
+        items = so_far.items ++ item ∷ [];
+        count = omega (arith, length-append so_far.items (item ∷ []), so_far.count);
+        leads = state_push f q so_far.items item ∙ ap (λ (s : S). f.goes s item) so_far.leads ∙ goes;
+        took = record {
+          bytes = so_far.took.bytes ++ both.0.0;
+          texts = texts_push f q so_far.items item (so_far.took.bytes ++ both.0.0) both.0.0 [] (texts_more f laws q so_far.items so_far.took.bytes [] both.0.0 so_far.took.texts) both.0.1;
+          took = Consumes-trans before left now so_far.took.bytes both.0.0 so_far.took.took both.0.2;
+        };
+        number = omega (arith, adds.0, so_far.number);
+        bytes = bytes_more old.bytes mid.bytes new.bytes (length so_far.took.bytes) k so_far.bytes adds.1 ∙ ap (λ (m : ℕ). counted (old.bytes + m)) (sym (length-append so_far.took.bytes both.0.0 ∙ ap (λ (m : ℕ). length so_far.took.bytes + m) both.1));
+        sights = so_far.sights ++ sight ∷ [];
+        are_sights = sights_push IsSight first so_far.items so_far.sights item sight so_far.are_sights (subst (λ (m : ℕ). IsSight m item sight) so_far.totals.described is);
+        totals = adds.2 first so_far.sights so_far.totals;
+      }
+
+  -- it stops
+  pub telling_stops : (here : S) (before left now : Option (List ℕ)) (failed : Bool) (most : ℕ) (old new : Progress) (n : ℕ) (fault : Option PcapError) → Telling f q IsSight first here before left old new n
+      → n ≤ most → Stops (f.says here) left now failed n most fault → TellsItems f q IsSight first before now failed most old new fault
+  telling_stops here before left now failed most old new n fault so_far within stops = record {
+    items = so_far.items;
+    run = record {
+      left = left;
+      took = so_far.took;
+      within = omega (arith, so_far.count);
+      stops = subst (λ (s : S). Stops (f.says s) left now failed (length so_far.items) most fault) (sym so_far.leads) (subst (λ (k : ℕ). Stops (f.says here) left now failed k most fault) (sym so_far.count) stops);
+    };
+    number = omega (arith, so_far.number, so_far.count);
+    bytes = so_far.bytes;
+    sights = so_far.sights;
+    are_sights = so_far.are_sights;
+    totals = so_far.totals;
+  }
+
+  -- it stops for want of memory, once an item was taken that is not counted
+  pub telling_lacks : IsLawful f → (here : S) (before left now : Option (List ℕ)) (failed : Bool) (most : ℕ) (old mid new : Progress) (n : ℕ) (item : V) (e : PcapError)
+      → Telling f q IsSight first here before left old mid n → n < most → Takes (f.says here) left now item → failed ≡ false → IsMemory e → AddsNothing mid new
+      → TellsItems f q IsSight first before now failed most old new (Some e)
+  telling_lacks laws here before left now failed most old mid new n item e so_far fewer took unfailed memory nothing =
+      let asked : TakesAsked (f.says here) left now = record { taken = took.0; from_stream = took.2; asked = λ k less. asked_text f laws here item took.0 took.1 k less } in
+      let stays : Telling f q IsSight first here before left old new n = record {
+        items = so_far.items;
+        count = so_far.count;
+        leads = so_far.leads;
+        took = so_far.took;
+        number = nothing.0 ∙ so_far.number;
+        bytes = nothing.1 ∙ so_far.bytes;
+        sights = so_far.sights;
+        are_sights = so_far.are_sights;
+        totals = nothing.2 first so_far.sights so_far.totals;
+      } in
+      telling_stops here before left now failed most old new n (Some e) stays (omega (arith, fewer)) (fewer, no_memory memory unfailed, asked)

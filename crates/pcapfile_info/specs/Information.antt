@@ -1,0 +1,41 @@
+-- What is told of a capture.
+use Rattle.std.specs.Prelude.{⊤, ◌≡◌, ◌⊎◌, ℕ, List, [], Option, None, Some}
+use Rattle.pcap_core.specs.Answer.{whole}
+use Rattle.pcap_core.specs.Format.{Format}
+use Rattle.pcap_classic.specs.declared.pcap.header.PcapHeader.{PcapHeader}
+use Rattle.pcap_classic.specs.HeaderText.{HeaderText, HeaderSays}
+use Rattle.pcap_classic.specs.Packets.{format_under}
+use Rattle.pcap_classic.specs.PacketText.{packet_limit}
+use Rattle.pcap_file.specs.Blocks.{block_format}
+use Rattle.pcap_file.specs.Opening.{OpeningSays}
+use Rattle.pcap_file.specs.State.{State}
+use Rattle.pcapfile_run.specs.declared.checked.Checked.{Checked}
+use Rattle.pcapfile_run.specs.declared.checked.Format.TheVariants.{Pcap, PcapNg}
+use Rattle.pcapfile_run.specs.Checks.{ChecksItems, FailsOpening, most_passed}
+use Rattle.pcapfile_info.specs.declared.seen.Sight.{Sight}
+use Rattle.pcapfile_info.specs.declared.totals.Totals.{Totals}
+use Rattle.pcapfile_info.specs.Sights.{IsPacketSight, IsBlockSight}
+use Rattle.pcapfile_info.specs.Telling.{AreSights}
+use Rattle.pcapfile_info.specs.Totals.{TotalsAre}
+
+-- s is what a check counts of it, and what is seen of the items that are counted is told; so many interfaces are known before them
+pub record InformsItems {S V : Type 0} (f : Format S V) (q : S) (IsSight : ℕ → V → Sight → Type 0) (first : ℕ) (s after : List ℕ) (before : ℕ) (checked : Checked) (totals : Totals) : Type 0 where
+  pub checks : ChecksItems f q s after before most_passed checked
+  pub sights : List Sight
+  pub are_sights : AreSights IsSight first checks.items sights
+  pub totals_are : TotalsAre first sights totals
+
+-- what is told of a classic capture: its header, and what is seen of its packets, which come by one interface
+abbrev pub InformsPackets : List ℕ → Checked → Option PcapHeader → Totals → Type 0
+InformsPackets s checked told_header totals =
+    (checked.format ≡ Pcap)
+    × ((FailsOpening ⊥ HeaderSays s checked × (told_header ≡ None) × TotalsAre 1 [] totals)
+    ⊎ ((header : PcapHeader) × (after : List ℕ) × HeaderText header s after × (told_header ≡ Some header)
+    × InformsItems (format_under packet_limit header) tt IsPacketSight 1 s after 0 checked totals))
+
+-- and of a capture of blocks: what is seen of the blocks behind its first section header
+abbrev pub InformsBlocks : List ℕ → Checked → Option PcapHeader → Totals → Type 0
+InformsBlocks s checked told_header totals =
+    (checked.format ≡ PcapNg) × (told_header ≡ None)
+    × ((FailsOpening ⊤ OpeningSays s checked × TotalsAre 0 [] totals)
+    ⊎ ((first : State) × (after : List ℕ) × OpeningSays s (whole first after) × InformsItems block_format first IsBlockSight 0 s after 1 checked totals))

@@ -1,0 +1,5 @@
+pub mod Information
+pub mod Sights
+pub mod Tallies
+pub mod Telling
+pub mod Totals

@@ -1,0 +1,93 @@
+-- What is seen of packets and blocks.
+use Rattle.std.specs.Prelude.{⊤, ◌≡◌, ◌≤◌, ◌<◌, ◌+◌, ◌-◌, ◌⊎◌, ◌&&◌, ℕ, List, [], ◌∷◌, length, take, Bool, Option, None, Some, nat_lt, nat_le, if◌then◌else◌}
+use Rattle.std.specs.List.{slice_get}
+use Rattle.pcap_core.specs.Answer.{whole, faulty}
+use Rattle.pcap_core.specs.Faults.{Fault}
+use Rattle.pcap_times.specs.declared.clock.Timestamp.{Timestamp}
+use Rattle.pcap_classic.specs.declared.pcap.packet.PacketHeader.{PacketHeader}
+use Rattle.pcap_classic.specs.PacketText.{Captured}
+use Rattle.pcap_blocks.specs.declared.block_type.BlockType.{BlockType}
+use Rattle.pcap_blocks.specs.declared.block_type.BlockType.TheVariants as types
+use Rattle.pcap_blocks.specs.InterfaceDescription.{Interface}
+use Rattle.pcap_blocks.specs.InterfaceTimes.{IsTimeAt}
+use Rattle.pcap_blocks.specs.ParsedBlock.{Body, EnhancedBody, OldPacketBody, SimpleBody}
+use Rattle.pcap_blocks.specs.StoredBytes.{stored_len}
+use Rattle.pcap_file.specs.Blocks.{Item}
+use Rattle.pcap_file.specs.Bodies.{SaysOfBody}
+use Rattle.pcap_file.specs.Frames.{Framed}
+use Rattle.pcap_file.specs.Placed.{carried, interfaces_at, time_in}
+use Rattle.pcapfile_run.specs.FileLines.{snaplen_of}
+use Rattle.pcapfile_info.specs.declared.seen.Seen.{Seen}
+use Rattle.pcapfile_info.specs.declared.seen.Sight.{Sight}
+use Rattle.pcapfile_info.specs.declared.seen.Sight.TheVariants as sights
+
+-- a packet of this header and this data
+abbrev pub captured_as : PacketHeader → List ℕ → Captured
+captured_as header bytes = record { header = header; bytes = bytes }
+
+-- what is seen of a packet of a classic capture, which came by the one interface
+abbrev pub captured_seen : Captured → Seen
+captured_seen packet = record {
+  interface = Some 0;
+  time = Some (time_in (carried packet));
+  stored = length packet.bytes;
+  original = packet.header.orig_len;
+}
+
+abbrev pub IsPacketSight : ℕ → Captured → Sight → Type 0
+IsPacketSight described packet sight = sight ≡ sights.Packet (captured_seen packet)
+
+-- the place of the interface of this number among all that are described, the last so many of which are of its section
+abbrev pub place_of : ℕ → ℕ → ℕ → Option ℕ
+place_of described own number = if nat_lt number own && nat_le own described then Some (described - own + number) else None
+
+-- the time at which an interface's clock has counted so many units, where there is an interface
+abbrev pub IsTimeSeen : Option Interface → ℕ → Option Timestamp → Type 0
+IsTimeSeen (Some interface) units (Some time) = IsTimeAt interface units time
+IsTimeSeen (Some interface) units None = ⊥
+IsTimeSeen None units time = time ≡ None
+
+-- what is seen of a packet of this interface, of which so many bytes are stored, and which had so many
+pub record Sees (interface : Option ℕ) (stored original : ℕ) (seen : Seen) : Type 0 where
+  pub interface_is : seen.interface ≡ interface
+  pub stored_is : seen.stored ≡ stored
+  pub original_is : seen.original ≡ original
+
+-- what is seen of a body, where so many interfaces are described, the last of them these of the section; a simple packet has no
+-- time, and came by the section's first interface
+abbrev pub IsBodySight : ℕ → List Interface → Body → Sight → Type 0
+IsBodySight described interfaces (EnhancedBody b) (sights.Packet seen) =
+    Sees (place_of described (length interfaces) b.interface_id) (length b.packet.bytes) b.packet.original_len seen
+    × IsTimeSeen (slice_get interfaces b.interface_id) b.packet.timestamp seen.time
+IsBodySight described interfaces (OldPacketBody b) (sights.Packet seen) =
+    Sees (place_of described (length interfaces) b.interface_id) (length b.packet.bytes) b.packet.original_len seen
+    × IsTimeSeen (slice_get interfaces b.interface_id) b.packet.timestamp seen.time
+IsBodySight described interfaces (SimpleBody b) (sights.Packet seen) =
+    let stored = take (stored_len b.original_len (snaplen_of (slice_get interfaces 0))) b.bytes in
+    Sees (place_of described (length interfaces) 0) (length stored) b.original_len seen × (seen.time ≡ None)
+IsBodySight described interfaces (EnhancedBody b) sight = ⊥
+IsBodySight described interfaces (OldPacketBody b) sight = ⊥
+IsBodySight described interfaces (SimpleBody b) sight = ⊥
+IsBodySight described interfaces body sight = sight ≡ sights.Other
+
+-- what is seen of a block that holds a packet: the packet, or that its body is refused
+abbrev pub IsStoredSight : ℕ → List Interface → Framed → Sight → Type 0
+IsStoredSight described interfaces block sight =
+    ((body : Body) × (rest : List ℕ) × SaysOfBody block (whole body rest) × IsBodySight described interfaces body sight)
+    ⊎ ((fault : Fault) × SaysOfBody block (faulty fault) × (sight ≡ sights.Refused))
+
+-- what is seen of a block of this type, behind so many descriptions of interfaces
+abbrev pub IsSightOf : BlockType → ℕ → List Interface → Framed → Sight → Type 0
+IsSightOf types.SectionHeader described interfaces block sight = sight ≡ sights.Section
+IsSightOf types.InterfaceDescription described interfaces block sight = sight ≡ sights.Interface
+IsSightOf types.EnhancedPacket described interfaces block sight = IsStoredSight described interfaces block sight
+IsSightOf types.Packet described interfaces block sight = IsStoredSight described interfaces block sight
+IsSightOf types.SimplePacket described interfaces block sight = IsStoredSight described interfaces block sight
+IsSightOf type described interfaces block sight = sight ≡ sights.Other
+
+abbrev pub IsFramedSight : ℕ → List Interface → Framed → Sight → Type 0
+IsFramedSight described interfaces block sight = IsSightOf block.type_ described interfaces block sight
+
+-- what is seen of a block behind so many descriptions of interfaces, under what is in force after it
+abbrev pub IsBlockSight : ℕ → Item → Sight → Type 0
+IsBlockSight described item sight = IsFramedSight described (interfaces_at item.after) item.block sight

@@ -1,0 +1,73 @@
+-- What is counted of packets.
+use Rattle.std.specs.Prelude.{◌≡◌, ◌<◌, ◌≤◌, ◌⊎◌, ◌==◌, ◌^◌, ◌-◌, ◌<ℤ◌, ℕ, List, [], Bool, Option, None, Some, nat_lt, if◌then◌else◌, min, length, sum_by, count_by, filter_map, All, Contains, slice_index}
+use Rattle.pcap_times.specs.declared.clock.Timestamp.{Timestamp}
+use Rattle.pcapfile_run.specs.Passing.{counted}
+use Rattle.pcapfile_info.specs.declared.seen.Seen.{Seen}
+use Rattle.pcapfile_info.specs.declared.tally.Tally.{Tally}
+
+-- times go by their seconds, and where these are the same by their nanoseconds
+abbrev pub IsBefore : Timestamp → Timestamp → Type 0
+IsBefore left right = (left.seconds <ℤ right.seconds) ⊎ ((left.seconds ≡ right.seconds) × (left.nanoseconds < right.nanoseconds))
+
+-- one time is the earlier one of a time and another, if there is one
+abbrev pub IsEarlierOf : Option Timestamp → Timestamp → Timestamp → Type 0
+IsEarlierOf None time earlier = earlier ≡ time
+IsEarlierOf (Some known) time earlier = (IsBefore known time × (earlier ≡ known)) ⊎ ((IsBefore known time → ⊥) × (earlier ≡ time))
+
+-- or the later one
+abbrev pub IsLaterOf : Option Timestamp → Timestamp → Timestamp → Type 0
+IsLaterOf None time later = later ≡ time
+IsLaterOf (Some known) time later = (IsBefore time known × (later ≡ known)) ⊎ ((IsBefore time known → ⊥) × (later ≡ time))
+
+-- the earliest time behind one packet more, which may have a time
+abbrev pub IsEarliestWith : Option Timestamp → Option Timestamp → Option Timestamp → Type 0
+IsEarliestWith known None earliest = earliest ≡ known
+IsEarliestWith known (Some time) None = ⊥
+IsEarliestWith known (Some time) (Some earliest) = IsEarlierOf known time earliest
+
+-- or the latest
+abbrev pub IsLatestWith : Option Timestamp → Option Timestamp → Option Timestamp → Type 0
+IsLatestWith known None latest = latest ≡ known
+IsLatestWith known (Some time) None = ⊥
+IsLatestWith known (Some time) (Some latest) = IsLaterOf known time latest
+
+-- the earliest of times is one of them, and none is before it; there is none of no times
+abbrev pub IsEarliest : List Timestamp → Option Timestamp → Type 0
+IsEarliest times None = times ≡ []
+IsEarliest times (Some earliest) = Contains times earliest × All (λ time. IsBefore time earliest → ⊥) times
+
+-- the latest of times is one of them, and it is before none
+abbrev pub IsLatest : List Timestamp → Option Timestamp → Type 0
+IsLatest times None = times ≡ []
+IsLatest times (Some latest) = Contains times latest × All (λ time. IsBefore latest time → ⊥) times
+
+-- the times of those packets that have one
+abbrev pub times_of : List Seen → List Timestamp
+times_of = filter_map (λ packet. packet.time)
+
+-- the class of a length
+abbrev pub size_class : ℕ → ℕ
+size_class n =
+    if nat_lt n 20 then 0
+    else if nat_lt n 40 then 1
+    else if nat_lt n 80 then 2
+    else if nat_lt n 160 then 3
+    else if nat_lt n 320 then 4
+    else if nat_lt n 640 then 5
+    else if nat_lt n 1280 then 6
+    else if nat_lt n 2560 then 7
+    else if nat_lt n 5120 then 8
+    else 9
+
+-- the packet's length is of this class
+abbrev pub is_of_class : ℕ → Seen → Bool
+is_of_class class packet = size_class packet.original == class
+
+-- what is counted of these packets
+pub record Tallies (packets : List Seen) (tally : Tally) : Type 0 where
+  pub number : tally.packets ≡ counted (length packets)
+  pub stored : tally.stored ≡ counted (sum_by (λ packet. packet.stored) packets)
+  pub original : tally.original ≡ counted (sum_by (λ packet. packet.original) packets)
+  pub earliest : IsEarliest (times_of packets) tally.earliest
+  pub latest : IsLatest (times_of packets) tally.latest
+  pub sizes : (class : ℕ) → class < 10 → slice_index tally.sizes class ≡ counted (count_by (is_of_class class) packets)

@@ -1,0 +1,51 @@
+-- Items of which it is told what is seen, of any format.
+use Rattle.std.specs.Prelude.{⊤, ◌≡◌, ◌+◌, ℕ, List, [], ◌∷◌, length, Bool, Option}
+use Rattle.pcap_core.specs.declared.errors.PcapError.{PcapError}
+use Rattle.pcap_core.specs.Format.{Format, state_after}
+use Rattle.pcap_core.specs.Takes.{TakesTexts, TakesItems}
+use Rattle.pcapfile_run.specs.Passing.{counted}
+use Rattle.pcapfile_info.specs.declared.progress.Progress.{Progress}
+use Rattle.pcapfile_info.specs.declared.seen.Sight.{Sight}
+use Rattle.pcapfile_info.specs.Totals.{Adds, Stay, TotalsAre, interfaces_in}
+
+-- one item more, of so many bytes, of which this is seen
+abbrev pub AddsItem : Sight → ℕ → Progress → Progress → Type 0
+AddsItem sight bytes old new = (new.items ≡ old.items + 1) × (new.bytes ≡ counted (old.bytes + bytes)) × Adds sight old.totals new.totals
+
+-- no item more
+abbrev pub AddsNothing : Progress → Progress → Type 0
+AddsNothing old new = (new.items ≡ old.items) × (new.bytes ≡ old.bytes) × Stay old.totals new.totals
+
+-- the counts stay
+abbrev pub SameCounts : Progress → Progress → Type 0
+SameCounts old new = (new.items ≡ old.items) × (new.bytes ≡ old.bytes) × (new.totals ≡ old.totals)
+
+-- these are seen of items, the first of which stands behind so many described interfaces
+abbrev pub AreSights : {V : Type 0} → (ℕ → V → Sight → Type 0) → ℕ → List V → List Sight → Type 0
+AreSights IsSight n [] [] = ⊤
+AreSights IsSight n [] (sight ∷ sights) = ⊥
+AreSights IsSight n (v ∷ vs) [] = ⊥
+AreSights IsSight n (v ∷ vs) (sight ∷ sights) = IsSight n v sight × AreSights IsSight (n + interfaces_in sight) vs sights
+
+module _ {S V : Type 0} (f : Format S V) (q : S) (IsSight : ℕ → V → Sight → Type 0) (first : ℕ) where
+  -- items that lead to this state were taken, and no more, and what is seen of them is counted
+  pub record Telling (here : S) (before left : Option (List ℕ)) (old new : Progress) (n : ℕ) : Type 0 where
+    pub items : List V
+    pub count : length items ≡ n
+    pub leads : state_after f q items ≡ here
+    pub took : TakesTexts f q items before left
+    pub number : new.items ≡ old.items + n
+    pub bytes : new.bytes ≡ counted (old.bytes + length took.bytes)
+    pub sights : List Sight
+    pub are_sights : AreSights IsSight first items sights
+    pub totals : TotalsAre first sights new.totals
+
+  -- items were taken up to a cause to stop, at most so many, and what is seen of them is counted
+  pub record TellsItems (before now : Option (List ℕ)) (failed : Bool) (most : ℕ) (old new : Progress) (fault : Option PcapError) : Type 0 where
+    pub items : List V
+    pub run : TakesItems f q before now failed most items fault
+    pub number : new.items ≡ old.items + length items
+    pub bytes : new.bytes ≡ counted (old.bytes + length run.took.bytes)
+    pub sights : List Sight
+    pub are_sights : AreSights IsSight first items sights
+    pub totals : TotalsAre first sights new.totals

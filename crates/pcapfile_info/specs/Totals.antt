@@ -1,0 +1,78 @@
+-- What is counted of the items of a capture.
+use Rattle.std.specs.Prelude.{⊤, ◌≡◌, ◌<◌, ◌+◌, ◌==◌, ◌++◌, ◌∷◌, [], ℕ, List, Bool, true, false, Option, None, Some, IfSome, length, sum_by, count_by, filter, filter_map, All}
+use Rattle.std.specs.List.{slice_index_or}
+use Rattle.pcapfile_run.specs.Passing.{counted}
+use Rattle.pcapfile_info.specs.declared.seen.Seen.{Seen}
+use Rattle.pcapfile_info.specs.declared.seen.Sight.{Sight}
+use Rattle.pcapfile_info.specs.declared.seen.Sight.TheVariants.{Packet, Refused, Interface, Section, Other}
+use Rattle.pcapfile_info.specs.declared.tally.Tally.{Tally}
+use Rattle.pcapfile_info.specs.declared.totals.Totals.{Totals}
+use Rattle.pcapfile_info.specs.Tallies.{Tallies}
+
+-- the packet that is seen, if one is
+abbrev pub packet_in : Sight → Option Seen
+packet_in (Packet packet) = Some packet
+packet_in _ = None
+
+-- the packets among what is seen, in order
+abbrev pub packets_of : List Sight → List Seen
+packets_of = filter_map packet_in
+
+abbrev pub is_refused : Sight → Bool
+is_refused Refused = true
+is_refused _ = false
+
+abbrev pub is_section : Sight → Bool
+is_section Section = true
+is_section _ = false
+
+-- how many interfaces are described there
+abbrev pub interfaces_in : Sight → ℕ
+interfaces_in Interface = 1
+interfaces_in _ = 0
+
+-- the number of an interface is this one
+abbrev pub is_number : ℕ → Option ℕ → Bool
+is_number index None = false
+is_number index (Some other) = other == index
+
+-- the packet came by the interface of this number
+abbrev pub is_by : ℕ → Seen → Bool
+is_by index packet = is_number index packet.interface
+
+-- there is none
+abbrev pub is_none : Option ℕ → Bool
+is_none None = true
+is_none (Some index) = false
+
+-- the interface that the packet came by isn't described
+abbrev pub is_undescribed : Seen → Bool
+is_undescribed packet = is_none packet.interface
+
+-- the number of an interface is one of so many
+abbrev pub IsBelow : ℕ → Option ℕ → Type 0
+IsBelow n None = ⊤
+IsBelow n (Some index) = index < n
+
+-- what is counted of items of which these are seen, where so many interfaces are known before them
+pub record TotalsAre (first : ℕ) (sights : List Sight) (totals : Totals) : Type 0 where
+  pub all : Tallies (packets_of sights) totals.all
+  pub undescribed : Tallies (filter is_undescribed (packets_of sights)) totals.undescribed
+  pub described : length totals.interfaces.items ≡ first + sum_by interfaces_in sights
+  pub by_interface : (index : ℕ) (d : Tally) → index < length totals.interfaces.items → Tallies (filter (is_by index) (packets_of sights)) (slice_index_or totals.interfaces.items index d)
+  pub within : All (λ packet. IsBelow (length totals.interfaces.items) packet.interface) (packets_of sights)
+  pub refused : totals.refused ≡ counted (count_by is_refused sights)
+  pub sections : totals.sections ≡ counted (count_by is_section sights)
+
+-- one item more, of which this is seen
+abbrev pub Adds : Sight → Totals → Totals → Type 0
+Adds sight old new = (first : ℕ) (sights : List Sight) → TotalsAre first sights old → TotalsAre first (sights ++ sight ∷ []) new
+
+-- what they are of stays
+abbrev pub Stay : Totals → Totals → Type 0
+Stay old new = (first : ℕ) (sights : List Sight) → TotalsAre first sights old → TotalsAre first sights new
+
+-- the interface of a packet is one of so many, or none
+abbrev pub IsWithin : ℕ → Sight → Type 0
+IsWithin n (Packet packet) = IsBelow n packet.interface
+IsWithin n _ = ⊤

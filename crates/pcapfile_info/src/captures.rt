@@ -1,0 +1,145 @@
+//! What whole captures hold.
+
+ghost use Rattle.std.specs.Prelude.{IfSome, IfOk};
+ghost use Rattle.pcapfile_info.specs.Information.{InformsPackets, InformsBlocks};
+
+use crate::described::{Described, push_comments};
+use crate::progress::{MOST, Progress, tell_blocks, tell_packets};
+use crate::totals::Totals;
+use pcap_file::pcap::{PcapHeader, read_header};
+use pcap_file::{PcapNgReader, PcapReader};
+use pcapfile_run::{Checked, Format, end_of};
+use std::alloc::{AllocError, Global};
+use std::io::Read;
+
+/// What is told of a capture.
+#[derive(Debug, Drop)]
+pub struct Information {
+    /// How many items were passed, how many bytes they take, and why no other follows: what a check of the capture finds.
+    pub checked: Checked,
+    /// The header of a classic capture, where it has one.
+    pub header: Option<PcapHeader>,
+    /// What is counted of these items.
+    pub totals: Totals,
+    /// How the interfaces of a capture of blocks are described, in order over all sections.
+    pub described: Vec<Described>,
+    /// The comments on its sections, in order.
+    pub comments: Vec<String>,
+}
+
+/// Tells what a classic capture that comes off a stream holds. No more than one packet is held in memory. `AllocError` where
+/// there is no room for what is counted.
+pub fn inform_packets<R: Read + Drop>(
+    alloc: Global,
+    mut input: R,
+) -> Result<Information, AllocError>
+    ensures { IfOk result (λ told. IfSome (R.remaining input) (λ s. InformsPackets s told.checked told.header told.totals)) }
+{
+    let format = Format::Pcap;
+    let totals = Totals::with_interface(alloc)?;
+    let mut read_failed = false;
+    let header = match read_header(&mut input, &mut read_failed) {
+        Ok(header) => header,
+        Err(error) => {
+            let end = end_of(Some(error), read_failed, 0, MOST);
+            return Ok(Information {
+                checked: Checked {
+                    format,
+                    items: 0,
+                    bytes: 0,
+                    end,
+                },
+                header: None,
+                totals,
+                described: Vec::new(alloc),
+                comments: Vec::new(alloc),
+            });
+        }
+    };
+    let mut reader = PcapReader::with_header(alloc, header, input);
+    let mut progress = Progress {
+        items: 0,
+        bytes: 24,
+        totals,
+        described: Vec::new(alloc),
+        comments: Vec::new(alloc),
+    };
+    let fault = tell_packets(&mut reader, &mut progress);
+    let Progress {
+        items,
+        bytes,
+        totals,
+        described,
+        comments,
+    } = progress;
+    let end = end_of(fault, reader.failed(), items, MOST);
+    Ok(Information {
+        checked: Checked {
+            format,
+            items,
+            bytes,
+            end,
+        },
+        header: Some(header),
+        totals,
+        described,
+        comments,
+    })
+}
+
+/// Tells what a capture of blocks that comes off a stream holds. No more than one block is held in memory, with the section and
+/// interfaces in force, and what is counted of each interface. `AllocError` where there is no room for comments on the section.
+pub fn inform_blocks<R: Read + Drop>(alloc: Global, input: R) -> Result<Information, AllocError>
+    ensures { IfOk result (λ told. IfSome (R.remaining input) (λ s. InformsBlocks s told.checked told.header told.totals)) }
+{
+    let format = Format::PcapNg;
+    let totals = Totals::new(alloc);
+    let mut reader = match PcapNgReader::new(alloc, input) {
+        Ok(reader) => reader,
+        Err(error) => {
+            let end = end_of(Some(error), true, 0, MOST);
+            return Ok(Information {
+                checked: Checked {
+                    format,
+                    items: 0,
+                    bytes: 0,
+                    end,
+                },
+                header: None,
+                totals,
+                described: Vec::new(alloc),
+                comments: Vec::new(alloc),
+            });
+        }
+    };
+    let mut comments = Vec::new(alloc);
+    push_comments(alloc, &mut comments, reader.section())?;
+    let mut progress = Progress {
+        items: 1,
+        bytes: reader.text().len() as u64,
+        totals,
+        described: Vec::new(alloc),
+        comments,
+    };
+    let fault = tell_blocks(alloc, &mut reader, &mut progress);
+    let Progress {
+        items,
+        bytes,
+        totals,
+        described,
+        comments,
+    } = progress;
+    let end = end_of(fault, reader.failed(), items, MOST + 1);
+    Ok(Information {
+        checked: Checked {
+            format,
+            items,
+            bytes,
+            end,
+        },
+        header: None,
+        totals,
+        described,
+        comments,
+    })
+}

@@ -1,0 +1,71 @@
+//! How sections and interfaces are described.
+
+use pcap_file::DataLink;
+use pcap_file::pcapng::{
+    InterfaceDescriptionBlock, InterfaceDescriptionOption, SectionHeaderBlock, SectionHeaderOption,
+};
+use std::alloc::{AllocError, Global};
+
+/// How an interface of a capture of blocks is described.
+#[derive(Debug, Drop)]
+pub struct Described {
+    /// Its link type.
+    pub link: DataLink,
+    /// The most bytes that are stored of a packet; 0 is no limit.
+    pub snaplen: u32,
+    /// The number of its section, from 1.
+    pub section: u64,
+    /// Its number in its section.
+    pub number: usize,
+    /// Its name, where it has one.
+    pub name: Option<String>,
+    /// Its comments.
+    pub comments: Vec<String>,
+}
+
+/// How the last of these interfaces is described, which are those of a section.
+pub(crate) fn describe_last(
+    alloc: Global,
+    section: u64,
+    interfaces: &[InterfaceDescriptionBlock<'static>],
+) -> Result<Option<Described>, AllocError> {
+    let Some(interface) = interfaces.last() else {
+        return Ok(None);
+    };
+    let mut described = Described {
+        link: interface.linktype,
+        snaplen: interface.snaplen,
+        section,
+        number: interfaces.len().saturating_sub(1),
+        name: None,
+        comments: Vec::new(alloc),
+    };
+    for option in interface.options.iter() {
+        match option {
+            InterfaceDescriptionOption::IfName(name) => {
+                described.name = Some(String::from_str(alloc, name.as_str())?);
+            }
+            InterfaceDescriptionOption::Comment(text) => {
+                described
+                    .comments
+                    .push(String::from_str(alloc, text.as_str())?)?;
+            }
+            _ => {}
+        }
+    }
+    Ok(Some(described))
+}
+
+/// Keeps the comments on a section.
+pub(crate) fn push_comments(
+    alloc: Global,
+    comments: &mut Vec<String>,
+    section: &SectionHeaderBlock<'static>,
+) -> Result<(), AllocError> {
+    for option in section.options.iter() {
+        if let SectionHeaderOption::Comment(text) = option {
+            comments.push(String::from_str(alloc, text.as_str())?)?;
+        }
+    }
+    Ok(())
+}

@@ -1,0 +1,17 @@
+//! What captures in files hold, over any input: packets, bytes, times and sizes, of all and by interface.
+#![tactic(auto)]
+
+mod blocks;
+mod captures;
+mod described;
+mod packets;
+mod progress;
+mod seen;
+mod tally;
+mod totals;
+
+pub use captures::{Information, inform_blocks, inform_packets};
+pub use described::Described;
+pub use seen::{Seen, Sight};
+pub use tally::{CLASSES, LEAST, Tally};
+pub use totals::Totals;

@@ -1,0 +1,165 @@
+//! Items that are passed, and what is counted of them.
+
+ghost use Rattle.std.specs.Prelude.{◌≡◌, ◌+◌, ◌^◌, ◌<◌, [], false, length, MatchResult};
+ghost use Rattle.pcap_core.specs.Errors.{IsMemory};
+ghost use Rattle.pcap_classic.specs.Packets.{reader_format};
+ghost use Rattle.pcap_classic.specs.PacketText.{packet_limit};
+ghost use Rattle.pcap_classic.specs.Reader.{stream_of, has_failed, is_done};
+ghost use Rattle.pcap_file.specs.Blocks.{block_format};
+ghost use Rattle.pcap_file.specs.Reader as ng;
+ghost use Rattle.pcapfile_run.specs.Passing.{counted};
+ghost use Rattle.pcapfile_info.specs.declared.seen.Sight.TheVariants.{Packet};
+ghost use Rattle.pcapfile_info.specs.Sights.{IsBlockSight, IsPacketSight};
+ghost use Rattle.pcapfile_info.specs.Telling.{AddsItem, AddsNothing, SameCounts, TellsItems};
+ghost use Rattle.pcapfile_info.specs.Totals.{IsBelow, IsWithin, TotalsAre};
+
+use crate::blocks::sight_of_block;
+use crate::described::{Described, describe_last, push_comments};
+use crate::packets::seen_of;
+use crate::seen::{Seen, Sight};
+use crate::totals::Totals;
+use pcap_file::pcapng::{BlockHeader, InterfaceDescriptionBlock, SectionHeaderBlock};
+use pcap_file::{PcapError, PcapNgReader, PcapReader, ResultParsing};
+use std::alloc::{AllocError, Global};
+use std::io::Read;
+
+/// The most items that are passed.
+pub(crate) const MOST: u64 = 18_446_744_073_709_551_614;
+
+/// How many items were passed, how many bytes they take with what stands before them, what is counted of them, and
+/// how sections and interfaces are described.
+#[derive(Drop)]
+pub(crate) struct Progress {
+    pub(crate) items: u64,
+    pub(crate) bytes: u64,
+    pub(crate) totals: Totals,
+    pub(crate) described: Vec<Described>,
+    pub(crate) comments: Vec<String>,
+}
+
+impl Progress {
+    // One item more, of so many bytes, of which this packet is seen.
+    fn add_packet(&mut self, seen: Seen, bytes: u64)
+        requires few { self.old.items + 1 < 2 ^ 64 }
+        requires within { IsBelow (length self.old.totals.interfaces.items) seen.interface }
+        ensures { AddsItem (Packet seen) bytes self.old self.new }
+    {
+        self.totals.add_packet(seen);
+        self.items += 1;
+        self.bytes = self.bytes.saturating_add(bytes);
+    }
+
+    // Keeps how the last of the section's interfaces is described.
+    fn describe(
+        &mut self,
+        alloc: Global,
+        interfaces: &[InterfaceDescriptionBlock<'static>],
+    ) -> Result<(), AllocError>
+        ensures { SameCounts self.old self.new }
+    {
+        let section = self.totals.sections.saturating_add(1);
+        if let Some(described) = describe_last(alloc, section, interfaces)? {
+            self.described.push(described)?;
+        }
+        Ok(())
+    }
+
+    // Keeps what this sight adds to how sections and interfaces are described.
+    fn keep(
+        &mut self,
+        alloc: Global,
+        sight: Sight,
+        section: &SectionHeaderBlock<'static>,
+        interfaces: &[InterfaceDescriptionBlock<'static>],
+    ) -> Result<(), AllocError>
+        ensures { SameCounts self.old self.new }
+    {
+        match sight {
+            Sight::Interface => self.describe(alloc, interfaces),
+            Sight::Section => push_comments(alloc, &mut self.comments, section),
+            _ => Ok(()),
+        }
+    }
+
+    // One item more, of so many bytes, of which this is seen.
+    fn add(&mut self, sight: Sight, bytes: u64) -> Result<(), AllocError>
+        requires few { self.old.items + 1 < 2 ^ 64 }
+        requires within { IsWithin (length self.old.totals.interfaces.items) sight }
+        ensures { MatchResult result (λ done. AddsItem sight bytes self.old self.new) (λ e. AddsNothing self.old self.new) }
+    {
+        self.totals.add(sight)?;
+        self.items += 1;
+        self.bytes = self.bytes.saturating_add(bytes);
+        Ok(())
+    }
+}
+
+/// Passes the packets of a reader, and gives what refuses the next one.
+pub(crate) fn tell_packets<T: Read + Drop>(
+    reader: &mut PcapReader<T>,
+    progress: &mut Progress,
+) -> Option<PcapError>
+    requires ready { is_done reader.old ≡ false }
+    requires unfailed { has_failed reader.old ≡ false }
+    requires few { progress.old.items < 2 }
+    requires room { progress.old.bytes < 2 ^ 64 }
+    requires nothing { TotalsAre 1 [] progress.old.totals }
+    ensures header { reader.new.header ≡ reader.old.header }
+    ensures tells { TellsItems (reader_format packet_limit reader.old.header) tt IsPacketSight 1 (T.remaining (stream_of reader.old)) (T.remaining (stream_of reader.new)) (has_failed reader.new) 18446744073709551614 progress.old progress.new result }
+{
+    for turn in 0..MOST {
+        match reader.next_header() {
+            None => return None,
+            Some(Ok(header)) => {
+                let seen = seen_of(header, reader.data());
+                progress.add_packet(seen, 16 + u64::from(header.incl_len));
+            }
+            Some(Err(error)) => return Some(error),
+        }
+    }
+    None
+}
+
+// Counts the block that a reader lends.
+fn tell_block<T: Read + Drop>(
+    alloc: Global,
+    reader: &PcapNgReader<T>,
+    header: BlockHeader,
+    progress: &mut Progress,
+) -> ResultParsing<()>
+    requires { progress.old.items + 1 < 2 ^ 64 }
+    ensures { MatchResult result (λ done. (sight : Sight) × IsBlockSight (length progress.old.totals.interfaces.items) (ng.lent_item reader.now header) sight × AddsItem sight (length (ng.text_of reader.now)) progress.old progress.new) (λ e. IsMemory e × AddsNothing progress.old progress.new) }
+{
+    let described = progress.totals.interfaces.as_slice().len();
+    let block = reader.block(header);
+    let sight = sight_of_block(alloc, described, reader.interfaces(), &block)?;
+    progress.keep(alloc, sight, reader.section(), reader.interfaces())?;
+    progress.add(sight, reader.text().len() as u64)?;
+    Ok(())
+}
+
+/// Passes the blocks of a reader, and gives what refuses the next one.
+pub(crate) fn tell_blocks<T: Read + Drop>(
+    alloc: Global,
+    reader: &mut PcapNgReader<T>,
+    progress: &mut Progress,
+) -> Option<PcapError>
+    requires ready { ng.is_done reader.old ≡ false }
+    requires unfailed { ng.has_failed reader.old ≡ false }
+    requires few { progress.old.items < 2 }
+    requires room { progress.old.bytes < 2 ^ 64 }
+    requires nothing { TotalsAre 0 [] progress.old.totals }
+    ensures tells { TellsItems block_format (ng.state_of reader.old) IsBlockSight 0 (T.remaining (ng.stream_of reader.old)) (T.remaining (ng.stream_of reader.new)) (ng.has_failed reader.new) 18446744073709551614 progress.old progress.new result }
+{
+    for turn in 0..MOST {
+        match reader.next_header() {
+            None => return None,
+            Some(Ok(header)) => match tell_block(alloc, reader, header, progress) {
+                Ok(()) => {}
+                Err(error) => return Some(error),
+            },
+            Some(Err(error)) => return Some(error),
+        }
+    }
+    None
+}

@@ -1,0 +1,129 @@
+//! What is counted of packets.
+
+ghost use Rattle.std.specs.Prelude.{◌≡◌, ◌<◌, ◌⊎◌, ◌++◌, ◌∷◌, [], List, Some, IsTrue, ◌↔◌, IfSome};
+ghost use Rattle.pcapfile_info.specs.declared.seen.Seen.{Seen};
+ghost use Rattle.pcapfile_info.specs.Tallies.{IsBefore, IsEarlierOf, IsEarliestWith, IsLaterOf, IsLatestWith, size_class, Tallies};
+
+use crate::seen::Seen;
+use pcap_file::pcapng::Timestamp;
+
+/// How many classes of lengths there are.
+pub const CLASSES: usize = 10;
+
+/// The least length of each class, in bytes.
+pub const LEAST: [u32; CLASSES] = [0, 20, 40, 80, 160, 320, 640, 1280, 2560, 5120];
+
+/// What is counted of packets. A number above 2^64 - 1 is told as that number.
+#[derive(Clone, Copy, Debug, PartialEq, Eq)]
+pub struct Tally {
+    /// How many packets.
+    pub packets: u64,
+    /// How many bytes are stored of them.
+    pub stored: u64,
+    /// How many bytes they had.
+    pub original: u64,
+    /// The earliest of their times. None where none has a time.
+    pub earliest: Option<Timestamp>,
+    /// The latest of their times. None where none has a time.
+    pub latest: Option<Timestamp>,
+    /// How many packets had a length of each class.
+    pub sizes: [u64; CLASSES],
+}
+
+fn is_before(left: Timestamp, right: Timestamp) -> bool
+    ensures { IsTrue result ↔ IsBefore left right }
+{
+    left < right
+}
+
+// The earlier one of a time and another, if there is one.
+fn earlier_of(known: Option<Timestamp>, time: Timestamp) -> Timestamp
+    ensures { IsEarlierOf known time result }
+{
+    let Some(first) = known else {
+        return time;
+    };
+    if is_before(first, time) { first } else { time }
+}
+
+// The later one of a time and another, if there is one.
+fn later_of(known: Option<Timestamp>, time: Timestamp) -> Timestamp
+    ensures { IsLaterOf known time result }
+{
+    let Some(last) = known else {
+        return time;
+    };
+    if is_before(time, last) { last } else { time }
+}
+
+// The earliest time behind a packet of this time.
+fn earliest_with(known: Option<Timestamp>, time: Option<Timestamp>) -> Option<Timestamp>
+    ensures { IsEarliestWith known time result }
+{
+    match time {
+        None => known,
+        Some(time) => Some(earlier_of(known, time)),
+    }
+}
+
+// The latest time behind a packet of this time.
+fn latest_with(known: Option<Timestamp>, time: Option<Timestamp>) -> Option<Timestamp>
+    ensures { IsLatestWith known time result }
+{
+    match time {
+        None => known,
+        Some(time) => Some(later_of(known, time)),
+    }
+}
+
+// The class of a length.
+fn class_of(original: u32) -> usize
+    ensures class { result ≡ size_class original }
+    ensures within { result < 10 }
+{
+    match original {
+        0..20 => 0,
+        20..40 => 1,
+        40..80 => 2,
+        80..160 => 3,
+        160..320 => 4,
+        320..640 => 5,
+        640..1280 => 6,
+        1280..2560 => 7,
+        2560..5120 => 8,
+        _ => 9,
+    }
+}
+
+impl Tally {
+    /// That of no packet.
+    pub(crate) fn new() -> Tally
+        ensures { Tallies [] result }
+    {
+        Tally {
+            packets: 0,
+            stored: 0,
+            original: 0,
+            earliest: None,
+            latest: None,
+            sizes: [0; CLASSES],
+        }
+    }
+
+    /// That of one packet more.
+    pub(crate) fn with(self, seen: Seen) -> Tally
+        ensures { (packets : List Seen) → Tallies packets self → Tallies (packets ++ seen ∷ []) result }
+    {
+        let mut sizes = self.sizes;
+        let class = class_of(seen.original);
+        sizes[class] = sizes[class].saturating_add(1);
+        Tally {
+            packets: self.packets.saturating_add(1),
+            stored: self.stored.saturating_add(seen.stored),
+            original: self.original.saturating_add(u64::from(seen.original)),
+            earliest: earliest_with(self.earliest, seen.time),
+            latest: latest_with(self.latest, seen.time),
+            sizes,
+        }
+    }
+}

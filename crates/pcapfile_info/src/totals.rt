@@ -1,0 +1,78 @@
+//! What is counted of the items of a capture.
+
+ghost use Rattle.std.specs.Prelude.{[], IfOk, MatchResult, length};
+ghost use Rattle.pcapfile_info.specs.declared.seen.Sight.TheVariants.{Packet};
+ghost use Rattle.pcapfile_info.specs.Totals.{Adds, IsBelow, IsWithin, Stay, TotalsAre};
+
+use crate::seen::{Seen, Sight};
+use crate::tally::Tally;
+use std::alloc::{AllocError, Global};
+
+/// What is counted of the items of a capture. A number above 2^64 - 1 is told as that number.
+#[derive(Debug, Drop)]
+pub struct Totals {
+    /// How many sections begin behind the first.
+    pub sections: u64,
+    /// How many packets have a body that is refused. They are counted nowhere else.
+    pub refused: u64,
+    /// All packets.
+    pub all: Tally,
+    /// Those whose interface isn't described.
+    pub undescribed: Tally,
+    /// Those of each interface that is described, in order over all sections. A classic capture has one.
+    pub interfaces: Vec<Tally>,
+}
+
+impl Totals {
+    /// Those of no item, without an interface.
+    pub(crate) fn new(alloc: Global) -> Totals
+        ensures { TotalsAre 0 [] result }
+    {
+        Totals {
+            sections: 0,
+            refused: 0,
+            all: Tally::new(),
+            undescribed: Tally::new(),
+            interfaces: Vec::new(alloc),
+        }
+    }
+
+    /// Those of no item, of one interface.
+    pub(crate) fn with_interface(alloc: Global) -> Result<Totals, AllocError>
+        ensures { IfOk result (TotalsAre 1 []) }
+    {
+        let mut totals = Totals::new(alloc);
+        totals.interfaces.push(Tally::new())?;
+        Ok(totals)
+    }
+
+    /// One packet more.
+    pub(crate) fn add_packet(&mut self, seen: Seen)
+        requires { IsBelow (length self.old.interfaces.items) seen.interface }
+        ensures { Adds (Packet seen) self.old self.new }
+    {
+        self.all = self.all.with(seen);
+        match seen.interface {
+            None => self.undescribed = self.undescribed.with(seen),
+            Some(index) => {
+                let tally = self.interfaces[index];
+                self.interfaces[index] = tally.with(seen);
+            }
+        }
+    }
+
+    /// One item more, of which this is seen. An `Err` leaves what they are of as it was.
+    pub(crate) fn add(&mut self, sight: Sight) -> Result<(), AllocError>
+        requires { IsWithin (length self.old.interfaces.items) sight }
+        ensures { MatchResult result (λ done. Adds sight self.old self.new) (λ e. Stay self.old self.new) }
+    {
+        match sight {
+            Sight::Packet(seen) => self.add_packet(seen),
+            Sight::Refused => self.refused = self.refused.saturating_add(1),
+            Sight::Interface => self.interfaces.push(Tally::new())?,
+            Sight::Section => self.sections = self.sections.saturating_add(1),
+            Sight::Other => {}
+        }
+        Ok(())
+    }
+}
