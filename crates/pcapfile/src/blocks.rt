@@ -3,7 +3,7 @@
 use crate::source::{Source, nothing};
 use pcap_core::stream::put;
 use pcap_file::pcapng::{
-    BlockHeader, BlockType, InterfaceDescriptionBlock, ParsedBlock, Timestamp,
+    Block, BlockHeader, BlockType, InterfaceDescriptionBlock, ParsedBlock, Timestamp,
 };
 use pcap_file::{PcapNgReader, ResultParsing};
 use pcapfile_cut::{Outcome, Wanted};
@@ -153,19 +153,10 @@ impl<R: Read + Drop> Blocks<R> {
         header: BlockHeader,
         times: (Timestamp, Timestamp),
     ) -> ResultParsing<bool> {
-        let (from, until) = times;
-        let interfaces = self.reader.interfaces();
-        let time = match self.reader.block(header).parsed(alloc)? {
-            ParsedBlock::EnhancedPacket(packet) => {
-                time_at(interfaces, packet.interface_id as usize, packet.timestamp)
-            }
-            ParsedBlock::Packet(packet) => {
-                time_at(interfaces, packet.interface_id as usize, packet.timestamp)
-            }
-            _ => None,
-        };
+        let block = self.reader.block(header);
+        let time = time_of(alloc, self.reader.interfaces(), &block)?;
         Ok(match time {
-            Some(time) => from <= time && time < until,
+            Some(time) => times.0 <= time && time < times.1,
             None => false,
         })
     }
@@ -206,6 +197,24 @@ fn moment(nanoseconds: u64) -> Timestamp {
         seconds: i128::from(nanoseconds / SECOND),
         nanoseconds: (nanoseconds % SECOND) as u32,
     }
+}
+
+// The time of the packet in a block, where it has one.
+fn time_of(
+    alloc: Global,
+    interfaces: &[InterfaceDescriptionBlock<'static>],
+    block: &Block<'_>,
+) -> ResultParsing<Option<Timestamp>> {
+    let parsed = block.parsed(alloc)?;
+    Ok(match &parsed {
+        ParsedBlock::EnhancedPacket(packet) => {
+            time_at(interfaces, packet.interface_id as usize, packet.timestamp)
+        }
+        ParsedBlock::Packet(packet) => {
+            time_at(interfaces, packet.interface_id as usize, packet.timestamp)
+        }
+        _ => None,
+    })
 }
 
 fn time_at(

@@ -123,12 +123,7 @@ fn convert<'a>(alloc: Global) -> Result<Command<'a>, AllocError> {
         .value_name("FORMAT")
         .value_parser(FORMATS)
         .help("The format that it gets, else the one that it isn't of");
-    let out = Arg::new(alloc, OUT)
-        .short('o')
-        .long("output")
-        .value_name("OUT")
-        .required(true)
-        .help("Where it goes; - is standard output");
+    let out = output(alloc, "Where it goes; - is standard output");
     Command::new(alloc, "convert")
         .about(CONVERT)
         .after_help(STATUSES)
@@ -141,48 +136,60 @@ fn cut<'a>(alloc: Global) -> Result<Command<'a>, AllocError> {
     let from = Arg::new(alloc, CAPTURE)
         .required(true)
         .help("The capture that is cut; - is standard input");
-    let out = Arg::new(alloc, OUT)
-        .short('o')
-        .long("output")
-        .value_name("OUT")
-        .required(true)
-        .help("Where it goes; - is standard output, of one part");
-    let ways = [PACKETS, EVERY, PARTS, BYTES];
-    let packets = Arg::new(alloc, PACKETS)
-        .long("packets")
-        .value_name("RANGE")
-        .conflicts_with_all(&[FROM, UNTIL, EVERY, PARTS, BYTES])?
-        .help("Those of these numbers as list has them: 10-20, 10-, -20 or 10");
-    let earliest = Arg::new(alloc, FROM)
-        .long("from")
-        .value_name("TIME")
-        .conflicts_with_all(&ways)?
-        .help("Those at this time and later");
-    let until = Arg::new(alloc, UNTIL)
-        .long("until")
-        .value_name("TIME")
-        .conflicts_with_all(&ways)?
-        .help("Those before this time");
-    let every = number(alloc, EVERY)
-        .conflicts_with_all(&[PARTS, BYTES])?
-        .help("Parts of so many packets");
-    let parts = number(alloc, PARTS)
-        .conflicts_with_all(&[EVERY, BYTES])?
-        .help("So many parts of nearly equal length, of a file");
-    let bytes = number(alloc, BYTES)
-        .conflicts_with_all(&[EVERY, PARTS])?
-        .help("Parts that end with the packet at which they have so many bytes");
     Command::new(alloc, "cut")
         .about(CUT)
         .after_help(STATUSES)
         .arg(from)?
-        .arg(packets)?
-        .arg(earliest)?
-        .arg(until)?
-        .arg(every)?
-        .arg(parts)?
-        .arg(bytes)?
-        .arg(out)
+        .arg(range(alloc)?)?
+        .arg(time(alloc, FROM, "Those at this time and later")?)?
+        .arg(time(alloc, UNTIL, "Those before this time")?)?
+        .arg(every(alloc)?)?
+        .arg(parts(alloc)?)?
+        .arg(bytes(alloc)?)?
+        .arg(output(alloc, "Where it goes; - is standard output, of one part"))
+}
+
+fn range<'a>(alloc: Global) -> Result<Arg<'a>, AllocError> {
+    let packets = Arg::new(alloc, PACKETS)
+        .long("packets")
+        .value_name("RANGE")
+        .help("Those of these numbers as list has them: 10-20, 10-, -20 or 10");
+    packets.conflicts_with_all(&[FROM, UNTIL, EVERY, PARTS, BYTES])
+}
+
+fn time<'a>(alloc: Global, name: &'a str, help: &'a str) -> Result<Arg<'a>, AllocError> {
+    let time = Arg::new(alloc, name)
+        .long(name)
+        .value_name("TIME")
+        .help(help);
+    time.conflicts_with_all(&[PACKETS, EVERY, PARTS, BYTES])
+}
+
+fn every<'a>(alloc: Global) -> Result<Arg<'a>, AllocError> {
+    number(alloc, EVERY)
+        .help("Parts of so many packets")
+        .conflicts_with_all(&[PARTS, BYTES])
+}
+
+fn parts<'a>(alloc: Global) -> Result<Arg<'a>, AllocError> {
+    number(alloc, PARTS)
+        .help("So many parts of nearly equal length, of a file")
+        .conflicts_with_all(&[EVERY, BYTES])
+}
+
+fn bytes<'a>(alloc: Global) -> Result<Arg<'a>, AllocError> {
+    number(alloc, BYTES)
+        .help("Parts that end with the packet at which they have so many bytes")
+        .conflicts_with_all(&[EVERY, PARTS])
+}
+
+fn output<'a>(alloc: Global, help: &'a str) -> Arg<'a> {
+    Arg::new(alloc, OUT)
+        .short('o')
+        .long("output")
+        .value_name("OUT")
+        .required(true)
+        .help(help)
 }
 
 fn number<'a>(alloc: Global, name: &'a str) -> Arg<'a> {
@@ -197,12 +204,7 @@ fn join<'a>(alloc: Global) -> Result<Command<'a>, AllocError> {
         .required(true)
         .num_args(1..)
         .help("The parts in their order");
-    let out = Arg::new(alloc, OUT)
-        .short('o')
-        .long("output")
-        .value_name("OUT")
-        .required(true)
-        .help("Where the capture goes; - is standard output");
+    let out = output(alloc, "Where the capture goes; - is standard output");
     Command::new(alloc, "join")
         .about(JOIN)
         .after_help(STATUSES)
