@@ -1,7 +1,7 @@
 //! The word `convert`.
 
-use crate::FAILED;
 use crate::input::{STANDARD, buffered};
+use crate::output::{OUTPUT, Unfinished, tell_read};
 use crate::tell::{tell_error, tell_io};
 use capcopy_run::Uninterrupted;
 use pcap_file::pcap::PcapHeader;
@@ -13,11 +13,8 @@ use pcap_file::{DataLink, PcapError, PcapNgReader, PcapWriter, ResultParsing};
 use pcapfile_run::{Format, format_of};
 use std::alloc::Global;
 use std::fs::File;
+use std::io;
 use std::io::{BufRead, BufWriter, Read, Write};
-use std::{fs, io};
-
-/// The size of the buffer before the output, in bytes.
-const OUTPUT: usize = 65_536;
 
 /// The magic number of a little-endian classic capture in nanoseconds.
 const LITTLE_NANOSECONDS: u32 = 0x4D3C_B2A1;
@@ -78,31 +75,16 @@ pub(crate) fn convert_file(rt: &HostRuntime, asked: &Conversion) -> anyhow::Resu
         return tell_ended(rt, asked, &ended);
     }
     if asked.out == asked.from {
-        eprintln!(rt; "pcapfile: {}: is the capture that is read", asked.out)?;
-        return Ok(FAILED);
+        return tell_read(rt, asked.out);
     }
-    let unfinished = format!(in rt.alloc(); "{}.part", asked.out)?;
-    let file = match File::create_new(rt, unfinished.as_str()) {
+    let unfinished = Unfinished::new(rt, asked.out)?;
+    let file = match unfinished.create(rt) {
         Ok(file) => file,
-        Err(error) => return tell_io(rt, unfinished.as_str(), &error),
+        Err(error) => return tell_io(rt, unfinished.part(), &error),
     };
     let ended = open_and_convert(rt, asked, Uninterrupted::new(file));
-    let told = match tell_ended(rt, asked, &ended) {
-        Ok(0) => name_finished(rt, unfinished.as_str(), asked.out),
-        failed => failed,
-    };
-    if !matches!(&told, Ok(0)) {
-        // What made this fail has been told.
-        let _ = fs::remove_file(rt, unfinished.as_str());
-    }
-    told
-}
-
-fn name_finished(rt: &HostRuntime, unfinished: &str, out: &str) -> anyhow::Result<u8> {
-    match fs::rename(rt, unfinished, out) {
-        Ok(()) => Ok(0),
-        Err(error) => tell_io(rt, out, &error),
-    }
+    let told = tell_ended(rt, asked, &ended);
+    unfinished.finish(rt, told)
 }
 
 fn tell_ended(

@@ -8,6 +8,8 @@ mod cut;
 mod input;
 mod join;
 mod list;
+mod merge;
+mod opening;
 mod output;
 mod ranges;
 mod source;
@@ -18,6 +20,7 @@ use clap::ArgMatches;
 use convert::Conversion;
 use cut::{Cutting, Way};
 use join::Joining;
+use merge::Merge;
 use pcapfile_cut::Wanted;
 use pcapfile_run::Format;
 use std::env;
@@ -106,6 +109,14 @@ fn join_parts(rt: &HostRuntime, words: &ArgMatches) -> anyhow::Result<u8> {
     join::join_files(rt, &asked)
 }
 
+// What the word `merge` is asked for.
+fn merging<'a>(words: &'a ArgMatches<'_>) -> Merge<'a> {
+    Merge {
+        names: words.get_strs(words::FILES).unwrap_or_default(),
+        out: words.get_str(words::OUT).unwrap_or_default(),
+    }
+}
+
 // Does what the words ask for, and gives the status.
 fn run(rt: &HostRuntime) -> anyhow::Result<u8> {
     let words: Vec<String> = env::args(rt)?.collect(rt.alloc())?;
@@ -128,6 +139,7 @@ fn run(rt: &HostRuntime) -> anyhow::Result<u8> {
             rt,
             list.get_strs(words::FILES).unwrap_or_default(),
         ),
+        Some(("merge", words)) => merge::merge_files(rt, &merging(words)),
         _ => Ok(0),
     }
 }

@@ -77,11 +77,25 @@ the capture is at fault the parts before the fault stay.
 
 A time is in seconds since 1970, as 1700000000.25, or as 2023-11-14T22:13:20.25Z.";
 
+const RANGE_HELP: &str = "Those of these numbers as list has them: 10-20, 10-, -20 or 10";
+
+const PARTS_HELP: &str = "So many parts of nearly equal length, of a file";
+
+const BYTES_HELP: &str = "Parts that end with the packet at which they have so many bytes";
+
 const JOIN: &str =
     "Writes the parts of a capture as one: the first as it is, and the packets of each other.
 
 The headers of all parts are the same bytes. The file is written as OUT.part, and is named OUT once
 all of it is there.";
+
+const MERGE: &str = "Writes the packets of several captures by time into one PcapNg capture.
+
+The next packet is always the earliest among the next packets of all captures; among those of one
+time that of the first capture goes first, and one without a time goes before all others. Each
+interface of each capture is one of the other one. What refuses a capture is said on standard error,
+and its packets before that are merged. The file is written as OUT.part, and is named OUT once all
+of it is there.";
 
 /// The program's command line.
 pub(crate) fn command<'a>(alloc: Global) -> Result<Command<'a>, AllocError> {
@@ -95,7 +109,8 @@ pub(crate) fn command<'a>(alloc: Global) -> Result<Command<'a>, AllocError> {
         .subcommand(list(alloc)?)?
         .subcommand(convert(alloc)?)?
         .subcommand(cut(alloc)?)?
-        .subcommand(join(alloc)?)
+        .subcommand(join(alloc)?)?
+        .subcommand(merge(alloc)?)
 }
 
 fn check<'a>(alloc: Global) -> Result<Command<'a>, AllocError> {
@@ -140,21 +155,21 @@ fn cut<'a>(alloc: Global) -> Result<Command<'a>, AllocError> {
         .about(CUT)
         .after_help(STATUSES)
         .arg(from)?
-        .arg(range(alloc)?)?
+        .arg(range(alloc, PACKETS, RANGE_HELP)?)?
         .arg(time(alloc, FROM, "Those at this time and later")?)?
         .arg(time(alloc, UNTIL, "Those before this time")?)?
-        .arg(every(alloc)?)?
-        .arg(parts(alloc)?)?
-        .arg(bytes(alloc)?)?
+        .arg(every(alloc, EVERY, "Parts of so many packets")?)?
+        .arg(parts(alloc, PARTS, PARTS_HELP)?)?
+        .arg(bytes(alloc, BYTES, BYTES_HELP)?)?
         .arg(output(alloc, "Where it goes; - is standard output, of one part"))
 }
 
-fn range<'a>(alloc: Global) -> Result<Arg<'a>, AllocError> {
-    let packets = Arg::new(alloc, PACKETS)
-        .long("packets")
+fn range<'a>(alloc: Global, name: &'a str, help: &'a str) -> Result<Arg<'a>, AllocError> {
+    let range = Arg::new(alloc, name)
+        .long(name)
         .value_name("RANGE")
-        .help("Those of these numbers as list has them: 10-20, 10-, -20 or 10");
-    packets.conflicts_with_all(&[FROM, UNTIL, EVERY, PARTS, BYTES])
+        .help(help);
+    range.conflicts_with_all(&[FROM, UNTIL, EVERY, PARTS, BYTES])
 }
 
 fn time<'a>(alloc: Global, name: &'a str, help: &'a str) -> Result<Arg<'a>, AllocError> {
@@ -165,22 +180,19 @@ fn time<'a>(alloc: Global, name: &'a str, help: &'a str) -> Result<Arg<'a>, Allo
     time.conflicts_with_all(&[PACKETS, EVERY, PARTS, BYTES])
 }
 
-fn every<'a>(alloc: Global) -> Result<Arg<'a>, AllocError> {
-    number(alloc, EVERY)
-        .help("Parts of so many packets")
-        .conflicts_with_all(&[PARTS, BYTES])
+fn every<'a>(alloc: Global, name: &'a str, help: &'a str) -> Result<Arg<'a>, AllocError> {
+    let every = number(alloc, name).help(help);
+    every.conflicts_with_all(&[PARTS, BYTES])
 }
 
-fn parts<'a>(alloc: Global) -> Result<Arg<'a>, AllocError> {
-    number(alloc, PARTS)
-        .help("So many parts of nearly equal length, of a file")
-        .conflicts_with_all(&[EVERY, BYTES])
+fn parts<'a>(alloc: Global, name: &'a str, help: &'a str) -> Result<Arg<'a>, AllocError> {
+    let parts = number(alloc, name).help(help);
+    parts.conflicts_with_all(&[EVERY, BYTES])
 }
 
-fn bytes<'a>(alloc: Global) -> Result<Arg<'a>, AllocError> {
-    number(alloc, BYTES)
-        .help("Parts that end with the packet at which they have so many bytes")
-        .conflicts_with_all(&[EVERY, PARTS])
+fn bytes<'a>(alloc: Global, name: &'a str, help: &'a str) -> Result<Arg<'a>, AllocError> {
+    let bytes = number(alloc, name).help(help);
+    bytes.conflicts_with_all(&[EVERY, PARTS])
 }
 
 fn output<'a>(alloc: Global, help: &'a str) -> Arg<'a> {
@@ -210,6 +222,14 @@ fn join<'a>(alloc: Global) -> Result<Command<'a>, AllocError> {
         .after_help(STATUSES)
         .arg(parts)?
         .arg(out)
+}
+
+fn merge<'a>(alloc: Global) -> Result<Command<'a>, AllocError> {
+    Command::new(alloc, "merge")
+        .about(MERGE)
+        .after_help(STATUSES)
+        .arg(files(alloc))?
+        .arg(output(alloc, "Where it goes; - is standard output"))
 }
 
 fn files<'a>(alloc: Global) -> Arg<'a> {

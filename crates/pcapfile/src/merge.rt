@@ -1,0 +1,129 @@
+//! The word `merge`.
+
+use crate::input::{STANDARD, Stream, buffered, open_stream};
+use crate::opening::{interfaces_of, put_opening};
+use crate::output::{OUTPUT, Unfinished, tell_read};
+use crate::tell::{tell_error, tell_io};
+use capcopy_run::Uninterrupted;
+use pcap_file::{PcapNgReader, PcapReader, ResultParsing};
+use pcapfile_merge::{Reader, Source, merge_packets};
+use pcapfile_run::{Format, format_of};
+use std::alloc::Global;
+use std::io::{BufReader, BufWriter, Write};
+
+/// A capture that is merged, off a buffer.
+type Input = BufReader<Uninterrupted<Stream>>;
+
+/// What the word is asked for.
+#[derive(Drop)]
+pub(crate) struct Merge<'a> {
+    /// The names of the captures that are merged.
+    pub(crate) names: &'a [&'a str],
+    /// The name of the other one.
+    pub(crate) out: &'a str,
+}
+
+/// How a merge ended.
+#[derive(Clone, Copy)]
+struct Ended {
+    /// The worst status of its files.
+    status: u8,
+    /// Whether all that there was to write went out.
+    is_whole: bool,
+}
+
+impl Ended {
+    // A merge that was given up.
+    fn given_up(status: u8) -> Ended {
+        Ended {
+            status,
+            is_whole: false,
+        }
+    }
+}
+
+/// Merges captures, and gives the status. A file is written under another name in the same folder, and has its own once all of
+/// it is there.
+pub(crate) fn merge_files(rt: &HostRuntime, asked: &Merge) -> anyhow::Result<u8> {
+    if asked.out == STANDARD {
+        let ended = merge_to(rt, asked, Uninterrupted::new(rt.stdout()))?;
+        return Ok(ended.status);
+    }
+    if asked.names.contains(&asked.out) {
+        return tell_read(rt, asked.out);
+    }
+    let unfinished = Unfinished::new(rt, asked.out)?;
+    let file = match unfinished.create(rt) {
+        Ok(file) => file,
+        Err(error) => return tell_io(rt, unfinished.part(), &error),
+    };
+    let ended = merge_to(rt, asked, Uninterrupted::new(file));
+    match ended {
+        Ok(
+            Ended {
+                status,
+                is_whole: true,
+            },
+        ) => Ok(unfinished.finish(rt, Ok(0))?.max(status)),
+        Ok(given_up) => unfinished.finish(rt, Ok(given_up.status)),
+        Err(error) => unfinished.finish(rt, Err(error)),
+    }
+}
+
+fn merge_to<W: Write + Drop>(rt: &HostRuntime, asked: &Merge, output: W) -> anyhow::Result<Ended> {
+    let mut sources = Vec::new(rt.alloc());
+    let mut opened = Vec::new(rt.alloc());
+    let mut interfaces: u32 = 0;
+    let mut status = 0;
+    for name in asked.names {
+        let stream = match open_stream(rt, name) {
+            Ok(stream) => stream,
+            Err(error) => return Ok(Ended::given_up(tell_io(rt, name, &error)?)),
+        };
+        match open_reader(rt.alloc(), stream) {
+            Ok(reader) => {
+                let source = Source::new(rt.alloc(), reader, interfaces);
+                interfaces = interfaces.saturating_add(interfaces_of(source.reader()));
+                sources.push(source)?;
+                opened.push(*name)?;
+            }
+            Err(error) => status = tell_error(rt, name, &error)?.max(status),
+        }
+    }
+    let output = BufWriter::with_capacity(rt.alloc(), OUTPUT, output)?;
+    if let Err(error) = write_merged(rt.alloc(), sources.as_mut_slice(), output) {
+        return Ok(Ended::given_up(tell_error(rt, asked.out, &error)?));
+    }
+    for (name, source) in opened.as_slice().iter().zip(sources.as_slice()) {
+        if let Some(error) = source.fault() {
+            status = tell_error(rt, name, error)?.max(status);
+        }
+    }
+    Ok(Ended {
+        status,
+        is_whole: true,
+    })
+}
+
+// A reader of a capture of either format.
+fn open_reader(alloc: Global, stream: Stream) -> ResultParsing<Reader<Input>> {
+    let mut input = buffered(alloc, stream)?;
+    Ok(match format_of(&mut input)? {
+        Format::Pcap => Reader::Packets(PcapReader::new(alloc, input)?),
+        Format::PcapNg => Reader::Blocks(PcapNgReader::new(alloc, input)?),
+    })
+}
+
+fn write_merged<W: Write + Drop>(
+    alloc: Global,
+    sources: &mut [Source<Input>],
+    output: W,
+) -> ResultParsing<()> {
+    let mut output = put_opening(alloc, sources, output)?;
+    let merged = merge_packets(sources, &mut output, u64::MAX);
+    if let Some(error) = merged.fault {
+        return Err(error);
+    }
+    output.flush()?;
+    Ok(())
+}

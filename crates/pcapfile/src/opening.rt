@@ -1,0 +1,51 @@
+//! The blocks before the packets of a merge.
+
+use pcap_file::ResultParsing;
+use pcap_file::pcap::PcapHeader;
+use pcap_file::pcapng::{InterfaceDescriptionBlock, InterfaceDescriptionOption, PcapNgWriter};
+use pcapfile_merge::{Reader, Source};
+use std::alloc::Global;
+use std::io::Write;
+
+/// How many interfaces a capture has.
+pub(crate) fn interfaces_of<R>(reader: &Reader<R>) -> u32 {
+    match reader {
+        Reader::Packets(_) => 1,
+        Reader::Blocks(reader) => u32::try_from(reader.interfaces().len()).unwrap_or(u32::MAX),
+    }
+}
+
+/// Writes a section header, and the description of each interface of each source, in order.
+pub(crate) fn put_opening<R, W: Write + Drop>(
+    alloc: Global,
+    sources: &[Source<R>],
+    output: W,
+) -> ResultParsing<W> {
+    let mut writer = PcapNgWriter::new(alloc, output)?;
+    for source in sources {
+        match source.reader() {
+            Reader::Packets(reader) => {
+                writer.write_pcapng_block(&interface_under(alloc, &reader.header)?)?;
+            }
+            Reader::Blocks(reader) => {
+                for interface in reader.interfaces() {
+                    writer.write_pcapng_block(interface)?;
+                }
+            }
+        }
+    }
+    Ok(writer.into_writer())
+}
+
+// The interface of a classic capture of this header. Its times are in nanoseconds.
+fn interface_under(
+    alloc: Global,
+    header: &PcapHeader,
+) -> ResultParsing<InterfaceDescriptionBlock<'static>> {
+    Ok(InterfaceDescriptionBlock {
+        linktype: header.datalink,
+        reserved: 0,
+        snaplen: header.snaplen,
+        options: vec![in alloc; InterfaceDescriptionOption::IfTsResol(9)]?,
+    })
+}
