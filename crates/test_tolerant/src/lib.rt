@@ -5,6 +5,10 @@
 #[cfg(test)]
 mod again;
 #[cfg(test)]
+mod interfaces;
+#[cfg(test)]
 mod options;
 #[cfg(test)]
 mod packets;
+#[cfg(test)]
+mod runs;

@@ -1,0 +1,60 @@
+//! Whole runs over packets as they stand. The captures were written by hand.
+
+use pcap_core::{PcapError, Rest};
+use pcap_tolerant::parse_pcap_as_is;
+use std::alloc::Global;
+use std::test::Fail;
+use test_support::captures::BIG_HEAD;
+use test_support::rows::bytes;
+
+// The big-endian header, and these packets behind it.
+fn behind_header(alloc: Global, packets: &str) -> Result<Vec<u8>, Fail> {
+    let mut capture = Vec::from_slice(alloc, &BIG_HEAD[..24])?;
+    capture.extend_from_slice(bytes(alloc, packets)?.as_slice())?;
+    Ok(capture)
+}
+
+// How many packets there are, how many of them are flawed, the first of these, and how many bytes they take.
+fn counts(
+    alloc: Global,
+    packets: &str,
+) -> Result<(usize, usize, Option<usize>, usize, Rest), Fail> {
+    let capture = behind_header(alloc, packets)?;
+    let run = parse_pcap_as_is(alloc, capture.as_slice(), 262144)?;
+    let flawed = run.flawed();
+    let first = run.first_flawed();
+    Ok((run.packets.len(), flawed, first, run.used, run.rest))
+}
+
+#[test]
+fn flawed_packets_among_others(rt: HostRuntime) -> Result<(), Fail> {
+    // a sound packet of one byte; one that says it had none; a sound one; a fraction of 5 seconds; and one byte more
+    let (packets, flawed, first, used, rest) = counts(
+        rt.alloc(),
+        "00000001 00000002 00000001 00000001 aa  00000001 00000002 00000001 00000000 bb
+         00000001 00000002 00000000 00000000     00000001 004c4b40 00000000 00000000  cc",
+    )?;
+    assert_eq!(rt; (packets, flawed, first, used), (4, 2, Some(1), 90));
+    assert!(rt; matches!(rest, Rest::Needs(15)));
+    Ok(())
+}
+
+#[test]
+fn runs_that_end(rt: HostRuntime) -> Result<(), Fail> {
+    let (packets, flawed, first, used, rest) = counts(rt.alloc(), "")?;
+    assert_eq!(rt; (packets, flawed, first, used), (0, 0, None, 24));
+    assert!(rt; matches!(rest, Rest::Clean));
+    // a sound packet, and then a stored length above the limit
+    let (packets, flawed, first, used, rest) = counts(
+        rt.alloc(),
+        "00000001 00000002 00000000 00000000  00000001 00000002 00040001 00000000",
+    )?;
+    assert_eq!(rt; (packets, flawed, first, used), (1, 0, None, 40));
+    assert!(rt;
+        matches!(
+            rest,
+            Rest::Refused(PcapError::InvalidField("PacketHeader incl_len > 0x40000"))
+        )
+    );
+    Ok(())
+}
