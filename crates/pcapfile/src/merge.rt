@@ -1,5 +1,8 @@
 //! The word `merge`.
 
+ghost use Rattle.std.specs.Prelude.{IfOk};
+ghost use Rattle.pcapfile_merge.specs.Holding.{IsReady};
+
 use crate::input::{STANDARD, Stream, buffered, open_stream};
 use crate::opening::{interfaces_of, put_opening};
 use crate::output::{OUTPUT, Unfinished, tell_read};
@@ -106,12 +109,14 @@ fn merge_to<W: Write + Drop>(rt: &HostRuntime, asked: &Merge, output: W) -> anyh
 }
 
 // A reader of a capture of either format.
-fn open_reader(alloc: Global, stream: Stream) -> ResultParsing<Reader<Input>> {
+fn open_reader(alloc: Global, stream: Stream) -> ResultParsing<Reader<Input>>
+    ensures { IfOk result (λ reader. IsReady reader) }
+{
     let mut input = buffered(alloc, stream)?;
-    Ok(match format_of(&mut input)? {
-        Format::Pcap => Reader::Packets(PcapReader::new(alloc, input)?),
-        Format::PcapNg => Reader::Blocks(PcapNgReader::new(alloc, input)?),
-    })
+    match format_of(&mut input)? {
+        Format::Pcap => Ok(Reader::Packets(PcapReader::new(alloc, input)?)),
+        Format::PcapNg => Ok(Reader::Blocks(PcapNgReader::new(alloc, input)?)),
+    }
 }
 
 fn write_merged<W: Write + Drop>(
