@@ -34,7 +34,7 @@ COPIES = crates/capcopy/out/capcopy
 FILES = crates/pcapfile/out/pcapfile
 LIBRARIES = pcap_core pcap_times pcap_classic pcap_tolerant pcap_blocks pcap_raw_options pcap_written pcap_file pcap_parts
 # The toolchain's ports that the library and the programs hold.
-PORTS = byteorder thiserror itoa clap strsim
+PORTS = byteorder thiserror itoa clap strsim jiff arrayvec
 JOBS_OF_RT = $(if $(JOBS),--jobs $(JOBS))
 sources_of = crates.txt $(shell find $(foreach crate,$(LIBRARIES) $(1),$(wildcard $(foreach part,src specs proofs,crates/$(crate)/$(part)))) -type f)
 
@@ -52,7 +52,7 @@ $(COPIES): $(call sources_of,capcopy_run capcopy)
 	cd crates/capcopy && rt run $(JOBS_OF_RT) -- list < stdin > /dev/null
 	touch $@
 
-$(FILES): $(call sources_of,capcopy_run pcapfile_run pcapfile)
+$(FILES): $(call sources_of,capcopy_run pcapfile_run pcapfile_cut pcapfile_merge pcapfile)
 	cd crates/pcapfile && rt run $(JOBS_OF_RT) -- --version > /dev/null
 	touch $@
 
