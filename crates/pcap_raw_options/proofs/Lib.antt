@@ -1,2 +1,2 @@
-mod OneUpTo
+pub mod OneUpTo
 mod RawRead

@@ -1,4 +1,5 @@
 mod Lists
 mod StrictLists
-mod StrictBodies
+pub mod StrictBodies
 mod Bodies
+pub mod OneAsIs

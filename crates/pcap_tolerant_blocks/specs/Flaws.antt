@@ -19,6 +19,11 @@ pub record Said : Type 0 where
   pub code : Option ℕ
   pub fault : Fault
 
+-- a value as it stands, and what is wrong with it
+pub record Flawed (V : Type 0) : Type 0 where
+  pub value : V
+  pub flaws : List Said
+
 -- what a flaw of the code says
 abbrev pub said_of : Flaw → Said
 said_of flaw = record { code = flaw.code; fault = fault_of flaw.broken }

@@ -1,12 +1,12 @@
 -- Options as they stand: each with its value, or, where that breaks its rule, with its bytes ('Options').
 use Rattle.std.specs.Prelude.{◌≡◌, ◌≢◌, ℕ, List, [], ◌∷◌, ◌++◌, length, map, Option, Some, None, Result, Ok, Err}
-use Rattle.pcap_core.specs.Answer.{Order}
+use Rattle.pcap_core.specs.Answer.{Order, Verdict, Says}
 use Rattle.pcap_core.specs.Faults.{Fault}
 use Rattle.pcap_core.specs.Padded.{Padded, Chain}
 use Rattle.pcap_blocks.specs.Values.{Entry, Value, Unknown, Kind, shape_at, value_of}
 use Rattle.pcap_blocks.specs.Options.{may_end_with_body, CodeLengthText}
 use Rattle.pcap_raw_options.specs.UpTo.{StopsAt, no_kind}
-use Rattle.pcap_tolerant_blocks.specs.Flaws.{Said, said_of}
+use Rattle.pcap_tolerant_blocks.specs.Flaws.{Said, Flawed, said_of}
 use Rattle.pcap_tolerant_blocks.specs.declared.flaws.Flaw.{Flaw}
 use Rattle.pcap_tolerant_blocks.specs.declared.list.OptionAsIs.{OptionAsIs}
 use Rattle.pcap_tolerant_blocks.specs.declared.list.ListAsIs.{ListAsIs}
@@ -54,6 +54,10 @@ pub record OptionsAsIs (order : Order) (kind : Kind) (options : List Entry) (fla
   pub stops : StopsAt may_end_with_body order no_kind options cut stop rest
   pub options_are : options ≡ map entry_in each
   pub flaws_are : flaws ≡ flaws_in each (cut_by cut)
+
+-- what is said of bytes where options as they stand are asked for: they are there, however wrong
+abbrev pub OptionsAsIsSay : Order → Kind → List ℕ → Verdict (Flawed (List Entry)) → Type 0
+OptionsAsIsSay order kind s = Says (λ x rest. OptionsAsIs order kind x.value x.flaws s rest) (λ n. ⊥) (λ fault. ⊥)
 
 -- ---- what the code holds
 

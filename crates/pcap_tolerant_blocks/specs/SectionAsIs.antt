@@ -3,10 +3,10 @@ use Rattle.std.specs.Prelude.{◌≡◌, ◌≤◌, ◌<◌, ℕ, List, length, 
 use Rattle.byteorder.specs.Endian.{big_number}
 use Rattle.pcap_core.specs.declared.common.Endianness.{Endianness}
 use Rattle.pcap_core.specs.declared.rules.Rule.TheVariants.{SectionTooShort, SectionMagic}
-use Rattle.pcap_core.specs.Answer.{Order, Number, number_in}
+use Rattle.pcap_core.specs.Answer.{Order, Number, number_in, Verdict, Says}
 use Rattle.pcap_core.specs.Faults.{Fault, Invalid}
 use Rattle.pcap_blocks.specs.SectionHeader.{Section, VersionText, section_header, magic_order}
-use Rattle.pcap_tolerant_blocks.specs.Flaws.{Said}
+use Rattle.pcap_tolerant_blocks.specs.Flaws.{Said, Flawed}
 use Rattle.pcap_tolerant_blocks.specs.OptionsAsIs.{OptionsAsIs}
 
 -- s is what follows the magic number of a section as it stands, with these flaws, and then rest
@@ -28,3 +28,7 @@ pub record SectionText (section : Section) (flaws : List Said) (s rest : List �
 pub data NoSection (s : List ℕ) : Fault → Type 0 where
   short_section : length s < 16 → NoSection s (Invalid SectionTooShort)
   unnamed : (magic : ℕ) (after : List ℕ) → 16 ≤ length s → Number big_number 4 magic s after → magic_order magic ≡ None → NoSection s (Invalid SectionMagic)
+
+-- what is said of bytes where a section as it stands is asked for
+abbrev pub SectionAsIsSays : List ℕ → Verdict (Flawed Section) → Type 0
+SectionAsIsSays s = Says (λ x rest. SectionText x.value x.flaws s rest) (λ n. ⊥) (NoSection s)

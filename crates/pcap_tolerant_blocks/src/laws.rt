@@ -2,6 +2,7 @@
 
 ghost use Rattle.std.specs.Prelude.{◌≡◌, List, ℕ, Option};
 ghost use Rattle.pcap_core.specs.Answer.{Order, Verdict};
+ghost use Rattle.pcap_core.specs.Laws.{ExactlyOne};
 ghost use Rattle.pcap_blocks.specs.Values.{Entry, Kind};
 ghost use Rattle.pcap_blocks.specs.Options.{may_end_with_body, ListSays};
 ghost use Rattle.pcap_blocks.specs.InterfaceDescription.{Interface, InterfaceSays};
@@ -9,10 +10,10 @@ ghost use Rattle.pcap_core.specs.Faults.{Fault};
 ghost use Rattle.pcap_blocks.specs.EnhancedPacket.{Enhanced, EnhancedSays};
 ghost use Rattle.pcap_blocks.specs.SectionHeader.{Section, SectionFault, SectionSays};
 ghost use Rattle.pcap_tolerant_blocks.specs.EnhancedAsIs.{EnhancedText};
-ghost use Rattle.pcap_tolerant_blocks.specs.SectionAsIs.{SectionText, NoSection};
+ghost use Rattle.pcap_tolerant_blocks.specs.SectionAsIs.{SectionText, NoSection, SectionAsIsSays};
 ghost use Rattle.pcap_tolerant_blocks.specs.Flaws.{Said, StrictIs, StrictIsWhere};
-ghost use Rattle.pcap_tolerant_blocks.specs.InterfaceAsIs.{InterfaceText};
-ghost use Rattle.pcap_tolerant_blocks.specs.OptionsAsIs.{OptionsAsIs};
+ghost use Rattle.pcap_tolerant_blocks.specs.InterfaceAsIs.{InterfaceText, InterfaceAsIsSays};
+ghost use Rattle.pcap_tolerant_blocks.specs.OptionsAsIs.{OptionsAsIs, OptionsAsIsSay};
 
 /// What the strict reading says of the same options: the same list where it has no flaw, and else its first flaw.
 pub fn strict_options_are()
@@ -38,4 +39,19 @@ pub fn strict_section_is()
 pub fn strict_enhanced_is()
     ensures { (order : Order) (enhanced : Option Enhanced) (flaws : List Said) (s rest : List ℕ) (v : Verdict Enhanced) →
         EnhancedText order enhanced flaws s rest → EnhancedSays order s v → StrictIsWhere flaws enhanced rest v }
+{}
+
+/// Of all bytes exactly one thing is said as options as they stand: which options, with which flaws, and what follows them.
+pub fn options_as_they_stand_are_one()
+    ensures { (order : Order) (kind : Kind) (s : List ℕ) → ExactlyOne (OptionsAsIsSay order kind s) }
+{}
+
+/// The same as an interface as it stands.
+pub fn interface_as_it_stands_is_one()
+    ensures { (order : Order) (s : List ℕ) → ExactlyOne (InterfaceAsIsSays order s) }
+{}
+
+/// The same as a section as it stands, or why no order of bytes is known.
+pub fn section_as_it_stands_is_one()
+    ensures { (s : List ℕ) → ExactlyOne (SectionAsIsSays s) }
 {}
