@@ -89,158 +89,119 @@ pub enum Rule {
     UnknownTooLong,
 }
 
-/// Every rule, by number.
-const RULES: [Rule; 40] = [
-    Rule::CaptureMagic,
-    Rule::FractionTooLarge,
-    Rule::IncludedTooLong,
-    Rule::OriginalTooLong,
-    Rule::IncludedPastOriginal,
-    Rule::SectionMagic,
-    Rule::BlockUnaligned,
-    Rule::BlockTooShort,
-    Rule::BlockLengthsDiffer,
-    Rule::SectionMissing,
-    Rule::SectionTooShort,
-    Rule::InterfaceTooShort,
-    Rule::EnhancedTooShort,
-    Rule::EnhancedCut,
-    Rule::SimpleTooShort,
-    Rule::StatisticsTooShort,
-    Rule::OptionTooShort,
-    Rule::OptionCut,
-    Rule::InterfaceIpv4Length,
-    Rule::InterfaceIpv6Length,
-    Rule::InterfaceMacLength,
-    Rule::InterfaceEuiLength,
-    Rule::InterfaceSpeedLength,
-    Rule::InterfaceResolutionLength,
-    Rule::InterfaceZoneLength,
-    Rule::InterfaceFilterEmpty,
-    Rule::InterfaceFcsLength,
-    Rule::InterfaceOffsetLength,
-    Rule::EnhancedFlagsLength,
-    Rule::EnhancedDropCountLength,
-    Rule::PacketFlagsLength,
-    Rule::NameIpv4Length,
-    Rule::NameIpv6Length,
-    Rule::RecordCut,
-    Rule::EndNotEmpty,
-    Rule::Ipv4RecordTooShort,
-    Rule::Ipv6RecordTooShort,
-    Rule::NameUnended,
-    Rule::RecordUnpadded,
-    Rule::UnknownTooLong,
-];
+// The row of each rule: its name, its number and its message. `each` is a macro that is passed all of them, behind what is given.
+macro_rules! rows {
+    ($each:ident $($given:expr)?) => {
+        $each! {
+            $($given;)?
+            CaptureMagic 1 "PcapHeader wrong magic number";
+            FractionTooLarge 2 "PacketHeader ts_usec * 1000 > 0xFFFFFFFF";
+            IncludedTooLong 3 "PacketHeader incl_len > 0x40000";
+            OriginalTooLong 4 "PacketHeader orig_len > 0x40000";
+            IncludedPastOriginal 5 "PacketHeader incl_len > orig_len";
+            SectionMagic 6 "SectionHeaderBlock: invalid magic number";
+            BlockUnaligned 7 "Block: (initial_len % 4) != 0";
+            BlockTooShort 8 "Block: initial_len < 12";
+            BlockLengthsDiffer 9 "Block initial_length != trailer_length";
+            SectionMissing 10 "SectionHeader missing";
+            SectionTooShort 11 "SectionHeaderBlock: block length < 16";
+            InterfaceTooShort 12 "InterfaceDescriptionBlock: block length < 8";
+            EnhancedTooShort 13 "EnhancedPacketBlock: block length length < 20";
+            EnhancedCut 14 "EnhancedPacketBlock: captured_len + padding > block length";
+            SimpleTooShort 15 "SimplePacketBlock: block length < 4";
+            StatisticsTooShort 16 "InterfaceStatisticsBlock: block length < 12";
+            OptionTooShort 17 "Option: slice.len() < 4";
+            OptionCut 18 "Option: length + pad.len() > slice.len()";
+            InterfaceIpv4Length 1901 "InterfaceDescriptionOption: IfIpv4Addr length != 8";
+            InterfaceIpv6Length 1902 "InterfaceDescriptionOption: IfIpv6Addr length != 17";
+            InterfaceMacLength 1903 "InterfaceDescriptionOption: IfMacAddr length != 6";
+            InterfaceEuiLength 1904 "InterfaceDescriptionOption: IfEuIAddr length != 8";
+            InterfaceSpeedLength 1905 "InterfaceDescriptionOption: IfSpeed length != 8";
+            InterfaceResolutionLength 1906 "InterfaceDescriptionOption: IfTsResol length != 1";
+            InterfaceZoneLength 1907 "InterfaceDescriptionOption: IfTzone length != 4";
+            InterfaceFilterEmpty 1908 "InterfaceDescriptionOption: IfFilter is empty";
+            InterfaceFcsLength 1909 "InterfaceDescriptionOption: IfFcsLen length != 1";
+            InterfaceOffsetLength 1910 "InterfaceDescriptionOption: IfTsOffset length != 8";
+            EnhancedFlagsLength 1911 "EnhancedPacketOption: Flags length != 4";
+            EnhancedDropCountLength 1912 "EnhancedPacketOption: DropCount length != 8";
+            PacketFlagsLength 1913 "PacketOption: Flags length != 4";
+            NameIpv4Length 1914 "NameResolutionOption: NsDnsIpv4Addr length != 4";
+            NameIpv6Length 1915 "NameResolutionOption: NsDnsIpv6Addr length != 16";
+            RecordCut 20 "NameResolutionBlock: Record length > slice.len()";
+            EndNotEmpty 21 "NameResolutionBlock: nrb_record_end length != 0";
+            Ipv4RecordTooShort 22 "NameResolutionBlock: Ipv4Record len < 6";
+            Ipv6RecordTooShort 23 "NameResolutionBlock: Ipv6Record len < 18";
+            NameUnended 24 "Non null terminated string";
+            RecordUnpadded 25 "NameResolutionBlock: Record padding > slice.len()";
+            UnknownTooLong 26 "UnknownBlock: length > 0xFFFFFFFF";
+        }
+    };
+}
+
+macro_rules! number {
+    ($rule:expr; $($name:ident $number:literal $text:literal;)*) => {
+        match $rule {
+            $(Rule::$name => $number,)*
+        }
+    };
+}
+
+macro_rules! name {
+    ($rule:expr; $($name:ident $number:literal $text:literal;)*) => {
+        match $rule {
+            $(Rule::$name => stringify!($name),)*
+        }
+    };
+}
+
+macro_rules! text {
+    ($rule:expr; $($name:ident $number:literal $text:literal;)*) => {
+        match $rule {
+            $(Rule::$name => $text,)*
+        }
+    };
+}
+
+macro_rules! of_number {
+    ($given:expr; $($name:ident $number:literal $text:literal;)*) => {
+        match $given {
+            $($number => Some(Rule::$name),)*
+            _ => None,
+        }
+    };
+}
+
+macro_rules! all {
+    ($($name:ident $number:literal $text:literal;)*) => {
+        [$(Rule::$name),*]
+    };
+}
+
+// Every rule, by number.
+const RULES: [Rule; 40] = rows!(all);
 
 impl Rule {
     /// The number of this rule in the table of refusals: n for Vn, and 1900 + n for V19.n. No two rules share one.
     pub fn number(self) -> u32
         ensures { result ≡ number_of self }
     {
-        match self {
-            Rule::CaptureMagic => 1,
-            Rule::FractionTooLarge => 2,
-            Rule::IncludedTooLong => 3,
-            Rule::OriginalTooLong => 4,
-            Rule::IncludedPastOriginal => 5,
-            Rule::SectionMagic => 6,
-            Rule::BlockUnaligned => 7,
-            Rule::BlockTooShort => 8,
-            Rule::BlockLengthsDiffer => 9,
-            Rule::SectionMissing => 10,
-            Rule::SectionTooShort => 11,
-            Rule::InterfaceTooShort => 12,
-            Rule::EnhancedTooShort => 13,
-            Rule::EnhancedCut => 14,
-            Rule::SimpleTooShort => 15,
-            Rule::StatisticsTooShort => 16,
-            Rule::OptionTooShort => 17,
-            Rule::OptionCut => 18,
-            Rule::InterfaceIpv4Length => 1901,
-            Rule::InterfaceIpv6Length => 1902,
-            Rule::InterfaceMacLength => 1903,
-            Rule::InterfaceEuiLength => 1904,
-            Rule::InterfaceSpeedLength => 1905,
-            Rule::InterfaceResolutionLength => 1906,
-            Rule::InterfaceZoneLength => 1907,
-            Rule::InterfaceFilterEmpty => 1908,
-            Rule::InterfaceFcsLength => 1909,
-            Rule::InterfaceOffsetLength => 1910,
-            Rule::EnhancedFlagsLength => 1911,
-            Rule::EnhancedDropCountLength => 1912,
-            Rule::PacketFlagsLength => 1913,
-            Rule::NameIpv4Length => 1914,
-            Rule::NameIpv6Length => 1915,
-            Rule::RecordCut => 20,
-            Rule::EndNotEmpty => 21,
-            Rule::Ipv4RecordTooShort => 22,
-            Rule::Ipv6RecordTooShort => 23,
-            Rule::NameUnended => 24,
-            Rule::RecordUnpadded => 25,
-            Rule::UnknownTooLong => 26,
-        }
+        rows!(number self)
     }
 
     /// The name of this rule, as the variant is spelled.
     pub fn name(self) -> &'static str
         ensures { result.now ≡ name_of self }
     {
-        match self {
-            Rule::CaptureMagic => "CaptureMagic",
-            Rule::FractionTooLarge => "FractionTooLarge",
-            Rule::IncludedTooLong => "IncludedTooLong",
-            Rule::OriginalTooLong => "OriginalTooLong",
-            Rule::IncludedPastOriginal => "IncludedPastOriginal",
-            Rule::SectionMagic => "SectionMagic",
-            Rule::BlockUnaligned => "BlockUnaligned",
-            Rule::BlockTooShort => "BlockTooShort",
-            Rule::BlockLengthsDiffer => "BlockLengthsDiffer",
-            Rule::SectionMissing => "SectionMissing",
-            Rule::SectionTooShort => "SectionTooShort",
-            Rule::InterfaceTooShort => "InterfaceTooShort",
-            Rule::EnhancedTooShort => "EnhancedTooShort",
-            Rule::EnhancedCut => "EnhancedCut",
-            Rule::SimpleTooShort => "SimpleTooShort",
-            Rule::StatisticsTooShort => "StatisticsTooShort",
-            Rule::OptionTooShort => "OptionTooShort",
-            Rule::OptionCut => "OptionCut",
-            Rule::InterfaceIpv4Length => "InterfaceIpv4Length",
-            Rule::InterfaceIpv6Length => "InterfaceIpv6Length",
-            Rule::InterfaceMacLength => "InterfaceMacLength",
-            Rule::InterfaceEuiLength => "InterfaceEuiLength",
-            Rule::InterfaceSpeedLength => "InterfaceSpeedLength",
-            Rule::InterfaceResolutionLength => "InterfaceResolutionLength",
-            Rule::InterfaceZoneLength => "InterfaceZoneLength",
-            Rule::InterfaceFilterEmpty => "InterfaceFilterEmpty",
-            Rule::InterfaceFcsLength => "InterfaceFcsLength",
-            Rule::InterfaceOffsetLength => "InterfaceOffsetLength",
-            Rule::EnhancedFlagsLength => "EnhancedFlagsLength",
-            Rule::EnhancedDropCountLength => "EnhancedDropCountLength",
-            Rule::PacketFlagsLength => "PacketFlagsLength",
-            Rule::NameIpv4Length => "NameIpv4Length",
-            Rule::NameIpv6Length => "NameIpv6Length",
-            Rule::RecordCut => "RecordCut",
-            Rule::EndNotEmpty => "EndNotEmpty",
-            Rule::Ipv4RecordTooShort => "Ipv4RecordTooShort",
-            Rule::Ipv6RecordTooShort => "Ipv6RecordTooShort",
-            Rule::NameUnended => "NameUnended",
-            Rule::RecordUnpadded => "RecordUnpadded",
-            Rule::UnknownTooLong => "UnknownTooLong",
-        }
+        rows!(name self)
     }
 
     /// The rule of this number. None where no rule has it.
+    #[tactic(auto, using(crate::proofs::EachRule::one_number))]
     pub fn from_number(number: u32) -> Option<Rule>
         ensures numbered { IfSome result (λ rule. number_of rule ≡ number) }
         ensures found { (rule : Rule) → number_of rule ≡ number → result ≡ Some rule }
     {
-        for rule in &RULES {
-            if rule.number() == number {
-                return Some(*rule);
-            }
-        }
-        None
+        rows!(of_number number)
     }
 
     /// The rule of this message. None where no rule has it.
@@ -260,47 +221,6 @@ impl Rule {
     pub fn text(self) -> &'static str
         ensures { result.now ≡ rule_message self }
     {
-        match self {
-            Rule::CaptureMagic => "PcapHeader wrong magic number",
-            Rule::FractionTooLarge => "PacketHeader ts_usec * 1000 > 0xFFFFFFFF",
-            Rule::IncludedTooLong => "PacketHeader incl_len > 0x40000",
-            Rule::OriginalTooLong => "PacketHeader orig_len > 0x40000",
-            Rule::IncludedPastOriginal => "PacketHeader incl_len > orig_len",
-            Rule::SectionMagic => "SectionHeaderBlock: invalid magic number",
-            Rule::BlockUnaligned => "Block: (initial_len % 4) != 0",
-            Rule::BlockTooShort => "Block: initial_len < 12",
-            Rule::BlockLengthsDiffer => "Block initial_length != trailer_length",
-            Rule::SectionMissing => "SectionHeader missing",
-            Rule::SectionTooShort => "SectionHeaderBlock: block length < 16",
-            Rule::InterfaceTooShort => "InterfaceDescriptionBlock: block length < 8",
-            Rule::EnhancedTooShort => "EnhancedPacketBlock: block length length < 20",
-            Rule::EnhancedCut => "EnhancedPacketBlock: captured_len + padding > block length",
-            Rule::SimpleTooShort => "SimplePacketBlock: block length < 4",
-            Rule::StatisticsTooShort => "InterfaceStatisticsBlock: block length < 12",
-            Rule::OptionTooShort => "Option: slice.len() < 4",
-            Rule::OptionCut => "Option: length + pad.len() > slice.len()",
-            Rule::InterfaceIpv4Length => "InterfaceDescriptionOption: IfIpv4Addr length != 8",
-            Rule::InterfaceIpv6Length => "InterfaceDescriptionOption: IfIpv6Addr length != 17",
-            Rule::InterfaceMacLength => "InterfaceDescriptionOption: IfMacAddr length != 6",
-            Rule::InterfaceEuiLength => "InterfaceDescriptionOption: IfEuIAddr length != 8",
-            Rule::InterfaceSpeedLength => "InterfaceDescriptionOption: IfSpeed length != 8",
-            Rule::InterfaceResolutionLength => "InterfaceDescriptionOption: IfTsResol length != 1",
-            Rule::InterfaceZoneLength => "InterfaceDescriptionOption: IfTzone length != 4",
-            Rule::InterfaceFilterEmpty => "InterfaceDescriptionOption: IfFilter is empty",
-            Rule::InterfaceFcsLength => "InterfaceDescriptionOption: IfFcsLen length != 1",
-            Rule::InterfaceOffsetLength => "InterfaceDescriptionOption: IfTsOffset length != 8",
-            Rule::EnhancedFlagsLength => "EnhancedPacketOption: Flags length != 4",
-            Rule::EnhancedDropCountLength => "EnhancedPacketOption: DropCount length != 8",
-            Rule::PacketFlagsLength => "PacketOption: Flags length != 4",
-            Rule::NameIpv4Length => "NameResolutionOption: NsDnsIpv4Addr length != 4",
-            Rule::NameIpv6Length => "NameResolutionOption: NsDnsIpv6Addr length != 16",
-            Rule::RecordCut => "NameResolutionBlock: Record length > slice.len()",
-            Rule::EndNotEmpty => "NameResolutionBlock: nrb_record_end length != 0",
-            Rule::Ipv4RecordTooShort => "NameResolutionBlock: Ipv4Record len < 6",
-            Rule::Ipv6RecordTooShort => "NameResolutionBlock: Ipv6Record len < 18",
-            Rule::NameUnended => "Non null terminated string",
-            Rule::RecordUnpadded => "NameResolutionBlock: Record padding > slice.len()",
-            Rule::UnknownTooLong => "UnknownBlock: length > 0xFFFFFFFF",
-        }
+        rows!(text self)
     }
 }
