@@ -1,9 +1,10 @@
-"""The example programs beside tcpdump, tshark, capinfos and editcap, over captures: `compare(files, folder)`.
+"""The example programs and `pcapfile convert` beside tcpdump, tshark, capinfos and editcap, over captures: `compare(files, folder)`.
 
 What an example writes has to be what these tools say of the same capture. Where an example refuses a capture, what it wrote
-before has to be a beginning of that. What a tool refuses isn't compared with it.
+before has to be a beginning of that. What a tool refuses isn't compared with it, nor is a conversion that leaves packets out.
 """
 import os
+import re
 import shutil
 import subprocess
 import tempfile
@@ -12,6 +13,9 @@ TOP = os.path.dirname(os.path.dirname(os.path.dirname(os.path.abspath(__file__))
 TOOLS = ("tcpdump", "tshark", "capinfos", "editcap")
 STARTS = (0, 20, 40, 80, 160, 320, 640, 1280, 2560, 5120)
 SECONDS = 600
+PROGRAMS = ("pcapfile", "example_dissect", "example_feed", "example_replay", "example_statistics")
+# Where packets begin in a classic capture behind its snaplen, and what is said of packets that are left out of one.
+LINK, LEFT_OUT = 20, re.compile(rb"(\d+) packets have no place there")
 
 SAME, BEGINNING, DIFFERENT = range(3)
 
@@ -122,7 +126,7 @@ def convert(path):
         if ran.returncode:
             return None
         with open(converted, "rb") as it:
-            return it.read()[20:]
+            return it.read()[LINK:]
 
 
 def program(name):
@@ -133,6 +137,15 @@ def run_example(name, path, *words):
     with open(path, "rb") as it:
         ran = output(program(name), *words, stdin=it.read())
     return ran.stdout, ran.returncode == 0
+
+
+def converted(path, to):
+    """What `pcapfile convert` writes of a capture in this format, whether it takes the capture whole, and how many packets it leaves
+    out."""
+    with open(path, "rb") as it:
+        ran = output(program("pcapfile"), "convert", "--to", to, "-", "-o", "-", stdin=it.read())
+    left_out = LEFT_OUT.search(ran.stderr)
+    return ran.stdout, ran.returncode == 0, int(left_out[1]) if left_out else 0
 
 
 def verdict(written, is_accepted, wanted):
@@ -176,9 +189,9 @@ def verdicts(path):
     link = output("capinfos", "-T", "-r", "-E", path).stdout.decode().strip().split("\t")[-1]
     if is_pcapng_file(path):
         wanted = convert(path)
-        written, is_accepted = run_example("example_convert", path)
-        if wanted is not None:
-            yield "example_convert", verdict(written[20:], is_accepted, wanted)
+        written, is_accepted, left_out = converted(path, "pcap")
+        if wanted is not None and left_out == 0:
+            yield "pcapfile convert", verdict(written[LINK:], is_accepted, wanted)
     else:
         yield "example_feed", text_verdict("example_feed", path, feed(path))
         yield "example_feed, lines", lines_verdict(path)
@@ -192,7 +205,7 @@ def verdicts(path):
 def compare(files, folder):
     """Prints each difference and a line of sums; whether there is none."""
     missing = [tool for tool in TOOLS if not shutil.which(tool)]
-    missing += [name for name in ("example_convert", "example_dissect", "example_feed", "example_replay", "example_statistics") if not os.path.exists(program(name))]
+    missing += [name for name in PROGRAMS if not os.path.exists(program(name))]
     if missing:
         print(f"the examples were not compared: {', '.join(missing)} missing")
         return True

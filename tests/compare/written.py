@@ -1,14 +1,15 @@
 """What is written and converted, beside tshark, capinfos and editcap, over captures: `compare(files, folder)`.
 
-A PcapNg capture that is read whole is copied, and written again from its values (example_pcapng, example_rewrite). The copy has
+A PcapNg capture that is read whole is copied, and written again from its values (pcapfile convert, example_rewrite). The copy has
 to be its bytes. What is written again may differ from it in what the format ignores, which CANONICAL says: then the blocks are
 made so in Python, by the public draft, and have to be those. tshark and capinfos have to read the same packets of both.
-A classic capture becomes a PcapNg capture (example_pcapng), of which tshark and capinfos have to read the packets that they read of
+A classic capture becomes a PcapNg capture (pcapfile convert), of which tshark and capinfos have to read the packets that they read of
 what editcap made of it. Where a capture is refused, its packets have to be a beginning of those.
 
-A PcapNg capture becomes a classic one (example_convert), which has to be what editcap makes of it, byte for byte, and tshark has to
-read the same packets of both formats. So are converted what editcap and example_pcapng make of a classic capture. Where only one of
-the two converts it whole, MEANT says why, by the message of the one that doesn't, and what goes out has to be a beginning.
+A PcapNg capture becomes a classic one (pcapfile convert), which has to be what editcap makes of it, byte for byte but for the snaplen,
+and tshark has to read the same packets of both formats. So are converted what editcap and pcapfile make of a classic capture. Where
+only one of the two converts it whole, MEANT says why, by the message of the one that doesn't, and what goes out has to be the packets,
+in order, without those that are left out.
 """
 import collections
 import os
@@ -16,22 +17,20 @@ import shutil
 import struct
 import tempfile
 
-from examples import BEGINNING, DIFFERENT, SAME, carried, fields, is_pcapng_file, output, program, run_example, verdict
+from examples import BEGINNING, DIFFERENT, LINK, SAME, carried, converted, fields, is_pcapng_file, output, program, run_example, verdict
 
 TOOLS = ("tshark", "capinfos", "editcap")
-EXAMPLES = ("example_pcapng", "example_rewrite", "example_convert")
+EXAMPLES = ("pcapfile", "example_rewrite")
 FIELDS = ("frame.time_epoch", "frame.cap_len", "frame.len", "frame.interface_id", "frame.md5_hash")
 SECTION, INTERFACE, PACKET, SIMPLE, NAMES, STATISTICS, ENHANCED = 0x0A0D0D0A, 1, 2, 3, 4, 5, 6
 # Where the options begin in the bodies that have some, behind what has a fixed length.
 FIXED = {SECTION: 16, INTERFACE: 8, STATISTICS: 12, PACKET: 20, ENHANCED: 20}
-# Messages of a conversion to a classic capture that ends early, of editcap and then of this library, each with what makes it so.
+# Messages of editcap where it makes no classic capture, each with what makes it so; and why packets are left out, and why it ends.
+PLACELESS = "packets without a place in a classic capture are left out: without a time, longer than on the wire, past 262144 bytes, of seconds past 32 bits, of another link type"
+TORN = "the capture is cut short or refused"
 MEANT = {
     "can't be written as": "editcap takes no capture without an interface, or with several of different link types",
     "has a record type that can't be saved": "editcap takes no block that it would show and that holds no packet",
-    "SimplePacketBlock: no time": "a simple packet has no time, and editcap writes the beginning of 1970",
-    "PacketHeader incl_len > orig_len": "more is stored of a packet than it had, and editcap writes it so",
-    "PacketHeader orig_len > 0x40000": "a packet had more than 262144 bytes, and editcap writes it",
-    "Block: seconds of no 32 bits": "a packet's seconds don't fit 32 bits, and editcap writes the low 32",
 }
 CANONICAL = ("a list of options ends without its mark", "the mark stands alone", "bytes stand behind the mark", "padding is not zero")
 
@@ -131,7 +130,7 @@ def read_verdict(written, is_accepted, peer, room):
 def pcapng_verdicts(path, room, found, meant):
     with open(path, "rb") as it:
         capture = it.read()
-    copy, is_copied = run_example("example_pcapng", path)
+    copy, is_copied, _ = converted(path, "pcapng")
     yield "copied", verdict(copy, is_copied, capture)
     written, is_accepted = run_example("example_rewrite", path)
     wanted = capture if written == capture else canonical_capture(capture, found)
@@ -145,35 +144,41 @@ def without_interfaces(rows):
     return [(time, *lengths, digest) for time, *lengths, interface, digest in rows if interface]
 
 
+def is_without(found, wanted, left_out):
+    """Whether these are the wanted packets in order, without so many of them."""
+    rest = iter(wanted)
+    return len(found) + left_out == len(wanted) and all(it in rest for it in found)
+
+
 def pcap_verdict(path, room, meant):
-    """Whether a PcapNg capture becomes the classic capture that editcap makes of it, or a beginning for a reason that is meant,
+    """Whether a PcapNg capture becomes the classic capture that editcap makes of it, or a part of it for a reason that is meant,
     which is counted. None where editcap refuses it for another one."""
     peer, here = os.path.join(room, "peer.pcap"), os.path.join(room, "here.pcap")
     asked = output("editcap", "-F", "nsecpcap", path, peer)
-    with open(path, "rb") as it:
-        made = output(program("example_convert"), stdin=it.read())
+    made, is_whole, left_out = converted(path, "pcap")
     with open(here, "wb") as it:
-        it.write(made.stdout)
-    why = next((it for it in MEANT if it.encode() in asked.stderr + made.stderr), None)
+        it.write(made)
+    why = next((why for said, why in MEANT.items() if said.encode() in asked.stderr), None)
     if asked.returncode and why is None:
         return None
-    found = [(time, *lengths, digest) for time, *lengths, _, digest in packets(here)] if made.stdout else []
+    found = [(time, *lengths, digest) for time, *lengths, _, digest in packets(here)] if made else []
     wanted = without_interfaces(packets(path))
-    if not asked.returncode:
-        with open(peer, "rb") as it:
-            capture = it.read()
-        if made.returncode == 0:
-            return SAME if made.stdout == capture and found == wanted else DIFFERENT
-        if not capture.startswith(made.stdout):
-            return DIFFERENT
-    meant[why] += 1
-    return BEGINNING if why and found == wanted[: len(found)] else DIFFERENT
+    if not is_whole:
+        meant[TORN] += 1
+        return BEGINNING if is_without(found, wanted[: len(found) + left_out], left_out) else DIFFERENT
+    if asked.returncode or left_out:
+        meant[PLACELESS if left_out else why] += 1
+        return BEGINNING if is_without(found, wanted, left_out) else DIFFERENT
+    with open(peer, "rb") as it:
+        capture = it.read()
+    is_same = (made[: LINK - 4], made[LINK:]) == (capture[: LINK - 4], capture[LINK:])
+    return SAME if is_same and found == wanted else DIFFERENT
 
 
 def classic_verdicts(path, room, meant):
     peer, here = os.path.join(room, "peer.pcapng"), os.path.join(room, "here.pcapng")
     if output("editcap", "-F", "pcapng", path, peer).returncode == 0:
-        written, is_accepted = run_example("example_pcapng", path)
+        written, is_accepted, _ = converted(path, "pcapng")
         yield "converted, by tshark and capinfos", read_verdict(written, is_accepted, peer, room)
         yield "editcap's, converted to Pcap", pcap_verdict(peer, room, meant)
         if written:
@@ -200,9 +205,9 @@ def compare(files, folder):
                 if answer == DIFFERENT:
                     print(f"{os.path.relpath(path, folder)}: {name}")
         changed += found.total() > before
-    for name, (same, beginning, different) in counts.items():
-        print(f"{name}: {same} are the same, {beginning} are a beginning that ends at a refusal, {different} differ")
+    for name, (same, part, different) in counts.items():
+        print(f"{name}: {same} are the same, {part} are a part, up to a refusal or without what has no place, {different} differ")
     print(f"{changed} captures are written in other bytes:", "; ".join(f"{CANONICAL[why]} ({count} blocks)" for why, count in found.items() if count) or "none")
     for why, count in meant.items():
-        print(f"{count} are a beginning since {MEANT.get(why, 'of no reason that is known')}")
+        print(f"{count} are a part: {why}")
     return any(same for same, _, _ in counts.values()) and not any(different for _, _, different in counts.values())
