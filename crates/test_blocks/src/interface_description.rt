@@ -4,48 +4,33 @@ use byteorder::{BigEndian, ByteOrder, LittleEndian};
 use pcap_blocks::InterfaceDescriptionBlock;
 use std::alloc::Global;
 use std::test::*;
-use test_support::rows::{bytes, list, rows, told};
+use test_support::rows::{every_row, told, whole_list};
 
-// What the body of these digits gives.
-fn interface<B: ByteOrder>(alloc: Global, digits: &str) -> Result<String, Fail> {
-    let body = bytes(alloc, digits)?;
+// What a body gives.
+fn interface<B: ByteOrder>(alloc: Global, body: &[u8]) -> Result<String, Fail> {
     told(
         alloc,
-        InterfaceDescriptionBlock::from_slice::<B>(alloc, body.as_slice()),
+        InterfaceDescriptionBlock::from_slice::<B>(alloc, body),
     )
 }
 
 #[test]
 fn interfaces_of_both_orders(rt: HostRuntime) -> Result<(), Fail> {
-    let little = interface::<LittleEndian>(
-        rt.alloc(),
-        "0100 0000 00000400 0900 0100 06 000000 0e00 0800 0100000000000000 0000 0000",
-    )?;
-    assert_eq!(rt;
-        little.as_str(),
-        "[] InterfaceDescriptionBlock { linktype: ETHERNET, reserved: 0, snaplen: 262144, options: [IfTsResol(6), IfTsOffset(1)] }"
-    );
-    let big = interface::<BigEndian>(
-        rt.alloc(),
-        "0001 0000 00040000 000a 0004 00000e10 0000 0000",
-    )?;
-    assert_eq!(rt;
-        big.as_str(),
-        "[] InterfaceDescriptionBlock { linktype: ETHERNET, reserved: 0, snaplen: 262144, options: [IfTzone(3600)] }"
-    );
-    let big = interface::<BigEndian>(
-        rt.alloc(),
-        "0002 0003 00040000 000a 0004 00000e10 0000 0000 aa",
-    )?;
-    assert_eq!(rt;
-        big.as_str(),
-        "[170] InterfaceDescriptionBlock { linktype: Unknown(2), reserved: 3, snaplen: 262144, options: [IfTzone(3600)] }"
-    );
-    Ok(())
+    let little = "
+        0100 0000 00000400 0900 0100 06 000000 0e00 0800 0100000000000000 0000 0000 => [] InterfaceDescriptionBlock { linktype: ETHERNET, reserved: 0, snaplen: 262144, options: [IfTsResol(6), IfTsOffset(1)] }
+    ";
+    let big = "
+        0001 0000 00040000 000a 0004 00000e10 0000 0000 => [] InterfaceDescriptionBlock { linktype: ETHERNET, reserved: 0, snaplen: 262144, options: [IfTzone(3600)] }
+        0002 0003 00040000 000a 0004 00000e10 0000 0000 aa => [170] InterfaceDescriptionBlock { linktype: Unknown(2), reserved: 3, snaplen: 262144, options: [IfTzone(3600)] }
+    ";
+    every_row(rt.alloc(), little, interface::<LittleEndian>)?;
+    every_row(rt.alloc(), big, interface::<BigEndian>)
 }
 
 #[test]
 fn each_option_of_an_interface(rt: HostRuntime) -> Result<(), Fail> {
+    let row =
+        "0001 0000 00040000 .. => [] InterfaceDescriptionBlock { linktype: ETHERNET, reserved: 0, snaplen: 262144, options: [..] }";
     let table = r#"
         0001 0001 61 000000 => Comment("a")
         0002 0001 62 000000 => IfName("b")
@@ -63,18 +48,13 @@ fn each_option_of_an_interface(rt: HostRuntime) -> Result<(), Fail> {
         000e 0008 0000000100000000 => IfTsOffset(4294967296)
         000f 0001 65 000000 => IfHardware("e")
     "#;
-    let (options, shown) = list(rt.alloc(), table)?;
-    let digits = format!(in rt.alloc(); "0001 0000 00040000 {options}")?;
-    let interface = interface::<BigEndian>(rt.alloc(), digits.as_str())?;
-    let shown = format!(in rt.alloc();
-        "[] InterfaceDescriptionBlock {{ linktype: ETHERNET, reserved: 0, snaplen: 262144, options: [{shown}] }}"
-    )?;
-    assert_eq!(rt; interface.as_str(), shown.as_str());
-    Ok(())
+    whole_list(rt.alloc(), row, table, interface::<BigEndian>)
 }
 
 #[test]
 fn custom_and_unknown_options_of_an_interface(rt: HostRuntime) -> Result<(), Fail> {
+    let row =
+        "0001 0000 00040000 .. 0000 0000 => [] InterfaceDescriptionBlock { linktype: ETHERNET, reserved: 0, snaplen: 262144, options: [..] }";
     let table = r#"
         0bac 0006 00007ed9 6869 0000 => CustomUtf8(CustomUtf8Option { code: 2988, pen: 32473, value: "hi" })
         0063 0002 aabb ffff => Unknown(UnknownOption { code: 99, length: 2, value: Borrowed([170, 187]) })
@@ -82,14 +62,7 @@ fn custom_and_unknown_options_of_an_interface(rt: HostRuntime) -> Result<(), Fai
         4bac 0004 00000002 => CustomUtf8(CustomUtf8Option { code: 19372, pen: 2, value: "" })
         0bad 0004 00000003 => CustomBinary(CustomBinaryOption { code: 2989, pen: 3, value: Borrowed([]) })
     "#;
-    let (options, shown) = list(rt.alloc(), table)?;
-    let digits = format!(in rt.alloc(); "0001 0000 00040000 {options} 0000 0000")?;
-    let interface = interface::<BigEndian>(rt.alloc(), digits.as_str())?;
-    let shown = format!(in rt.alloc();
-        "[] InterfaceDescriptionBlock {{ linktype: ETHERNET, reserved: 0, snaplen: 262144, options: [{shown}] }}"
-    )?;
-    assert_eq!(rt; interface.as_str(), shown.as_str());
-    Ok(())
+    whole_list(rt.alloc(), row, table, interface::<BigEndian>)
 }
 
 #[test]
@@ -112,9 +85,5 @@ fn refused_interfaces(rt: HostRuntime) -> Result<(), Fail> {
         0001 0000 00040000 0002 0001 61 0000 => Option: length + pad.len() > slice.len()
         0001 0000 00040000 0002 0001 61 000000 0000 => Option: slice.len() < 4
     ";
-    for (digits, reason) in rows(rt.alloc(), table)? {
-        let refused = interface::<BigEndian>(rt.alloc(), digits)?;
-        assert_eq!(rt; refused.as_str(), reason, "at {digits}");
-    }
-    Ok(())
+    every_row(rt.alloc(), table, interface::<BigEndian>)
 }

@@ -1,4 +1,5 @@
-//! Rows of bytes, and the values or refusals that `pcap_blocks` gives for them.
+//! Bodies of blocks: rows of bytes with the values or refusals that `pcap_blocks` gives for them, values that outlive their bytes,
+//! what has a name, and times.
 #![tactic(auto)]
 
 #[cfg(test)]
@@ -10,8 +11,14 @@ mod options;
 #[cfg(test)]
 mod other_blocks;
 #[cfg(test)]
+mod owned;
+#[cfg(test)]
 mod packets;
 #[cfg(test)]
 mod parsed_block;
 #[cfg(test)]
 mod section_header;
+#[cfg(test)]
+mod times;
+#[cfg(test)]
+mod views;

@@ -6,14 +6,30 @@ use pcap_blocks::{
 };
 use std::alloc::Global;
 use std::test::*;
-use test_support::rows::{bytes, list, rows, told, told_alone};
+use test_support::rows::{every_row, told, told_alone, whole_list};
 
-// What the body of these digits gives.
-fn resolution(alloc: Global, digits: &str) -> Result<String, Fail> {
-    let body = bytes(alloc, digits)?;
+// What a slice gives as a name, a record of each kind, and a body.
+
+fn name(alloc: Global, slice: &[u8]) -> Result<String, Fail> {
+    told(alloc, str_from_u8_null_terminated(slice))
+}
+
+fn ipv4_record(alloc: Global, slice: &[u8]) -> Result<String, Fail> {
+    told_alone(alloc, Ipv4Record::from_slice(alloc, slice))
+}
+
+fn ipv6_record(alloc: Global, slice: &[u8]) -> Result<String, Fail> {
+    told_alone(alloc, Ipv6Record::from_slice(alloc, slice))
+}
+
+fn record(alloc: Global, slice: &[u8]) -> Result<String, Fail> {
+    told(alloc, Record::from_slice::<BigEndian>(alloc, slice))
+}
+
+fn resolution(alloc: Global, body: &[u8]) -> Result<String, Fail> {
     told(
         alloc,
-        NameResolutionBlock::from_slice::<BigEndian>(alloc, body.as_slice()),
+        NameResolutionBlock::from_slice::<BigEndian>(alloc, body),
     )
 }
 
@@ -27,12 +43,7 @@ fn names(rt: HostRuntime) -> Result<(), Fail> {
         ff0061 => Utf8Error
         ff61 => Non null terminated string
     "#;
-    for (digits, shown) in rows(rt.alloc(), table)? {
-        let slice = bytes(rt.alloc(), digits)?;
-        let name = told(rt.alloc(), str_from_u8_null_terminated(slice.as_slice()))?;
-        assert_eq!(rt; name.as_str(), shown, "at {digits}");
-    }
-    Ok(())
+    every_row(rt.alloc(), table, name)
 }
 
 #[test]
@@ -41,15 +52,7 @@ fn ipv4_records(rt: HostRuntime) -> Result<(), Fail> {
         7f000001 6100 => Ipv4Record { ip_addr: Borrowed([127, 0, 0, 1]), names: ["a"] }
         7f00000100 => NameResolutionBlock: Ipv4Record len < 6
     "#;
-    for (digits, shown) in rows(rt.alloc(), table)? {
-        let slice = bytes(rt.alloc(), digits)?;
-        let record = told_alone(
-            rt.alloc(),
-            Ipv4Record::from_slice(rt.alloc(), slice.as_slice()),
-        )?;
-        assert_eq!(rt; record.as_str(), shown, "at {digits}");
-    }
-    Ok(())
+    every_row(rt.alloc(), table, ipv4_record)
 }
 
 #[test]
@@ -59,15 +62,7 @@ fn ipv6_records(rt: HostRuntime) -> Result<(), Fail> {
         00000000000000000000000000000000 6100 00 => Ipv6Record { ip_addr: Borrowed([0, 0, 0, 0, 0, 0, 0, 0, 0, 0, 0, 0, 0, 0, 0, 0]), names: ["a", ""] }
         7f00000100 => NameResolutionBlock: Ipv6Record len < 18
     "#;
-    for (digits, shown) in rows(rt.alloc(), table)? {
-        let slice = bytes(rt.alloc(), digits)?;
-        let record = told_alone(
-            rt.alloc(),
-            Ipv6Record::from_slice(rt.alloc(), slice.as_slice()),
-        )?;
-        assert_eq!(rt; record.as_str(), shown, "at {digits}");
-    }
-    Ok(())
+    every_row(rt.alloc(), table, ipv6_record)
 }
 
 #[test]
@@ -90,19 +85,13 @@ fn records(rt: HostRuntime) -> Result<(), Fail> {
         0002 0011 0000000000000000000000000000000000 000000 => NameResolutionBlock: Ipv6Record len < 18
         0009 0001 aa ffff => NameResolutionBlock: Record padding > slice.len()
     "#;
-    for (digits, shown) in rows(rt.alloc(), table)? {
-        let slice = bytes(rt.alloc(), digits)?;
-        let record = told(
-            rt.alloc(),
-            Record::from_slice::<BigEndian>(rt.alloc(), slice.as_slice()),
-        )?;
-        assert_eq!(rt; record.as_str(), shown, "at {digits}");
-    }
-    Ok(())
+    every_row(rt.alloc(), table, record)
 }
 
 #[test]
 fn each_option_of_names(rt: HostRuntime) -> Result<(), Fail> {
+    let row =
+        r#"0001 0008 7f000001 61006200 0000 0000 .. 0000 0000 => [] NameResolutionBlock { records: [Ipv4(Ipv4Record { ip_addr: Borrowed([127, 0, 0, 1]), names: ["a", "b"] })], options: [..] }"#;
     let table = r#"
         0003 0004 08080808 => NsDnsIpv4Addr(Borrowed([8, 8, 8, 8]))
         0001 0001 61 000000 => Comment("a")
@@ -114,16 +103,7 @@ fn each_option_of_names(rt: HostRuntime) -> Result<(), Fail> {
         4bad 0005 00000004 aa 000000 => CustomBinary(CustomBinaryOption { code: 19373, pen: 4, value: Borrowed([170]) })
         0005 0000 => Unknown(UnknownOption { code: 5, length: 0, value: Borrowed([]) })
     "#;
-    let (options, shown) = list(rt.alloc(), table)?;
-    let digits = format!(in rt.alloc();
-        "0001 0008 7f000001 61006200 0000 0000 {options} 0000 0000"
-    )?;
-    let names = resolution(rt.alloc(), digits.as_str())?;
-    let shown = format!(in rt.alloc();
-        r#"[] NameResolutionBlock {{ records: [Ipv4(Ipv4Record {{ ip_addr: Borrowed([127, 0, 0, 1]), names: ["a", "b"] }})], options: [{shown}] }}"#
-    )?;
-    assert_eq!(rt; names.as_str(), shown.as_str());
-    Ok(())
+    whole_list(rt.alloc(), row, table, resolution)
 }
 
 #[test]
@@ -136,9 +116,5 @@ fn name_bodies(rt: HostRuntime) -> Result<(), Fail> {
         0000 0000 0003 0003 080808 00 => NameResolutionOption: NsDnsIpv4Addr length != 4
         0000 0000 0004 0004 08080808 => NameResolutionOption: NsDnsIpv6Addr length != 16
     "#;
-    for (digits, shown) in rows(rt.alloc(), table)? {
-        let names = resolution(rt.alloc(), digits)?;
-        assert_eq!(rt; names.as_str(), shown, "at {digits}");
-    }
-    Ok(())
+    every_row(rt.alloc(), table, resolution)
 }

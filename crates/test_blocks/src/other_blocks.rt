@@ -1,12 +1,23 @@
 //! Statistics, journal entries, unknown blocks and the types of blocks.
 
-use byteorder::{BigEndian, LittleEndian};
+use byteorder::{BigEndian, ByteOrder, LittleEndian};
 use pcap_blocks::{BlockType, InterfaceStatisticsBlock, SystemdJournalExportBlock, UnknownBlock};
+use std::alloc::Global;
 use std::test::*;
-use test_support::rows::{bytes, list, rows, told};
+use test_support::rows::{every_row, told, whole_list};
+
+// What a body gives.
+fn statistics<B: ByteOrder>(alloc: Global, body: &[u8]) -> Result<String, Fail> {
+    told(
+        alloc,
+        InterfaceStatisticsBlock::from_slice::<B>(alloc, body),
+    )
+}
 
 #[test]
 fn each_option_of_statistics(rt: HostRuntime) -> Result<(), Fail> {
+    let row =
+        "00000001 00000002 00000003 .. => [] InterfaceStatisticsBlock { interface_id: 1, timestamp: 8589934595, options: [..] }";
     let table = r#"
         0001 0001 61 000000 => Comment("a")
         0002 0008 00000001 00000002 => IsbStartTime(4294967298)
@@ -22,18 +33,7 @@ fn each_option_of_statistics(rt: HostRuntime) -> Result<(), Fail> {
         4bad 0005 00000004 aa 000000 => CustomBinary(CustomBinaryOption { code: 19373, pen: 4, value: Borrowed([170]) })
         0009 0000 => Unknown(UnknownOption { code: 9, length: 0, value: Borrowed([]) })
     "#;
-    let (options, shown) = list(rt.alloc(), table)?;
-    let digits = format!(in rt.alloc(); "00000001 00000002 00000003 {options}")?;
-    let body = bytes(rt.alloc(), digits.as_str())?;
-    let statistics = told(
-        rt.alloc(),
-        InterfaceStatisticsBlock::from_slice::<BigEndian>(rt.alloc(), body.as_slice()),
-    )?;
-    let shown = format!(in rt.alloc();
-        "[] InterfaceStatisticsBlock {{ interface_id: 1, timestamp: 8589934595, options: [{shown}] }}"
-    )?;
-    assert_eq!(rt; statistics.as_str(), shown.as_str());
-    Ok(())
+    whole_list(rt.alloc(), row, table, statistics::<BigEndian>)
 }
 
 #[test]
@@ -44,37 +44,30 @@ fn little_endian_statistics(rt: HostRuntime) -> Result<(), Fail> {
         01000000 02000000 03000000 0300 0700 01000000 020000 00 => IoError
         0100000002000000030000 => InterfaceStatisticsBlock: block length < 12
     ";
-    for (digits, shown) in rows(rt.alloc(), table)? {
-        let body = bytes(rt.alloc(), digits)?;
-        let statistics = told(
-            rt.alloc(),
-            InterfaceStatisticsBlock::from_slice::<LittleEndian>(rt.alloc(), body.as_slice()),
-        )?;
-        assert_eq!(rt; statistics.as_str(), shown, "at {digits}");
-    }
-    Ok(())
+    every_row(rt.alloc(), table, statistics::<LittleEndian>)
+}
+
+// What a journal entry and an unknown block of these bytes are.
+
+fn journal(alloc: Global, body: &[u8]) -> Result<String, Fail> {
+    told(
+        alloc,
+        SystemdJournalExportBlock::from_slice::<BigEndian>(body),
+    )
+}
+
+fn unknown(alloc: Global, body: &[u8]) -> Result<String, Fail> {
+    let block = UnknownBlock::new(BlockType::Unknown(77), 5, body);
+    Ok(format!(in alloc; "{block:?}")?)
 }
 
 #[test]
 fn journal_entries_and_unknown_blocks(rt: HostRuntime) -> Result<(), Fail> {
-    let body = [0x5f, 0x3d, 0x0a];
-    let journal = told(
-        rt.alloc(),
-        SystemdJournalExportBlock::from_slice::<BigEndian>(&body),
-    )?;
-    assert_eq!(rt;
-        journal.as_str(),
-        "[] SystemdJournalExportBlock { journal_entry: Borrowed([95, 61, 10]) }"
-    );
-    let unknown = format!(in rt.alloc();
-        "{:?}",
-        UnknownBlock::new(BlockType::Unknown(77), 5, &body)
-    )?;
-    assert_eq!(rt;
-        unknown.as_str(),
-        "UnknownBlock { type_: Unknown(77), length: 5, value: Borrowed([95, 61, 10]) }"
-    );
-    Ok(())
+    let entry = "5f3d0a => [] SystemdJournalExportBlock { journal_entry: Borrowed([95, 61, 10]) }";
+    let block =
+        "5f3d0a => UnknownBlock { type_: Unknown(77), length: 5, value: Borrowed([95, 61, 10]) }";
+    every_row(rt.alloc(), entry, journal)?;
+    every_row(rt.alloc(), block, unknown)
 }
 
 #[test]

@@ -6,30 +6,31 @@ use pcap_blocks::{
 };
 use std::alloc::Global;
 use std::test::*;
-use test_support::rows::{bytes, list, rows, told};
+use test_support::rows::{every_row, told, whole_list};
 
-// What an enhanced packet's body of these digits gives.
-fn enhanced<B: ByteOrder>(alloc: Global, digits: &str) -> Result<String, Fail> {
-    let body = bytes(alloc, digits)?;
+// What bodies of packets give, and lists of their options.
+
+fn enhanced<B: ByteOrder>(alloc: Global, body: &[u8]) -> Result<String, Fail> {
+    told(alloc, EnhancedPacketBlock::from_slice::<B>(alloc, body))
+}
+
+fn enhanced_options(alloc: Global, list: &[u8]) -> Result<String, Fail> {
     told(
         alloc,
-        EnhancedPacketBlock::from_slice::<B>(alloc, body.as_slice()),
+        EnhancedPacketOption::from_slice::<BigEndian>(alloc, list),
     )
 }
 
-// What a list of an enhanced packet's options gives.
-fn enhanced_options(alloc: Global, digits: &str) -> Result<String, Fail> {
-    let list = bytes(alloc, digits)?;
-    told(
-        alloc,
-        EnhancedPacketOption::from_slice::<BigEndian>(alloc, list.as_slice()),
-    )
+fn packet<B: ByteOrder>(alloc: Global, body: &[u8]) -> Result<String, Fail> {
+    told(alloc, PacketBlock::from_slice::<B>(alloc, body))
 }
 
-// What a packet's body of these digits gives.
-fn packet<B: ByteOrder>(alloc: Global, digits: &str) -> Result<String, Fail> {
-    let body = bytes(alloc, digits)?;
-    told(alloc, PacketBlock::from_slice::<B>(alloc, body.as_slice()))
+fn packet_options(alloc: Global, list: &[u8]) -> Result<String, Fail> {
+    told(alloc, PacketOption::from_slice::<BigEndian>(alloc, list))
+}
+
+fn simple_packet(alloc: Global, body: &[u8]) -> Result<String, Fail> {
+    told(alloc, SimplePacketBlock::from_slice::<BigEndian>(body))
 }
 
 #[test]
@@ -42,39 +43,30 @@ fn enhanced_packets(rt: HostRuntime) -> Result<(), Fail> {
         00000000 00000000 00000000 00000000 00000000 0002 0002 0000 0000 => EnhancedPacketOption: Flags length != 4
         00000000 00000000 00000000 00000000 00000000 0004 0004 00000000 => EnhancedPacketOption: DropCount length != 8
     ";
-    for (digits, shown) in rows(rt.alloc(), table)? {
-        let packet = enhanced::<BigEndian>(rt.alloc(), digits)?;
-        assert_eq!(rt; packet.as_str(), shown, "at {digits}");
-    }
-    Ok(())
+    every_row(rt.alloc(), table, enhanced::<BigEndian>)
 }
 
 #[test]
 fn little_endian_packets(rt: HostRuntime) -> Result<(), Fail> {
-    let enhanced = enhanced::<LittleEndian>(
-        rt.alloc(),
-        "00000000 01000000 02000000 00000000 00000000",
-    )?;
-    assert_eq!(rt;
-        enhanced.as_str(),
-        "[] EnhancedPacketBlock { interface_id: 0, timestamp: 4294967298, captured_len: 0, original_len: 0, data_: Borrowed([]), options: [] }"
-    );
-    let packet = packet::<LittleEndian>(
-        rt.alloc(),
-        "0100 0200 00000000 05000000 00000000 00000000",
-    )?;
-    assert_eq!(rt;
-        packet.as_str(),
-        "[] PacketBlock { interface_id: 1, drop_count: 2, timestamp: 5, captured_len: 0, original_len: 0, data_: Borrowed([]), options: [] }"
-    );
-    Ok(())
+    let row =
+        "00000000 01000000 02000000 00000000 00000000 => [] EnhancedPacketBlock { interface_id: 0, timestamp: 4294967298, captured_len: 0, original_len: 0, data_: Borrowed([]), options: [] }";
+    every_row(rt.alloc(), row, enhanced::<LittleEndian>)?;
+    let row =
+        "0100 0200 00000000 05000000 00000000 00000000 => [] PacketBlock { interface_id: 1, drop_count: 2, timestamp: 5, captured_len: 0, original_len: 0, data_: Borrowed([]), options: [] }";
+    every_row(rt.alloc(), row, packet::<LittleEndian>)
+}
+
+// Whether a packet of these bytes lends no data.
+fn lends_nothing(alloc: Global, body: &[u8]) -> bool {
+    match &PacketBlock::from_slice::<LittleEndian>(alloc, body) {
+        Ok((_, packet)) => packet.data_.is_empty() && packet.data_.is_borrowed(),
+        Err(_) => false,
+    }
 }
 
 #[test]
-fn packets_without_data(rt: HostRuntime) -> Result<(), Fail> {
-    let (_rest, packet) = PacketBlock::from_slice::<LittleEndian>(rt.alloc(), &[0; 20])?;
-    assert!(rt; packet.data_.is_empty() && packet.data_.is_borrowed());
-    Ok(())
+fn packets_without_data(rt: HostRuntime) {
+    assert!(rt; lends_nothing(rt.alloc(), &[0; 20]));
 }
 
 #[test]
@@ -90,11 +82,7 @@ fn each_option_of_an_enhanced_packet(rt: HostRuntime) -> Result<(), Fail> {
         4bad 0005 00000004 aa 000000 => CustomBinary(CustomBinaryOption { code: 19373, pen: 4, value: Borrowed([170]) })
         0005 0000 => Unknown(UnknownOption { code: 5, length: 0, value: Borrowed([]) })
     "#;
-    let (digits, shown) = list(rt.alloc(), table)?;
-    let options = enhanced_options(rt.alloc(), digits.as_str())?;
-    let shown = format!(in rt.alloc(); "[] [{shown}]")?;
-    assert_eq!(rt; options.as_str(), shown.as_str());
-    Ok(())
+    whole_list(rt.alloc(), ".. => [] [..]", table, enhanced_options)
 }
 
 #[test]
@@ -109,11 +97,7 @@ fn lists_of_enhanced_options(rt: HostRuntime) -> Result<(), Fail> {
         0bac 0003 616263 00 00000000 => IoError
         0001 0001 ff 000000 00000000 => Utf8Error
     "#;
-    for (digits, shown) in rows(rt.alloc(), table)? {
-        let options = enhanced_options(rt.alloc(), digits)?;
-        assert_eq!(rt; options.as_str(), shown, "at {digits}");
-    }
-    Ok(())
+    every_row(rt.alloc(), table, enhanced_options)
 }
 
 #[test]
@@ -128,16 +112,7 @@ fn each_option_of_a_packet(rt: HostRuntime) -> Result<(), Fail> {
         4bad 0004 00000006 => CustomBinary(CustomBinaryOption { code: 19373, pen: 6, value: Borrowed([]) })
         0004 0000 => Unknown(UnknownOption { code: 4, length: 0, value: Borrowed([]) })
     "#;
-    let (digits, shown) = list(rt.alloc(), table)?;
-    let digits = format!(in rt.alloc(); "{digits} 0000 0000")?;
-    let list = bytes(rt.alloc(), digits.as_str())?;
-    let options = told(
-        rt.alloc(),
-        PacketOption::from_slice::<BigEndian>(rt.alloc(), list.as_slice()),
-    )?;
-    let shown = format!(in rt.alloc(); "[] [{shown}]")?;
-    assert_eq!(rt; options.as_str(), shown.as_str());
-    Ok(())
+    whole_list(rt.alloc(), ".. 0000 0000 => [] [..]", table, packet_options)
 }
 
 #[test]
@@ -147,11 +122,7 @@ fn refused_packets(rt: HostRuntime) -> Result<(), Fail> {
         00000000000000000000000000000000000000 => EnhancedPacketBlock: block length length < 20
         0000 0000 00000000 00000000 00000000 00000000 0002 0000 => PacketOption: Flags length != 4
     ";
-    for (digits, reason) in rows(rt.alloc(), table)? {
-        let refused = packet::<BigEndian>(rt.alloc(), digits)?;
-        assert_eq!(rt; refused.as_str(), reason, "at {digits}");
-    }
-    Ok(())
+    every_row(rt.alloc(), table, packet::<BigEndian>)
 }
 
 #[test]
@@ -160,13 +131,5 @@ fn simple_packets(rt: HostRuntime) -> Result<(), Fail> {
         00000001 61000000 => [] SimplePacketBlock { original_len: 1, data_: Borrowed([97, 0, 0, 0]) }
         000001 => SimplePacketBlock: block length < 4
     ";
-    for (digits, shown) in rows(rt.alloc(), table)? {
-        let body = bytes(rt.alloc(), digits)?;
-        let packet = told(
-            rt.alloc(),
-            SimplePacketBlock::from_slice::<BigEndian>(body.as_slice()),
-        )?;
-        assert_eq!(rt; packet.as_str(), shown, "at {digits}");
-    }
-    Ok(())
+    every_row(rt.alloc(), table, simple_packet)
 }

@@ -1,32 +1,19 @@
 //! Bodies by the type of their block.
 
-use byteorder::{BigEndian, ByteOrder, LittleEndian};
+use byteorder::{BigEndian, LittleEndian};
 use pcap_blocks::{BlockType, ParsedBlock};
 use std::alloc::Global;
 use std::test::*;
-use test_support::rows::{bytes, told};
+use test_support::rows::{bytes, every_row, same, told};
 
-// What the body of these digits gives in a block of this type.
-fn parsed(alloc: Global, type_: BlockType, digits: &str) -> Result<String, Fail> {
+// Whether the body of these digits, in a block of this type, gives what is shown.
+fn is_parsed(alloc: Global, type_: BlockType, digits: &str, shown: &str) -> Result<(), Fail> {
     let body = bytes(alloc, digits)?;
-    told(
+    let block = told(
         alloc,
         ParsedBlock::from_slice::<BigEndian>(alloc, type_, body.as_slice()),
-    )
-}
-
-// The section that it is.
-fn section<B: ByteOrder>(alloc: Global, type_: BlockType, digits: &str) -> Result<String, Fail> {
-    let body = bytes(alloc, digits)?;
-    let (_rest, block) = ParsedBlock::from_slice::<B>(alloc, type_, body.as_slice())?;
-    Ok(format!(in alloc; "{:?}", block.into_section_header())?)
-}
-
-// The interface that it is.
-fn interface(alloc: Global, type_: BlockType, digits: &str) -> Result<String, Fail> {
-    let body = bytes(alloc, digits)?;
-    let (_rest, block) = ParsedBlock::from_slice::<BigEndian>(alloc, type_, body.as_slice())?;
-    Ok(format!(in alloc; "{:?}", block.into_interface_description())?)
+    )?;
+    same(block.as_str(), shown)
 }
 
 #[test]
@@ -89,40 +76,51 @@ fn bodies_by_type(rt: HostRuntime) -> Result<(), Fail> {
             "[] Unknown(UnknownBlock { type_: Unknown(5), length: 0, value: Borrowed([]) })",
         ),
     ] {
-        let block = parsed(rt.alloc(), type_, digits)?;
-        assert_eq!(rt; block.as_str(), shown, "at {digits}");
+        is_parsed(rt.alloc(), type_, digits, shown)?;
     }
     Ok(())
 }
 
+// The section that a body is, in a block of a section header, and in one of a journal entry.
+
+fn section(alloc: Global, body: &[u8]) -> Result<String, Fail> {
+    let type_ = BlockType::SectionHeader;
+    let (_rest, block) = ParsedBlock::from_slice::<LittleEndian>(alloc, type_, body)?;
+    Ok(format!(in alloc; "{:?}", block.into_section_header())?)
+}
+
+fn section_of_a_journal(alloc: Global, body: &[u8]) -> Result<String, Fail> {
+    let type_ = BlockType::SystemdJournalExport;
+    let (_rest, block) = ParsedBlock::from_slice::<BigEndian>(alloc, type_, body)?;
+    Ok(format!(in alloc; "{:?}", block.into_section_header())?)
+}
+
 #[test]
 fn sections_of_blocks(rt: HostRuntime) -> Result<(), Fail> {
-    let section_header = section::<LittleEndian>(
-        rt.alloc(),
-        BlockType::SectionHeader,
-        "1a2b3c4d 0001 0000 0000000000000010",
-    )?;
-    assert_eq!(rt;
-        section_header.as_str(),
-        "Some(SectionHeaderBlock { magic: 439041101, major_version: 1, minor_version: 0, section_length: 16, options: [] })"
-    );
-    let journal = section::<BigEndian>(rt.alloc(), BlockType::SystemdJournalExport, "01")?;
-    assert_eq!(rt; journal.as_str(), "None");
-    Ok(())
+    let header =
+        "1a2b3c4d 0001 0000 0000000000000010 => Some(SectionHeaderBlock { magic: 439041101, major_version: 1, minor_version: 0, section_length: 16, options: [] })";
+    every_row(rt.alloc(), header, section)?;
+    every_row(rt.alloc(), "01 => None", section_of_a_journal)
+}
+
+// The interface that a body is, in a block of an interface, and in one of a simple packet.
+
+fn interface(alloc: Global, body: &[u8]) -> Result<String, Fail> {
+    let type_ = BlockType::InterfaceDescription;
+    let (_rest, block) = ParsedBlock::from_slice::<BigEndian>(alloc, type_, body)?;
+    Ok(format!(in alloc; "{:?}", block.into_interface_description())?)
+}
+
+fn interface_of_a_simple_packet(alloc: Global, body: &[u8]) -> Result<String, Fail> {
+    let type_ = BlockType::SimplePacket;
+    let (_rest, block) = ParsedBlock::from_slice::<BigEndian>(alloc, type_, body)?;
+    Ok(format!(in alloc; "{:?}", block.into_interface_description())?)
 }
 
 #[test]
 fn interfaces_of_blocks(rt: HostRuntime) -> Result<(), Fail> {
-    let description = interface(
-        rt.alloc(),
-        BlockType::InterfaceDescription,
-        "0001 0000 00040000",
-    )?;
-    assert_eq!(rt;
-        description.as_str(),
-        "Some(InterfaceDescriptionBlock { linktype: ETHERNET, reserved: 0, snaplen: 262144, options: [] })"
-    );
-    let simple_packet = interface(rt.alloc(), BlockType::SimplePacket, "00000001")?;
-    assert_eq!(rt; simple_packet.as_str(), "None");
-    Ok(())
+    let description =
+        "0001 0000 00040000 => Some(InterfaceDescriptionBlock { linktype: ETHERNET, reserved: 0, snaplen: 262144, options: [] })";
+    every_row(rt.alloc(), description, interface)?;
+    every_row(rt.alloc(), "00000001 => None", interface_of_a_simple_packet)
 }

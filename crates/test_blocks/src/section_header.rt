@@ -4,15 +4,11 @@ use pcap_blocks::SectionHeaderBlock;
 use pcap_core::Endianness;
 use std::alloc::Global;
 use std::test::*;
-use test_support::rows::{bytes, list, rows, told};
+use test_support::rows::{every_row, told, whole_list};
 
-// What the body of these digits gives.
-fn section(alloc: Global, digits: &str) -> Result<String, Fail> {
-    let body = bytes(alloc, digits)?;
-    told(
-        alloc,
-        SectionHeaderBlock::from_slice(alloc, body.as_slice()),
-    )
+// What a body gives.
+fn section(alloc: Global, body: &[u8]) -> Result<String, Fail> {
+    told(alloc, SectionHeaderBlock::from_slice(alloc, body))
 }
 
 #[test]
@@ -31,31 +27,33 @@ fn sections(rt: HostRuntime) -> Result<(), Fail> {
         1a2b3c4d 0001 0000 0000000000000010 0bad 0003 ffffff 00 => IoError
         4d3c2b1a 0100 0000 1000000000000000 ac0b 0500 00000000 ff 000000 => Utf8Error
     "#;
-    for (digits, shown) in rows(rt.alloc(), table)? {
-        let section = section(rt.alloc(), digits)?;
-        assert_eq!(rt; section.as_str(), shown, "at {digits}");
+    every_row(rt.alloc(), table, section)
+}
+
+// Whether the section of these bytes has a valid magic number, of this order.
+fn has_order(alloc: Global, body: &[u8], order: Endianness) -> bool {
+    match &SectionHeaderBlock::from_slice(alloc, body) {
+        Ok((_, section)) => section.has_valid_magic() && section.endianness() == order,
+        Err(_) => false,
     }
-    Ok(())
 }
 
 #[test]
-fn orders_of_sections(rt: HostRuntime) -> Result<(), Fail> {
-    for (digits, order) in [
-        ("1a2b3c4d 0001 0000 0000000000000010", Endianness::Big),
-        ("4d3c2b1a 0100 0200 ffffffffffffffff", Endianness::Little),
-    ] {
-        let body = bytes(rt.alloc(), digits)?;
-        let (_rest, section) = SectionHeaderBlock::from_slice(rt.alloc(), body.as_slice())?;
-        assert_eq!(rt;
-            (section.has_valid_magic(), section.endianness()),
-            (true, order)
-        );
-    }
-    Ok(())
+fn orders_of_sections(rt: HostRuntime) {
+    let big = [
+        0x1a, 0x2b, 0x3c, 0x4d, 0, 1, 0, 0, 0, 0, 0, 0, 0, 0, 0, 0x10,
+    ];
+    let little = [
+        0x4d, 0x3c, 0x2b, 0x1a, 1, 0, 2, 0, 0xff, 0xff, 0xff, 0xff, 0xff, 0xff, 0xff, 0xff,
+    ];
+    assert!(rt; has_order(rt.alloc(), &big, Endianness::Big));
+    assert!(rt; has_order(rt.alloc(), &little, Endianness::Little));
 }
 
 #[test]
 fn each_option_of_a_section(rt: HostRuntime) -> Result<(), Fail> {
+    let row =
+        "1a2b3c4d 0001 0000 0000000000000000 .. => [] SectionHeaderBlock { magic: 439041101, major_version: 1, minor_version: 0, section_length: 0, options: [..] }";
     let table = r#"
         0001 0002 6869 ffff => Comment("hi")
         0002 0001 61 ffffff => Hardware("a")
@@ -67,12 +65,5 @@ fn each_option_of_a_section(rt: HostRuntime) -> Result<(), Fail> {
         4bad 0004 00000002 => CustomBinary(CustomBinaryOption { code: 19373, pen: 2, value: Borrowed([]) })
         0063 0002 aabb ffff => Unknown(UnknownOption { code: 99, length: 2, value: Borrowed([170, 187]) })
     "#;
-    let (options, shown) = list(rt.alloc(), table)?;
-    let digits = format!(in rt.alloc(); "1a2b3c4d 0001 0000 0000000000000000 {options}")?;
-    let section = section(rt.alloc(), digits.as_str())?;
-    let shown = format!(in rt.alloc();
-        "[] SectionHeaderBlock {{ magic: 439041101, major_version: 1, minor_version: 0, section_length: 0, options: [{shown}] }}"
-    )?;
-    assert_eq!(rt; section.as_str(), shown.as_str());
-    Ok(())
+    whole_list(rt.alloc(), row, table, section)
 }

@@ -19,8 +19,62 @@ pub fn rows<'a>(alloc: Global, table: &'a str) -> Result<Vec<(&'a str, &'a str)>
     Ok(rows)
 }
 
-/// The digits of a list, and its text, from a table with a row for each of its members.
-pub fn list(alloc: Global, table: &str) -> Result<(String, String), Fail> {
+/// Whether a call gives for the bytes of each row of a table what the row says; else a failure that tells the row.
+pub fn every_row<F: Fn(Global, &[u8]) -> Result<String, Fail>>(
+    alloc: Global,
+    table: &str,
+    call: F,
+) -> Result<(), Fail>
+    requires { F.IsAlwaysCallable call }
+{
+    for row in table.trim().lines() {
+        one_row(alloc, row, &call)?;
+    }
+    Ok(())
+}
+
+// The same of one row.
+fn one_row<F: Fn(Global, &[u8]) -> Result<String, Fail>>(
+    alloc: Global,
+    row: &str,
+    call: &F,
+) -> Result<(), Fail>
+    requires { F.IsAlwaysCallable call.now }
+{
+    let (digits, shown) = row.split_once("=>").ok_or("a row with no arrow")?;
+    let bytes = bytes(alloc, digits)?;
+    let told = call(alloc, bytes.as_slice())?;
+    same(told.as_str(), shown.trim())
+}
+
+/// Whether what was told is what should be shown; else a failure that tells both.
+pub fn same(told: &str, shown: &str) -> Result<(), Fail> {
+    if told == shown {
+        return Ok(());
+    }
+    Err(Fail::new(format_args!("{told} in place of {shown}")))
+}
+
+/// The same of a row in which `..` stands for a list: its members' digits, and behind the arrow their texts, as the rows of a
+/// table have them.
+pub fn whole_list<F: Fn(Global, &[u8]) -> Result<String, Fail>>(
+    alloc: Global,
+    row: &str,
+    table: &str,
+    call: F,
+) -> Result<(), Fail>
+    requires { F.IsAlwaysCallable call }
+{
+    let (digits, shown) = list(alloc, table)?;
+    let (before, after) = row.split_once("=>").ok_or("a row with no arrow")?;
+    let before = before.replace(alloc, "..", digits.as_str())?;
+    let after = after.replace(alloc, "..", shown.as_str())?;
+    let row = format!(in alloc; "{before}=>{after}")?;
+    one_row(alloc, row.as_str(), &call)
+}
+
+// The digits of a list, and its text, from a table with a row for each of its members.
+fn list(alloc: Global, table: &str) -> Result<(String, String), Fail> {
     let mut digits = String::new(alloc);
     let mut shown = String::new(alloc);
     for (member, text) in rows(alloc, table)? {

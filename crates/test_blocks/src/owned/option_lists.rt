@@ -1,7 +1,7 @@
 //! Options by themselves, of each kind of block.
 
-use crate::rows::{HasTexts, Owned, compare_with_texts};
-use crate::texts::{
+use crate::owned::rows::{HasTexts, Owned, compare_with_texts};
+use crate::owned::texts::{
     enhanced_owns_text, interface_owns_text, name_owns_text, packet_owns_text, section_owns_text,
     statistics_own_text,
 };
@@ -285,40 +285,26 @@ const OF_NAMES: [(&str, &str); 6] = [
 
 #[test]
 fn options_of_sections_and_interfaces(rt: HostRuntime) -> Result<(), Fail> {
-    let mut told = String::new(rt.alloc());
     compare_with_texts::<Vec<SectionHeaderOption>>(
         rt.alloc(),
         "1a2b3c4d 0001 0000 0000000000000010",
         &OF_SECTION,
-        &mut told,
     )?;
     compare_with_texts::<Vec<InterfaceDescriptionOption>>(
         rt.alloc(),
         "0001 0000 00040000",
         &OF_INTERFACE,
-        &mut told,
     )?;
     compare_with_texts::<Vec<InterfaceStatisticsOption>>(
         rt.alloc(),
         "00000001 00000002 00000003",
         &OF_STATISTICS,
-        &mut told,
-    )?;
-    assert_eq!(rt; told.as_str(), "");
-    Ok(())
+    )
 }
 
 #[test]
 fn options_of_packets_and_names(rt: HostRuntime) -> Result<(), Fail> {
-    let mut told = String::new(rt.alloc());
-    compare_with_texts::<Vec<EnhancedPacketOption>>(
-        rt.alloc(),
-        "",
-        &OF_ENHANCED_PACKET,
-        &mut told,
-    )?;
-    compare_with_texts::<Vec<PacketOption>>(rt.alloc(), "", &OF_PACKET, &mut told)?;
-    compare_with_texts::<Vec<NameResolutionOption>>(rt.alloc(), "0000 0000", &OF_NAMES, &mut told)?;
-    assert_eq!(rt; told.as_str(), "");
-    Ok(())
+    compare_with_texts::<Vec<EnhancedPacketOption>>(rt.alloc(), "", &OF_ENHANCED_PACKET)?;
+    compare_with_texts::<Vec<PacketOption>>(rt.alloc(), "", &OF_PACKET)?;
+    compare_with_texts::<Vec<NameResolutionOption>>(rt.alloc(), "0000 0000", &OF_NAMES)
 }

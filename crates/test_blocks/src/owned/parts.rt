@@ -1,6 +1,6 @@
 //! The options that all kinds of blocks share, and bytes, by themselves.
 
-use crate::rows::{Owned, compare};
+use crate::owned::rows::{Owned, compare};
 use byteorder::BigEndian;
 use pcap_blocks::{CustomBinaryOption, CustomUtf8Option, UnknownOption};
 use pcap_core::{CowBytes, ResultParsing};
@@ -66,18 +66,12 @@ const BYTES: [(&str, &str); 9] = [
 
 #[test]
 fn shared_options(rt: HostRuntime) -> Result<(), Fail> {
-    let mut told = String::new(rt.alloc());
-    compare::<CustomUtf8Option>(rt.alloc(), "", &CUSTOM_TEXTS, &mut told)?;
-    compare::<CustomBinaryOption>(rt.alloc(), "", &CUSTOM_BYTES, &mut told)?;
-    compare::<UnknownOption>(rt.alloc(), "", &UNKNOWN_OPTIONS, &mut told)?;
-    assert_eq!(rt; told.as_str(), "");
-    Ok(())
+    compare::<CustomUtf8Option>(rt.alloc(), "", &CUSTOM_TEXTS)?;
+    compare::<CustomBinaryOption>(rt.alloc(), "", &CUSTOM_BYTES)?;
+    compare::<UnknownOption>(rt.alloc(), "", &UNKNOWN_OPTIONS)
 }
 
 #[test]
 fn owned_bytes(rt: HostRuntime) -> Result<(), Fail> {
-    let mut told = String::new(rt.alloc());
-    compare::<CowBytes>(rt.alloc(), "", &BYTES, &mut told)?;
-    assert_eq!(rt; told.as_str(), "");
-    Ok(())
+    compare::<CowBytes>(rt.alloc(), "", &BYTES)
 }

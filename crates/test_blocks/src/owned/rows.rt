@@ -4,7 +4,7 @@ use pcap_core::ResultParsing;
 use std::alloc::Global;
 use std::fmt::Debug;
 use std::test::Fail;
-use test_support::rows::bytes;
+use test_support::rows::{bytes, same};
 
 // A value that outlives the bytes it was read from.
 pub(crate) trait Owned: Clone + Debug {
@@ -25,50 +25,39 @@ fn kept<T: Owned>(alloc: Global, head: &str, digits: &str) -> Result<T, Fail> {
     Ok(T::owned(alloc, body.as_slice())?)
 }
 
-// Tells the texts of the values, or of their clones, that are other ones than their rows say. Each row is the digits behind a
-// head, and a text.
+// Whether the values of rows, and their clones, are what the rows show. Each row is the digits behind a head, and a text.
 pub(crate) fn compare<T: Owned>(
     alloc: Global,
     head: &str,
     rows: &[(&str, &str)],
-    told: &mut String,
 ) -> Result<(), Fail> {
     for (digits, text) in rows {
         let value = kept::<T>(alloc, head, *digits)?;
-        tell(alloc, &value, *text, told)?;
+        tell(alloc, &value, *text)?;
     }
     Ok(())
 }
 
-// The same, and the rows whose values borrow a text.
+// The same, and whether they own their texts.
 pub(crate) fn compare_with_texts<T: HasTexts>(
     alloc: Global,
     head: &str,
     rows: &[(&str, &str)],
-    told: &mut String,
 ) -> Result<(), Fail> {
     for (digits, text) in rows {
         let value = kept::<T>(alloc, head, *digits)?;
+        tell(alloc, &value, *text)?;
         if !value.owns_texts() {
-            write!(told, "{text} borrows a text. ")?;
+            return Err(Fail::new(format_args!("{text} borrows a text")));
         }
-        tell(alloc, &value, *text, told)?;
     }
     Ok(())
 }
 
-// Tells the text of a value where it, or that of its clone, is another one.
-pub(crate) fn tell<T: Clone + Debug>(
-    alloc: Global,
-    value: &T,
-    text: &str,
-    told: &mut String,
-) -> Result<(), Fail> {
+// Whether a value, and its clone, show this text; else a failure that tells what they show.
+pub(crate) fn tell<T: Clone + Debug>(alloc: Global, value: &T, text: &str) -> Result<(), Fail> {
     let shown = text_with_clone(alloc, value)?;
-    if shown.as_str() != text {
-        write!(told, "{shown} in place of {text}. ")?;
-    }
-    Ok(())
+    same(shown.as_str(), text)
 }
 
 // The text of a value, and that of its clone where it is another one. It tells owned bytes from borrowed ones, but not
