@@ -1,33 +1,28 @@
 -- Packets as they stand behind a header, which is the state of their format with the limit.
-use Rattle.std.proofs.Common.{◌≡◌, ℕ, List, [], ◌∷◌, refl, sym, ap, subst, ◌∙◌, arith}
+use Rattle.std.proofs.Common.{◌≡◌, ℕ, List, [], ◌∷◌, refl, sym, subst, ◌∙◌, arith}
 use Rattle.std.proofs.lemmas.List.{map-id}
 use Rattle.pcap_core.specs.declared.errors.PcapError.{PcapError}
 use Rattle.pcap_core.specs.declared.run.items.Ended.{Ended}
-use Rattle.pcap_core.specs.Answer.{number_in, whole}
+use Rattle.pcap_core.specs.Answer.{whole}
 use Rattle.pcap_core.specs.Format.{Front, IsLawful, Texts, state_after}
 use Rattle.pcap_core.specs.Items.{EndsWith, GrowsIn, LeadsTo, ShowsFault, rest_of}
 use Rattle.pcap_core.specs.Run.{IsRest}
 use Rattle.pcap_core.proofs.Items.{ended_rest, grows_some, leads_front}
-use Rattle.pcap_classic.specs.declared.pcap.header.PcapHeader.{PcapHeader}
 use Rattle.pcap_classic.specs.HeaderText.{HeaderText}
-use Rattle.pcap_classic.specs.Magic.{order_of, resolution_of}
-use Rattle.pcap_tolerant.specs.AsIs.{AsIs, raised, as_is_format}
+use Rattle.pcap_tolerant.specs.AsIs.{AsIs, as_is_format}
 use Rattle.pcap_tolerant.specs.Run.{as_is_under, Setting, any_as_is, HasPacketAsIs}
-use Rattle.pcap_tolerant.proofs.AsIs.{as_is_lawful}
-
-under_lawful : (q : Setting) → IsLawful (as_is_under q.limit q.header)
-under_lawful q = as_is_lawful (raised q.limit) (number_in (order_of q.header.magic_number)) (resolution_of q.header.magic_number)
+use Rattle.pcap_tolerant.proofs.KnownPackets.{under_lawful}
 
 pub any_lawful : IsLawful any_as_is
 unfolding as_is_format
 any_lawful = record {
-  one = λ q s. (under_lawful q).one tt s;
-  stable = λ q. (under_lawful q).stable tt;
-  own = λ q s rest packet x. (under_lawful q).own tt s rest packet x;
+  one = λ q s. (under_lawful q.limit q.header).one tt s;
+  stable = λ q. (under_lawful q.limit q.header).stable tt;
+  own = λ q s rest packet x. (under_lawful q.limit q.header).own tt s rest packet x;
   some = omega arith;
-  asks = λ q s n x. (under_lawful q).asks tt s n x;
-  short = λ q s n sum some. (under_lawful q).short tt s n sum some;
-  last = λ q s more n m long x count y. (under_lawful q).last tt s more n m long x count y;
+  asks = λ q s n x. (under_lawful q.limit q.header).asks tt s n x;
+  short = λ q s n sum some. (under_lawful q.limit q.header).short tt s n sum some;
+  last = λ q s more n m long x count y. (under_lawful q.limit q.header).last tt s more n m long x count y;
 }
 
 state_stays : (q : Setting) (packets : List AsIs) → state_after any_as_is q packets ≡ q

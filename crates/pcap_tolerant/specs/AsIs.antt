@@ -9,6 +9,7 @@ use Rattle.pcap_core.specs.Format.{Format}
 use Rattle.pcap_core.specs.Headed.{HeadReading, good, bad, Headed}
 use Rattle.pcap_classic.specs.PacketText.{packet_limit, Head, RecordHeadText, nanoseconds, spelled_header, Captured, LacksHead}
 use Rattle.pcap_tolerant.specs.declared.as_is.Flaws.{Flaws}
+use Rattle.pcap_tolerant.specs.declared.as_is.HeadAsIs.{HeadAsIs}
 use Rattle.pcap_tolerant.specs.declared.as_is.PacketAsIs.{PacketAsIs}
 
 -- a caller's limit, at least that of packets that break no rule
@@ -54,6 +55,14 @@ pub record AsIs : Type 0 where
 abbrev pub as_it_is : PacketAsIs → AsIs
 as_it_is p = record { head = record { seconds = p.ts_sec; fraction = p.fraction; included = p.incl_len; original = p.orig_len }; flaws = p.flaws; bytes = p.data.now }
 
+-- the four numbers of a head as it stands
+abbrev pub numbers_of : HeadAsIs → Head
+numbers_of head = record { seconds = head.ts_sec; fraction = head.fraction; included = head.incl_len; original = head.orig_len }
+
+-- the packet of this head and these bytes
+abbrev pub packet_with : HeadAsIs → List ℕ → AsIs
+packet_with head bytes = record { head = numbers_of head; flaws = head.flaws; bytes = bytes }
+
 -- the packet that the strict reading gives where no rule is broken
 abbrev pub strict_of : TsResolution → AsIs → Captured
 strict_of r p = record { header = spelled_header r p.head; bytes = p.bytes }
@@ -66,6 +75,12 @@ pub record AsIsText (limit : ℕ) (order : Order) (r : TsResolution) (packet : A
   pub flaws_are : packet.flaws ≡ flaws_of r packet.head
   pub data_is : after ≡ packet.bytes ++ rest
   pub whole : length packet.bytes ≡ packet.head.included
+
+-- s is the text of a head as it stands, of a stored length of at most limit, and then rest
+pub record HeadAsIsText (limit : ℕ) (order : Order) (r : TsResolution) (head : HeadAsIs) (s rest : List ℕ) : Type 0 where
+  pub text : RecordHeadText order (numbers_of head) s rest
+  pub below : head.incl_len ≤ limit
+  pub flaws_are : head.flaws ≡ flaws_of r (numbers_of head)
 
 -- n bytes lack of the data behind a head
 pub record LacksStored (limit : ℕ) (order : Order) (s : List ℕ) (n : ℕ) : Type 0 where
@@ -87,6 +102,10 @@ pub record HasLongHead (limit : ℕ) (order : Order) (s : List ℕ) (fault : Fau
 -- n bytes lack of a packet: of its head, or else of its data
 abbrev pub LacksAsIs : ℕ → Order → List ℕ → ℕ → Type 0
 LacksAsIs limit order s n = LacksHead s n ⊎ LacksStored limit order s n
+
+-- what is said of bytes where a head as it stands is asked for
+abbrev pub HeadAsIsSays : ℕ → Order → TsResolution → List ℕ → Verdict HeadAsIs → Type 0
+HeadAsIsSays limit order r s = Says (λ head rest. HeadAsIsText limit order r head s rest) (LacksHead s) (HasLongHead limit order s)
 
 -- what is said of bytes where a packet as it stands is asked for
 abbrev pub AsIsSays : ℕ → Order → TsResolution → List ℕ → Verdict AsIs → Type 0

@@ -6,7 +6,7 @@ ghost use Rattle.pcap_core.specs.Answer.{Tells, number_in};
 ghost use Rattle.pcap_classic.specs.Magic.{is_magic, order_of, resolution_of};
 ghost use Rattle.pcap_classic.specs.Parser.{header_of};
 ghost use Rattle.pcap_classic.specs.PacketText.{Head, nanoseconds};
-ghost use Rattle.pcap_tolerant.specs.AsIs.{breaks_one, flaws_of, rules_of, first_rule, raised, as_it_is, AsIsSays};
+ghost use Rattle.pcap_tolerant.specs.AsIs.{breaks_one, flaws_of, rules_of, first_rule, raised, as_it_is, packet_with, AsIsSays, HeadAsIsSays};
 
 use byteorder::{BigEndian, ByteOrder, LittleEndian};
 use pcap_classic::TsResolution;
@@ -88,6 +88,72 @@ fn flaws_in(
     }
 }
 
+/// The head of a packet as it stands: its four numbers as they were written, and which rules they break.
+#[derive(Clone, Copy, Debug, PartialEq, Eq)]
+pub struct HeadAsIs {
+    /// Time in seconds since 1970.
+    pub ts_sec: u32,
+    /// The fraction of the second, in the capture's resolution: microseconds or nanoseconds. It may pass one second.
+    pub fraction: u32,
+    /// How many bytes of the packet are stored.
+    pub incl_len: u32,
+    /// How many bytes the packet had on the wire, as it says. It may be less than is stored.
+    pub orig_len: u32,
+    /// Which rules it breaks.
+    pub flaws: Flaws,
+}
+
+impl HeadAsIs {
+    /// The head at the front of a slice, and what follows it.
+    ///
+    /// `IncompleteBuffer` under 16 bytes. `InvalidField` by V3 where the stored length is above the limit, in bytes, since where
+    /// such a packet ends can't be trusted; a limit below 262144 is taken for 262144. No other rule is a refusal.
+    #[inline(always)]
+    pub fn from_slice<B: ByteOrder>(
+        slice: &[u8],
+        ts_resolution: TsResolution,
+        limit: u32,
+    ) -> ResultParsing<(&[u8], HeadAsIs)>
+        ensures tells { Tells (HeadAsIsSays (raised limit) B.number_of ts_resolution slice.now) (λ head. head) result }
+    {
+        if slice.len() < 16 {
+            return Err(PcapError::IncompleteBuffer(16 - slice.len()));
+        }
+        let (ts_sec, rest) = split_u32::<B>(slice);
+        let (fraction, rest) = split_u32::<B>(rest);
+        let (incl_len, rest) = split_u32::<B>(rest);
+        let (orig_len, rest) = split_u32::<B>(rest);
+        let most = limit.max(PACKET_LIMIT);
+        if incl_len > most {
+            return Err(PcapError::from(Rule::IncludedTooLong));
+        }
+        let flaws = flaws_in(ts_resolution, ts_sec, fraction, incl_len, orig_len);
+        let head = HeadAsIs {
+            ts_sec,
+            fraction,
+            incl_len,
+            orig_len,
+            flaws,
+        };
+        Ok((rest, head))
+    }
+
+    /// The packet of this head and these bytes.
+    #[inline(always)]
+    pub fn packet<'a>(&self, bytes: &'a [u8]) -> PacketAsIs<'a>
+        ensures { as_it_is result ≡ packet_with self.now bytes.now }
+    {
+        PacketAsIs {
+            ts_sec: self.ts_sec,
+            fraction: self.fraction,
+            incl_len: self.incl_len,
+            orig_len: self.orig_len,
+            flaws: self.flaws,
+            data: bytes,
+        }
+    }
+}
+
 /// A packet as it stands: the four numbers of its head as they were written, which rules they break, and its bytes.
 #[derive(Clone, Copy, Debug)]
 pub struct PacketAsIs<'a> {
@@ -118,32 +184,13 @@ impl<'a> PacketAsIs<'a> {
     ) -> ResultParsing<(&'a [u8], PacketAsIs<'a>)>
         ensures tells { Tells (AsIsSays (raised limit) B.number_of ts_resolution slice.now) as_it_is result }
     {
-        if slice.len() < 16 {
-            return Err(PcapError::IncompleteBuffer(16 - slice.len()));
-        }
-        let (ts_sec, rest) = split_u32::<B>(slice);
-        let (fraction, rest) = split_u32::<B>(rest);
-        let (incl_len, rest) = split_u32::<B>(rest);
-        let (orig_len, rest) = split_u32::<B>(rest);
-        let most = limit.max(PACKET_LIMIT);
-        if incl_len > most {
-            return Err(PcapError::from(Rule::IncludedTooLong));
-        }
-        let len = incl_len as usize;
+        let (rest, head) = HeadAsIs::from_slice::<B>(slice, ts_resolution, limit)?;
+        let len = head.incl_len as usize;
         if rest.len() < len {
             return Err(PcapError::IncompleteBuffer(len - rest.len()));
         }
-        let flaws = flaws_in(ts_resolution, ts_sec, fraction, incl_len, orig_len);
         let (data, rest) = rest.split_at(len);
-        let packet = PacketAsIs {
-            ts_sec,
-            fraction,
-            incl_len,
-            orig_len,
-            flaws,
-            data,
-        };
-        Ok((rest, packet))
+        Ok((rest, head.packet(data)))
     }
 
     /// The time of the packet under its capture's resolution: the seconds, and the fraction carried into them. It is exact

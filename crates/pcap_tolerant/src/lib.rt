@@ -5,8 +5,11 @@
 
 pub mod as_is;
 pub mod laws;
+mod reader;
 pub mod resync;
 mod run;
+mod stated;
 
-pub use as_is::{Flaws, PacketAsIs, next_packet_as_is};
+pub use as_is::{Flaws, HeadAsIs, PacketAsIs, next_packet_as_is};
+pub use reader::ReaderAsIs;
 pub use run::{PcapRunAsIs, parse_pcap_as_is};

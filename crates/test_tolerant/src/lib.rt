@@ -12,3 +12,5 @@ mod options;
 mod packets;
 #[cfg(test)]
 mod runs;
+#[cfg(test)]
+mod streams;

@@ -9,7 +9,7 @@ use std::test::Fail;
 use std::time::Duration;
 use test_support::captures::{BIG_HEAD, pattern};
 
-const NONE: Flaws = Flaws {
+pub const NONE: Flaws = Flaws {
     fraction_too_large: false,
     included_too_long: false,
     original_too_long: false,
@@ -17,7 +17,7 @@ const NONE: Flaws = Flaws {
 };
 
 // A packet of three bytes with these numbers in its head: seconds, fraction, stored and original length.
-fn packet<B: ByteOrder>(numbers: [u32; 4], bytes: [u8; 3]) -> [u8; 19] {
+pub fn packet<B: ByteOrder>(numbers: [u32; 4], bytes: [u8; 3]) -> [u8; 19] {
     let mut text = [0; 19];
     B::write_u32(&mut text, numbers[0]);
     B::write_u32(&mut text[4..], numbers[1]);
