@@ -1,5 +1,6 @@
 mod Bodies
 mod Informing
+mod Spans
 mod Tallying
 mod Telling
 mod Totalling

@@ -2,14 +2,15 @@
 use Rattle.std.proofs.Common.{◌≡◌, ◌<◌, ◌≤◌, ◌+◌, ◌-◌, ◌^◌, ◌⊎◌, ◌++◌, ◌∷◌, [], ℕ, List, Bool, true, false, cond, Option, None, Some, length, min, filter_map, inl, inr, refl, sym, ap, ◌∙◌, subst, arith, length-append, append-nil}
 use Rattle.std.specs.Prelude.{All, Contains, count_by, filter, sum_by, slice_index, slice_set}
 use Rattle.std.proofs.lemmas.Bool.{cases_eq, eq-eqb, ne_eqb}
-use Rattle.std.proofs.lemmas.List.{get_or-set_same, get_or-set_other}
+use Rattle.std.proofs.lemmas.List.{get_or-set_same, get_or-set_other, map-append}
 use Rattle.std.proofs.lemmas.List.Elements.{All-push, All-nil, All-weaker, Contains-append_left, Contains-push, filter_map-append, filter-append}
 use Rattle.std.proofs.lemmas.List.Sums.{sum_by_push, length-filter}
 use Rattle.pcap_times.specs.declared.clock.Timestamp.{Timestamp}
 use Rattle.pcapfile_run.specs.Passing.{counted}
 use Rattle.pcapfile_info.specs.declared.seen.Seen.{Seen}
+use Rattle.pcapfile_info.specs.declared.spread.Spread.{Spread}
 use Rattle.pcapfile_info.specs.declared.tally.Tally.{Tally}
-use Rattle.pcapfile_info.specs.Tallies.{IsBefore, IsEarlierOf, IsEarliestWith, IsLaterOf, IsLatestWith, IsEarliest, IsLatest, Tallies, times_of, size_class, is_of_class}
+use Rattle.pcapfile_info.specs.Tallies.{instant_of, instants_of, IsBefore, IsEarlierOf, IsEarliestWith, IsLaterOf, IsLatestWith, IsEarliest, IsLatest, IsSpread, IsSpreadWith, Tallies, times_of, size_class, is_of_class}
 
 -- counting goes on where it stopped
 pub counted_push : (a n k : ℕ) → a ≡ counted n → counted (a + k) ≡ counted (n + k)
@@ -74,6 +75,14 @@ module _ (packets : List Seen) (known : Option Timestamp) where
   latest_behind seen (Some time) (Some latest) is before with =
       rw (filter_map-append (λ (p : Seen). p.time) packets (seen ∷ []), is) (latest_push (times_of packets) known time latest before with)
 
+-- the spread over time of packets behind one more
+module _ (packets : List Seen) (known spread : Option Spread) where
+  spread_behind : (seen : Seen) (time : Option Timestamp) → seen.time ≡ time → IsSpread (instants_of packets) known → IsSpreadWith known time spread → IsSpread (instants_of (packets ++ seen ∷ [])) spread
+  spread_behind seen None is before with =
+      rw (with, filter_map-append (λ (p : Seen). p.time) packets (seen ∷ []), is, append-nil (times_of packets)) before
+  spread_behind seen (Some time) is before with =
+      rw (filter_map-append (λ (p : Seen). p.time) packets (seen ∷ []), is, map-append instant_of (times_of packets) (time ∷ [])) (with (instants_of packets) before)
+
 -- one of a class more
 one_or_none : {X : Type 0} (x : X) (b : Bool) → length (cond b (x ∷ []) []) ≡ cond b 1 0
 one_or_none x true = refl
@@ -104,13 +113,14 @@ sizes_push old new packets seen class more is within long is_more is_new before 
     ]
 
 pub tally_push : (packets : List Seen) (seen : Seen) (old new : Tally) → Tallies packets old → new.packets ≡ counted (old.packets + 1) → new.stored ≡ counted (old.stored + seen.stored)
-    → new.original ≡ counted (old.original + seen.original) → IsEarliestWith old.earliest seen.time new.earliest → IsLatestWith old.latest seen.time new.latest
+    → new.original ≡ counted (old.original + seen.original) → IsEarliestWith old.earliest seen.time new.earliest → IsLatestWith old.latest seen.time new.latest → IsSpreadWith old.spread seen.time new.spread
     → ((k : ℕ) → k < 10 → slice_index new.sizes k ≡ counted (count_by (is_of_class k) (packets ++ seen ∷ []))) → Tallies (packets ++ seen ∷ []) new
-tally_push packets seen old new before number stored original earliest latest sizes = record {
+tally_push packets seen old new before number stored original earliest latest spread sizes = record {
   number = number ∙ counted_push old.packets (length packets) 1 before.number ∙ ap counted (sym (length-append packets (seen ∷ [])));
   stored = stored ∙ counted_push old.stored (sum_by (λ p. p.stored) packets) seen.stored before.stored ∙ ap counted (sym (sum_by_push (λ (p : Seen). p.stored) packets seen));
   original = original ∙ counted_push old.original (sum_by (λ p. p.original) packets) seen.original before.original ∙ ap counted (sym (sum_by_push (λ (p : Seen). p.original) packets seen));
   earliest = earliest_behind packets old.earliest seen seen.time new.earliest refl before.earliest earliest;
   latest = latest_behind packets old.latest seen seen.time new.latest refl before.latest latest;
   sizes = sizes;
+  spread = spread_behind packets old.spread new.spread seen seen.time refl before.spread spread;
 }

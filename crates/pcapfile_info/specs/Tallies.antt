@@ -1,9 +1,11 @@
 -- What is counted of packets.
-use Rattle.std.specs.Prelude.{◌≡◌, ◌<◌, ◌≤◌, ◌⊎◌, ◌==◌, ◌^◌, ◌-◌, ◌<ℤ◌, ℕ, List, [], Bool, Option, None, Some, nat_lt, if◌then◌else◌, min, length, sum_by, count_by, filter_map, All, Contains, slice_index}
+use Rattle.std.specs.Prelude.{◌≡◌, ◌<◌, ◌≤◌, ◌⊎◌, ◌==◌, ◌^◌, ◌-◌, ◌+◌, ◌*◌, ◌<ℤ◌, ◌++◌, ◌∷◌, ℕ, ℤ, pos, negsuc, List, [], Bool, Option, None, Some, nat_lt, if◌then◌else◌, min, length, sum_by, count_by, map, filter_map, All, Contains, slice_index}
 use Rattle.pcap_times.specs.declared.clock.Timestamp.{Timestamp}
 use Rattle.pcapfile_run.specs.Passing.{counted}
 use Rattle.pcapfile_info.specs.declared.seen.Seen.{Seen}
+use Rattle.pcapfile_info.specs.declared.spread.Spread.{Spread}
 use Rattle.pcapfile_info.specs.declared.tally.Tally.{Tally}
+use Rattle.pcapfile_info.specs.Spreads.{Spreads}
 
 -- times go by their seconds, and where these are the same by their nanoseconds
 abbrev pub IsBefore : Timestamp → Timestamp → Type 0
@@ -45,6 +47,28 @@ IsLatest times (Some latest) = Contains times latest × All (λ time. IsBefore l
 abbrev pub times_of : List Seen → List Timestamp
 times_of = filter_map (λ packet. packet.time)
 
+abbrev pub nanoseconds_of : ℤ → ℕ → ℕ
+nanoseconds_of (pos seconds) nanoseconds = counted (seconds * 10 ^ 9 + nanoseconds)
+nanoseconds_of (negsuc before) nanoseconds = 0
+
+-- the nanoseconds from 1970 to a time: none before that, and 2^64 - 1 for more than that
+abbrev pub instant_of : Timestamp → ℕ
+instant_of time = nanoseconds_of time.seconds time.nanoseconds
+
+-- these of the packets that have a time
+abbrev pub instants_of : List Seen → List ℕ
+instants_of packets = map instant_of (times_of packets)
+
+-- instants lie in spans as a spread tells; there is none of no instants
+abbrev pub IsSpread : List ℕ → Option Spread → Type 0
+IsSpread instants None = instants ≡ []
+IsSpread instants (Some spread) = Spreads instants spread
+
+-- the spread behind one packet more, which may have a time
+abbrev pub IsSpreadWith : Option Spread → Option Timestamp → Option Spread → Type 0
+IsSpreadWith known None spread = spread ≡ known
+IsSpreadWith known (Some time) spread = (instants : List ℕ) → IsSpread instants known → IsSpread (instants ++ instant_of time ∷ []) spread
+
 -- the class of a length
 abbrev pub size_class : ℕ → ℕ
 size_class n =
@@ -71,3 +95,4 @@ pub record Tallies (packets : List Seen) (tally : Tally) : Type 0 where
   pub earliest : IsEarliest (times_of packets) tally.earliest
   pub latest : IsLatest (times_of packets) tally.latest
   pub sizes : (class : ℕ) → class < 10 → slice_index tally.sizes class ≡ counted (count_by (is_of_class class) packets)
+  pub spread : IsSpread (instants_of packets) tally.spread

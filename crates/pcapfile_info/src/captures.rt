@@ -3,7 +3,7 @@
 ghost use Rattle.std.specs.Prelude.{IfSome, IfOk};
 ghost use Rattle.pcapfile_info.specs.Information.{InformsPackets, InformsBlocks};
 
-use crate::described::{Described, push_comments};
+use crate::described::{Described, Opened, opened_by, push_comments};
 use crate::progress::{MOST, Progress, tell_blocks, tell_packets};
 use crate::totals::Totals;
 use pcap_file::pcap::{PcapHeader, read_header};
@@ -19,6 +19,8 @@ pub struct Information {
     pub checked: Checked,
     /// The header of a classic capture, where it has one.
     pub header: Option<PcapHeader>,
+    /// What the first section header of a capture of blocks says, where it has one.
+    pub opened: Option<Opened>,
     /// What is counted of these items.
     pub totals: Totals,
     /// How the interfaces of a capture of blocks are described, in order over all sections.
@@ -50,6 +52,7 @@ pub fn inform_packets<R: Read + Drop>(
                     end,
                 },
                 header: None,
+                opened: None,
                 totals,
                 described: Vec::new(alloc),
                 comments: Vec::new(alloc),
@@ -81,6 +84,7 @@ pub fn inform_packets<R: Read + Drop>(
             end,
         },
         header: Some(header),
+        opened: None,
         totals,
         described,
         comments,
@@ -106,12 +110,14 @@ pub fn inform_blocks<R: Read + Drop>(alloc: Global, input: R) -> Result<Informat
                     end,
                 },
                 header: None,
+                opened: None,
                 totals,
                 described: Vec::new(alloc),
                 comments: Vec::new(alloc),
             });
         }
     };
+    let opened = opened_by(reader.section());
     let mut comments = Vec::new(alloc);
     push_comments(alloc, &mut comments, reader.section())?;
     let mut progress = Progress {
@@ -138,6 +144,7 @@ pub fn inform_blocks<R: Read + Drop>(alloc: Global, input: R) -> Result<Informat
             end,
         },
         header: None,
+        opened,
         totals,
         described,
         comments,

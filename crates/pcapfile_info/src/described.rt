@@ -1,10 +1,21 @@
 //! How sections and interfaces are described.
 
-use pcap_file::DataLink;
 use pcap_file::pcapng::{
     InterfaceDescriptionBlock, InterfaceDescriptionOption, SectionHeaderBlock, SectionHeaderOption,
 };
+use pcap_file::{DataLink, Endianness};
 use std::alloc::{AllocError, Global};
+
+/// What the first section header of a capture of blocks says.
+#[derive(Clone, Copy, Debug, PartialEq, Eq)]
+pub struct Opened {
+    /// The order of the section's numbers.
+    pub order: Endianness,
+    /// Major version number, 1 as a rule.
+    pub major_version: u16,
+    /// Minor version number, 0 as a rule.
+    pub minor_version: u16,
+}
 
 /// How an interface of a capture of blocks is described.
 #[derive(Debug, Drop)]
@@ -21,6 +32,18 @@ pub struct Described {
     pub name: Option<String>,
     /// Its comments.
     pub comments: Vec<String>,
+}
+
+/// What a section header says. None where its magic number names no order, as no section has it that was read.
+pub(crate) fn opened_by(section: &SectionHeaderBlock<'static>) -> Option<Opened> {
+    if !section.has_valid_magic() {
+        return None;
+    }
+    Some(Opened {
+        order: section.endianness(),
+        major_version: section.major_version,
+        minor_version: section.minor_version,
+    })
 }
 
 /// How the last of these interfaces is described, which are those of a section.

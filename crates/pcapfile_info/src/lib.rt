@@ -7,11 +7,14 @@ mod described;
 mod packets;
 mod progress;
 mod seen;
+mod spread;
+mod spreading;
 mod tally;
 mod totals;
 
 pub use captures::{Information, inform_blocks, inform_packets};
-pub use described::Described;
+pub use described::{Described, Opened};
 pub use seen::{Seen, Sight};
+pub use spread::{SPANS, Spread};
 pub use tally::{CLASSES, LEAST, Tally};
 pub use totals::Totals;

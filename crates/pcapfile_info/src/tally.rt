@@ -2,9 +2,10 @@
 
 ghost use Rattle.std.specs.Prelude.{◌≡◌, ◌<◌, ◌⊎◌, ◌++◌, ◌∷◌, [], List, Some, IsTrue, ◌↔◌, IfSome};
 ghost use Rattle.pcapfile_info.specs.declared.seen.Seen.{Seen};
-ghost use Rattle.pcapfile_info.specs.Tallies.{IsBefore, IsEarlierOf, IsEarliestWith, IsLaterOf, IsLatestWith, size_class, Tallies};
+ghost use Rattle.pcapfile_info.specs.Tallies.{instant_of, IsBefore, IsEarlierOf, IsEarliestWith, IsLaterOf, IsLatestWith, IsSpreadWith, size_class, Tallies};
 
 use crate::seen::Seen;
+use crate::spread::Spread;
 use pcap_file::pcapng::Timestamp;
 
 /// How many classes of lengths there are.
@@ -12,6 +13,9 @@ pub const CLASSES: usize = 10;
 
 /// The least length of each class, in bytes.
 pub const LEAST: [u32; CLASSES] = [0, 20, 40, 80, 160, 320, 640, 1280, 2560, 5120];
+
+/// The nanoseconds in a second.
+const BILLION: u64 = 1_000_000_000;
 
 /// What is counted of packets. A number above 2^64 - 1 is told as that number.
 #[derive(Clone, Copy, Debug, PartialEq, Eq)]
@@ -28,6 +32,8 @@ pub struct Tally {
     pub latest: Option<Timestamp>,
     /// How many packets had a length of each class.
     pub sizes: [u64; CLASSES],
+    /// How many packets lie in spans of time. None where none has a time.
+    pub spread: Option<Spread>,
 }
 
 fn is_before(left: Timestamp, right: Timestamp) -> bool
@@ -76,6 +82,35 @@ fn latest_with(known: Option<Timestamp>, time: Option<Timestamp>) -> Option<Time
     }
 }
 
+// The nanoseconds from 1970 to a time: none before that, and 2^64 - 1 for more than that.
+fn instant_of(time: Timestamp) -> u64
+    ensures { result ≡ instant_of time }
+{
+    if time.seconds < 0 {
+        return 0;
+    }
+    match u64::try_from(time.seconds) {
+        Ok(seconds) => seconds
+            .saturating_mul(BILLION)
+            .saturating_add(u64::from(time.nanoseconds)),
+        Err(_) => u64::MAX,
+    }
+}
+
+// Puts the time of a packet, where it has one, into spans of time.
+fn add_time(spread: &mut Option<Spread>, time: Option<Timestamp>)
+    ensures { IsSpreadWith spread.old time spread.new }
+{
+    let Some(time) = time else {
+        return;
+    };
+    let instant = instant_of(time);
+    match spread {
+        None => *spread = Some(Spread::new(instant)),
+        Some(spread) => spread.add(instant),
+    }
+}
+
 // The class of a length.
 fn class_of(original: u32) -> usize
     ensures class { result ≡ size_class original }
@@ -107,23 +142,21 @@ impl Tally {
             earliest: None,
             latest: None,
             sizes: [0; CLASSES],
+            spread: None,
         }
     }
 
-    /// That of one packet more.
-    pub(crate) fn with(self, seen: Seen) -> Tally
-        ensures { (packets : List Seen) → Tallies packets self → Tallies (packets ++ seen ∷ []) result }
+    /// One packet more.
+    pub(crate) fn add(&mut self, seen: Seen)
+        ensures { (packets : List Seen) → Tallies packets self.old → Tallies (packets ++ seen ∷ []) self.new }
     {
-        let mut sizes = self.sizes;
         let class = class_of(seen.original);
-        sizes[class] = sizes[class].saturating_add(1);
-        Tally {
-            packets: self.packets.saturating_add(1),
-            stored: self.stored.saturating_add(seen.stored),
-            original: self.original.saturating_add(u64::from(seen.original)),
-            earliest: earliest_with(self.earliest, seen.time),
-            latest: latest_with(self.latest, seen.time),
-            sizes,
-        }
+        self.sizes[class] = self.sizes[class].saturating_add(1);
+        self.packets = self.packets.saturating_add(1);
+        self.stored = self.stored.saturating_add(seen.stored);
+        self.original = self.original.saturating_add(u64::from(seen.original));
+        self.earliest = earliest_with(self.earliest, seen.time);
+        self.latest = latest_with(self.latest, seen.time);
+        add_time(&mut self.spread, seen.time);
     }
 }

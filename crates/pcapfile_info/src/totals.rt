@@ -51,13 +51,10 @@ impl Totals {
         requires { IsBelow (length self.old.interfaces.items) seen.interface }
         ensures { Adds (Packet seen) self.old self.new }
     {
-        self.all = self.all.with(seen);
+        self.all.add(seen);
         match seen.interface {
-            None => self.undescribed = self.undescribed.with(seen),
-            Some(index) => {
-                let tally = self.interfaces[index];
-                self.interfaces[index] = tally.with(seen);
-            }
+            None => self.undescribed.add(seen),
+            Some(index) => self.interfaces[index].add(seen),
         }
     }
 
