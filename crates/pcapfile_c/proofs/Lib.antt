@@ -20,3 +20,5 @@ pub mod CutPlaces
 pub mod RowTexts
 mod TakenOptions
 mod EitherFormat
+pub mod AnyTaken
+mod AnyNgTaken

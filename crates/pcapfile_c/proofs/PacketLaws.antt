@@ -25,7 +25,7 @@ HaveCome s kept held given = PacketsCome opening s kept.0 kept.1 held given
 packet_puts : (s t held : List ℕ) (kept : InForceShown) (given : List PcapfileAnyPacket) → HaveCome s kept held given → HaveCome (s ++ t) kept (held ++ t) given
 packet_puts s t held kept given x = (x.0, read_more opening x.0 s held t x.1, x.2, x.3)
 
-in_force_keeps : (q : State) (kept next : InForceShown) → KeepsInForce kept next → ShowsInForce kept.0 kept.1 q → ShowsInForce next.0 next.1 q
+pub in_force_keeps : (q : State) (kept next : InForceShown) → KeepsInForce kept next → ShowsInForce kept.0 kept.1 q → ShowsInForce next.0 next.1 q
 in_force_keeps opening kept next k x = rw k.0 x
 in_force_keeps (within d interfaces) kept next k x = rw (k.0, k.1) x
 

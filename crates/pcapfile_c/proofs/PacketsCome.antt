@@ -54,7 +54,7 @@ passed_read q (item ∷ passed) s rest texts none =
     let out = kept_out (is_packet_block item) item (filter is_packet_block passed) none in
     (texts.0, plain_read q item s texts.0 texts.1 out.0, passed_read item.after passed texts.0 rest texts.2 out.1)
 
-state_same : (q : State) (items : List Item) → state_after block_format q items ≡ state_after read_format q items
+pub state_same : (q : State) (items : List Item) → state_after block_format q items ≡ state_after read_format q items
 unfolding read_format block_format
 state_same q [] = refl
 state_same q (item ∷ items) = state_same item.after items

@@ -85,7 +85,7 @@ module _ (q : State) (s mid rest : List ℕ) (section next : PcapfileSection) (p
 
 -- ---- what is taken from what is held
 
-read_blocks : (q : State) (items : List Item) (s rest : List ℕ) → Texts read_format q items s rest → Texts block_format q items s rest
+pub read_blocks : (q : State) (items : List Item) (s rest : List ℕ) → Texts read_format q items s rest → Texts block_format q items s rest
 unfolding read_format block_format
 read_blocks q [] s rest texts = texts
 read_blocks q (item ∷ items) s rest texts = (texts.0, texts.1.text, read_blocks item.after items texts.0 rest texts.2)

@@ -20,7 +20,7 @@ use Rattle.pcapfile_c.specs.declared.push.PcapfilePush.{PcapfilePush}
 use Rattle.pcapfile_c.specs.declared.shown.PcapfileHeader.{PcapfileHeader}
 use Rattle.pcapfile_c.specs.declared.shown.PcapfilePacket.{PcapfilePacket}
 use Rattle.pcapfile_c.specs.Calls.{PacketsSaid}
-use Rattle.pcapfile_c.specs.Push.{MakesSpace, Opened, TakesFront, held_in}
+use Rattle.pcapfile_c.specs.Push.{MakesSpace, NextText, Opened, TakesFront, held_in}
 use Rattle.pcapfile_c.specs.PushBatches.{TakesFrontPackets}
 use Rattle.pcapfile_c.specs.Pushes.{Call, Calls, HaveEnded, TakingCall, all_given, all_put, under_status}
 use Rattle.pcapfile_c.specs.Pushes.Call.{space, put, takes, between}
@@ -29,17 +29,17 @@ use Rattle.pcapfile_c.specs.Refusals.{TellsRefusal}
 use Rattle.pcapfile_c.specs.Shown.{captured, shown_header}
 
 -- packets under a magic number
-abbrev Under : ℕ → List Captured → List ℕ → List ℕ → Type 0
+abbrev pub Under : ℕ → List Captured → List ℕ → List ℕ → Type 0
 Under magic packets s rest = Texts (packet_format packet_limit (number_in (order_of magic)) (resolution_of magic)) tt packets s rest
 
 -- Of the bytes s no header is in force yet, all are held, and there is no packet; or s is the text of the header in force,
 -- those of the packets, and what is held.
-abbrev HaveCome : List ℕ → PcapfileHeader → List ℕ → List Captured → Type 0
+abbrev pub HaveCome : List ℕ → PcapfileHeader → List ℕ → List Captured → Type 0
 HaveCome s now held packets =
     ((is_magic now.magic_number ≡ false) × (held ≡ s) × (packets ≡ []))
     ⊎ ((header : PcapHeader) × (after : List ℕ) × (now ≡ shown_header header) × HeaderText header s after × Under header.magic_number packets after held)
 
-not_both : (b : Bool) → IsTrue b → b ≡ false → ⊥
+pub not_both : (b : Bool) → IsTrue b → b ≡ false → ⊥
 not_both b is wrong = subst T (sym is ∙ wrong) tt
 
 -- a refusal gives nothing
@@ -68,7 +68,7 @@ put_comes now held s t packets (inr x) =
     inr (x.0, x.1 ++ t, x.2, header_stable.text s t x.1 x.0 x.3, more)
 
 -- the header's text was taken, where none was in force
-opened_comes : (before now : PcapfileHeader) (held mid s : List ℕ) (packets : List Captured) → Opened before now held mid → HaveCome s before held packets
+pub opened_comes : (before now : PcapfileHeader) (held mid s : List ℕ) (packets : List Captured) → Opened before now held mid → HaveCome s before held packets
     → (header : PcapHeader) × (after : List ℕ) × (now ≡ shown_header header) × HeaderText header s after × Under header.magic_number packets after mid
 opened_comes before now held mid s packets (inl o) (inl x) = absurd (not_both (is_magic before.magic_number) o.0 x.0)
 opened_comes before now held mid s packets (inl o) (inr x) =
@@ -80,20 +80,25 @@ opened_comes before now held mid s packets (inr o) (inr x) =
     let invalid : is_magic x.0.magic_number ≡ false = subst (λ (h : PcapfileHeader). is_magic h.magic_number ≡ false) x.2 o.0 in
     absurd (not_both (is_magic x.0.magic_number) x.3.valid invalid)
 
--- a packet was taken, or none
-next_comes : (before now : PcapfileHeader) (held rest s : List ℕ) (packets : List Captured) (old packet : PcapfilePacket) (error told : PcapfileError) (z : ℤ)
-    → TakesFront before now held rest old packet error told z → HaveCome s before held packets → HaveCome (s ++ []) now rest (packets ++ under_status z (captured packet ∷ []))
-next_comes before now held rest s packets old packet error told z (inl x) come =
-    let n = x.2 in
+-- a packet was taken
+pub packet_comes : (before now : PcapfileHeader) (held rest s : List ℕ) (packets : List Captured) (packet : Captured) → NextText before now packet held rest → HaveCome s before held packets
+    → HaveCome s now rest (packets ++ packet ∷ [])
+packet_comes before now held rest s packets packet n come =
     let o = opened_comes before now held n.0 s packets n.1 come in
     let magic = o.0.magic_number in
     let order = number_in (order_of magic) in
     let r = resolution_of magic in
-    let said : PacketsSaid magic n.0 (whole (captured packet) rest) = subst (λ (h : PcapfileHeader). PacketsSaid h.magic_number n.0 (whole (captured packet) rest)) o.2 n.2 in
-    let says = packets_say packet_limit order r tt n.0 (whole (captured packet) rest) said in
-    let texts = texts_push (packet_format packet_limit order r) tt packets (captured packet) o.1 n.0 rest o.4 says in
+    let said : PacketsSaid magic n.0 (whole packet rest) = subst (λ (h : PcapfileHeader). PacketsSaid h.magic_number n.0 (whole packet rest)) o.2 n.2 in
+    let says = packets_say packet_limit order r tt n.0 (whole packet rest) said in
+    let texts = texts_push (packet_format packet_limit order r) tt packets packet o.1 n.0 rest o.4 says in
+    inr (o.0, o.1, o.2, o.3, texts)
+
+-- a packet was taken, or none
+next_comes : (before now : PcapfileHeader) (held rest s : List ℕ) (packets : List Captured) (old packet : PcapfilePacket) (error told : PcapfileError) (z : ℤ)
+    → TakesFront before now held rest old packet error told z → HaveCome s before held packets → HaveCome (s ++ []) now rest (packets ++ under_status z (captured packet ∷ []))
+next_comes before now held rest s packets old packet error told z (inl x) come =
     let given : under_status z (captured packet ∷ []) ≡ captured packet ∷ [] = ap (λ (k : ℤ). under_status k (captured packet ∷ [])) x.0 in
-    rw (append-nil s, given) (inr (o.0, o.1, o.2, o.3, texts))
+    rw (append-nil s, given) (packet_comes before now held rest s packets (captured packet) x.2 come)
 next_comes before now held rest s packets old packet error told z (inr (inl x)) come =
     let o = opened_comes before now held rest s packets x.1 come in
     let none = none_refused (PacketsSaid now.magic_number rest) told z (captured packet ∷ []) x.2 in
@@ -177,7 +182,7 @@ fault_no_packet magic left fault x v after text =
     fault_no_text (packet_format packet_limit order r) (packets_lawful packet_limit order r) tt fault left (packets_say packet_limit order r tt left (faulty fault) x) v after text
 
 -- what is refused begins no packet
-no_packet : (magic : ℕ) (left : List ℕ) (told : PcapfileError) (z : ℤ) → TellsRefusal (PacketsSaid magic left) told z → (v : Captured) (after : List ℕ)
+pub no_packet : (magic : ℕ) (left : List ℕ) (told : PcapfileError) (z : ℤ) → TellsRefusal (PacketsSaid magic left) told z → (v : Captured) (after : List ℕ)
     → (packet_format packet_limit (number_in (order_of magic)) (resolution_of magic)).says tt left (whole v after) → ⊥
 no_packet magic left told z (inl x) v after text =
     let order = number_in (order_of magic) in

@@ -25,3 +25,4 @@ pub mod AsIs
 pub mod Options
 pub mod Records
 pub mod AnyCaptures
+pub mod AnyCalls

@@ -1,6 +1,6 @@
 //! Laws of many calls.
 
-ghost use Rattle.std.specs.Prelude.{◌≡◌, ℕ, List, [], ◌∷◌, filter};
+ghost use Rattle.std.specs.Prelude.{◌≡◌, ◌⊎◌, ℕ, ℤ, List, [], ◌∷◌, ◌++◌, filter};
 ghost use Rattle.std.specs.List.{AllZip};
 ghost use Rattle.pcap_core.specs.Format.{Front, state_after};
 ghost use Rattle.pcap_classic.specs.declared.pcap.header.PcapHeader.{PcapHeader};
@@ -11,6 +11,9 @@ ghost use Rattle.pcap_file.specs.State.{opening};
 ghost use Rattle.pcapfile_c.specs.declared.blocks.PcapfileBlock.{PcapfileBlock};
 ghost use Rattle.pcapfile_c.specs.declared.blocks.PcapfileSection.{PcapfileSection};
 ghost use Rattle.pcapfile_c.specs.declared.push.PcapfilePush.{PcapfilePush};
+ghost use Rattle.pcapfile_c.specs.declared.errors.PcapfileError.{PcapfileError};
+ghost use Rattle.pcapfile_c.specs.AnyCalls.{AnyCall, AnyCalls, CameToEnd, FrontTaken, IsFresh, Kept, NgFrontTaken, NgPacketsTaken, NoHeader, NothingTaken, PacketsTaken};
+ghost use Rattle.pcapfile_c.specs.AnyCaptures.{IsNg};
 ghost use Rattle.pcapfile_c.specs.Blocks.{ShowsState, ShowsBlock};
 ghost use Rattle.pcapfile_c.specs.BlockPushes.{BlocksHaveEnded};
 ghost use Rattle.pcapfile_c.specs.declared.any_packets.PcapfileAnyPacket.{PcapfileAnyPacket};
@@ -52,4 +55,25 @@ pub fn pushed_packets_give_the_front()
 pub fn puts_are_read()
     ensures { (first : PcapfileSection) (others : List Given) (section : PcapfileSection) (bytes : List ℕ) → ArePut section (a_section first ∷ others) bytes →
         (items : List Item) × Front block_format opening items bytes [] × AllZip IsReadAs items (a_section first ∷ others) }
+{}
+
+/// However many calls of `pcapfile_take_any` were made on a capture from its beginning on, the packets that were given are the
+/// first of it, in order, and what is left stands behind them: in a pcap capture behind the header and these packets, or all of it
+/// is left before the header; in a PcapNg capture behind blocks whose packets they are, and what these blocks leave is in force.
+pub fn taken_packets_stand_in_order()
+    ensures packets { (start next : Kept) (s rest : List ℕ) (given : List PcapfileAnyPacket) → IsFresh start.0 → (IsNg start.0 s → ⊥) → AnyCalls start s next rest given →
+        PacketsTaken next.0.header s rest given ⊎ NothingTaken next.0.header s rest given }
+    ensures blocks { (start next : Kept) (s rest : List ℕ) (given : List PcapfileAnyPacket) → IsFresh start.0 → IsNg start.0 s → AnyCalls start s next rest given →
+        NgPacketsTaken next s rest given }
+{}
+
+/// Where a further call then gives none, and not for want of memory or places, they are the packets of the front, and its answer is
+/// that of the rest: its clean end, how many bytes are missing, or the first fault.
+pub fn taken_packets_are_the_front()
+    ensures packets { (start kept next : Kept) (s left rest : List ℕ) (given : List PcapfileAnyPacket) (shown : PcapfileAnyPacket) (told : PcapfileError) (status : ℤ) →
+        IsFresh start.0 → (IsNg start.0 s → ⊥) → AnyCalls start s kept left given → AnyCall kept next left rest shown told status → CameToEnd status →
+        FrontTaken s rest given told status ⊎ NoHeader s rest given told status }
+    ensures blocks { (start kept next : Kept) (s left rest : List ℕ) (given : List PcapfileAnyPacket) (shown : PcapfileAnyPacket) (told : PcapfileError) (status : ℤ) →
+        IsFresh start.0 → IsNg start.0 s → AnyCalls start s kept left given → AnyCall kept next left rest shown told status → CameToEnd status →
+        NgFrontTaken s rest given told status }
 {}

@@ -1,0 +1,160 @@
+-- Packets of a PcapNg capture in memory that calls took, one after the other.
+use Rattle.std.proofs.Common.{◌≡◌, ◌≢◌, ℕ, ℤ, pos, List, [], ◌∷◌, ◌++◌, map, refl, sym, ap, subst, ◌∙◌, append-nil, inl, inr}
+use Rattle.std.specs.Prelude.{◌⊎◌}
+use Rattle.std.specs.List.{AllZip}
+use Rattle.std.proofs.lemmas.Bool.{cases_eq}
+use Rattle.pcap_core.specs.Format.{Front, Texts}
+use Rattle.pcap_file.specs.Blocks.{Item}
+use Rattle.pcap_file.specs.Sections.{Leaves}
+use Rattle.pcap_file.specs.State.{State, opening, within}
+use Rattle.pcap_file.proofs.Sections.{texts_leave}
+use Rattle.pcapfile_c.specs.declared.any.PcapfileCapture.{PcapfileCapture}
+use Rattle.pcapfile_c.specs.declared.any_packets.PcapfileAnyPacket.{PcapfileAnyPacket}
+use Rattle.pcapfile_c.specs.declared.blocks.PcapfileSection.{PcapfileSection}
+use Rattle.pcapfile_c.specs.declared.bodies.PcapfileInterface.{PcapfileInterface}
+use Rattle.pcapfile_c.specs.declared.errors.PcapfileError.{PcapfileError}
+use Rattle.pcapfile_c.specs.AnyCalls.{AnyCall, AnyCalls, CameToEnd, IsFresh, Kept, NgFrontTaken, NgPacketsTaken}
+use Rattle.pcapfile_c.specs.AnyCalls.AnyCalls.{none, call, between}
+use Rattle.pcapfile_c.specs.AnyCaptures.{HasEnded, IsNg, TakesAnyNgPacket, TakesWithPlaces}
+use Rattle.pcapfile_c.specs.PushPackets.{ReadMayGrow, ReadSays, ShowsInForce, Stops}
+use Rattle.pcapfile_c.specs.Pushes.{under_status}
+use Rattle.pcapfile_c.specs.ReadBlocks.{ShowsThere, read_format}
+use Rattle.pcapfile_c.specs.Refusals.{TellsRefusal}
+use Rattle.pcapfile_c.proofs.AnyTaken.{StartsNg}
+use Rattle.pcapfile_c.proofs.BlockLaws.{not_for_memory}
+use Rattle.pcapfile_c.proofs.Leading.{zero_opens}
+use Rattle.pcapfile_c.proofs.PacketLaws.{in_force_keeps}
+use Rattle.pcapfile_c.proofs.PacketsCome.{PacketsCome, behind, come_all, front_comes, packets_among, refused_no_read, state_all, state_same}
+use Rattle.pcapfile_c.proofs.PushedNgPackets.{read_blocks}
+use Rattle.pcapfile_c.proofs.Pushes.{none_refused}
+
+-- where the number of a section is 0, nothing is in force
+nothing_opens : (section : PcapfileSection) (places : List PcapfileInterface) (q : State) → ShowsInForce section places q → section.magic_number ≡ 0 → q ≡ opening
+nothing_opens section places opening shows zero = refl
+nothing_opens section places (within s interfaces) shows zero = absurd (zero_opens section s shows.0.0 zero)
+
+-- a first block opens
+first_opens : (items : List Item) (s rest : List ℕ) → Texts read_format opening items s rest → behind opening items ≡ opening → s ≡ rest
+first_opens [] s rest texts is = texts
+first_opens (item ∷ items) s rest texts is =
+    let blocks = read_blocks opening (item ∷ items) s rest texts in
+    let leaves = texts_leave item items s rest blocks in
+    absurd (subst (λ (q : State). Leaves (map (λ (item : Item). item.block) (item ∷ items)) q) (state_same opening (item ∷ items) ∙ is) leaves)
+
+-- Of a PcapNg capture on which calls began with nothing in force no header is in force, and these packets came.
+abbrev Taken : PcapfileCapture → List ℕ → Kept → List ℕ → List PcapfileAnyPacket → Type 0
+Taken start s kept rest given = (kept.0.header ≡ start.header) × PacketsCome opening s kept.0.section kept.1 rest given
+
+-- how a call ended that gave none
+abbrev Ended : Kept → List ℕ → List Item → PcapfileError → PcapfileError → ℤ → Type 0
+Ended kept rest items error told z = z ≢ pos 0 → z ≢ pos 10 → Stops (behind opening items) kept.0.section kept.1 rest error told z
+
+-- what came with a call, and how it ended
+abbrev Comes : Kept → List ℕ → List ℕ → List PcapfileAnyPacket → PcapfileError → PcapfileError → ℤ → Type 0
+Comes kept s rest given error told z = (x : PacketsCome opening s kept.0.section kept.1 rest given) × Ended kept rest x.0 error told z
+
+module _ (kept next : Kept) (s left rest : List ℕ) (given : List PcapfileAnyPacket) (old shown : PcapfileAnyPacket) (error told : PcapfileError) (z : ℤ) (x : PacketsCome opening s kept.0.section kept.1 left given) where
+  with_places : TakesWithPlaces (behind opening x.0) kept.0.section next.0.section kept.1 next.1 left rest old shown error told z
+      → Comes next s rest (given ++ under_status z (shown ∷ [])) error told z
+  with_places (inl t) =
+      let q = behind opening x.0 in
+      let more = under_status z (shown ∷ []) in
+      let f = front_comes q next.0.section next.1 left rest old shown error told z t in
+      let all = come_all opening s left rest kept.0.section next.0.section kept.1 next.1 given more x f.0 in
+      let is : behind q f.0.0 ≡ behind opening all.0.0 = sym (state_all opening x.0 f.0.0) ∙ ap (behind opening) (sym all.1) in (
+        all.0,
+        λ some known. elim f.1 [
+          | inl e ↦ absurd (some e.0)
+          | inr e ↦ subst (λ (p : State). Stops p next.0.section next.1 rest error told z) is e.1
+        ],
+      )
+  with_places (inr l) =
+      let empty : under_status z (shown ∷ []) ≡ [] = ap (λ (k : ℤ). under_status k (shown ∷ [])) l.status_is in
+      let there : PacketsCome opening s next.0.section next.1 rest (given ++ under_status z (shown ∷ [])) = rw (empty, append-nil given, l.section_is, l.places_are, l.rest_is) x in
+      (there, λ some known. absurd (known l.status_is))
+
+module _ (start : PcapfileCapture) (s : List ℕ) (fresh : IsFresh start) (is : IsNg start s) where
+  -- before the first block the bytes say so, and then the section
+  still_ng : (kept : Kept) (rest : List ℕ) (given : List PcapfileAnyPacket) → Taken start s kept rest given → IsNg kept.0 rest
+  still_ng kept rest given come = by_magic (cases_eq kept.0.section.magic_number 0)
+    where
+      by_bytes : s ≡ rest → IsNg start s → IsNg kept.0 rest
+      by_bytes same (inl some) = absurd (some fresh.0)
+      by_bytes same (inr n) = rw (come.0, ← same) (inr n)
+
+      by_magic : (kept.0.section.magic_number ≡ 0) ⊎ (kept.0.section.magic_number ≡ 0 → ⊥) → IsNg kept.0 rest
+      by_magic (inr some) = inl some
+      by_magic (inl zero) = by_bytes (first_opens come.1.0 s rest come.1.1 (nothing_opens kept.0.section kept.1 (behind opening come.1.0) come.1.2 zero)) is
+
+  -- a call
+  call_takes : (kept next : Kept) (left rest : List ℕ) (given : List PcapfileAnyPacket) (old shown : PcapfileAnyPacket) (error told : PcapfileError) (z : ℤ) (come : Taken start s kept left given)
+      → TakesAnyNgPacket (behind opening come.1.0) kept.0 next.0 kept.1 next.1 left rest old shown error told z → Taken start s next rest (given ++ under_status z (shown ∷ []))
+  call_takes kept next left rest given old shown error told z come (inl x) =
+      let empty : under_status z (shown ∷ []) ≡ [] = ap (λ (k : ℤ). under_status k (shown ∷ [])) x.0 in
+      rw empty (x.4.0 ∙ come.0, (with_places kept next s left rest given old shown error x.3 (pos 1) come.1 x.4.1).0)
+  call_takes kept next left rest given old shown error told z come (inr x) = (x.1.0 ∙ come.0, (with_places kept next s left rest given old shown error told z come.1 x.1.1).0)
+
+  calls_take : (places : List PcapfileInterface) (kept : Kept) (rest : List ℕ) (given : List PcapfileAnyPacket) → AnyCalls (start, places) s kept rest given → Taken start s kept rest given
+  calls_take places k r g none = (refl, ([], refl, fresh.0, tt))
+  calls_take places k r g (call kept next left rest given shown told z calls x) =
+      let come = calls_take places kept left given calls in
+      call_takes kept next left rest given x.old shown x.error told z come (x.blocks (behind opening come.1.0) (still_ng kept left given come) come.1.2)
+  calls_take places k r g (between kept next rest given calls keeps) =
+      let come = calls_take places kept rest given calls in
+      let section : next.0.section ≡ kept.0.section = ap (λ (c : PcapfileCapture). c.section) keeps.0 in
+      let shows = in_force_keeps (behind opening come.1.0) (kept.0.section, kept.1) (next.0.section, next.1) (section, keeps.1) come.1.2 in
+      (ap (λ (c : PcapfileCapture). c.header) keeps.0 ∙ come.0, (come.1.0, come.1.1, shows, come.1.3))
+
+  pub ng_in_order : (places : List PcapfileInterface) (next : Kept) (rest : List ℕ) (given : List PcapfileAnyPacket) → AnyCalls (start, places) s next rest given → NgPacketsTaken next s rest given
+  ng_in_order places next rest given calls =
+      let come = (calls_take places next rest given calls).1 in
+      record { items = come.0; texts = come.1; in_force = come.2; shows = come.3 }
+
+  -- what is left is refused, and so the blocks are those of the front
+  front_of : (next : Kept) (rest : List ℕ) (given : List PcapfileAnyPacket) (told : PcapfileError) (z : ℤ) (come : PacketsCome opening s next.0.section next.1 rest given)
+      → TellsRefusal (ReadSays (behind opening come.0) rest) told z → Front read_format opening come.0 s rest
+  unfolding read_format
+  front_of next rest given told z come refused = record { texts = come.1; longest = λ item after text. refused_no_read (behind opening come.0) rest item after text told z refused }
+
+  stopped : (next : Kept) (rest : List ℕ) (items : List Item) (error told : PcapfileError) (z : ℤ) → z ≢ pos 6 → z ≢ pos 11 → Stops (behind opening items) next.0.section next.1 rest error told z
+      → TellsRefusal (ReadSays (behind opening items) rest) told z
+  stopped next rest items error told z memory places (inl full) = absurd (places full.0)
+  stopped next rest items error told z memory places (inr said) = not_for_memory (ReadMayGrow (behind opening items) rest) (ReadSays (behind opening items) rest) told z memory said
+
+  -- nothing that is left is of a capture that has begun
+  begun : (kept : Kept) (rest : List ℕ) (given : List PcapfileAnyPacket) → Taken start s kept rest given → rest ≡ [] → HasEnded kept.0 rest
+  begun kept rest given come empty = (empty, inl (λ zero. no_section zero))
+    where
+      no_section : kept.0.section.magic_number ≡ 0 → ⊥
+      no_section zero = by_ng (still_ng kept rest given come)
+        where
+          by_ng : IsNg kept.0 rest → ⊥
+          by_ng (inl some) = some zero
+          by_ng (inr n) = let bad : StartsNg [] = subst StartsNg empty n.1 in absurd cc
+
+  last_takes : (kept next : Kept) (left rest : List ℕ) (given : List PcapfileAnyPacket) (old shown : PcapfileAnyPacket) (error told : PcapfileError) (z : ℤ) (come : Taken start s kept left given) → CameToEnd z
+      → TakesAnyNgPacket (behind opening come.1.0) kept.0 next.0 kept.1 next.1 left rest old shown error told z → NgFrontTaken s rest given told z
+  last_takes kept next left rest given old shown error told z come end (inl x) =
+      let f = with_places kept next s left rest given old shown error x.3 (pos 1) come.1 x.4.1 in
+      let refused = stopped next rest f.0.0 error x.3 (pos 1) (λ e. absurd cc) (λ e. absurd cc) (f.1 (λ e. absurd cc) (λ e. absurd cc)) in
+      let shows : AllZip ShowsThere (packets_among opening f.0.0) given = subst (λ (l : List PcapfileAnyPacket). AllZip ShowsThere (packets_among opening f.0.0) l) (append-nil given) f.0.3 in
+      record { items = f.0.0; front = front_of next rest (given ++ []) x.3 (pos 1) f.0 refused; shows = shows; ends = inl (x.0, x.2.0) }
+  last_takes kept next left rest given old shown error told z come end (inr x) =
+      let f = with_places kept next s left rest given old shown error told z come.1 x.1.1 in
+      let refused = stopped next rest f.0.0 error told z end.1 end.3 (f.1 end.0 end.2) in
+      let empty : under_status z (shown ∷ []) ≡ [] = none_refused (ReadSays (behind opening f.0.0) rest) told z (shown ∷ []) refused in
+      let same : given ++ under_status z (shown ∷ []) ≡ given = ap (λ (l : List PcapfileAnyPacket). given ++ l) empty ∙ append-nil given in
+      let shows : AllZip ShowsThere (packets_among opening f.0.0) given = subst (λ (l : List PcapfileAnyPacket). AllZip ShowsThere (packets_among opening f.0.0) l) same f.0.3 in
+      let there : Taken start s next rest (given ++ under_status z (shown ∷ [])) = (x.1.0 ∙ come.0, f.0) in
+      record {
+        items = f.0.0;
+        front = front_of next rest (given ++ under_status z (shown ∷ [])) told z f.0 refused;
+        shows = shows;
+        ends = inr (λ one nothing. x.0 one (begun next rest (given ++ under_status z (shown ∷ [])) there nothing), refused);
+      }
+
+  pub ng_front : (places : List PcapfileInterface) (kept next : Kept) (left rest : List ℕ) (given : List PcapfileAnyPacket) (shown : PcapfileAnyPacket) (told : PcapfileError) (z : ℤ)
+      → AnyCalls (start, places) s kept left given → AnyCall kept next left rest shown told z → CameToEnd z → NgFrontTaken s rest given told z
+  ng_front places kept next left rest given shown told z calls x end =
+      let come = calls_take places kept left given calls in
+      last_takes kept next left rest given x.old shown x.error told z come end (x.blocks (behind opening come.1.0) (still_ng kept left given come) come.1.2)
