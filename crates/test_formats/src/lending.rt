@@ -5,6 +5,7 @@ use crate::rows::{ITEMS, LOG};
 use crate::samples::SamplesOf;
 use pcap_core::rules::Rule;
 use pcap_core::run::Ended;
+use std::alloc::{AllocError, Global};
 use std::test::Fail;
 use test_support::captures::front;
 
@@ -20,40 +21,54 @@ const ASKS: [(usize, usize, usize); 8] = [
     (29, 29, 0),
 ];
 
+// Whether a run over the whole log gives its items.
+fn is_whole(alloc: Global) -> Result<bool, AllocError> {
+    let mut samples = SamplesOf { size: 0 };
+    let run = parse_log(alloc, &mut samples, &LOG)?;
+    let mut is_so = run.items.len() == 6 && run.used == 29 && samples.size == 3;
+    for (item, (head, bytes, _)) in run.items.iter().zip(ITEMS) {
+        is_so &= item.head == head && item.bytes == bytes;
+    }
+    Ok(is_so && matches!(run.ended, Ended::Clean))
+}
+
 #[test]
 fn whole_log(rt: HostRuntime) -> Result<(), Fail> {
-    let mut samples = SamplesOf { size: 0 };
-    let run = parse_log(rt.alloc(), &mut samples, &LOG)?;
-    assert_eq!(rt; (run.items.len(), run.used, samples.size), (6, 29, 3));
-    assert!(rt; matches!(run.ended, Ended::Clean));
-    for (item, (head, bytes, _)) in run.items.iter().zip(ITEMS) {
-        assert!(rt; item.head == head && item.bytes == bytes);
-    }
+    assert!(rt; is_whole(rt.alloc())?);
     Ok(())
+}
+
+// How many bytes a run over the first bytes uses, and how many more it asks for; 99 where it is refused.
+fn asks(alloc: Global, end: usize) -> Result<(usize, usize), AllocError> {
+    let run = parse_log(alloc, &mut SamplesOf { size: 0 }, front(&LOG, end))?;
+    let asked = match run.ended {
+        Ended::Clean => 0,
+        Ended::Needs(n) => n,
+        Ended::Refused(_) => 99,
+    };
+    Ok((run.used, asked))
 }
 
 #[test]
 fn cut_logs(rt: HostRuntime) -> Result<(), Fail> {
     for (end, used, more) in ASKS {
-        let run = parse_log(rt.alloc(), &mut SamplesOf { size: 0 }, front(&LOG, end))?;
-        let asked = match run.ended {
-            Ended::Clean => 0,
-            Ended::Needs(n) => n,
-            Ended::Refused(_) => 99,
-        };
-        assert!(rt; run.used == used && asked == more, "{end}");
+        assert!(rt; asks(rt.alloc(), end)? == (used, more), "{end}");
     }
     Ok(())
+}
+
+// Whether a head of this kind and number behind two items ends the run, by this rule.
+fn is_refused(alloc: Global, kind: u8, number: u8, rule: Rule) -> Result<bool, AllocError> {
+    let log = [0, 1, 0, 1, 0, 2, 0, 9, 5, 0, kind, number, 0];
+    let run = parse_log(alloc, &mut SamplesOf { size: 0 }, &log)?;
+    let is_named = matches!(run.ended, Ended::Refused(told) if told == rule);
+    Ok(is_named && run.items.len() == 2 && run.used == 9)
 }
 
 // A head that breaks a rule of the log ends the run, whatever the items before it made the size of samples.
 #[test]
 fn refused_logs(rt: HostRuntime) -> Result<(), Fail> {
-    for (kind, number, rule) in [(3, 0, Rule::CaptureMagic), (1, 4, Rule::UnknownTooLong)] {
-        let log = [0, 1, 0, 1, 0, 2, 0, 9, 5, 0, kind, number, 0];
-        let run = parse_log(rt.alloc(), &mut SamplesOf { size: 0 }, &log)?;
-        assert!(rt; run.items.len() == 2 && run.used == 9);
-        assert!(rt; matches!(run.ended, Ended::Refused(told) if told == rule));
-    }
+    assert!(rt; is_refused(rt.alloc(), 3, 0, Rule::CaptureMagic)?);
+    assert!(rt; is_refused(rt.alloc(), 1, 4, Rule::UnknownTooLong)?);
     Ok(())
 }

@@ -1,7 +1,8 @@
 //! How much room the filling offers and takes, and how many writes there are.
 
-use pcap_core::PcapError;
 use pcap_core::stream::{Told, put, take_bytes};
+use pcap_core::{PcapError, ResultParsing};
+use std::alloc::{AllocError, Global};
 use std::io::{ErrorKind, Read};
 use std::test::Fail;
 use test_support::readers::Halting;
@@ -14,55 +15,72 @@ fn is_early_end(error: Option<PcapError>) -> bool {
 // Lengths that are asked for where two bytes come. No memory holds the last two.
 const LENGTHS: [usize; 4] = [3, 0x0010_0000, 0x4000_0000_0000_0000, 0xffff_ffff_ffff_ffff];
 
+// Whether so many bytes are asked for where two come, in room for no more than it may be.
+fn asks_for(alloc: Global, n: usize) -> Result<bool, AllocError> {
+    let mut stream = Halting::new(alloc, &[1, 2], 9)?;
+    let mut has_failed = false;
+    let taken = take_bytes(alloc, &mut stream, &mut has_failed, n);
+    let is_torn = is_early_end(taken.err()) && !has_failed;
+    let is_read = stream.taken == 2 && stream.calls == 2;
+    Ok(is_torn && is_read && stream.most_room == n.min(65_536))
+}
+
 #[test]
 fn room_grows_with_the_bytes_that_come(rt: HostRuntime) -> Result<(), Fail> {
     for n in LENGTHS {
-        let mut stream = Halting::new(rt.alloc(), &[1, 2], 9)?;
-        let mut has_failed = false;
-        let taken = take_bytes(rt.alloc(), &mut stream, &mut has_failed, n);
-        assert!(rt; is_early_end(taken.err()) && !has_failed, "{n}");
-        assert_eq!(rt; (stream.taken, stream.calls), (2, 2));
-        assert_eq!(rt; stream.most_room, n.min(65_536));
+        assert!(rt; asks_for(rt.alloc(), n)?, "{n}");
     }
     Ok(())
 }
 
-// 200000 bytes come in reads of 65536 at most, each offered as much room as is missing.
+// 200000 bytes.
+fn many(alloc: Global) -> Result<Vec<u8>, AllocError> {
+    let mut bytes = Vec::new(alloc);
+    bytes.resize(200_000, 7)?;
+    Ok(bytes)
+}
+
+// Whether these bytes come in four reads, each offered as much room as is missing, at most 65536.
+fn takes_largest(alloc: Global, bytes: &[u8]) -> ResultParsing<bool> {
+    let mut stream = Halting::new(alloc, bytes, 200_000)?;
+    let taken = take_bytes(alloc, &mut stream, &mut false, 200_000)?;
+    let is_read = stream.calls == 4 && stream.most_room == 65_536;
+    Ok(is_read && taken.as_slice() == bytes)
+}
+
 #[test]
 fn reads_are_as_large_as_they_may_be(rt: HostRuntime) -> Result<(), Fail> {
-    let mut bytes = Vec::new(rt.alloc());
-    bytes.resize(200_000, 7)?;
-    let mut stream = Halting::new(rt.alloc(), bytes.as_slice(), 200_000)?;
-    let taken = take_bytes(rt.alloc(), &mut stream, &mut false, 200_000)?;
-    assert!(rt; taken.as_slice() == bytes.as_slice());
-    assert_eq!(rt; (stream.calls, stream.most_room), (4, 65_536));
+    let bytes = many(rt.alloc())?;
+    assert!(rt; takes_largest(rt.alloc(), bytes.as_slice())?);
     Ok(())
+}
+
+// Whether a read through a stream that tells fills this room by one call.
+fn fills(told: &mut Told<Halting>, room: &mut [u8]) -> bool {
+    let len = room.len();
+    let is_full = matches!(told.read(room), Ok(n) if n == len);
+    is_full && told.get_ref().calls == 1 && told.get_ref().most_room == len
 }
 
 // A read through a stream that tells offers all the room that it was offered.
 #[test]
 fn told_reads_offer_all_room(rt: HostRuntime) -> Result<(), Fail> {
-    let mut bytes = Vec::new(rt.alloc());
-    bytes.resize(200_000, 7)?;
+    let bytes = many(rt.alloc())?;
     let mut told = Told::new(Halting::new(rt.alloc(), bytes.as_slice(), 200_000)?);
-    let mut room = Vec::new(rt.alloc());
-    room.resize(150_000, 0)?;
-    assert!(rt; matches!(told.read(room.as_mut_slice()), Ok(150_000)));
-    assert_eq!(rt;
-        (told.get_ref().calls, told.get_ref().most_room),
-        (1, 150_000)
-    );
+    assert!(rt; fills(&mut told, &mut [0; 150_000]));
     Ok(())
 }
 
-// Bytes go out in one write where the writer takes all that it is given.
+// Whether these bytes go out in one write where the writer takes all that it is given.
+fn goes_out_at_once(alloc: Global, bytes: &[u8]) -> bool {
+    let mut output = Narrow::new(alloc, 300_000, true);
+    let is_out = put(&mut output, &mut false, bytes).is_ok();
+    is_out && output.out.as_slice() == bytes && output.calls == 1
+}
+
 #[test]
 fn writes_are_as_large_as_they_may_be(rt: HostRuntime) -> Result<(), Fail> {
-    let mut bytes = Vec::new(rt.alloc());
-    bytes.resize(200_000, 7)?;
-    let mut output = Narrow::new(rt.alloc(), 300_000, true);
-    put(&mut output, &mut false, bytes.as_slice())?;
-    assert!(rt; output.out.as_slice() == bytes.as_slice());
-    assert_eq!(rt; output.calls, 1);
+    let bytes = many(rt.alloc())?;
+    assert!(rt; goes_out_at_once(rt.alloc(), bytes.as_slice()));
     Ok(())
 }

@@ -3,6 +3,7 @@
 use crate::samples::{Head, SampleReader, SamplesOf, take_next};
 use pcap_core::stream::{Fill, HasHead, Held, Told};
 use pcap_core::{PcapError, ResultParsing};
+use std::alloc::{AllocError, Global};
 use std::io::ErrorKind;
 use std::test::Fail;
 use test_support::captures::{back, front};
@@ -43,46 +44,80 @@ fn names(given: &Option<ResultParsing<Head>>, message: &str) -> bool {
     matches!(given, Some(Err(PcapError::InvalidField(text))) if *text == message)
 }
 
+// A reader of these bytes, so many at most in a read.
+fn reader(alloc: Global, bytes: &[u8], step: usize) -> Result<SampleReader<Halting>, AllocError> {
+    Ok(SampleReader::new(alloc, Halting::new(alloc, bytes, step)?))
+}
+
+// Whether the reader gives this item next, and lends its bytes.
+fn gives(reader: &mut SampleReader<Halting>, head: Head, bytes: &[u8]) -> bool {
+    is_head(&reader.next_head(), head) && reader.bytes() == bytes
+}
+
+// Whether it gives nothing more, no read failed, and so many bytes are taken.
+fn is_done(reader: &mut SampleReader<Halting>, taken: usize) -> bool {
+    let is_none = reader.next_head().is_none();
+    is_none && reader.bytes().is_empty() && !reader.failed() && reader.get_ref().taken == taken
+}
+
+// Whether the reader gives the whole log.
+fn gives_all(mut reader: SampleReader<Halting>) -> bool {
+    let mut is_so = true;
+    for (head, bytes, taken) in ITEMS {
+        is_so &= gives(&mut reader, head, bytes) && reader.get_ref().taken == taken;
+    }
+    is_so && is_done(&mut reader, 29)
+}
+
 #[test]
 fn whole_log(rt: HostRuntime) -> Result<(), Fail> {
     for step in [1, 2, 3, 7, 29] {
-        let mut reader = SampleReader::new(rt.alloc(), Halting::new(rt.alloc(), &LOG, step)?);
-        for (head, bytes, taken) in ITEMS {
-            assert!(rt; is_head(&reader.next_head(), head), "before {taken}");
-            assert_eq!(rt; reader.bytes(), bytes);
-            assert_eq!(rt; reader.get_ref().taken, taken);
-        }
-        assert!(rt; reader.next_head().is_none());
-        assert!(rt; reader.bytes().is_empty() && !reader.failed());
+        assert!(rt; gives_all(reader(rt.alloc(), &LOG, step)?), "by {step}");
     }
     Ok(())
 }
 
+// Whether the reader of so many bytes of the log gives the items that are whole, and tells how they end.
+fn gives_cut(mut reader: SampleReader<Halting>, end: usize) -> bool {
+    let mut is_so = true;
+    let mut is_between = end == 0;
+    for (head, bytes, taken) in ITEMS {
+        is_so &= taken > end || gives(&mut reader, head, bytes);
+        is_between |= taken == end;
+    }
+    let last = reader.next_head();
+    let is_told = if is_between {
+        last.is_none()
+    } else {
+        is_io(&last, ErrorKind::UnexpectedEof)
+    };
+    is_so && is_told && is_done(&mut reader, end)
+}
+
 #[test]
 fn cut_logs(rt: HostRuntime) -> Result<(), Fail> {
-    for end in 0..29usize {
-        let mut reader = SampleReader::new(
-            rt.alloc(),
-            Halting::new(rt.alloc(), front(&LOG, end), 2)?,
-        );
-        let mut is_between = end == 0;
-        for (head, bytes, taken) in ITEMS {
-            if taken <= end {
-                assert!(rt; is_head(&reader.next_head(), head), "{end}");
-                assert_eq!(rt; reader.bytes(), bytes);
-            }
-            is_between |= taken == end;
-        }
-        let last = reader.next_head();
-        if is_between {
-            assert!(rt; last.is_none(), "{end}");
-        } else {
-            assert!(rt; is_io(&last, ErrorKind::UnexpectedEof), "{end}");
-        }
-        assert!(rt; reader.next_head().is_none() && !reader.failed(), "{end}");
-        assert_eq!(rt; reader.get_ref().taken, end);
+    for end in 0..29 {
+        let reader = reader(rt.alloc(), front(&LOG, end), 2)?;
+        assert!(rt; gives_cut(reader, end), "{end}");
     }
     Ok(())
+}
+
+// A size of two bytes, this head, and a sample.
+fn log_with(alloc: Global, head: [u8; 4]) -> Result<Vec<u8>, AllocError> {
+    let mut bytes = Vec::from_slice(alloc, &[0, 1, 0, 2])?;
+    bytes.extend_from_slice(&head)?;
+    bytes.extend_from_slice(&[0, 2, 0, 7, 1, 2])?;
+    Ok(bytes)
+}
+
+// Whether the second head is refused so: no byte behind it was taken, and nothing comes after it.
+fn refuses(alloc: Global, head: [u8; 4], message: &str) -> Result<bool, AllocError> {
+    let bytes = log_with(alloc, head)?;
+    let mut reader = reader(alloc, bytes.as_slice(), 9)?;
+    let is_first = is_head(&reader.next_head(), Head::Size(2));
+    let is_named = names(&reader.next_head(), message) && reader.get_ref().taken == 8;
+    Ok(is_first && is_named && is_done(&mut reader, 8))
 }
 
 #[test]
@@ -96,32 +131,41 @@ fn refused_heads(rt: HostRuntime) -> Result<(), Fail> {
         ([0, 1, 0xff, 0xff], "UnknownBlock: length > 0xFFFFFFFF"),
     ];
     for (head, message) in rows {
-        let mut bytes = Vec::from_slice(rt.alloc(), &[0, 1, 0, 2])?;
-        bytes.extend_from_slice(&head)?;
-        bytes.extend_from_slice(&[0, 2, 0, 7, 1, 2])?;
-        let stream = Halting::new(rt.alloc(), bytes.as_slice(), 9)?;
-        let mut reader = SampleReader::new(rt.alloc(), stream);
-        assert!(rt; is_head(&reader.next_head(), Head::Size(2)));
-        assert!(rt; names(&reader.next_head(), message), "{message}");
-        // no byte behind the refused head was taken, and nothing comes after it
-        assert_eq!(rt; reader.get_ref().taken, 8);
-        assert!(rt; reader.next_head().is_none() && !reader.failed());
-        assert_eq!(rt; reader.get_ref().taken, 8);
+        assert!(rt; refuses(rt.alloc(), head, message)?, "{message}");
     }
     Ok(())
+}
+
+// Whether the reader gives a size, and then a sample of 1000 bytes.
+fn gives_largest(mut reader: SampleReader<Halting>) -> bool {
+    let is_size = is_head(&reader.next_head(), Head::Size(1000));
+    let is_sample = is_head(&reader.next_head(), Head::Sample(1));
+    let is_lent = reader.bytes().len() == 1000 && reader.bytes().iter().all(|byte| *byte == 6);
+    is_size && is_sample && is_lent && reader.next_head().is_none()
 }
 
 #[test]
 fn largest_samples(rt: HostRuntime) -> Result<(), Fail> {
     let mut bytes = Vec::from_slice(rt.alloc(), &[0, 1, 3, 0xe8, 0, 2, 0, 1])?;
     bytes.resize(1008, 6)?;
-    let stream = Halting::new(rt.alloc(), bytes.as_slice(), 300)?;
-    let mut reader = SampleReader::new(rt.alloc(), stream);
-    assert!(rt; is_head(&reader.next_head(), Head::Size(1000)));
-    assert!(rt; is_head(&reader.next_head(), Head::Sample(1)));
-    assert!(rt; reader.bytes().len() == 1000 && reader.bytes().iter().all(|byte| *byte == 6));
-    assert!(rt; reader.next_head().is_none());
+    let reader = reader(rt.alloc(), bytes.as_slice(), 300)?;
+    assert!(rt; gives_largest(reader));
     Ok(())
+}
+
+// Whether so many items come before a read fails, at this call, and nothing behind it.
+fn fails(alloc: Global, fails_at: usize, before: usize) -> Result<bool, AllocError> {
+    let mut stream = Halting::new(alloc, &LOG, 2)?;
+    stream.fails_at = fails_at;
+    stream.kind = ErrorKind::TimedOut;
+    let mut reader = SampleReader::new(alloc, stream);
+    let mut is_so = true;
+    for (head, _bytes, _taken) in ITEMS.iter().take(before) {
+        is_so &= is_head(&reader.next_head(), *head) && !reader.failed();
+    }
+    let is_told = is_io(&reader.next_head(), ErrorKind::TimedOut) && reader.failed();
+    let is_last = reader.next_head().is_none() && reader.get_ref().calls == fails_at;
+    Ok(is_so && is_told && is_last)
 }
 
 #[test]
@@ -141,51 +185,56 @@ fn failed_reads(rt: HostRuntime) -> Result<(), Fail> {
         (16, 6),
     ];
     for (fails_at, before) in rows {
-        let mut stream = Halting::new(rt.alloc(), &LOG, 2)?;
-        stream.fails_at = fails_at;
-        stream.kind = ErrorKind::TimedOut;
-        let mut reader = SampleReader::new(rt.alloc(), stream);
-        for (head, _bytes, _taken) in ITEMS.iter().take(before) {
-            assert!(rt;
-                is_head(&reader.next_head(), *head) && !reader.failed(),
-                "{fails_at}"
-            );
-        }
-        assert!(rt;
-            is_io(&reader.next_head(), ErrorKind::TimedOut),
-            "{fails_at}"
-        );
-        assert!(rt;
-            reader.failed() && reader.next_head().is_none(),
-            "{fails_at}"
-        );
-        assert_eq!(rt; reader.get_ref().calls, fails_at);
+        assert!(rt; fails(rt.alloc(), fails_at, before)?, "{fails_at}");
     }
     Ok(())
 }
 
+// Whether items of samples of three bytes are held. The second is a size, after which the third is read under the old one,
+// since nobody told.
 #[tactic(auto, using(crate::proofs::HeadedSamples::samples_lawful))]
+fn fills(alloc: Global, stream: Halting) -> bool {
+    let samples = SamplesOf { size: 3 };
+    let mut fill = Fill::new(alloc, Told::new(stream));
+    if !matches!(fill.item(&samples), Ok(Some(Head::Sample(5)))) {
+        return false;
+    }
+    let is_first = fill.held() == [0, 2, 0, 5, 7, 8, 9].as_slice();
+    let is_asked = samples.head() == 4 && fill.get_ref().most_room == 4;
+    fill.clear();
+    if !matches!(fill.item(&samples), Ok(Some(Head::Size(1)))) {
+        return false;
+    }
+    let is_second = fill.held() == [0, 1, 0, 1].as_slice();
+    fill.clear();
+    let is_torn = is_early_end(fill.item(&samples).err()) && !fill.failed();
+    is_first && is_asked && is_second && is_torn
+}
+
 #[test]
 fn filled_under_a_size(rt: HostRuntime) -> Result<(), Fail> {
-    let samples = SamplesOf { size: 3 };
-    assert_eq!(rt; samples.head(), 4);
-    // the second item is a size, after which the third is read under the old one, since nobody told
-    let stream = Halting::new(
-        rt.alloc(),
-        &[0, 2, 0, 5, 7, 8, 9, 0, 1, 0, 1, 0, 2, 0, 5, 4],
-        4,
-    )?;
-    let mut fill = Fill::new(rt.alloc(), Told::new(stream));
-    assert!(rt; matches!(fill.item(&samples), Ok(Some(Head::Sample(5)))));
-    assert_eq!(rt; fill.held(), [0, 2, 0, 5, 7, 8, 9].as_slice());
-    assert_eq!(rt; fill.get_ref().most_room, 4);
-    fill.clear();
-    assert!(rt; matches!(fill.item(&samples), Ok(Some(Head::Size(1)))));
-    assert_eq!(rt; fill.held(), [0, 1, 0, 1].as_slice());
-    fill.clear();
-    assert!(rt; is_early_end(fill.item(&samples).err()));
-    assert!(rt; !fill.failed());
+    let log = [0, 2, 0, 5, 7, 8, 9, 0, 1, 0, 1, 0, 2, 0, 5, 4];
+    assert!(rt; fills(rt.alloc(), Halting::new(rt.alloc(), &log, 4)?));
     Ok(())
+}
+
+// Whether this item is taken where samples have this size, and nothing is held then.
+fn takes(
+    alloc: Global,
+    start: usize,
+    size: u16,
+    head: Head,
+    bytes: &[u8],
+) -> Result<bool, AllocError> {
+    let mut stream = Halting::new(alloc, back(&LOG, start), 3)?;
+    let mut has_failed = false;
+    let mut held = Held::new(alloc);
+    let is_taken = match &take_next(alloc, size, &mut stream, &mut has_failed, &mut held) {
+        Ok(item) => is_item(item, head, bytes),
+        Err(_) => false,
+    };
+    let is_empty = !has_failed && held.as_slice().is_empty();
+    Ok(is_taken && is_empty && stream.taken == bytes.len().saturating_add(4))
 }
 
 #[test]
@@ -201,23 +250,24 @@ fn taken_items(rt: HostRuntime) -> Result<(), Fail> {
         (22, 3, Head::Sample(256), &[4, 5, 6]),
     ];
     for (start, size, head, bytes) in rows {
-        let mut stream = Halting::new(rt.alloc(), back(&LOG, start), 3)?;
-        let mut has_failed = false;
-        let mut held = Held::new(rt.alloc());
-        let item = take_next(rt.alloc(), size, &mut stream, &mut has_failed, &mut held)?;
-        assert!(rt; is_item(&item, head, bytes), "{start} {size}");
-        assert_eq!(rt; stream.taken, 4 + bytes.len());
-        assert!(rt; !has_failed && held.as_slice().is_empty());
+        assert!(rt;
+            takes(rt.alloc(), start, size, head, bytes)?,
+            "{start} {size}"
+        );
     }
     Ok(())
 }
 
+// Whether nothing is taken off this stream.
+fn takes_none(alloc: Global, mut stream: Halting) -> bool {
+    let mut has_failed = false;
+    let mut held = Held::new(alloc);
+    let taken = take_next(alloc, 3, &mut stream, &mut has_failed, &mut held);
+    matches!(taken, Ok(None)) && !has_failed
+}
+
 #[test]
 fn nothing_to_take(rt: HostRuntime) -> Result<(), Fail> {
-    let mut stream = Halting::new(rt.alloc(), &[], 3)?;
-    let mut has_failed = false;
-    let mut held = Held::new(rt.alloc());
-    let item = take_next(rt.alloc(), 3, &mut stream, &mut has_failed, &mut held)?;
-    assert!(rt; item.is_none() && !has_failed);
+    assert!(rt; takes_none(rt.alloc(), Halting::new(rt.alloc(), &[], 3)?));
     Ok(())
 }
