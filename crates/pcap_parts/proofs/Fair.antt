@@ -95,7 +95,7 @@ module _ {S V : Type 0} (f : Format S V) (laws : IsLawful f) (q : S) (s : List �
       behind_item (us ++ before) mid after last (texts_all f q us before s left mid texts needed.4) text d y (omega (arith, there, needed.6))
 
   -- what is passed ends at the first bound behind the place up to which is to be passed
-  passed_first : (us : List V) (left after : List ℕ) (at_least n place : ℕ) (x : Cut) → Texts f q us s left → Passes f (state_after f q us) left after at_least n None
+  pub passed_first : (us : List V) (left after : List ℕ) (at_least n place : ℕ) (x : Cut) → Texts f q us s left → Passes f (state_after f q us) left after at_least n None
       → 0 < at_least → place + length left ≡ total + at_least → (b : Bound f q s total x) → length b.rest ≡ length after → FirstBound f q s total place x
   passed_first us left after at_least n place x texts p some at b same = record {
     bound = b;

@@ -29,7 +29,7 @@ drop_front bytes front rest n split count =
     let long : n ≡ length front = omega (arith, count, ap length split, length-append front rest) in
     rw (long, split) (drop-append_seam front rest)
 
-take_front : (bytes front rest : List ℕ) (n : ℕ) → bytes ≡ front ++ rest → n + length rest ≡ length bytes → take n bytes ≡ front
+pub take_front : (bytes front rest : List ℕ) (n : ℕ) → bytes ≡ front ++ rest → n + length rest ≡ length bytes → take n bytes ≡ front
 take_front bytes front rest n split count =
     let long : n ≡ length front = omega (arith, count, ap length split, length-append front rest) in
     rw (long, split) (take-append_seam front rest)
@@ -56,7 +56,7 @@ module _ {S V : Type 0} (f : Format S V) (laws : IsLawful f) where
       on.1 ∙ ap (λ (l : List V). us ++ l) none ∙ append-nil us
 
   -- the texts of items and no more are a front
-  texts_front : (q : S) (vs : List V) (s : List ℕ) → Texts f q vs s [] → Front f q vs s []
+  pub texts_front : (q : S) (vs : List V) (s : List ℕ) → Texts f q vs s [] → Front f q vs s []
   texts_front q vs s texts = record { texts = texts; longest = λ v after x. nothing_no_text f laws (state_after f q vs) v after x }
 
   -- one part more in front
@@ -69,7 +69,7 @@ module _ {S V : Type 0} (f : Format S V) (laws : IsLawful f) where
 
   module _ (q : S) (h s : List ℕ) where
     -- what stands behind a bound
-    behind : (c : Cut) (b : Bound f q s (length (h ++ s)) c) → drop c.offset (h ++ s) ≡ b.rest
+    pub behind : (c : Cut) (b : Bound f q s (length (h ++ s)) c) → drop c.offset (h ++ s) ≡ b.rest
     behind c b =
         let own = texts_own f laws q b.items s b.rest b.texts in
         let split : h ++ s ≡ (h ++ own.0) ++ b.rest = ap (λ (t : List ℕ). h ++ t) own.1 ∙ sym (append_assoc h own.0 b.rest) in

@@ -7,7 +7,10 @@ mod Anywhere
 mod Places
 mod Fair
 pub mod CutSteps
+pub mod Stepping
 mod Walking
-mod NgCaptures
+pub mod NgCaptures
 mod Asking
+mod Joining
 mod PartRuns
+mod NgPartRuns

@@ -7,7 +7,7 @@ use Rattle.pcap_classic.specs.HeaderText.{HeaderText}
 use Rattle.pcap_classic.specs.PacketText.{packet_limit, content_of}
 use Rattle.pcap_classic.specs.Packets.{format_under}
 use Rattle.pcap_parts.specs.declared.cut.Cut.{Cut}
-use Rattle.pcap_parts.specs.Parts.{AreCuts, AreFair, InParts}
+use Rattle.pcap_parts.specs.Parts.{AreCuts, AreFair, HaveAtLeast, InParts}
 
 -- these cuts are bounds of the packets behind this header
 pub record IsCut (header : PcapHeader) (cuts : List Cut) (bytes : List ℕ) : Type 0 where
@@ -20,6 +20,12 @@ pub record IsCutFairly (parts : ℕ) (header : PcapHeader) (cuts : List Cut) (by
   pub after : List ℕ
   pub header_text : HeaderText header bytes after
   pub fair : AreFair (format_under packet_limit header) tt after (length bytes) 24 parts cuts
+
+-- the packets behind this header are cut into parts of at least n bytes
+pub record IsCutAtLeast (n : ℕ) (header : PcapHeader) (cuts : List Cut) (bytes : List ℕ) : Type 0 where
+  pub after : List ℕ
+  pub header_text : HeaderText header bytes after
+  pub steps : HaveAtLeast (format_under packet_limit header) tt after (length bytes) n cuts
 
 -- the packets of a run are those of the parts joined, and what is said of its rest is said of the last part's
 pub record IsRunInParts (run : PcapRun) (header : PcapHeader) (cuts : List Cut) (bytes : List ℕ) : Type 0 where

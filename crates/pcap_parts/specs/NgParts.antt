@@ -18,7 +18,7 @@ use Rattle.pcap_file.specs.State.{State, opening}
 use Rattle.pcap_parts.specs.declared.cut.Cut.{Cut}
 use Rattle.pcap_parts.specs.declared.cut_ng.NgCut.{NgCut}
 use Rattle.pcap_parts.specs.declared.cut_ng.NgCuts.{NgCuts}
-use Rattle.pcap_parts.specs.Parts.{Bound, AreCuts, AreFair, InParts}
+use Rattle.pcap_parts.specs.Parts.{Bound, AreCuts, AreFair, HaveAtLeast, InParts}
 use Rattle.pcap_parts.specs.Resume.{IsFed, from_places}
 
 -- the rest at which an error came, or want of memory
@@ -66,6 +66,13 @@ pub record IsNgCutFairly (parts : ℕ) (cuts : List NgCut) (bytes : List ℕ) : 
   pub after : List ℕ
   pub opens : OpeningSays bytes (whole first after)
   pub fair : AreFair block_format first after (length bytes) (length bytes - length after) parts (bounds_of cuts)
+
+-- the blocks behind the first section header are cut into parts of at least n bytes
+pub record IsNgCutAtLeast (n : ℕ) (cuts : List NgCut) (bytes : List ℕ) : Type 0 where
+  pub first : State
+  pub after : List ℕ
+  pub opens : OpeningSays bytes (whole first after)
+  pub steps : HaveAtLeast block_format first after (length bytes) n (bounds_of cuts)
 
 -- the blocks of a run are those of the parts joined, the last part leads to its state, and what is said of its rest is said of the
 -- last part's

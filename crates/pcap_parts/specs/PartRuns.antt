@@ -1,8 +1,9 @@
 -- A run over one part of a capture.
-use Rattle.std.specs.Prelude.{◌≡◌, ◌+◌, ℕ, List, ◌∷◌, length, map}
+use Rattle.std.specs.Prelude.{◌≡◌, ◌+◌, ℕ, List, [], ◌∷◌, length, map, drop, ⊤}
 use Rattle.pcap_core.specs.declared.errors.PcapError.{PcapError}
 use Rattle.pcap_core.specs.declared.errors.PcapError.TheVariants.{InvalidField, OutOfMemory}
 use Rattle.pcap_core.specs.declared.rest.Rest.{Rest}
+use Rattle.pcap_core.specs.declared.rest.Rest.TheVariants.{Clean}
 use Rattle.pcap_core.specs.Format.{Format, Front, state_after}
 use Rattle.pcap_core.specs.Run.{IsRest}
 use Rattle.pcap_classic.specs.declared.pcap.header.PcapHeader.{PcapHeader}
@@ -12,9 +13,13 @@ use Rattle.pcap_classic.specs.Packets.{format_under}
 use Rattle.pcap_classic.specs.Writing.{RefusesMagic}
 use Rattle.pcap_file.specs.declared.run.NgRun.{NgRun}
 use Rattle.pcap_file.specs.Blocks.{Item, block_format}
-use Rattle.pcap_file.specs.Frames.{framed_of}
+use Rattle.pcap_file.specs.Frames.{Framed, framed_of}
 use Rattle.pcap_file.specs.Parser.{state_of}
 use Rattle.pcap_file.specs.State.{State}
+use Rattle.pcap_parts.specs.declared.cut_ng.NgCut.{NgCut}
+use Rattle.pcap_parts.specs.NgParts.{places_at}
+use Rattle.pcap_parts.specs.Parts.{joined}
+use Rattle.pcap_parts.specs.Resume.{IsFed, from_places}
 
 -- these items are the front of a part from this state, they take so many bytes, and this is said of the rest
 pub record RunsOver {S V : Type 0} (f : Format S V) (q : S) (vs : List V) (part : List ℕ) (used : ℕ) (said : Rest) : Type 0 where
@@ -44,3 +49,42 @@ pub record IsNgPartRun (q : State) (part : List ℕ) (run : NgRun) : Type 0 wher
   pub blocks : map (λ (item : Item). item.block) items ≡ map framed_of run.blocks.items
   pub leads : state_after block_format q items ≡ state_of run.parser
   pub runs : RunsOver block_format q items part run.used run.rest
+
+-- each run over a part takes all of it with nothing left, but for the last one, of which this holds
+abbrev pub TakeParts : {X : Type 0} → (X → ℕ) → (X → Rest) → (X → Type 0) → List (List ℕ) → List X → Type 0
+TakeParts used_of rest_of Last (part ∷ []) (run ∷ []) = Last run
+TakeParts used_of rest_of Last (part ∷ next ∷ parts) (run ∷ other ∷ runs) =
+    (used_of run ≡ length part) × (rest_of run ≡ Clean) × TakeParts used_of rest_of Last (next ∷ parts) (other ∷ runs)
+TakeParts used_of rest_of Last _ _ = ⊥
+
+-- the run over the whole is those over the parts, one behind the other: its packets are theirs, and the last one has its rest
+pub record PartRunsJoin (run : PcapRun) (parts : List (List ℕ)) (runs : List PcapRun) : Type 0 where
+  pub packets : packets_of run ≡ joined (map packets_of runs)
+  pub left : List ℕ
+  pub rest : IsRest ((format_under packet_limit run.header).says tt) left run.rest
+  pub ends : TakeParts (λ part. part.used) (λ part. part.rest) (λ last. IsRest ((format_under packet_limit run.header).says tt) left last.rest) parts runs
+
+-- the blocks of a run
+abbrev pub blocks_of : NgRun → List Framed
+blocks_of run = map framed_of run.blocks.items
+
+-- a run over the part at a cut, with a parser that was fed at the places of the cut
+pub record IsResumedRun (bytes places : List ℕ) (cut : NgCut) (part : List ℕ) (run : NgRun) : Type 0 where
+  pub state : State
+  pub fed : IsFed (drop cut.header bytes) (from_places bytes (places_at places cut)) state
+  pub runs : IsNgPartRun state part run
+
+-- each of these is such a run
+abbrev pub AreResumedRuns : List ℕ → List ℕ → List NgCut → List (List ℕ) → List NgRun → Type 0
+AreResumedRuns bytes places [] [] [] = ⊤
+AreResumedRuns bytes places (cut ∷ cuts) (part ∷ parts) (run ∷ runs) = IsResumedRun bytes places cut part run × AreResumedRuns bytes places cuts parts runs
+AreResumedRuns bytes places _ _ _ = ⊥
+
+-- the run over the whole is those over the parts, one behind the other: its blocks are theirs, and the last one has its state and
+-- its rest
+pub record NgPartRunsJoin (run : NgRun) (parts : List (List ℕ)) (runs : List NgRun) : Type 0 where
+  pub blocks : blocks_of run ≡ joined (map blocks_of runs)
+  pub left : List ℕ
+  pub rest : IsRest (block_format.says (state_of run.parser)) left run.rest
+  pub ends : TakeParts (λ part. part.used) (λ part. part.rest)
+      (λ last. (state_of last.parser ≡ state_of run.parser) × IsRest (block_format.says (state_of run.parser)) left last.rest) parts runs

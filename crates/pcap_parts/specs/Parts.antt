@@ -129,3 +129,18 @@ module _ {S V : Type 0} (f : Format S V) (q : S) (s : List ℕ) (total : ℕ) wh
     pub wanted : AllByRecursion (EndsShares front parts) cuts
     pub all : (cut : Cut) → EndsShares front parts cut → cut.offset < total → Contains cuts cut
     pub few : length cuts ≤ parts - 1 + 1
+
+module _ {S V : Type 0} (f : Format S V) (q : S) (s : List ℕ) (total n : ℕ) where
+  -- no bound with bytes behind it stands at least n bytes behind a cut
+  abbrev pub NoneFollows : Cut → Type 0
+  NoneFollows cut = (other : Cut) → Bound f q s total other → cut.offset + n ≤ other.offset → other.offset < total → ⊥
+
+  -- each cut is the first bound at least n bytes behind the one before it, with bytes behind it; and this holds of the last one
+  abbrev pub AreSteps : (Cut → Type 0) → List Cut → Type 0
+  AreSteps Ends [] = ⊥
+  AreSteps Ends (c ∷ []) = Ends c
+  AreSteps Ends (c ∷ d ∷ cs) = FirstBound f q s total (c.offset + n) d × (d.offset < total) × AreSteps Ends (d ∷ cs)
+
+  -- parts of at least n bytes, each but the last with no item more than it needs, and as many as there can be
+  abbrev pub HaveAtLeast : List Cut → Type 0
+  HaveAtLeast cuts = AreSteps NoneFollows cuts

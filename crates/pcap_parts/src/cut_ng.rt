@@ -52,7 +52,7 @@ impl NgCuts {
 }
 
 // A cut where a walk stands.
-fn cut_at(walk: &Walk, offset: usize, before: usize) -> NgCut
+pub(crate) fn cut_at(walk: &Walk, offset: usize, before: usize) -> NgCut
     requires { walk.now.first ≤ length walk.now.interfaces.items }
     ensures at { (result.at.offset ≡ offset) × (result.at.before ≡ before) }
     ensures header { result.header ≡ walk.now.header }

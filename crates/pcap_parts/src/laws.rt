@@ -11,7 +11,7 @@ ghost use Rattle.pcap_core.specs.Errors.{IsMemory};
 ghost use Rattle.pcap_file.specs.declared.run.NgRun.{NgRun};
 ghost use Rattle.pcap_file.specs.Run.{IsRun as IsNgRun};
 ghost use Rattle.pcap_parts.specs.declared.cut_ng.NgCuts.{NgCuts};
-ghost use Rattle.pcap_parts.specs.NgParts.{IsNgCut, IsNgRunInParts};
+ghost use Rattle.pcap_parts.specs.NgParts.{IsNgCut, IsNgRunInParts, bounds_of};
 ghost use Rattle.pcap_parts.specs.Resume.{Fed, IsFed, RefusesOne, blocks_in_force};
 ghost use Rattle.std.specs.Prelude.{◌≡◌, ℕ, List, ◌∷◌, ◌++◌, length, map};
 ghost use Rattle.pcap_core.specs.Format.{Front};
@@ -22,8 +22,8 @@ ghost use Rattle.pcap_classic.specs.PacketText.{Captured, packet_limit};
 ghost use Rattle.pcap_classic.specs.Packets.{format_under};
 ghost use Rattle.pcap_parts.specs.declared.cut.Cut.{Cut};
 ghost use Rattle.pcap_parts.specs.Captures.{IsCut, IsRunInParts};
-ghost use Rattle.pcap_parts.specs.PartRuns.{IsPartRun, packets_of};
-ghost use Rattle.pcap_parts.specs.Parts.{AreCuts, InParts, joined, part_bytes};
+ghost use Rattle.pcap_parts.specs.PartRuns.{AreResumedRuns, IsPartRun, NgPartRunsJoin, PartRunsJoin};
+ghost use Rattle.pcap_parts.specs.Parts.{AreCuts, InParts, part_bytes};
 ghost use Rattle.std.specs.List.{AllZip};
 
 /// Where the bytes behind a header are cut at bounds of packets, their front is the fronts of the parts, one behind the other.
@@ -45,10 +45,11 @@ pub fn run_is_in_parts()
         IsRunInParts run header cuts bytes }
 {}
 
-/// The packets of the run over a classic capture are those of the runs over its parts, one behind the other.
+/// The run over a classic capture is those of `parse_part` over its parts: its packets are theirs, one behind the other, each of
+/// them but the last takes all of its part, and what is said of its rest is said of the last one's.
 pub fn part_runs_are_the_run()
     ensures { (run : PcapRun) (header : PcapHeader) (cuts : List Cut) (bytes : List ℕ) (runs : List PcapRun) → IsRun run bytes → IsCut header cuts bytes →
-        AllZip (IsPartRun header) (part_bytes bytes cuts) runs → packets_of run ≡ joined (map packets_of runs) }
+        AllZip (IsPartRun header) (part_bytes bytes cuts) runs → PartRunsJoin run (part_bytes bytes cuts) runs }
 {}
 
 /// A parser that is fed with the last section header before a bound of blocks, and then with the interface descriptions after it,
@@ -71,4 +72,13 @@ pub fn ng_run_is_in_parts()
 /// alone: `resume` asks for no bytes at the places of a cut.
 pub fn resuming_asks_for_no_bytes()
     ensures { (s : List ℕ) (slices : List (List ℕ)) (q : State) (error : PcapError) → IsFed s slices q → RefusesOne s slices error → IsMemory error }
+{}
+
+/// The run over a PcapNg capture is those of `parse_ng_part` over its parts, each with a parser that `resume` made at the part's
+/// cut: its blocks are theirs, one behind the other, each of them but the last takes all of its part, and the last one leads to its
+/// state and has its rest.
+pub fn ng_part_runs_are_the_run()
+    ensures { (run : NgRun) (cuts : NgCuts) (bytes : List ℕ) (runs : List NgRun) → IsNgRun run bytes → IsNgCut cuts bytes →
+        AreResumedRuns bytes cuts.interfaces.items cuts.cuts.items (part_bytes bytes (bounds_of cuts.cuts.items)) runs →
+        NgPartRunsJoin run (part_bytes bytes (bounds_of cuts.cuts.items)) runs }
 {}

@@ -3,6 +3,7 @@
 #![tactic(auto)]
 
 mod again;
+mod at_least;
 mod blocks;
 mod cut;
 mod cut_ng;
@@ -12,6 +13,7 @@ mod skip;
 mod walk;
 
 pub use again::resume;
+pub use at_least::{cut_pcap_at_least, cut_pcapng_at_least};
 pub use blocks::skip_blocks;
 pub use cut::{Cut, Cuts, cut_pcap, to_next_end};
 pub use cut_ng::{NgCut, NgCuts, cut_pcapng};

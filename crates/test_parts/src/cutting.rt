@@ -3,7 +3,7 @@
 use crate::captures::{LENGTHS, five_packets, refused_fourth};
 use pcap_classic::pcap::PcapParser;
 use pcap_core::PcapError;
-use pcap_parts::{Cut, cut_pcap};
+use pcap_parts::{Cut, cut_pcap, cut_pcap_at_least};
 use std::test::Fail;
 use test_support::captures::{LITTLE_HEAD, back, front};
 
@@ -45,6 +45,28 @@ fn more_parts_than_bytes(rt: HostRuntime) -> Result<(), Fail> {
     let wanted = [(24, 0), (43, 1), (59, 2), (80, 3), (97, 4)];
     let cuts = cut_pcap(rt.alloc(), bytes.as_slice(), usize::MAX)?;
     assert!(rt; are_cuts(&cuts.cuts, &wanted), "{cuts:?}");
+    Ok(())
+}
+
+// Of at least so many bytes: a part begins where as many stand behind the beginning of the one before it, and a packet follows.
+const AT_LEAST: [(usize, &[(usize, usize)]); 8] = [
+    (0, &[(24, 0), (43, 1), (59, 2), (80, 3), (97, 4)]),
+    (1, &[(24, 0), (43, 1), (59, 2), (80, 3), (97, 4)]),
+    (19, &[(24, 0), (43, 1), (80, 3)]),
+    (20, &[(24, 0), (59, 2), (80, 3)]),
+    (36, &[(24, 0), (80, 3)]),
+    (57, &[(24, 0), (97, 4)]),
+    (74, &[(24, 0)]),
+    (usize::MAX, &[(24, 0)]),
+];
+
+#[test]
+fn parts_of_at_least_so_many_bytes(rt: HostRuntime) -> Result<(), Fail> {
+    let bytes = five_packets(rt.alloc())?;
+    for (at_least, wanted) in AT_LEAST {
+        let cuts = cut_pcap_at_least(rt.alloc(), bytes.as_slice(), at_least)?;
+        assert!(rt; are_cuts(&cuts.cuts, wanted), "{at_least} bytes: {cuts:?}");
+    }
     Ok(())
 }
 

@@ -2,7 +2,7 @@
 
 use crate::captures::three_sections;
 use pcap_core::PcapError;
-use pcap_parts::{NgCut, cut_pcapng};
+use pcap_parts::{NgCut, cut_pcapng, cut_pcapng_at_least};
 use std::test::Fail;
 use test_support::captures::{SECTION, front};
 
@@ -99,6 +99,41 @@ fn more_parts_than_bytes(rt: HostRuntime) -> Result<(), Fail> {
     assert_eq!(rt; cuts.cuts.len(), 13);
     let places: [usize; 4] = [28, 88, 168, 288];
     assert_eq!(rt; cuts.interfaces.as_slice(), places.as_slice());
+    Ok(())
+}
+
+// Of at least so many bytes.
+const AT_LEAST: [(usize, &[Row]); 3] = [
+    (
+        45,
+        &[
+            (28, 0, 0, 0, 0),
+            (88, 3, 0, 0, 1),
+            (140, 5, 0, 0, 2),
+            (188, 7, 140, 2, 1),
+            (248, 9, 140, 2, 1),
+            (308, 12, 248, 3, 1),
+        ],
+    ),
+    (
+        77,
+        &[
+            (28, 0, 0, 0, 0),
+            (108, 4, 0, 0, 2),
+            (188, 7, 140, 2, 1),
+            (276, 10, 248, 3, 0),
+        ],
+    ),
+    (usize::MAX, &[(28, 0, 0, 0, 0)]),
+];
+
+#[test]
+fn parts_of_at_least_so_many_bytes(rt: HostRuntime) -> Result<(), Fail> {
+    let bytes = three_sections(rt.alloc())?;
+    for (at_least, wanted) in AT_LEAST {
+        let cuts = cut_pcapng_at_least(rt.alloc(), bytes.as_slice(), at_least)?;
+        assert!(rt; are_cuts(&cuts.cuts, wanted), "{at_least} bytes: {cuts:?}");
+    }
     Ok(())
 }
 

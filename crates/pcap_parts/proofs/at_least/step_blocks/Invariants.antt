@@ -1,0 +1,18 @@
+use Rattle.std.proofs.Common.{◌≤◌, length, drop}
+use Rattle.std.specs.List.{AllByRecursion}
+use Rattle.pcap_file.specs.Blocks.{block_format}
+use Rattle.pcap_file.specs.Parser.{state_of}
+use Rattle.pcap_parts.specs.NgParts.{IsWalked, ResumesAt, bounds_of}
+use Rattle.pcap_parts.proofs.Stepping.{SteppedSoFar}
+use Rattle.pcap_parts.proofs.at_least.step_blocks.Given as goal
+
+abbrev pub invariant-loop-cuts : goal.invariant-loop-cuts
+invariant-loop-cuts l = record {
+  so_far : SteppedSoFar block_format (state_of l.fn.walk.parser) l.slice (length l.bytes) l.at_least l.left l.before (bounds_of l.cuts.items);
+  walked : IsWalked l.bytes l.left (state_of l.walk.parser) l.walk.header (drop l.walk.first l.walk.interfaces.items);
+  inside : l.walk.first ≤ length l.walk.interfaces.items;
+  resume : AllByRecursion (ResumesAt l.bytes l.walk.interfaces.items (state_of l.fn.walk.parser) l.slice) l.cuts.items;
+}
+
+abbrev pub decreases-loop-cuts : goal.decreases-loop-cuts
+decreases-loop-cuts l = length l.left
