@@ -1,0 +1,2 @@
+mod Tellings
+mod Whole

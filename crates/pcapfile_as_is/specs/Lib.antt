@@ -1,0 +1,5 @@
+pub mod Counts
+pub mod FlawLines
+pub mod Lists
+pub mod Repaired
+pub mod Texts

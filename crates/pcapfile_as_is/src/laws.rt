@@ -1,0 +1,28 @@
+//! Laws of repaired packets. Each contract is the law.
+
+ghost use Rattle.std.specs.Prelude.{◌≡◌, ◌<◌, ◌^◌, ℕ, List, [], length, map, All, false};
+ghost use Rattle.pcap_core.specs.Answer.{Order};
+ghost use Rattle.pcap_classic.specs.declared.common.TsResolution.{TsResolution};
+ghost use Rattle.pcap_classic.specs.declared.pcap.header.PcapHeader.{PcapHeader};
+ghost use Rattle.pcap_classic.specs.Front.{CaptureFront};
+ghost use Rattle.pcap_classic.specs.Magic.{resolution_of};
+ghost use Rattle.pcap_classic.specs.PacketText.{packet_limit};
+ghost use Rattle.pcap_classic.specs.Written.{IsWhole, IsWholeHeader, capture, cut};
+ghost use Rattle.pcap_tolerant.specs.AsIs.{AsIs, AsIsText, breaks_one, strict_of};
+ghost use Rattle.pcapfile_as_is.specs.Repaired.{repaired_of};
+
+/// A repaired packet breaks no rule.
+pub fn repaired_packets_are_whole()
+    ensures { (r : TsResolution) (packet : AsIs) → packet.head.seconds < 2 ^ 32 → IsWhole (repaired_of r packet) }
+{}
+
+/// A packet that breaks no rule is repaired to what it is.
+pub fn sound_packets_stay()
+    ensures { (limit : ℕ) (order : Order) (r : TsResolution) (packet : AsIs) (s rest : List ℕ) → AsIsText limit order r packet s rest → breaks_one packet.flaws ≡ false → repaired_of r packet ≡ strict_of r packet }
+{}
+
+/// A header and repaired packets, written one after the other, are read by the strict reading whole, with no packet refused.
+pub fn repaired_captures_are_read()
+    ensures { (header : PcapHeader) (packets : List AsIs) → IsWholeHeader header → All (λ packet. packet.head.seconds < 2 ^ 32) packets →
+        CaptureFront packet_limit header (map (cut (resolution_of header.magic_number)) (map (repaired_of (resolution_of header.magic_number)) packets)) (capture header (map (repaired_of (resolution_of header.magic_number)) packets)) [] }
+{}

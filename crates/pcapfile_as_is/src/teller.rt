@@ -1,0 +1,35 @@
+//! What is written of each packet.
+
+ghost use Rattle.std.specs.Prelude.{◌≡◌, ℕ, List};
+ghost use Rattle.pcap_classic.specs.declared.common.TsResolution.{TsResolution as Resolution};
+ghost use Rattle.pcap_tolerant.specs.AsIs.{AsIs, as_it_is};
+ghost use Rattle.capcopy_run.specs.Lines.{WritesLine};
+
+use capcopy_run::Exit;
+use pcap_classic::TsResolution;
+use pcap_tolerant::PacketAsIs;
+use std::alloc::Global;
+use std::io::Write;
+
+/// What writes a text for each packet.
+pub trait Teller {
+    ghost Setting: { Type 0 };
+
+    ghost setting: { Self → Setting };
+
+    ghost text: { Setting → Resolution → ℕ → ℕ → AsIs → List ℕ };
+
+    /// Writes the text of the packet of this number, which stands behind so many bytes of its capture. An error of the output is
+    /// `Io`; `Memory` where the text can't be made.
+    fn put<W: Write>(
+        &mut self,
+        alloc: Global,
+        output: &mut W,
+        ts_resolution: TsResolution,
+        number: u64,
+        place: u64,
+        packet: &PacketAsIs<'_>,
+    ) -> Result<(), Exit>
+        ensures same { setting self.new ≡ setting self.old }
+        ensures writes { WritesLine (λ line. line ≡ text (setting self.old) ts_resolution number place (as_it_is packet.now)) (W.contents output.old) (W.contents output.new) result };
+}
