@@ -1,0 +1,59 @@
+-- Blocks as they stand, under the section and interfaces in force.
+use Rattle.std.specs.Prelude.{◌≡◌, ◌≢◌, ◌⊎◌, ℕ, List, map, Option, Some, None}
+use Rattle.pcap_core.specs.Answer.{Verdict, Says, number_in}
+use Rattle.pcap_core.specs.Faults.{Fault}
+use Rattle.pcap_core.specs.Format.{Format}
+use Rattle.pcap_core.specs.Headed.{good, bad}
+use Rattle.pcap_blocks.specs.declared.block_type.BlockType.TheVariants as types
+use Rattle.pcap_file.specs.Frames.{Framed, framed_of, FrameText, FrameLacks, FrameFault}
+use Rattle.pcap_tolerant_blocks.specs.declared.enhanced.EnhancedAsIs.{EnhancedAsIs}
+use Rattle.pcap_tolerant_blocks.specs.EnhancedAsIs.{EnhancedText, enhanced_in, flaws_said}
+use Rattle.pcap_tolerant_blocks.specs.Flaws.{said_of}
+use Rattle.pcap_tolerant_captures.specs.declared.block.BlockAsIs.{BlockAsIs}
+use Rattle.pcap_tolerant_captures.specs.declared.parser.OpenedAsIs.{OpenedAsIs}
+use Rattle.pcap_tolerant_captures.specs.State.{State, order_at, Led, Means, CanGrow, state_of}
+
+-- a block, what is wrong with its body, and the section and interfaces in force after it
+pub record Item : Type 0 where
+  pub block : Framed
+  pub led : Led
+
+-- a block of the code that leads to this state
+abbrev pub item_of : State → BlockAsIs → Item
+item_of after x = record { block = framed_of x.block; led = record { flaws = map said_of x.flaws.items; after = after } }
+
+-- the first block of a capture, and what is in force after it
+abbrev pub opened_of : OpenedAsIs → Item
+opened_of x = item_of (state_of x.parser) x.first
+
+-- s is a block under this state as it stands, and then rest
+pub record AsIsText (q : State) (item : Item) (s rest : List ℕ) : Type 0 where
+  pub frame : FrameText (order_at q) item.block s rest
+  pub means : Means q item.block (good item.led)
+
+-- a whole frame stands there, and its body gives no order of bytes, or it is the first and no section
+pub record BodyFault (q : State) (s : List ℕ) (fault : Fault) : Type 0 where
+  pub block : Framed
+  pub rest : List ℕ
+  pub frame : FrameText (order_at q) block s rest
+  pub means : Means q block (bad fault)
+
+-- what is said of bytes where a block as it stands is asked for
+abbrev pub AsIsSays : State → List ℕ → Verdict Item → Type 0
+AsIsSays q s = Says (λ item rest. AsIsText q item s rest) (FrameLacks (order_at q) s) (λ fault. FrameFault (order_at q) s fault ⊎ BodyFault q s fault)
+
+-- a whole block stands there whose body is kept: only then a call needs memory
+pub record MayGrow (q : State) (s : List ℕ) : Type 0 where
+  pub block : Framed
+  pub rest : List ℕ
+  pub frame : FrameText (order_at q) block s rest
+  pub grows : CanGrow q block
+
+-- blocks as they stand, the first of which is a section header
+unfoldable pub as_is_format : Format State Item
+as_is_format = record { says = AsIsSays; goes = λ q item. item.led.after; head = 12 }
+
+-- the enhanced packet that a block's body is as it stands; none where the block is of another type
+abbrev pub IsPacketIn : Framed → Option EnhancedAsIs → Type 0
+IsPacketIn b None = b.type_ ≢ types.EnhancedPacket
+IsPacketIn b (Some x) = (b.type_ ≡ types.EnhancedPacket) × ((rest : List ℕ) × EnhancedText (number_in b.endianness) (enhanced_in x) (flaws_said x) b.body rest)

@@ -1,0 +1,53 @@
+//! Blocks as they stand.
+
+ghost use Rattle.std.specs.Prelude.{◌≡◌, IfOk};
+ghost use Rattle.pcap_core.specs.Answer.{number_in};
+ghost use Rattle.pcap_file.specs.Frames.{framed_of};
+ghost use Rattle.pcap_tolerant_blocks.specs.EnhancedAsIs.{EnhancedText, enhanced_in, flaws_said};
+ghost use Rattle.pcap_tolerant_captures.specs.Blocks.{IsPacketIn};
+
+use byteorder::{BigEndian, LittleEndian};
+use pcap_blocks::BlockType;
+use pcap_core::Endianness;
+use pcap_file::pcapng::Block;
+use pcap_tolerant_blocks::{EnhancedAsIs, Flaw};
+use std::alloc::{AllocError, Global};
+
+/// A block as it stands, and what is wrong with its body, where that is a section's or an interface's.
+#[derive(Debug, Drop)]
+pub struct BlockAsIs<'a> {
+    /// The block in its frame. Its body is still bytes.
+    pub block: Block<'a>,
+    /// What is wrong with the body of a section or an interface, in the order of the text. The body of any other block isn't read.
+    pub flaws: Vec<Flaw>,
+}
+
+impl<'a> BlockAsIs<'a> {
+    /// The enhanced packet that the body is as it stands, with what is wrong with it. None where the block is of another type.
+    ///
+    /// `AllocError` where a list can't grow.
+    pub fn enhanced(&self, alloc: Global) -> Result<Option<EnhancedAsIs<'_>>, AllocError>
+        ensures { IfOk result (IsPacketIn (framed_of self.now.block)) }
+    {
+        if !matches!(self.block.type_, BlockType::EnhancedPacket) {
+            return Ok(None);
+        }
+        let body = self.block.body.as_slice();
+        let (_rest, packet) = packet_in(self.block.endianness(), alloc, body)?;
+        Ok(Some(packet))
+    }
+}
+
+// The enhanced packet that a body is as it stands, in this order, and what follows it.
+fn packet_in<'a>(
+    order: Endianness,
+    alloc: Global,
+    slice: &'a [u8],
+) -> Result<(&'a [u8], EnhancedAsIs<'a>), AllocError>
+    ensures { IfOk result (λ x. EnhancedText (number_in order) (enhanced_in x.1) (flaws_said x.1) slice.now x.0.now) }
+{
+    match order {
+        Endianness::Big => EnhancedAsIs::from_slice::<BigEndian>(alloc, slice),
+        Endianness::Little => EnhancedAsIs::from_slice::<LittleEndian>(alloc, slice),
+    }
+}

@@ -1,0 +1,45 @@
+//! Laws of blocks as they stand. Each contract is the law.
+
+ghost use Rattle.std.specs.Prelude.{◌≡◌, ◌≤◌, ℕ, List, [], ◌∷◌, length};
+ghost use Rattle.pcap_core.specs.Answer.{Verdict};
+ghost use Rattle.pcap_core.specs.Format.{Asks, Front, IsLawful};
+ghost use Rattle.pcap_core.specs.Laws.{ExactlyOne, IsStable};
+ghost use Rattle.pcap_file.specs.Blocks as strict_blocks;
+ghost use Rattle.pcap_file.specs.State as strict;
+ghost use Rattle.pcap_tolerant_captures.specs.Blocks.{Item, AsIsText, AsIsSays, as_is_format};
+ghost use Rattle.pcap_tolerant_captures.specs.State.{State};
+ghost use Rattle.pcap_tolerant_captures.specs.Strict.{StrictIs, as_it_stands};
+
+/// Blocks as they stand are a format: of all bytes one thing is said, more bytes change nothing, a text is its own, and a request
+/// is the head's, or else the last.
+pub fn blocks_as_they_stand_are_lawful()
+    ensures { IsLawful as_is_format }
+{}
+
+/// Of each slice exactly one thing is said where a block as it stands is asked for.
+pub fn block_as_it_stands_is_one()
+    ensures { (q : State) (s : List ℕ) → ExactlyOne (AsIsSays q s) }
+{}
+
+/// More bytes change neither a block, its flaws nor a refusal, and shrink a request by their number.
+pub fn block_as_it_stands_is_stable()
+    ensures { (q : State) → IsStable (AsIsSays q) }
+{}
+
+/// All bytes have one front of blocks as they stand and no other.
+pub fn blocks_as_they_stand_have_one_front()
+    ensures { (q : State) (s : List ℕ) → ExactlyOne (λ (p : List Item × List ℕ). Front as_is_format q p.0 s p.1) }
+{}
+
+/// Who adds exactly what is asked for is asked twice at most, and has nothing behind the block that comes.
+pub fn blocks_as_they_stand_are_asked_for_twice()
+    ensures { (q : State) (n : ℕ) (ns s t : List ℕ) → Asks as_is_format q (n ∷ ns) s t →
+        (length (n ∷ ns) ≤ 2) × ((item : Item) (rest : List ℕ) → AsIsText q item t rest → rest ≡ []) }
+{}
+
+/// What the strict reading says of the same bytes: the same block and state where the block has no flaw, and else its first flaw;
+/// the same request; and the same refusal, unless the first block is no section header.
+pub fn strict_block_is()
+    ensures { (q : strict.State) (s : List ℕ) (a : Verdict Item) (v : Verdict strict_blocks.Item) →
+        AsIsSays (as_it_stands q) s a → strict_blocks.BlockSays q s v → StrictIs q a v }
+{}

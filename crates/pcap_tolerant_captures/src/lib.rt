@@ -1,0 +1,13 @@
+//! PcapNg captures as strangers write them: a parser that leaves no block out for what is wrong with its body.
+//!
+//! The strict parser of `pcap_file` ends at the first fault of a section or an interface. This one puts them in force as they stand,
+//! and says what is wrong with them; blocks in their frames are read as strictly as there.
+#![tactic(auto)]
+
+mod block;
+mod kept;
+pub mod laws;
+mod parser;
+
+pub use block::BlockAsIs;
+pub use parser::{OpenedAsIs, PcapNgParserAsIs};
