@@ -1,5 +1,5 @@
 -- What is seen of packets and blocks.
-use Rattle.std.specs.Prelude.{⊤, ◌≡◌, ◌≤◌, ◌<◌, ◌+◌, ◌-◌, ◌⊎◌, ◌&&◌, ℕ, List, [], ◌∷◌, length, take, Bool, Option, None, Some, nat_lt, nat_le, if◌then◌else◌}
+use Rattle.std.specs.Prelude.{⊤, ◌≡◌, ◌≤◌, ◌<◌, ◌+◌, ◌-◌, ◌⊎◌, ◌&&◌, ℕ, List, [], ◌∷◌, length, Bool, Option, None, Some, nat_lt, nat_le, if◌then◌else◌}
 use Rattle.std.specs.List.{slice_get}
 use Rattle.pcap_core.specs.Answer.{whole, faulty}
 use Rattle.pcap_core.specs.Faults.{Fault}
@@ -10,13 +10,12 @@ use Rattle.pcap_blocks.specs.declared.block_type.BlockType.{BlockType}
 use Rattle.pcap_blocks.specs.declared.block_type.BlockType.TheVariants as types
 use Rattle.pcap_blocks.specs.InterfaceDescription.{Interface}
 use Rattle.pcap_blocks.specs.InterfaceTimes.{IsTimeAt}
-use Rattle.pcap_blocks.specs.ParsedBlock.{Body, EnhancedBody, OldPacketBody, SimpleBody}
-use Rattle.pcap_blocks.specs.StoredBytes.{stored_len}
+use Rattle.pcap_blocks.specs.ParsedBlock.{Body}
 use Rattle.pcap_file.specs.Blocks.{Item}
 use Rattle.pcap_file.specs.Bodies.{SaysOfBody}
 use Rattle.pcap_file.specs.Frames.{Framed}
 use Rattle.pcap_file.specs.Placed.{carried, interfaces_at, time_in}
-use Rattle.pcapfile_run.specs.FileLines.{snaplen_of}
+use Rattle.pcapfile_run.specs.BlockPackets.{InBlock, packet_in}
 use Rattle.pcapfile_info.specs.declared.seen.Seen.{Seen}
 use Rattle.pcapfile_info.specs.declared.seen.Sight.{Sight}
 use Rattle.pcapfile_info.specs.declared.seen.Sight.TheVariants as sights
@@ -53,22 +52,22 @@ pub record Sees (interface : Option ℕ) (stored original : ℕ) (seen : Seen) :
   pub stored_is : seen.stored ≡ stored
   pub original_is : seen.original ≡ original
 
--- what is seen of a body, where so many interfaces are described, the last of them these of the section; a simple packet has no
--- time, and came by the section's first interface
+-- the time of a packet that came by the interface of this number, where it has one
+abbrev pub IsUnitsSeen : List Interface → ℕ → Option ℕ → Option Timestamp → Type 0
+IsUnitsSeen interfaces number (Some units) time = IsTimeSeen (slice_get interfaces number) units time
+IsUnitsSeen interfaces number None time = time ≡ None
+
+-- what is seen of a packet in a block, where so many interfaces are described, the last of them these of the section; or of no packet
+abbrev pub IsInBlockSight : ℕ → List Interface → Option InBlock → Sight → Type 0
+IsInBlockSight described interfaces (Some packet) (sights.Packet seen) =
+    Sees (place_of described (length interfaces) packet.interface) (length packet.bytes) packet.original_len seen
+    × IsUnitsSeen interfaces packet.interface packet.units seen.time
+IsInBlockSight described interfaces (Some packet) sight = ⊥
+IsInBlockSight described interfaces None sight = sight ≡ sights.Other
+
+-- what is seen of a body
 abbrev pub IsBodySight : ℕ → List Interface → Body → Sight → Type 0
-IsBodySight described interfaces (EnhancedBody b) (sights.Packet seen) =
-    Sees (place_of described (length interfaces) b.interface_id) (length b.packet.bytes) b.packet.original_len seen
-    × IsTimeSeen (slice_get interfaces b.interface_id) b.packet.timestamp seen.time
-IsBodySight described interfaces (OldPacketBody b) (sights.Packet seen) =
-    Sees (place_of described (length interfaces) b.interface_id) (length b.packet.bytes) b.packet.original_len seen
-    × IsTimeSeen (slice_get interfaces b.interface_id) b.packet.timestamp seen.time
-IsBodySight described interfaces (SimpleBody b) (sights.Packet seen) =
-    let stored = take (stored_len b.original_len (snaplen_of (slice_get interfaces 0))) b.bytes in
-    Sees (place_of described (length interfaces) 0) (length stored) b.original_len seen × (seen.time ≡ None)
-IsBodySight described interfaces (EnhancedBody b) sight = ⊥
-IsBodySight described interfaces (OldPacketBody b) sight = ⊥
-IsBodySight described interfaces (SimpleBody b) sight = ⊥
-IsBodySight described interfaces body sight = sight ≡ sights.Other
+IsBodySight described interfaces body sight = IsInBlockSight described interfaces (packet_in interfaces body) sight
 
 -- what is seen of a block that holds a packet: the packet, or that its body is refused
 abbrev pub IsStoredSight : ℕ → List Interface → Framed → Sight → Type 0

@@ -1,7 +1,11 @@
 pub mod Best
+pub mod Bodies
 pub mod Choices
+pub mod FrontsGiven
 pub mod Given
 pub mod MergeLaws
 pub mod Merges
 pub mod Steps
+pub mod StoredGiven
 pub mod Times
+pub mod Turning

@@ -53,7 +53,7 @@ chosen_holds nows place p x first is = some_held x x.taken.next p refl (ap pendi
 
 module _ {R : Type 0} (remaining : R → Option (List ℕ)) where
   fresh : Source R → Input remaining
-  fresh source = record { start = source; now = source; gone = []; gave = λ before gave. gave }
+  fresh source = record { start = source; now = source; gone = []; gave = λ from gave. gave }
 
   fresh_starts : (sources : List (Source R)) → map (λ (input : Input remaining). input.start) (map fresh sources) ≡ sources
   unfolding fresh
@@ -88,9 +88,9 @@ module _ {R : Type 0} (remaining : R → Option (List ℕ)) where
       start = s.start;
       now = new;
       gone = s.gone ++ pending_of s.now;
-      gave = λ before gave.
-          let more = gave_more remaining before s.now.base s.now.reader new.reader (s.gone ++ pending_of s.now) s.now.taken new.taken n is (s.gave before gave) advances.1 in
-          subst (λ (base : ℕ). GaveBy remaining before base new.reader ((s.gone ++ pending_of s.now) ++ pending_of new) new.taken) (sym advances.0) more;
+      gave = λ from gave.
+          let more = gave_more remaining s.now.base from s.now.reader new.reader (s.gone ++ pending_of s.now) s.now.taken new.taken n is (s.gave from gave) advances.1 in
+          subst (λ (base : ℕ). GaveBy remaining base from new.reader ((s.gone ++ pending_of s.now) ++ pending_of new) new.taken) (sym advances.0) more;
     },
     refl,
     refl,

@@ -1,14 +1,17 @@
 -- What a reader of either format holds, and what it takes.
-use Rattle.std.specs.Prelude.{⊤, ◌≡◌, ◌≤◌, ℕ, List, [], ◌∷◌, length, take, drop, Bool, false, Option, None, Some}
+use Rattle.std.specs.Prelude.{◌≡◌, ◌≤◌, ℕ, List, [], ◌∷◌, length, take, drop, Bool, false, Option, None, Some}
 use Rattle.pcap_classic.specs.Reader as classic
 use Rattle.pcap_file.specs.declared.pcapng.reader.PcapNgReader.{PcapNgReader}
+use Rattle.pcap_file.specs.Placing.{source_of}
 use Rattle.pcap_file.specs.Reader as ng
 use Rattle.pcapfile_merge.specs.declared.packet.Pending.{Pending}
+use Rattle.pcapfile_merge.specs.declared.reader.Interfaces.{Interfaces}
 use Rattle.pcapfile_merge.specs.declared.reader.Reader.{Reader}
 use Rattle.pcapfile_merge.specs.declared.reader.Reader.TheVariants.{Packets, Blocks}
 use Rattle.pcapfile_merge.specs.declared.reader.Taken.{Taken}
 use Rattle.pcapfile_merge.specs.Packets.{Packet}
 use Rattle.pcapfile_merge.specs.Taking.{TakesPacket, packet_in}
+use Rattle.pcapfile_merge.specs.TakingBlocks.{TakesStored}
 
 -- the bytes of the packet of which this is said
 abbrev pub bytes_in : {R : Type 0} → Reader R → Pending → List ℕ
@@ -32,10 +35,10 @@ HoldsFew reader next = length (bytes_held reader next) ≤ 4294967260
 abbrev pub HoldsFewBlocks : {R : Type 0} → PcapNgReader R → Option Pending → Type 0
 HoldsFewBlocks reader next = HoldsFew (Blocks reader) next
 
--- a reader of a classic capture has refused something
+-- a reader has refused something
 abbrev pub has_refused : {R : Type 0} → Reader R → Bool
 has_refused (Packets reader) = classic.is_done reader
-has_refused (Blocks reader) = false
+has_refused (Blocks reader) = ng.is_done reader
 
 -- the same of one that holds a packet
 abbrev pub has_refused_if : {R : Type 0} → Reader R → Option Pending → Bool
@@ -50,17 +53,19 @@ IsReady reader = has_refused reader ≡ false
 abbrev pub IsReadyIf : {R : Type 0} → Reader R → Option Pending → Type 0
 IsReadyIf reader next = has_refused_if reader next ≡ false
 
+abbrev pub IsReadyBlocks : {R : Type 0} → PcapNgReader R → Option Pending → Type 0
+IsReadyBlocks reader next = IsReadyIf (Blocks reader) next
+
 -- a packet is held
 abbrev pub Holds : Option Pending → Type 0
 Holds next = (pending : Pending) × (next ≡ Some pending)
 
--- what is left of the stream behind a reader
-abbrev pub before_of : {R : Type 0} → (R → Option (List ℕ)) → Reader R → Option (List ℕ)
-before_of remaining (Packets reader) = remaining (classic.stream_of reader)
-before_of remaining (Blocks reader) = remaining (ng.stream_of reader)
+-- a reader of blocks took the next packet, or none, and why
+abbrev pub TakesBlocks : {R : Type 0} → (R → Option (List ℕ)) → Interfaces → ℕ → PcapNgReader R → PcapNgReader R → Taken → Type 0
+TakesBlocks remaining choice base old new taken = TakesStored choice base (source_of remaining old) (source_of remaining new) (bytes_in (Blocks new)) taken.next taken.fault
 
 -- a reader took the next packet, or none, and why
-abbrev pub TakesNext : {R : Type 0} → (R → Option (List ℕ)) → ℕ → Reader R → Reader R → Taken → Type 0
-TakesNext remaining base (Packets old) (Packets new) taken = TakesPacket remaining base old new taken
-TakesNext remaining base (Blocks old) (Blocks new) taken = ⊤
-TakesNext remaining base _ _ taken = ⊥
+abbrev pub TakesNext : {R : Type 0} → (R → Option (List ℕ)) → Interfaces → ℕ → Reader R → Reader R → Taken → Type 0
+TakesNext remaining choice base (Packets old) (Packets new) taken = TakesPacket remaining base old new taken
+TakesNext remaining choice base (Blocks old) (Blocks new) taken = TakesBlocks remaining choice base old new taken
+TakesNext remaining choice base _ _ taken = ⊥

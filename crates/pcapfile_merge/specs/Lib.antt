@@ -1,8 +1,11 @@
 pub mod Choices
 pub mod Choosing
+pub mod Fronts
 pub mod Holding
 pub mod Merges
 pub mod Merging
 pub mod Packets
+pub mod Passing
 pub mod Sources
 pub mod Taking
+pub mod TakingBlocks

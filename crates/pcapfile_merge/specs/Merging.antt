@@ -10,6 +10,7 @@ use Rattle.pcap_blocks.specs.ParsedBlock.{Body, EnhancedBody}
 use Rattle.pcap_written.specs.Plain.{plain_packet}
 use Rattle.pcap_file.specs.Converted.{little_text}
 use Rattle.pcapfile_merge.specs.declared.merging.Merged.{Merged}
+use Rattle.pcapfile_merge.specs.declared.reader.Reader.{Reader}
 use Rattle.pcapfile_merge.specs.declared.source.Source.{Source}
 use Rattle.pcapfile_merge.specs.Choosing.{HaveEnded, IsFirst}
 use Rattle.pcapfile_merge.specs.Merges.{Merges}
@@ -41,12 +42,12 @@ abbrev pub MergesAt : {R : Type 0} → (R → Option (List ℕ)) → ℕ → Lis
 MergesAt {R} remaining place olds news before after result =
     (old : Source R) × (new : Source R) × (old ≡ slice_index_or olds place old) × (news ≡ slice_set olds place new) × MergesNext remaining old new before after result
 
--- An input of a merge: its source before and after, and the packets that it gave, which stand behind all that was taken before.
+-- An input of a merge: its source before and after, and the packets that it gave, behind all that it had taken before, from wherever.
 pub record Input {R : Type 0} (remaining : R → Option (List ℕ)) : Type 0 where
   pub start : Source R
   pub now : Source R
   pub gone : List Packet
-  pub gave : (before : Option (List ℕ)) → Gave remaining before start [] → Gave remaining before now gone
+  pub gave : (from : Reader R) → Gave remaining from start [] → Gave remaining from now gone
 
 module _ {R : Type 0} {remaining : R → Option (List ℕ)} where
   -- the packet that an input holds

@@ -1,13 +1,21 @@
 -- The packets of a source.
-use Rattle.std.specs.Prelude.{⊤, ◌≡◌, ℕ, List, ◌++◌, map, Bool, Option, None, Some}
+use Rattle.std.specs.Prelude.{⊤, ◌≡◌, ◌≢◌, ℕ, List, [], ◌∷◌, ◌++◌, map, filter_map, length, Bool, true, false, Option, None, Some}
+use Rattle.std.specs.List.{AllByRecursion, AllZip}
 use Rattle.pcap_core.specs.declared.errors.PcapError.{PcapError}
 use Rattle.pcap_core.specs.Answer.{Verdict}
+use Rattle.pcap_core.specs.Format.{state_after}
 use Rattle.pcap_core.specs.Takes.{TakesTexts}
 use Rattle.pcap_classic.specs.declared.pcap.reader.PcapReader.{PcapReader}
 use Rattle.pcap_classic.specs.Packets.{reader_format}
 use Rattle.pcap_classic.specs.PacketText.{Captured, packet_limit}
 use Rattle.pcap_classic.specs.Reader as classic
+use Rattle.pcap_file.specs.declared.pcapng.reader.PcapNgReader.{PcapNgReader}
+use Rattle.pcap_file.specs.Blocks.{Item, block_format}
+use Rattle.pcap_file.specs.Placed.{is_packet}
+use Rattle.pcap_file.specs.Placing as blocks
+use Rattle.pcap_file.specs.State.{is_kept}
 use Rattle.pcapfile_merge.specs.declared.packet.Pending.{Pending}
+use Rattle.pcapfile_merge.specs.declared.reader.Interfaces.TheVariants.{Closed}
 use Rattle.pcapfile_merge.specs.declared.reader.Reader.{Reader}
 use Rattle.pcapfile_merge.specs.declared.reader.Reader.TheVariants.{Packets, Blocks}
 use Rattle.pcapfile_merge.specs.declared.reader.Taken.{Taken}
@@ -15,6 +23,7 @@ use Rattle.pcapfile_merge.specs.declared.source.Source.{Source}
 use Rattle.pcapfile_merge.specs.Holding.{TakesNext, held_by}
 use Rattle.pcapfile_merge.specs.Packets.{Packet, packet_of}
 use Rattle.pcapfile_merge.specs.Taking.{EndsThere}
+use Rattle.pcapfile_merge.specs.TakingBlocks.{EndsAt, EndsWell, GivesIn, IsGoing}
 
 -- the packet that a source gives next, or none where it has no more
 abbrev pub pending_of : {R : Type 0} → Source R → List Packet
@@ -22,26 +31,56 @@ pending_of source = held_by source.reader source.taken.next
 
 -- a source took the packet behind the one that it held
 abbrev pub Advances : {R : Type 0} → (R → Option (List ℕ)) → Source R → Source R → Type 0
-Advances remaining old new = (new.base ≡ old.base) × TakesNext remaining old.base old.reader new.reader new.taken
+Advances remaining old new = (new.base ≡ old.base) × TakesNext remaining Closed old.base old.reader new.reader new.taken
 
 -- a stream stands where one more packet was taken, or where no other follows
 abbrev pub Stands : {V : Type 0} → (List ℕ → Verdict V → Type 0) → Option (List ℕ) → Option (List ℕ) → Bool → Option Pending → Option PcapError → Type 0
 Stands IsSaid left now failed (Some pending) fault = (fault ≡ None) × (now ≡ left)
 Stands IsSaid left now failed None fault = EndsThere IsSaid left now failed fault
 
--- These packets of a classic capture were taken behind this beginning of a stream, and no more, and then it stands there.
-pub record GavePackets {R : Type 0} (remaining : R → Option (List ℕ)) (before : Option (List ℕ)) (base : ℕ) (reader : PcapReader R) (given : List Packet) (taken : Taken) : Type 0 where
+-- From where a reader stood, these packets of a classic capture were taken, and no more, and then its stream stands there.
+pub record GavePackets {R : Type 0} (remaining : R → Option (List ℕ)) (base : ℕ) (from reader : PcapReader R) (given : List Packet) (taken : Taken) : Type 0 where
+  pub same : reader.header ≡ from.header
   pub captured : List Captured
   pub given_are : given ≡ map (packet_of base) captured
   pub left : Option (List ℕ)
-  pub took : TakesTexts (reader_format packet_limit reader.header) tt captured before left
-  pub stands : Stands ((reader_format packet_limit reader.header).says tt) left (remaining (classic.stream_of reader)) (classic.has_failed reader) taken.next taken.fault
+  pub took : TakesTexts (reader_format packet_limit from.header) tt captured (remaining (classic.stream_of from)) left
+  pub stands : Stands ((reader_format packet_limit from.header).says tt) left (remaining (classic.stream_of reader)) (classic.has_failed reader) taken.next taken.fault
 
--- a reader gave these packets, the last of which it holds
-abbrev pub GaveBy : {R : Type 0} → (R → Option (List ℕ)) → Option (List ℕ) → ℕ → Reader R → List Packet → Taken → Type 0
-GaveBy remaining before base (Packets reader) given taken = GavePackets remaining before base reader given taken
-GaveBy remaining before base (Blocks reader) given taken = ⊤
+-- behind a block that holds a packet no block describes an interface or begins a section
+abbrev pub IsKeptFirst : List Item → Type 0
+IsKeptFirst [] = ⊤
+IsKeptFirst (item ∷ items) = (is_packet item.block.type_ ≡ true → AllByRecursion (λ (later : Item). is_kept later.block.type_ ≡ false) items) × IsKeptFirst items
 
--- a source gave these packets of a stream, and holds the next one
-abbrev pub Gave : {R : Type 0} → (R → Option (List ℕ)) → Option (List ℕ) → Source R → List Packet → Type 0
-Gave remaining before source gone = GaveBy remaining before source.base source.reader (gone ++ pending_of source) source.taken
+-- These packets are those that blocks hold, in order, whose texts were taken, and no more.
+pub record BlocksGave (base : ℕ) (a b : blocks.Source) (given : List Packet) : Type 0 where
+  pub items : List Item
+  pub packets : List (Option Packet)
+  pub took : TakesTexts block_format a.state items a.left b.left
+  pub in_force : state_after block_format a.state items ≡ b.state
+  pub goes_on : IsGoing b
+  pub kept_first : IsKeptFirst items
+  pub gives : AllZip (GivesIn base) items packets
+  pub given_are : given ≡ filter_map (λ packet. packet) packets
+
+-- a reader stands behind the block that gave the last of these packets, or where the capture ends, behind so many blocks
+abbrev pub StandsBehind : ℕ → List Packet → ℕ → blocks.Source → blocks.Source → Option Pending → Option PcapError → Type 0
+StandsBehind base given n mid now (Some pending) fault = (fault ≡ None) × (now ≡ mid) × (given ≢ [])
+StandsBehind base given n mid now None None = EndsWell mid now n
+StandsBehind base given n mid now None (Some e) = EndsAt (given ≢ []) base mid now e
+
+-- From where a reader stood, these packets of blocks were taken, and then it stands there.
+pub record GaveStored {R : Type 0} (remaining : R → Option (List ℕ)) (base : ℕ) (from reader : PcapNgReader R) (given : List Packet) (taken : Taken) : Type 0 where
+  pub mid : blocks.Source
+  pub gave : BlocksGave base (blocks.source_of remaining from) mid given
+  pub stands : StandsBehind base given (length gave.items) mid (blocks.source_of remaining reader) taken.next taken.fault
+
+-- a reader gave these packets from where another one stood, the last of which it holds
+abbrev pub GaveBy : {R : Type 0} → (R → Option (List ℕ)) → ℕ → Reader R → Reader R → List Packet → Taken → Type 0
+GaveBy remaining base (Packets from) (Packets reader) given taken = GavePackets remaining base from reader given taken
+GaveBy remaining base (Blocks from) (Blocks reader) given taken = GaveStored remaining base from reader given taken
+GaveBy remaining base _ _ given taken = ⊥
+
+-- a source gave these packets of a capture from where this reader stood, and holds the next one
+abbrev pub Gave : {R : Type 0} → (R → Option (List ℕ)) → Reader R → Source R → List Packet → Type 0
+Gave remaining from source gone = GaveBy remaining source.base from source.reader (gone ++ pending_of source) source.taken

@@ -7,6 +7,7 @@ mod merging;
 mod packet;
 mod reader;
 mod source;
+mod stored;
 
 pub use merging::{Merged, merge_packets};
 pub use reader::Reader;

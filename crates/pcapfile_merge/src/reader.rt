@@ -1,27 +1,16 @@
 //! A reader of packets of either format, and the packets that it holds.
 
-ghost use Rattle.std.specs.Prelude.{◌≡◌, ◌≤◌, take, drop, false, IfOk, IfSome};
+ghost use Rattle.std.specs.Prelude.{◌≡◌, take, drop, false};
 ghost use Rattle.pcap_classic.specs.Reader as classic;
-ghost use Rattle.pcapfile_merge.specs.Holding.{HoldsFewBlocks};
 ghost use Rattle.pcapfile_merge.specs.Taking.{IsOf, TakesPacket};
 
 use crate::packet::Pending;
+use crate::stored::take_blocks;
 use pcap_file::pcap::PacketHeader;
-use pcap_file::pcapng::{
-    Block, BlockHeader, BlockType, InterfaceDescriptionBlock, ParsedBlock, Timestamp,
-};
-use pcap_file::{PcapError, PcapNgReader, PcapReader, ResultParsing};
+use pcap_file::pcapng::Timestamp;
+use pcap_file::{PcapError, PcapNgReader, PcapReader};
 use std::alloc::Global;
 use std::io::Read;
-
-/// The most bytes that the packet of a block may have.
-const MOST: usize = 4_294_967_260;
-
-/// The bytes before those of the packet in the body of a block that tells its time.
-const TIMED: usize = 20;
-
-/// The bytes before those of the packet in the body of a block that doesn't.
-const SIMPLE: usize = 4;
 
 const BILLION: u32 = 1_000_000_000;
 
@@ -69,7 +58,7 @@ impl<R: Read + Drop> Reader<R> {
     // Takes the next packet, whose interface has this number, or is the first of those that have numbers from it on.
     pub(crate) fn take_next(&mut self, alloc: Global, base: u32, interfaces: Interfaces) -> Taken
         requires { IsReady self.old }
-        ensures takes { TakesNext R.remaining base self.old self.new result }
+        ensures takes { TakesNext R.remaining interfaces base self.old self.new result }
         ensures few { HoldsFew self.new result.next }
         ensures ready { IsReadyIf self.new result.next }
     {
@@ -130,150 +119,4 @@ fn pending_of_header(header: PacketHeader, number: u32) -> Pending
         start: 0,
         len: incl_len as usize,
     }
-}
-
-// Takes the next packet of a capture of blocks whose interfaces have numbers from this one on, or what refuses it.
-fn take_blocks<R: Read + Drop>(
-    alloc: Global,
-    reader: &mut PcapNgReader<R>,
-    base: u32,
-    interfaces: Interfaces,
-) -> Taken
-    ensures { HoldsFewBlocks reader.new result.next }
-{
-    match take_block(alloc, reader, base, interfaces) {
-        Ok(next) => Taken { next, fault: None },
-        Err(error) => Taken {
-            next: None,
-            fault: Some(error),
-        },
-    }
-}
-
-// Takes the next packet of a capture of blocks whose interfaces have numbers from this one on.
-fn take_block<R: Read + Drop>(
-    alloc: Global,
-    reader: &mut PcapNgReader<R>,
-    base: u32,
-    interfaces: Interfaces,
-) -> ResultParsing<Option<Pending>>
-    ensures { IfOk result (λ next. IfSome next (λ pending. pending.len ≤ 4294967260)) }
-{
-    let Some(header) = pass_to_packet(reader, interfaces)? else {
-        return Ok(None);
-    };
-    let block = reader.block(header);
-    Ok(Some(pending_in_block(alloc, reader.interfaces(), &block, base)?))
-}
-
-// Passes blocks that hold no packet.
-fn pass_to_packet<R: Read + Drop>(
-    reader: &mut PcapNgReader<R>,
-    interfaces: Interfaces,
-) -> ResultParsing<Option<BlockHeader>> {
-    for _turn in 0..u64::MAX {
-        let Some(header) = reader.next_header() else {
-            return Ok(None);
-        };
-        let header = header?;
-        match header.type_ {
-            BlockType::EnhancedPacket | BlockType::Packet | BlockType::SimplePacket => {
-                return Ok(Some(header));
-            }
-            BlockType::SectionHeader | BlockType::InterfaceDescription => {
-                if let Interfaces::Closed = interfaces {
-                    return Err(PcapError::InvalidField(
-                        "Block: an interface or a section behind packets",
-                    ));
-                }
-            }
-            _ => (),
-        }
-    }
-    Ok(None)
-}
-
-// What is said of the packet that a block holds.
-fn pending_in_block(
-    alloc: Global,
-    interfaces: &[InterfaceDescriptionBlock<'static>],
-    block: &Block,
-    base: u32,
-) -> ResultParsing<Pending>
-    ensures { IfOk result (λ pending. pending.len ≤ 4294967260) }
-{
-    let parsed = block.parsed(alloc)?;
-    match &parsed {
-        ParsedBlock::EnhancedPacket(packet) => {
-            let len = packet.data_.len();
-            let (interface, units) = (packet.interface_id, packet.timestamp);
-            timed(interfaces, base, interface, units, len, packet.original_len)
-        }
-        ParsedBlock::Packet(packet) => {
-            let len = packet.data_.len();
-            let (interface, units) = (u32::from(packet.interface_id), packet.timestamp);
-            timed(interfaces, base, interface, units, len, packet.original_len)
-        }
-        ParsedBlock::SimplePacket(packet) => {
-            let snaplen = described(interfaces, 0)?.snaplen;
-            let len = packet.stored(snaplen).len();
-            pending(base, None, 0, len, packet.original_len, SIMPLE)
-        }
-        _ => Err(PcapError::InvalidField("Block: no packet")),
-    }
-}
-
-fn described<'a>(
-    interfaces: &'a [InterfaceDescriptionBlock<'static>],
-    number: u32,
-) -> ResultParsing<&'a InterfaceDescriptionBlock<'static>> {
-    match interfaces.get(number as usize) {
-        Some(interface) => Ok(interface),
-        None => Err(PcapError::InvalidField("Block: interface_id is not described")),
-    }
-}
-
-// What is said of a packet that came by this interface so many units of its clock after 1970.
-fn timed(
-    interfaces: &[InterfaceDescriptionBlock<'static>],
-    base: u32,
-    number: u32,
-    units: u64,
-    len: usize,
-    original_len: u32,
-) -> ResultParsing<Pending>
-    ensures { IfOk result (λ pending. pending.len ≤ 4294967260) }
-{
-    let time = described(interfaces, number)?.timestamp(units);
-    pending(
-        base.saturating_add(number),
-        Some(time),
-        units,
-        len,
-        original_len,
-        TIMED,
-    )
-}
-
-fn pending(
-    number: u32,
-    time: Option<Timestamp>,
-    units: u64,
-    len: usize,
-    original_len: u32,
-    start: usize,
-) -> ResultParsing<Pending>
-    ensures { IfOk result (λ pending. pending.len ≤ 4294967260) }
-{
-    if len > MOST {
-        return Err(PcapError::InvalidField("Block: a packet that is too long"));
-    }
-    Ok(Pending {
-        number,
-        time,
-        units,
-        original_len,
-        start,
-        len,
-    })
 }

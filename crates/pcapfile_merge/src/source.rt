@@ -21,7 +21,6 @@ pub struct Source<R> {
 }
 
 impl<R: Read + Drop> Source<R> {
-    ghost use Rattle.pcapfile_merge.specs.Holding.{before_of};
     ghost use Rattle.pcapfile_merge.specs.Sources.{Advances, Gave};
 
     /// Makes a source of a reader that has refused nothing, and takes its first packet. What refuses that packet ends the
@@ -29,7 +28,7 @@ impl<R: Read + Drop> Source<R> {
     pub fn new(alloc: Global, reader: Reader<R>, base: u32) -> Source<R>
         requires { IsReady reader }
         ensures base { result.base ≡ base }
-        ensures gave { Gave R.remaining (before_of R.remaining reader) result [] }
+        ensures gave { Gave R.remaining reader result [] }
     {
         let mut reader = reader;
         let taken = reader.take_next(alloc, base, Interfaces::Open);

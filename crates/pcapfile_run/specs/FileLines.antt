@@ -1,5 +1,5 @@
 -- What the word list writes of captures in files.
-use Rattle.std.specs.Prelude.{◌≡◌, ◌≢◌, ◌<◌, ◌^◌, ◌⊎◌, ◌==◌, if◌then◌else◌, ⊤, ℕ, pos, List, [], ◌∷◌, ◌++◌, length, take, Bool, true, false, Option, None, Some, codes}
+use Rattle.std.specs.Prelude.{◌≡◌, ◌≢◌, ◌<◌, ◌^◌, ◌⊎◌, ◌==◌, if◌then◌else◌, ⊤, ℕ, pos, List, [], ◌∷◌, ◌++◌, length, Bool, true, false, Option, None, Some, codes}
 use Rattle.std.specs.List.{slice_get}
 use Rattle.std.specs.Fmt.{decimal}
 use Rattle.pcap_core.specs.Answer.{whole, faulty}
@@ -8,8 +8,7 @@ use Rattle.pcap_core.specs.Format.{Format}
 use Rattle.pcap_times.specs.declared.clock.Timestamp.{Timestamp}
 use Rattle.pcap_blocks.specs.InterfaceDescription.{Interface}
 use Rattle.pcap_blocks.specs.InterfaceTimes.{IsTimeAt}
-use Rattle.pcap_blocks.specs.StoredBytes.{stored_len}
-use Rattle.pcap_blocks.specs.ParsedBlock.{Body, EnhancedBody, OldPacketBody, SimpleBody}
+use Rattle.pcap_blocks.specs.ParsedBlock.{Body}
 use Rattle.pcap_file.specs.Blocks.{Item, block_format}
 use Rattle.pcap_file.specs.Bodies.{SaysOfBody}
 use Rattle.pcap_file.specs.Frames.{Framed}
@@ -21,6 +20,7 @@ use Rattle.capcopy_run.specs.Listing.{Kind, ListsUntil}
 use Rattle.capcopy_run.specs.PacketLines.{nine_digits, packet_lines}
 use Rattle.pcapfile_run.specs.declared.checked.Format.{Format as CaptureFormat}
 use Rattle.pcapfile_run.specs.declared.checked.Format.TheVariants.{Pcap, PcapNg}
+use Rattle.pcapfile_run.specs.BlockPackets.{InBlock, packet_in}
 use Rattle.pcapfile_run.specs.Numbered.{Numbered, numbered}
 
 -- the block holds a packet
@@ -50,23 +50,21 @@ lengths_text stored original interface = codes " " ++ (decimal stored ++ (codes 
 abbrev pub stored_line : ℕ → List ℕ → ℕ → ℕ → ℕ → List ℕ
 stored_line number time stored original interface = decimal number ++ (codes " " ++ (time ++ lengths_text stored original interface))
 
--- the snaplen of an interface, which is no limit where there is none
-abbrev pub snaplen_of : Option Interface → ℕ
-snaplen_of (Some interface) = interface.snaplen
-snaplen_of None = 0
+-- the time of a packet that came by the interface of this number; a hyphen where it has none
+abbrev pub IsUnitsText : List Interface → ℕ → Option ℕ → List ℕ → Type 0
+IsUnitsText interfaces number (Some units) text = IsTimeText (slice_get interfaces number) units text
+IsUnitsText interfaces number None text = text ≡ codes "-"
 
--- the line of the packet of a body, where these interfaces are described; a simple packet has no time, and came by the first
+-- the line of a packet in a block, where these interfaces are described; none where there is no packet
+abbrev pub IsPacketLine : List Interface → ℕ → Option InBlock → List ℕ → Type 0
+IsPacketLine interfaces number (Some packet) line =
+    (time : List ℕ) × IsUnitsText interfaces packet.interface packet.units time
+    × (line ≡ stored_line number time (length packet.bytes) packet.original_len packet.interface)
+IsPacketLine interfaces number None line = line ≡ []
+
+-- the line of the packet that a body is
 abbrev pub IsBodyLine : List Interface → ℕ → Body → List ℕ → Type 0
-IsBodyLine interfaces number (EnhancedBody b) line =
-    (time : List ℕ) × IsTimeText (slice_get interfaces b.interface_id) b.packet.timestamp time
-    × (line ≡ stored_line number time (length b.packet.bytes) b.packet.original_len b.interface_id)
-IsBodyLine interfaces number (OldPacketBody b) line =
-    (time : List ℕ) × IsTimeText (slice_get interfaces b.interface_id) b.packet.timestamp time
-    × (line ≡ stored_line number time (length b.packet.bytes) b.packet.original_len b.interface_id)
-IsBodyLine interfaces number (SimpleBody b) line =
-    let stored = take (stored_len b.original_len (snaplen_of (slice_get interfaces 0))) b.bytes in
-    line ≡ stored_line number (codes "-") (length stored) b.original_len 0
-IsBodyLine interfaces number _ line = line ≡ []
+IsBodyLine interfaces number body line = IsPacketLine interfaces number (packet_in interfaces body) line
 
 -- the line of the packet that a block holds, or that its body is refused
 abbrev pub IsStoredLine : List Interface → ℕ → Framed → List ℕ → Type 0

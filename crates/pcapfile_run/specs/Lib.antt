@@ -1,3 +1,4 @@
+pub mod BlockPackets
 pub mod Checks
 pub mod FileLines
 pub mod Lines

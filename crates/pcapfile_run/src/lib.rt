@@ -1,6 +1,7 @@
 //! What the program `pcapfile` does, over any input.
 #![tactic(auto)]
 
+mod block_packet;
 mod captures;
 mod checked;
 mod lines;
@@ -8,6 +9,7 @@ mod listing;
 mod packets;
 mod pass;
 
+pub use block_packet::{BlockPacket, holds_packet, interface_at, packet_in_body};
 pub use captures::{check_blocks, check_packets};
 pub use checked::{Checked, End, Format, end_of};
 pub use listing::{format_of, list};

@@ -1,11 +1,12 @@
 //! Lines of packets that blocks hold, made from their end to their beginning.
 
-ghost use Rattle.std.specs.Prelude.{◌≡◌, ◌≢◌, ◌≤◌, ◌+◌, ◌<◌, ◌^◌, ◌++◌, ℕ, List, pos, length, drop, map, codes, option_map, slice_get, MatchOption};
+ghost use Rattle.std.specs.Prelude.{◌≡◌, ◌≢◌, ◌≤◌, ◌+◌, ◌<◌, ◌^◌, ◌++◌, ℕ, List, pos, length, drop, map, codes, option_map, MatchOption};
 ghost use Rattle.std.specs.Fmt.{decimal};
 ghost use Rattle.pcap_blocks.specs.InterfaceDescription.{interface_of};
 ghost use Rattle.pcap_blocks.specs.ParsedBlock.{body_of};
-ghost use Rattle.pcapfile_run.specs.FileLines.{IsBodyLine, IsTimeText, ShowsTime, lengths_text, snaplen_of};
+ghost use Rattle.pcapfile_run.specs.FileLines.{IsBodyLine, IsTimeText, IsUnitsText, ShowsTime, lengths_text};
 
+use crate::block_packet::{BlockPacket, interface_at, packet_in_body};
 use capcopy_run::{ROOM, put_byte, put_nine_digits, put_number, put_word};
 use pcap_file::pcapng::{InterfaceDescriptionBlock, ParsedBlock, Timestamp};
 
@@ -71,22 +72,23 @@ fn put_packet_number(room: &mut [u8; ROOM], end: usize, number: u64) -> usize
     put_number(room, start, number)
 }
 
-fn interface_at<'a>(
-    interfaces: &'a [InterfaceDescriptionBlock<'static>],
-    number: u32,
-) -> Option<&'a InterfaceDescriptionBlock<'static>>
-    ensures { option_map (λ interface. interface_of interface.now) result ≡ slice_get (map interface_of interfaces.now) number }
+// Puts the time of a packet before the text that begins at `end`.
+fn put_packet_time(
+    room: &mut [u8; ROOM],
+    end: usize,
+    interfaces: &[InterfaceDescriptionBlock<'static>],
+    packet: BlockPacket,
+) -> usize
+    requires { (41 ≤ end) × (end ≤ 126) }
+    ensures start { (result ≤ end) × (end ≤ result + 41) }
+    ensures text { (text : List ℕ) × IsUnitsText (map interface_of interfaces.now) packet.entry.interface packet.entry.units text × (drop result room.new ≡ text ++ drop end room.old) }
 {
-    interfaces.get(number as usize)
-}
-
-// The snaplen of an interface, in bytes, or 0 where it isn't described.
-fn snaplen_at(interfaces: &[InterfaceDescriptionBlock<'static>], number: u32) -> u32
-    ensures { result ≡ snaplen_of (slice_get (map interface_of interfaces.now) number) }
-{
-    match interface_at(interfaces, number) {
-        None => 0,
-        Some(interface) => interface.snaplen,
+    match packet.units {
+        None => put_byte(room, end, b'-'),
+        Some(units) => {
+            let interface = interface_at(interfaces, packet.interface);
+            put_time_at(room, end, interface, units)
+        }
     }
 }
 
@@ -101,30 +103,13 @@ pub(crate) fn make_body_line(
     ensures within { result ≤ 126 }
     ensures line { IsBodyLine (map interface_of interfaces.now) number (body_of parsed.now) (drop result room.new) }
 {
-    match parsed {
-        ParsedBlock::EnhancedPacket(block) => {
-            let stored = block.data_.as_slice().len();
-            let start = put_lengths(room, stored, block.original_len, block.interface_id);
-            let interface = interface_at(interfaces, block.interface_id);
-            let start = put_time_at(room, start, interface, block.timestamp);
-            put_packet_number(room, start, number)
-        }
-        ParsedBlock::Packet(block) => {
-            let id = u32::from(block.interface_id);
-            let stored = block.data_.as_slice().len();
-            let start = put_lengths(room, stored, block.original_len, id);
-            let interface = interface_at(interfaces, id);
-            let start = put_time_at(room, start, interface, block.timestamp);
-            put_packet_number(room, start, number)
-        }
-        ParsedBlock::SimplePacket(block) => {
-            let stored = block.stored(snaplen_at(interfaces, 0)).len();
-            let start = put_lengths(room, stored, block.original_len, 0);
-            let start = put_byte(room, start, b'-');
-            put_packet_number(room, start, number)
-        }
-        _ => ROOM,
-    }
+    let Some(packet) = packet_in_body(interfaces, parsed) else {
+        return ROOM;
+    };
+    let stored = packet.bytes.len();
+    let start = put_lengths(room, stored, packet.original_len, packet.interface);
+    let start = put_packet_time(room, start, interfaces, packet);
+    put_packet_number(room, start, number)
 }
 
 /// Makes the line of the packet of this number whose body is refused, at the end of the room, and returns where it begins.

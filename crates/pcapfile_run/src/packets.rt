@@ -15,22 +15,13 @@ ghost use Rattle.capcopy_run.specs.Listing.{ListsUntil};
 ghost use Rattle.pcapfile_run.specs.FileLines.{IsLineIf, IsNumberedLine, IsStoredLine, numbered_blocks, stored_lines};
 ghost use Rattle.pcapfile_run.specs.Numbered.{Numbered, number_behind};
 
+use crate::block_packet::holds_packet;
 use crate::lines::{make_body_line, make_refused_line};
 use capcopy_run::{Exit, Lister, ROOM, list_items, put_line};
 use pcap_file::PcapError;
-use pcap_file::pcapng::{Block, BlockType, InterfaceDescriptionBlock, PcapNgParser};
+use pcap_file::pcapng::{Block, InterfaceDescriptionBlock, PcapNgParser};
 use std::alloc::Global;
 use std::io::{BufRead, Write};
-
-// Whether blocks of this type hold a packet.
-fn holds_packet(type_: BlockType) -> bool
-    ensures { result ≡ is_packet type_ }
-{
-    matches!(
-        type_,
-        BlockType::EnhancedPacket | BlockType::Packet | BlockType::SimplePacket
-    )
-}
 
 // Makes the line of the packet of this number that a block holds, and returns where it begins.
 fn make_line(

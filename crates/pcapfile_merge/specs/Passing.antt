@@ -1,0 +1,57 @@
+-- What the steps tell by which the next packet of blocks is taken.
+use Rattle.std.specs.Prelude.{◌≡◌, ◌⊎◌, ◌≤◌, ℕ, List, length, take, drop, true, Option, None, Some, Result, Ok, Err, codes}
+use Rattle.pcap_core.specs.declared.errors.PcapError.{PcapError}
+use Rattle.pcap_blocks.specs.declared.block_type.BlockType.{BlockType}
+use Rattle.pcap_blocks.specs.InterfaceDescription.{Interface}
+use Rattle.pcap_file.specs.declared.pcapng.block_header.BlockHeader.{BlockHeader}
+use Rattle.pcap_file.specs.declared.pcapng.reader.PcapNgReader.{PcapNgReader}
+use Rattle.pcap_file.specs.Blocks.{Item}
+use Rattle.pcap_file.specs.Frames.{Framed}
+use Rattle.pcap_file.specs.Placed.{is_packet}
+use Rattle.pcap_file.specs.Placing.{HasMessage, RefusesNext, Source, TakesNext, source_of}
+use Rattle.pcap_file.specs.Reader.{body_of}
+use Rattle.pcap_file.specs.State.{is_kept}
+use Rattle.pcapfile_run.specs.BlockPackets.{InBlock}
+use Rattle.pcapfile_merge.specs.declared.packet.Pending.{Pending}
+use Rattle.pcapfile_merge.specs.declared.reader.Interfaces.{Interfaces}
+use Rattle.pcapfile_merge.specs.declared.reader.Interfaces.TheVariants.{Closed}
+use Rattle.pcapfile_merge.specs.Taking.{packet_in}
+use Rattle.pcapfile_merge.specs.TakingBlocks.{EndsBlock, EndsWell, GivesOf, IsMerged, IsUnfit, Passes, TakesStored}
+
+-- a block of this type isn't passed behind packets
+abbrev pub BarsType : Interfaces → BlockType → PcapError → Type 0
+BarsType choice type e = (choice ≡ Closed) × (is_kept type ≡ true) × HasMessage (codes "Block: an interface or a section behind packets") e
+
+-- blocks were passed up to one of this header that holds a packet, or to none, or this refuses the next one
+abbrev pub PassesTo : Interfaces → Source → Source → (BlockHeader → Item) → Result (Option BlockHeader) PcapError → Type 0
+PassesTo choice a b lent (Ok (Some header)) = (mid : Source) × Passes choice a mid × TakesNext mid b (lent header) × (is_packet (lent header).block.type_ ≡ true)
+PassesTo choice a b lent (Ok None) = (mid : Source) × (passed : Passes choice a mid) × EndsWell mid b (length passed.items)
+PassesTo choice a b lent (Err e) = (mid : Source) × Passes choice a mid × (RefusesNext mid b e ⊎ ((item : Item) × TakesNext mid b item × BarsType choice item.block.type_ e))
+
+-- the bytes of the packet of which this is said, in the body of its block
+abbrev pub bytes_within : List ℕ → Pending → List ℕ
+bytes_within body pending = take pending.len (drop pending.start body)
+
+-- what is said of the packet that a block holds, or why it can't be merged
+abbrev pub TellsPending : ℕ → List Interface → Framed → Result Pending PcapError → Type 0
+TellsPending base interfaces block (Ok pending) = GivesOf base interfaces block (Some (packet_in (bytes_within block.body pending) pending))
+TellsPending base interfaces block (Err e) = EndsBlock ⊥ base interfaces block e
+
+-- how many bytes stand before those of a packet in the body of its block, which tells its time or doesn't
+abbrev pub bytes_before : Option ℕ → ℕ
+bytes_before (Some units) = 20
+bytes_before None = 4
+
+abbrev pub start_of : InBlock → ℕ
+start_of packet = bytes_before packet.units
+
+-- what is said of a packet in a block, or why it can't be merged
+abbrev pub TellsStored : ℕ → List Interface → InBlock → Result Pending PcapError → Type 0
+TellsStored base interfaces packet (Ok pending) =
+    IsMerged base interfaces packet (packet_in packet.bytes pending) × (pending.len ≡ length packet.bytes) × (pending.start ≡ start_of packet) × (pending.len ≤ 4294967260)
+TellsStored base interfaces packet (Err e) = IsUnfit base interfaces packet e
+
+-- what was taken of a reader, as the call answers
+abbrev pub TellsTaken : {R : Type 0} → (R → Option (List ℕ)) → Interfaces → ℕ → PcapNgReader R → PcapNgReader R → Result (Option Pending) PcapError → Type 0
+TellsTaken remaining choice base old new (Ok next) = TakesStored choice base (source_of remaining old) (source_of remaining new) (bytes_within (body_of new)) next None
+TellsTaken remaining choice base old new (Err e) = TakesStored choice base (source_of remaining old) (source_of remaining new) (bytes_within (body_of new)) None (Some e)

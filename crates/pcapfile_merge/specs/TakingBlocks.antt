@@ -1,0 +1,103 @@
+-- What is taken of a reader of blocks.
+use Rattle.std.specs.Prelude.{◌≡◌, ◌⊎◌, ◌<◌, ◌≤◌, ◌+◌, ◌-◌, ◌^◌, ℕ, List, length, true, false, Option, None, Some, codes}
+use Rattle.std.specs.List.{AllByRecursion, slice_get}
+use Rattle.pcap_core.specs.declared.errors.PcapError.{PcapError}
+use Rattle.pcap_core.specs.Answer.{lacks, faulty, Refuses}
+use Rattle.pcap_core.specs.Format.{state_after}
+use Rattle.pcap_core.specs.Takes.{TakesTexts}
+use Rattle.pcap_times.specs.declared.clock.Timestamp.{Timestamp}
+use Rattle.pcap_blocks.specs.declared.block_type.BlockType.{BlockType}
+use Rattle.pcap_blocks.specs.InterfaceDescription.{Interface}
+use Rattle.pcap_blocks.specs.InterfaceTimes.{IsTimeAt}
+use Rattle.pcap_file.specs.declared.run.unplaced.Unplaced.TheVariants.{InterfaceMissing}
+use Rattle.pcap_file.specs.Blocks.{Item, block_format}
+use Rattle.pcap_file.specs.Bodies.{GrowsInBody, SaysOfBody}
+use Rattle.pcap_file.specs.Frames.{Framed}
+use Rattle.pcap_file.specs.Placed.{interfaces_at, is_packet, unplaced_message}
+use Rattle.pcap_file.specs.Placing.{HasMessage, RefusesNext, Source, TakesNext, TakesNone}
+use Rattle.pcap_file.specs.State.{is_kept}
+use Rattle.pcapfile_run.specs.BlockPackets.{HoldsPacket, InBlock}
+use Rattle.pcapfile_merge.specs.declared.packet.Pending.{Pending}
+use Rattle.pcapfile_merge.specs.declared.reader.Interfaces.{Interfaces}
+use Rattle.pcapfile_merge.specs.declared.reader.Interfaces.TheVariants.{Closed, Open}
+use Rattle.pcapfile_merge.specs.Packets.{Packet}
+use Rattle.pcapfile_merge.specs.Taking.{packet_in}
+
+-- a packet that came by an interface has this time, and so many units of its clock; one without a time has none
+abbrev pub IsTimeBy : Interface → Option ℕ → Option Timestamp → ℕ → Type 0
+IsTimeBy by (Some counted) (Some time) units = IsTimeAt by counted time × (units ≡ counted)
+IsTimeBy by (Some counted) None units = ⊥
+IsTimeBy by None time units = (time ≡ None) × (units ≡ 0)
+
+-- What a merge makes of a packet in a block, where these are the interfaces of its section, and its capture's have numbers from
+-- this one on: its interface is kept apart, and its time, its length on the wire and its bytes stay.
+pub record IsMerged (base : ℕ) (interfaces : List Interface) (packet : InBlock) (p : Packet) : Type 0 where
+  pub by : Interface
+  pub described : slice_get interfaces packet.interface ≡ Some by
+  pub number : p.number ≡ base + packet.interface
+  pub time : IsTimeBy by packet.units p.time p.units
+  pub original_len : p.original_len ≡ packet.original_len
+  pub bytes : p.bytes ≡ packet.bytes
+
+-- a block gives this packet, or none where it holds none
+abbrev pub GivesOf : ℕ → List Interface → Framed → Option Packet → Type 0
+GivesOf base interfaces block (Some p) = (is_packet block.type_ ≡ true) × (packet : InBlock) × HoldsPacket interfaces block packet × IsMerged base interfaces packet p
+GivesOf base interfaces block None = is_packet block.type_ ≡ false
+
+-- the same of a block of a capture
+abbrev pub GivesIn : ℕ → Item → Option Packet → Type 0
+GivesIn base item = GivesOf base (interfaces_at item.after) item.block
+
+-- why a packet in a block can't be merged
+pub data IsUnfit (base : ℕ) (interfaces : List Interface) (packet : InBlock) (e : PcapError) : Type 0 where
+  -- its interface isn't described before it
+  not_described : slice_get interfaces packet.interface ≡ None → HasMessage (unplaced_message InterfaceMissing) e → IsUnfit base interfaces packet e
+  -- there are too many interfaces for a number of 32 bits
+  too_many : 2 ^ 32 ≤ base + packet.interface → HasMessage (codes "Block: too many interfaces") e → IsUnfit base interfaces packet e
+  -- it has no room in a block
+  too_long : 4294967260 < length packet.bytes → HasMessage (codes "Block: a packet that is too long") e → IsUnfit base interfaces packet e
+
+-- why a block that was taken ends a capture that is merged, where packets were given before it only if so
+pub data EndsBlock (Behind : Type 0) (base : ℕ) (interfaces : List Interface) (block : Framed) (e : PcapError) : Type 0 where
+  -- it describes an interface or begins a section behind packets
+  interface_behind : Behind → is_kept block.type_ ≡ true → HasMessage (codes "Block: an interface or a section behind packets") e → EndsBlock Behind base interfaces block e
+  -- it holds a packet, and its body is refused, or its options can't be kept
+  body_refused : is_packet block.type_ ≡ true → Refuses (GrowsInBody block) (λ n. SaysOfBody block (lacks n)) (λ fault. SaysOfBody block (faulty fault)) e → EndsBlock Behind base interfaces block e
+  -- it holds a packet that can't be merged
+  packet_unfit : (packet : InBlock) → HoldsPacket interfaces block packet → IsUnfit base interfaces packet e → EndsBlock Behind base interfaces block e
+
+-- the next block ends a capture that is merged: it is refused, or it was taken
+abbrev pub EndsAt : Type 0 → ℕ → Source → Source → PcapError → Type 0
+EndsAt Behind base a b e = RefusesNext a b e ⊎ ((item : Item) × TakesNext a b item × EndsBlock Behind base (interfaces_at item.after) item.block e)
+
+-- a block of this type is passed: it holds no packet, and behind packets it describes no interface and begins no section
+abbrev pub MayPass : Interfaces → BlockType → Type 0
+MayPass Open type = is_packet type ≡ false
+MayPass Closed type = (is_packet type ≡ false) × (is_kept type ≡ false)
+
+-- a reader has refused nothing, and no read of its stream failed
+abbrev pub IsGoing : Source → Type 0
+IsGoing a = (a.done ≡ false) × (a.failed ≡ false)
+
+-- blocks were passed
+pub record Passes (choice : Interfaces) (a b : Source) : Type 0 where
+  pub items : List Item
+  pub may_pass : AllByRecursion (λ (item : Item). MayPass choice item.block.type_) items
+  pub took : TakesTexts block_format a.state items a.left b.left
+  pub in_force : state_after block_format a.state items ≡ b.state
+  pub goes_on : IsGoing b
+
+-- the most blocks that are passed without a packet
+abbrev pub most_passed : ℕ
+most_passed = 2 ^ 64 - 1
+
+-- behind so many blocks the stream is at its end, or the most were passed
+abbrev pub EndsWell : Source → Source → ℕ → Type 0
+EndsWell a b n = TakesNone a b ⊎ ((b ≡ a) × (most_passed ≤ n))
+
+-- blocks were passed up to one that gives the packet of which this is said; or to none; or this ends the capture
+abbrev pub TakesStored : Interfaces → ℕ → Source → Source → (Pending → List ℕ) → Option Pending → Option PcapError → Type 0
+TakesStored choice base a b bytes (Some pending) None = (mid : Source) × Passes choice a mid × (item : Item) × TakesNext mid b item × GivesIn base item (Some (packet_in (bytes pending) pending))
+TakesStored choice base a b bytes None None = (mid : Source) × (passed : Passes choice a mid) × EndsWell mid b (length passed.items)
+TakesStored choice base a b bytes None (Some e) = (mid : Source) × Passes choice a mid × EndsAt (choice ≡ Closed) base mid b e
+TakesStored choice base a b bytes (Some pending) (Some e) = ⊥
