@@ -14,3 +14,5 @@ mod packets;
 mod runs;
 #[cfg(test)]
 mod streams;
+#[cfg(test)]
+mod told;

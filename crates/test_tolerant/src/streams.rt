@@ -33,7 +33,7 @@ const ROWS: [([u32; 4], Flaws, [u8; 3], usize); 3] = [
     ([9, 0, 3, 0], PAST, [7, 8, 9], 81),
 ];
 
-fn capture(alloc: Global) -> Result<Vec<u8>, AllocError> {
+pub fn capture(alloc: Global) -> Result<Vec<u8>, AllocError> {
     let mut bytes = Vec::from_slice(alloc, &HEADER)?;
     for (numbers, _flaws, data, _taken) in ROWS {
         bytes.extend_from_slice(&packet::<LittleEndian>(numbers, data))?;
