@@ -244,6 +244,13 @@ typedef struct pcapfile_cut {
 int32_t pcapfile_cut_packets(const pcapfile_bytes *capture, pcapfile_cut *cuts, size_t parts, size_t *count,
                              pcapfile_error *error);
 
+/* The same for parts of at least so many bytes, or one: a part begins at the first bound of packets at least so many bytes behind
+ * the beginning of the part before it, where bytes follow. So each part but the last would be shorter than asked for without its
+ * last packet; the last one is what is left. PCAPFILE_NO_PLACE where `places` times so many bytes are not more than the capture
+ * has: capture->len / at_least + 1 places are enough. */
+int32_t pcapfile_cut_packets_at_least(const pcapfile_bytes *capture, size_t at_least, pcapfile_cut *cuts, size_t places,
+                                      size_t *count, pcapfile_error *error);
+
 /* Writes the 24 bytes of a capture's header into the front of `room`: the magic number high byte first, and all else in the
  * order that it tells. `*written` is 24 then.
  * PCAPFILE_INCOMPLETE where error.missing bytes of room are missing: with `room_len` 0 it says how many are needed.
@@ -524,6 +531,12 @@ typedef struct pcapfile_ng_cut {
  * and the refusals of pcapfile_take_block for the first block. Then `cuts` and `interfaces` are unchanged, and `*count` is 0. */
 int32_t pcapfile_cut_blocks(const pcapfile_bytes *capture, pcapfile_ng_cut *cuts, size_t parts, size_t *count,
                             size_t *interfaces, size_t interfaces_len, size_t *known, pcapfile_error *error);
+
+/* The same for parts of at least so many bytes, as pcapfile_cut_packets_at_least has them. Under PCAPFILE_NO_PLACE `*known` is 0
+ * where `places` may be too few for the cuts. */
+int32_t pcapfile_cut_blocks_at_least(const pcapfile_bytes *capture, size_t at_least, pcapfile_ng_cut *cuts, size_t places,
+                                     size_t *count, size_t *interfaces, size_t interfaces_len, size_t *known,
+                                     pcapfile_error *error);
 
 /* Fills `time` with the time of so many units of an interface. Of `interface` only what begins with ts_ matters; any
  * ts_base but 2 is 10. PCAPFILE_NOTHING where the seconds pass 64 bits; then `time` is unchanged. */

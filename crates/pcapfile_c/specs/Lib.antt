@@ -26,3 +26,4 @@ pub mod Options
 pub mod Records
 pub mod AnyCaptures
 pub mod AnyCalls
+pub mod AtLeast

@@ -43,7 +43,7 @@ pub extern "C" fn pcapfile_cut_blocks(
 }
 
 // Puts these values into the first places, and tells how many they are.
-fn fill<T: Copy>(values: &[T], places: &mut [T]) -> usize
+pub(crate) fn fill<T: Copy>(values: &[T], places: &mut [T]) -> usize
     requires { length values.now ≤ length places.old }
     ensures { Fills values.now places.old places.new result }
 {

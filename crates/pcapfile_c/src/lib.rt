@@ -8,6 +8,7 @@
 mod any;
 mod any_packets;
 mod as_is;
+mod at_least;
 mod batches;
 mod block_cuts;
 mod blocks;
