@@ -35,6 +35,7 @@ fn whole(len: usize) -> (usize, usize) {
     found
 }
 
+// A copy through a buffer of so many bytes.
 fn copied<W: Write>(
     alloc: Global,
     stream: Halting,
@@ -56,29 +57,44 @@ fn is_io(copied: &NgCopied) -> bool {
     matches!(&copied.fault, Some(PcapError::IoError(_)))
 }
 
+// Whether the blocks that end within so many bytes of a capture go out.
+fn copies_to(alloc: Global, bytes: &[u8], room: usize, end: usize) -> Result<bool, Fail> {
+    let stream = Halting::new(alloc, front(bytes, end), 100)?;
+    let mut out = Vec::new(alloc);
+    let copied = copied(alloc, stream, room, &mut out, 9)?;
+    let (blocks, used) = whole(end);
+    let is_whole = used > 0 && used == end;
+    let is_told = tells(&copied, blocks, false, false) && copied.fault.is_none() == is_whole;
+    Ok(is_told && out.as_slice() == front(bytes, used))
+}
+
 #[test]
 fn every_beginning_of_a_buffered_copy(rt: HostRuntime) -> Result<(), Fail> {
     let bytes = capture(rt.alloc())?;
     for room in [1, 13, 40, 200] {
         for end in 0..173 {
-            let stream = Halting::new(rt.alloc(), front(bytes.as_slice(), end), 100)?;
-            let mut out = Vec::new(rt.alloc());
-            let copied = copied(rt.alloc(), stream, room, &mut out, 9)?;
-            let (blocks, used) = whole(end);
-            assert!(rt; tells(&copied, blocks, false, false), "{room} at {end}");
-            assert_eq!(rt;
-                out.as_slice(),
-                front(bytes.as_slice(), used),
-                "{room} at {end}"
-            );
-            assert_eq!(rt;
-                copied.fault.is_none(),
-                used > 0 && used == end,
+            assert!(rt;
+                copies_to(rt.alloc(), bytes.as_slice(), room, end)?,
                 "{room} at {end}"
             );
         }
     }
     Ok(())
+}
+
+// Whether so many blocks go out, which end here.
+fn copies_most(
+    alloc: Global,
+    bytes: &[u8],
+    room: usize,
+    most: usize,
+    end: usize,
+) -> Result<bool, Fail> {
+    let stream = Halting::new(alloc, bytes, 100)?;
+    let mut out = Vec::new(alloc);
+    let copied = copied(alloc, stream, room, &mut out, most as u64)?;
+    let is_told = tells(&copied, most.saturating_add(1), false, false) && copied.fault.is_none();
+    Ok(is_told && out.as_slice() == front(bytes, end))
 }
 
 #[test]
@@ -86,42 +102,33 @@ fn most_blocks_of_a_buffered_copy(rt: HostRuntime) -> Result<(), Fail> {
     let bytes = capture(rt.alloc())?;
     for room in [13, 40, 200] {
         for (most, end) in ENDS.iter().enumerate() {
-            let stream = Halting::new(rt.alloc(), bytes.as_slice(), 100)?;
-            let mut out = Vec::new(rt.alloc());
-            let copied = copied(rt.alloc(), stream, room, &mut out, most as u64)?;
             assert!(rt;
-                tells(&copied, most.saturating_add(1), false, false),
-                "{room} at {most}"
-            );
-            assert!(rt; copied.fault.is_none(), "{room} at {most}");
-            assert_eq!(rt;
-                out.as_slice(),
-                front(bytes.as_slice(), *end),
+                copies_most(rt.alloc(), bytes.as_slice(), room, most, *end)?,
                 "{room} at {most}"
             );
         }
     }
     Ok(())
+}
+
+// Whether a beginning goes out where so many bytes have room, at most so many a call.
+fn fills(alloc: Global, bytes: &[u8], room: usize, step: usize) -> Result<bool, Fail> {
+    let mut output = Narrow::new(alloc, room, true);
+    output.step = step;
+    let stream = Halting::new(alloc, bytes, 200)?;
+    let copied = copied(alloc, stream, 200, &mut output, 9)?;
+    let (blocks, _used) = whole(room);
+    let is_told = tells(&copied, blocks, false, true) && is_io(&copied);
+    Ok(is_told && output.out.as_slice() == front(bytes, room))
 }
 
 #[test]
 fn every_failed_write_of_a_buffered_copy(rt: HostRuntime) -> Result<(), Fail> {
     let bytes = capture(rt.alloc())?;
-    // so many bytes have room, at most so many a call
     for room in 0..172 {
         for step in [7, 100] {
-            let mut output = Narrow::new(rt.alloc(), room, true);
-            output.step = step;
-            let stream = Halting::new(rt.alloc(), bytes.as_slice(), 200)?;
-            let copied = copied(rt.alloc(), stream, 200, &mut output, 9)?;
-            let (blocks, _used) = whole(room);
             assert!(rt;
-                tells(&copied, blocks, false, true) && is_io(&copied),
-                "at {room}"
-            );
-            assert_eq!(rt;
-                output.out.as_slice(),
-                front(bytes.as_slice(), room),
+                fills(rt.alloc(), bytes.as_slice(), room, step)?,
                 "at {room}"
             );
         }
@@ -129,21 +136,22 @@ fn every_failed_write_of_a_buffered_copy(rt: HostRuntime) -> Result<(), Fail> {
     Ok(())
 }
 
+// Whether the blocks before the call that fails go out, after so many bytes, one a call.
+fn stops(alloc: Global, bytes: &[u8], end: usize) -> Result<bool, Fail> {
+    let mut stream = Halting::new(alloc, bytes, 1)?;
+    stream.fails_at = end.saturating_add(1);
+    let mut out = Vec::new(alloc);
+    let copied = copied(alloc, stream, 200, &mut out, 9)?;
+    let (blocks, used) = whole(end);
+    let is_told = tells(&copied, blocks, true, false) && is_io(&copied);
+    Ok(is_told && out.as_slice() == front(bytes, used))
+}
+
 #[test]
 fn every_failed_read_of_a_buffered_copy(rt: HostRuntime) -> Result<(), Fail> {
     let bytes = capture(rt.alloc())?;
-    // the call that fails comes after so many bytes, one a call
-    for end in 0..172usize {
-        let mut stream = Halting::new(rt.alloc(), bytes.as_slice(), 1)?;
-        stream.fails_at = end.saturating_add(1);
-        let mut out = Vec::new(rt.alloc());
-        let copied = copied(rt.alloc(), stream, 200, &mut out, 9)?;
-        let (blocks, used) = whole(end);
-        assert!(rt;
-            tells(&copied, blocks, true, false) && is_io(&copied),
-            "at {end}"
-        );
-        assert_eq!(rt; out.as_slice(), front(bytes.as_slice(), used), "at {end}");
+    for end in 0..172 {
+        assert!(rt; stops(rt.alloc(), bytes.as_slice(), end)?, "at {end}");
     }
     Ok(())
 }

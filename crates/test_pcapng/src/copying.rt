@@ -1,13 +1,15 @@
 //! Copies from streams to writers: what goes out is a beginning of the input.
 
 use crate::runs::{REFUSED, beginning, count};
+use crate::told::{joined, refusal};
 use pcap_file::PcapError;
 use pcap_file::run::{NgCopied, copy_pcapng};
+use std::alloc::{AllocError, Global};
 use std::io::ErrorKind;
 use std::test::Fail;
 use test_support::captures::{SECTION, SECTIONS, front};
 use test_support::readers::Halting;
-use test_support::rows::{bytes as hex, rows};
+use test_support::rows::every_row;
 use test_support::writers::Narrow;
 
 // The kind of the error inside an `IoError`.
@@ -25,98 +27,128 @@ fn tells(copied: &NgCopied, blocks: usize, read_failed: bool, write_failed: bool
         && copied.write_failed == write_failed
 }
 
+// Whether the blocks of so many bytes go out, by so many a read.
+fn copies_to(alloc: Global, end: usize, step: usize) -> Result<bool, AllocError> {
+    let mut stream = Halting::new(alloc, front(&SECTIONS, end), step)?;
+    let mut out = Vec::new(alloc);
+    let copied = copy_pcapng(alloc, &mut stream, &mut out, 9);
+    let (used, wanted) = beginning(end);
+    let kind = if used > 0 && wanted == end {
+        None
+    } else {
+        Some(ErrorKind::UnexpectedEof)
+    };
+    let is_told = kind_of(&copied) == kind && copied.fault.is_some() == kind.is_some();
+    let is_out = out.as_slice() == front(&SECTIONS, used);
+    Ok(is_told && is_out && tells(&copied, count(used), false, false))
+}
+
 #[test]
 fn every_beginning(rt: HostRuntime) -> Result<(), Fail> {
     for step in [1, 5, 100] {
         for end in 0..97 {
-            let mut stream = Halting::new(rt.alloc(), front(&SECTIONS, end), step)?;
-            let mut out = Vec::new(rt.alloc());
-            let copied = copy_pcapng(rt.alloc(), &mut stream, &mut out, 9);
-            let (used, wanted) = beginning(end);
-            assert!(rt; tells(&copied, count(used), false, false), "at {end}");
-            assert_eq!(rt; out.as_slice(), front(&SECTIONS, used), "at {end}");
-            let kind = if used > 0 && wanted == end {
-                None
-            } else {
-                Some(ErrorKind::UnexpectedEof)
-            };
-            assert_eq!(rt; kind_of(&copied), kind, "at {end}");
-            assert_eq!(rt; copied.fault.is_some(), kind.is_some(), "at {end}");
+            assert!(rt; copies_to(rt.alloc(), end, step)?, "at {end}");
         }
     }
     Ok(())
+}
+
+// Whether the blocks before the call that fails go out, after so many bytes, one a call.
+fn stops(alloc: Global, end: usize) -> Result<bool, AllocError> {
+    let mut stream = Halting::new(alloc, &SECTIONS, 1)?;
+    stream.fails_at = end.saturating_add(1);
+    stream.kind = ErrorKind::Interrupted;
+    let mut out = Vec::new(alloc);
+    let copied = copy_pcapng(alloc, &mut stream, &mut out, 9);
+    let (used, _wanted) = beginning(end);
+    let is_told = kind_of(&copied) == Some(ErrorKind::Interrupted);
+    let is_out = out.as_slice() == front(&SECTIONS, used);
+    Ok(is_told && is_out && tells(&copied, count(used), true, false))
 }
 
 #[test]
 fn every_failed_read(rt: HostRuntime) -> Result<(), Fail> {
-    // the call that fails comes after so many bytes, one a call
-    for end in 0..97usize {
-        let mut stream = Halting::new(rt.alloc(), &SECTIONS, 1)?;
-        stream.fails_at = end.saturating_add(1);
-        stream.kind = ErrorKind::Interrupted;
-        let mut out = Vec::new(rt.alloc());
-        let copied = copy_pcapng(rt.alloc(), &mut stream, &mut out, 9);
-        let (used, _wanted) = beginning(end);
-        assert!(rt; tells(&copied, count(used), true, false), "at {end}");
-        assert_eq!(rt; kind_of(&copied), Some(ErrorKind::Interrupted), "at {end}");
-        assert_eq!(rt; out.as_slice(), front(&SECTIONS, used), "at {end}");
+    for end in 0..97 {
+        assert!(rt; stops(rt.alloc(), end)?, "at {end}");
     }
     Ok(())
 }
 
+// Whether a beginning of the capture goes out into this writer, and the error is of this kind.
+fn fills(alloc: Global, mut output: Narrow, kind: ErrorKind) -> Result<bool, AllocError> {
+    let room = output.room;
+    let mut stream = Halting::new(alloc, &SECTIONS, 100)?;
+    let copied = copy_pcapng(alloc, &mut stream, &mut output, 9);
+    let (used, _wanted) = beginning(room);
+    let is_told = kind_of(&copied) == Some(kind);
+    let is_out = output.out.as_slice() == front(&SECTIONS, room);
+    Ok(is_told && is_out && tells(&copied, count(used), false, true))
+}
+
+// A writer of so much room that fails where there is none, or takes nothing; and one that takes 7 bytes at most a call.
+
+fn wide(alloc: Global, room: usize, fails: bool) -> Narrow {
+    Narrow::new(alloc, room, fails)
+}
+
+fn narrow(alloc: Global, room: usize) -> Narrow {
+    let mut output = Narrow::new(alloc, room, true);
+    output.step = 7;
+    output
+}
+
 #[test]
 fn every_failed_write(rt: HostRuntime) -> Result<(), Fail> {
-    // so many bytes have room, at most 7 a call where the last word is set
-    for room in 0..96usize {
-        for (fails, is_narrow) in [(true, false), (false, false), (true, true)] {
-            let mut output = Narrow::new(rt.alloc(), room, fails);
-            if is_narrow {
-                output.step = 7;
-            }
-            let mut stream = Halting::new(rt.alloc(), &SECTIONS, 100)?;
-            let copied = copy_pcapng(rt.alloc(), &mut stream, &mut output, 9);
-            let (used, _wanted) = beginning(room);
-            assert!(rt; tells(&copied, count(used), false, true), "at {room}");
-            let kind = if fails {
-                ErrorKind::Other
-            } else {
-                ErrorKind::WriteZero
-            };
-            assert_eq!(rt; kind_of(&copied), Some(kind), "at {room}");
-            assert_eq!(rt; output.out.as_slice(), front(&SECTIONS, room), "at {room}");
+    for room in 0..96 {
+        for (output, kind) in [
+            (wide(rt.alloc(), room, true), ErrorKind::Other),
+            (wide(rt.alloc(), room, false), ErrorKind::WriteZero),
+            (narrow(rt.alloc(), room), ErrorKind::Other),
+        ] {
+            assert!(rt; fills(rt.alloc(), output, kind)?, "at {room}");
         }
     }
     Ok(())
+}
+
+// Whether so many blocks at most go out, and so many bytes are taken.
+fn copies_most(alloc: Global, most: u64, used: usize) -> Result<bool, AllocError> {
+    let mut stream = Halting::new(alloc, &SECTIONS, 100)?;
+    let mut out = Vec::new(alloc);
+    let copied = copy_pcapng(alloc, &mut stream, &mut out, most);
+    let is_told = tells(&copied, count(used), false, false) && copied.fault.is_none();
+    Ok(is_told && out.as_slice() == front(&SECTIONS, used) && stream.taken == used)
 }
 
 #[test]
 fn at_most_so_many(rt: HostRuntime) -> Result<(), Fail> {
     for (most, used) in [(0, 28), (1, 48), (2, 76), (3, 96), (4, 96)] {
-        let mut stream = Halting::new(rt.alloc(), &SECTIONS, 100)?;
-        let mut out = Vec::new(rt.alloc());
-        let copied = copy_pcapng(rt.alloc(), &mut stream, &mut out, most);
-        assert!(rt; tells(&copied, count(used), false, false), "at {most}");
-        assert!(rt; copied.fault.is_none(), "at {most}");
-        assert_eq!(rt; out.as_slice(), front(&SECTIONS, used), "at {most}");
-        assert_eq!(rt; stream.taken, used, "at {most}");
+        assert!(rt; copies_most(rt.alloc(), most, used)?, "at {most}");
     }
     Ok(())
 }
 
+// Why a copy of these bytes ends, of which so many blocks and bytes go out.
+fn fault(alloc: Global, bytes: &[u8], blocks: usize, used: usize) -> Result<String, Fail> {
+    let mut stream = Halting::new(alloc, bytes, 100)?;
+    let mut out = Vec::new(alloc);
+    let copied = copy_pcapng(alloc, &mut stream, &mut out, 9);
+    if !tells(&copied, blocks, false, false) || out.as_slice() != front(bytes, used) {
+        return Err(Fail::new("other bytes went out"));
+    }
+    match &copied.fault {
+        Some(fault) => refusal(alloc, fault),
+        None => Ok(String::from_str(alloc, "None")?),
+    }
+}
+
+fn refused_first(alloc: Global, bytes: &[u8]) -> Result<String, Fail> {
+    fault(alloc, bytes, 0, 0)
+}
+
 #[test]
 fn refused_first_blocks(rt: HostRuntime) -> Result<(), Fail> {
-    for (digits, told) in rows(rt.alloc(), REFUSED)? {
-        let bytes = hex(rt.alloc(), digits)?;
-        let mut stream = Halting::new(rt.alloc(), bytes.as_slice(), 100)?;
-        let mut out = Vec::new(rt.alloc());
-        let copied = copy_pcapng(rt.alloc(), &mut stream, &mut out, 9);
-        assert!(rt; tells(&copied, 0, false, false), "at {digits}");
-        let fault = format!(in rt.alloc(); "{:?}", copied.fault)?;
-        let wanted = format!(in rt.alloc(); "Some({told})")?;
-        assert_eq!(rt; fault.as_str(), wanted.as_str(), "at {digits}");
-        assert!(rt; out.as_slice().is_empty(), "at {digits}");
-    }
-    Ok(())
+    every_row(rt.alloc(), REFUSED, refused_first)
 }
 
 // Blocks that are refused after a big-endian section header.
@@ -127,22 +159,15 @@ const REFUSED_LATER: &str = r#"
     0a0d0d0a 0000000c 00000000 => InvalidField("SectionHeaderBlock: invalid magic number")
 "#;
 
+// An unknown block whose body is no body of its type is copied, and what is refused isn't.
+fn refused_later(alloc: Global, bytes: &[u8]) -> Result<String, Fail> {
+    let odd = [0, 0, 0, 0x99, 0, 0, 0, 0x10, 1, 2, 3, 4, 0, 0, 0, 0x10];
+    let mut whole = joined(alloc, &SECTION, &odd)?;
+    whole.extend_from_slice(bytes)?;
+    fault(alloc, whole.as_slice(), 1, 44)
+}
+
 #[test]
 fn refused_later_blocks(rt: HostRuntime) -> Result<(), Fail> {
-    for (digits, told) in rows(rt.alloc(), REFUSED_LATER)? {
-        // an unknown block whose body is no body of its type is copied, and what is refused isn't
-        let mut bytes = Vec::from_slice(rt.alloc(), &SECTION)?;
-        let odd = [0, 0, 0, 0x99, 0, 0, 0, 0x10, 1, 2, 3, 4, 0, 0, 0, 0x10];
-        bytes.extend_from_slice(&odd)?;
-        bytes.extend_from_slice(hex(rt.alloc(), digits)?.as_slice())?;
-        let mut stream = Halting::new(rt.alloc(), bytes.as_slice(), 100)?;
-        let mut out = Vec::new(rt.alloc());
-        let copied = copy_pcapng(rt.alloc(), &mut stream, &mut out, 9);
-        assert!(rt; tells(&copied, 1, false, false), "at {digits}");
-        let fault = format!(in rt.alloc(); "{:?}", copied.fault)?;
-        let wanted = format!(in rt.alloc(); "Some({told})")?;
-        assert_eq!(rt; fault.as_str(), wanted.as_str(), "at {digits}");
-        assert_eq!(rt; out.as_slice(), front(bytes.as_slice(), 44), "at {digits}");
-    }
-    Ok(())
+    every_row(rt.alloc(), REFUSED_LATER, refused_later)
 }

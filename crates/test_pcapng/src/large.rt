@@ -50,19 +50,49 @@ fn is_run(run: &NgRun) -> bool {
         && matches!(run.rest, Rest::Clean)
 }
 
+// Whether each run over this capture takes all of it.
+
+fn parses(alloc: Global, capture: &[u8]) -> bool {
+    match &parse_pcapng(alloc, capture) {
+        Ok(run) => is_run(run),
+        Err(_) => false,
+    }
+}
+
+fn runs_exactly(alloc: Global, capture: &[u8]) -> bool {
+    match &exact_pcapng(alloc, &mut Window::new(capture)) {
+        Ok((run, _requests)) => is_run(run),
+        Err(_) => false,
+    }
+}
+
+fn runs_in_pieces(alloc: Global, capture: &[u8]) -> bool {
+    match &pieces_pcapng(alloc, &[capture]) {
+        Ok((run, _numbers)) => is_run(run),
+        Err(_) => false,
+    }
+}
+
+fn reads(alloc: Global, stream: Halting) -> bool {
+    match &read_pcapng(alloc, stream, 3000) {
+        Ok(read) => {
+            read.fault.is_none()
+                && !read.reader.failed()
+                && is_all(read.blocks.as_slice())
+                && read.reader.interfaces().len() == INTERFACES
+        }
+        Err(_) => false,
+    }
+}
+
 #[test]
 fn runs(rt: HostRuntime) -> Result<(), Fail> {
     let whole = capture(rt.alloc(), LARGE)?;
     let all = whole.as_slice();
-    let run = parse_pcapng(rt.alloc(), all)?;
-    assert!(rt; is_run(&run));
-    let (run, _requests) = exact_pcapng(rt.alloc(), &mut Window::new(all))?;
-    assert!(rt; is_run(&run));
-    let (run, _numbers) = pieces_pcapng(rt.alloc(), &[all])?;
-    assert!(rt; is_run(&run));
-    let read = read_pcapng(rt.alloc(), Halting::new(rt.alloc(), all, 1_000_000)?, 3000)?;
-    assert!(rt; read.fault.is_none() && !read.reader.failed());
-    assert!(rt; is_all(read.blocks.as_slice()) && read.reader.interfaces().len() == INTERFACES);
+    assert!(rt; parses(rt.alloc(), all));
+    assert!(rt; runs_exactly(rt.alloc(), all));
+    assert!(rt; runs_in_pieces(rt.alloc(), all));
+    assert!(rt; reads(rt.alloc(), Halting::new(rt.alloc(), all, 1_000_000)?));
     Ok(())
 }
 
@@ -78,14 +108,19 @@ fn lent(reader: &mut PcapNgReader<Halting>) -> usize {
     last
 }
 
+// Whether a reader lends a body of so many bytes last.
+fn lends(alloc: Global, capture: &[u8], len: usize) -> Result<bool, Fail> {
+    let stream = Halting::new(alloc, capture, 1_000_000)?;
+    let mut reader = PcapNgReader::new(alloc, stream)?;
+    let is_lent = lent(&mut reader) == len;
+    Ok(is_lent && !reader.failed() && reader.interfaces().len() == INTERFACES)
+}
+
 #[test]
 fn lent_blocks(rt: HostRuntime) -> Result<(), Fail> {
     // a block of 2 MiB
     let whole = capture(rt.alloc(), 0x0020_0000)?;
-    let stream = Halting::new(rt.alloc(), whole.as_slice(), 1_000_000)?;
-    let mut reader = PcapNgReader::new(rt.alloc(), stream)?;
-    assert!(rt; lent(&mut reader) == 2_097_140);
-    assert!(rt; !reader.failed() && reader.interfaces().len() == INTERFACES);
+    assert!(rt; lends(rt.alloc(), whole.as_slice(), 2_097_140)?);
     Ok(())
 }
 
@@ -99,27 +134,40 @@ fn comments(alloc: Global, count: usize) -> Result<String, Fail> {
 }
 
 // A section header with 300 comments of eight bytes each, and an interface with as many.
-#[test]
-fn many_options(rt: HostRuntime) -> Result<(), Fail> {
-    let comments = comments(rt.alloc(), 300)?;
-    let section = format!(in rt.alloc();
-        "0a0d0d0a 0000097c 1a2b3c4d 0001 0000 ffffffffffffffff {comments} 0000097c"
+fn commented(alloc: Global) -> Result<Vec<u8>, Fail> {
+    let comments = comments(alloc, 300)?;
+    let digits = format!(in alloc;
+        "0a0d0d0a 0000097c 1a2b3c4d 0001 0000 ffffffffffffffff {comments} 0000097c
+        00000001 00000974 0001 0000 00040000 {comments} 00000974"
     )?;
-    let interface = format!(in rt.alloc();
-        "00000001 00000974 0001 0000 00040000 {comments} 00000974"
-    )?;
-    let mut whole = bytes(rt.alloc(), section.as_str())?;
-    whole.extend_from_slice(bytes(rt.alloc(), interface.as_str())?.as_slice())?;
-    let (rest, mut parser) = PcapNgParser::new(rt.alloc(), whole.as_slice())?;
-    assert_eq!(rt; parser.section().options.len(), 300);
+    bytes(alloc, digits.as_str())
+}
+
+// How many options there are in the section and in its one interface, and how many bytes are left behind these.
+fn counts(alloc: Global, capture: &[u8]) -> Result<(usize, usize, usize), Fail> {
+    let (rest, mut parser) = PcapNgParser::new(alloc, capture)?;
     let (rest, _block) = parser.next_block(rest)?;
     let options = match parser.interfaces() {
         [interface] => interface.options.len(),
         _ => 0,
     };
-    assert!(rt; rest.is_empty() && options == 300);
+    Ok((parser.section().options.len(), options, rest.len()))
+}
+
+// How many options there are in the section off a stream that is read to its end.
+fn counts_read(alloc: Global, stream: Halting) -> usize {
+    match &read_pcapng(alloc, stream, 9) {
+        Ok(read) if read.fault.is_none() => read.reader.section().options.len(),
+        _ => 0,
+    }
+}
+
+#[test]
+fn many_options(rt: HostRuntime) -> Result<(), Fail> {
+    let whole = commented(rt.alloc())?;
+    let counts = counts(rt.alloc(), whole.as_slice())?;
+    assert!(rt; counts == (300, 300, 0));
     let stream = Halting::new(rt.alloc(), whole.as_slice(), 1000)?;
-    let read = read_pcapng(rt.alloc(), stream, 9)?;
-    assert!(rt; read.fault.is_none() && read.reader.section().options.len() == 300);
+    assert!(rt; counts_read(rt.alloc(), stream) == 300);
     Ok(())
 }

@@ -1,13 +1,13 @@
 //! Blocks that a reader lends.
 
-use crate::told::state;
+use crate::told::{between, by_steps, joined, refusal, state};
+use pcap_file::Endianness;
 use pcap_file::pcapng::{BlockHeader, BlockType, PcapNgReader};
-use pcap_file::{Endianness, PcapError, ResultParsing};
 use std::alloc::Global;
 use std::test::Fail;
-use test_support::captures::{SECTION, SECTIONS, back, front};
+use test_support::captures::{SECTIONS, back, front};
 use test_support::readers::{EndsOnce, Halting};
-use test_support::rows::{bytes, rows};
+use test_support::rows::{every_row, same};
 
 // The header that the reader gives next, if it gives one.
 fn given(reader: &mut PcapNgReader<Halting>) -> Option<BlockHeader> {
@@ -81,20 +81,32 @@ fn lends(reader: &mut PcapNgReader<Halting>, row: &LentBlock) -> bool {
         && is_lent(reader, header, body)
 }
 
+// Whether a reader lends the first section, then the blocks of the rows, and then nothing.
+fn lends_each(alloc: Global, step: usize) -> Result<(), Fail> {
+    let stream = Halting::new(alloc, &SECTIONS, step)?;
+    let mut reader = PcapNgReader::new(alloc, stream)?;
+    let is_section = reader.text() == front(&SECTIONS, 28);
+    if !is_section || reader.body() != back(front(&SECTIONS, 24), 8) {
+        return Err(Fail::new("the first section"));
+    }
+    for row in &BLOCKS {
+        if !lends(&mut reader, row) {
+            return Err(Fail::new(row.name));
+        }
+    }
+    let state = state(alloc, reader.section(), reader.interfaces())?;
+    same(state.as_str(), "Little 1.0 -1 [] with ETHERNET/262144/[]")?;
+    let is_end = given(&mut reader).is_none();
+    if !is_end || lent_lengths(&reader) > 0 || reader.failed() {
+        return Err(Fail::new("the end"));
+    }
+    Ok(())
+}
+
 #[test]
 fn lent_blocks(rt: HostRuntime) -> Result<(), Fail> {
     for step in [1, 7, 200] {
-        let stream = Halting::new(rt.alloc(), &SECTIONS, step)?;
-        let mut reader = PcapNgReader::new(rt.alloc(), stream)?;
-        assert!(rt; reader.text() == front(&SECTIONS, 28));
-        assert!(rt; reader.body() == back(front(&SECTIONS, 24), 8));
-        for row in &BLOCKS {
-            assert!(rt; lends(&mut reader, row), "{} by {step}", row.name);
-        }
-        let state = state(rt.alloc(), reader.section(), reader.interfaces())?;
-        assert_eq!(rt; state.as_str(), "Little 1.0 -1 [] with ETHERNET/262144/[]");
-        assert!(rt; given(&mut reader).is_none());
-        assert!(rt; lent_lengths(&reader) == 0 && !reader.failed());
+        lends_each(rt.alloc(), step)?;
     }
     Ok(())
 }
@@ -102,15 +114,6 @@ fn lent_blocks(rt: HostRuntime) -> Result<(), Fail> {
 // How many bytes a reader lends, as a text and as its body.
 fn lent_lengths(reader: &PcapNgReader<Halting>) -> usize {
     reader.text().len().saturating_add(reader.body().len())
-}
-
-// A capture of the big-endian section, an interface, and the block of these digits.
-fn capture(alloc: Global, digits: &str) -> Result<Vec<u8>, Fail> {
-    let mut all = Vec::from_slice(alloc, &SECTION)?;
-    let interface = bytes(alloc, "00000001 00000014 0001 0000 00040000 00000014")?;
-    all.extend_from_slice(interface.as_slice())?;
-    all.extend_from_slice(bytes(alloc, digits)?.as_slice())?;
-    Ok(all)
 }
 
 // The body of the block that is lent under this header, as text.
@@ -123,35 +126,36 @@ fn body_text(
     Ok(format!(in alloc; "{:?}", block.parsed(alloc)?)?)
 }
 
-// What a call gave, as text, where it gave no header.
-fn refusal_text(alloc: Global, given: &Option<ResultParsing<BlockHeader>>) -> Result<String, Fail> {
-    match given {
-        Some(Err(PcapError::IoError(error))) => Ok(format!(in alloc; "{:?}", error.kind())?),
-        Some(Err(error)) => Ok(format!(in alloc; "{error:?}")?),
-        _ => Ok(String::from_str(alloc, "None")?),
-    }
-}
-
 // The body of the next block, which is lent, or the refusal, as text.
 fn lent(alloc: Global, reader: &mut PcapNgReader<Halting>) -> Result<String, Fail> {
-    let given = reader.next_header();
-    if let Some(Ok(header)) = given {
-        return body_text(alloc, reader, header);
+    match reader.next_header() {
+        Some(Ok(header)) => body_text(alloc, reader, header),
+        Some(Err(error)) => refusal(alloc, &error),
+        None => Ok(String::from_str(alloc, "None")?),
     }
-    refusal_text(alloc, &given)
 }
 
-// A reader of the capture of these digits, behind its interface.
+// A reader of a capture of the big-endian section, an interface and these bytes, behind its interface.
 fn behind_interface(
     alloc: Global,
-    digits: &str,
+    bytes: &[u8],
     step: usize,
 ) -> Result<PcapNgReader<Halting>, Fail> {
-    let whole = capture(alloc, digits)?;
+    let whole = joined(alloc, front(&SECTIONS, 48), bytes)?;
     let stream = Halting::new(alloc, whole.as_slice(), step)?;
     let mut reader = PcapNgReader::new(alloc, stream)?;
     let _interface = reader.next_header();
     Ok(reader)
+}
+
+// The body that such a reader lends next.
+fn lent_behind(alloc: Global, bytes: &[u8], step: usize) -> Result<String, Fail> {
+    let mut reader = behind_interface(alloc, bytes, step)?;
+    lent(alloc, &mut reader)
+}
+
+fn lent_body(alloc: Global, bytes: &[u8]) -> Result<String, Fail> {
+    by_steps(alloc, bytes, lent_behind)
 }
 
 #[test]
@@ -161,24 +165,25 @@ fn lent_bodies(rt: HostRuntime) -> Result<(), Fail> {
         00000003 00000014 00000001 61000000 00000014 => SimplePacket(SimplePacketBlock { original_len: 1, data_: Borrowed([97, 0, 0, 0]) })
         00000009 00000010 5f3d0a00 00000010 => SystemdJournalExport(SystemdJournalExportBlock { journal_entry: Borrowed([95, 61, 10, 0]) })
     ";
-    for (digits, told) in rows(rt.alloc(), table)? {
-        for step in [1, 100] {
-            let mut reader = behind_interface(rt.alloc(), digits, step)?;
-            let body = lent(rt.alloc(), &mut reader)?;
-            assert_eq!(rt; body.as_str(), told, "at {digits}");
-        }
-    }
-    Ok(())
+    every_row(rt.alloc(), table, lent_body)
 }
 
-// The refusal of a reader's next block, what comes behind it, how many bytes are lent then, and what is in force.
-fn refused(alloc: Global, reader: &mut PcapNgReader<Halting>) -> Result<String, Fail> {
-    let refusal = lent(alloc, reader)?;
-    let first = lent_lengths(reader);
-    let after = lent(alloc, reader)?;
-    let second = lent_lengths(reader);
+// The refusal of such a reader's next block, what comes behind it, how many bytes are lent then, and what is in force.
+fn refused_behind(alloc: Global, bytes: &[u8], step: usize) -> Result<String, Fail> {
+    let mut reader = behind_interface(alloc, bytes, step)?;
+    let refusal = lent(alloc, &mut reader)?;
+    let first = lent_lengths(&reader);
+    let after = lent(alloc, &mut reader)?;
+    let second = lent_lengths(&reader);
     let state = state(alloc, reader.section(), reader.interfaces())?;
     Ok(format!(in alloc; "{refusal} {first}, {after} {second}, {state}")?)
+}
+
+// The refusal, where nothing comes behind it or is lent.
+fn refused(alloc: Global, bytes: &[u8]) -> Result<String, Fail> {
+    let shown = by_steps(alloc, bytes, refused_behind)?;
+    let after = " 0, None 0, Big 1.0 -1 [] with ETHERNET/262144/[]";
+    between(alloc, shown.as_str(), "", after)
 }
 
 #[test]
@@ -192,17 +197,7 @@ fn refused_lent_blocks(rt: HostRuntime) -> Result<(), Fail> {
         0a0d0d0a 10000000 4d3c2b1a 10000000 => InvalidField("SectionHeaderBlock: block length < 16")
         => None
     "#;
-    for (digits, told) in rows(rt.alloc(), table)? {
-        let told = format!(in rt.alloc();
-            "{told} 0, None 0, Big 1.0 -1 [] with ETHERNET/262144/[]"
-        )?;
-        for step in [1, 100] {
-            let mut reader = behind_interface(rt.alloc(), digits, step)?;
-            let shown = refused(rt.alloc(), &mut reader)?;
-            assert_eq!(rt; shown.as_str(), told.as_str(), "at {digits}");
-        }
-    }
-    Ok(())
+    every_row(rt.alloc(), table, refused)
 }
 
 // How many bytes the next block's body has, owned, if one comes.
@@ -219,32 +214,42 @@ fn lends_and_gives(reader: &mut PcapNgReader<Halting>, lent: usize, owned: Optio
     is_given && owned_length(reader) == owned && lent_lengths(reader) == 0
 }
 
+// Whether a reader lends two bodies of eight bytes, and gives one of 16 bytes between them and none behind.
+fn lends_between(alloc: Global, step: usize) -> Result<bool, Fail> {
+    let stream = Halting::new(alloc, &SECTIONS, step)?;
+    let mut reader = PcapNgReader::new(alloc, stream)?;
+    Ok(lends_and_gives(&mut reader, 8, Some(16)) && lends_and_gives(&mut reader, 8, None))
+}
+
 #[test]
 fn lent_and_owned_blocks(rt: HostRuntime) -> Result<(), Fail> {
     for step in [1, 100] {
-        let stream = Halting::new(rt.alloc(), &SECTIONS, step)?;
-        let mut reader = PcapNgReader::new(rt.alloc(), stream)?;
-        for owned in [Some(16), None] {
-            assert!(rt; lends_and_gives(&mut reader, 8, owned), "before {owned:?}");
-        }
+        assert!(rt; lends_between(rt.alloc(), step)?, "by {step}");
     }
     Ok(())
+}
+
+// Whether a reader lends bodies of these lengths before and behind the end of a stream that goes on.
+fn goes_on(alloc: Global, step: usize) -> Result<bool, Fail> {
+    let stream = EndsOnce {
+        first: front(&SECTIONS, 48),
+        second: back(&SECTIONS, 48),
+        step,
+        has_ended: false,
+    };
+    let mut reader = PcapNgReader::new(alloc, stream)?;
+    let mut is_so = true;
+    for length in [8, 0, 16, 8, 0, 0] {
+        let is_some = reader.next_header().is_some();
+        is_so &= is_some == (length > 0) && reader.body().len() == length;
+    }
+    Ok(is_so)
 }
 
 #[test]
 fn a_stream_that_goes_on_and_is_lent(rt: HostRuntime) -> Result<(), Fail> {
     for step in [1, 100] {
-        let stream = EndsOnce {
-            first: front(&SECTIONS, 48),
-            second: back(&SECTIONS, 48),
-            step,
-            has_ended: false,
-        };
-        let mut reader = PcapNgReader::new(rt.alloc(), stream)?;
-        for length in [8, 0, 16, 8, 0, 0] {
-            let is_some = reader.next_header().is_some();
-            assert!(rt; is_some == (length > 0) && reader.body().len() == length);
-        }
+        assert!(rt; goes_on(rt.alloc(), step)?, "by {step}");
     }
     Ok(())
 }

@@ -6,8 +6,8 @@ use pcap_file::pcapng::blocks::ParsedBlock;
 use pcap_file::pcapng::{Block, PcapNgParser};
 use std::alloc::Global;
 use std::test::Fail;
-use test_support::captures::{SECTION, SECTIONS, back, front};
-use test_support::rows::{bytes, rows};
+use test_support::captures::{SECTION, SECTIONS};
+use test_support::rows::{bytes, every_row, same};
 
 // A parser after all blocks of the capture with two sections.
 fn after_sections(alloc: Global) -> Result<PcapNgParser, Fail> {
@@ -29,21 +29,28 @@ fn packet_interface(alloc: Global, parser: &PcapNgParser, block: &Block) -> Resu
     }
 }
 
-// The same of the packet of these digits.
-fn interface_of(alloc: Global, parser: &mut PcapNgParser, digits: &str) -> Result<String, Fail> {
-    let slice = bytes(alloc, digits)?;
-    let (_rest, block) = parser.next_block(slice.as_slice())?;
+// The same of the packet of these bytes.
+fn interface_of(alloc: Global, parser: &mut PcapNgParser, slice: &[u8]) -> Result<String, Fail> {
+    let (_rest, block) = parser.next_block(slice)?;
     packet_interface(alloc, parser, &block)
 }
 
 const LITTLE: &str = "Little 1.0 -1 [] with ETHERNET/262144/[]";
 
-// What a parser gives of these digits, as text, and what is in force then.
-fn refused(alloc: Global, parser: &mut PcapNgParser, digits: &str) -> Result<String, Fail> {
-    let slice = bytes(alloc, digits)?;
-    let error = parser.next_block(slice.as_slice()).err();
+// What a parser gives of these bytes, as text, and what is in force then.
+fn refused(alloc: Global, parser: &mut PcapNgParser, slice: &[u8]) -> Result<String, Fail> {
+    let error = parser.next_block(slice).err();
     let state = state(alloc, parser.section(), parser.interfaces())?;
     Ok(format!(in alloc; "{error:?} {state}")?)
+}
+
+// Whether the block of a row is refused, and nothing in force changes.
+fn changes_nothing(alloc: Global, parser: &mut PcapNgParser, row: &str) -> Result<(), Fail> {
+    let (digits, told) = row.split_once("=>").ok_or("a row with no arrow")?;
+    let slice = bytes(alloc, digits)?;
+    let shown = refused(alloc, parser, slice.as_slice())?;
+    let told = format!(in alloc; "Some({}) {LITTLE}", told.trim())?;
+    same(shown.as_str(), told.as_str())
 }
 
 #[test]
@@ -58,12 +65,29 @@ fn refused_blocks_change_nothing(rt: HostRuntime) -> Result<(), Fail> {
         01000000 14000000 0100 0000 00000400 => IncompleteBuffer(4)
         => IncompleteBuffer(12)
     "#;
-    for (digits, told) in rows(rt.alloc(), table)? {
-        let shown = refused(rt.alloc(), &mut parser, digits)?;
-        let told = format!(in rt.alloc(); "Some({told}) {LITTLE}")?;
-        assert_eq!(rt; shown.as_str(), told.as_str(), "at {digits}");
+    for row in table.trim().lines() {
+        changes_nothing(rt.alloc(), &mut parser, row)?;
     }
     Ok(())
+}
+
+// Whether the packet of a row came by the interface that it shows.
+fn comes_by(alloc: Global, parser: &mut PcapNgParser, row: &str) -> Result<(), Fail> {
+    let (digits, told) = row.split_once("=>").ok_or("a row with no arrow")?;
+    let slice = bytes(alloc, digits)?;
+    let shown = interface_of(alloc, parser, slice.as_slice())?;
+    same(shown.as_str(), told.trim())
+}
+
+// Whether a second interface of a name is in force behind its block.
+fn names_another(alloc: Global, parser: &mut PcapNgParser) -> Result<(), Fail> {
+    let named = "01000000 20000000 0100 0000 00000400 0200 0100 61 000000 0000 0000 20000000";
+    let slice = bytes(alloc, named)?;
+    let shown = refused(alloc, parser, slice.as_slice())?;
+    same(
+        shown.as_str(),
+        "None Little 1.0 -1 [] with ETHERNET/262144/[] ETHERNET/262144/[IfName(\"a\")]",
+    )
 }
 
 #[test]
@@ -74,36 +98,24 @@ fn interfaces_of_packets(rt: HostRuntime) -> Result<(), Fail> {
         06000000 20000000 01000000 00000000 00000000 00000000 00000000 20000000 => None
         06000000 20000000 ffffffff 00000000 00000000 00000000 00000000 20000000 => None
     ";
-    for (digits, told) in rows(rt.alloc(), table)? {
-        let interface = interface_of(rt.alloc(), &mut parser, digits)?;
-        assert_eq!(rt; interface.as_str(), told, "at {digits}");
+    for row in table.trim().lines() {
+        comes_by(rt.alloc(), &mut parser, row)?;
     }
-    let named = "01000000 20000000 0100 0000 00000400 0200 0100 61 000000 0000 0000 20000000";
-    let shown = refused(rt.alloc(), &mut parser, named)?;
-    assert_eq!(rt;
-        shown.as_str(),
-        "None Little 1.0 -1 [] with ETHERNET/262144/[] ETHERNET/262144/[IfName(\"a\")]"
-    );
-    Ok(())
+    names_another(rt.alloc(), &mut parser)
 }
 
-// Why no parser is made of these digits, if none is.
-fn no_parser(alloc: Global, digits: &str) -> Result<String, Fail> {
-    let slice = bytes(alloc, digits)?;
-    let error = PcapNgParser::new(alloc, slice.as_slice()).err();
-    Ok(format!(in alloc; "{error:?}")?)
+// Why no parser is made of these bytes.
+fn no_parser(alloc: Global, slice: &[u8]) -> Result<String, Fail> {
+    match &PcapNgParser::new(alloc, slice) {
+        Ok(_) => Ok(String::from_str(alloc, "a parser")?),
+        Err(error) => Ok(format!(in alloc; "{error:?}")?),
+    }
 }
 
 #[test]
 fn first_blocks(rt: HostRuntime) -> Result<(), Fail> {
-    for table in [REFUSED, TORN] {
-        for (digits, told) in rows(rt.alloc(), table)? {
-            let shown = no_parser(rt.alloc(), digits)?;
-            let told = format!(in rt.alloc(); "Some({told})")?;
-            assert_eq!(rt; shown.as_str(), told.as_str(), "at {digits}");
-        }
-    }
-    Ok(())
+    every_row(rt.alloc(), REFUSED, no_parser)?;
+    every_row(rt.alloc(), TORN, no_parser)
 }
 
 // A block and its body, as text.
@@ -119,30 +131,25 @@ fn kept(alloc: Global, block: Block) -> Result<String, Fail> {
     Ok(format!(in alloc; "{block:?} {body:?}")?)
 }
 
-// A parser's next block, which takes all these digits, as text: what is left, its order, the block that is lent, and the
-// same owned.
-fn both(alloc: Global, parser: &mut PcapNgParser, digits: &str) -> Result<String, Fail> {
-    let slice = bytes(alloc, digits)?;
-    let (rest, block) = parser.next_block(slice.as_slice())?;
+// The block of these bytes behind a big-endian section, as text: what is left, its order, and the block that is lent. Owned it
+// is the same.
+fn both(alloc: Global, slice: &[u8]) -> Result<String, Fail> {
+    let (_none, mut parser) = PcapNgParser::new(alloc, &SECTION)?;
+    let (rest, block) = parser.next_block(slice)?;
     let lent = lent(alloc, &block)?;
     let order = block.endianness();
     let kept = kept(alloc, block)?;
-    Ok(format!(in alloc; "{rest:?} {order:?} {lent} {kept}")?)
+    let owned = lent.replace(alloc, "Borrowed(", "Owned(")?;
+    same(kept.as_str(), owned.as_str())?;
+    Ok(format!(in alloc; "{rest:?} {order:?} {lent}")?)
 }
 
 #[test]
 fn owned_blocks(rt: HostRuntime) -> Result<(), Fail> {
-    let (_rest, mut parser) = PcapNgParser::new(rt.alloc(), &SECTION)?;
     let table = r#"
-        000000ff 0000000c 0000000c => Block { type_: Unknown(255), initial_len: 12, body: Borrowed([]), trailer_len: 12, endianness: Big } Unknown(UnknownBlock { type_: Unknown(255), length: 0, value: Borrowed([]) })
-        00000003 00000014 00000001 61000000 00000014 => Block { type_: SimplePacket, initial_len: 20, body: Borrowed([0, 0, 0, 1, 97, 0, 0, 0]), trailer_len: 20, endianness: Big } SimplePacket(SimplePacketBlock { original_len: 1, data_: Borrowed([97, 0, 0, 0]) })
-        00000009 00000010 5f3d0a00 00000010 => Block { type_: SystemdJournalExport, initial_len: 16, body: Borrowed([95, 61, 10, 0]), trailer_len: 16, endianness: Big } SystemdJournalExport(SystemdJournalExportBlock { journal_entry: Borrowed([95, 61, 10, 0]) })
+        000000ff 0000000c 0000000c => [] Big Block { type_: Unknown(255), initial_len: 12, body: Borrowed([]), trailer_len: 12, endianness: Big } Unknown(UnknownBlock { type_: Unknown(255), length: 0, value: Borrowed([]) })
+        00000003 00000014 00000001 61000000 00000014 => [] Big Block { type_: SimplePacket, initial_len: 20, body: Borrowed([0, 0, 0, 1, 97, 0, 0, 0]), trailer_len: 20, endianness: Big } SimplePacket(SimplePacketBlock { original_len: 1, data_: Borrowed([97, 0, 0, 0]) })
+        00000009 00000010 5f3d0a00 00000010 => [] Big Block { type_: SystemdJournalExport, initial_len: 16, body: Borrowed([95, 61, 10, 0]), trailer_len: 16, endianness: Big } SystemdJournalExport(SystemdJournalExportBlock { journal_entry: Borrowed([95, 61, 10, 0]) })
     "#;
-    for (digits, told) in rows(rt.alloc(), table)? {
-        let shown = both(rt.alloc(), &mut parser, digits)?;
-        let owned = told.replace(rt.alloc(), "Borrowed(", "Owned(")?;
-        let told = format!(in rt.alloc(); "[] Big {told} {owned}")?;
-        assert_eq!(rt; shown.as_str(), told.as_str(), "at {digits}");
-    }
-    Ok(())
+    every_row(rt.alloc(), table, both)
 }

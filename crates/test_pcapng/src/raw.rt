@@ -24,11 +24,16 @@ fn copied(alloc: Global, capture: &[u8], step: usize) -> Result<Vec<u8>, Fail> {
     Ok(writer.into_writer())
 }
 
+// Whether the capture with two sections is the same again.
+fn is_copied(alloc: Global, step: usize) -> Result<bool, Fail> {
+    let out = copied(alloc, &SECTIONS, step)?;
+    Ok(out.as_slice() == SECTIONS.as_slice())
+}
+
 #[test]
 fn raw_copies(rt: HostRuntime) -> Result<(), Fail> {
     for step in [1, 7, 200] {
-        let out = copied(rt.alloc(), &SECTIONS, step)?;
-        assert_eq!(rt; out.as_slice(), SECTIONS.as_slice(), "by {step}");
+        assert!(rt; is_copied(rt.alloc(), step)?, "by {step}");
     }
     Ok(())
 }
@@ -75,30 +80,39 @@ fn refusal<B: PcapNgBlock>(alloc: Global, block: &B) -> &'static str {
     }
 }
 
-#[test]
-fn blocks_without_a_text(rt: HostRuntime) -> Result<(), Fail> {
+// The messages of a section with no magic number, and of a packet that has less data than it states.
+
+fn of_a_section(alloc: Global) -> &'static str {
     let section = SectionHeaderBlock {
         magic: 0,
         major_version: 1,
         minor_version: 0,
         section_length: -1,
-        options: Vec::new(rt.alloc()),
+        options: Vec::new(alloc),
     };
-    assert_eq!(rt;
-        refusal(rt.alloc(), &section),
-        "SectionHeaderBlock: invalid magic number"
-    );
+    refusal(alloc, &section)
+}
+
+fn of_a_packet(alloc: Global) -> &'static str {
     let packet = EnhancedPacketBlock {
         interface_id: 7,
         timestamp: 0,
         captured_len: 2,
         original_len: 2,
         data_: CowBytes::Borrowed(&[1]),
-        options: Vec::new(rt.alloc()),
+        options: Vec::new(alloc),
     };
+    refusal(alloc, &packet)
+}
+
+#[test]
+fn blocks_without_a_text(rt: HostRuntime) {
     assert_eq!(rt;
-        refusal(rt.alloc(), &packet),
+        of_a_section(rt.alloc()),
+        "SectionHeaderBlock: invalid magic number"
+    );
+    assert_eq!(rt;
+        of_a_packet(rt.alloc()),
         "EnhancedPacketBlock: captured_len != data.len()"
     );
-    Ok(())
 }

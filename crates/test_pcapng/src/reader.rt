@@ -1,16 +1,16 @@
 //! The reader, and runs over streams.
 
 use crate::runs::{REFUSED, TORN, beginning, count};
-use crate::told::{blocks, state};
+use crate::told::{between, blocks, by_steps, joined, refusal, state};
 use pcap_file::pcapng::{Block, PcapNgReader};
 use pcap_file::run::{NgRead, read_pcapng};
 use pcap_file::{PcapError, ResultParsing};
-use std::alloc::Global;
+use std::alloc::{AllocError, Global};
 use std::io::{ErrorKind, Read};
 use std::test::Fail;
 use test_support::captures::{SECTION, SECTIONS, back, front};
 use test_support::readers::{EndsOnce, Halting};
-use test_support::rows::{bytes, rows};
+use test_support::rows::{bytes, every_row, same};
 
 // The kind of the error inside an `IoError`.
 fn kind_of(error: &Option<PcapError>) -> Option<ErrorKind> {
@@ -39,38 +39,47 @@ fn is_read(
     }
 }
 
-#[test]
-fn every_beginning(rt: HostRuntime) -> Result<(), Fail> {
-    for step in [1, 5, 100] {
-        for end in 0..97 {
-            let stream = Halting::new(rt.alloc(), front(&SECTIONS, end), step)?;
-            let (used, wanted) = beginning(end);
-            let kind = if wanted == end {
-                None
-            } else {
-                Some(ErrorKind::UnexpectedEof)
-            };
-            let is_right = is_read(&read_pcapng(rt.alloc(), stream, 9), used, kind, false);
-            assert!(rt; is_right, "at {end}");
-        }
-    }
-    Ok(())
+// Whether a run over so many bytes reads what it has to, by so many a read.
+fn reads_to(alloc: Global, end: usize, step: usize) -> bool {
+    let Ok(stream) = Halting::new(alloc, front(&SECTIONS, end), step) else {
+        return false;
+    };
+    let (used, wanted) = beginning(end);
+    let kind = if wanted == end {
+        None
+    } else {
+        Some(ErrorKind::UnexpectedEof)
+    };
+    is_read(&read_pcapng(alloc, stream, 9), used, kind, false)
 }
 
 #[test]
-fn every_failed_read(rt: HostRuntime) -> Result<(), Fail> {
-    for kind in [ErrorKind::Other, ErrorKind::Interrupted] {
-        // the call that fails comes after so many bytes, one a call
-        for end in 0..97usize {
-            let mut stream = Halting::new(rt.alloc(), &SECTIONS, 1)?;
-            stream.fails_at = end.saturating_add(1);
-            stream.kind = kind;
-            let (used, _wanted) = beginning(end);
-            let is_right = is_read(&read_pcapng(rt.alloc(), stream, 9), used, Some(kind), true);
-            assert!(rt; is_right, "at {end}");
+fn every_beginning(rt: HostRuntime) {
+    for step in [1, 5, 100] {
+        for end in 0..97 {
+            assert!(rt; reads_to(rt.alloc(), end, step), "at {end}");
         }
     }
-    Ok(())
+}
+
+// Whether a run reads what it has to where a call fails so after so many bytes, one a call.
+fn fails_at(alloc: Global, end: usize, kind: ErrorKind) -> bool {
+    let Ok(mut stream) = Halting::new(alloc, &SECTIONS, 1) else {
+        return false;
+    };
+    stream.fails_at = end.saturating_add(1);
+    stream.kind = kind;
+    let (used, _wanted) = beginning(end);
+    is_read(&read_pcapng(alloc, stream, 9), used, Some(kind), true)
+}
+
+#[test]
+fn every_failed_read(rt: HostRuntime) {
+    for kind in [ErrorKind::Other, ErrorKind::Interrupted] {
+        for end in 0..97 {
+            assert!(rt; fails_at(rt.alloc(), end, kind), "at {end}");
+        }
+    }
 }
 
 // A run that takes so many blocks at most, what comes, and how many bytes are taken.
@@ -113,13 +122,18 @@ fn run(alloc: Global, step: usize, most: u64) -> Result<String, Fail> {
     Ok(format!(in alloc; "{blocks}{state} {taken} {:?}", read.fault)?)
 }
 
+// Whether a run by so many bytes a read is that of a row.
+fn runs_as(alloc: Global, step: usize, row: &Most) -> Result<(), Fail> {
+    let shown = run(alloc, step, row.most)?;
+    let told = format!(in alloc; "{} {} None", row.told, row.taken)?;
+    same(shown.as_str(), told.as_str())
+}
+
 #[test]
 fn most_blocks(rt: HostRuntime) -> Result<(), Fail> {
     for step in [1, 100] {
         for row in &MOST {
-            let shown = run(rt.alloc(), step, row.most)?;
-            let told = format!(in rt.alloc(); "{} {} None", row.told, row.taken)?;
-            assert_eq!(rt; shown.as_str(), told.as_str());
+            runs_as(rt.alloc(), step, row)?;
         }
     }
     Ok(())
@@ -143,60 +157,57 @@ fn makes_none<T: Read + Drop>(alloc: Global, stream: T) -> bool {
     PcapNgReader::new(alloc, stream).is_err()
 }
 
-// Why no reader is made of these bytes, if none is.
-fn no_reader(alloc: Global, bytes: &[u8], step: usize) -> Result<Option<PcapError>, Fail> {
+// Why no reader is made of these bytes, by so many a read.
+fn no_reader(alloc: Global, bytes: &[u8], step: usize) -> Result<String, Fail> {
     let stream = Halting::new(alloc, bytes, step)?;
-    Ok(PcapNgReader::new(alloc, stream).err())
+    match &PcapNgReader::new(alloc, stream) {
+        Ok(_) => Ok(String::from_str(alloc, "a reader")?),
+        Err(error) => refusal(alloc, error),
+    }
 }
 
-// Whether no reader is made of these bytes and more, and no more than these are taken.
-fn takes_no_more(alloc: Global, bytes: &[u8], step: usize) -> Result<bool, Fail> {
-    let mut more = Vec::from_slice(alloc, bytes)?;
-    more.extend_from_slice(&SECTION)?;
+// The same, where no more than these bytes are taken although more stand behind them.
+fn takes_no_more(alloc: Global, bytes: &[u8], step: usize) -> Result<String, Fail> {
+    let more = joined(alloc, bytes, &SECTION)?;
     let mut stream = Halting::new(alloc, more.as_slice(), step)?;
-    Ok(makes_none(alloc, &mut stream) && stream.taken <= bytes.len())
+    if !makes_none(alloc, &mut stream) || stream.taken > bytes.len() {
+        return Err(Fail::new("more is taken"));
+    }
+    no_reader(alloc, bytes, step)
+}
+
+fn refused_first(alloc: Global, bytes: &[u8]) -> Result<String, Fail> {
+    by_steps(alloc, bytes, takes_no_more)
+}
+
+// Whether the first block of a row ends early.
+fn is_torn(alloc: Global, row: &str) -> Result<(), Fail> {
+    let (digits, _shown) = row.split_once("=>").ok_or("a row with no arrow")?;
+    let bytes = bytes(alloc, digits)?;
+    let told = by_steps(alloc, bytes.as_slice(), no_reader)?;
+    same(told.as_str(), "UnexpectedEof")
 }
 
 #[test]
 fn first_blocks(rt: HostRuntime) -> Result<(), Fail> {
-    for (digits, told) in rows(rt.alloc(), REFUSED)? {
-        let bytes = bytes(rt.alloc(), digits)?;
-        let told = format!(in rt.alloc(); "Some({told})")?;
-        for step in [1, 100] {
-            let error = no_reader(rt.alloc(), bytes.as_slice(), step)?;
-            let shown = format!(in rt.alloc(); "{error:?}")?;
-            assert_eq!(rt; shown.as_str(), told.as_str(), "at {digits}");
-            assert!(rt;
-                takes_no_more(rt.alloc(), bytes.as_slice(), step)?,
-                "at {digits}"
-            );
-        }
+    for row in TORN.trim().lines() {
+        is_torn(rt.alloc(), row)?;
     }
-    for (digits, _told) in rows(rt.alloc(), TORN)? {
-        let bytes = bytes(rt.alloc(), digits)?;
-        for step in [1, 100] {
-            let kind = kind_of(&no_reader(rt.alloc(), bytes.as_slice(), step)?);
-            assert!(rt; kind == Some(ErrorKind::UnexpectedEof), "at {digits}");
-        }
-    }
-    Ok(())
+    every_row(rt.alloc(), REFUSED, refused_first)
 }
 
 // What a reader gives next, as text.
 fn next(alloc: Global, reader: &mut PcapNgReader<Halting>) -> Result<String, Fail> {
-    match reader.next() {
+    match &reader.next() {
         None => Ok(String::from_str(alloc, "None")?),
         Some(Ok(block)) => Ok(format!(in alloc; "{:?}", block.type_)?),
-        Some(Err(PcapError::IoError(error))) => Ok(format!(in alloc; "{:?}", error.kind())?),
-        Some(Err(error)) => Ok(format!(in alloc; "{error:?}")?),
+        Some(Err(error)) => refusal(alloc, error),
     }
 }
 
 // What a reader gives behind a section, as text: three times, then what is in force, and whether a read failed.
-fn three(alloc: Global, digits: &str, step: usize) -> Result<String, Fail> {
-    let mut whole = Vec::from_slice(alloc, &SECTION)?;
-    whole.extend_from_slice(bytes(alloc, digits)?.as_slice())?;
-    let stream = Halting::new(alloc, whole.as_slice(), step)?;
+fn three(alloc: Global, capture: &[u8], step: usize) -> Result<String, Fail> {
+    let stream = Halting::new(alloc, capture, step)?;
     let mut reader = PcapNgReader::new(alloc, stream)?;
     let mut shown = String::new(alloc);
     for _turn in 0..3 {
@@ -207,55 +218,70 @@ fn three(alloc: Global, digits: &str, step: usize) -> Result<String, Fail> {
     Ok(shown)
 }
 
+// What it gives for these bytes behind a section and an interface, where nothing else comes.
+fn refused(alloc: Global, bytes: &[u8]) -> Result<String, Fail> {
+    let whole = joined(alloc, front(&SECTIONS, 48), bytes)?;
+    let shown = by_steps(alloc, whole.as_slice(), three)?;
+    let after = " None Big 1.0 -1 [] with ETHERNET/262144/[] false";
+    between(alloc, shown.as_str(), "InterfaceDescription ", after)
+}
+
 #[test]
 fn refused_blocks(rt: HostRuntime) -> Result<(), Fail> {
-    for (digits, told) in rows(rt.alloc(), REFUSED_BLOCKS)? {
-        let digits = format!(in rt.alloc();
-            "00000001 00000014 0001 0000 00040000 00000014 {digits}"
-        )?;
-        let told = format!(in rt.alloc();
-            "InterfaceDescription {told} None Big 1.0 -1 [] with ETHERNET/262144/[] false"
-        )?;
-        for step in [1, 100] {
-            let shown = three(rt.alloc(), digits.as_str(), step)?;
-            assert_eq!(rt; shown.as_str(), told.as_str(), "at {digits}");
-        }
+    every_row(rt.alloc(), REFUSED_BLOCKS, refused)
+}
+
+// Whether a reader gives blocks before and behind the end of a stream that goes on.
+fn goes_on(alloc: Global, step: usize) -> Result<bool, Fail> {
+    let stream = EndsOnce {
+        first: front(&SECTIONS, 48),
+        second: back(&SECTIONS, 48),
+        step,
+        has_ended: false,
+    };
+    let mut reader = PcapNgReader::new(alloc, stream)?;
+    let mut is_so = true;
+    for is_block in [true, false, true, true, false, false] {
+        is_so &= !reader.failed();
+        is_so &= matches!(reader.next(), Some(Ok(_))) == is_block;
     }
-    Ok(())
+    let state = state(alloc, reader.section(), reader.interfaces())?;
+    Ok(is_so && state.as_str() == "Little 1.0 -1 [] with ETHERNET/262144/[]")
 }
 
 #[test]
 fn a_stream_that_goes_on(rt: HostRuntime) -> Result<(), Fail> {
     for step in [1, 100] {
-        let stream = EndsOnce {
-            first: front(&SECTIONS, 48),
-            second: back(&SECTIONS, 48),
-            step,
-            has_ended: false,
-        };
-        let mut reader = PcapNgReader::new(rt.alloc(), stream)?;
-        for is_block in [true, false, true, true, false, false] {
-            assert!(rt; !reader.failed());
-            let is_next = matches!(reader.next(), Some(Ok(_)));
-            assert_eq!(rt; is_next, is_block);
-        }
-        let state = state(rt.alloc(), reader.section(), reader.interfaces())?;
-        assert_eq!(rt; state.as_str(), "Little 1.0 -1 [] with ETHERNET/262144/[]");
+        assert!(rt; goes_on(rt.alloc(), step)?, "by {step}");
     }
     Ok(())
 }
 
+// Whether a reader of these bytes finds an early end, and never asks for more room than it may.
+fn is_asked_in_parts(alloc: Global, bytes: &[u8], step: usize) -> Result<bool, Fail> {
+    let stream = Halting::new(alloc, bytes, step)?;
+    let mut reader = PcapNgReader::new(alloc, stream)?;
+    let first = next(alloc, &mut reader)?;
+    let second = next(alloc, &mut reader)?;
+    let is_torn = first.as_str() == "UnexpectedEof" && second.as_str() == "None";
+    Ok(is_torn && reader.get_ref().most_room == 65_536)
+}
+
+// A section, and a block that states 4294967292 bytes and has 100008.
+fn lying(alloc: Global) -> Result<Vec<u8>, AllocError> {
+    let mut bytes = joined(alloc, &SECTION, &[0, 0, 0, 0xff, 0xff, 0xff, 0xff, 0xfc])?;
+    bytes.resize(28 + 8 + 100_000, 0)?;
+    Ok(bytes)
+}
+
 #[test]
 fn a_block_that_lies(rt: HostRuntime) -> Result<(), Fail> {
-    let mut bytes = Vec::from_slice(rt.alloc(), &SECTION)?;
-    bytes.extend_from_slice(&[0, 0, 0, 0xff, 0xff, 0xff, 0xff, 0xfc])?;
-    bytes.resize(28 + 8 + 100_000, 0)?;
+    let bytes = lying(rt.alloc())?;
     for step in [1000, 1_000_000] {
-        let stream = Halting::new(rt.alloc(), bytes.as_slice(), step)?;
-        let mut reader = PcapNgReader::new(rt.alloc(), stream)?;
-        assert_eq!(rt; next(rt.alloc(), &mut reader)?.as_str(), "UnexpectedEof");
-        assert_eq!(rt; next(rt.alloc(), &mut reader)?.as_str(), "None");
-        assert_eq!(rt; reader.get_ref().most_room, 65_536);
+        assert!(rt;
+            is_asked_in_parts(rt.alloc(), bytes.as_slice(), step)?,
+            "by {step}"
+        );
     }
     Ok(())
 }

@@ -1,25 +1,30 @@
 //! Whole runs over slices.
 
-use crate::told::{blocks, state};
+use crate::told::{blocks, joined, state};
 use pcap_file::pcapng::Block;
 use pcap_file::run::{NgRun, Rest, parse_pcapng};
 use pcap_file::{PcapError, ResultParsing};
 use std::alloc::Global;
 use std::test::Fail;
-use test_support::captures::{SECTIONS, front};
-use test_support::rows::{bytes, rows};
+use test_support::captures::{SECTION, SECTIONS, front};
+use test_support::rows::every_row;
 
-// What the run over these digits comes to: its blocks, what is in force after them, how many bytes it takes, and what
+// What the run over these bytes comes to: its blocks, what is in force after them, how many bytes it takes, and what
 // stands after them.
-fn run(alloc: Global, digits: &str) -> Result<String, Fail> {
-    let bytes = bytes(alloc, digits)?;
-    let run = match parse_pcapng(alloc, bytes.as_slice()) {
+fn run(alloc: Global, bytes: &[u8]) -> Result<String, Fail> {
+    let run = match parse_pcapng(alloc, bytes) {
         Ok(run) => run,
         Err(error) => return Ok(format!(in alloc; "{error:?}")?),
     };
     let blocks = blocks(alloc, run.blocks.as_slice())?;
     let state = state(alloc, run.parser.section(), run.parser.interfaces())?;
     Ok(format!(in alloc; "{blocks}{state} used {} {:?}", run.used, run.rest)?)
+}
+
+// The same behind a big-endian section.
+fn run_behind(alloc: Global, bytes: &[u8]) -> Result<String, Fail> {
+    let whole = joined(alloc, &SECTION, bytes)?;
+    run(alloc, whole.as_slice())
 }
 
 #[test]
@@ -41,14 +46,7 @@ fn runs(rt: HostRuntime) -> Result<(), Fail> {
         00000006 0000000c 0000000c 00000005 00000010 ffffffff 00000010 => EnhancedPacket/12/12/Big InterfaceStatistics/16/16/Big Big 1.0 -1 [] with used 56 Clean
         00000001 0000001c 0001 0000 00040000 0002 0001 ff 000000 0000001c => Big 1.0 -1 [] with used 28 Refused(Utf8Error(Utf8Error { valid_up_to: 0, error_len: Some(1) }))
     "#;
-    for (digits, told) in rows(rt.alloc(), table)? {
-        let digits = format!(in rt.alloc();
-            "0a0d0d0a 0000001c 1a2b3c4d 0001 0000 ffffffffffffffff 0000001c {digits}"
-        )?;
-        let run = run(rt.alloc(), digits.as_str())?;
-        assert_eq!(rt; run.as_str(), told, "at {digits}");
-    }
-    Ok(())
+    every_row(rt.alloc(), table, run_behind)
 }
 
 /// First blocks with which no capture begins, and what a parser says of them.
@@ -73,13 +71,8 @@ pub const TORN: &str = "
 
 #[test]
 fn refused_runs(rt: HostRuntime) -> Result<(), Fail> {
-    for table in [REFUSED, TORN] {
-        for (digits, told) in rows(rt.alloc(), table)? {
-            let run = run(rt.alloc(), digits)?;
-            assert_eq!(rt; run.as_str(), told, "at {digits}");
-        }
-    }
-    Ok(())
+    every_row(rt.alloc(), REFUSED, run)?;
+    every_row(rt.alloc(), TORN, run)
 }
 
 /// Of the beginnings of the capture with two sections: from how many bytes on, how many are used, and how many there have
@@ -136,17 +129,16 @@ fn is_run(run: &ResultParsing<NgRun>, used: usize, missing: usize) -> bool {
     }
 }
 
+// Whether the run over so many bytes is the one that it has to be.
+fn runs_to(alloc: Global, end: usize) -> bool {
+    let (used, wanted) = beginning(end);
+    let missing = wanted.saturating_sub(end);
+    is_run(&parse_pcapng(alloc, front(&SECTIONS, end)), used, missing)
+}
+
 #[test]
-fn every_beginning(rt: HostRuntime) -> Result<(), Fail> {
+fn every_beginning(rt: HostRuntime) {
     for end in 0..97 {
-        let (used, wanted) = beginning(end);
-        let missing = wanted.saturating_sub(end);
-        let is_right = is_run(
-            &parse_pcapng(rt.alloc(), front(&SECTIONS, end)),
-            used,
-            missing,
-        );
-        assert!(rt; is_right, "at {end}");
+        assert!(rt; runs_to(rt.alloc(), end), "at {end}");
     }
-    Ok(())
 }

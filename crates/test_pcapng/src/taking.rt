@@ -2,23 +2,14 @@
 
 use crate::reader::REFUSED_BLOCKS;
 use crate::runs::{REFUSED, TORN, beginning, count};
-use crate::told::state;
-use pcap_file::PcapError;
+use crate::told::{between, by_steps, joined, refusal, state};
 use pcap_file::pcapng::PcapNgParser;
 use std::alloc::Global;
 use std::io::ErrorKind;
 use std::test::Fail;
 use test_support::captures::{SECTION, SECTIONS, back, front};
 use test_support::readers::{EndsOnce, Halting};
-use test_support::rows::{bytes, rows};
-
-// What a refusal tells: the kind of an `IoError`, else the error.
-fn refusal(alloc: Global, error: &PcapError) -> Result<String, Fail> {
-    match error {
-        PcapError::IoError(error) => Ok(format!(in alloc; "{:?}", error.kind())?),
-        error => Ok(format!(in alloc; "{error:?}")?),
-    }
-}
+use test_support::rows::{bytes, every_row, same};
 
 // What a parser takes off a stream next.
 fn next(alloc: Global, parser: &mut PcapNgParser, stream: &mut Halting) -> Result<String, Fail> {
@@ -54,88 +45,92 @@ fn blocks_of(alloc: Global, stream: &mut Halting) -> Result<(usize, String), Fai
     Ok((blocks, String::from_str(alloc, "None")?))
 }
 
+// Whether a parser takes the blocks of so many bytes, by so many a read.
+fn takes_to(alloc: Global, end: usize, step: usize) -> Result<bool, Fail> {
+    let mut stream = Halting::new(alloc, front(&SECTIONS, end), step)?;
+    let (blocks, told) = blocks_of(alloc, &mut stream)?;
+    let (used, wanted) = beginning(end);
+    let end_is = if wanted == end {
+        "None"
+    } else {
+        "UnexpectedEof"
+    };
+    Ok(blocks == count(used) && told.as_str() == end_is)
+}
+
 #[test]
 fn every_beginning(rt: HostRuntime) -> Result<(), Fail> {
     for step in [1, 5, 100] {
         for end in 0..97 {
-            let mut stream = Halting::new(rt.alloc(), front(&SECTIONS, end), step)?;
-            let (blocks, told) = blocks_of(rt.alloc(), &mut stream)?;
-            let (used, wanted) = beginning(end);
-            let end_is = if wanted == end {
-                "None"
-            } else {
-                "UnexpectedEof"
-            };
-            assert!(rt;
-                blocks == count(used) && told.as_str() == end_is,
-                "at {end}"
-            );
+            assert!(rt; takes_to(rt.alloc(), end, step)?, "at {end}");
         }
     }
     Ok(())
+}
+
+// Whether a parser takes the blocks before the call that fails so, after so many bytes, one a call.
+fn fails_at(alloc: Global, end: usize, kind: ErrorKind, kind_is: &str) -> Result<bool, Fail> {
+    let mut stream = Halting::new(alloc, &SECTIONS, 1)?;
+    stream.fails_at = end.saturating_add(1);
+    stream.kind = kind;
+    let (blocks, told) = blocks_of(alloc, &mut stream)?;
+    let (used, _wanted) = beginning(end);
+    Ok(blocks == count(used) && told.as_str() == kind_is)
 }
 
 #[test]
 fn every_failed_read(rt: HostRuntime) -> Result<(), Fail> {
-    for kind in [ErrorKind::Other, ErrorKind::Interrupted] {
-        let kind_is = format!(in rt.alloc(); "{kind:?}")?;
-        // the call that fails comes after so many bytes, one a call
-        for end in 0..97usize {
-            let mut stream = Halting::new(rt.alloc(), &SECTIONS, 1)?;
-            stream.fails_at = end.saturating_add(1);
-            stream.kind = kind;
-            let (blocks, told) = blocks_of(rt.alloc(), &mut stream)?;
-            let (used, _wanted) = beginning(end);
-            assert!(rt;
-                blocks == count(used) && told.as_str() == kind_is.as_str(),
-                "at {end}"
-            );
+    for (kind, kind_is) in [
+        (ErrorKind::Other, "Other"),
+        (ErrorKind::Interrupted, "Interrupted"),
+    ] {
+        for end in 0..97 {
+            assert!(rt; fails_at(rt.alloc(), end, kind, kind_is)?, "at {end}");
         }
     }
     Ok(())
 }
 
-// Why no parser is made of a stream of these bytes and the others, and how many bytes are taken.
-fn first_of(
-    alloc: Global,
-    bytes: &[u8],
-    others: &[u8],
-    step: usize,
-) -> Result<(usize, String), Fail> {
-    let mut whole = Vec::from_slice(alloc, bytes)?;
-    whole.extend_from_slice(others)?;
+// Why no parser is made of a stream of these bytes.
+fn no_parser(alloc: Global, bytes: &[u8], step: usize) -> Result<String, Fail> {
+    let mut stream = Halting::new(alloc, bytes, step)?;
+    first(alloc, &mut stream)
+}
+
+// The same where more stand behind them, of which none are taken.
+fn takes_no_more(alloc: Global, bytes: &[u8], step: usize) -> Result<String, Fail> {
+    let whole = joined(alloc, bytes, &SECTION)?;
     let mut stream = Halting::new(alloc, whole.as_slice(), step)?;
     let shown = first(alloc, &mut stream)?;
-    Ok((stream.taken, shown))
+    if stream.taken > bytes.len() {
+        return Err(Fail::new("more is taken"));
+    }
+    Ok(shown)
+}
+
+fn refused_first(alloc: Global, bytes: &[u8]) -> Result<String, Fail> {
+    by_steps(alloc, bytes, takes_no_more)
+}
+
+// Whether the first block of a row ends early.
+fn is_torn(alloc: Global, row: &str) -> Result<(), Fail> {
+    let (digits, _shown) = row.split_once("=>").ok_or("a row with no arrow")?;
+    let bytes = bytes(alloc, digits)?;
+    let told = by_steps(alloc, bytes.as_slice(), no_parser)?;
+    same(told.as_str(), "UnexpectedEof")
 }
 
 #[test]
 fn first_blocks(rt: HostRuntime) -> Result<(), Fail> {
-    for (digits, told) in rows(rt.alloc(), REFUSED)? {
-        let bytes = bytes(rt.alloc(), digits)?;
-        for step in [1, 100] {
-            let (taken, shown) = first_of(rt.alloc(), bytes.as_slice(), &SECTION, step)?;
-            assert!(rt;
-                shown.as_str() == told && taken <= bytes.len(),
-                "{shown} at {digits}"
-            );
-        }
+    for row in TORN.trim().lines() {
+        is_torn(rt.alloc(), row)?;
     }
-    for (digits, _told) in rows(rt.alloc(), TORN)? {
-        let bytes = bytes(rt.alloc(), digits)?;
-        for step in [1, 100] {
-            let (_taken, shown) = first_of(rt.alloc(), bytes.as_slice(), &[], step)?;
-            assert_eq!(rt; shown.as_str(), "UnexpectedEof", "at {digits}");
-        }
-    }
-    Ok(())
+    every_row(rt.alloc(), REFUSED, refused_first)
 }
 
-// What a parser takes off a stream behind the interface and these digits, as text: two blocks, and what is in force then.
-fn two(alloc: Global, digits: &str, step: usize) -> Result<String, Fail> {
-    let mut whole = Vec::from_slice(alloc, front(&SECTIONS, 48))?;
-    whole.extend_from_slice(bytes(alloc, digits)?.as_slice())?;
-    let mut stream = Halting::new(alloc, whole.as_slice(), step)?;
+// What a parser takes off a stream of this capture behind its section, as text: two blocks, and what is in force then.
+fn two(alloc: Global, capture: &[u8], step: usize) -> Result<String, Fail> {
+    let mut stream = Halting::new(alloc, capture, step)?;
     let mut parser = PcapNgParser::from_reader(alloc, &mut stream)?;
     let one = next(alloc, &mut parser, &mut stream)?;
     let two = next(alloc, &mut parser, &mut stream)?;
@@ -143,18 +138,23 @@ fn two(alloc: Global, digits: &str, step: usize) -> Result<String, Fail> {
     Ok(format!(in alloc; "{one} {two} {state}")?)
 }
 
+// What it takes of these bytes behind a section and an interface, which stay in force.
+fn refused(alloc: Global, bytes: &[u8]) -> Result<String, Fail> {
+    let whole = joined(alloc, front(&SECTIONS, 48), bytes)?;
+    let shown = by_steps(alloc, whole.as_slice(), two)?;
+    let after = " Big 1.0 -1 [] with ETHERNET/262144/[]";
+    between(alloc, shown.as_str(), "InterfaceDescription ", after)
+}
+
 #[test]
 fn refused_blocks(rt: HostRuntime) -> Result<(), Fail> {
-    for (digits, told) in rows(rt.alloc(), REFUSED_BLOCKS)? {
-        let told = format!(in rt.alloc();
-            "InterfaceDescription {told} Big 1.0 -1 [] with ETHERNET/262144/[]"
-        )?;
-        for step in [1, 100] {
-            let shown = two(rt.alloc(), digits, step)?;
-            assert_eq!(rt; shown.as_str(), told.as_str(), "at {digits}");
-        }
-    }
-    Ok(())
+    every_row(rt.alloc(), REFUSED_BLOCKS, refused)
+}
+
+// Whether this is in force.
+fn is_little(alloc: Global, parser: &PcapNgParser) -> Result<bool, Fail> {
+    let state = state(alloc, parser.section(), parser.interfaces())?;
+    Ok(state.as_str() == "Little 1.0 -1 [] with ETHERNET/262144/[]")
 }
 
 #[test]
@@ -177,20 +177,30 @@ fn a_stream_that_goes_on(rt: HostRuntime) -> Result<(), Fail> {
     Ok(())
 }
 
+// How many bytes of a slice are left behind a parser's next block, if one comes.
+fn left_behind(parser: &mut PcapNgParser, slice: &[u8]) -> Option<usize> {
+    match &parser.next_block(slice) {
+        Ok((rest, _)) => Some(rest.len()),
+        Err(_) => None,
+    }
+}
+
+// Whether a parser takes a block of a slice, then one off a stream, and then one of a slice again.
+fn goes_between(alloc: Global, step: usize) -> Result<bool, Fail> {
+    let mut stream = Halting::new(alloc, front(&SECTIONS, 28), step)?;
+    let mut parser = PcapNgParser::from_reader(alloc, &mut stream)?;
+    let is_first = left_behind(&mut parser, back(&SECTIONS, 28)) == Some(48);
+    let mut stream = Halting::new(alloc, back(&SECTIONS, 48), step)?;
+    let section = next(alloc, &mut parser, &mut stream)?;
+    let is_second = section.as_str() == "SectionHeader" && stream.taken == 28;
+    let is_third = left_behind(&mut parser, back(&SECTIONS, 76)) == Some(0);
+    Ok(is_first && is_second && is_third && is_little(alloc, &parser)?)
+}
+
 #[test]
 fn a_slice_between_streams(rt: HostRuntime) -> Result<(), Fail> {
     for step in [1, 100] {
-        let mut stream = Halting::new(rt.alloc(), front(&SECTIONS, 28), step)?;
-        let mut parser = PcapNgParser::from_reader(rt.alloc(), &mut stream)?;
-        let (rest, block) = parser.next_block(back(&SECTIONS, 28))?;
-        assert!(rt; rest.len() == 48 && block.initial_len == 20);
-        let mut stream = Halting::new(rt.alloc(), rest, step)?;
-        let section = next(rt.alloc(), &mut parser, &mut stream)?;
-        assert!(rt; section.as_str() == "SectionHeader" && stream.taken == 28);
-        let (rest, _block) = parser.next_block(back(&SECTIONS, 76))?;
-        assert!(rt; rest.is_empty());
-        let state = state(rt.alloc(), parser.section(), parser.interfaces())?;
-        assert_eq!(rt; state.as_str(), "Little 1.0 -1 [] with ETHERNET/262144/[]");
+        assert!(rt; goes_between(rt.alloc(), step)?, "by {step}");
     }
     Ok(())
 }

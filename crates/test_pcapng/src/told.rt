@@ -1,8 +1,10 @@
-//! Blocks and what is in force after them, as text.
+//! Blocks, what is in force after them, and refusals, as text.
 
+use pcap_file::PcapError;
 use pcap_file::pcapng::{Block, InterfaceDescriptionBlock, SectionHeaderBlock};
-use std::alloc::Global;
+use std::alloc::{AllocError, Global};
 use std::test::Fail;
+use test_support::rows::same;
 
 /// The blocks: type, both lengths, order.
 pub fn blocks(alloc: Global, blocks: &[Block]) -> Result<String, Fail> {
@@ -45,4 +47,43 @@ pub fn state(
         )?;
     }
     Ok(told)
+}
+
+/// What a refusal tells: the kind of an `IoError`, else the error.
+pub fn refusal(alloc: Global, error: &PcapError) -> Result<String, Fail> {
+    match error {
+        PcapError::IoError(error) => Ok(format!(in alloc; "{:?}", error.kind())?),
+        error => Ok(format!(in alloc; "{error:?}")?),
+    }
+}
+
+/// Some bytes, and then others.
+pub fn joined(alloc: Global, bytes: &[u8], others: &[u8]) -> Result<Vec<u8>, AllocError> {
+    let mut whole = Vec::from_slice(alloc, bytes)?;
+    whole.extend_from_slice(others)?;
+    Ok(whole)
+}
+
+/// What a text has between these two; all of it where it doesn't begin and end so.
+pub fn between(alloc: Global, text: &str, before: &str, after: &str) -> Result<String, Fail> {
+    let inner = match text.strip_prefix(before) {
+        Some(rest) => rest.strip_suffix(after),
+        None => None,
+    };
+    Ok(String::from_str(alloc, inner.unwrap_or(text))?)
+}
+
+/// What a call gives for these bytes off a stream that gives one byte a read, and for one that gives a hundred, which has to be
+/// the same.
+pub fn by_steps<F: Fn(Global, &[u8], usize) -> Result<String, Fail>>(
+    alloc: Global,
+    bytes: &[u8],
+    call: F,
+) -> Result<String, Fail>
+    requires { F.IsAlwaysCallable call }
+{
+    let one = call(alloc, bytes, 1)?;
+    let many = call(alloc, bytes, 100)?;
+    same(many.as_str(), one.as_str())?;
+    Ok(one)
 }

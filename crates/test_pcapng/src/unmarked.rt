@@ -2,8 +2,9 @@
 
 use crate::told::state;
 use pcap_file::PcapNgParser;
+use std::alloc::Global;
 use std::test::Fail;
-use test_support::rows::{bytes, rows};
+use test_support::rows::every_row;
 
 /// One section header of 36 bytes, whose only option is a comment, in both orders.
 const UNMARKED: &str = r#"
@@ -11,27 +12,31 @@ const UNMARKED: &str = r#"
     0a0d0d0a 24000000 4d3c2b1a 0100 0000 ffffffffffffffff 0100 0200 6869 0000 24000000 => Little 1.0 -1 [Comment("hi")] with
 "#;
 
+// What is in force after such a capture, which a parser takes whole.
+
+fn from_a_slice(alloc: Global, capture: &[u8]) -> Result<String, Fail> {
+    let (rest, parser) = PcapNgParser::new(alloc, capture)?;
+    if !rest.is_empty() {
+        return Err(Fail::new("bytes are left"));
+    }
+    state(alloc, parser.section(), parser.interfaces())
+}
+
+fn off_a_stream(alloc: Global, capture: &[u8]) -> Result<String, Fail> {
+    let mut stream = capture;
+    let parser = PcapNgParser::from_reader(alloc, &mut stream)?;
+    if !stream.is_empty() {
+        return Err(Fail::new("bytes are left"));
+    }
+    state(alloc, parser.section(), parser.interfaces())
+}
+
 #[test]
 fn first_section_from_a_slice(rt: HostRuntime) -> Result<(), Fail> {
-    for (digits, told) in rows(rt.alloc(), UNMARKED)? {
-        let capture = bytes(rt.alloc(), digits)?;
-        let (rest, parser) = PcapNgParser::new(rt.alloc(), capture.as_slice())?;
-        assert!(rt; rest.is_empty(), "at {digits}");
-        let shown = state(rt.alloc(), parser.section(), parser.interfaces())?;
-        assert_eq!(rt; shown.as_str(), told, "at {digits}");
-    }
-    Ok(())
+    every_row(rt.alloc(), UNMARKED, from_a_slice)
 }
 
 #[test]
 fn first_section_off_a_stream(rt: HostRuntime) -> Result<(), Fail> {
-    for (digits, told) in rows(rt.alloc(), UNMARKED)? {
-        let capture = bytes(rt.alloc(), digits)?;
-        let mut stream = capture.as_slice();
-        let parser = PcapNgParser::from_reader(rt.alloc(), &mut stream)?;
-        assert!(rt; stream.is_empty(), "at {digits}");
-        let shown = state(rt.alloc(), parser.section(), parser.interfaces())?;
-        assert_eq!(rt; shown.as_str(), told, "at {digits}");
-    }
-    Ok(())
+    every_row(rt.alloc(), UNMARKED, off_a_stream)
 }
