@@ -1,9 +1,13 @@
-//! Packets and options as they stand, and where packets stand again: small captures and lists that were written by hand, with
-//! one packet or some bytes of them made wrong.
+//! Packets, options and blocks as they stand, and where packets stand again: small captures and lists that were written by hand,
+//! with one packet or some bytes of them made wrong.
 #![tactic(auto)]
 
 #[cfg(test)]
 mod again;
+#[cfg(test)]
+mod block_rows;
+#[cfg(test)]
+mod blocks;
 #[cfg(test)]
 mod interfaces;
 #[cfg(test)]

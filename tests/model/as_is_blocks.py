@@ -1,0 +1,130 @@
+"""PcapNg captures as they stand: what is wrong with each section, interface and packet, and the times of these."""
+import os
+import re
+
+from blocks import TYPES, at_least
+from conversion import time_of
+from frames import frame
+from left import Left, padding
+from options import option
+from refusals import Lacks, Refused, rule
+from shown import Value, shown
+
+TOP = os.path.dirname(os.path.dirname(os.path.dirname(os.path.abspath(__file__))))
+SECTION, INTERFACE, ENHANCED = 0x0A0D0D0A, 1, 6
+
+
+def rule_names():
+    """The name of each rule, by its message, from the page that has them."""
+    with open(f"{TOP}/docs/REFUSALS.md", encoding="utf-8") as page:
+        rows = re.findall(r"^\| V[0-9.]+ \| \d+ \| `(\w+)` \|.*\| ([^|]+) \|$", page.read(), re.M)
+    return {message: name for name, message in rows}
+
+
+NAMES = rule_names()
+NOT_RULES = {"io": Value("TooShort"), "utf8": Value("NotUtf8")}
+
+
+def flaw(why, code=None):
+    """What is wrong with the value of an option of this code, or with a whole body."""
+    text = str(why)
+    broken = NOT_RULES[text] if text in NOT_RULES else Value("Rule", Value(NAMES[text.removeprefix("invalid ")]))
+    return Value("Flaw", code=Value("None") if code is None else Value("Some", code), broken=broken)
+
+
+def options_as_is(kind, left):
+    """The options whose values break no rule, and what is wrong: with each other one, and with the list's end."""
+    found, flaws = [], []
+    while left:
+        if len(left) < 4:
+            return found, [*flaws, flaw(rule("Option: slice.len() < 4"))]
+        code, length = left.number(2), left.number(2)
+        if code == 0:
+            break
+        if length + padding(length) > len(left):
+            return found, [*flaws, flaw(rule("Option: length + pad.len() > slice.len()"))]
+        value = left.take(length)
+        left.take(padding(length))
+        try:
+            found.append(option(kind, code, value, left.order))
+        except Refused as why:
+            flaws.append(flaw(why, code))
+    return found, flaws
+
+
+def section(left):
+    """What is wrong with a section. One that gives no order is refused."""
+    at_least(left, 16, "SectionHeaderBlock: block length < 16")
+    left.take(16)
+    return options_as_is("SectionHeaderOption", left)[1]
+
+
+def interface(left):
+    """An interface, or none where it has no room for its head, and what is wrong with it."""
+    if len(left) < 8:
+        return None, [flaw(rule("InterfaceDescriptionBlock: block length < 8"))]
+    left.take(8)
+    found, flaws = options_as_is("InterfaceDescriptionOption", left)
+    return {"options": found}, flaws
+
+
+def enhanced(left, interfaces):
+    """What is wrong with a packet, and its time by its interface's clock, where it has one."""
+    if len(left) < 20:
+        return [flaw(rule("EnhancedPacketBlock: block length length < 20"))], None
+    number, units, stored, _ = left.number(4), left.time(), left.number(4), left.number(4)
+    if stored + padding(stored) > len(left):
+        return [flaw(rule("EnhancedPacketBlock: captured_len + padding > block length"))], None
+    left.take(stored + padding(stored))
+    _, flaws = options_as_is("EnhancedPacketOption", left)
+    by = interfaces[number] if number < len(interfaces) else None
+    return flaws, time_of(by, units) if by else None
+
+
+def shown_time(time):
+    if time is None:
+        return "None"
+    return shown(Value("Some", Value("Timestamp", seconds=time[0], nanoseconds=time[1])))
+
+
+class Reading:
+    """What was read of a capture so far: the order of its section, and the interfaces of this."""
+
+    def __init__(self):
+        self.order, self.interfaces = None, []
+
+    def told(self, block):
+        """What a block is: its type, what is wrong with it, and of a packet its time."""
+        body = Left(block.body, block.order)
+        if block.number == SECTION:
+            flaws = section(body)
+            self.order, self.interfaces = block.order, []
+        elif self.order is None:
+            raise rule("SectionHeader missing")
+        elif block.number == INTERFACE:
+            kept, flaws = interface(body)
+            self.interfaces.append(kept)
+        else:
+            flaws = []
+        text = f"{block_type(block.number)} {shown(flaws)}"
+        if block.number == ENHANCED:
+            wrong, time = enhanced(body, self.interfaces)
+            text += f" {shown(wrong)} {shown_time(time)}"
+        return text
+
+
+def block_type(number):
+    return TYPES[number][0] if number in TYPES else f"Unknown({number})"
+
+
+def told(bytes_):
+    """What is told of a capture: each block, and why no other follows, where bytes are left."""
+    left, reading, words = Left(bytes_, "big"), Reading(), []
+    while left or not words:
+        try:
+            left.order = reading.order or "big"
+            words.append(reading.told(frame(left)))
+        except (Lacks, Refused) as why:
+            words.append(str(why))
+            break
+    return "; ".join(words)
