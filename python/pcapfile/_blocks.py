@@ -255,11 +255,15 @@ class BlockCapture(Packets):
             walk.take()
             yield walk.shown()
 
-    def _stretches(self, count: int) -> List[Stretch]:
+    def _stretches(self, count: int, at_least: int) -> List[Stretch]:
         window, cuts, error = self._source.window(), (_library.NgCut * count)(), _library.Error()
         found, known, places = ctypes.c_size_t(), ctypes.c_size_t(), (ctypes.c_size_t * 64)()
         while True:
-            status = _library.cut_blocks(window.left, cuts, count, found, places, len(places), known, error)
+            wanted = (cuts, count, found, places, len(places), known, error)
+            if at_least > 0:
+                status = _library.cut_blocks_at_least(window.left, at_least, *wanted)
+            else:
+                status = _library.cut_blocks(window.left, *wanted)
             if status != _library.NO_PLACE:
                 break
             places = (ctypes.c_size_t * known.value)()

@@ -104,8 +104,9 @@ class Packets:
         """All packets as a DataFrame of pandas: `time`, NaT where there is none, and the other columns."""
         return _columns.to_pandas(self.columns(COLUMNS, threads), self._end() if isinstance(self._source, Memory) else 0)
 
-    def _stretches(self, count: int) -> List[Stretch]:
-        """Where it can be cut into so many stretches of equal length, at most."""
+    def _stretches(self, count: int, at_least: int) -> List[Stretch]:
+        """Where it can be cut into so many stretches of equal length, at most; or into stretches of at least so many bytes, which
+        are no more than `count`, where at least one byte is asked for."""
         raise NotImplementedError
 
     def close(self) -> None:
@@ -204,10 +205,13 @@ class Capture(Packets):
                 at -= start
                 yield make(Packet, (seconds, nanoseconds, original, data[at : at + length], link, base + at))
 
-    def _stretches(self, count: int) -> List[Stretch]:
+    def _stretches(self, count: int, at_least: int) -> List[Stretch]:
         window, cuts = self._source.window(), (_library.Cut * count)()
         found, error = ctypes.c_size_t(), _library.Error()
-        status = _library.cut_packets(window.left, cuts, count, found, error)
+        if at_least > 0:
+            status = _library.cut_packets_at_least(window.left, at_least, cuts, count, found, error)
+        else:
+            status = _library.cut_packets(window.left, cuts, count, found, error)
         if status != _library.OK:
             raise error_of(status, error, 0)
         begins = [cut.offset for cut in cuts[: found.value]]

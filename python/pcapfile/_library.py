@@ -190,6 +190,10 @@ cut_packets = _library.pcapfile_cut_packets
 cut_packets.argtypes = [_to(Bytes), _to(Cut), ctypes.c_size_t, _to(ctypes.c_size_t), _to(Error)]
 cut_packets.restype = ctypes.c_int32
 
+cut_packets_at_least = _library.pcapfile_cut_packets_at_least
+cut_packets_at_least.argtypes = [_to(Bytes), ctypes.c_size_t, *cut_packets.argtypes[1:]]
+cut_packets_at_least.restype = ctypes.c_int32
+
 cut_blocks = _library.pcapfile_cut_blocks
 cut_blocks.argtypes = [
     _to(Bytes),
@@ -202,6 +206,10 @@ cut_blocks.argtypes = [
     _to(Error),
 ]
 cut_blocks.restype = ctypes.c_int32
+
+cut_blocks_at_least = _library.pcapfile_cut_blocks_at_least
+cut_blocks_at_least.argtypes = [_to(Bytes), ctypes.c_size_t, *cut_blocks.argtypes[1:]]
+cut_blocks_at_least.restype = ctypes.c_int32
 
 
 def _writing(name: str, *structs: Any) -> Callable[..., int]:

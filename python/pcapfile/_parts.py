@@ -49,10 +49,10 @@ class Part:
 
 
 def parts(path: Union[str, bytes, os.PathLike], count: Optional[int] = None, *, at_least: int = 0) -> List[Part]:
-    """So many parts of the capture in a regular file, of equal length but for less than a packet or block each. There are fewer
-    where a packet is longer than a share, where a part would have fewer than `at_least` bytes, or where the capture is refused
-    before the last of them; the refusal then comes in the last part. Their packets joined are those of the capture. Without
-    `count` there are as many as have `at_least` bytes each.
+    """So many parts of the capture in a regular file, of equal length but for less than a packet or block each; or without `count`
+    parts of at least so many bytes, each but the last with no packet or block more than it needs. With both, a part but the last
+    has at least as many bytes as either asks for. There are fewer parts where a packet is longer than a share, or where the capture
+    is refused before the last of them; the refusal then comes in the last part. Their packets joined are those of the capture.
 
     Cutting passes over the packets once, and reads nothing but their headers. A `CaptureError` comes where the capture is refused
     at its front."""
@@ -62,21 +62,7 @@ def parts(path: Union[str, bytes, os.PathLike], count: Optional[int] = None, *, 
         raise ValueError("a capture has at least one part")
     with in_file(path) as capture:
         if at_least > 0:
-            most = max(os.stat(path).st_size // at_least, 1)
-            count = most if count is None else min(count, most)
-        return [Part(os.fspath(path), stretch) for stretch in _joined(capture._stretches(count or 1), at_least)]
-
-
-def _joined(stretches: List[Stretch], at_least: int) -> List[Stretch]:
-    """Those that have fewer bytes joined to the one before them, and the first to the one behind it."""
-    joined: List[Stretch] = []
-    for stretch in stretches:
-        if joined and (_length(stretch) < at_least or _length(joined[-1]) < at_least):
-            joined[-1] = joined[-1]._replace(end=stretch.end)
-        else:
-            joined.append(stretch)
-    return joined
-
-
-def _length(stretch: Stretch) -> int:
-    return stretch.end - stretch.begin
+            if count is not None:
+                at_least = max(at_least, -(-capture._end() // count))
+            count = capture._end() // at_least + 1
+        return [Part(os.fspath(path), stretch) for stretch in capture._stretches(count or 1, at_least)]

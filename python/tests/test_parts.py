@@ -141,15 +141,27 @@ class Parts(unittest.TestCase):
         path = self.written(HEADER + b"".join(packet(n, 0, bytes(n % 40)) for n in range(300)))
         whole = told(pcapfile.open(path))
         size = path.stat().st_size - len(HEADER)
+
+        def begins(wanted):
+            """A part begins where so many bytes stand behind the beginning of the one before it, and a packet follows."""
+            found, place = [len(HEADER)], len(HEADER)
+            for n in range(300):
+                if place - found[-1] >= wanted:
+                    found.append(place)
+                place += 16 + n % 40
+            return found
+
         for at_least in (1, 55, 100, 1000, 6000, size, size + 1):
             for count in (None, 7):
                 parts = pcapfile.parts(path, count, at_least=at_least)
                 self.assertEqual(told(joined(parts)), whole)
-                lengths = [part.end - part.begin for part in parts]
-                self.assertGreaterEqual(min(lengths), min(at_least, size))
-                self.assertLess(max(lengths), 2 * max(at_least, size // 7) + 2 * 56)
+                wanted = at_least if count is None else max(at_least, -(-path.stat().st_size // count))
+                self.assertEqual([part.begin for part in parts], begins(wanted))
         self.assertEqual(len(pcapfile.parts(path, at_least=1)), 300)
         self.assertEqual(len(pcapfile.parts(path, 7, at_least=1)), 7)
+        ng = SECTION + INTERFACE + b"".join(enhanced(0, n, bytes(4)) for n in range(9))
+        parts = pcapfile.parts(self.written(ng), at_least=2 * 36)
+        self.assertEqual([len(list(part)) for part in parts], [2, 2, 2, 2, 1])
         self.assertRaises(ValueError, pcapfile.parts, path)
 
     def test_a_torn_capture(self):

@@ -210,6 +210,26 @@ static void cuts(void) {
     EXPECT(pcapfile_cut_packets(&all, cuts, 3, &count, &error) == PCAPFILE_INVALID && error.rule == PCAPFILE_RULE_CAPTURE_MAGIC);
 }
 
+/* The same packets in parts of at least so many bytes. */
+static void cuts_at_least(void) {
+    uint8_t two[24 + 2 * 19];
+    pcapfile_cut cuts[5] = { { 9, 9 }, { 9, 9 }, { 9, 9 }, { 9, 9 }, { 9, 9 } };
+    pcapfile_error error = PCAPFILE_ERROR_INIT;
+    size_t count = 9;
+    memcpy(two, capture, sizeof capture);
+    memcpy(two + sizeof capture, capture + 24, 19);
+    pcapfile_bytes all = { two, sizeof two };
+    EXPECT(pcapfile_cut_packets_at_least(&all, 19, cuts, 3, &count, &error) == PCAPFILE_NO_PLACE && count == 0 && cuts[0].offset == 9);
+    EXPECT(pcapfile_cut_packets_at_least(&all, 0, cuts, 5, &count, &error) == PCAPFILE_NO_PLACE && count == 0);
+    EXPECT(pcapfile_cut_packets_at_least(&all, SIZE_MAX, cuts, 0, &count, &error) == PCAPFILE_NO_PLACE && count == 0);
+    EXPECT(pcapfile_cut_packets_at_least(&all, 19, cuts, 4, &count, &error) == PCAPFILE_OK && count == 2);
+    EXPECT(cuts[0].offset == 24 && cuts[0].before == 0 && cuts[1].offset == 43 && cuts[1].before == 1 && cuts[2].offset == 9);
+    EXPECT(pcapfile_cut_packets_at_least(&all, 20, cuts, 4, &count, &error) == PCAPFILE_OK && count == 1 && cuts[1].offset == 43);
+    EXPECT(pcapfile_cut_packets_at_least(&all, SIZE_MAX, cuts, 1, &count, &error) == PCAPFILE_OK && count == 1 && cuts[0].offset == 24);
+    all.len = 23;
+    EXPECT(pcapfile_cut_packets_at_least(&all, 19, cuts, 4, &count, &error) == PCAPFILE_INCOMPLETE && error.missing == 1 && count == 0);
+}
+
 static void writes(void) {
     uint8_t room[64], before[64];
     pcapfile_header header = { 0xd4c3b2a1, 2, 4, -2, 0, 65535, PCAPFILE_LINK_ETHERNET };
@@ -375,6 +395,20 @@ static void block_cuts(void) {
     all = (pcapfile_bytes){ (const uint8_t *)"\0\0\0\1\0\0\0\x14\0\1\0\0\0\0\0\0\0\0\0\x14", 20 };
     EXPECT(pcapfile_cut_blocks(&all, cuts, 2, &count, places, 2, &known, &error) == PCAPFILE_INVALID && count == 0);
     EXPECT(error.rule == PCAPFILE_RULE_SECTION_MISSING);
+}
+
+/* The interface's 40 bytes and the packet's 36 in parts of at least so many bytes. */
+static void block_cuts_at_least(void) {
+    pcapfile_bytes all = { blocks, sizeof blocks };
+    pcapfile_ng_cut cuts[4] = { PCAPFILE_NG_CUT_INIT };
+    pcapfile_error error = PCAPFILE_ERROR_INIT;
+    size_t places[2] = { 9, 9 }, count = 9, known = 9;
+    EXPECT(pcapfile_cut_blocks_at_least(&all, 40, cuts, 2, &count, places, 2, &known, &error) == PCAPFILE_NO_PLACE && known == 0);
+    EXPECT(pcapfile_cut_blocks_at_least(&all, 40, cuts, 3, &count, places, 0, &known, &error) == PCAPFILE_NO_PLACE && known == 1);
+    EXPECT(count == 0 && places[0] == 9 && cuts[0].at.offset == 0);
+    EXPECT(pcapfile_cut_blocks_at_least(&all, 40, cuts, 3, &count, places, 2, &known, &error) == PCAPFILE_OK && count == 2);
+    EXPECT(cuts[0].at.offset == 28 && cuts[1].at.offset == 68 && cuts[1].at.before == 1 && cuts[1].interfaces == 1 && known == 1);
+    EXPECT(pcapfile_cut_blocks_at_least(&all, 41, cuts, 3, &count, places, 2, &known, &error) == PCAPFILE_OK && count == 1 && places[0] == 28);
 }
 
 static void ng_batches(void) {
@@ -674,6 +708,7 @@ int main(void) {
     batches();
     rows();
     cuts();
+    cuts_at_least();
     writes();
     pushes();
     refused_pushes();
@@ -682,6 +717,7 @@ int main(void) {
     ng_batches();
     ng_rows();
     block_cuts();
+    block_cuts_at_least();
     passed_blocks();
     ng_pushes();
     options();
