@@ -3,7 +3,8 @@
  * of their units of time and stored bytes. CALL is take_packet or take_ng_packet for one in a call, take_packets or
  * take_ng_packets for 256. Of a capture that comes in pieces, into room of 256 KiB, it is push_next for one in a call and
  * push_packets for 256, and push_ng_next and push_ng_packets, which tell nanoseconds. open_next takes one in a call of
- * pcapfile_open.h, of either format, and tells nanoseconds too; for that standard input has to be a file. */
+ * pcapfile_open.h, of either format, and tells nanoseconds too; for that standard input has to be a file. cut_packets and
+ * cut_blocks take no packet: they cut the capture into four parts, and the sum is that of the places where these begin. */
 #include "pcapfile_open.h"
 
 #include <inttypes.h>
@@ -146,6 +147,26 @@ static int32_t add_ng_batches(pcapfile_bytes left, uint64_t *sum) {
     return status;
 }
 
+enum { PARTS = 4 };
+
+static int32_t add_cuts(pcapfile_bytes all, uint64_t *sum) {
+    pcapfile_cut cuts[PARTS] = { PCAPFILE_CUT_INIT };
+    pcapfile_error error = PCAPFILE_ERROR_INIT;
+    size_t count = 0;
+    int32_t status = pcapfile_cut_packets(&all, cuts, PARTS, &count, &error);
+    for (size_t i = 0; i < count; i++) *sum += cuts[i].offset;
+    return status;
+}
+
+static int32_t add_block_cuts(pcapfile_bytes all, uint64_t *sum) {
+    pcapfile_ng_cut cuts[PARTS] = { PCAPFILE_NG_CUT_INIT };
+    pcapfile_error error = PCAPFILE_ERROR_INIT;
+    size_t places[8], count = 0, known = 0;
+    int32_t status = pcapfile_cut_blocks(&all, cuts, PARTS, &count, places, 8, &known, &error);
+    for (size_t i = 0; i < count; i++) *sum += cuts[i].at.offset;
+    return status;
+}
+
 static int32_t add_opened(pcapfile_bytes left, uint64_t *sum) {
     (void)left;
     pcapfile_reader *reader = lseek(0, 0, SEEK_SET) == 0 ? pcapfile_fdopen(dup(0)) : NULL;
@@ -172,6 +193,8 @@ static const struct {
     { "open_next", add_opened },
     { "take_ng_packet", add_ng_packets },
     { "take_ng_packets", add_ng_batches },
+    { "cut_packets", add_cuts },
+    { "cut_blocks", add_block_cuts },
 };
 
 int main(int argc, char **argv) {
