@@ -1,6 +1,6 @@
 -- Blocks of which a walk reads the number of their type and their two lengths.
-use Rattle.std.proofs.Common.{◌≡◌, ◌≤◌, ◌<◌, ◌+◌, ◌-◌, ℕ, List, ◌++◌, length, Option, Some, false, refl, sym, ap, subst, ◌∙◌, arith, append_assoc, length-append, inl, inr}
-use Rattle.std.specs.Prelude.{◌≢◌, ◌%◌, true}
+use Rattle.std.proofs.Common.{◌≡◌, ◌≤◌, ◌+◌, ◌-◌, ℕ, List, ◌++◌, length, Some, false, refl, sym, ap, subst, ◌∙◌, arith, append_assoc, length-append, inl, inr}
+use Rattle.std.specs.Prelude.{◌%◌}
 use Rattle.std.proofs.lemmas.Bool.Decides.{eqb_tells}
 use Rattle.byteorder.specs.Endian.{big_number}
 use Rattle.pcap_core.specs.declared.common.Endianness.{Endianness}
@@ -8,7 +8,6 @@ use Rattle.pcap_core.specs.Answer.{Number, number_in}
 use Rattle.pcap_core.proofs.Formats.{beginning}
 use Rattle.pcap_core.proofs.Numbers.{number_there}
 use Rattle.pcap_core.proofs.Texts.{number_same, number_length, split_same}
-use Rattle.pcap_blocks.specs.declared.block_type.BlockType.{BlockType}
 use Rattle.pcap_blocks.specs.BlockType.{block_type}
 use Rattle.pcap_file.specs.Frames.{Framed, FrameHeadText, FrameTail, FrameText, own_order}
 use Rattle.pcap_file.specs.State.{is_kept}

@@ -1,26 +1,24 @@
 -- Blocks that lie one behind the other in a buffer, and go out from there.
-use Rattle.std.proofs.Common.{◌≡◌, ◌≤◌, ◌<◌, ℕ, ◌+◌, ◌-◌, List, [], ◌∷◌, ◌++◌, length, take, drop, refl, ap, sym, ◌∙◌, subst, arith, append_assoc, append-nil, length-append, take-append-drop, length-drop, Bool, Some, None, inl, inr}
+use Rattle.std.proofs.Common.{◌≡◌, ◌≤◌, ◌<◌, ℕ, ◌+◌, ◌-◌, List, [], ◌∷◌, ◌++◌, length, take, drop, refl, ap, sym, ◌∙◌, subst, arith, append_assoc, length-append, take-append-drop, Bool, Some, None, inl}
 use Rattle.std.specs.Prelude.{Option, All, true, false}
 use lib.Seq.{take-append_seam}
 use Rattle.std.proofs.lemmas.List.{length-take, take-take}
 use Rattle.std.proofs.lemmas.List.Elements.{All-head, All-nil, All-push, All-tail}
-use Rattle.std.specs.Io.KnownBytes.{Consumes, Appends, IsAtEnd}
+use Rattle.std.specs.Io.KnownBytes.{Consumes, Appends}
 use Rattle.pcap_core.specs.declared.errors.PcapError.{PcapError}
 use Rattle.pcap_core.specs.declared.common.Endianness.{Endianness}
-use Rattle.pcap_core.specs.Answer.{whole, lacks, faulty, Refuses}
+use Rattle.pcap_core.specs.Answer.{whole}
 use Rattle.pcap_core.specs.Errors.{IsIo}
 use Rattle.pcap_core.specs.Format.{Texts, state_after}
 use Rattle.pcap_core.specs.Headed.{good}
-use Rattle.pcap_core.specs.Writing.{AppendsPart, Writes}
 use Rattle.pcap_core.proofs.Formats.{beginning, nothing_no_text, shorter, text_same, texts_more, texts_push}
-use Rattle.pcap_core.proofs.Fronts.{whole_not_refused}
 use Rattle.pcap_blocks.specs.InterfaceDescription.{Interface}
 use Rattle.pcap_blocks.specs.SectionHeader.{Section}
 use Rattle.pcap_file.specs.declared.pcapng.copying.NgCopied.{NgCopied}
 use Rattle.pcap_file.specs.Blocks.{Item, BlockText, block_format}
-use Rattle.pcap_file.specs.Copies.{CopiesLeaving, CopiesTexts, EndsTorn, FailsBehind}
-use Rattle.pcap_file.specs.Frames.{Framed, FrameSays, FrameText, frame_format}
-use Rattle.pcap_file.specs.State.{State, within, order_at, is_kept, Means, MeansIf}
+use Rattle.pcap_file.specs.Copies.{CopiesLeaving, EndsTorn, FailsBehind}
+use Rattle.pcap_file.specs.Frames.{Framed, FrameText, frame_format}
+use Rattle.pcap_file.specs.State.{within, order_at, Means, MeansIf}
 use Rattle.pcap_file.specs.Stretches.{LeavesInForce, IsStretch, Passes, TearsBlock, SendsWhole, SendsTorn}
 use Rattle.pcap_file.proofs.HeadedFrames.{frames_lawful}
 
@@ -34,23 +32,6 @@ order_stays e (b ∷ blocks) = order_stays e blocks
 pub own_text : (e : Endianness) (b : Framed) (s rest : List ℕ) → FrameText e b s rest → (t : List ℕ) × (s ≡ t ++ rest) × FrameText e b t []
 unfolding frame_format
 own_text e b s rest text = frames_lawful.own e s rest b text
-
--- bytes that are refused begin with no block
-pub refused_none : (e : Endianness) (bytes : List ℕ) (error : PcapError) → Refuses ⊥ (λ n. FrameSays e bytes (lacks n)) (λ fault. FrameSays e bytes (faulty fault)) error
-    → (b : Framed) (after : List ℕ) → FrameText e b bytes after → ⊥
-unfolding frame_format
-refused_none e bytes error refuses b after text = whole_not_refused frame_format frames_lawful e bytes b after text error refuses
-
--- one block stands at the front of the bytes
-pub same_block : (e : Endianness) (s : List ℕ) (a b : Framed) (r t : List ℕ) → FrameText e a s r → FrameText e b s t → a ≡ b
-unfolding frame_format
-same_block e s a b r t x y = (text_same frame_format frames_lawful e a b s r t x y).0
-
--- a block that stays in force does not leave what is
-pub not_left : (e : Endianness) (s : List ℕ) (a : Framed) (r : List ℕ) → FrameText e a s r → is_kept a.type_ ≡ true → (b : Framed) (after : List ℕ) → FrameText e b s after → LeavesInForce b → ⊥
-not_left e s a r text kept b after other leaves =
-    let wrong : true ≡ false = sym kept ∙ ap (λ (x : Framed). is_kept x.type_) (same_block e s a b r after text other) ∙ leaves in
-    absurd cc
 
 pub no_blocks : (e : Endianness) → IsStretch e [] 0
 no_blocks e = record { blocks = []; count = refl; texts = refl; leave = All-nil LeavesInForce }

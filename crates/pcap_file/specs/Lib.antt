@@ -2,6 +2,7 @@ pub mod Frames
 pub mod Lent
 pub mod Bodies
 pub mod State
+pub mod Changes
 pub mod Blocks
 pub mod Opening
 pub mod Sections

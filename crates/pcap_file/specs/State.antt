@@ -5,6 +5,7 @@ use Rattle.pcap_core.specs.declared.common.Endianness.TheVariants.{Big}
 use Rattle.pcap_core.specs.declared.rules.Rule.TheVariants.{SectionMissing}
 use Rattle.pcap_core.specs.declared.errors.PcapError.{PcapError}
 use Rattle.pcap_core.specs.Answer.{whole, faulty, Refuses}
+use Rattle.pcap_core.specs.Errors.{IsMemory}
 use Rattle.pcap_core.specs.Faults.{Invalid}
 use Rattle.pcap_core.specs.Headed.{HeadReading, good, bad}
 use Rattle.pcap_blocks.specs.declared.block_type.BlockType.{BlockType}
@@ -49,6 +50,11 @@ leads opening _ = bad (Invalid SectionMissing)
 leads (within section interfaces) (InterfaceBody interface) = good (within section (interfaces ++ interface ∷ []))
 leads (within section interfaces) _ = good (within section interfaces)
 
+-- one interface more of the section
+abbrev pub with_interface : State → Interface → State
+with_interface opening interface = opening
+with_interface (within section interfaces) interface = within section (interfaces ++ interface ∷ [])
+
 -- what is said of a block in its frame whose body is read, or is not: the state after it, or its fault
 abbrev pub MeansIf : Bool → State → Framed → HeadReading State → Type 0
 MeansIf true q b (good next) = (body : Body) × (rest : List ℕ) × SaysOfBody b (whole body rest) × (leads q body ≡ good next)
@@ -86,6 +92,11 @@ CanGrow (within section interfaces) b = AreKept b.type_
 abbrev pub FollowTells : State → State → Framed → Result (Unit {0}) PcapError → Type 0
 FollowTells old new b (Ok x) = Means old b (good new)
 FollowTells old new b (Err e) = (new ≡ old) × Refuses (CanGrow old b) (λ n. ⊥) (λ fault. Means old b (bad fault)) e
+
+-- what is put in force by what is kept of a body: the state after it, or memory ran out and the state stays
+abbrev pub Keeps : State → State → State → Result (Unit {0}) PcapError → Type 0
+Keeps old new after (Ok x) = new ≡ after
+Keeps old new after (Err e) = (new ≡ old) × IsMemory e
 
 -- what is in force after a first block
 abbrev pub OpensTells : Framed → Result InForce PcapError → Type 0

@@ -4,6 +4,7 @@ mod block;
 mod block_header;
 pub mod blocks;
 pub(crate) mod buffered;
+mod change;
 pub(crate) mod copying;
 mod fields;
 mod framing;
@@ -16,6 +17,7 @@ mod to_block;
 
 pub use block::Block;
 pub use block_header::BlockHeader;
+pub use change::Change;
 pub use parser::PcapNgParser;
 pub use pcap_blocks::{
     BlockType, Clock, CustomBinaryOption, CustomUtf8Option, DecryptionSecrets, EnhancedPacketBlock,

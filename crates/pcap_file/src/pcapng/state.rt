@@ -1,15 +1,13 @@
 //! The section in force and its interfaces.
 
 ghost use Rattle.std.specs.Prelude.{IsSome};
-ghost use Rattle.pcap_core.specs.Answer.{TellsWhere, number_in};
-ghost use Rattle.pcap_blocks.specs.InterfaceDescription.{InterfaceSays, InterfaceMayGrow, interface_of};
+ghost use Rattle.pcap_blocks.specs.InterfaceDescription.{interface_of};
 ghost use Rattle.pcap_blocks.specs.SectionHeader.{magic_order};
 
 use crate::pcapng::block::Block;
-use byteorder::{BigEndian, LittleEndian};
-use pcap_blocks::{BlockType, InterfaceDescriptionBlock, ParsedBlock, SectionHeaderBlock};
-use pcap_core::rules::Rule;
-use pcap_core::{Endianness, PcapError, ResultParsing};
+use crate::pcapng::change::Change;
+use pcap_blocks::{InterfaceDescriptionBlock, SectionHeaderBlock};
+use pcap_core::{Endianness, ResultParsing};
 use std::alloc::Global;
 
 /// The section in force, and its interfaces so far.
@@ -21,25 +19,20 @@ pub(crate) struct InForce {
 }
 
 impl InForce {
-    ghost use Rattle.std.specs.Prelude.{◌≡◌, map, option_map, slice_get};
+    ghost use Rattle.std.specs.Prelude.{◌≡◌, [], map, option_map, slice_get};
     ghost use Rattle.pcap_blocks.specs.SectionHeader.{section_of};
     ghost use Rattle.pcap_file.specs.Frames.{framed_of};
-    ghost use Rattle.pcap_file.specs.State.{state_in, order_at, FollowTells, OpensTells};
+    ghost use Rattle.pcap_file.specs.State.{state_in, order_at, within, with_interface, FollowTells, Keeps, OpensTells};
 
     // What is in force after a first block.
     pub(crate) fn after(alloc: Global, block: &Block) -> ResultParsing<InForce>
         ensures { OpensTells (framed_of block.now) result }
     {
-        match block.parsed(alloc)? {
-            ParsedBlock::SectionHeader(section) => {
-                let section = section.into_owned(alloc)?;
-                Ok(InForce {
-                    section,
-                    interfaces: Vec::new(alloc),
-                })
-            }
-            _ => Err(PcapError::from(Rule::SectionMissing)),
-        }
+        let section = block.first_section(alloc)?.into_owned(alloc)?;
+        Ok(InForce {
+            section,
+            interfaces: Vec::new(alloc),
+        })
     }
 
     // The order of blocks that are no section.
@@ -74,46 +67,33 @@ impl InForce {
     pub(crate) fn follow(&mut self, alloc: Global, block: &Block) -> ResultParsing<()>
         ensures { FollowTells (state_in self.old) (state_in self.new) (framed_of block.now) result }
     {
-        match block.type_ {
-            BlockType::SectionHeader => self.begin_section(alloc, block),
-            BlockType::InterfaceDescription => self.add_interface(alloc, block),
-            _ => Ok(()),
+        match block.change(alloc)? {
+            Change::Section(section) => self.begin_section(alloc, section),
+            Change::Interface(interface) => self.add_interface(alloc, interface),
+            Change::Nothing => Ok(()),
         }
     }
 
     #[inline(never)]
-    fn begin_section(&mut self, alloc: Global, block: &Block) -> ResultParsing<()>
-        requires { block.now.type_ ≡ BlockType.SectionHeader }
-        ensures { FollowTells (state_in self.old) (state_in self.new) (framed_of block.now) result }
+    fn begin_section(&mut self, alloc: Global, section: SectionHeaderBlock) -> ResultParsing<()>
+        requires { IsSome (magic_order section.magic) }
+        ensures { Keeps (state_in self.old) (state_in self.new) (within (section_of section.entry) []) result }
     {
-        let (_rest, section) = SectionHeaderBlock::from_slice(alloc, block.body.as_slice())?;
         self.section = section.into_owned(alloc)?;
         self.interfaces.clear();
         Ok(())
     }
 
     #[inline(never)]
-    fn add_interface(&mut self, alloc: Global, block: &Block) -> ResultParsing<()>
-        requires { block.now.type_ ≡ BlockType.InterfaceDescription }
-        ensures { FollowTells (state_in self.old) (state_in self.new) (framed_of block.now) result }
+    fn add_interface(
+        &mut self,
+        alloc: Global,
+        interface: InterfaceDescriptionBlock,
+    ) -> ResultParsing<()>
+        ensures { Keeps (state_in self.old) (state_in self.new) (with_interface (state_in self.old) (interface_of interface.entry)) result }
     {
-        let (_rest, interface) = interface_in(block.endianness(), alloc, block.body.as_slice())?;
         let own = interface.into_owned(alloc)?;
         self.interfaces.push(own)?;
         Ok(())
-    }
-}
-
-// The body of an interface, in this order, and what follows it.
-fn interface_in<'a>(
-    order: Endianness,
-    alloc: Global,
-    slice: &'a [u8],
-) -> ResultParsing<(&'a [u8], InterfaceDescriptionBlock<'a>)>
-    ensures { TellsWhere (InterfaceMayGrow (number_in order) slice.now) (InterfaceSays (number_in order) slice.now) interface_of result }
-{
-    match order {
-        Endianness::Big => InterfaceDescriptionBlock::from_slice::<BigEndian>(alloc, slice),
-        Endianness::Little => InterfaceDescriptionBlock::from_slice::<LittleEndian>(alloc, slice),
     }
 }

@@ -1,12 +1,14 @@
-use Rattle.pcap_core.specs.declared.rules.Rule.TheVariants.{SectionMissing}
-use Rattle.pcap_core.specs.Headed.{bad}
-use Rattle.pcap_core.proofs.Refusals.{named_refuses}
+use Rattle.std.proofs.Common.{[]}
+use Rattle.pcap_core.specs.Headed.{good}
+use Rattle.pcap_blocks.specs.SectionHeader.{section_of}
 use Rattle.pcap_file.specs.Frames.{framed_of}
-use Rattle.pcap_file.specs.State.{opening, Means, CanGrow}
-use Rattle.pcap_file.proofs.Opening.{no_section}
+use Rattle.pcap_file.specs.State.{opening, within, Means}
+use Rattle.pcap_file.proofs.KeptBodies.{section_means}
 use Rattle.pcap_file.proofs.pcapng.state.InForce.after.Goals as goal
 
 pub returns : goal.returns
 returns c =
     let b = framed_of c.args.block.now in
-    named_refuses (CanGrow opening b) (λ n. ⊥) (λ fault. Means opening b (bad fault)) SectionMissing c.from.result (no_section b c.in_ok-section.field-0 c.in_default.not-SectionHeader c.in_ok-section.ensures.tells) c.from.ensures
+    let told = c.in_ok-first_section.ensures.tells in
+    let means : Means opening b (good (within (section_of c.in_ok-section.section) [])) = rw c.in_ok-section.ensures.same (section_means b told.0 opening (section_of c.in_ok-first_section.field-0) told.1 told.2) in
+    rw c.new.ensures.items means

@@ -1,7 +1,0 @@
-use Rattle.pcap_file.proofs.pcapng.state.interface_in.Goals as goal
-
-pub returns-in-Big : goal.returns-in-Big
-returns-in-Big c = rw c.in-Big.is c.from_slice.ensures.tells
-
-pub returns-in-Little : goal.returns-in-Little
-returns-in-Little c = rw c.in-Little.is c.from_slice-in-Little.ensures.tells
