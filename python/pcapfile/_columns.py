@@ -199,12 +199,12 @@ class _Rows:
 
     def take(self, left: _library.Bytes, error: _library.Error) -> int:
         """Takes rows into the places behind those that are filled."""
-        place = self._walk.window.offset
-        at = self._at + self.count * self._kind.itemsize
-        status: int = self._walk.take_rows(left, at, self._size - self.count, self._taken, error)
-        begin = self.count
-        self.count += self._taken.value
-        self._offsets[begin : self.count] += numpy.uint64(place)
+        begin, place = self.count, self._walk.window.offset
+        at = self._at + begin * self._kind.itemsize
+        status: int = self._walk.take_rows(left, at, self._size - begin, self._taken, error)
+        self.count = begin + self._taken.value
+        offsets = self._offsets[begin : self.count]
+        offsets += numpy.uint64(place)
         return status
 
     def settle(self) -> None:
@@ -240,12 +240,9 @@ def of_walk(walk: Any, batch: int) -> Iterator[Any]:
 
 def settle_blocks(rows: Any, known: Any) -> None:
     """Makes rows of PcapNg into columns: units of an interface into times, and types of blocks into link types."""
-    numbers, is_simple = rows["interface"], rows["type"] == _SIMPLE_PACKET
-    only = known.get(int(numbers[0]))
-    if only is not None and only.per_second and not is_simple.any() and (numbers == numbers[0]).all():
-        rows["timestamp"] = _times(rows["timestamp"], only).view("u8")
-        rows["type"] = only.interface.link
+    if _settled_alike(rows, known):
         return
+    numbers, is_simple = rows["interface"], rows["type"] == _SIMPLE_PACKET
     original, columns = rows.copy(), rows.view(KINDS)
     columns["time_ns"], columns["link"] = NO_TIME, NO_LINK
     if is_simple.any():
@@ -263,14 +260,37 @@ def settle_blocks(rows: Any, known: Any) -> None:
         columns["time_ns"][timed] = _times(original["timestamp"][timed], found)
 
 
+# A row of PcapNg whose interface and type are one number.
+_ALIKE = {"names": ["timestamp", "interface and type"], "formats": ["u8", "u8"], "offsets": [0, 16], "itemsize": 32}
+
+
+def _settled_alike(rows: Any, known: Any) -> bool:
+    """Makes rows into columns where all are of one type and interface, whose times fit: nothing of them is copied."""
+    alike = rows.view(_ALIKE)
+    kinds, units = alike["interface and type"], alike["timestamp"]
+    only = known.get(int(rows["interface"][0]))
+    if only is None or not only.per_second or rows["type"][0] == _SIMPLE_PACKET or (kinds != kinds[0]).any():
+        return False
+    if int(units.max()) > _most(only):
+        return False
+    units *= numpy.uint64(only.nanoseconds)
+    rows["type"] = only.interface.link
+    return True
+
+
+def _most(known: Any) -> int:
+    """How many units of an interface have a time of 64 bits."""
+    return int((2**63 - 1) // known.nanoseconds)
+
+
 def _times(units: Any, known: Any) -> Any:
     """Nanoseconds since 1970 for so many units of an interface, each; NO_TIME where 64 bits don't hold them."""
     if not known.per_second:
         return numpy.fromiter((_time(known, int(count)) for count in units), "i8", len(units))
-    most = (2**63 - 1) // known.nanoseconds
+    most = _most(known)
     times = (units * numpy.uint64(known.nanoseconds)).view("i8")
-    if units.max(initial=0) > most:
-        times[units > most] = NO_TIME
+    if int(units.max(initial=0)) > most:
+        times[units > numpy.uint64(most)] = NO_TIME
     return times
 
 

@@ -113,6 +113,25 @@ class Columns(unittest.TestCase):
         wanted = [(time, 0, 60, n, 1, len(head) + 28 + 32 * n) for n, time in enumerate(times)]
         self.assertIsNone(self.both(data, wanted))
 
+    def test_the_last_time_of_64_bits(self):
+        # So many microseconds, and one more, whose nanoseconds are more than 2^63 - 1 = 9_223_372_036_854_775_807.
+        last, head = 9_223_372_036_854_775, SECTION + INTERFACE
+        at = len(head) + 28
+        fits, passes = (last * 1000, 0, 60, 0, 113), (NONE, 0, 60, 0, 113)
+        for ticks, told in (([last], [fits]), ([last, last], [fits, fits]), ([last, last + 1], [fits, passes]), ([last + 1], [passes])):
+            wanted = [(*row, at + 32 * n) for n, row in enumerate(told)]
+            self.assertIsNone(self.both(head + b"".join(enhanced(0, count, b"") for count in ticks), wanted))
+
+    def test_obsolete_packets(self):
+        # An interface of 16 bits and how many were dropped, the halves of a time, and the two lengths.
+        old = block(2, struct.pack("<HHIIII", 0, 7, 1, 5, 3, 9) + b"abc\0")
+        head, time = SECTION + INTERFACE, (2**32 + 5) * 1000
+        first = (time, 3, 9, 0, 113, len(head) + 28)
+        second = (time, 3, 9, 0, 113, len(head) + len(old) + 28)
+        self.assertIsNone(self.both(head + old + old, [first, second]))
+        third = (1000, 0, 60, 0, 113, len(head) + len(old) + 28)
+        self.assertIsNone(self.both(head + old + enhanced(0, 1, b""), [first, third]))
+
     def test_offsets_are_those_of_packets(self):
         for data in (HEADER + packet(1, 2, b"abc"), SECTION + INTERFACE + enhanced(0, 1, b"abc")):
             with pcapfile.parse(data) as capture:

@@ -50,7 +50,7 @@ class Threads(unittest.TestCase):
         room = tempfile.TemporaryDirectory()
         self.addCleanup(room.cleanup)
         self.folder = Path(room.name)
-        for module, name, value in ((_columns, "_STRETCH", 1000), (_source, "PIECE", 256)):
+        for module, name, value in ((_columns, "_STRETCH", 1000), (_source, "PIECE", 256), (_source, "PAGE", 16)):
             patch = mock.patch.object(module, name, value)
             patch.start()
             self.addCleanup(patch.stop)
