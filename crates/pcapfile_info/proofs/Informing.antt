@@ -1,6 +1,7 @@
 -- Captures of which it is told what they hold.
 use Rattle.std.proofs.Common.{◌≡◌, ◌<◌, ◌≤◌, ◌+◌, ◌^◌, ℕ, List, [], ◌++◌, length, Bool, true, Option, Some, None, Err, inl, inr, refl, sym, ap, ◌∙◌, subst, arith, length-append, append_assoc}
-use Rattle.std.specs.Prelude.{⊤, IfSome}
+use Rattle.std.specs.Prelude.{⊤, ◌⊎◌, IfSome, String}
+use Rattle.std.specs.Global.{Global}
 use Rattle.pcap_core.specs.declared.errors.PcapError.{PcapError}
 use Rattle.pcap_core.specs.Answer.{number_in, whole}
 use Rattle.pcap_core.specs.Format.{Format, Texts, IsLawful, state_after}
@@ -17,13 +18,14 @@ use Rattle.pcap_classic.proofs.Captures.{under_valid}
 use Rattle.pcap_classic.proofs.HeadedPackets.{packets_lawful}
 use Rattle.pcap_classic.proofs.Stable.{header_stable}
 use Rattle.pcap_classic.proofs.Texts.{header_length}
-use Rattle.pcap_file.specs.Blocks.{block_format}
+use Rattle.pcap_file.specs.Blocks.{Item, block_format}
 use Rattle.pcap_file.specs.Lent.{TakesText}
 use Rattle.pcap_file.specs.Opening.{OpeningSays, RefusesOpening}
 use Rattle.pcap_file.specs.State.{State}
 use Rattle.pcap_file.proofs.BlockFormat.{blocks_lawful}
 use Rattle.pcapfile_run.specs.declared.checked.Checked.{Checked}
 use Rattle.pcapfile_run.specs.declared.checked.End.{End}
+use Rattle.pcapfile_run.specs.declared.checked.End.TheVariants.{Memory}
 use Rattle.pcapfile_run.specs.declared.checked.Format.{Format as CaptureFormat}
 use Rattle.pcapfile_run.specs.declared.checked.Format.TheVariants.{Pcap, PcapNg}
 use Rattle.pcapfile_run.specs.Checks.{FaultIs, EndIs, most_passed}
@@ -31,13 +33,17 @@ use Rattle.pcapfile_run.specs.Passing.{counted}
 use Rattle.pcapfile_run.proofs.Ends.{fails_at, stops_at}
 use Rattle.pcapfile_run.proofs.Passing.{counted_behind}
 use Rattle.pcapfile_run.proofs.Told.{opened_more}
+use Rattle.pcapfile_info.specs.declared.described.Described.{Described}
+use Rattle.pcapfile_info.specs.declared.described.Opened.{Opened}
 use Rattle.pcapfile_info.specs.declared.progress.Progress.{Progress}
 use Rattle.pcapfile_info.specs.declared.seen.Sight.{Sight}
 use Rattle.pcapfile_info.specs.declared.totals.Totals.{Totals}
+use Rattle.pcapfile_info.specs.Describing.{DescribesBlocks, LacksMemory, opened_at}
 use Rattle.pcapfile_info.specs.Information.{InformsItems, InformsPackets, InformsBlocks}
 use Rattle.pcapfile_info.specs.Sights.{IsPacketSight, IsBlockSight}
 use Rattle.pcapfile_info.specs.Telling.{AreSights, TellsItems}
 use Rattle.pcapfile_info.specs.Totals.{TotalsAre}
+use Rattle.pcapfile_info.proofs.Describing.{described_to_end}
 
 -- what a check finds
 abbrev pub checked_of : CaptureFormat → ℕ → ℕ → End → Checked
@@ -48,13 +54,13 @@ module _ {S V : Type 0} (f : Format S V) (laws : IsLawful f) (q : S) (IsSight : 
   informed_left : (vs : List V) (left : Option (List ℕ)) (took : TakesTexts f q vs (Some after) left) → length vs ≤ most_passed → Stops (f.says (state_after f q vs)) left now failed (length vs) most_passed fault
       → (sights : List Sight) → AreSights IsSight first vs sights → TotalsAre first sights new.totals
       → old.bytes ≡ counted (length opening) → checked.items ≡ old.items + length vs → checked.bytes ≡ counted (old.bytes + length took.bytes) → EndIs fault failed checked.items (old.items + most_passed) checked.end
-      → InformsItems f q IsSight first s after old.items checked new.totals
+      → (informs : InformsItems f q IsSight first s after old.items checked new.totals) × (informs.checks.items ≡ vs)
   informed_left vs None took within stops sights are totals before items bytes end = absurd took.took
   informed_left vs (Some left) took within stops sights are totals before items bytes end =
       let run : TakesItems f q (Some after) now failed most_passed vs fault = record { left = Some left; took = took; within = within; stops = stops } in
       let reads = run_reads f laws q after now failed most_passed vs fault run in
       let all : Texts f q vs (took.bytes ++ left) left = texts_more f laws q vs took.bytes [] left took.texts in
-      record {
+      let informs : InformsItems f q IsSight first s after old.items checked new.totals = record {
         checks = record {
           items = vs;
           more = reads.more;
@@ -71,10 +77,11 @@ module _ {S V : Type 0} (f : Format S V) (laws : IsLawful f) (q : S) (IsSight : 
         sights = sights;
         are_sights = are;
         totals_are = totals;
-      }
+      } in
+      (informs, refl)
 
-  pub items_informed : TellsItems f q IsSight first (Some after) now failed most_passed old new fault → old.bytes ≡ counted (length opening) → checked.items ≡ new.items → checked.bytes ≡ new.bytes
-      → EndIs fault failed checked.items (old.items + most_passed) checked.end → InformsItems f q IsSight first s after old.items checked new.totals
+  pub items_informed : (tells : TellsItems f q IsSight first (Some after) now failed most_passed old new fault) → old.bytes ≡ counted (length opening) → checked.items ≡ new.items → checked.bytes ≡ new.bytes
+      → EndIs fault failed checked.items (old.items + most_passed) checked.end → (informs : InformsItems f q IsSight first s after old.items checked new.totals) × (informs.checks.items ≡ tells.items)
   items_informed tells before items bytes end =
       informed_left tells.items tells.run.left tells.run.took tells.run.within tells.run.stops tells.sights tells.are_sights tells.totals before (items ∙ tells.number) (bytes ∙ tells.bytes) end
 
@@ -105,7 +112,7 @@ packets_behind header s after took now failed old new fault end items bytes tell
     let checked : Checked = record { format = Pcap; items = new.items; bytes = new.bytes; end = end } in
     let ends = subst (λ (n : ℕ). EndIs fault failed new.items (n + most_passed) end) (sym items) is in
     let informs = items_informed (format_under packet_limit header) (packets_lawful packet_limit (number_in (order_of header.magic_number)) (resolution_of header.magic_number)) tt IsPacketSight 1 s took.0 after took.2 now failed old new fault checked under long refl refl ends in
-    (refl, inr (header, after, text, refl, subst (λ (n : ℕ). InformsItems (format_under packet_limit header) tt IsPacketSight 1 s after n checked new.totals) items informs))
+    (refl, inr (header, after, text, refl, subst (λ (n : ℕ). InformsItems (format_under packet_limit header) tt IsPacketSight 1 s after n checked new.totals) items informs.0))
 
 -- the header is read, and then packets by a reader of it
 pub packets_informed : (header read : PcapHeader) → read ≡ header → (known after behind now : Option (List ℕ)) → behind ≡ after → (failed : Bool) (old new : Progress) (fault : Option PcapError) (end : End) → old.items ≡ 0 → old.bytes ≡ 24
@@ -119,10 +126,10 @@ packets_informed header read same (Some s) (Some after) behind now stream failed
     packets_behind header s after took now failed old new fault end items bytes here is
 
 -- the first block is refused
-pub blocks_refused : (known : Option (List ℕ)) (e : PcapError) (end : End) (totals : Totals) → TotalsAre 0 [] totals → RefusesOpening known e → FaultIs e true end
-    → IfSome known (λ s. InformsBlocks s (checked_of PcapNg 0 0 end) None totals)
-blocks_refused None e end totals nothing why is = tt
-blocks_refused (Some s) e end totals nothing why is = (
+pub blocks_refused : (described : List Described) (comments : List (String Global)) → described ≡ [] → comments ≡ [] → (known : Option (List ℕ)) (e : PcapError) (end : End) (totals : Totals) → TotalsAre 0 [] totals
+    → RefusesOpening known e → FaultIs e true end → IfSome known (λ s. InformsBlocks s (checked_of PcapNg 0 0 end) None totals None described comments)
+blocks_refused described comments no_described no_comments None e end totals nothing why is = tt
+blocks_refused described comments no_described no_comments (Some s) e end totals nothing why is = (
   refl,
   refl,
   inl (
@@ -132,19 +139,29 @@ blocks_refused (Some s) e end totals nothing why is = (
       fails = fails_at ⊤ OpeningSays s e true end (elim why [ inl io ↦ inl (io, refl) | inr (inl memory) ↦ inr (inr (inl (tt, memory))) | inr (inr stands) ↦ inr (inr (inr stands)) ]) is;
     },
     nothing,
+    refl,
+    no_described,
+    no_comments,
   ),
 )
 
 -- the first block is read, and then blocks
-pub blocks_informed : (known after now : Option (List ℕ)) (text : List ℕ) (first : State) (n : ℕ) → n ≡ length text → n < 2 ^ 64 → (failed : Bool) (old new : Progress) (fault : Option PcapError) (end : End) → old.items ≡ 1 → old.bytes ≡ n
-    → TakesText OpeningSays known after text first → TellsItems block_format first IsBlockSight 0 after now failed most_passed old new fault → EndIs fault failed new.items 18446744073709551615 end
-    → IfSome known (λ s. InformsBlocks s (checked_of PcapNg new.items new.bytes end) None new.totals)
-blocks_informed None after now text first n long room failed old new fault end items bytes took tells is = tt
-blocks_informed (Some s) None now text first n long room failed old new fault end items bytes took tells is = absurd took.1
-blocks_informed (Some s) (Some after) now text first n long room failed old new fault end items bytes took tells is =
+pub blocks_informed : (told : Option Opened) (described : List Described) (comments : List (String Global)) (known after now : Option (List ℕ)) (text : List ℕ) (first : State) (n : ℕ) → n ≡ length text → n < 2 ^ 64 → (failed : Bool) (old new : Progress) (fault : Option PcapError) (end : End) → old.items ≡ 1 → old.bytes ≡ n
+    → TakesText OpeningSays known after text first → (tells : TellsItems block_format first IsBlockSight 0 after now failed most_passed old new fault) → LacksMemory fault ⊎ DescribesBlocks first tells.items described comments
+    → EndIs fault failed new.items 18446744073709551615 end → told ≡ opened_at first
+    → IfSome known (λ s. InformsBlocks s (checked_of PcapNg new.items new.bytes end) None new.totals told described comments)
+blocks_informed told described comments None after now text first n long room failed old new fault end items bytes took tells kept is opens_as = tt
+blocks_informed told described comments (Some s) None now text first n long room failed old new fault end items bytes took tells kept is opens_as = absurd took.1
+blocks_informed told described comments (Some s) (Some after) now text first n long room failed old new fault end items bytes took tells kept is opens_as =
     let opens = subst (λ (l : List ℕ). OpeningSays l (whole first after)) (sym took.1) (opened_more text after first took.0) in
     let start : old.bytes ≡ counted (length text) = omega (arith, bytes, long, room) in
     let checked : Checked = record { format = PcapNg; items = new.items; bytes = new.bytes; end = end } in
     let ends = subst (λ (m : ℕ). EndIs fault failed new.items (m + most_passed) end) (sym items) is in
     let informs = items_informed block_format blocks_lawful first IsBlockSight 0 s text after took.1 now failed old new fault checked tells start refl refl ends in
-    (refl, refl, inr (first, after, opens, subst (λ (m : ℕ). InformsItems block_format first IsBlockSight 0 s after m checked new.totals) items informs))
+    let I : ℕ → Type 0 = λ m. (i : InformsItems block_format first IsBlockSight 0 s after m checked new.totals) × ((end ≡ Memory) ⊎ DescribesBlocks first i.checks.items described comments) in
+    let same : DescribesBlocks first tells.items described comments → DescribesBlocks first informs.0.checks.items described comments =
+    λ d. subst (λ (items : List Item). DescribesBlocks first items described comments) (sym informs.1) d in
+    let ended = described_to_end fault failed new.items 18446744073709551615 end (DescribesBlocks first tells.items described comments) kept is in
+    let both : I old.items = (informs.0, elim ended [ inl memory ↦ inl memory | inr d ↦ inr (same d) ]) in
+    let moved : I 1 = subst I items both in
+    (refl, refl, inr (first, after, opens, opens_as, moved.0, moved.1))

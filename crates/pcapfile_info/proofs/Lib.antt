@@ -1,4 +1,5 @@
 mod Bodies
+mod Describing
 mod Informing
 mod Spans
 mod Tallying

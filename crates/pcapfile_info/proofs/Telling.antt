@@ -1,13 +1,11 @@
 -- Items of which it is told what is seen, one after another.
-use Rattle.std.proofs.Common.{◌≡◌, ◌<◌, ◌≤◌, ◌+◌, ◌^◌, ℕ, List, [], ◌∷◌, ◌++◌, length, Bool, false, Option, Some, None, refl, sym, ap, ◌∙◌, subst, arith, length-append}
+use Rattle.std.proofs.Common.{◌≡◌, ◌<◌, ◌≤◌, ◌+◌, ◌^◌, ℕ, List, [], ◌∷◌, ◌++◌, length, Bool, false, Option, Some, refl, sym, ap, ◌∙◌, subst, arith, length-append}
 use Rattle.std.specs.Prelude.{sum_by}
-use Rattle.std.specs.Io.KnownBytes.{Keeps, Consumes}
 use Rattle.std.proofs.KnownBytes.{Consumes-nil, Consumes-trans}
 use Rattle.pcap_core.specs.declared.errors.PcapError.{PcapError}
-use Rattle.pcap_core.specs.Answer.{whole}
 use Rattle.pcap_core.specs.Errors.{IsMemory}
 use Rattle.pcap_core.specs.Format.{Format, IsLawful}
-use Rattle.pcap_core.specs.Reading.{HasCause, Takes, TakesAsked, no_memory}
+use Rattle.pcap_core.specs.Reading.{Takes, TakesAsked, no_memory}
 use Rattle.pcap_core.specs.Takes.{Stops}
 use Rattle.pcap_core.proofs.Asked.{asked_text}
 use Rattle.std.proofs.lemmas.List.Sums.{sum_by-cons}
@@ -20,7 +18,7 @@ use Rattle.pcapfile_info.specs.Telling.{AddsItem, AddsNothing, AreSights, SameCo
 use Rattle.pcapfile_info.specs.Totals.{TotalsAre, interfaces_in}
 
 -- one item more, of which this is seen
-sights_push : {V : Type 0} (IsSight : ℕ → V → Sight → Type 0) (n : ℕ) (vs : List V) (sights : List Sight) (v : V) (sight : Sight) → AreSights IsSight n vs sights
+pub sights_push : {V : Type 0} (IsSight : ℕ → V → Sight → Type 0) (n : ℕ) (vs : List V) (sights : List Sight) (v : V) (sight : Sight) → AreSights IsSight n vs sights
     → IsSight (n + sum_by interfaces_in sights) v sight → AreSights IsSight n (vs ++ v ∷ []) (sights ++ sight ∷ [])
 sights_push IsSight n [] [] v sight are is = (subst (λ (m : ℕ). IsSight m v sight) (omega arith) is, tt)
 sights_push IsSight n [] (seen ∷ sights) v sight are is = absurd are
@@ -29,10 +27,10 @@ sights_push IsSight n (w ∷ vs) (seen ∷ sights) v sight (first, are) is =
     let behind : n + sum_by interfaces_in (seen ∷ sights) ≡ n + interfaces_in seen + sum_by interfaces_in sights = omega (arith, sum_by-cons interfaces_in seen sights) in
     (first, sights_push IsSight (n + interfaces_in seen) vs sights v sight are (subst (λ (m : ℕ). IsSight m v sight) behind is))
 
-bytes_more : (a b c m n : ℕ) → b ≡ counted (a + m) → c ≡ counted (b + n) → c ≡ counted (a + (m + n))
+pub bytes_more : (a b c m n : ℕ) → b ≡ counted (a + m) → c ≡ counted (b + n) → c ≡ counted (a + (m + n))
 bytes_more a b c m n first second = omega arith
 
-bytes_same : (n : ℕ) → n < 2 ^ 64 → n ≡ counted (n + 0)
+pub bytes_same : (n : ℕ) → n < 2 ^ 64 → n ≡ counted (n + 0)
 bytes_same n room = omega (arith, room)
 
 -- where the counts stayed, nothing is added
@@ -52,7 +50,7 @@ item_behind sight k old mid new same adds = (
 
 module _ {S V : Type 0} (f : Format S V) (q : S) (IsSight : ℕ → V → Sight → Type 0) (first : ℕ) where
   -- nothing is passed yet
-  pub telling_none : (before : Option (List ℕ)) (old : Progress) → old.bytes < 2 ^ 64 → TotalsAre first [] old.totals → Telling f q IsSight first q before before old old 0
+  abbrev pub telling_none : (before : Option (List ℕ)) (old : Progress) → old.bytes < 2 ^ 64 → TotalsAre first [] old.totals → Telling f q IsSight first q before before old old 0
   telling_none before old room nothing = record {
     items = [];
     count = refl;
@@ -66,7 +64,7 @@ module _ {S V : Type 0} (f : Format S V) (q : S) (IsSight : ℕ → V → Sight 
   }
 
   -- one item more, of so many bytes, of which this is seen
-  pub telling_more : IsLawful f → (here there : S) (before left now : Option (List ℕ)) (old mid new : Progress) (n k : ℕ) (item : V) (sight : Sight) → Telling f q IsSight first here before left old mid n
+  abbrev pub telling_more : IsLawful f → (here there : S) (before left now : Option (List ℕ)) (old mid new : Progress) (n k : ℕ) (item : V) (sight : Sight) → Telling f q IsSight first here before left old mid n
       → (took : Takes (f.says here) left now item) → f.goes here item ≡ there → length took.0 ≡ k → IsSight (length mid.totals.interfaces.items) item sight → AddsItem sight k mid new
       → Telling f q IsSight first there before now old new (n + 1)
   telling_more laws here there before left now old mid new n k item sight so_far took goes long is adds =
@@ -88,7 +86,7 @@ module _ {S V : Type 0} (f : Format S V) (q : S) (IsSight : ℕ → V → Sight 
       }
 
   -- it stops
-  pub telling_stops : (here : S) (before left now : Option (List ℕ)) (failed : Bool) (most : ℕ) (old new : Progress) (n : ℕ) (fault : Option PcapError) → Telling f q IsSight first here before left old new n
+  abbrev pub telling_stops : (here : S) (before left now : Option (List ℕ)) (failed : Bool) (most : ℕ) (old new : Progress) (n : ℕ) (fault : Option PcapError) → Telling f q IsSight first here before left old new n
       → n ≤ most → Stops (f.says here) left now failed n most fault → TellsItems f q IsSight first before now failed most old new fault
   telling_stops here before left now failed most old new n fault so_far within stops = record {
     items = so_far.items;

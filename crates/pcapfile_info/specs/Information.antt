@@ -1,5 +1,6 @@
 -- What is told of a capture.
-use Rattle.std.specs.Prelude.{⊤, ◌≡◌, ◌⊎◌, ℕ, List, [], Option, None, Some}
+use Rattle.std.specs.Prelude.{⊤, ◌≡◌, ◌⊎◌, ℕ, List, [], Option, None, Some, String}
+use Rattle.std.specs.Global.{Global}
 use Rattle.pcap_core.specs.Answer.{whole}
 use Rattle.pcap_core.specs.Format.{Format}
 use Rattle.pcap_classic.specs.declared.pcap.header.PcapHeader.{PcapHeader}
@@ -11,9 +12,13 @@ use Rattle.pcap_file.specs.Opening.{OpeningSays}
 use Rattle.pcap_file.specs.State.{State}
 use Rattle.pcapfile_run.specs.declared.checked.Checked.{Checked}
 use Rattle.pcapfile_run.specs.declared.checked.Format.TheVariants.{Pcap, PcapNg}
+use Rattle.pcapfile_run.specs.declared.checked.End.TheVariants.{Memory}
 use Rattle.pcapfile_run.specs.Checks.{ChecksItems, FailsOpening, most_passed}
+use Rattle.pcapfile_info.specs.declared.described.Described.{Described}
+use Rattle.pcapfile_info.specs.declared.described.Opened.{Opened}
 use Rattle.pcapfile_info.specs.declared.seen.Sight.{Sight}
 use Rattle.pcapfile_info.specs.declared.totals.Totals.{Totals}
+use Rattle.pcapfile_info.specs.Describing.{DescribesBlocks, opened_at}
 use Rattle.pcapfile_info.specs.Sights.{IsPacketSight, IsBlockSight}
 use Rattle.pcapfile_info.specs.Telling.{AreSights}
 use Rattle.pcapfile_info.specs.Totals.{TotalsAre}
@@ -33,9 +38,11 @@ InformsPackets s checked told_header totals =
     ⊎ ((header : PcapHeader) × (after : List ℕ) × HeaderText header s after × (told_header ≡ Some header)
     × InformsItems (format_under packet_limit header) tt IsPacketSight 1 s after 0 checked totals))
 
--- and of a capture of blocks: what is seen of the blocks behind its first section header
-abbrev pub InformsBlocks : List ℕ → Checked → Option PcapHeader → Totals → Type 0
-InformsBlocks s checked told_header totals =
+-- and of a capture of blocks: what is seen of the blocks behind its first section header, what that says, and unless memory ran
+-- out how interfaces are described and which comments stand on sections
+abbrev pub InformsBlocks : List ℕ → Checked → Option PcapHeader → Totals → Option Opened → List Described → List (String Global) → Type 0
+InformsBlocks s checked told_header totals told_opening described comments =
     (checked.format ≡ PcapNg) × (told_header ≡ None)
-    × ((FailsOpening ⊤ OpeningSays s checked × TotalsAre 0 [] totals)
-    ⊎ ((first : State) × (after : List ℕ) × OpeningSays s (whole first after) × InformsItems block_format first IsBlockSight 0 s after 1 checked totals))
+    × ((FailsOpening ⊤ OpeningSays s checked × TotalsAre 0 [] totals × (told_opening ≡ None) × (described ≡ []) × (comments ≡ []))
+    ⊎ ((first : State) × (after : List ℕ) × OpeningSays s (whole first after) × (told_opening ≡ opened_at first)
+    × (informs : InformsItems block_format first IsBlockSight 0 s after 1 checked totals) × ((checked.end ≡ Memory) ⊎ DescribesBlocks first informs.checks.items described comments)))

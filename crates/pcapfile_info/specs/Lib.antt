@@ -1,3 +1,4 @@
+pub mod Describing
 pub mod Information
 pub mod Sights
 pub mod Spreads

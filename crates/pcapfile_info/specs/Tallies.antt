@@ -1,5 +1,5 @@
 -- What is counted of packets.
-use Rattle.std.specs.Prelude.{◌≡◌, ◌<◌, ◌≤◌, ◌⊎◌, ◌==◌, ◌^◌, ◌-◌, ◌+◌, ◌*◌, ◌<ℤ◌, ◌++◌, ◌∷◌, ℕ, ℤ, pos, negsuc, List, [], Bool, Option, None, Some, nat_lt, if◌then◌else◌, min, length, sum_by, count_by, map, filter_map, All, Contains, slice_index}
+use Rattle.std.specs.Prelude.{◌≡◌, ◌<◌, ◌⊎◌, ◌==◌, ◌^◌, ◌+◌, ◌*◌, ◌<ℤ◌, ◌++◌, ◌∷◌, ℕ, ℤ, pos, negsuc, List, [], Bool, Option, None, Some, nat_lt, if◌then◌else◌, length, sum_by, count_by, map, filter_map, All, Contains, slice_index}
 use Rattle.pcap_times.specs.declared.clock.Timestamp.{Timestamp}
 use Rattle.pcapfile_run.specs.Passing.{counted}
 use Rattle.pcapfile_info.specs.declared.seen.Seen.{Seen}

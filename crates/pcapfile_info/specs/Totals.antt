@@ -1,10 +1,10 @@
 -- What is counted of the items of a capture.
-use Rattle.std.specs.Prelude.{⊤, ◌≡◌, ◌<◌, ◌+◌, ◌==◌, ◌++◌, ◌∷◌, [], ℕ, List, Bool, true, false, Option, None, Some, IfSome, length, sum_by, count_by, filter, filter_map, All}
+use Rattle.std.specs.Prelude.{⊤, ◌≡◌, ◌<◌, ◌+◌, ◌==◌, ◌++◌, ◌∷◌, [], ℕ, List, Bool, true, false, Option, None, Some, length, sum_by, count_by, filter, filter_map, All}
 use Rattle.std.specs.List.{slice_index_or}
 use Rattle.pcapfile_run.specs.Passing.{counted}
 use Rattle.pcapfile_info.specs.declared.seen.Seen.{Seen}
 use Rattle.pcapfile_info.specs.declared.seen.Sight.{Sight}
-use Rattle.pcapfile_info.specs.declared.seen.Sight.TheVariants.{Packet, Refused, Interface, Section, Other}
+use Rattle.pcapfile_info.specs.declared.seen.Sight.TheVariants.{Packet, Refused, Interface, Section}
 use Rattle.pcapfile_info.specs.declared.tally.Tally.{Tally}
 use Rattle.pcapfile_info.specs.declared.totals.Totals.{Totals}
 use Rattle.pcapfile_info.specs.Tallies.{Tallies}

@@ -1,6 +1,6 @@
 //! What whole captures hold.
 
-ghost use Rattle.std.specs.Prelude.{IfSome, IfOk};
+ghost use Rattle.std.specs.Prelude.{◌≡◌, [], None, IfSome, IfOk};
 ghost use Rattle.pcapfile_info.specs.Information.{InformsPackets, InformsBlocks};
 
 use crate::described::{Described, Opened, opened_by, push_comments};
@@ -35,7 +35,8 @@ pub fn inform_packets<R: Read + Drop>(
     alloc: Global,
     mut input: R,
 ) -> Result<Information, AllocError>
-    ensures { IfOk result (λ told. IfSome (R.remaining input) (λ s. InformsPackets s told.checked told.header told.totals)) }
+    ensures informs { IfOk result (λ told. IfSome (R.remaining input) (λ s. InformsPackets s told.checked told.header told.totals)) }
+    ensures nothing_described { IfOk result (λ told. (told.opened ≡ None) × (told.described.items ≡ []) × (told.comments.items ≡ [])) }
 {
     let format = Format::Pcap;
     let totals = Totals::with_interface(alloc)?;
@@ -64,6 +65,7 @@ pub fn inform_packets<R: Read + Drop>(
         items: 0,
         bytes: 24,
         totals,
+        section: 1,
         described: Vec::new(alloc),
         comments: Vec::new(alloc),
     };
@@ -72,6 +74,7 @@ pub fn inform_packets<R: Read + Drop>(
         items,
         bytes,
         totals,
+        section: _,
         described,
         comments,
     } = progress;
@@ -94,7 +97,7 @@ pub fn inform_packets<R: Read + Drop>(
 /// Tells what a capture of blocks that comes off a stream holds. No more than one block is held in memory, with the section and
 /// interfaces in force, and what is counted of each interface. `AllocError` where there is no room for comments on the section.
 pub fn inform_blocks<R: Read + Drop>(alloc: Global, input: R) -> Result<Information, AllocError>
-    ensures { IfOk result (λ told. IfSome (R.remaining input) (λ s. InformsBlocks s told.checked told.header told.totals)) }
+    ensures { IfOk result (λ told. IfSome (R.remaining input) (λ s. InformsBlocks s told.checked told.header told.totals told.opened told.described.items told.comments.items)) }
 {
     let format = Format::PcapNg;
     let totals = Totals::new(alloc);
@@ -124,6 +127,7 @@ pub fn inform_blocks<R: Read + Drop>(alloc: Global, input: R) -> Result<Informat
         items: 1,
         bytes: reader.text().len() as u64,
         totals,
+        section: 1,
         described: Vec::new(alloc),
         comments,
     };
@@ -132,6 +136,7 @@ pub fn inform_blocks<R: Read + Drop>(alloc: Global, input: R) -> Result<Informat
         items,
         bytes,
         totals,
+        section: _,
         described,
         comments,
     } = progress;

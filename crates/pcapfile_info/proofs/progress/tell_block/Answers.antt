@@ -3,34 +3,40 @@ use Rattle.std.proofs.lemmas.Result.{err_from_is_err_and}
 use Rattle.pcap_blocks.specs.InterfaceDescription.{Interface, interface_of}
 use Rattle.pcap_file.specs.Frames.{Framed}
 use Rattle.pcap_file.specs.Lent.{framed_around}
-use Rattle.pcap_file.specs.Reader.{body_of, interfaces_in_force}
+use Rattle.pcap_file.specs.Reader.{body_of, interfaces_in_force, section_in_force}
 use Rattle.pcapfile_info.specs.Sights.{IsFramedSight}
 use Rattle.pcapfile_info.specs.Telling.{AddsItem}
+use Rattle.pcapfile_info.proofs.Describing.{described_behind}
 use Rattle.pcapfile_info.proofs.Telling.{nothing_same, nothing_behind, item_behind}
 use Rattle.pcapfile_info.proofs.progress.tell_block.Goals as goal
 
-pub returns-in_err-sight : goal.returns-in_err-sight
-returns-in_err-sight g c =
+pub returns-in_err-sight-clause-counts : goal.returns-in_err-sight-clause-counts
+returns-in_err-sight-clause-counts g c =
     let p = err_from_is_err_and c.from_residual.result c.from_residual.ensures.1 in
     rw (p.1, p.2) (c.in_err-sight.ensures, nothing_same c.args.progress.now c.args.progress.now (refl, refl, refl))
 
-pub returns-in_err-keep : goal.returns-in_err-keep
-returns-in_err-keep g c =
+pub returns-in_err-keep-clause-counts : goal.returns-in_err-keep-clause-counts
+returns-in_err-keep-clause-counts g c =
     let p = err_from_is_err_and c.from_residual-in_err-keep.result c.from_residual-in_err-keep.ensures.1 in
-    rw (p.1, p.2) (tt, nothing_same c.args.progress.now c.keep.new.self c.keep.ensures)
+    rw (p.1, p.2) (tt, nothing_same c.args.progress.now c.keep.new.self c.keep.ensures.counts)
 
-pub returns-in_err-add : goal.returns-in_err-add
-returns-in_err-add g c =
+pub returns-in_err-add-clause-counts : goal.returns-in_err-add-clause-counts
+returns-in_err-add-clause-counts g c =
     let p = err_from_is_err_and c.from_residual-in_err-add.result c.from_residual-in_err-add.ensures.1 in
-    rw (p.1, p.2) (tt, nothing_behind c.args.progress.now c.keep.new.self c.add.new.self c.keep.ensures c.in_err-add.ensures)
+    rw (p.1, p.2) (tt, nothing_behind c.args.progress.now c.keep.new.self c.add.new.self c.keep.ensures.counts c.in_err-add.ensures.adds)
 
-pub returns : goal.returns
-returns g c =
+pub returns-clause-counts : goal.returns-clause-counts
+returns-clause-counts g c =
     let sight = c.in_ok-sight.sight in
     let n = length c.as_slice-described.result.now in
     let block = framed_around c.args.header (body_of c.args.reader.now) in
     let framed = subst (λ (f : Framed). IsFramedSight n (map interface_of c.interfaces.result.now) f sight) c.block-block.ensures.block c.in_ok-sight.ensures.0 in
     let under = subst (λ (l : List Interface). IsFramedSight n l block sight) c.interfaces.ensures framed in
     let behind = subst (λ (m : ℕ). IsFramedSight m (interfaces_in_force c.args.reader.now) block sight) (ap length c.as_slice-described.ensures.value) under in
-    let adds = item_behind sight (length c.text.result.now) c.args.progress.now c.keep.new.self c.add.new.self c.keep.ensures c.in_ok-add.ensures in
+    let adds = item_behind sight (length c.text.result.now) c.args.progress.now c.keep.new.self c.add.new.self c.keep.ensures.counts c.in_ok-add.ensures.adds in
     (sight, behind, subst (λ (l : List ℕ). AddsItem sight (length l) c.args.progress.now c.add.new.self) c.text.ensures adds)
+
+pub returns-clause-describes : goal.returns-clause-describes
+returns-clause-describes g c =
+    described_behind c.args.header.type_ (section_in_force c.args.reader.now) (interfaces_in_force c.args.reader.now) c.args.progress.now c.keep.new.self c.add.new.self
+    (rw (c.section.ensures, c.interfaces-2.ensures) at c.in_ok-keep.ensures.adds) c.in_ok-add.ensures.same

@@ -17,6 +17,7 @@ loop-turn-init g c = record {
   telling = telling_none (reader_format packet_limit c.args.reader.now.header) tt IsPacketSight 1 (g.T.Read.remaining (stream_of c.args.reader.now)) c.args.progress.now c.requires.room c.requires.nothing;
   ready = c.requires.ready;
   unfailed = c.requires.unfailed;
+  described = (refl, refl, refl);
   same = refl;
 }
 
@@ -53,9 +54,10 @@ loop-turn-preserved g c =
     let took = subst (λ (h : PcapHeader). Takes ((reader_format packet_limit h).says tt) left now packet) c.loop-turn.invariant.same next.2 in
     record {
       telling = telling_more (reader_format packet_limit header) tt IsPacketSight 1 (reader_lawful packet_limit header) tt tt _ left now c.args.progress.now c.loop-turn.progress c.add_packet.new.self c.loop-turn.turn (16 + c.in-Some-Ok.header.incl_len) packet
-          (Packet (captured_seen packet)) c.loop-turn.invariant.telling took refl (packet_long header took.0 packet took.1) refl (rw (c.seen_of-seen.ensures, c.data.ensures, c.from.ensures) at c.add_packet.ensures);
+          (Packet (captured_seen packet)) c.loop-turn.invariant.telling took refl (packet_long header took.0 packet took.1) refl (rw (c.seen_of-seen.ensures, c.data.ensures, c.from.ensures) at c.add_packet.ensures.adds);
       ready = next.0;
       unfailed = next.1;
+      described = grind (arith, c.add_packet.ensures.same, c.loop-turn.invariant.described);
       same = c.in-Some-Ok.ensures.header ∙ c.loop-turn.invariant.same;
     }
 

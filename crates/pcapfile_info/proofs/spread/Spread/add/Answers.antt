@@ -1,5 +1,5 @@
-use Rattle.std.proofs.Common.{◌++◌, ◌∷◌, [], refl, subst, sym}
-use Rattle.pcapfile_info.specs.Spreads.{IsFine, Rows}
+use Rattle.std.proofs.Common.{refl, subst, sym}
+use Rattle.pcapfile_info.specs.Spreads.{Rows}
 use Rattle.pcapfile_info.proofs.Spans.{fine_more}
 use Rattle.pcapfile_info.proofs.spread.Spread.add.Goals as goal
 use Rattle.pcapfile_info.proofs.spread.Spread.add.Goals.{then-not-has_room, else-not-has_room}

@@ -1,7 +1,6 @@
-use Rattle.std.proofs.Common.{◌≡◌, ◌<◌, ◌*◌, ◌/◌, ◌++◌, ◌∷◌, [], ℕ, arith, subst, sym, inl, inr}
+use Rattle.std.proofs.Common.{◌++◌, ◌∷◌, [], subst, sym}
 use Rattle.std.proofs.lemmas.Bool.{iff_false}
-use Rattle.std.proofs.lemmas.List.Elements.{Contains-append_left}
-use Rattle.pcapfile_info.specs.Spreads.{HasRoom, IsFine}
+use Rattle.pcapfile_info.specs.Spreads.{IsFine}
 use Rattle.pcapfile_info.proofs.Spans.{fine_more, finer, narrow, nearer}
 use Rattle.pcapfile_info.proofs.spread.Spread.widen.Goals as goal
 

@@ -1,4 +1,4 @@
-use Rattle.std.proofs.Common.{◌≡◌, ◌<◌, ◌-◌, ◌/◌, ◌++◌, ◌∷◌, [], ℕ, List, min, max}
+use Rattle.std.proofs.Common.{◌-◌, ◌/◌, ◌++◌, ◌∷◌, [], ℕ, List, min, max}
 use Rattle.pcapfile_info.specs.Spreads.{IsFine, Rows, Spreads}
 use Rattle.pcapfile_info.proofs.spread.Spread.widen.Given as goal
 
