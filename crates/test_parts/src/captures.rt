@@ -1,7 +1,13 @@
 //! The captures that are cut.
 
+use pcap_classic::pcap::Packet;
 use std::alloc::{AllocError, Global};
 use test_support::captures::{LITTLE_HEAD, SECTION, SECTIONS, back, front};
+
+/// The bytes from one place to another.
+pub(crate) fn between(bytes: &[u8], from: usize, to: usize) -> &[u8] {
+    back(front(bytes, to), from)
+}
 
 /// How many bytes each packet has. Its bytes are its place in this list, and its time so many seconds.
 pub(crate) const LENGTHS: [u8; 5] = [3, 0, 5, 1, 10];
@@ -18,6 +24,14 @@ pub(crate) fn five_packets(alloc: Global) -> Result<Vec<u8>, AllocError> {
         place = place.saturating_add(1);
     }
     Ok(bytes)
+}
+
+/// Whether this packet is the one of this place in the list.
+pub(crate) fn is_packet(packet: &Packet<'_>, place: u8) -> bool {
+    let len = LENGTHS.get(usize::from(place)).copied().unwrap_or(0xff);
+    packet.header.ts_sec == u32::from(place)
+        && packet.data_.len() == usize::from(len)
+        && packet.data_.as_slice().iter().all(|byte| *byte == place)
 }
 
 /// The same, but the length of its fourth packet is above 262144.
@@ -70,5 +84,14 @@ pub(crate) fn three_sections(alloc: Global) -> Result<Vec<u8>, AllocError> {
     put_block(&mut bytes, true, 12)?;
     bytes.extend_from_slice(big_interface)?;
     put_block(&mut bytes, true, 16)?;
+    Ok(bytes)
+}
+
+/// The same, but the second length of its block at 108 is another one.
+pub(crate) fn another_length(alloc: Global) -> Result<Vec<u8>, AllocError> {
+    let mut bytes = three_sections(alloc)?;
+    if let Some(byte) = bytes.get_mut(139) {
+        *byte = 31;
+    }
     Ok(bytes)
 }

@@ -1,17 +1,36 @@
 //! Cuts of classic captures.
 
-use crate::captures::{LENGTHS, five_packets, refused_fourth};
+use crate::captures::{between, five_packets, is_packet, refused_fourth};
 use pcap_classic::pcap::PcapParser;
 use pcap_core::PcapError;
-use pcap_parts::{Cut, cut_pcap, cut_pcap_at_least};
-use std::test::Fail;
-use test_support::captures::{LITTLE_HEAD, back, front};
+use pcap_parts::{Cut, Cuts, cut_pcap, cut_pcap_at_least};
+use std::alloc::Global;
+use std::test::*;
+use test_support::captures::{LITTLE_HEAD, front};
 
 // Whether these are the cuts, as their places and how many packets stand before each.
 fn are_cuts(cuts: &[Cut], wanted: &[(usize, usize)]) -> bool {
     cuts.len() == wanted.len()
         && cuts.iter().zip(wanted).all(|(cut, (offset, before))| cut.offset == *offset
             && cut.before == *before)
+}
+
+// Whether these are the cuts behind the header that all captures here have; else a failure that shows them.
+fn compare(cuts: &Cuts, wanted: &[(usize, usize)]) -> Result<(), Fail> {
+    if cuts.header.snaplen == 0x1000 && are_cuts(cuts.cuts.as_slice(), wanted) {
+        return Ok(());
+    }
+    Err(Fail::new(format_args!("{cuts:?}")))
+}
+
+// Whether a capture is cut so into so many parts.
+fn is_cut(
+    alloc: Global,
+    bytes: &[u8],
+    parts: usize,
+    wanted: &[(usize, usize)],
+) -> Result<(), Fail> {
+    compare(&cut_pcap(alloc, bytes, parts)?, wanted)
 }
 
 // The packets of 99 bytes end behind 19, 35, 56, 73 and 99 of them.
@@ -32,9 +51,7 @@ const BY_PARTS: [&[(usize, usize)]; 10] = [
 fn whole_capture(rt: HostRuntime) -> Result<(), Fail> {
     let bytes = five_packets(rt.alloc())?;
     for (parts, wanted) in BY_PARTS.iter().enumerate() {
-        let cuts = cut_pcap(rt.alloc(), bytes.as_slice(), parts)?;
-        assert_eq!(rt; cuts.header.snaplen, 0x1000);
-        assert!(rt; are_cuts(&cuts.cuts, wanted), "{parts} parts: {cuts:?}");
+        is_cut(rt.alloc(), bytes.as_slice(), parts, *wanted)?;
     }
     Ok(())
 }
@@ -43,9 +60,7 @@ fn whole_capture(rt: HostRuntime) -> Result<(), Fail> {
 fn more_parts_than_bytes(rt: HostRuntime) -> Result<(), Fail> {
     let bytes = five_packets(rt.alloc())?;
     let wanted = [(24, 0), (43, 1), (59, 2), (80, 3), (97, 4)];
-    let cuts = cut_pcap(rt.alloc(), bytes.as_slice(), usize::MAX)?;
-    assert!(rt; are_cuts(&cuts.cuts, &wanted), "{cuts:?}");
-    Ok(())
+    is_cut(rt.alloc(), bytes.as_slice(), usize::MAX, &wanted)
 }
 
 // Of at least so many bytes: a part begins where as many stand behind the beginning of the one before it, and a packet follows.
@@ -60,12 +75,21 @@ const AT_LEAST: [(usize, &[(usize, usize)]); 8] = [
     (usize::MAX, &[(24, 0)]),
 ];
 
+// Whether a capture is cut so into parts of at least so many bytes.
+fn is_cut_at_least(
+    alloc: Global,
+    bytes: &[u8],
+    at_least: usize,
+    wanted: &[(usize, usize)],
+) -> Result<(), Fail> {
+    compare(&cut_pcap_at_least(alloc, bytes, at_least)?, wanted)
+}
+
 #[test]
 fn parts_of_at_least_so_many_bytes(rt: HostRuntime) -> Result<(), Fail> {
     let bytes = five_packets(rt.alloc())?;
     for (at_least, wanted) in AT_LEAST {
-        let cuts = cut_pcap_at_least(rt.alloc(), bytes.as_slice(), at_least)?;
-        assert!(rt; are_cuts(&cuts.cuts, wanted), "{at_least} bytes: {cuts:?}");
+        is_cut_at_least(rt.alloc(), bytes.as_slice(), at_least, wanted)?;
     }
     Ok(())
 }
@@ -74,72 +98,85 @@ fn parts_of_at_least_so_many_bytes(rt: HostRuntime) -> Result<(), Fail> {
 fn torn_capture(rt: HostRuntime) -> Result<(), Fail> {
     let bytes = five_packets(rt.alloc())?;
     let torn = front(bytes.as_slice(), 120);
-    let cuts = cut_pcap(rt.alloc(), torn, 3)?;
-    assert!(rt;
-        are_cuts(&cuts.cuts, &[(24, 0), (59, 2), (97, 4)]),
-        "{cuts:?}"
-    );
-    let cuts = cut_pcap(rt.alloc(), torn, 9)?;
-    assert!(rt;
-        are_cuts(&cuts.cuts, &[(24, 0), (43, 1), (59, 2), (80, 3), (97, 4)]),
-        "{cuts:?}"
-    );
-    Ok(())
+    is_cut(rt.alloc(), torn, 3, &[(24, 0), (59, 2), (97, 4)])?;
+    let wanted = [(24, 0), (43, 1), (59, 2), (80, 3), (97, 4)];
+    is_cut(rt.alloc(), torn, 9, &wanted)
 }
 
 #[test]
 fn refused_capture(rt: HostRuntime) -> Result<(), Fail> {
     let bytes = refused_fourth(rt.alloc())?;
-    let cuts = cut_pcap(rt.alloc(), bytes.as_slice(), 2)?;
-    assert!(rt; are_cuts(&cuts.cuts, &[(24, 0), (80, 3)]), "{cuts:?}");
-    let cuts = cut_pcap(rt.alloc(), bytes.as_slice(), 3)?;
-    assert!(rt; are_cuts(&cuts.cuts, &[(24, 0), (59, 2)]), "{cuts:?}");
-    Ok(())
+    is_cut(rt.alloc(), bytes.as_slice(), 2, &[(24, 0), (80, 3)])?;
+    is_cut(rt.alloc(), bytes.as_slice(), 3, &[(24, 0), (59, 2)])
+}
+
+// Whether bytes aren't cut, since one more is missing, or since they are no capture.
+
+fn lacks_one(alloc: Global, bytes: &[u8]) -> bool {
+    matches!(
+        &cut_pcap(alloc, bytes, 2),
+        Err(PcapError::IncompleteBuffer(1))
+    )
+}
+
+fn is_refused(alloc: Global, bytes: &[u8]) -> bool {
+    matches!(&cut_pcap(alloc, bytes, 2), Err(PcapError::InvalidField(_)))
 }
 
 #[test]
 fn no_packets(rt: HostRuntime) -> Result<(), Fail> {
     let header = front(&LITTLE_HEAD, 24);
     for parts in 0..10 {
-        let cuts = cut_pcap(rt.alloc(), header, parts)?;
-        assert!(rt; are_cuts(&cuts.cuts, &[(24, 0)]), "{parts} parts: {cuts:?}");
+        is_cut(rt.alloc(), header, parts, &[(24, 0)])?;
     }
-    let torn = cut_pcap(rt.alloc(), front(header, 23), 2);
-    assert!(rt; matches!(torn, Err(PcapError::IncompleteBuffer(1))));
-    let wrong = cut_pcap(rt.alloc(), &[0; 24], 2);
-    assert!(rt; matches!(wrong, Err(PcapError::InvalidField(_))));
+    assert!(rt; lacks_one(rt.alloc(), front(header, 23)));
+    assert!(rt; is_refused(rt.alloc(), &[0; 24]));
     Ok(())
+}
+
+// The place behind the packets of a part, the first of which has this one. Each has to be that of its place.
+fn behind(parser: &PcapParser, part: &[u8], first: u8) -> Result<u8, Fail> {
+    let mut place = first;
+    let mut left = part;
+    for _ in 0..part.len() {
+        if left.is_empty() {
+            break;
+        }
+        let (rest, packet) = parser.next_packet(left)?;
+        if !is_packet(&packet, place) {
+            return Err(Fail::new("it is another packet"));
+        }
+        place = place.saturating_add(1);
+        left = rest;
+    }
+    if !left.is_empty() {
+        return Err(Fail::new("bytes are left"));
+    }
+    Ok(place)
+}
+
+// How many packets the parts of a capture have, one part behind the other. Each part has to know how many stand before it.
+fn count_of_parts(alloc: Global, bytes: &[u8], parts: usize) -> Result<u8, Fail> {
+    let cuts = cut_pcap(alloc, bytes, parts)?;
+    let parser = PcapParser::with_header(cuts.header)?;
+    let mut place = 0u8;
+    for (k, cut) in cuts.cuts.iter().enumerate() {
+        if cut.before != usize::from(place) {
+            return Err(Fail::new("a cut counts other packets"));
+        }
+        let next = cuts.cuts.get(k.saturating_add(1));
+        let end = next.map_or(bytes.len(), |next| next.offset);
+        place = behind(&parser, between(bytes, cut.offset, end), place)?;
+    }
+    Ok(place)
 }
 
 #[test]
 fn parts_joined_are_the_whole(rt: HostRuntime) -> Result<(), Fail> {
     let bytes = five_packets(rt.alloc())?;
     for parts in 0..10 {
-        let cuts = cut_pcap(rt.alloc(), bytes.as_slice(), parts)?;
-        let parser = PcapParser::with_header(cuts.header)?;
-        let mut place = 0u8;
-        for (k, cut) in cuts.cuts.iter().enumerate() {
-            assert_eq!(rt; cut.before, usize::from(place));
-            let end = cuts
-                .cuts
-                .get(k.saturating_add(1))
-                .map_or(bytes.len(), |next| next.offset);
-            let mut left = back(front(bytes.as_slice(), end), cut.offset);
-            for _ in 0..bytes.len() {
-                if left.is_empty() {
-                    break;
-                }
-                let (rest, packet) = parser.next_packet(left)?;
-                let len = LENGTHS.get(usize::from(place)).copied().unwrap_or(0xff);
-                assert_eq!(rt; packet.header.ts_sec, u32::from(place));
-                assert_eq!(rt; packet.data_.len(), usize::from(len));
-                assert!(rt; packet.data_.as_slice().iter().all(|byte| *byte == place));
-                place = place.saturating_add(1);
-                left = rest;
-            }
-            assert!(rt; left.is_empty());
-        }
-        assert_eq!(rt; place, 5);
+        let count = count_of_parts(rt.alloc(), bytes.as_slice(), parts)?;
+        assert!(rt; count == 5, "{parts} parts");
     }
     Ok(())
 }

@@ -1,9 +1,10 @@
 //! Cuts of PcapNg captures.
 
-use crate::captures::three_sections;
+use crate::captures::{another_length, three_sections};
 use pcap_core::PcapError;
-use pcap_parts::{NgCut, cut_pcapng, cut_pcapng_at_least};
-use std::test::Fail;
+use pcap_parts::{NgCut, NgCuts, cut_pcapng, cut_pcapng_at_least};
+use std::alloc::Global;
+use std::test::*;
 use test_support::captures::{SECTION, front};
 
 // A cut's place, the blocks before it behind the first header, its header's place, and its first interface and their number.
@@ -21,6 +22,19 @@ fn are_cuts(cuts: &[NgCut], wanted: &[Row]) -> bool {
                 cut.interfaces,
             ) == *row
         })
+}
+
+// Whether these are the cuts; else a failure that shows them.
+fn compare(cuts: &NgCuts, wanted: &[Row]) -> Result<(), Fail> {
+    if are_cuts(cuts.cuts.as_slice(), wanted) {
+        return Ok(());
+    }
+    Err(Fail::new(format_args!("{cuts:?}")))
+}
+
+// Whether a capture is cut so into so many parts.
+fn is_cut(alloc: Global, bytes: &[u8], parts: usize, wanted: &[Row]) -> Result<(), Fail> {
+    compare(&cut_pcapng(alloc, bytes, parts)?, wanted)
 }
 
 // The blocks behind the first header end behind 20, 44, 60, 80, 112, 140, 160, 180, 220, 248, 260, 280 and 296 bytes.
@@ -86,19 +100,27 @@ const BY_PARTS: [&[Row]; 10] = [
 fn whole_capture(rt: HostRuntime) -> Result<(), Fail> {
     let bytes = three_sections(rt.alloc())?;
     for (parts, wanted) in BY_PARTS.iter().enumerate() {
-        let cuts = cut_pcapng(rt.alloc(), bytes.as_slice(), parts)?;
-        assert!(rt; are_cuts(&cuts.cuts, wanted), "{parts} parts: {cuts:?}");
+        is_cut(rt.alloc(), bytes.as_slice(), parts, *wanted)?;
     }
     Ok(())
+}
+
+// Whether a capture of so many parts has so many cuts, and these are the places of its interfaces.
+fn has_interfaces(
+    alloc: Global,
+    bytes: &[u8],
+    count: usize,
+    places: &[usize],
+) -> Result<bool, Fail> {
+    let cuts = cut_pcapng(alloc, bytes, usize::MAX)?;
+    Ok(cuts.cuts.len() == count && cuts.interfaces.as_slice() == places)
 }
 
 #[test]
 fn more_parts_than_bytes(rt: HostRuntime) -> Result<(), Fail> {
     let bytes = three_sections(rt.alloc())?;
-    let cuts = cut_pcapng(rt.alloc(), bytes.as_slice(), usize::MAX)?;
-    assert_eq!(rt; cuts.cuts.len(), 13);
-    let places: [usize; 4] = [28, 88, 168, 288];
-    assert_eq!(rt; cuts.interfaces.as_slice(), places.as_slice());
+    let bytes = bytes.as_slice();
+    assert!(rt; has_interfaces(rt.alloc(), bytes, 13, &[28, 88, 168, 288])?);
     Ok(())
 }
 
@@ -127,68 +149,82 @@ const AT_LEAST: [(usize, &[Row]); 3] = [
     (usize::MAX, &[(28, 0, 0, 0, 0)]),
 ];
 
+// Whether a capture is cut so into parts of at least so many bytes.
+fn is_cut_at_least(
+    alloc: Global,
+    bytes: &[u8],
+    at_least: usize,
+    wanted: &[Row],
+) -> Result<(), Fail> {
+    compare(&cut_pcapng_at_least(alloc, bytes, at_least)?, wanted)
+}
+
 #[test]
 fn parts_of_at_least_so_many_bytes(rt: HostRuntime) -> Result<(), Fail> {
     let bytes = three_sections(rt.alloc())?;
     for (at_least, wanted) in AT_LEAST {
-        let cuts = cut_pcapng_at_least(rt.alloc(), bytes.as_slice(), at_least)?;
-        assert!(rt; are_cuts(&cuts.cuts, wanted), "{at_least} bytes: {cuts:?}");
+        is_cut_at_least(rt.alloc(), bytes.as_slice(), at_least, wanted)?;
     }
     Ok(())
+}
+
+// Whether a capture that is cut into as many parts as there are rows has the interfaces of each row at the cut of that row.
+fn have_places(alloc: Global, bytes: &[u8], wanted: &[&[usize]]) -> Result<bool, Fail> {
+    let cuts = cut_pcapng(alloc, bytes, wanted.len())?;
+    let mut are_all = cuts.cuts.len() == wanted.len();
+    for (cut, places) in cuts.cuts.iter().zip(wanted) {
+        are_all &= cuts.interfaces_at(cut) == *places;
+    }
+    Ok(are_all)
 }
 
 #[test]
 fn places_of_interfaces(rt: HostRuntime) -> Result<(), Fail> {
     let bytes = three_sections(rt.alloc())?;
-    let cuts = cut_pcapng(rt.alloc(), bytes.as_slice(), 3)?;
-    let wanted: [&[usize]; 3] = [&[], &[28, 88], &[168]];
-    for (cut, places) in cuts.cuts.iter().zip(wanted) {
-        assert_eq!(rt; cuts.interfaces_at(cut), places);
-    }
+    let bytes = bytes.as_slice();
+    assert!(rt; have_places(rt.alloc(), bytes, &[&[], &[28, 88], &[168]])?);
     Ok(())
 }
 
 #[test]
-fn torn_and_refused_captures(rt: HostRuntime) -> Result<(), Fail> {
-    let mut bytes = three_sections(rt.alloc())?;
+fn torn_capture(rt: HostRuntime) -> Result<(), Fail> {
+    let bytes = three_sections(rt.alloc())?;
     // The block at 208 is torn, so that the shares of 202 bytes end at 28 + 68 and 28 + 136.
-    let cuts = cut_pcapng(rt.alloc(), front(bytes.as_slice(), 230), 3)?;
-    assert!(rt;
-        are_cuts(
-            &cuts.cuts,
-            &[(28, 0, 0, 0, 0), (108, 4, 0, 0, 2), (168, 6, 140, 2, 0)]
-        ),
-        "{cuts:?}"
-    );
-    // The second length of the block at 108 is another one: no cut stands behind it.
-    if let Some(byte) = bytes.get_mut(139) {
-        *byte = 31;
+    let wanted = [(28, 0, 0, 0, 0), (108, 4, 0, 0, 2), (168, 6, 140, 2, 0)];
+    is_cut(rt.alloc(), front(bytes.as_slice(), 230), 3, &wanted)
+}
+
+#[test]
+fn refused_capture(rt: HostRuntime) -> Result<(), Fail> {
+    // No cut stands behind the block of another second length.
+    let bytes = another_length(rt.alloc())?;
+    let wanted = [(28, 0, 0, 0, 0), (72, 2, 0, 0, 1), (108, 4, 0, 0, 2)];
+    is_cut(rt.alloc(), bytes.as_slice(), 9, &wanted)
+}
+
+// Whether bytes aren't cut, since so many are missing, or since they are no capture.
+
+fn lacks(alloc: Global, bytes: &[u8], missing: usize) -> bool {
+    match &cut_pcapng(alloc, bytes, 2) {
+        Err(PcapError::IncompleteBuffer(told)) => *told == missing,
+        _ => false,
     }
-    let cuts = cut_pcapng(rt.alloc(), bytes.as_slice(), 9)?;
-    assert!(rt;
-        are_cuts(
-            &cuts.cuts,
-            &[(28, 0, 0, 0, 0), (72, 2, 0, 0, 1), (108, 4, 0, 0, 2)]
-        ),
-        "{cuts:?}"
-    );
-    Ok(())
+}
+
+fn is_refused(alloc: Global, bytes: &[u8]) -> bool {
+    matches!(
+        &cut_pcapng(alloc, bytes, 2),
+        Err(PcapError::InvalidField(_))
+    )
 }
 
 #[test]
 fn no_blocks(rt: HostRuntime) -> Result<(), Fail> {
     for parts in 0..10 {
-        let cuts = cut_pcapng(rt.alloc(), &SECTION, parts)?;
-        assert!(rt;
-            are_cuts(&cuts.cuts, &[(28, 0, 0, 0, 0)]),
-            "{parts} parts: {cuts:?}"
-        );
+        is_cut(rt.alloc(), &SECTION, parts, &[(28, 0, 0, 0, 0)])?;
     }
-    let torn = cut_pcapng(rt.alloc(), front(&SECTION, 27), 2);
-    assert!(rt; matches!(torn, Err(PcapError::IncompleteBuffer(1))));
-    let empty = cut_pcapng(rt.alloc(), &[], 2);
-    assert!(rt; matches!(empty, Err(PcapError::IncompleteBuffer(12))));
-    let wrong = cut_pcapng(rt.alloc(), &[0; 28], 2);
-    assert!(rt; matches!(wrong, Err(PcapError::InvalidField(_))));
+    assert!(rt; lacks(rt.alloc(), front(&SECTION, 27), 1));
+    assert!(rt; lacks(rt.alloc(), &[], 12));
+    assert!(rt; is_refused(rt.alloc(), &[0; 28]));
     Ok(())
 }

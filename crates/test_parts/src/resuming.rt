@@ -1,48 +1,80 @@
 //! Parsers that are made again from places in a capture.
 
 use pcap_core::{DataLink, PcapError};
+use pcap_file::pcapng::InterfaceDescriptionBlock;
 use pcap_parts::resume;
-use std::test::Fail;
+use std::alloc::Global;
+use std::test::*;
 use test_support::captures::{SECTIONS, back};
+
+// Whether each of these is an interface of the capture with two sections.
+fn are_ethernet(interfaces: &[InterfaceDescriptionBlock]) -> bool {
+    for interface in interfaces {
+        if interface.linktype != DataLink::from(1) || interface.snaplen != 0x4_0000 {
+            return false;
+        }
+    }
+    true
+}
+
+// Whether the parser that is made again from these places has this order, and these interfaces.
+fn is_resumed(
+    alloc: Global,
+    header: usize,
+    interfaces: &[usize],
+    is_big: bool,
+) -> Result<bool, Fail> {
+    let parser = resume(alloc, &SECTIONS, header, interfaces)?;
+    Ok(
+        parser.section().endianness().is_big() == is_big
+            && parser.interfaces().len() == interfaces.len()
+            && are_ethernet(parser.interfaces()),
+    )
+}
 
 #[test]
 fn sections_of_both_orders(rt: HostRuntime) -> Result<(), Fail> {
-    for (header, interface, is_big, link, snaplen) in [
-        (0, 28, true, DataLink::from(1), 0x4_0000),
-        (48, 76, false, DataLink::from(1), 0x4_0000),
-    ] {
-        let parser = resume(rt.alloc(), &SECTIONS, header, &[])?;
-        assert_eq!(rt; parser.section().endianness().is_big(), is_big);
-        assert_eq!(rt; parser.interfaces().len(), 0);
-        let parser = resume(rt.alloc(), &SECTIONS, header, &[interface, interface])?;
-        assert_eq!(rt; parser.section().endianness().is_big(), is_big);
-        assert_eq!(rt; parser.interfaces().len(), 2);
-        for one in parser.interfaces() {
-            assert_eq!(rt; one.linktype, link);
-            assert_eq!(rt; one.snaplen, snaplen);
-        }
+    for (header, interface, is_big) in [(0, 28, true), (48, 76, false)] {
+        let twice = [interface, interface];
+        assert!(rt; is_resumed(rt.alloc(), header, &[], is_big)?, "{header}");
+        assert!(rt; is_resumed(rt.alloc(), header, &twice, is_big)?, "{header}");
     }
     Ok(())
 }
 
+// Of a parser that goes on with the last block: how many bytes are left, the block's length, and how many interfaces there are.
+fn behind_the_bound(alloc: Global) -> Result<(usize, u32, usize), Fail> {
+    let mut parser = resume(alloc, &SECTIONS, 48, &[])?;
+    let (rest, block) = parser.next_block(back(&SECTIONS, 76))?;
+    Ok((rest.len(), block.initial_len, parser.interfaces().len()))
+}
+
 #[test]
 fn goes_on_behind_the_bound(rt: HostRuntime) -> Result<(), Fail> {
-    let mut parser = resume(rt.alloc(), &SECTIONS, 48, &[])?;
-    let (rest, block) = parser.next_block(back(&SECTIONS, 76))?;
-    assert_eq!(rt; rest.len(), 0);
-    assert_eq!(rt; block.initial_len, 20);
-    assert_eq!(rt; parser.interfaces().len(), 1);
+    assert_eq!(rt; behind_the_bound(rt.alloc())?, (0, 20, 1));
     Ok(())
+}
+
+// Whether no parser is made from these places, since twelve bytes are missing, or since no section header stands there.
+
+fn lacks_a_head(alloc: Global, header: usize, interfaces: &[usize]) -> bool {
+    matches!(
+        &resume(alloc, &SECTIONS, header, interfaces),
+        Err(PcapError::IncompleteBuffer(12))
+    )
+}
+
+fn is_refused(alloc: Global, header: usize) -> bool {
+    matches!(
+        &resume(alloc, &SECTIONS, header, &[]),
+        Err(PcapError::InvalidField(_))
+    )
 }
 
 #[test]
 fn wrong_places(rt: HostRuntime) {
-    let behind = resume(rt.alloc(), &SECTIONS, 96, &[]);
-    assert!(rt; matches!(behind, Err(PcapError::IncompleteBuffer(12))));
-    let far = resume(rt.alloc(), &SECTIONS, usize::MAX, &[]);
-    assert!(rt; matches!(far, Err(PcapError::IncompleteBuffer(12))));
-    let no_header = resume(rt.alloc(), &SECTIONS, 28, &[]);
-    assert!(rt; matches!(no_header, Err(PcapError::InvalidField(_))));
-    let no_interface = resume(rt.alloc(), &SECTIONS, 0, &[28, 96]);
-    assert!(rt; matches!(no_interface, Err(PcapError::IncompleteBuffer(12))));
+    assert!(rt; lacks_a_head(rt.alloc(), 96, &[]));
+    assert!(rt; lacks_a_head(rt.alloc(), usize::MAX, &[]));
+    assert!(rt; is_refused(rt.alloc(), 28));
+    assert!(rt; lacks_a_head(rt.alloc(), 0, &[28, 96]));
 }

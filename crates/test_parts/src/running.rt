@@ -1,101 +1,162 @@
 //! Runs over the parts of captures.
 
-use crate::captures::{BLOCK_LENGTHS, LENGTHS, five_packets, three_sections};
+use crate::captures::{BLOCK_LENGTHS, between, five_packets, is_packet, three_sections};
+use pcap_classic::pcap::{Packet, PcapHeader};
 use pcap_core::{PcapError, Rest};
-use pcap_parts::{cut_pcap, cut_pcapng, parse_ng_part, parse_part, resume};
-use std::test::Fail;
+use pcap_file::PcapNgParser;
+use pcap_file::pcapng::Block;
+use pcap_parts::{NgCut, NgCuts, cut_pcap, cut_pcapng, parse_ng_part, parse_part, resume};
+use std::alloc::Global;
+use std::test::*;
 use test_support::captures::{back, front};
 
-// The bytes from one place to another.
-fn between(bytes: &[u8], from: usize, to: usize) -> &[u8] {
-    back(front(bytes, to), from)
+// How many packets the runs over the parts of a capture have. Each part has to know how many stand before it.
+fn count_of_packets(alloc: Global, bytes: &[u8], parts: usize) -> Result<u8, Fail> {
+    let cuts = cut_pcap(alloc, bytes, parts)?;
+    let mut place = 0u8;
+    for (k, cut) in cuts.cuts.iter().enumerate() {
+        if cut.before != usize::from(place) {
+            return Err(Fail::new("a cut counts other packets"));
+        }
+        let next = cuts.cuts.get(k.saturating_add(1));
+        let end = next.map_or(123, |next| next.offset);
+        place = behind_part(alloc, cuts.header, between(bytes, cut.offset, end), place)?;
+    }
+    Ok(place)
+}
+
+// The place behind the packets of a part, which has to be used whole, the first of which has this one.
+fn behind_part(alloc: Global, header: PcapHeader, part: &[u8], first: u8) -> Result<u8, Fail> {
+    let run = parse_part(alloc, header, part)?;
+    if !matches!(run.rest, Rest::Clean) || run.used != part.len() {
+        return Err(Fail::new("the run doesn't use its part"));
+    }
+    behind(run.packets.as_slice(), first)
+}
+
+// The same of these packets. Each has to be that of its place.
+fn behind(packets: &[Packet], first: u8) -> Result<u8, Fail> {
+    let mut place = first;
+    for packet in packets {
+        if !is_packet(packet, place) {
+            return Err(Fail::new("it is another packet"));
+        }
+        place = place.saturating_add(1);
+    }
+    Ok(place)
 }
 
 #[test]
 fn packets_of_parts(rt: HostRuntime) -> Result<(), Fail> {
     let bytes = five_packets(rt.alloc())?;
     for parts in 0..10 {
-        let cuts = cut_pcap(rt.alloc(), bytes.as_slice(), parts)?;
-        let mut place = 0u8;
-        for (k, cut) in cuts.cuts.iter().enumerate() {
-            let end = cuts
-                .cuts
-                .get(k.saturating_add(1))
-                .map_or(123, |next| next.offset);
-            let part = between(bytes.as_slice(), cut.offset, end);
-            let run = parse_part(rt.alloc(), cuts.header, part)?;
-            assert!(rt; matches!(run.rest, Rest::Clean));
-            assert_eq!(rt; run.used, part.len());
-            assert_eq!(rt; cut.before, usize::from(place));
-            for packet in &run.packets {
-                let len = LENGTHS.get(usize::from(place)).copied().unwrap_or(0xff);
-                assert_eq!(rt; packet.header.ts_sec, u32::from(place));
-                assert_eq!(rt; packet.data_.len(), usize::from(len));
-                place = place.saturating_add(1);
-            }
-        }
-        assert_eq!(rt; place, 5);
+        let count = count_of_packets(rt.alloc(), bytes.as_slice(), parts)?;
+        assert!(rt; count == 5, "{parts} parts");
     }
     Ok(())
+}
+
+// How many blocks the runs over the parts of a capture have, the first section header among them.
+fn count_of_blocks(alloc: Global, bytes: &[u8], parts: usize) -> Result<usize, Fail> {
+    let cuts = cut_pcapng(alloc, bytes, parts)?;
+    let mut place = 1usize;
+    for (k, cut) in cuts.cuts.iter().enumerate() {
+        let next = cuts.cuts.get(k.saturating_add(1));
+        let end = next.map_or(324, |next| next.at.offset);
+        let parser = resumed(alloc, bytes, &cuts, cut)?;
+        place = behind_ng_part(alloc, parser, between(bytes, cut.at.offset, end), place)?;
+    }
+    Ok(place)
+}
+
+// The parser at a cut, whose order and number of interfaces are those of the part.
+fn resumed(alloc: Global, bytes: &[u8], cuts: &NgCuts, cut: &NgCut) -> Result<PcapNgParser, Fail> {
+    let parser = resume(alloc, bytes, cut.header, cuts.interfaces_at(cut))?;
+    if parser.interfaces().len() != cut.interfaces
+        || parser.section().endianness().is_big() != (cut.header != 140)
+    {
+        return Err(Fail::new("another section or other interfaces are in force"));
+    }
+    Ok(parser)
+}
+
+// The place behind the blocks of a part, which has to be used whole, the first of which has this one.
+fn behind_ng_part(
+    alloc: Global,
+    parser: PcapNgParser,
+    part: &[u8],
+    first: usize,
+) -> Result<usize, Fail> {
+    let run = parse_ng_part(alloc, parser, part)?;
+    if !matches!(run.rest, Rest::Clean) || run.used != part.len() {
+        return Err(Fail::new("the run doesn't use its part"));
+    }
+    behind_blocks(run.blocks.as_slice(), first)
+}
+
+// The same of these blocks. Each has to have the length of its place.
+fn behind_blocks(blocks: &[Block], first: usize) -> Result<usize, Fail> {
+    let mut place = first;
+    for block in blocks {
+        if Some(&block.initial_len) != BLOCK_LENGTHS.get(place) {
+            return Err(Fail::new("it is another block"));
+        }
+        place = place.saturating_add(1);
+    }
+    Ok(place)
 }
 
 #[test]
 fn blocks_of_parts(rt: HostRuntime) -> Result<(), Fail> {
     let bytes = three_sections(rt.alloc())?;
     for parts in 0..10 {
-        let cuts = cut_pcapng(rt.alloc(), bytes.as_slice(), parts)?;
-        let mut place = 1usize;
-        for (k, cut) in cuts.cuts.iter().enumerate() {
-            let end = cuts
-                .cuts
-                .get(k.saturating_add(1))
-                .map_or(324, |next| next.at.offset);
-            let part = between(bytes.as_slice(), cut.at.offset, end);
-            let parser = resume(
-                rt.alloc(),
-                bytes.as_slice(),
-                cut.header,
-                cuts.interfaces_at(cut),
-            )?;
-            assert_eq!(rt; parser.interfaces().len(), cut.interfaces);
-            assert_eq!(rt; parser.section().endianness().is_big(), cut.header != 140);
-            let run = parse_ng_part(rt.alloc(), parser, part)?;
-            assert!(rt; matches!(run.rest, Rest::Clean));
-            assert_eq!(rt; run.used, part.len());
-            for block in &run.blocks {
-                let len = BLOCK_LENGTHS.get(place).copied().unwrap_or(0);
-                assert_eq!(rt; block.initial_len, len);
-                place = place.saturating_add(1);
-            }
-        }
-        assert_eq!(rt; place, 14);
+        let count = count_of_blocks(rt.alloc(), bytes.as_slice(), parts)?;
+        assert!(rt; count == 14, "{parts} parts");
     }
     Ok(())
 }
 
-#[test]
-fn last_parts(rt: HostRuntime) -> Result<(), Fail> {
-    let bytes = three_sections(rt.alloc())?;
+// Of the run over the last part of a torn capture, with a parser from these places: how many blocks there are, how many
+// bytes they use, and how many are missing, 0 where nothing follows, or none where what follows is refused.
+fn last_part(
+    alloc: Global,
+    header: usize,
+    interfaces: &[usize],
+) -> Result<(usize, usize, Option<usize>), Fail> {
+    let bytes = three_sections(alloc)?;
     let torn = front(bytes.as_slice(), 230);
-    let parser = resume(rt.alloc(), torn, 140, &[168])?;
-    let run = parse_ng_part(rt.alloc(), parser, back(torn, 188))?;
-    assert_eq!(rt; run.blocks.len(), 1);
-    assert_eq!(rt; run.used, 20);
-    assert!(rt; matches!(run.rest, Rest::Needs(18)));
-    // In the order of the section before, the block at 188 has another length.
-    let parser = resume(rt.alloc(), torn, 0, &[28, 88])?;
-    let run = parse_ng_part(rt.alloc(), parser, back(torn, 188))?;
-    assert_eq!(rt; run.blocks.len(), 0);
-    assert!(rt; !matches!(run.rest, Rest::Clean));
-    Ok(())
+    let parser = resume(alloc, torn, header, interfaces)?;
+    let run = parse_ng_part(alloc, parser, back(torn, 188))?;
+    let missing = match run.rest {
+        Rest::Clean => Some(0),
+        Rest::Needs(missing) => Some(missing),
+        Rest::Refused(_) => None,
+    };
+    Ok((run.blocks.len(), run.used, missing))
 }
 
 #[test]
-fn no_header(rt: HostRuntime) -> Result<(), Fail> {
-    let bytes = five_packets(rt.alloc())?;
-    let mut header = cut_pcap(rt.alloc(), bytes.as_slice(), 1)?.header;
-    header.magic_number = 7;
-    let refused = parse_part(rt.alloc(), header, &[]);
-    assert!(rt; matches!(refused, Err(PcapError::InvalidField(_))));
+fn last_parts(rt: HostRuntime) -> Result<(), Fail> {
+    assert_eq!(rt; last_part(rt.alloc(), 140, &[168])?, (1, 20, Some(18)));
+    // In the order of the section before, the block at 188 has another length.
+    let (blocks, _used, missing) = last_part(rt.alloc(), 0, &[28, 88])?;
+    assert!(rt; blocks == 0 && missing != Some(0));
     Ok(())
+}
+
+// Whether no run is made with a header of this magic number.
+fn is_refused(alloc: Global, magic_number: u32) -> bool {
+    let header = PcapHeader {
+        magic_number,
+        ..PcapHeader::default()
+    };
+    matches!(
+        &parse_part(alloc, header, &[]),
+        Err(PcapError::InvalidField(_))
+    )
+}
+
+#[test]
+fn no_header(rt: HostRuntime) {
+    assert!(rt; is_refused(rt.alloc(), 7));
 }

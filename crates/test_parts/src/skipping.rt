@@ -1,27 +1,48 @@
-//! Packets that are passed over.
+//! Packets and blocks that are passed over.
 
-use crate::captures::{five_packets, refused_fourth, three_sections};
+use crate::captures::{another_length, five_packets, refused_fourth, three_sections};
 use pcap_classic::pcap::PcapParser;
 use pcap_core::{PcapError, Rest};
 use pcap_file::PcapNgParser;
 use pcap_parts::{Passed, skip_blocks, skip_packets};
-use std::test::Fail;
+use std::alloc::Global;
+use std::test::*;
 use test_support::captures::front;
 
-// How many packets are passed, how many bytes follow them, and how many bytes the next one lacks.
-fn shown(passed: &Passed) -> (usize, usize, Option<usize>) {
-    match passed.rest {
-        Some(Rest::Needs(n)) => (passed.items, passed.after.len(), Some(n)),
-        _ => (passed.items, passed.after.len(), None),
-    }
+// What stands behind the items that are passed: as many bytes as are wanted were passed, or there is nothing, or so many
+// bytes are missing, or what follows is refused.
+#[derive(Clone, Copy, Debug, PartialEq)]
+enum Behind {
+    Bound,
+    Nothing,
+    Lack(usize),
+    Refusal,
+    Another,
+}
+
+// How many items are passed, how many bytes follow them, and what they are.
+fn shown(passed: &Passed) -> (usize, usize, Behind) {
+    let behind = match &passed.rest {
+        None => Behind::Bound,
+        Some(Rest::Clean) => Behind::Nothing,
+        Some(Rest::Needs(missing)) => Behind::Lack(*missing),
+        Some(Rest::Refused(PcapError::InvalidField(_))) => Behind::Refusal,
+        Some(Rest::Refused(_)) => Behind::Another,
+    };
+    (passed.items, passed.after.len(), behind)
+}
+
+// The same of a classic capture of which at least so many bytes of packets are passed.
+fn packets(bytes: &[u8], at_least: usize) -> Result<(usize, usize, Behind), Fail> {
+    let (left, parser) = PcapParser::new(bytes)?;
+    Ok(shown(&skip_packets(&parser, left, at_least)))
 }
 
 #[test]
 fn up_to_a_bound(rt: HostRuntime) -> Result<(), Fail> {
     let bytes = five_packets(rt.alloc())?;
-    let (left, parser) = PcapParser::new(bytes.as_slice())?;
     // The packets end behind 19, 35, 56, 73 and 99 bytes.
-    let rows = [
+    for (at_least, items, after) in [
         (0, 0, 99),
         (1, 1, 80),
         (19, 1, 80),
@@ -29,11 +50,9 @@ fn up_to_a_bound(rt: HostRuntime) -> Result<(), Fail> {
         (56, 3, 43),
         (57, 4, 26),
         (99, 5, 0),
-    ];
-    for (at_least, items, after) in rows {
-        let passed = skip_packets(&parser, left, at_least);
-        assert_eq!(rt; shown(&passed), (items, after, None));
-        assert!(rt; passed.rest.is_none(), "{passed:?}");
+    ] {
+        let told = packets(bytes.as_slice(), at_least)?;
+        assert_eq!(rt; told, (items, after, Behind::Bound), "{at_least}");
     }
     Ok(())
 }
@@ -41,32 +60,42 @@ fn up_to_a_bound(rt: HostRuntime) -> Result<(), Fail> {
 #[test]
 fn to_the_end(rt: HostRuntime) -> Result<(), Fail> {
     let bytes = five_packets(rt.alloc())?;
-    let (left, parser) = PcapParser::new(bytes.as_slice())?;
-    let all = skip_packets(&parser, left, 100);
-    assert_eq!(rt; shown(&all), (5, 0, None));
-    assert!(rt; matches!(all.rest, Some(Rest::Clean)));
-    let torn = skip_packets(&parser, front(left, 90), 75);
-    assert_eq!(rt; shown(&torn), (4, 17, Some(9)));
-    let torn_head = skip_packets(&parser, front(left, 25), usize::MAX);
-    assert_eq!(rt; shown(&torn_head), (1, 6, Some(10)));
+    // The capture's bytes that are there, with its header's 24.
+    for (there, at_least, wanted) in [
+        (123, 100, (5, 0, Behind::Nothing)),
+        (114, 75, (4, 17, Behind::Lack(9))),
+        (49, usize::MAX, (1, 6, Behind::Lack(10))),
+    ] {
+        let told = packets(front(bytes.as_slice(), there), at_least)?;
+        assert_eq!(rt; told, wanted, "{there}");
+    }
     Ok(())
 }
 
 #[test]
 fn to_a_refusal(rt: HostRuntime) -> Result<(), Fail> {
     let bytes = refused_fourth(rt.alloc())?;
-    let (left, parser) = PcapParser::new(bytes.as_slice())?;
-    let passed = skip_packets(&parser, left, 57);
-    assert_eq!(rt; shown(&passed), (3, 43, None));
-    assert!(rt; matches!(passed.rest, Some(Rest::Refused(PcapError::InvalidField(_)))));
+    let told = packets(bytes.as_slice(), 57)?;
+    assert_eq!(rt; told, (3, 43, Behind::Refusal));
     Ok(())
+}
+
+// What is passed of a PcapNg capture, whether the section then is big-endian, and how many interfaces it has.
+type Blocks = ((usize, usize, Behind), bool, usize);
+
+fn blocks(alloc: Global, bytes: &[u8], at_least: usize) -> Result<Blocks, Fail> {
+    let (left, mut parser) = PcapNgParser::new(alloc, bytes)?;
+    let passed = skip_blocks(&mut parser, left, at_least)?;
+    let told = shown(&passed);
+    let is_big = parser.section().endianness().is_big();
+    Ok((told, is_big, parser.interfaces().len()))
 }
 
 #[test]
 fn blocks_of_three_sections(rt: HostRuntime) -> Result<(), Fail> {
     let bytes = three_sections(rt.alloc())?;
     // How many bytes are wanted, how many blocks are passed, what follows them, the section's order and its interfaces.
-    let rows = [
+    for (at_least, items, after, is_big, interfaces) in [
         (0, 0, 296, true, 0),
         (1, 1, 276, true, 1),
         (61, 4, 216, true, 2),
@@ -74,14 +103,10 @@ fn blocks_of_three_sections(rt: HostRuntime) -> Result<(), Fail> {
         (220, 9, 76, false, 1),
         (221, 10, 48, true, 0),
         (296, 13, 0, true, 1),
-    ];
-    for (at_least, items, after, is_big, interfaces) in rows {
-        let (left, mut parser) = PcapNgParser::new(rt.alloc(), bytes.as_slice())?;
-        let passed = skip_blocks(&mut parser, left, at_least)?;
-        assert_eq!(rt; shown(&passed), (items, after, None));
-        assert!(rt; passed.rest.is_none(), "{passed:?}");
-        assert_eq!(rt; parser.section().endianness().is_big(), is_big);
-        assert_eq!(rt; parser.interfaces().len(), interfaces);
+    ] {
+        let told = blocks(rt.alloc(), bytes.as_slice(), at_least)?;
+        let wanted = ((items, after, Behind::Bound), is_big, interfaces);
+        assert_eq!(rt; told, wanted, "{at_least}");
     }
     Ok(())
 }
@@ -89,32 +114,19 @@ fn blocks_of_three_sections(rt: HostRuntime) -> Result<(), Fail> {
 #[test]
 fn blocks_that_end(rt: HostRuntime) -> Result<(), Fail> {
     let bytes = three_sections(rt.alloc())?;
-    let (left, mut parser) = PcapNgParser::new(rt.alloc(), bytes.as_slice())?;
-    let all = skip_blocks(&mut parser, left, 297)?;
-    assert_eq!(rt; shown(&all), (13, 0, None));
-    assert!(rt; matches!(all.rest, Some(Rest::Clean)));
-    let (left, mut parser) = PcapNgParser::new(rt.alloc(), front(bytes.as_slice(), 230))?;
-    let torn = skip_blocks(&mut parser, left, 200)?;
-    assert_eq!(rt; shown(&torn), (8, 22, Some(18)));
+    let (all, _is_big, _interfaces) = blocks(rt.alloc(), bytes.as_slice(), 297)?;
+    assert_eq!(rt; all, (13, 0, Behind::Nothing));
+    let torn = front(bytes.as_slice(), 230);
+    let (torn, _is_big, _interfaces) = blocks(rt.alloc(), torn, 200)?;
+    assert_eq!(rt; torn, (8, 22, Behind::Lack(18)));
     Ok(())
 }
 
 #[test]
 fn a_block_of_another_second_length(rt: HostRuntime) -> Result<(), Fail> {
-    let mut bytes = three_sections(rt.alloc())?;
-    // That of the block at 108.
-    if let Some(byte) = bytes.get_mut(139) {
-        *byte = 31;
-    }
-    let (left, mut parser) = PcapNgParser::new(rt.alloc(), bytes.as_slice())?;
-    let refused = skip_blocks(&mut parser, left, 81)?;
-    assert_eq!(rt; shown(&refused), (4, 216, None));
-    assert!(rt;
-        matches!(
-            refused.rest,
-            Some(Rest::Refused(PcapError::InvalidField(_)))
-        )
-    );
-    assert_eq!(rt; parser.interfaces().len(), 2);
+    let bytes = another_length(rt.alloc())?;
+    let (told, _is_big, interfaces) = blocks(rt.alloc(), bytes.as_slice(), 81)?;
+    assert_eq!(rt; told, (4, 216, Behind::Refusal));
+    assert_eq!(rt; interfaces, 2);
     Ok(())
 }
