@@ -1,6 +1,7 @@
-"""Whether docs/PCAPFILE.md shows what the program writes: each of its commands is run where the captures of crates/pcapfile/data lie.
+"""Whether docs/PCAPFILE.md and docs/CAPCOPY.md show what the programs write: each command there is run where the captures of
+crates/pcapfile/data lie, and `capcopy` is the one that is built in this checkout.
 
-A block of the page is commands, each behind '$ ', with what it writes to standard output and standard error below it.
+A block of a page is commands, each behind '$ ', with what it writes to standard output and standard error below it.
 """
 import os
 import re
@@ -8,24 +9,30 @@ import shutil
 import subprocess
 import tempfile
 
+PAGES = ("docs/PCAPFILE.md", "docs/CAPCOPY.md")
 BLOCK = re.compile(r"^```console\n(.*?)^```$", re.S | re.M)
 COMMAND = re.compile(r"^\$ (.*)\n((?:(?!\$ ).*\n)*)", re.M)
 
 
 def try_all(tally, top, seconds):
-    with open(f"{top}/docs/PCAPFILE.md", encoding="utf-8") as it:
-        blocks = BLOCK.findall(it.read())
+    for page in PAGES:
+        with open(f"{top}/{page}", encoding="utf-8") as it:
+            blocks = BLOCK.findall(it.read())
+        tally.note(page, not blocks and "it shows no command")
+        for block in blocks:
+            try_block(tally, top, page, block, seconds)
+
+
+def try_block(tally, top, page, block, seconds):
     with tempfile.TemporaryDirectory() as room:
         os.mkdir(f"{room}/bin")
         os.symlink(tally.program, f"{room}/bin/pcapfile")
-        for block in blocks:
-            # each block begins with the captures alone
-            folder = shutil.copytree(f"{top}/crates/pcapfile/data", f"{room}/data", dirs_exist_ok=True)
-            for command, wanted in COMMAND.findall(block):
-                ran = subprocess.run(
-                    command, shell=True, cwd=folder, env={**os.environ, "PATH": f"{room}/bin:{os.environ['PATH']}"},
-                    stdin=subprocess.DEVNULL, stdout=subprocess.PIPE, stderr=subprocess.STDOUT, text=True, timeout=seconds,
-                )
-                tally.note(f"docs/PCAPFILE.md, {command}", ran.stdout != wanted and f"it writes {ran.stdout!r}, and not {wanted!r}")
-            shutil.rmtree(folder)
-    tally.note("docs/PCAPFILE.md", not blocks and "it shows no command")
+        os.symlink(f"{top}/crates/capcopy/out/capcopy", f"{room}/bin/capcopy")
+        folder = shutil.copytree(f"{top}/crates/pcapfile/data", f"{room}/data")
+        paths = {**os.environ, "PATH": f"{room}/bin:{os.environ['PATH']}"}
+        for command, wanted in COMMAND.findall(block):
+            ran = subprocess.run(
+                command, shell=True, cwd=folder, env=paths, timeout=seconds, text=True,
+                stdin=subprocess.DEVNULL, stdout=subprocess.PIPE, stderr=subprocess.STDOUT,
+            )
+            tally.note(f"{page}, {command}", ran.stdout != wanted and f"it writes {ran.stdout!r}, and not {wanted!r}")
