@@ -95,7 +95,7 @@ pub struct NameRecord<'a> {
 const NOTHING: i32 = 8;
 
 /// The bytes that the library lends of these.
-fn lent<'a>(of: &'a [u8], bytes: calls::Bytes) -> &'a [u8] {
+pub(crate) fn lent<'a>(of: &'a [u8], bytes: calls::Bytes) -> &'a [u8] {
     if bytes.len == 0 {
         return &[];
     }

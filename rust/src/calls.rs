@@ -57,6 +57,18 @@ pub struct Record {
     pub names: Bytes,
 }
 
+#[repr(C)]
+#[derive(Clone, Copy)]
+pub struct PacketAsIs {
+    pub ts_sec: u32,
+    pub ts_fraction: u32,
+    pub orig_len: u32,
+    pub flaws: u32,
+    pub first_flaw: u32,
+    pub time: crate::Time,
+    pub bytes: Bytes,
+}
+
 #[cfg(feature = "std")]
 #[repr(C)]
 #[derive(Clone, Copy)]
@@ -93,6 +105,13 @@ extern "C" {
         header: *const crate::Header,
         left: *mut Bytes,
         packet: *mut Packet,
+        error: *mut Error,
+    ) -> i32;
+    pub fn pcapfile_take_packet_as_is(
+        header: *const crate::Header,
+        left: *mut Bytes,
+        limit: u32,
+        packet: *mut PacketAsIs,
         error: *mut Error,
     ) -> i32;
     #[cfg(feature = "std")]

@@ -15,6 +15,7 @@
 #[cfg(feature = "std")]
 extern crate std;
 
+mod as_is;
 mod blocks;
 mod calls;
 mod rules;
@@ -23,6 +24,7 @@ mod reader;
 #[cfg(feature = "std")]
 mod writer;
 
+pub use as_is::{Flaws, PacketAsIs, PacketsAsIs};
 pub use blocks::{Block, BlockOption, BlockPacket, Blocks, Interface, NameRecord, Names, Options, Records, Section, Time};
 #[cfg(feature = "std")]
 pub use reader::{AnyPacket, Packets, Reader};
