@@ -1,11 +1,10 @@
 //! The program over an input and an output that fail.
 
-use crate::inputs::{ROOMS, buffered};
-use capcopy_run::run;
+use crate::runs::{ROOMS, Ran, Run, ended, is_out, writes};
+use std::alloc::Global;
 use std::io::{BufWriter, ErrorKind};
-use std::test::Fail;
-use test_support::captures::{SECTIONS, big, front};
-use test_support::readers::Halting;
+use std::test::*;
+use test_support::captures::{BIG_HEAD, SECTIONS, big, front};
 use test_support::writers::Narrow;
 
 /// The line of the big-endian capture's packet.
@@ -15,26 +14,52 @@ pub(crate) const LINE: &str = "1 1335958313.152630000 98/98\n";
 pub(crate) const LINES: &str =
     "section big 1.0\n1 interface 20 ok\n2 section 28 ok\n3 interface 20 ok\n";
 
+// Whether a run of this word ends with status 3 behind each buffer where this call fails, one byte a call, and these bytes
+// go out.
+fn fails(
+    alloc: Global,
+    word: &str,
+    bytes: &[u8],
+    fails_at: usize,
+    written: &[u8],
+) -> Result<(), Fail> {
+    for room in ROOMS {
+        let words = [word];
+        let mut run = Run::new(&words, bytes, room, 9);
+        run.step = 1;
+        run.fails_at = fails_at;
+        run.kind = ErrorKind::Interrupted;
+        is_status_3(writes(alloc, &run, written)?, room)?;
+    }
+    Ok(())
+}
+
+// Whether a run ended with status 3; else a failure with a number to find it by.
+fn is_status_3(ran: Ran, number: usize) -> Result<(), Fail> {
+    if ran.status == 3 {
+        return Ok(());
+    }
+    Err(Fail::new(format_args!("it ends with status {} at {number}", ran.status)))
+}
+
+// The call that fails comes after all of the input.
 #[test]
 fn interrupted_reads(rt: HostRuntime) -> Result<(), Fail> {
     let bytes = big(rt.alloc())?;
-    // a word, its input, the call that fails, after all of it, and what is written
-    let rows: [(&str, &[u8], usize, &[u8]); 3] = [
-        ("list", bytes.as_slice(), 139, LINE.as_bytes()),
-        ("copy", bytes.as_slice(), 139, bytes.as_slice()),
-        ("blocks", &SECTIONS, 97, LINES.as_bytes()),
-    ];
-    for room in ROOMS {
-        for (word, given, fails_at, written) in rows {
-            let mut stream = Halting::new(rt.alloc(), given, 1)?;
-            stream.fails_at = fails_at;
-            stream.kind = ErrorKind::Interrupted;
-            let mut input = buffered(rt.alloc(), room, stream)?;
-            let mut output = Vec::new(rt.alloc());
-            let exit = run(rt.alloc(), &[word], &mut input, &mut output, 9);
-            assert!(rt; exit.status() == 3, "{word} behind {room}");
-            assert_eq!(rt; output.as_slice(), written);
-        }
+    let bytes = bytes.as_slice();
+    fails(rt.alloc(), "list", bytes, 139, LINE.as_bytes())?;
+    fails(rt.alloc(), "copy", bytes, 139, bytes)?;
+    fails(rt.alloc(), "blocks", &SECTIONS, 97, LINES.as_bytes())
+}
+
+// Whether a run of this word ends with status 3 into each output of less room than these bytes, and has their beginning written.
+fn fills(alloc: Global, word: &str, bytes: &[u8], written: &[u8]) -> Result<(), Fail> {
+    for room in 0..written.len() {
+        let words = [word];
+        let mut output = Narrow::new(alloc, room, false);
+        let ran = ended(alloc, &Run::new(&words, bytes, 40, 9), &mut output)?;
+        is_out(output.out.as_slice(), front(written, room), room)?;
+        is_status_3(ran, room)?;
     }
     Ok(())
 }
@@ -42,60 +67,39 @@ fn interrupted_reads(rt: HostRuntime) -> Result<(), Fail> {
 #[test]
 fn narrow_outputs(rt: HostRuntime) -> Result<(), Fail> {
     let bytes = big(rt.alloc())?;
-    let rows: [(&str, &[u8], &[u8]); 3] = [
-        ("list", bytes.as_slice(), LINE.as_bytes()),
-        ("copy", bytes.as_slice(), bytes.as_slice()),
-        ("blocks", &SECTIONS, LINES.as_bytes()),
-    ];
-    for (word, given, written) in rows {
-        for room in 0..written.len() {
-            let mut input = buffered(rt.alloc(), 40, Halting::new(rt.alloc(), given, 1000)?)?;
-            let mut output = Narrow::new(rt.alloc(), room, false);
-            let exit = run(rt.alloc(), &[word], &mut input, &mut output, 9);
-            assert!(rt; exit.status() == 3, "{word} at {room}");
-            assert_eq!(rt; output.out.as_slice(), front(written, room));
-        }
-    }
-    Ok(())
+    let bytes = bytes.as_slice();
+    fills(rt.alloc(), "list", bytes, LINE.as_bytes())?;
+    fills(rt.alloc(), "copy", bytes, bytes)?;
+    fills(rt.alloc(), "blocks", &SECTIONS, LINES.as_bytes())
+}
+
+// Whether a run of this word fails at its second read, with status 3, and these lines, each with a semicolon, are out by
+// then: those of the items that are whole in the first read, which gives so many bytes.
+fn lets_out(alloc: Global, word: &str, bytes: &[u8], step: usize, lines: &str) -> Result<(), Fail> {
+    let lines = lines.replace(alloc, ";", "\n")?;
+    let words = [word];
+    let mut run = Run::new(&words, bytes, 65_536, 9);
+    run.step = step;
+    run.fails_at = 2;
+    let narrow = Narrow::new(alloc, 1000, true);
+    let mut output = BufWriter::with_capacity(alloc, 1000, narrow)?;
+    let ran = ended(alloc, &run, &mut output)?;
+    is_out(output.get_ref().out.as_slice(), lines.as_bytes(), step)?;
+    is_status_3(ran, step)
 }
 
 // The input fails at its second read, and what was listed of the first one is out by then, though the output has a buffer.
 #[test]
 fn lines_are_out_before_the_input_fails(rt: HostRuntime) -> Result<(), Fail> {
     let mut bytes = big(rt.alloc())?;
-    let again = big(rt.alloc())?;
-    bytes.extend_from_slice(front(again.as_slice(), 12))?;
-    // a word, its input, how many bytes the first read gives, and the lines of the items that are whole in them
-    let rows: [(&str, &[u8], usize, &str); 5] = [
-        ("list", bytes.as_slice(), 138, LINE),
-        ("list", bytes.as_slice(), 150, LINE),
-        ("blocks", &SECTIONS, 28, "section big 1.0\n"),
-        (
-            "blocks",
-            &SECTIONS,
-            48,
-            "section big 1.0\n1 interface 20 ok\n",
-        ),
-        (
-            "blocks",
-            &SECTIONS,
-            90,
-            "section big 1.0\n1 interface 20 ok\n2 section 28 ok\n",
-        ),
-    ];
-    for (word, given, step, written) in rows {
-        let mut stream = Halting::new(rt.alloc(), given, step)?;
-        stream.fails_at = 2;
-        let mut input = buffered(rt.alloc(), 65_536, stream)?;
-        let narrow = Narrow::new(rt.alloc(), 1000, true);
-        let mut output = BufWriter::with_capacity(rt.alloc(), 1000, narrow)?;
-        let exit = run(rt.alloc(), &[word], &mut input, &mut output, 9);
-        assert!(rt; exit.status() == 3, "{word} by {step}");
-        assert_eq!(rt;
-            output.get_ref().out.as_slice(),
-            written.as_bytes(),
-            "{word} by {step}"
-        );
-    }
-    Ok(())
+    bytes.extend_from_slice(front(&BIG_HEAD, 12))?;
+    let bytes = bytes.as_slice();
+    let line = "1 1335958313.152630000 98/98;";
+    lets_out(rt.alloc(), "list", bytes, 138, line)?;
+    lets_out(rt.alloc(), "list", bytes, 150, line)?;
+    lets_out(rt.alloc(), "blocks", &SECTIONS, 28, "section big 1.0;")?;
+    let lines = "section big 1.0;1 interface 20 ok;";
+    lets_out(rt.alloc(), "blocks", &SECTIONS, 48, lines)?;
+    let lines = "section big 1.0;1 interface 20 ok;2 section 28 ok;";
+    lets_out(rt.alloc(), "blocks", &SECTIONS, 90, lines)
 }

@@ -1,55 +1,83 @@
 //! Reads and writes that are interrupted, once and several times in a row.
 
 use crate::failing::{LINE, LINES};
-use crate::inputs::buffered;
-use capcopy_run::{Exit, Uninterrupted, WordList, run, run_words};
-use pcap_classic::PcapError;
+use crate::runs::{End, Run, end_of, ended, is_out};
+use capcopy_run::{Uninterrupted, WordList, run, run_words};
+use std::alloc::Global;
 use std::io;
-use std::io::{ErrorKind, Read};
-use std::test::Fail;
+use std::io::{BufReader, ErrorKind, Read};
+use std::test::*;
 use test_support::captures::{SECTIONS, big, front};
 use test_support::readers::Halting;
 use test_support::writers::Narrow;
 
-#[test]
-fn repeated_reads(rt: HostRuntime) -> Result<(), Fail> {
-    let bytes = big(rt.alloc())?;
-    let rows: [(&str, &[u8], &[u8]); 3] = [
-        ("list", bytes.as_slice(), LINE.as_bytes()),
-        ("copy", bytes.as_slice(), bytes.as_slice()),
-        ("blocks", &SECTIONS, LINES.as_bytes()),
-    ];
-    for (word, given, written) in rows {
-        for fails_for in [1, 2, 5] {
-            for fails_at in 1..9 {
-                let mut stream = Halting::new(rt.alloc(), given, 20)?;
-                stream.fails_at = fails_at;
-                stream.fails_for = fails_for;
-                stream.kind = ErrorKind::Interrupted;
-                let mut input = buffered(rt.alloc(), 40, Uninterrupted::new(stream))?;
-                let mut output = Vec::new(rt.alloc());
-                let exit = run(rt.alloc(), &[word], &mut input, &mut output, 9);
-                assert!(rt; exit.status() == 0, "{word} at {fails_at}");
-                assert_eq!(rt; output.as_slice(), written);
-            }
+// A stream of these bytes, twenty a read, of which so many calls fail so, from this one on.
+fn failing_at(
+    alloc: Global,
+    bytes: &[u8],
+    fails_at: usize,
+    fails_for: usize,
+    kind: ErrorKind,
+) -> Result<Halting, Fail> {
+    let mut stream = Halting::new(alloc, bytes, 20)?;
+    stream.fails_at = fails_at;
+    stream.fails_for = fails_for;
+    stream.kind = kind;
+    Ok(stream)
+}
+
+// Whether a run of this word over the stream, with reads that are repeated, is done, and these bytes go out.
+fn repeats(alloc: Global, word: &str, stream: Halting, written: &[u8]) -> Result<(), Fail> {
+    let at = stream.fails_at;
+    let mut input = BufReader::with_capacity(alloc, 40, Uninterrupted::new(stream))?;
+    let mut output = Vec::new(alloc);
+    let exit = run(alloc, &[word], &mut input, &mut output, 9);
+    is_out(output.as_slice(), written, at)?;
+    if exit.status() == 0 {
+        return Ok(());
+    }
+    Err(Fail::new(format_args!("{word} is not done at {at}")))
+}
+
+// The same where one, two and five calls fail from each of the first eight on.
+fn repeats_each(alloc: Global, word: &str, bytes: &[u8], written: &[u8]) -> Result<(), Fail> {
+    for fails_for in [1, 2, 5] {
+        for at in 1..9 {
+            let stream = failing_at(alloc, bytes, at, fails_for, ErrorKind::Interrupted)?;
+            repeats(alloc, word, stream, written)?;
         }
     }
     Ok(())
 }
 
 #[test]
+fn repeated_reads(rt: HostRuntime) -> Result<(), Fail> {
+    let bytes = big(rt.alloc())?;
+    let bytes = bytes.as_slice();
+    repeats_each(rt.alloc(), "list", bytes, LINE.as_bytes())?;
+    repeats_each(rt.alloc(), "copy", bytes, bytes)?;
+    repeats_each(rt.alloc(), "blocks", &SECTIONS, LINES.as_bytes())
+}
+
+// Whether the word `list` over the bare stream is done, and these bytes go out.
+fn repeats_words(alloc: Global, stream: Halting, written: &[u8]) -> Result<bool, Fail> {
+    let words = [b"list".as_slice()];
+    let mut output = Vec::new(alloc);
+    let exit = run_words(alloc, &WordList::new(&words), stream, &mut output);
+    is_out(output.as_slice(), written, 0)?;
+    Ok(exit.status() == 0)
+}
+
+#[test]
 fn repeated_reads_of_words(rt: HostRuntime) -> Result<(), Fail> {
     let bytes = big(rt.alloc())?;
     for fails_for in [1, 5] {
-        let mut stream = Halting::new(rt.alloc(), bytes.as_slice(), 20)?;
-        stream.fails_at = 3;
-        stream.fails_for = fails_for;
-        stream.kind = ErrorKind::Interrupted;
-        let words = [b"list".as_slice()];
-        let mut output = Vec::new(rt.alloc());
-        let exit = run_words(rt.alloc(), &WordList::new(&words), stream, &mut output);
-        assert!(rt; exit.status() == 0, "{fails_for}");
-        assert_eq!(rt; output.as_slice(), LINE.as_bytes());
+        let kind = ErrorKind::Interrupted;
+        let stream = failing_at(rt.alloc(), bytes.as_slice(), 3, fails_for, kind)?;
+        assert!(rt;
+            repeats_words(rt.alloc(), stream, LINE.as_bytes())?,
+            "{fails_for}"
+        );
     }
     Ok(())
 }
@@ -76,58 +104,52 @@ impl Read for Failing<'_> {
     }
 }
 
-// How a read ends where the stream below fails with each of these kinds in turn: the kind that is told, or none where a byte
-// comes; and how many calls there were.
-#[test]
-fn told_kinds(rt: HostRuntime) {
-    let rows: [(&[ErrorKind], Option<ErrorKind>, usize); 8] = [
-        (&[], None, 1),
-        (&[ErrorKind::Interrupted], None, 2),
-        (&[ErrorKind::Interrupted; 7], None, 8),
-        (&[ErrorKind::TimedOut], Some(ErrorKind::TimedOut), 1),
-        (&[ErrorKind::WouldBlock], Some(ErrorKind::WouldBlock), 1),
-        (
-            &[ErrorKind::UnexpectedEof],
-            Some(ErrorKind::UnexpectedEof),
-            1,
-        ),
-        (
-            &[ErrorKind::Interrupted, ErrorKind::BrokenPipe],
-            Some(ErrorKind::BrokenPipe),
-            2,
-        ),
-        (
-            &[
-                ErrorKind::Interrupted,
-                ErrorKind::Interrupted,
-                ErrorKind::WriteZero,
-            ],
-            Some(ErrorKind::WriteZero),
-            3,
-        ),
-    ];
-    for (kinds, wanted, wanted_calls) in rows {
-        let mut calls = 0;
-        let mut stream = Uninterrupted::new(Failing {
-            kinds,
-            calls: &mut calls,
-        });
-        let mut byte = [0];
-        let told = match stream.read(&mut byte) {
-            Ok(_) => None,
-            Err(error) => Some(error.kind()),
-        };
-        assert_eq!(rt; told, wanted);
-        assert_eq!(rt; byte[0], if wanted.is_none() { 7 } else { 0 });
-        assert_eq!(rt; calls, wanted_calls);
-    }
+// Whether a read of one byte tells this kind, or gives the byte where there is none, at so many calls, where the stream
+// below fails with each of these kinds in turn.
+fn tells(kinds: &[ErrorKind], wanted: Option<ErrorKind>, wanted_calls: usize) -> bool {
+    let mut calls = 0;
+    let mut stream = Uninterrupted::new(Failing {
+        kinds,
+        calls: &mut calls,
+    });
+    let mut byte = [0];
+    let kind = match &stream.read(&mut byte) {
+        Ok(_) => None,
+        Err(error) => Some(error.kind()),
+    };
+    let is_given = byte[0] == if wanted.is_none() { 7 } else { 0 };
+    kind == wanted && is_given && calls == wanted_calls
 }
 
-// The kind of the error inside an `Io`.
-fn kind_of(exit: &Exit) -> Option<ErrorKind> {
-    match exit {
-        Exit::Io(PcapError::IoError(error)) => Some(error.kind()),
-        _ => None,
+const INTERRUPTED: ErrorKind = ErrorKind::Interrupted;
+
+#[test]
+fn told_kinds(rt: HostRuntime) {
+    assert!(rt; tells(&[], None, 1));
+    assert!(rt; tells(&[INTERRUPTED], None, 2));
+    assert!(rt; tells(&[INTERRUPTED; 7], None, 8));
+    for kind in [
+        ErrorKind::TimedOut,
+        ErrorKind::WouldBlock,
+        ErrorKind::UnexpectedEof,
+    ] {
+        assert!(rt; tells(&[kind], Some(kind), 1));
+    }
+    let broken = ErrorKind::BrokenPipe;
+    assert!(rt; tells(&[INTERRUPTED, broken], Some(broken), 2));
+    let zero = ErrorKind::WriteZero;
+    assert!(rt; tells(&[INTERRUPTED, INTERRUPTED, zero], Some(zero), 3));
+}
+
+// Whether a run of this word over a stream whose fourth call fails so ends with this kind.
+fn fails(alloc: Global, word: &str, bytes: &[u8], kind: ErrorKind) -> Result<bool, Fail> {
+    let stream = failing_at(alloc, bytes, 4, 1, kind)?;
+    let mut input = BufReader::with_capacity(alloc, 40, Uninterrupted::new(stream))?;
+    let mut output = Vec::new(alloc);
+    let exit = run(alloc, &[word], &mut input, &mut output, 9);
+    match end_of(&exit) {
+        End::Io(told) => Ok(told == kind),
+        _ => Ok(false),
     }
 }
 
@@ -136,43 +158,56 @@ fn failed_reads(rt: HostRuntime) -> Result<(), Fail> {
     let bytes = big(rt.alloc())?;
     for word in ["list", "copy"] {
         for kind in [ErrorKind::TimedOut, ErrorKind::WouldBlock, ErrorKind::Other] {
-            let mut stream = Halting::new(rt.alloc(), bytes.as_slice(), 20)?;
-            stream.fails_at = 4;
-            stream.kind = kind;
-            let mut input = buffered(rt.alloc(), 40, Uninterrupted::new(stream))?;
-            let mut output = Vec::new(rt.alloc());
-            let exit = run(rt.alloc(), &[word], &mut input, &mut output, 9);
-            assert_eq!(rt; kind_of(&exit), Some(kind), "{word}");
+            assert!(rt; fails(rt.alloc(), word, bytes.as_slice(), kind)?, "{word}");
         }
     }
     Ok(())
 }
 
+// Whether a run of this word into an output of which this call is interrupted, or takes nothing, ends with this kind, at
+// that call, and these bytes were written before it.
+fn halts(
+    alloc: Global,
+    word: &str,
+    bytes: &[u8],
+    call: u64,
+    kind: ErrorKind,
+    written: &[u8],
+) -> Result<(), Fail> {
+    let words = [word];
+    let mut output = Narrow::halting(alloc, call, kind == ErrorKind::WriteZero);
+    let ran = ended(alloc, &Run::new(&words, bytes, 40, 9), &mut output)?;
+    is_out(output.out.as_slice(), written, 40)?;
+    if ran.is(End::Io(kind)) && output.calls == call {
+        return Ok(());
+    }
+    Err(Fail::new(format_args!("{word} ends otherwise where call {call} halts")))
+}
+
+// The same of both kinds, where so many of these bytes were written.
+fn halts_both(
+    alloc: Global,
+    word: &str,
+    bytes: &[u8],
+    call: u64,
+    lines: &str,
+    written: usize,
+) -> Result<(), Fail> {
+    let written = front(lines.as_bytes(), written);
+    halts(alloc, word, bytes, call, ErrorKind::Interrupted, written)?;
+    halts(alloc, word, bytes, call, ErrorKind::WriteZero, written)
+}
+
+// The output takes ten bytes in a call, and flushes before the first packet, and after the section.
 #[test]
 fn halted_writes(rt: HostRuntime) -> Result<(), Fail> {
     let bytes = big(rt.alloc())?;
-    // a word, its input and right output, the call that is interrupted or takes nothing, and what was written before it: the
-    // output takes ten bytes in a call, and flushes before the first packet, and after the section
-    let rows: [(&str, &[u8], &str, u64, usize); 6] = [
-        ("list", bytes.as_slice(), LINE, 2, 0),
-        ("list", bytes.as_slice(), LINE, 3, 10),
-        ("list", bytes.as_slice(), LINE, 4, 20),
-        ("blocks", &SECTIONS, LINES, 1, 0),
-        ("blocks", &SECTIONS, LINES, 2, 10),
-        ("blocks", &SECTIONS, LINES, 4, 16),
-    ];
-    for (word, given, lines, call, written) in rows {
-        for (is_idle, kind) in [
-            (false, ErrorKind::Interrupted),
-            (true, ErrorKind::WriteZero),
-        ] {
-            let mut input = buffered(rt.alloc(), 40, Halting::new(rt.alloc(), given, 1000)?)?;
-            let mut output = Narrow::halting(rt.alloc(), call, is_idle);
-            let exit = run(rt.alloc(), &[word], &mut input, &mut output, 9);
-            assert_eq!(rt; kind_of(&exit), Some(kind), "{word} at {call}");
-            assert_eq!(rt; output.out.as_slice(), front(lines.as_bytes(), written));
-            assert_eq!(rt; output.calls, call);
-        }
+    // the call that is interrupted or takes nothing, and how many bytes were written before it
+    for (call, written) in [(2, 0), (3, 10), (4, 20)] {
+        halts_both(rt.alloc(), "list", bytes.as_slice(), call, LINE, written)?;
+    }
+    for (call, written) in [(1, 0), (2, 10), (4, 16)] {
+        halts_both(rt.alloc(), "blocks", &SECTIONS, call, LINES, written)?;
     }
     Ok(())
 }
@@ -180,18 +215,14 @@ fn halted_writes(rt: HostRuntime) -> Result<(), Fail> {
 #[test]
 fn interrupted_flushes(rt: HostRuntime) -> Result<(), Fail> {
     let bytes = big(rt.alloc())?;
-    // a word, its input, the call that flushes, and what was written before it
-    let rows: [(&str, &[u8], u64, &str); 2] = [
-        ("list", bytes.as_slice(), 1, ""),
-        ("blocks", &SECTIONS, 3, "section big 1.0\n"),
-    ];
-    for (word, given, call, written) in rows {
-        let mut input = buffered(rt.alloc(), 40, Halting::new(rt.alloc(), given, 1000)?)?;
-        let mut output = Narrow::halting(rt.alloc(), call, false);
-        let exit = run(rt.alloc(), &[word], &mut input, &mut output, 9);
-        assert_eq!(rt; kind_of(&exit), Some(ErrorKind::Interrupted), "{word}");
-        assert_eq!(rt; output.out.as_slice(), written.as_bytes());
-        assert_eq!(rt; output.calls, call);
-    }
-    Ok(())
+    let kind = ErrorKind::Interrupted;
+    halts(rt.alloc(), "list", bytes.as_slice(), 1, kind, b"")?;
+    halts(
+        rt.alloc(),
+        "blocks",
+        &SECTIONS,
+        3,
+        kind,
+        b"section big 1.0\n",
+    )
 }

@@ -6,8 +6,8 @@ mod blocks;
 #[cfg(test)]
 mod failing;
 #[cfg(test)]
-mod inputs;
-#[cfg(test)]
 mod interrupted;
+#[cfg(test)]
+mod runs;
 #[cfg(test)]
 mod words;

@@ -1,12 +1,10 @@
-//! The program over inputs and outputs in memory.
+//! The words `list` and `copy` over inputs and outputs in memory, and words that the program doesn't know.
 
-use crate::inputs::{ROOMS, buffered, taken};
-use capcopy_run::{Exit, run};
-use pcap_classic::PcapError;
+use crate::runs::{ALL, End, ROOMS, Run, behind_each, says, stops_behind_each, writes};
+use std::alloc::Global;
 use std::io::ErrorKind;
-use std::test::Fail;
+use std::test::*;
 use test_support::captures::{big, capture, front, little};
-use test_support::readers::Halting;
 
 /// A big-endian capture in nanoseconds of one empty packet, at 1 second and 999 nanoseconds.
 const BIG_NANO: [u8; 40] = [
@@ -20,57 +18,53 @@ const BIG_MICRO: [u8; 40] = [
     0, 1, 0, 0, 0, 0, 0, 0, 0, 0, 0, 0, 0, 0,
 ];
 
-/// The most lines or packets of a run that asks for all.
-const ALL: u64 = 4_294_967_295;
+/// The line of the big-endian capture's packet.
+const LINE: &[u8] = b"1 1335958313.152630000 98/98\n";
 
-// Whether the run ended because the input did.
-fn is_early_end(exit: &Exit) -> bool {
-    match exit {
-        Exit::Io(PcapError::IoError(error)) => error.kind() == ErrorKind::UnexpectedEof,
-        _ => false,
-    }
-}
+/// How a run ends because its input does.
+const EARLY: End = End::Io(ErrorKind::UnexpectedEof);
 
 #[test]
 fn lists(rt: HostRuntime) -> Result<(), Fail> {
-    let rows = [
-        (big(rt.alloc())?, "1 1335958313.152630000 98/98\n"),
-        (little(rt.alloc())?, "1 1331901000.000000000 117/117\n"),
-    ];
-    for room in ROOMS {
-        for (bytes, lines) in &rows {
-            let mut input = buffered(
-                rt.alloc(),
-                room,
-                Halting::new(rt.alloc(), bytes.as_slice(), 1000)?,
-            )?;
-            let mut output = Vec::new(rt.alloc());
-            let exit = run(rt.alloc(), &["list"], &mut input, &mut output, ALL);
-            assert!(rt; matches!(exit, Exit::Done));
-            assert_eq!(rt; exit.status(), 0);
-            assert_eq!(rt; output.as_slice(), lines.as_bytes());
-        }
-    }
-    Ok(())
+    let bytes = big(rt.alloc())?;
+    behind_each(
+        rt.alloc(),
+        &["list"],
+        bytes.as_slice(),
+        ALL,
+        LINE,
+        End::Done,
+    )?;
+    let bytes = little(rt.alloc())?;
+    let line = b"1 1331901000.000000000 117/117\n";
+    behind_each(
+        rt.alloc(),
+        &["list"],
+        bytes.as_slice(),
+        ALL,
+        line,
+        End::Done,
+    )
 }
+
+/// Two packets of five and one byte, at 2 and 3 seconds.
+const TWO_PACKETS: [u8; 38] = [
+    0, 0, 0, 2, 0, 0, 0, 0, 0, 0, 0, 5, 0, 0, 0, 5, 1, 2, 3, 4, 5, 0, 0, 0, 3, 0, 0, 0, 7, 0, 0, 0,
+    1, 0, 0, 0, 9, 6,
+];
 
 #[test]
 fn lists_at_each_cut(rt: HostRuntime) -> Result<(), Fail> {
     // three packets of no, five and one byte behind BIG_NANO's header, at 1, 2 and 3 seconds
     let mut whole = Vec::from_slice(rt.alloc(), &BIG_NANO)?;
-    whole.extend_from_slice(&[
-        0, 0, 0, 2, 0, 0, 0, 0, 0, 0, 0, 5, 0, 0, 0, 5, 1, 2, 3, 4, 5,
-    ])?;
-    whole.extend_from_slice(&[0, 0, 0, 3, 0, 0, 0, 7, 0, 0, 0, 1, 0, 0, 0, 9, 6])?;
-    let lines = "1 1.000000999 0/0\n2 2.000000000 5/5\n3 3.000000007 1/9\n";
+    whole.extend_from_slice(&TWO_PACKETS)?;
+    let lines = b"1 1.000000999 0/0\n2 2.000000000 5/5\n3 3.000000007 1/9\n";
     for room in 1..80 {
         for step in [7, 1000] {
-            let stream = Halting::new(rt.alloc(), whole.as_slice(), step)?;
-            let mut input = buffered(rt.alloc(), room, stream)?;
-            let mut output = Vec::new(rt.alloc());
-            let exit = run(rt.alloc(), &["list"], &mut input, &mut output, ALL);
-            assert!(rt; matches!(exit, Exit::Done), "behind {room}");
-            assert_eq!(rt; output.as_slice(), lines.as_bytes(), "behind {room}");
+            let mut run = Run::new(&["list"], whole.as_slice(), room, ALL);
+            run.step = step;
+            let ran = writes(rt.alloc(), &run, lines)?;
+            assert!(rt; ran.is(End::Done), "behind {room}");
         }
     }
     Ok(())
@@ -79,16 +73,9 @@ fn lists_at_each_cut(rt: HostRuntime) -> Result<(), Fail> {
 #[test]
 fn lists_of_torn_captures(rt: HostRuntime) -> Result<(), Fail> {
     let whole = big(rt.alloc())?;
-    for room in ROOMS {
-        for end in [0, 10, 40, 137] {
-            let bytes = front(whole.as_slice(), end);
-            let mut input = buffered(rt.alloc(), room, Halting::new(rt.alloc(), bytes, 1000)?)?;
-            let mut output = Vec::new(rt.alloc());
-            let exit = run(rt.alloc(), &["list"], &mut input, &mut output, ALL);
-            assert!(rt; is_early_end(&exit), "at {end}");
-            assert_eq!(rt; exit.status(), 3);
-            assert!(rt; output.is_empty());
-        }
+    for end in [0, 10, 40, 137] {
+        let bytes = front(whole.as_slice(), end);
+        behind_each(rt.alloc(), &["list"], bytes, ALL, b"", EARLY)?;
     }
     Ok(())
 }
@@ -98,20 +85,8 @@ fn most_lines(rt: HostRuntime) -> Result<(), Fail> {
     let mut whole = big(rt.alloc())?;
     whole.extend_from_slice(&[0xff; 16])?;
     for end in [154, 138] {
-        for room in ROOMS {
-            let bytes = front(whole.as_slice(), end);
-            let mut input = buffered(rt.alloc(), room, Halting::new(rt.alloc(), bytes, 1000)?)?;
-            let mut output = Vec::new(rt.alloc());
-            let exit = run(rt.alloc(), &["list"], &mut input, &mut output, 1);
-            assert!(rt; matches!(exit, Exit::Most));
-            assert_eq!(rt; exit.status(), 1);
-            assert_eq!(rt; taken(&input), 138);
-            assert_eq!(rt; input.get_ref().ends, 0, "behind {room}");
-            assert_eq!(rt;
-                output.as_slice(),
-                b"1 1335958313.152630000 98/98\n".as_slice()
-            );
-        }
+        let bytes = front(whole.as_slice(), end);
+        stops_behind_each(rt.alloc(), &["list"], bytes, 1, LINE, 138)?;
     }
     Ok(())
 }
@@ -119,114 +94,72 @@ fn most_lines(rt: HostRuntime) -> Result<(), Fail> {
 #[test]
 fn most_copies(rt: HostRuntime) -> Result<(), Fail> {
     let whole = big(rt.alloc())?;
-    let rows: [&[&str]; 2] = [&["copy"], &["copy", "big", "micro"]];
-    for room in ROOMS {
-        for words in rows {
-            let bytes = whole.as_slice();
-            let mut input = buffered(rt.alloc(), room, Halting::new(rt.alloc(), bytes, 1000)?)?;
-            let mut output = Vec::new(rt.alloc());
-            let exit = run(rt.alloc(), words, &mut input, &mut output, 1);
-            assert!(rt; matches!(exit, Exit::Most) && output.as_slice() == bytes);
-            assert_eq!(rt; input.get_ref().ends, 0, "behind {room}");
-        }
-    }
-    Ok(())
+    let bytes = whole.as_slice();
+    stops_behind_each(rt.alloc(), &["copy"], bytes, 1, bytes, 138)?;
+    stops_behind_each(rt.alloc(), &["copy", "big", "micro"], bytes, 1, bytes, 138)
 }
 
 #[test]
 fn refused_captures(rt: HostRuntime) -> Result<(), Fail> {
     let mut whole = big(rt.alloc())?;
     whole.extend_from_slice(&[0, 0, 0, 1, 0, 0, 0, 0, 0, 0, 0, 2, 0, 0, 0, 1])?;
+    let line = "capcopy: Invalid field value: PacketHeader incl_len > orig_len";
     for room in ROOMS {
-        let bytes = whole.as_slice();
-        let mut input = buffered(rt.alloc(), room, Halting::new(rt.alloc(), bytes, 1000)?)?;
-        let mut output = Vec::new(rt.alloc());
-        let exit = run(rt.alloc(), &["list"], &mut input, &mut output, ALL);
-        assert_eq!(rt;
-            output.as_slice(),
-            b"1 1335958313.152630000 98/98\n".as_slice()
-        );
-        assert_eq!(rt; exit.status(), 1);
-        let line = format!(in rt.alloc(); "{exit}")?;
-        assert_eq!(rt;
-            line.as_str(),
-            "capcopy: Invalid field value: PacketHeader incl_len > orig_len"
-        );
+        let run = Run::new(&["list"], whole.as_slice(), room, ALL);
+        let ran = says(rt.alloc(), &run, LINE, line)?;
+        assert!(rt; ran.status == 1, "behind {room}");
+    }
+    Ok(())
+}
+
+// Whether a run of these words over no capture says so behind each buffer, and writes nothing.
+fn finds_no_magic<'a>(alloc: Global, words: &'a [&'a str]) -> Result<(), Fail> {
+    let line = "capcopy: Invalid field value: PcapHeader wrong magic number";
+    for room in ROOMS {
+        let ran = says(alloc, &Run::new(words, &[0xff; 24], room, ALL), b"", line)?;
+        if ran.status != 1 {
+            return Err(Fail::new("it ends with another status"));
+        }
     }
     Ok(())
 }
 
 #[test]
 fn wrong_magic(rt: HostRuntime) -> Result<(), Fail> {
-    let rows: [&[&str]; 3] = [&["list"], &["copy"], &["copy", "big", "nano"]];
-    for room in ROOMS {
-        for words in rows {
-            let stream = Halting::new(rt.alloc(), &[0xff; 24], 1000)?;
-            let mut input = buffered(rt.alloc(), room, stream)?;
-            let mut output = Vec::new(rt.alloc());
-            let exit = run(rt.alloc(), words, &mut input, &mut output, ALL);
-            assert!(rt; exit.status() == 1 && output.is_empty());
-            let line = format!(in rt.alloc(); "{exit}")?;
-            assert_eq!(rt;
-                line.as_str(),
-                "capcopy: Invalid field value: PcapHeader wrong magic number"
-            );
-        }
-    }
-    Ok(())
+    finds_no_magic(rt.alloc(), &["list"])?;
+    finds_no_magic(rt.alloc(), &["copy"])?;
+    finds_no_magic(rt.alloc(), &["copy", "big", "nano"])
+}
+
+// The big-endian capture in the other order and in nanoseconds.
+const LITTLE_NANO_HEAD: [u8; 40] = [
+    0x4d, 0x3c, 0xb2, 0xa1, 2, 0, 4, 0, 0, 0, 0, 0, 0, 0, 0, 0, 0xff, 0xff, 0, 0, 1, 0, 0, 0, 0x29,
+    0x1b, 0xa1, 0x4f, 0xf0, 0xf2, 0x18, 0x09, 0x62, 0, 0, 0, 0x62, 0, 0, 0,
+];
+
+// Whether a copy goes out behind each buffer, whole and where it takes one packet, which is all that there is.
+fn is_copied<'a>(
+    alloc: Global,
+    words: &'a [&'a str],
+    bytes: &'a [u8],
+    copy: &[u8],
+) -> Result<(), Fail> {
+    behind_each(alloc, words, bytes, ALL, copy, End::Done)?;
+    behind_each(alloc, words, bytes, 1, copy, End::Most)
 }
 
 #[test]
 fn copies(rt: HostRuntime) -> Result<(), Fail> {
-    let big = big(rt.alloc())?;
     let little = little(rt.alloc())?;
-    let little_nano = capture(
-        rt.alloc(),
-        &[
-            0x4d, 0x3c, 0xb2, 0xa1, 2, 0, 4, 0, 0, 0, 0, 0, 0, 0, 0, 0, 0xff, 0xff, 0, 0, 1, 0, 0,
-            0, 0x29, 0x1b, 0xa1, 0x4f, 0xf0, 0xf2, 0x18, 0x09, 0x62, 0, 0, 0, 0x62, 0, 0, 0,
-        ],
-        98,
-    )?;
-    let rows: [(&[&str], &[u8], &[u8]); 4] = [
-        (&["copy"], little.as_slice(), little.as_slice()),
-        (
-            &["copy", "little", "nano"],
-            big.as_slice(),
-            little_nano.as_slice(),
-        ),
-        (
-            &["copy", "big", "micro"],
-            little_nano.as_slice(),
-            big.as_slice(),
-        ),
-        (&["copy", "big", "micro"], &BIG_NANO, &BIG_MICRO),
-    ];
-    for room in ROOMS {
-        for (words, bytes, copy) in rows {
-            let mut output = Vec::new(rt.alloc());
-            let exit = run(
-                rt.alloc(),
-                words,
-                &mut buffered(rt.alloc(), room, Halting::new(rt.alloc(), bytes, 1000)?)?,
-                &mut output,
-                ALL,
-            );
-            assert!(rt; matches!(exit, Exit::Done));
-            assert_eq!(rt; output.as_slice(), copy);
-            let mut output = Vec::new(rt.alloc());
-            let exit = run(
-                rt.alloc(),
-                words,
-                &mut buffered(rt.alloc(), room, Halting::new(rt.alloc(), bytes, 1000)?)?,
-                &mut output,
-                1,
-            );
-            assert!(rt; matches!(exit, Exit::Most));
-            assert_eq!(rt; output.as_slice(), copy);
-        }
-    }
-    Ok(())
+    let little = little.as_slice();
+    is_copied(rt.alloc(), &["copy"], little, little)?;
+    let big = big(rt.alloc())?;
+    let big = big.as_slice();
+    let little_nano = capture(rt.alloc(), &LITTLE_NANO_HEAD, 98)?;
+    let little_nano = little_nano.as_slice();
+    is_copied(rt.alloc(), &["copy", "little", "nano"], big, little_nano)?;
+    is_copied(rt.alloc(), &["copy", "big", "micro"], little_nano, big)?;
+    is_copied(rt.alloc(), &["copy", "big", "micro"], &BIG_NANO, &BIG_MICRO)
 }
 
 #[test]
@@ -235,40 +168,28 @@ fn largest_packet(rt: HostRuntime) -> Result<(), Fail> {
     whole.extend_from_slice(&[0, 0, 0, 1, 0, 0, 0, 2, 0, 4, 0, 0, 0, 4, 0, 0])?;
     whole.resize(262_184, 7)?;
     let bytes = whole.as_slice();
-    let rows: [(&str, &[u8]); 2] = [("list", b"1 1.000002000 262144/262144\n"), ("copy", bytes)];
-    for room in ROOMS {
-        for (word, written) in rows {
-            let mut output = Vec::new(rt.alloc());
-            let exit = run(
-                rt.alloc(),
-                &[word],
-                &mut buffered(rt.alloc(), room, Halting::new(rt.alloc(), bytes, 1000)?)?,
-                &mut output,
-                ALL,
-            );
-            assert!(rt; matches!(exit, Exit::Done));
-            assert!(rt; output.as_slice() == written);
-        }
-    }
-    Ok(())
+    let line = b"1 1.000002000 262144/262144\n";
+    behind_each(rt.alloc(), &["list"], bytes, ALL, line, End::Done)?;
+    behind_each(rt.alloc(), &["copy"], bytes, ALL, bytes, End::Done)
 }
 
 #[test]
 fn copies_of_torn_captures(rt: HostRuntime) -> Result<(), Fail> {
     let whole = big(rt.alloc())?;
+    let whole = whole.as_slice();
+    for (end, written) in [(0, 0), (10, 0), (40, 24), (137, 24)] {
+        let (bytes, wanted) = (front(whole, end), front(whole, written));
+        behind_each(rt.alloc(), &["copy"], bytes, ALL, wanted, EARLY)?;
+    }
+    Ok(())
+}
+
+// Whether these words name nothing, behind each buffer, and the input isn't read.
+fn names_nothing<'a>(alloc: Global, words: &'a [&'a str], bytes: &'a [u8]) -> Result<(), Fail> {
     for room in ROOMS {
-        for (end, written) in [(0, 0), (10, 0), (40, 24), (137, 24)] {
-            let bytes = front(whole.as_slice(), end);
-            let mut output = Vec::new(rt.alloc());
-            let exit = run(
-                rt.alloc(),
-                &["copy"],
-                &mut buffered(rt.alloc(), room, Halting::new(rt.alloc(), bytes, 1000)?)?,
-                &mut output,
-                ALL,
-            );
-            assert!(rt; exit.status() == 3, "at {end}");
-            assert_eq!(rt; output.as_slice(), front(whole.as_slice(), written));
+        let ran = writes(alloc, &Run::new(words, bytes, room, ALL), b"")?;
+        if !ran.is(End::Usage) || ran.calls > 0 {
+            return Err(Fail::new(format_args!("{} words are taken behind {room}", words.len())));
         }
     }
     Ok(())
@@ -277,26 +198,13 @@ fn copies_of_torn_captures(rt: HostRuntime) -> Result<(), Fail> {
 #[test]
 fn usage(rt: HostRuntime) -> Result<(), Fail> {
     let whole = big(rt.alloc())?;
-    let rows: [&[&str]; 8] = [
-        &[],
-        &["copy", "big"],
-        &["copy", "nano"],
-        &["copy", "nano", "big"],
-        &["list", "list"],
-        &["lists"],
-        &["block"],
-        &["blocks", "list"],
-    ];
-    for room in ROOMS {
-        for words in rows {
-            let bytes = whole.as_slice();
-            let mut input = buffered(rt.alloc(), room, Halting::new(rt.alloc(), bytes, 1000)?)?;
-            let mut output = Vec::new(rt.alloc());
-            let exit = run(rt.alloc(), words, &mut input, &mut output, ALL);
-            assert!(rt; matches!(exit, Exit::Usage));
-            assert_eq!(rt; exit.status(), 2);
-            assert!(rt; input.get_ref().calls == 0 && output.is_empty());
-        }
-    }
-    Ok(())
+    let bytes = whole.as_slice();
+    names_nothing(rt.alloc(), &[], bytes)?;
+    names_nothing(rt.alloc(), &["copy", "big"], bytes)?;
+    names_nothing(rt.alloc(), &["copy", "nano"], bytes)?;
+    names_nothing(rt.alloc(), &["copy", "nano", "big"], bytes)?;
+    names_nothing(rt.alloc(), &["list", "list"], bytes)?;
+    names_nothing(rt.alloc(), &["lists"], bytes)?;
+    names_nothing(rt.alloc(), &["block"], bytes)?;
+    names_nothing(rt.alloc(), &["blocks", "list"], bytes)
 }
