@@ -1,17 +1,22 @@
 //! Tells what captures in files hold: `pcapfile --help` lists the words.
 #![tactic(auto)]
 
+mod as_is;
 mod blocks;
 mod check;
+mod check_as_is;
 mod convert;
 mod cut;
 mod input;
 mod join;
 mod list;
+mod list_as_is;
 mod merge;
 mod opening;
 mod output;
 mod ranges;
+mod repair;
+mod replay;
 mod source;
 mod tell;
 mod words;
@@ -23,6 +28,7 @@ use join::Joining;
 use merge::Merge;
 use pcapfile_cut::Wanted;
 use pcapfile_run::Format;
+use repair::Repair;
 use std::env;
 use std::process::ExitCode;
 
@@ -117,6 +123,14 @@ fn merging<'a>(words: &'a ArgMatches<'_>) -> Merge<'a> {
     }
 }
 
+// What the word `repair` is asked for.
+fn repairing<'a>(words: &ArgMatches<'a>) -> Repair<'a> {
+    Repair {
+        from: words.get_str(words::BROKEN).unwrap_or_default(),
+        out: words.get_str(words::OUT).unwrap_or_default(),
+    }
+}
+
 // Does what the words ask for, and gives the status.
 fn run(rt: &HostRuntime) -> anyhow::Result<u8> {
     let words: Vec<String> = env::args(rt)?.collect(rt.alloc())?;
@@ -130,16 +144,24 @@ fn run(rt: &HostRuntime) -> anyhow::Result<u8> {
     };
     match matches.subcommand() {
         Some(("check", check)) => {
-            check::check_files(rt, check.get_strs(words::FILES).unwrap_or_default())
+            let names = check.get_strs(words::FILES).unwrap_or_default();
+            if check.get_flag(words::AS_IS) {
+                return check_as_is::check_files_as_is(rt, names);
+            }
+            check::check_files(rt, names)
         }
         Some(("convert", words)) => convert::convert_file(rt, &conversion(words)),
         Some(("cut", words)) => cut_out(rt, words),
         Some(("join", words)) => join_parts(rt, words),
-        Some(("list", list)) => list::list_files(
-            rt,
-            list.get_strs(words::FILES).unwrap_or_default(),
-        ),
+        Some(("list", list)) => {
+            let names = list.get_strs(words::FILES).unwrap_or_default();
+            if list.get_flag(words::AS_IS) {
+                return list_as_is::list_files_as_is(rt, names);
+            }
+            list::list_files(rt, names)
+        }
         Some(("merge", words)) => merge::merge_files(rt, &merging(words)),
+        Some(("repair", words)) => repair::repair_file(rt, &repairing(words)),
         _ => Ok(0),
     }
 }

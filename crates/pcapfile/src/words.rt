@@ -1,7 +1,7 @@
 //! The words of the program and their help.
 
 use clap::builder::ValueParser;
-use clap::{Arg, Command};
+use clap::{Arg, ArgAction, Command};
 use std::alloc::{AllocError, Global};
 
 /// The name of the files among the arguments of a word.
@@ -12,6 +12,9 @@ pub(crate) const IN: &str = "IN";
 
 /// The name of the capture that is cut.
 pub(crate) const CAPTURE: &str = "CAPTURE";
+
+/// The name of the capture that is repaired.
+pub(crate) const BROKEN: &str = "BROKEN";
 
 /// The name of the parts that are joined.
 pub(crate) const PARTS_IN: &str = "PART";
@@ -34,6 +37,9 @@ pub(crate) const PARTS: &str = "parts";
 /// The name of how many bytes a part has.
 pub(crate) const BYTES: &str = "bytes";
 
+/// The name of reading captures as they stand.
+pub(crate) const AS_IS: &str = "as-is";
+
 /// The name of where the other one goes.
 pub(crate) const OUT: &str = "output";
 
@@ -52,12 +58,26 @@ const STATUSES: &str = "Exit status:
   3  a file can't be opened or read, or the output can't be written
   4  memory ran out";
 
+const CHECK: &str =
+    "Tells of each capture how many packets or blocks it has, or which rule is broken at which byte.
+
+With --as-is a packet that breaks a rule has a line for each, with its index and the byte where it
+stands, and the check goes on behind it. A packet of more than 16777216 bytes ends it, since where
+such a packet ends can't be trusted. Of PcapNg nothing is read so yet.";
+
 const LIST: &str =
     "Writes a line for each packet: index, time, stored/original length, and of PcapNg the interface.
 
 The time is that of the packet in seconds since 1970 and nanoseconds, and - where it has none. A
 packet of PcapNg whose body is refused has the line 'index refused'. The names of several captures
-stand before their lines.";
+stand before their lines.
+
+With --as-is a packet that breaks rules has a line as well, with ! and the number of each behind
+it, and a fraction of a second that is too large is carried into the seconds. Of PcapNg nothing is
+read so yet.";
+
+const AS_IS_HELP: &str =
+    "Goes on behind packets that break a rule, and tells which; of classic captures";
 
 const CONVERT: &str = "Writes a capture in the other format, or as it is where it has that format.
 
@@ -97,6 +117,16 @@ interface of each capture is one of the other one. What refuses a capture is sai
 and its packets before that are merged. The file is written as OUT.part, and is named OUT once all
 of it is there.";
 
+const REPAIR: &str =
+    "Writes what can be read of a classic capture as one in which no packet breaks a rule.
+
+A fraction of a second that is too large is carried into the seconds, the first 262144 bytes of a
+longer packet are kept, and an original length is raised to the stored one or cut to 262144. Other
+packets stay as they are. Bytes that are no packet are left out up to two packets in a row that
+break no rule, and so is a last packet that is cut short. What is changed and left out is said on
+standard error, each with its byte. Of PcapNg nothing is read so yet. The file is written as
+OUT.part, and is named OUT once all of it is there.";
+
 /// The program's command line.
 pub(crate) fn command<'a>(alloc: Global) -> Result<Command<'a>, AllocError> {
     Command::new(alloc, "pcapfile")
@@ -110,23 +140,24 @@ pub(crate) fn command<'a>(alloc: Global) -> Result<Command<'a>, AllocError> {
         .subcommand(convert(alloc)?)?
         .subcommand(cut(alloc)?)?
         .subcommand(join(alloc)?)?
-        .subcommand(merge(alloc)?)
+        .subcommand(merge(alloc)?)?
+        .subcommand(repair(alloc)?)
 }
 
 fn check<'a>(alloc: Global) -> Result<Command<'a>, AllocError> {
     Command::new(alloc, "check")
-        .about(
-            "Tells of each capture how many packets or blocks it has, or which rule is broken at which byte.",
-        )
+        .about(CHECK)
         .after_help(STATUSES)
-        .arg(files(alloc))
+        .arg(files(alloc))?
+        .arg(as_is(alloc))
 }
 
 fn list<'a>(alloc: Global) -> Result<Command<'a>, AllocError> {
     Command::new(alloc, "list")
         .about(LIST)
         .after_help(STATUSES)
-        .arg(files(alloc))
+        .arg(files(alloc))?
+        .arg(as_is(alloc))
 }
 
 fn convert<'a>(alloc: Global) -> Result<Command<'a>, AllocError> {
@@ -230,6 +261,24 @@ fn merge<'a>(alloc: Global) -> Result<Command<'a>, AllocError> {
         .after_help(STATUSES)
         .arg(files(alloc))?
         .arg(output(alloc, "Where it goes; - is standard output"))
+}
+
+fn repair<'a>(alloc: Global) -> Result<Command<'a>, AllocError> {
+    let from = Arg::new(alloc, BROKEN)
+        .required(true)
+        .help("The capture that is repaired; - is standard input");
+    Command::new(alloc, "repair")
+        .about(REPAIR)
+        .after_help(STATUSES)
+        .arg(from)?
+        .arg(output(alloc, "Where the other one goes; - is standard output"))
+}
+
+fn as_is<'a>(alloc: Global) -> Arg<'a> {
+    Arg::new(alloc, AS_IS)
+        .long("as-is")
+        .action(ArgAction::SetTrue)
+        .help(AS_IS_HELP)
 }
 
 fn files<'a>(alloc: Global) -> Arg<'a> {

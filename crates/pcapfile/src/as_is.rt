@@ -1,0 +1,118 @@
+//! Classic captures that are read as they stand.
+
+ghost use Rattle.std.specs.Prelude.{◌<◌, ◌^◌};
+
+use crate::FAILED;
+use crate::input::{Stream, buffered, open_stream};
+use capcopy_run::{Exit, Uninterrupted};
+use pcap_file::{PcapError, PcapParser};
+use pcap_tolerant::ReaderAsIs;
+use pcapfile_as_is::{Counted, Teller, tell_packets};
+use pcapfile_cut::Opening;
+use pcapfile_run::{Format, format_of};
+use std::alloc::Global;
+use std::io;
+use std::io::{BufReader, Read, Write};
+
+/// The longest packet that is read as it stands, in bytes.
+pub(crate) const LIMIT: u32 = 16_777_216;
+
+/// How many bytes the header of a capture has.
+const HEADER: u64 = 24;
+
+/// A capture, off a buffer.
+pub(crate) type Input = BufReader<Uninterrupted<Stream>>;
+
+/// What was told of a capture.
+#[derive(Drop)]
+pub(crate) struct Told {
+    /// How many packets, and how many bytes with the header.
+    pub(crate) counted: Counted,
+    /// What refuses the next packet.
+    pub(crate) fault: Option<PcapError>,
+    /// Whether that was a read that failed.
+    pub(crate) read_failed: bool,
+}
+
+impl Told {
+    /// A capture of which nothing was told.
+    pub(crate) fn nothing() -> Told {
+        Told {
+            counted: Counted {
+                packets: 0,
+                flawed: 0,
+                bytes: 0,
+            },
+            fault: None,
+            read_failed: false,
+        }
+    }
+
+    /// What was counted.
+    pub(crate) fn counts(&self) -> Counted
+        ensures packets { result.packets < 2 ^ 64 }
+        ensures flawed { result.flawed < 2 ^ 64 }
+        ensures bytes { result.bytes < 2 ^ 64 }
+    {
+        Counted {
+            packets: self.counted.packets.min(u64::MAX),
+            flawed: self.counted.flawed.min(u64::MAX),
+            bytes: self.counted.bytes.min(u64::MAX),
+        }
+    }
+}
+
+/// Opens the classic capture of a name. None where it is one of blocks.
+pub(crate) fn open_packets(rt: &HostRuntime, name: &str) -> io::Result<Option<Input>> {
+    let mut input = buffered(rt.alloc(), open_stream(rt, name)?)?;
+    Ok(match format_of(&mut input)? {
+        Format::Pcap => Some(input),
+        Format::PcapNg => None,
+    })
+}
+
+/// Says that a capture of blocks can't be read as it stands, and gives the status.
+pub(crate) fn tell_blocks(rt: &HostRuntime, name: &str) -> anyhow::Result<u8> {
+    eprintln!(rt; "pcapfile: {name}: is PcapNg, of which nothing is read as it stands yet")?;
+    Ok(FAILED)
+}
+
+/// Reads the header of a capture. A refusal is told.
+pub(crate) fn open_header<R: Read>(input: &mut R, told: &mut Told) -> Option<Opening> {
+    let mut read_failed = false;
+    match Opening::read(input, &mut read_failed) {
+        Ok(opening) => {
+            told.counted.bytes = HEADER;
+            Some(opening)
+        }
+        Err(error) => {
+            told.fault = Some(error);
+            told.read_failed = read_failed;
+            None
+        }
+    }
+}
+
+/// Tells each packet of a capture, and what refuses the next one. The errors are those of the teller.
+pub(crate) fn tell_capture<P: Teller, R: Read + Drop, W: Write>(
+    alloc: Global,
+    teller: &mut P,
+    mut input: R,
+    output: &mut W,
+) -> Result<Told, Exit> {
+    let mut told = Told::nothing();
+    let Some(opening) = open_header(&mut input, &mut told) else {
+        return Ok(told);
+    };
+    let parser = PcapParser::with_header(*opening.header())?;
+    let mut reader = ReaderAsIs::with_parser(alloc, parser, input, LIMIT);
+    let mut counted = Counted {
+        packets: 0,
+        flawed: 0,
+        bytes: HEADER,
+    };
+    told.fault = tell_packets(alloc, teller, &mut reader, output, &mut counted)?;
+    told.counted = counted;
+    told.read_failed = reader.failed();
+    Ok(told)
+}

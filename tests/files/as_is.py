@@ -1,0 +1,281 @@
+"""What `pcapfile check --as-is`, `list --as-is` and `repair` write. Packets are taken here by struct alone, and the rules are said
+once more."""
+import random
+import struct
+import tempfile
+
+DONE, AT_FAULT, FAILED = 0, 1, 3
+LONGEST, MOST = 262144, 16777216
+BILLION = 10**9
+MAGICS = {0xA1B2C3D4: 1000, 0xA1B23C4D: 1}
+MESSAGES = {
+    1: "PcapHeader wrong magic number",
+    2: "PacketHeader ts_usec * 1000 > 0xFFFFFFFF",
+    3: "PacketHeader incl_len > 0x40000",
+    4: "PacketHeader orig_len > 0x40000",
+    5: "PacketHeader incl_len > orig_len",
+}
+
+
+class Packet:
+    """A packet as it stands: its number, the byte at which it stands, its time, its lengths, and the rules that it breaks."""
+
+    def __init__(self, number, place, unit, numbers):
+        self.number, self.place = number, place
+        self.seconds, self.fraction, self.stored, self.wire = numbers
+        self.time = self.seconds * BILLION + self.fraction * unit
+        broken = self.fraction * unit > 0xFFFFFFFF, self.stored > LONGEST, self.wire > LONGEST, self.stored > self.wire
+        self.flaws = [number + 2 for number, it in enumerate(broken) if it]
+
+
+def opened(capture):
+    """The order and the unit of the fraction, or None where the magic number is none."""
+    for order in "<>":
+        unit = MAGICS.get(struct.unpack_from(order + "I", capture)[0])
+        if unit:
+            return order, unit
+    return None
+
+
+def walked(capture):
+    """The packets of a capture, how many bytes they take, and what is said of what follows."""
+    if len(capture) < 24:
+        return [], 0, "cut short"
+    kind = opened(capture)
+    if not kind:
+        return [], 0, f"rule 1: {MESSAGES[1]}"
+    (order, unit), at, packets = kind, 24, []
+    while at < len(capture):
+        if len(capture) - at < 16:
+            return packets, at, "cut short"
+        packet = Packet(len(packets) + 1, at, unit, struct.unpack_from(order + "IIII", capture, at))
+        if packet.stored > MOST:
+            return packets, at, f"rule 3: {MESSAGES[3]}"
+        if len(capture) - at - 16 < packet.stored:
+            return packets, at, "cut short"
+        packets.append(packet)
+        at += 16 + packet.stored
+    return packets, at, None
+
+
+def checked(name, capture):
+    """The lines of a check, and its status."""
+    packets, at, fault = walked(capture)
+    lines = [f"{name}: packet {it.number} at byte {it.place} breaks rule {k}: {MESSAGES[k]}\n" for it in packets for k in it.flaws]
+    flawed = sum(bool(it.flaws) for it in packets)
+    end = f"{at} bytes" if not fault else f"{fault} at byte {at}" if fault == "cut short" else f"refused at byte {at} by {fault}"
+    lines.append(f"{name}: pcap, {len(packets)} packets, {end}; {flawed} with flaws\n")
+    return "".join(lines), AT_FAULT if flawed or fault else DONE
+
+
+def listed(name, capture):
+    """The lines of a list, what is said of the capture, and the status."""
+    packets, _, fault = walked(capture)
+    lines = []
+    for it in packets:
+        marks = "".join(f" !{k}" for k in it.flaws)
+        lines.append(f"{it.number} {it.time // BILLION}.{it.time % BILLION:09} {it.stored}/{it.wire}{marks}\n")
+    if fault:
+        said = fault if fault == "cut short" else f"Invalid field value: {fault.partition(': ')[2]}"
+        said = f"pcapfile: {name}: {said}\n"
+    return "".join(lines), said if fault else "", AT_FAULT if fault or any(it.flaws for it in packets) else DONE
+
+
+def mended(packet, unit, data):
+    """The numbers and the bytes of the packet that breaks no rule, and what is said of each change."""
+    seconds, nanoseconds, changes = packet.seconds, packet.fraction * unit, []
+    if 2 in packet.flaws:
+        seconds, nanoseconds = min(divmod(packet.time, BILLION), (0xFFFFFFFF, 999999000))
+        changes.append(f"a fraction of {packet.fraction} is too large, so its time is {seconds}.{nanoseconds:09}")
+    kept = data[:LONGEST]
+    if len(kept) < len(data):
+        changes.append(f"the first {len(kept)} of its {len(data)} bytes are kept")
+    wire = max(min(packet.wire, LONGEST), len(kept))
+    if wire != packet.wire:
+        changes.append(f"its original length is {wire} and not {packet.wire}")
+    return (seconds, nanoseconds // unit, len(kept), wire), kept, changes
+
+
+def stands(capture, kind, at):
+    """Whether two packets with data that break no rule stand there in a row, or one to the end."""
+    for _ in range(2):
+        if len(capture) - at < 16 or not 0 < struct.unpack_from(kind[0] + "I", capture, at + 8)[0] <= LONGEST:
+            return False
+        packet = Packet(0, at, kind[1], struct.unpack_from(kind[0] + "IIII", capture, at))
+        if packet.flaws or len(capture) - at - 16 < packet.stored:
+            return False
+        at += 16 + packet.stored
+        if at == len(capture):
+            return True
+    return True
+
+
+def repaired(name, capture):
+    """The capture that is written, or None; what is said, and the status."""
+    prefix = f"pcapfile: {name}: "
+    if len(capture) < 24:
+        return None, f"{prefix}cut short\n", AT_FAULT
+    kind = opened(capture)
+    if not kind:
+        return None, f"{prefix}Invalid field value: {MESSAGES[1]}\n", AT_FAULT
+    at, out, said, packets, flawed = 24, [capture[:24]], [], 0, 0
+    while at < len(capture):
+        left, packet = len(capture) - at, None
+        if left >= 16:
+            packet = Packet(packets + 1, at, kind[1], struct.unpack_from(kind[0] + "IIII", capture, at))
+        if packet and packet.stored <= MOST and left - 16 >= packet.stored:
+            numbers, data, changes = mended(packet, kind[1], capture[at + 16 : at + 16 + packet.stored])
+            out.append(struct.pack(kind[0] + "IIII", *numbers) + data)
+            said += [f"packet {packet.number} at byte {at}: {it}" for it in changes]
+            packets, flawed, at = packets + 1, flawed + bool(packet.flaws), at + 16 + packet.stored
+        elif packet and packet.flaws:
+            found = next((it for it in range(at, len(capture)) if stands(capture, kind, it)), len(capture))
+            said.append(f"{found - at} bytes at byte {at} are no packets, and are left out")
+            at = found
+        else:
+            said.append(f"{left} bytes at byte {at} are of a packet that is cut short, and are left out")
+            break
+    said += [f"{flawed} of {packets} packets are changed"] * (flawed > 0)
+    return b"".join(out), "".join(f"{prefix}{it}\n" for it in said), DONE
+
+
+def capture_of(order, magic, packets):
+    capture = struct.pack(order + "IHHiIII", magic, 2, 4, 0, 0, 65535, 1)
+    for numbers, data in packets:
+        capture += struct.pack(order + "IIII", *numbers) + data
+    return capture
+
+
+def some_packets(draw, count):
+    """Packets, some of which break rules."""
+    packets = []
+    for k in range(count):
+        data = bytes([k % 256]) * draw.choice((0, 1, 15, 60, 300))
+        wire = draw.choice((len(data), len(data) + 7, max(len(data) - 1, 0), LONGEST, LONGEST + 1, 0xFFFFFFFF, 0))
+        seconds = draw.choice((0, 1700000000 + k, 0xFFFFFFFF))
+        fraction = draw.choice((0, 999999, 1000000, 4294967, 4294968, 999999999, 0xFFFFFFFF))
+        packets.append(((seconds, fraction, len(data), wire), data))
+    return packets
+
+
+def captures():
+    """Captures by their names."""
+    draw = random.Random(30)
+    for order, kind in (("<", "little"), (">", "big")):
+        for magic in MAGICS:
+            for count in (0, 1, 40, 3000):
+                yield f"{count} packets, {kind} {magic:x}", capture_of(order, magic, some_packets(draw, count))
+    long = [((1, 2, size, size), bytes(size)) for size in (LONGEST, LONGEST + 1, 3 * LONGEST)]
+    capture = capture_of("<", 0xA1B2C3D4, long)
+    yield "long packets", capture
+    for stored in (MOST, MOST + 1, 0xFFFFFFFF):
+        yield f"a packet of {stored} bytes", capture + struct.pack("<IIII", 1, 2, stored, stored) + bytes(100)
+    few = capture_of(">", 0xA1B2C3D4, some_packets(draw, 5))
+    for size in range(len(few)):
+        yield f"{size} bytes", few[:size]
+    yield "no capture", b"these are 24 or more bytes"
+
+
+def gaps():
+    """Captures with bytes between packets that are none."""
+    draw = random.Random(31)
+    few = [((1700000000 + k, k, size, size), bytes([k]) * size) for k, size in enumerate((9, 1, 300, 0, 70, 40))]
+    whole = capture_of("<", 0xA1B2C3D4, few)
+    for size in (1, 15, 16, 17, 1000):
+        for kind in (b"\xff", b"\0\0\0\xff"):
+            yield f"a gap of {size} bytes {kind.hex()}", whole + (kind * size)[:size] + whole[24:]
+    yield "a gap at the end", whole + b"\xff" * 100
+    torn = struct.pack("<IIII", 1, 2, 1000, 999)
+    yield "a torn packet that breaks a rule", whole + torn + whole[24:]
+    yield "a torn packet that breaks none", whole + struct.pack("<IIII", 1, 2, 1000, 1000) + whole[24:]
+    for count in range(3):
+        # packets that are as long as can be, at the end of what is looked at at once
+        long = [((k, 1, LONGEST, LONGEST), bytes(LONGEST)) for k in range(count + 1)]
+        size = 2097152 - 524320 + draw.randrange(-300, 66000)
+        yield f"a gap of {size} bytes", whole + b"\xff" * size + capture_of("<", 0xA1B2C3D4, long)[24:] + whole[24:]
+    yield "two gaps", whole + b"\xff" * 2621440 + whole[24:] + b"\xff" * 77 + whole[24:]
+
+
+def ran(tally, folder, *words, given=b""):
+    return tally.run(folder, list(words), given, word=None)
+
+
+def try_each(tally, help):
+    """Each capture as a file and through a pipe."""
+    for name, capture in captures():
+        with tempfile.TemporaryDirectory() as folder:
+            help.put(folder, "in", capture)
+            check = ran(tally, folder, "check", "--as-is", "in")
+            piped = ran(tally, folder, "check", "--as-is", "-", given=capture)
+            rows = ran(tally, folder, "list", "--as-is", "in")
+        lines, status = checked("in", capture)
+        wanted = status, lines.encode(), ""
+        tally.note(f"check --as-is of {name}", check != wanted and f"it gave {str(check)[-300:]}, and not {str(wanted)[-300:]}")
+        lines, status = checked("-", capture)
+        tally.note(f"check --as-is of {name}, piped", piped != (status, lines.encode(), "") and f"it gave {str(piped)[-300:]}")
+        lines, said, status = listed("in", capture)
+        wanted = status, lines.encode(), said
+        tally.note(f"list --as-is of {name}", rows != wanted and f"it gave {str(rows)[-300:]}, and not {str(wanted)[-300:]}")
+
+
+def try_repairs(tally, help):
+    """Each capture, repaired into a file and through pipes, and the other one is listed and repaired again without a word."""
+    for name, capture in (*captures(), *gaps()):
+        out, said, status = repaired("in", capture)
+        wanted = {"in": capture, "out": b"old" if out is None else out}
+        with tempfile.TemporaryDirectory() as folder:
+            help.put(folder, "in", capture)
+            help.put(folder, "out", b"old")
+            ended = ran(tally, folder, "repair", "in", "-o", "out")
+            left = help.files(folder)
+            again = ran(tally, folder, "repair", "out", "-o", "-")
+            check = ran(tally, folder, "check", "out")
+        with tempfile.TemporaryDirectory() as folder:
+            piped = ran(tally, folder, "repair", "-", "-o", "-", given=capture)
+        tally.note(
+            f"repair of {name}",
+            ended != (status, b"", said) and f"it gave {str(ended)[-300:]}, and not {str((status, said))[-300:]}",
+            left != wanted and f"it left {sorted(left)}, and not the capture of {len(out or b'')} bytes",
+            piped != (status, out or b"", said.replace("pcapfile: in: ", "pcapfile: -: ")) and f"through pipes it gave {str(piped)[-300:]}",
+            out is not None and (again != (DONE, out, "") or check[0] != DONE) and f"again it gave {str(again)[-300:]}, and {check}",
+        )
+
+
+def try_sound(tally, help):
+    """Where no packet breaks a rule a list as it stands is the list."""
+    packets = [((1700000000 + k, k % 1000000, k % 90, k % 90 + k % 3), bytes(k % 90)) for k in range(2000)]
+    for order in "<>":
+        for magic in MAGICS:
+            with tempfile.TemporaryDirectory() as folder:
+                help.put(folder, "in", capture_of(order, magic, packets))
+                strict, tolerant = ran(tally, folder, "list", "in"), ran(tally, folder, "list", "--as-is", "in")
+            fault = (strict != tolerant or strict[0] != DONE or not strict[1]) and f"it gave {str(tolerant)[-300:]}, and not {str(strict)[-300:]}"
+            tally.note(f"a sound capture, {order}{magic:x}", fault)
+
+
+def try_several(tally, help):
+    """The status of several files is that of the worst, and the lines stand in their order, whatever failed."""
+    flawed = capture_of("<", 0xA1B23C4D, [((1, 2, 3, 2), b"abc")])
+    sound = capture_of("<", 0xA1B23C4D, [((1, 2, 3, 3), b"abc")])
+    blocks = help.blocks("<", [])[0]
+    with tempfile.TemporaryDirectory() as folder:
+        for name, content in (("flawed", flawed), ("sound", sound), ("blocks", blocks), ("folder", None)):
+            help.put(folder, name, content)
+        names = ["flawed", "blocks", "missing", "folder", "sound"]
+        check = ran(tally, folder, "check", "--as-is", *names)
+        rows = ran(tally, folder, "list", "--as-is", *names)
+        tally.note("repair of blocks", ran(tally, folder, "repair", "blocks", "-o", "out")[:2] != (FAILED, b"") and "it isn't refused")
+        worst = [ran(tally, folder, "check", "--as-is", *it)[0] for it in (["flawed", "sound"], ["sound", "flawed"], ["sound", "sound"])]
+    lines = checked("flawed", flawed)[0] + checked("sound", sound)[0]
+    listing = f"flawed:\n{listed('', flawed)[0]}sound:\n{listed('', sound)[0]}"
+    for name, ended, wanted in (("check", check, lines), ("list", rows, listing)):
+        told = ended[2].splitlines()
+        starts = "blocks: is PcapNg", "missing: No such file", "folder: Is a directory"
+        said = len(told) == 3 and all(line.startswith(f"pcapfile: {it}") for line, it in zip(told, starts))
+        tally.note(f"{name} --as-is of several", (ended[:2] != (FAILED, wanted.encode()) or not said) and f"it gave {ended}")
+    tally.note("the worst of several", worst != [AT_FAULT, AT_FAULT, DONE] and f"it gave {worst}")
+
+
+def try_all(tally, help):
+    for tries in (try_each, try_repairs, try_sound, try_several):
+        tries(tally, help)
