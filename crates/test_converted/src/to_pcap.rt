@@ -1,16 +1,16 @@
 //! Blocks that become classic captures.
 
 use crate::block_rows::{PLACED, UNPLACED};
-use crate::told::{fault_of, kind_of};
+use crate::told::{every_row, fault_of, kind_of};
 use pcap_file::pcap::PcapHeader;
 use pcap_file::run::{IfUnplaced, NgConverted, convert_to_pcap};
 use pcap_file::{PcapNgReader, PcapWriter, ResultParsing};
 use std::alloc::Global;
 use std::io::ErrorKind;
-use std::test::Fail;
+use std::test::*;
 use test_support::captures::{back, front};
 use test_support::readers::Halting;
-use test_support::rows::{bytes, rows};
+use test_support::rows::bytes;
 use test_support::writers::Narrow;
 
 // A row: what is done with packets that have no place, the most blocks, the header that is written, and the capture.
@@ -69,9 +69,7 @@ fn converts(alloc: Global, given: &str, told: &str) -> Result<bool, Fail> {
 #[test]
 fn captures(rt: HostRuntime) -> Result<(), Fail> {
     for table in [PLACED, UNPLACED] {
-        for (given, told) in rows(rt.alloc(), table)? {
-            assert!(rt; converts(rt.alloc(), given, told)?, "at {given}");
-        }
+        every_row(rt.alloc(), table, converts)?;
     }
     Ok(())
 }

@@ -1,14 +1,14 @@
 //! Classic captures that become blocks.
 
 use crate::rows::{MOST, REFUSED, WHOLE};
-use crate::told::{fault_of, kind_of};
+use crate::told::{every_row, fault_of, kind_of};
 use pcap_file::run::{Copied, convert_to_pcapng};
 use std::alloc::Global;
 use std::io::ErrorKind;
-use std::test::Fail;
+use std::test::*;
 use test_support::captures::front;
 use test_support::readers::Halting;
-use test_support::rows::{bytes, rows};
+use test_support::rows::bytes;
 use test_support::writers::Narrow;
 
 // Whether so many packets went out, and the flags are these.
@@ -44,9 +44,7 @@ fn converts(alloc: Global, given: &str, told: &str) -> Result<bool, Fail> {
 #[test]
 fn captures(rt: HostRuntime) -> Result<(), Fail> {
     for table in [WHOLE, MOST, REFUSED] {
-        for (given, told) in rows(rt.alloc(), table)? {
-            assert!(rt; converts(rt.alloc(), given, told)?, "at {given}");
-        }
+        every_row(rt.alloc(), table, converts)?;
     }
     Ok(())
 }
@@ -70,46 +68,57 @@ fn converted_of(end: usize) -> (u64, usize) {
     }
 }
 
+// Whether the first so many bytes become the blocks of the packets that are whole in them.
+fn begins(alloc: Global, capture: &[u8], blocks: &[u8], end: usize) -> Result<bool, Fail> {
+    let mut stream = Halting::new(alloc, front(capture, end), 7)?;
+    let mut out = Vec::new(alloc);
+    let copied = convert_to_pcapng(alloc, &mut stream, &mut out, 9);
+    let (packets, used) = converted_of(end);
+    let is_whole = matches!(end, 24 | 47 | 71);
+    let kind = if is_whole {
+        None
+    } else {
+        Some(ErrorKind::UnexpectedEof)
+    };
+    let is_told = tells(&copied, packets, false, false)
+        && copied.fault.is_none() == is_whole
+        && kind_of(&copied.fault) == kind;
+    Ok(is_told && out.as_slice() == front(blocks, used))
+}
+
 #[test]
 fn every_beginning(rt: HostRuntime) -> Result<(), Fail> {
     let (capture, blocks) = two_packets(rt.alloc())?;
     for end in 0..72 {
-        let mut stream = Halting::new(rt.alloc(), front(capture.as_slice(), end), 7)?;
-        let mut out = Vec::new(rt.alloc());
-        let copied = convert_to_pcapng(rt.alloc(), &mut stream, &mut out, 9);
-        let (packets, used) = converted_of(end);
-        assert!(rt; tells(&copied, packets, false, false), "at {end}");
-        assert_eq!(rt; out.as_slice(), front(blocks.as_slice(), used), "at {end}");
-        let is_whole = matches!(end, 24 | 47 | 71);
-        assert_eq!(rt; copied.fault.is_none(), is_whole, "at {end}");
-        let kind = if is_whole {
-            None
-        } else {
-            Some(ErrorKind::UnexpectedEof)
-        };
-        assert_eq!(rt; kind_of(&copied.fault), kind, "at {end}");
+        assert!(rt;
+            begins(rt.alloc(), capture.as_slice(), blocks.as_slice(), end)?,
+            "at {end}"
+        );
     }
     Ok(())
+}
+
+// Whether a stream that fails after so many bytes, one a call, becomes the same.
+fn stops(alloc: Global, capture: &[u8], blocks: &[u8], end: usize) -> Result<bool, Fail> {
+    let mut stream = Halting::new(alloc, capture, 1)?;
+    stream.fails_at = end.saturating_add(1);
+    stream.kind = ErrorKind::Interrupted;
+    let mut out = Vec::new(alloc);
+    let copied = convert_to_pcapng(alloc, &mut stream, &mut out, 9);
+    let (packets, used) = converted_of(end);
+    let is_told = tells(&copied, packets, true, false)
+        && kind_of(&copied.fault) == Some(ErrorKind::Interrupted);
+    Ok(is_told && out.as_slice() == front(blocks, used))
 }
 
 #[test]
 fn every_failed_read(rt: HostRuntime) -> Result<(), Fail> {
     let (capture, blocks) = two_packets(rt.alloc())?;
-    // the call that fails comes after so many bytes, one a call
-    for end in 0..72usize {
-        let mut stream = Halting::new(rt.alloc(), capture.as_slice(), 1)?;
-        stream.fails_at = end.saturating_add(1);
-        stream.kind = ErrorKind::Interrupted;
-        let mut out = Vec::new(rt.alloc());
-        let copied = convert_to_pcapng(rt.alloc(), &mut stream, &mut out, 9);
-        let (packets, used) = converted_of(end);
-        assert!(rt; tells(&copied, packets, true, false), "at {end}");
-        assert_eq!(rt;
-            kind_of(&copied.fault),
-            Some(ErrorKind::Interrupted),
+    for end in 0..72 {
+        assert!(rt;
+            stops(rt.alloc(), capture.as_slice(), blocks.as_slice(), end)?,
             "at {end}"
         );
-        assert_eq!(rt; out.as_slice(), front(blocks.as_slice(), used), "at {end}");
     }
     Ok(())
 }
@@ -123,30 +132,45 @@ fn taken_behind(room: usize) -> (u64, usize) {
     }
 }
 
+// An output of so much room, which fails or takes nothing then, and takes at most 7 bytes a call where it is narrow.
+fn output(alloc: Global, room: usize, fails: bool, is_narrow: bool) -> Narrow {
+    let mut output = Narrow::new(alloc, room, fails);
+    if is_narrow {
+        output.step = 7;
+    }
+    output
+}
+
+// Whether so many bytes go out into this output, and the error is of this kind.
+fn fills(
+    alloc: Global,
+    capture: &[u8],
+    blocks: &[u8],
+    mut output: Narrow,
+    kind: ErrorKind,
+) -> Result<bool, Fail> {
+    let room = output.room;
+    let mut stream = Halting::new(alloc, capture, 100)?;
+    let copied = convert_to_pcapng(alloc, &mut stream, &mut output, 9);
+    let (packets, taken) = taken_behind(room);
+    let is_told = tells(&copied, packets, false, true) && kind_of(&copied.fault) == Some(kind);
+    let is_out = output.out.as_slice() == front(blocks, room);
+    Ok(is_told && is_out && stream.taken == taken)
+}
+
 #[test]
 fn every_failed_write(rt: HostRuntime) -> Result<(), Fail> {
     let (capture, blocks) = two_packets(rt.alloc())?;
-    // so many bytes have room, at most 7 a call where the last word is set
+    let (capture, blocks) = (capture.as_slice(), blocks.as_slice());
     for room in 0..140usize {
-        for (fails, is_narrow) in [(true, false), (false, false), (true, true)] {
-            let mut output = Narrow::new(rt.alloc(), room, fails);
-            if is_narrow {
-                output.step = 7;
-            }
-            let mut stream = Halting::new(rt.alloc(), capture.as_slice(), 100)?;
-            let copied = convert_to_pcapng(rt.alloc(), &mut stream, &mut output, 9);
-            let (packets, taken) = taken_behind(room);
-            assert!(rt; tells(&copied, packets, false, true), "at {room}");
-            assert_eq!(rt; stream.taken, taken, "at {room}");
-            let kind = if fails {
-                ErrorKind::Other
-            } else {
-                ErrorKind::WriteZero
-            };
-            assert_eq!(rt; kind_of(&copied.fault), Some(kind), "at {room}");
-            assert_eq!(rt;
-                output.out.as_slice(),
-                front(blocks.as_slice(), room),
+        for (fails, is_narrow, kind) in [
+            (true, false, ErrorKind::Other),
+            (false, false, ErrorKind::WriteZero),
+            (true, true, ErrorKind::Other),
+        ] {
+            let output = output(rt.alloc(), room, fails, is_narrow);
+            assert!(rt;
+                fills(rt.alloc(), capture, blocks, output, kind)?,
                 "at {room}"
             );
         }
