@@ -56,6 +56,9 @@ $(FILES): $(call sources_of,capcopy_run pcapfile_run pcapfile_cut pcapfile_merge
 	cd crates/pcapfile && rt run $(JOBS_OF_RT) -- --version > /dev/null
 	touch $@
 
+# And whatever else crates.txt says that it stands on.
+$(FILES): $(call sources_of,$(shell sed -n 's/^pcapfile: //p' crates.txt))
+
 # The man page and the completions of the program for files, out of its help.
 $(OUT)/pages: $(FILES) packages/pages VERSION
 	rm -rf $@
