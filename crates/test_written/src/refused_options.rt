@@ -286,67 +286,103 @@ fn unknown_options_of_other_lengths(rt: HostRuntime) -> Result<(), Fail> {
     Ok(())
 }
 
+// Whether a block is refused for an address, a filter, a hash or a custom value of these bytes, or for this text.
+
+fn refuses_ipv4(alloc: Global, value: &[u8]) -> ResultParsing<bool> {
+    let option = InterfaceDescriptionOption::IfIpv4Addr(CowBytes::Borrowed(value));
+    let message = "InterfaceDescriptionOption: IfIpv4Addr length != 8";
+    refuses_in_interface(alloc, option, message)
+}
+
+fn refuses_ipv6(alloc: Global, value: &[u8]) -> ResultParsing<bool> {
+    let option = InterfaceDescriptionOption::IfIpv6Addr(CowBytes::Borrowed(value));
+    let message = "InterfaceDescriptionOption: IfIpv6Addr length != 17";
+    refuses_in_interface(alloc, option, message)
+}
+
+fn refuses_mac(alloc: Global, value: &[u8]) -> ResultParsing<bool> {
+    let option = InterfaceDescriptionOption::IfMacAddr(CowBytes::Borrowed(value));
+    let message = "InterfaceDescriptionOption: IfMacAddr length != 6";
+    refuses_in_interface(alloc, option, message)
+}
+
+fn refuses_dns_ipv4(alloc: Global, value: &[u8]) -> ResultParsing<bool> {
+    let option = NameResolutionOption::NsDnsIpv4Addr(CowBytes::Borrowed(value));
+    let message = "NameResolutionOption: NsDnsIpv4Addr length != 4";
+    refuses_in_names(alloc, option, message)
+}
+
+fn refuses_dns_ipv6(alloc: Global, value: &[u8]) -> ResultParsing<bool> {
+    let option = NameResolutionOption::NsDnsIpv6Addr(CowBytes::Borrowed(value));
+    let message = "NameResolutionOption: NsDnsIpv6Addr length != 16";
+    refuses_in_names(alloc, option, message)
+}
+
+fn refuses_filter(alloc: Global, value: &[u8], message: &str) -> ResultParsing<bool> {
+    let option = InterfaceDescriptionOption::IfFilter(CowBytes::Borrowed(value));
+    refuses_in_interface(alloc, option, message)
+}
+
+fn refuses_hash(alloc: Global, value: &[u8]) -> ResultParsing<bool> {
+    let option = PacketOption::Hash(CowBytes::Borrowed(value));
+    refuses_in_packet(alloc, option, TOO_LONG)
+}
+
+fn refuses_enhanced_hash(alloc: Global, value: &[u8]) -> ResultParsing<bool> {
+    let option = EnhancedPacketOption::Hash(CowBytes::Borrowed(value));
+    refuses_in_enhanced(alloc, option, TOO_LONG)
+}
+
+fn refuses_custom_value(alloc: Global, value: &[u8]) -> ResultParsing<bool> {
+    let custom = CustomBinaryOption::from_slice::<BigEndian>(2989, value)?;
+    let option = NameResolutionOption::CustomBinary(custom);
+    refuses_in_names(alloc, option, TOO_LONG)
+}
+
+fn refuses_comment(alloc: Global, text: &str) -> ResultParsing<bool> {
+    let option = InterfaceStatisticsOption::Comment(CowStr::Borrowed(text));
+    refuses_in_statistics(alloc, option, TOO_LONG)
+}
+
+fn refuses_hardware(alloc: Global, text: &str) -> ResultParsing<bool> {
+    let option = SectionHeaderOption::Hardware(CowStr::Borrowed(text));
+    refuses_in_section(alloc, option, TOO_LONG)
+}
+
 #[test]
 fn addresses_of_other_lengths(rt: HostRuntime) -> Result<(), Fail> {
-    let alloc = rt.alloc();
-    let long = pattern(alloc, 65_536)?;
-    let ipv4 = "InterfaceDescriptionOption: IfIpv4Addr length != 8";
-    for value in [[0; 7].as_slice(), long.as_slice()] {
-        let option = InterfaceDescriptionOption::IfIpv4Addr(CowBytes::Borrowed(value));
-        assert!(rt;
-            refuses_in_interface(alloc, option, ipv4)?,
-            "{} bytes",
-            value.len()
-        );
-    }
-    let option = InterfaceDescriptionOption::IfIpv6Addr(CowBytes::Borrowed(&[0; 16]));
-    let ipv6 = "InterfaceDescriptionOption: IfIpv6Addr length != 17";
-    assert!(rt; refuses_in_interface(alloc, option, ipv6)?);
-    let option = InterfaceDescriptionOption::IfMacAddr(CowBytes::Borrowed(&[0; 8]));
-    let mac = "InterfaceDescriptionOption: IfMacAddr length != 6";
-    assert!(rt; refuses_in_interface(alloc, option, mac)?);
-    let option = NameResolutionOption::NsDnsIpv4Addr(CowBytes::Borrowed(&[0; 5]));
-    let ipv4 = "NameResolutionOption: NsDnsIpv4Addr length != 4";
-    assert!(rt; refuses_in_names(alloc, option, ipv4)?);
-    let option = NameResolutionOption::NsDnsIpv6Addr(CowBytes::Borrowed(&[]));
-    let ipv6 = "NameResolutionOption: NsDnsIpv6Addr length != 16";
-    assert!(rt; refuses_in_names(alloc, option, ipv6)?);
+    let long = pattern(rt.alloc(), 65_536)?;
+    assert!(rt; refuses_ipv4(rt.alloc(), &[0; 7])?);
+    assert!(rt; refuses_ipv4(rt.alloc(), long.as_slice())?);
+    assert!(rt; refuses_ipv6(rt.alloc(), &[0; 16])?);
+    assert!(rt; refuses_mac(rt.alloc(), &[0; 8])?);
+    assert!(rt; refuses_dns_ipv4(rt.alloc(), &[0; 5])?);
+    assert!(rt; refuses_dns_ipv6(rt.alloc(), &[])?);
     Ok(())
 }
 
 #[test]
 fn filters(rt: HostRuntime) -> Result<(), Fail> {
-    let alloc = rt.alloc();
-    let empty = InterfaceDescriptionOption::IfFilter(CowBytes::Borrowed(&[]));
     let message = "InterfaceDescriptionOption: IfFilter is empty";
-    assert!(rt; refuses_in_interface(alloc, empty, message)?);
-    let long = pattern(alloc, 65_536)?;
-    let filter = InterfaceDescriptionOption::IfFilter(CowBytes::Borrowed(long.as_slice()));
-    assert!(rt; refuses_in_interface(alloc, filter, TOO_LONG)?);
+    assert!(rt; refuses_filter(rt.alloc(), &[], message)?);
+    let long = pattern(rt.alloc(), 65_536)?;
+    assert!(rt; refuses_filter(rt.alloc(), long.as_slice(), TOO_LONG)?);
     Ok(())
 }
 
 #[test]
 fn long_hashes_and_custom_values(rt: HostRuntime) -> Result<(), Fail> {
-    let alloc = rt.alloc();
-    let long = pattern(alloc, 65_536)?;
-    let hash = PacketOption::Hash(CowBytes::Borrowed(long.as_slice()));
-    assert!(rt; refuses_in_packet(alloc, hash, TOO_LONG)?);
-    let hash = EnhancedPacketOption::Hash(CowBytes::Borrowed(long.as_slice()));
-    assert!(rt; refuses_in_enhanced(alloc, hash, TOO_LONG)?);
-    let custom = CustomBinaryOption::from_slice::<BigEndian>(2989, long.as_slice())?;
-    let custom = NameResolutionOption::CustomBinary(custom);
-    assert!(rt; refuses_in_names(alloc, custom, TOO_LONG)?);
+    let long = pattern(rt.alloc(), 65_536)?;
+    assert!(rt; refuses_hash(rt.alloc(), long.as_slice())?);
+    assert!(rt; refuses_enhanced_hash(rt.alloc(), long.as_slice())?);
+    assert!(rt; refuses_custom_value(rt.alloc(), long.as_slice())?);
     Ok(())
 }
 
 #[test]
 fn long_texts(rt: HostRuntime) -> Result<(), Fail> {
-    let alloc = rt.alloc();
-    let text = "a".repeat(alloc, 65_536)?;
-    let comment = InterfaceStatisticsOption::Comment(CowStr::Borrowed(text.as_str()));
-    assert!(rt; refuses_in_statistics(alloc, comment, TOO_LONG)?);
-    let hardware = SectionHeaderOption::Hardware(CowStr::Borrowed(text.as_str()));
-    assert!(rt; refuses_in_section(alloc, hardware, TOO_LONG)?);
+    let text = "a".repeat(rt.alloc(), 65_536)?;
+    assert!(rt; refuses_comment(rt.alloc(), text.as_str())?);
+    assert!(rt; refuses_hardware(rt.alloc(), text.as_str())?);
     Ok(())
 }

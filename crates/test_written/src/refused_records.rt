@@ -138,10 +138,26 @@ fn long_name_alone(rt: HostRuntime) -> Result<(), Fail> {
     Ok(())
 }
 
+// Whether the mark of the end is refused among the records.
+fn refuses_end(alloc: Global) -> Result<bool, AllocError> {
+    let message = "NameResolutionBlock: nrb_record_end among the records";
+    refuses(alloc, Record::End, message)
+}
+
+// Whether an unknown record is refused.
+fn refuses_unknown(
+    alloc: Global,
+    type_: u16,
+    length: u16,
+    value: &[u8],
+    message: &str,
+) -> Result<bool, AllocError> {
+    refuses(alloc, unknown(type_, length, value), message)
+}
+
 #[test]
 fn ends_and_unknown_records(rt: HostRuntime) -> Result<(), Fail> {
-    let message = "NameResolutionBlock: nrb_record_end among the records";
-    assert!(rt; refuses(rt.alloc(), Record::End, message)?);
+    assert!(rt; refuses_end(rt.alloc())?);
     let long = pattern(rt.alloc(), 65_536)?;
     let named = "UnknownRecord: type has a name";
     let differs = "UnknownRecord: length != value.len()";
@@ -153,8 +169,10 @@ fn ends_and_unknown_records(rt: HostRuntime) -> Result<(), Fail> {
         (3, 0, [1].as_slice(), differs),
         (65535, 0, long.as_slice(), differs),
     ] {
-        let record = unknown(type_, length, value);
-        assert!(rt; refuses(rt.alloc(), record, message)?, "{type_} {length}");
+        assert!(rt;
+            refuses_unknown(rt.alloc(), type_, length, value, message)?,
+            "{type_} {length}"
+        );
     }
     Ok(())
 }
