@@ -9,7 +9,7 @@ ghost use Rattle.pcapfile_c.specs.Calls.{RefusesMagic};
 ghost use Rattle.pcapfile_c.specs.Rows.{ShowsRow, ShowsNgRow, TakesRows, TakesNgRows, data_place, stored_shown};
 ghost use Rattle.pcapfile_c.specs.Shown.{captured};
 
-use crate::batches::Front;
+use crate::batches::{Front, plain_packet};
 use crate::blocks::PcapfileSection;
 use crate::bodies::PcapfileNgPacket;
 use crate::errors::{PcapfileError, tell};
@@ -113,15 +113,23 @@ pub extern "C" fn pcapfile_take_ng_rows(
     };
     let total = left.bytes.len();
     while *taken < rows.len() && !left.bytes.is_empty() {
-        match section.front(alloc, order, left.bytes) {
-            Ok((rest, Front::Packet(packet))) => {
-                rows[*taken] = PcapfileNgRow::new(&packet, total - left.bytes.len());
+        let place = total - left.bytes.len();
+        match plain_packet(order, left.bytes) {
+            Some((rest, packet)) => {
+                rows[*taken] = PcapfileNgRow::new(&packet, place);
                 *taken += 1;
                 left.bytes = rest;
             }
-            Ok((rest, Front::Other)) => left.bytes = rest,
-            Ok((_rest, Front::Section(_) | Front::Interface(_))) => return 8,
-            Err(e) => return tell(&e, error),
+            None => match section.any_front(alloc, order, left.bytes) {
+                Ok((rest, Front::Packet(packet))) => {
+                    rows[*taken] = PcapfileNgRow::new(&packet, place);
+                    *taken += 1;
+                    left.bytes = rest;
+                }
+                Ok((rest, Front::Other)) => left.bytes = rest,
+                Ok((_rest, Front::Section(_) | Front::Interface(_))) => return 8,
+                Err(e) => return tell(&e, error),
+            },
         }
     }
     0

@@ -19,6 +19,35 @@ pub loop-taken-init : goal.loop-taken-init
 loop-taken-init c =
     record { within = omega arith; total = refl; shorter = omega arith; passed = ([], refl, refl, λ full. tt); others = refl; error = refl }
 
+pub loop-taken-smaller-in-Some-plain_packet : goal.loop-taken-smaller-in-Some-plain_packet
+loop-taken-smaller-in-Some-plain_packet c =
+    let found = c.in-Some-plain_packet in
+    passage_shorter c.in-Some.order (Some found.packet) c.loop-taken.left.bytes.now found.rest.now found.ensures
+
+pub loop-taken-preserved-in-Some-plain_packet : goal.loop-taken-preserved-in-Some-plain_packet
+loop-taken-preserved-in-Some-plain_packet c =
+    let found = c.in-Some-plain_packet in
+    let all = c.args.left.now.bytes.now in
+    let s = c.loop-taken.left.bytes.now in
+    let o = c.in-Some.order in
+    let inv = c.loop-taken.invariant in
+    let shows : ShowsNgRow (length all - length s) found.packet c.new.result = c.new.ensures in
+    let so_far = inv.passed in
+    let less : length found.rest.now < length s = passage_shorter o (Some found.packet) s found.rest.now found.ensures in
+    record {
+      within = rw length-set (omega arith);
+      total = refl;
+      shorter = omega (arith, less, inv.shorter);
+      passed = (
+        so_far.0 ++ Some c.new.result ∷ [],
+        ng_row_more o (length all) so_far.0 c.new.result (length all - length s) found.packet all s found.rest.now so_far.1 found.ensures shows inv.shorter refl,
+        filled c.loop-taken.rows c.loop-taken.taken c.new.result so_far.0 c.loop-taken-test.true so_far.2,
+        λ full. packet_last so_far.0 c.new.result,
+      );
+      others = others_kept c.loop-taken.rows c.args.rows.now c.loop-taken.taken c.new.result inv.others;
+      error = inv.error;
+    }
+
 pub loop-taken-smaller-in-Ok-default-Packet : goal.loop-taken-smaller-in-Ok-default-Packet
 loop-taken-smaller-in-Ok-default-Packet c =
     let found = c.in-Ok-default-Packet in
@@ -33,7 +62,7 @@ loop-taken-preserved-in-Ok-default-Packet c =
     let o = c.in-Some.order in
     let inv = c.loop-taken.invariant in
     let text : PacketText o found.packet s found.rest.now = rw found.field-0-1-is at found.ensures in
-    let shows : ShowsNgRow (length all - length s) found.packet c.new.result = c.new.ensures in
+    let shows : ShowsNgRow (length all - length s) found.packet c.new-in-Ok-default-Packet.result = c.new-in-Ok-default-Packet.ensures in
     let so_far = inv.passed in
     let less : length found.rest.now < length s = passage_shorter o (Some found.packet) s found.rest.now text in
     record {
@@ -41,12 +70,12 @@ loop-taken-preserved-in-Ok-default-Packet c =
       total = refl;
       shorter = omega (arith, less, inv.shorter);
       passed = (
-        so_far.0 ++ Some c.new.result ∷ [],
-        ng_row_more o (length all) so_far.0 c.new.result (length all - length s) found.packet all s found.rest.now so_far.1 text shows inv.shorter refl,
-        filled c.loop-taken.rows c.loop-taken.taken c.new.result so_far.0 c.loop-taken-test.true so_far.2,
-        λ full. packet_last so_far.0 c.new.result,
+        so_far.0 ++ Some c.new-in-Ok-default-Packet.result ∷ [],
+        ng_row_more o (length all) so_far.0 c.new-in-Ok-default-Packet.result (length all - length s) found.packet all s found.rest.now so_far.1 text shows inv.shorter refl,
+        filled c.loop-taken.rows c.loop-taken.taken c.new-in-Ok-default-Packet.result so_far.0 c.loop-taken-test.true so_far.2,
+        λ full. packet_last so_far.0 c.new-in-Ok-default-Packet.result,
       );
-      others = others_kept c.loop-taken.rows c.args.rows.now c.loop-taken.taken c.new.result inv.others;
+      others = others_kept c.loop-taken.rows c.args.rows.now c.loop-taken.taken c.new-in-Ok-default-Packet.result inv.others;
       error = inv.error;
     }
 

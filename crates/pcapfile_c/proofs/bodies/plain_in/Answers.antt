@@ -2,7 +2,7 @@ use Rattle.std.proofs.Common.{rules, ◌≡◌, [], length, refl}
 use Rattle.pcap_blocks.specs.EnhancedPacket.{Enhanced, EnhancedText}
 use Rattle.pcap_blocks.specs.Options.OptionList.{with_body}
 use Rattle.pcap_core.proofs.Formats.{nil_of_length}
-use Rattle.pcapfile_c.proofs.bodies.enhanced_in.Goals as goal
+use Rattle.pcapfile_c.proofs.bodies.plain_in.Goals as goal
 
 pub returns-in-Some : goal.returns-in-Some
 returns-in-Some g c =
