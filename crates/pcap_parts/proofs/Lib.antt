@@ -8,6 +8,7 @@ mod Places
 mod Fair
 pub mod CutSteps
 pub mod Stepping
+pub mod Parted
 mod Walking
 pub mod NgCaptures
 mod Asking

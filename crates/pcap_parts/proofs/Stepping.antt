@@ -13,7 +13,7 @@ use Rattle.pcap_parts.proofs.Fair.{all_passed, none_further, passed_first}
 
 module _ {S V : Type 0} (f : Format S V) (q : S) (s : List ℕ) (total n : ℕ) where
   -- a cut with these bytes behind it
-  abbrev StandsBefore : List ℕ → Cut → Type 0
+  abbrev pub StandsBefore : List ℕ → Cut → Type 0
   StandsBefore left cut = cut.offset + length left ≡ total
 
   -- cuts so far, the last of which has left behind it

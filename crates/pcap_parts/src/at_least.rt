@@ -1,66 +1,20 @@
 //! Places at which a capture can be cut into parts of at least so many bytes.
 
 ghost use Rattle.pcap_classic.specs.HeaderText.{LacksHeader, HasHeaderFault};
-ghost use Rattle.pcap_classic.specs.PacketText.{packet_limit};
-ghost use Rattle.pcap_classic.specs.Packets.{format_under};
-ghost use Rattle.pcap_classic.specs.Parser.{header_of};
 ghost use Rattle.pcap_core.specs.Answer.{Refuses, lacks, faulty};
-ghost use Rattle.pcap_file.specs.Blocks.{block_format};
 ghost use Rattle.pcap_file.specs.Opening.{OpeningSays};
-ghost use Rattle.pcap_file.specs.Parser.{state_of};
 ghost use Rattle.pcap_parts.specs.Captures.{IsCut, IsCutAtLeast};
-ghost use Rattle.pcap_parts.specs.NgParts.{IsNgCut, IsNgCutAtLeast, IsWalked, ResumesAt, bounds_of};
-ghost use Rattle.pcap_parts.specs.Parts.{AreCuts, HaveAtLeast};
-ghost use Rattle.std.specs.List.{AllByRecursion};
-ghost use Rattle.std.specs.Prelude.{◌<◌, ◌≤◌, ◌-◌, ⊤, length, drop, max, IfOk, IfErr};
+ghost use Rattle.pcap_parts.specs.NgParts.{IsNgCut, IsNgCutAtLeast};
+ghost use Rattle.std.specs.Prelude.{⊤, max, IfOk, IfErr};
 
-use crate::cut::{Cut, Cuts};
-use crate::cut_ng::{NgCut, NgCuts, cut_at};
-use crate::skip::{Passed, skip_packets};
+use crate::cut::{Cuts, cut_packets};
+use crate::cut_ng::{NgCuts, cut_blocks};
+use crate::parting::Parting;
 use crate::walk::Walk;
 use pcap_classic::pcap::PcapParser;
 use pcap_core::ResultParsing;
 use pcap_file::PcapNgParser;
-use std::alloc::{AllocError, Global};
-
-// Where the parts of the packets behind a header begin. Their last byte has this place.
-fn step_packets(
-    alloc: Global,
-    parser: &PcapParser,
-    slice: &[u8],
-    total: usize,
-    at_least: usize,
-) -> Result<Vec<Cut>, AllocError>
-    requires within { length slice.now ≤ total }
-    requires some { 0 < at_least }
-    ensures cuts { IfOk result (λ cuts. AreCuts (format_under packet_limit (header_of parser.now)) tt slice.now (total - length slice.now) total cuts.items) }
-    ensures steps { IfOk result (λ cuts. HaveAtLeast (format_under packet_limit (header_of parser.now)) tt slice.now total at_least cuts.items) }
-{
-    let mut cuts = Vec::new(alloc);
-    cuts.push(Cut {
-        offset: total - slice.len(),
-        before: 0,
-    })?;
-    let mut before = 0;
-    let mut left = slice;
-    loop {
-        let Passed { items, after, rest } = skip_packets(parser, left, at_least);
-        match rest {
-            Some(_) => return Ok(cuts),
-            None => {
-                if after.is_empty() {
-                    return Ok(cuts);
-                }
-                before += items;
-                left = after;
-                cuts.push(Cut {
-                    offset: total - left.len(),
-                    before,
-                })?;
-            }
-        }
-    }
-}
+use std::alloc::Global;
 
 /// Where a capture can be cut into parts of at least so many bytes, so that no packet is torn. No byte is asked for as one is.
 ///
@@ -75,46 +29,17 @@ pub fn cut_pcap_at_least(alloc: Global, bytes: &[u8], at_least: usize) -> Result
     ensures refused { IfErr result (Refuses ⊤ (LacksHeader bytes.now) (HasHeaderFault bytes.now)) }
 {
     let (after, parser) = PcapParser::new(bytes)?;
-    let cuts = step_packets(alloc, &parser, after, bytes.len(), at_least.max(1))?;
+    let cuts = cut_packets(
+        alloc,
+        &parser,
+        after,
+        bytes.len(),
+        Parting::AtLeast(at_least.max(1)),
+    )?;
     Ok(Cuts {
         header: *parser.header(),
         cuts,
     })
-}
-
-// Where the parts of the blocks behind the first section header begin.
-fn step_blocks(
-    alloc: Global,
-    bytes: &[u8],
-    walk: &mut Walk,
-    slice: &[u8],
-    at_least: usize,
-) -> Result<Vec<NgCut>, AllocError>
-    requires walked { IsWalked bytes.now slice.now (state_of walk.old.parser) walk.old.header (drop walk.old.first walk.old.interfaces.items) }
-    requires within { walk.old.first ≤ length walk.old.interfaces.items }
-    requires some { 0 < at_least }
-    ensures cuts { IfOk result (λ cuts. AreCuts block_format (state_of walk.old.parser) slice.now (length bytes.now - length slice.now) (length bytes.now) (bounds_of cuts.items)) }
-    ensures steps { IfOk result (λ cuts. HaveAtLeast block_format (state_of walk.old.parser) slice.now (length bytes.now) at_least (bounds_of cuts.items)) }
-    ensures resume { IfOk result (λ cuts. AllByRecursion (ResumesAt bytes.now walk.new.interfaces.items (state_of walk.old.parser) slice.now) cuts.items) }
-{
-    let mut cuts = Vec::new(alloc);
-    cuts.push(cut_at(walk, bytes.len() - slice.len(), 0))?;
-    let mut before = 0;
-    let mut left = slice;
-    loop {
-        let Passed { items, after, rest } = walk.skip(bytes, left, at_least)?;
-        match rest {
-            Some(_) => return Ok(cuts),
-            None => {
-                if after.is_empty() {
-                    return Ok(cuts);
-                }
-                before += items;
-                left = after;
-                cuts.push(cut_at(walk, bytes.len() - left.len(), before))?;
-            }
-        }
-    }
 }
 
 /// Where a PcapNg capture can be cut into parts of at least so many bytes, so that no block is torn, and where what is in force at
@@ -137,7 +62,13 @@ pub fn cut_pcapng_at_least(alloc: Global, bytes: &[u8], at_least: usize) -> Resu
         interfaces: Vec::new(alloc),
         first: 0,
     };
-    let cuts = step_blocks(alloc, bytes, &mut walk, after, at_least.max(1))?;
+    let cuts = cut_blocks(
+        alloc,
+        bytes,
+        &mut walk,
+        after,
+        Parting::AtLeast(at_least.max(1)),
+    )?;
     Ok(NgCuts {
         cuts,
         interfaces: walk.interfaces,

@@ -6,9 +6,11 @@ ghost use Rattle.pcap_classic.specs.Packets.{format_under};
 ghost use Rattle.pcap_classic.specs.Parser.{header_of};
 ghost use Rattle.pcap_core.specs.Answer.{Refuses};
 ghost use Rattle.pcap_parts.specs.Captures.{IsCut, IsCutFairly};
-ghost use Rattle.pcap_parts.specs.Parts.{AreCuts, AreFair, IsToNextEnd, share_of};
+ghost use Rattle.pcap_parts.specs.Partings.{AreAskedFor, AsksSome};
+ghost use Rattle.pcap_parts.specs.Parts.{AreCuts, IsToNextEnd, share_of};
 ghost use Rattle.std.specs.Prelude.{◌≤◌, ◌-◌, ⊤, length, IfOk, IfErr};
 
+use crate::parting::Parting;
 use crate::skip::{Passed, skip_packets};
 use pcap_classic::pcap::{PcapHeader, PcapParser};
 use pcap_core::ResultParsing;
@@ -50,16 +52,17 @@ pub fn to_next_end(passed: usize, bytes: usize, parts: usize) -> Option<usize>
 }
 
 // Where the parts of the packets behind a header begin. Their last byte has this place.
-fn cut_packets(
+pub(crate) fn cut_packets(
     alloc: Global,
     parser: &PcapParser,
     slice: &[u8],
     total: usize,
-    parts: usize,
+    parting: Parting,
 ) -> Result<Vec<Cut>, AllocError>
-    requires { length slice.now ≤ total }
+    requires within { length slice.now ≤ total }
+    requires some { AsksSome parting }
     ensures cuts { IfOk result (λ cuts. AreCuts (format_under packet_limit (header_of parser.now)) tt slice.now (total - length slice.now) total cuts.items) }
-    ensures fair { IfOk result (λ cuts. AreFair (format_under packet_limit (header_of parser.now)) tt slice.now total (total - length slice.now) parts cuts.items) }
+    ensures asked { IfOk result (λ cuts. AreAskedFor (format_under packet_limit (header_of parser.now)) tt slice.now total parting cuts.items) }
 {
     let mut cuts = Vec::new(alloc);
     cuts.push(Cut {
@@ -68,7 +71,7 @@ fn cut_packets(
     })?;
     let mut before = 0;
     let mut left = slice;
-    while let Some(wanted) = to_next_end(slice.len() - left.len(), slice.len(), parts) {
+    while let Some(wanted) = parting.wanted(slice.len() - left.len(), slice.len()) {
         let Passed { items, after, rest } = skip_packets(parser, left, wanted);
         match rest {
             Some(_) => return Ok(cuts),
@@ -103,7 +106,7 @@ pub fn cut_pcap(alloc: Global, bytes: &[u8], parts: usize) -> ResultParsing<Cuts
     ensures refused { IfErr result (Refuses ⊤ (LacksHeader bytes.now) (HasHeaderFault bytes.now)) }
 {
     let (after, parser) = PcapParser::new(bytes)?;
-    let cuts = cut_packets(alloc, &parser, after, bytes.len(), parts)?;
+    let cuts = cut_packets(alloc, &parser, after, bytes.len(), Parting::Equal(parts))?;
     Ok(Cuts {
         header: *parser.header(),
         cuts,

@@ -5,11 +5,13 @@ ghost use Rattle.pcap_file.specs.Blocks.{block_format};
 ghost use Rattle.pcap_file.specs.Opening.{OpeningSays};
 ghost use Rattle.pcap_file.specs.Parser.{state_of};
 ghost use Rattle.pcap_parts.specs.NgParts.{IsNgCut, IsNgCutFairly, IsWalked, ResumesAt, bounds_of, places_at};
-ghost use Rattle.pcap_parts.specs.Parts.{AreCuts, AreFair};
+ghost use Rattle.pcap_parts.specs.Partings.{AreAskedFor, AsksSome};
+ghost use Rattle.pcap_parts.specs.Parts.{AreCuts};
 ghost use Rattle.std.specs.List.{AllByRecursion};
 ghost use Rattle.std.specs.Prelude.{◌≡◌, ◌≤◌, ◌-◌, ⊤, length, drop, IfOk, IfErr};
 
-use crate::cut::{Cut, to_next_end};
+use crate::cut::Cut;
+use crate::parting::Parting;
 use crate::skip::Passed;
 use crate::walk::Walk;
 use pcap_core::ResultParsing;
@@ -67,24 +69,25 @@ pub(crate) fn cut_at(walk: &Walk, offset: usize, before: usize) -> NgCut
 }
 
 // Where the parts of the blocks behind the first section header begin.
-fn cut_blocks(
+pub(crate) fn cut_blocks(
     alloc: Global,
     bytes: &[u8],
     walk: &mut Walk,
     slice: &[u8],
-    parts: usize,
+    parting: Parting,
 ) -> Result<Vec<NgCut>, AllocError>
     requires walked { IsWalked bytes.now slice.now (state_of walk.old.parser) walk.old.header (drop walk.old.first walk.old.interfaces.items) }
     requires within { walk.old.first ≤ length walk.old.interfaces.items }
+    requires some { AsksSome parting }
     ensures cuts { IfOk result (λ cuts. AreCuts block_format (state_of walk.old.parser) slice.now (length bytes.now - length slice.now) (length bytes.now) (bounds_of cuts.items)) }
-    ensures fair { IfOk result (λ cuts. AreFair block_format (state_of walk.old.parser) slice.now (length bytes.now) (length bytes.now - length slice.now) parts (bounds_of cuts.items)) }
+    ensures asked { IfOk result (λ cuts. AreAskedFor block_format (state_of walk.old.parser) slice.now (length bytes.now) parting (bounds_of cuts.items)) }
     ensures resume { IfOk result (λ cuts. AllByRecursion (ResumesAt bytes.now walk.new.interfaces.items (state_of walk.old.parser) slice.now) cuts.items) }
 {
     let mut cuts = Vec::new(alloc);
     cuts.push(cut_at(walk, bytes.len() - slice.len(), 0))?;
     let mut before = 0;
     let mut left = slice;
-    while let Some(wanted) = to_next_end(slice.len() - left.len(), slice.len(), parts) {
+    while let Some(wanted) = parting.wanted(slice.len() - left.len(), slice.len()) {
         let Passed { items, after, rest } = walk.skip(bytes, left, wanted)?;
         match rest {
             Some(_) => return Ok(cuts),
@@ -121,7 +124,7 @@ pub fn cut_pcapng(alloc: Global, bytes: &[u8], parts: usize) -> ResultParsing<Ng
         interfaces: Vec::new(alloc),
         first: 0,
     };
-    let cuts = cut_blocks(alloc, bytes, &mut walk, after, parts)?;
+    let cuts = cut_blocks(alloc, bytes, &mut walk, after, Parting::Equal(parts))?;
     Ok(NgCuts {
         cuts,
         interfaces: walk.interfaces,

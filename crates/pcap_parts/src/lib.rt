@@ -9,6 +9,7 @@ mod cut;
 mod cut_ng;
 pub mod laws;
 mod part;
+mod parting;
 mod skip;
 mod walk;
 
@@ -18,4 +19,5 @@ pub use blocks::skip_blocks;
 pub use cut::{Cut, Cuts, cut_pcap, to_next_end};
 pub use cut_ng::{NgCut, NgCuts, cut_pcapng};
 pub use part::{parse_ng_part, parse_part};
+pub use parting::Parting;
 pub use skip::{Passed, skip_packets};

@@ -1,11 +1,13 @@
 -- What the calls that tell where a capture can be cut answer.
-use Rattle.std.specs.Prelude.{◌≡◌, ◌<◌, ◌⊎◌, ⊤, ℕ, ℤ, pos, List, [], length, take, drop}
+use Rattle.std.specs.Prelude.{◌≡◌, ◌<◌, ◌*◌, ◌⊎◌, ⊤, ℕ, ℤ, pos, List, [], length, take, drop}
 use Rattle.pcap_classic.specs.declared.pcap.header.PcapHeader.{PcapHeader}
 use Rattle.pcap_classic.specs.HeaderText.{HeaderSays}
 use Rattle.pcap_file.specs.Opening.{OpeningSays}
 use Rattle.pcap_parts.specs.declared.cut.Cut.{Cut}
 use Rattle.pcap_parts.specs.declared.cut_ng.NgCut.{NgCut}
 use Rattle.pcap_parts.specs.declared.cut_ng.NgCuts.{NgCuts}
+use Rattle.pcap_parts.specs.declared.parting.Parting.{Parting}
+use Rattle.pcap_parts.specs.declared.parting.Parting.TheVariants.{Equal, AtLeast}
 use Rattle.pcap_parts.specs.Captures.{IsCut, IsCutFairly}
 use Rattle.pcap_parts.specs.NgParts.{IsNgCut, IsNgCutFairly}
 use Rattle.pcapfile_c.specs.declared.errors.PcapfileError.{PcapfileError}
@@ -14,6 +16,11 @@ use Rattle.pcapfile_c.specs.Refusals.{TellsRefusal, TellsRefusalWhere}
 -- the first places hold these values, so many, and all other places are as they were
 abbrev pub Fills : {A : Type 0} → List A → List A → List A → ℕ → Type 0
 Fills values before after count = (count ≡ length values) × (take count after ≡ values) × (drop count after ≡ drop count before)
+
+-- so many places hold all cuts that are asked for, of bytes that end at this place
+abbrev pub HasRoom : Parting → ℕ → ℕ → Type 0
+HasRoom (Equal parts) total places = (parts ≡ places) × (0 < places)
+HasRoom (AtLeast n) total places = total < places * n
 
 -- the first places hold the cuts of a classic capture into as many fair parts as there are places
 pub record CutsPackets (bytes : List ℕ) (before after : List Cut) (count : ℕ) : Type 0 where

@@ -1,17 +1,14 @@
 //! Captures that lie in memory: where they can be cut into parts of at least so many bytes.
 
-ghost use Rattle.std.specs.Prelude.{◌≡◌, ◌<◌, ◌≤◌, ◌-◌, ◌*◌, length, max, take, drop};
-ghost use Rattle.pcap_classic.specs.PacketText.{packet_limit};
-ghost use Rattle.pcap_classic.specs.Packets.{format_under};
-ghost use Rattle.pcap_classic.specs.Parser.{header_of};
-ghost use Rattle.pcap_parts.specs.Parts.{AreCuts, HaveAtLeast};
+ghost use Rattle.std.specs.Prelude.{max};
 ghost use Rattle.pcapfile_c.specs.AtLeast.{TellsSteps, TellsBlockSteps};
 
 use crate::block_cuts::fill;
+use crate::cuts::cut_packets;
 use crate::errors::{PcapfileError, tell};
 use crate::shown::PcapfileBytes;
 use pcap_file::pcap::PcapParser;
-use pcap_parts::{Cut, NgCut, Passed, cut_pcapng_at_least, skip_packets};
+use pcap_parts::{Cut, NgCut, Parting, cut_pcapng_at_least};
 use std::alloc::Global;
 
 /// Where a capture can be cut into parts of at least so many bytes, each but the last with no packet more than it needs. `count`
@@ -33,54 +30,11 @@ pub extern "C" fn pcapfile_cut_packets_at_least(
     }
     match PcapParser::new(capture.bytes) {
         Ok((after, parser)) => {
-            *count = step_packets(&parser, after, capture.bytes.len(), wanted, cuts);
+            let parting = Parting::AtLeast(wanted);
+            *count = cut_packets(&parser, after, capture.bytes.len(), parting, cuts);
             0
         }
         Err(e) => tell(&e, error),
-    }
-}
-
-// Puts into the first places where the parts of the packets behind a header begin, and tells how many they are. Their last byte has
-// this place.
-fn step_packets(
-    parser: &PcapParser,
-    slice: &[u8],
-    total: usize,
-    at_least: usize,
-    cuts: &mut [Cut],
-) -> usize
-    requires within { length slice.now ≤ total }
-    requires some { 0 < at_least }
-    requires room { total < length cuts.old * at_least }
-    ensures cuts { AreCuts (format_under packet_limit (header_of parser.now)) tt slice.now (total - length slice.now) total (take result cuts.new) }
-    ensures steps { HaveAtLeast (format_under packet_limit (header_of parser.now)) tt slice.now total at_least (take result cuts.new) }
-    ensures filled { result ≤ length cuts.new }
-    ensures others { drop result cuts.new ≡ drop result cuts.old }
-{
-    cuts[0] = Cut {
-        offset: total - slice.len(),
-        before: 0,
-    };
-    let mut count = 1;
-    let mut before = 0;
-    let mut left = slice;
-    loop {
-        let Passed { items, after, rest } = skip_packets(parser, left, at_least);
-        match rest {
-            Some(_) => return count,
-            None => {
-                if after.is_empty() {
-                    return count;
-                }
-                before += items;
-                left = after;
-                cuts[count] = Cut {
-                    offset: total - left.len(),
-                    before,
-                };
-                count += 1;
-            }
-        }
     }
 }
 

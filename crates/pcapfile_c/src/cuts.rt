@@ -4,13 +4,14 @@ ghost use Rattle.std.specs.Prelude.{◌≡◌, ◌<◌, ◌≤◌, ◌-◌, leng
 ghost use Rattle.pcap_classic.specs.PacketText.{packet_limit};
 ghost use Rattle.pcap_classic.specs.Packets.{format_under};
 ghost use Rattle.pcap_classic.specs.Parser.{header_of};
-ghost use Rattle.pcap_parts.specs.Parts.{AreCuts, AreFair};
-ghost use Rattle.pcapfile_c.specs.Cuts.{TellsCuts};
+ghost use Rattle.pcap_parts.specs.Parts.{AreCuts};
+ghost use Rattle.pcap_parts.specs.Partings.{AreAskedFor, AsksSome};
+ghost use Rattle.pcapfile_c.specs.Cuts.{HasRoom, TellsCuts};
 
 use crate::errors::{PcapfileError, tell};
 use crate::shown::PcapfileBytes;
 use pcap_file::pcap::PcapParser;
-use pcap_parts::{Cut, Passed, skip_packets, to_next_end};
+use pcap_parts::{Cut, Parting, Passed, skip_packets};
 
 /// Where a capture can be cut into as many parts of equal length as there are places, but for less than a packet each, so that no
 /// packet is torn. `count` says how many places are filled. The places are `pcapfile_cut` in C.
@@ -29,7 +30,8 @@ pub extern "C" fn pcapfile_cut_packets(
     }
     match PcapParser::new(capture.bytes) {
         Ok((after, parser)) => {
-            *count = cut_packets(&parser, after, capture.bytes.len(), cuts);
+            let parting = Parting::Equal(cuts.len());
+            *count = cut_packets(&parser, after, capture.bytes.len(), parting, cuts);
             0
         }
         Err(e) => tell(&e, error),
@@ -38,11 +40,18 @@ pub extern "C" fn pcapfile_cut_packets(
 
 // Puts into the first places where the parts of the packets behind a header begin, and tells how many they are. Their last byte has
 // this place.
-fn cut_packets(parser: &PcapParser, slice: &[u8], total: usize, cuts: &mut [Cut]) -> usize
+pub(crate) fn cut_packets(
+    parser: &PcapParser,
+    slice: &[u8],
+    total: usize,
+    parting: Parting,
+    cuts: &mut [Cut],
+) -> usize
     requires within { length slice.now ≤ total }
-    requires some { 0 < length cuts.old }
+    requires some { AsksSome parting }
+    requires room { HasRoom parting total (length cuts.old) }
     ensures cuts { AreCuts (format_under packet_limit (header_of parser.now)) tt slice.now (total - length slice.now) total (take result cuts.new) }
-    ensures fair { AreFair (format_under packet_limit (header_of parser.now)) tt slice.now total (total - length slice.now) (length cuts.old) (take result cuts.new) }
+    ensures asked { AreAskedFor (format_under packet_limit (header_of parser.now)) tt slice.now total parting (take result cuts.new) }
     ensures filled { result ≤ length cuts.new }
     ensures others { drop result cuts.new ≡ drop result cuts.old }
 {
@@ -53,7 +62,7 @@ fn cut_packets(parser: &PcapParser, slice: &[u8], total: usize, cuts: &mut [Cut]
     let mut count = 1;
     let mut before = 0;
     let mut left = slice;
-    while let Some(wanted) = to_next_end(slice.len() - left.len(), slice.len(), cuts.len()) {
+    while let Some(wanted) = parting.wanted(slice.len() - left.len(), slice.len()) {
         let Passed { items, after, rest } = skip_packets(parser, left, wanted);
         match rest {
             Some(_) => return count,

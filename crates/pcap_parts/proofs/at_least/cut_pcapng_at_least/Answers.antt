@@ -3,8 +3,8 @@ use Rattle.pcap_file.specs.Parser.{state_of}
 use Rattle.pcap_parts.proofs.Walking.{walked_first}
 use Rattle.pcap_parts.proofs.at_least.cut_pcapng_at_least.Goals as goal
 
-pub step_blocks-requires-clause-walked : goal.step_blocks-requires-clause-walked
-step_blocks-requires-clause-walked c =
+pub cut_blocks-requires-clause-walked : goal.cut_blocks-requires-clause-walked
+cut_blocks-requires-clause-walked c =
     let none : c.new-2.result.items ≡ [] = search rules in
     rw none (walked_first c.args.bytes.now c.in_ok-after.after.now (state_of c.in_ok-after.parser) c.in_ok-after.ensures.tells)
 
@@ -22,5 +22,5 @@ returns-clause-steps c = record {
   first = state_of c.in_ok-after.parser;
   after = c.in_ok-after.after.now;
   opens = c.in_ok-after.ensures.tells;
-  steps = rw (← c.max.ensures) c.in_ok-cuts.ensures.steps;
+  steps = rw (← c.max.ensures) c.in_ok-cuts.ensures.asked;
 }

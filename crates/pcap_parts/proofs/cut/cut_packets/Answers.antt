@@ -1,4 +1,4 @@
-use Rattle.std.proofs.Common.{◌≡◌, ◌+◌, ◌-◌, length, rules, subst, refl}
+use Rattle.std.proofs.Common.{◌≡◌, ◌<◌, ◌+◌, ◌-◌, length, rules, subst, refl}
 use Rattle.std.specs.Prelude.{Option, None, Some}
 use Rattle.pcap_core.specs.declared.rest.Rest.{Rest}
 use Rattle.pcap_classic.specs.PacketText.{packet_limit}
@@ -7,7 +7,7 @@ use Rattle.pcap_classic.specs.Parser.{header_of}
 use Rattle.pcap_classic.proofs.CaptureFormat.{under_lawful}
 use Rattle.pcap_parts.specs.declared.cut.Cut.{Cut}
 use Rattle.pcap_parts.specs.Parts.{Passes}
-use Rattle.pcap_parts.proofs.CutSteps.{cuts_begin, cuts_end, cuts_end_with_bytes, cuts_enough, cuts_go_on}
+use Rattle.pcap_parts.proofs.Parted.{parted_begin, parted_end, parted_end_with_bytes, parted_enough, parted_more}
 use Rattle.pcap_parts.proofs.cut.cut_packets.Goals as goal
 
 pub loop-wanted-init : goal.loop-wanted-init
@@ -15,27 +15,27 @@ loop-wanted-init c =
     let header = header_of c.args.parser.now in
     let s = c.args.slice.now in
     let first : Cut = record { offset = c.args.total - length s; before = 0 } in
-    record { so_far = rw (c.in_ok-push.ensures.items, c.new-cuts.ensures.items) (cuts_begin (format_under packet_limit header) (under_lawful packet_limit header) tt s c.args.total c.args.parts c.requires first refl refl) }
+    record { so_far = rw (c.in_ok-push.ensures.items, c.new-cuts.ensures.items) (parted_begin (format_under packet_limit header) (under_lawful packet_limit header) tt s c.args.total c.requires.within c.args.parting c.requires.some first refl refl) }
 
-pub returns-in-Some-rest-clause-fair : goal.returns-in-Some-rest-clause-fair
-returns-in-Some-rest-clause-fair c =
+pub returns-in-Some-rest-clause-asked : goal.returns-in-Some-rest-clause-asked
+returns-in-Some-rest-clause-asked c =
     let header = header_of c.args.parser.now in
     let left = c.loop-wanted.left.now in
     let passed = c.skip_packets-items.result in
     let p : Passes (format_under packet_limit header) tt left passed.after.now c.in-Some.wanted passed.items (Some c.in-Some-rest.field-0) =
     subst (λ (r : Option Rest). Passes (format_under packet_limit header) tt left passed.after.now c.in-Some.wanted passed.items r) c.in-Some-rest.is c.skip_packets-items.ensures.passes in
-    cuts_end (format_under packet_limit header) (under_lawful packet_limit header) tt c.args.slice.now c.args.total c.args.parts c.requires left passed.after.now c.loop-wanted.before c.in-Some.wanted
+    parted_end (format_under packet_limit header) (under_lawful packet_limit header) tt c.args.slice.now c.args.total c.requires.within c.args.parting c.requires.some left passed.after.now c.loop-wanted.before c.in-Some.wanted
     passed.items c.loop-wanted.cuts.items c.in-Some-rest.field-0 c.loop-wanted.invariant.so_far c.in-Some.ensures p
 
-pub returns-then-is_empty-clause-fair : goal.returns-then-is_empty-clause-fair
-returns-then-is_empty-clause-fair c =
+pub returns-then-is_empty-clause-asked : goal.returns-then-is_empty-clause-asked
+returns-then-is_empty-clause-asked c =
     let header = header_of c.args.parser.now in
     let left = c.loop-wanted.left.now in
     let passed = c.skip_packets-items.result in
     let empty : length passed.after.now ≡ 0 = search rules in
     let p : Passes (format_under packet_limit header) tt left passed.after.now c.in-Some.wanted passed.items None =
     subst (λ (r : Option Rest). Passes (format_under packet_limit header) tt left passed.after.now c.in-Some.wanted passed.items r) c.in-None.is c.skip_packets-items.ensures.passes in
-    cuts_end_with_bytes (format_under packet_limit header) (under_lawful packet_limit header) tt c.args.slice.now c.args.total c.args.parts c.requires left passed.after.now c.loop-wanted.before c.in-Some.wanted
+    parted_end_with_bytes (format_under packet_limit header) (under_lawful packet_limit header) tt c.args.slice.now c.args.total c.requires.within c.args.parting c.requires.some left passed.after.now c.loop-wanted.before c.in-Some.wanted
     passed.items c.loop-wanted.cuts.items c.loop-wanted.invariant.so_far c.in-Some.ensures p empty
 
 pub loop-wanted-preserved : goal.loop-wanted-preserved
@@ -47,12 +47,13 @@ loop-wanted-preserved c =
     let x : Cut = record { offset = c.args.total - length after; before = c.loop-wanted.before + passed.items } in
     let p : Passes (format_under packet_limit header) tt left after c.in-Some.wanted passed.items None =
     subst (λ (r : Option Rest). Passes (format_under packet_limit header) tt left after c.in-Some.wanted passed.items r) c.in-None.is c.skip_packets-items.ensures.passes in
-    let more = cuts_go_on (format_under packet_limit header) (under_lawful packet_limit header) tt c.args.slice.now c.args.total c.args.parts c.requires left after c.loop-wanted.before
-    c.in-Some.wanted passed.items c.loop-wanted.cuts.items x c.loop-wanted.invariant.so_far c.in-Some.ensures p c.skip_packets-items.ensures.few refl refl in
+    let some : 0 < length after = search rules in
+    let more = parted_more (format_under packet_limit header) (under_lawful packet_limit header) tt c.args.slice.now c.args.total c.requires.within c.args.parting c.requires.some left after c.loop-wanted.before
+    c.in-Some.wanted passed.items c.loop-wanted.cuts.items x c.loop-wanted.invariant.so_far c.in-Some.ensures p some c.skip_packets-items.ensures.few refl refl in
     record { so_far = rw c.in_ok-push-in-None.ensures.items more }
 
-pub returns-clause-fair : goal.returns-clause-fair
-returns-clause-fair c =
+pub returns-clause-asked : goal.returns-clause-asked
+returns-clause-asked c =
     let header = header_of c.args.parser.now in
-    cuts_enough (format_under packet_limit header) (under_lawful packet_limit header) tt c.args.slice.now c.args.total c.args.parts c.requires c.loop-wanted.left.now c.loop-wanted.before
+    parted_enough (format_under packet_limit header) (under_lawful packet_limit header) tt c.args.slice.now c.args.total c.requires.within c.args.parting c.loop-wanted.left.now c.loop-wanted.before
     c.loop-wanted.cuts.items c.loop-wanted.invariant.so_far c.in_default.ensures

@@ -2,11 +2,11 @@ use Rattle.std.proofs.Common.{length}
 use Rattle.pcap_classic.specs.PacketText.{packet_limit}
 use Rattle.pcap_classic.specs.Packets.{format_under}
 use Rattle.pcap_classic.specs.Parser.{header_of}
-use Rattle.pcap_parts.proofs.CutSteps.{CutSoFar}
+use Rattle.pcap_parts.proofs.Parted.{PartedSoFar}
 use Rattle.pcap_parts.proofs.cut.cut_packets.Given as goal
 
 abbrev pub invariant-loop-wanted : goal.invariant-loop-wanted
-invariant-loop-wanted l = record { so_far : CutSoFar (format_under packet_limit (header_of l.parser)) tt l.slice l.total l.parts l.left l.before l.cuts.items }
+invariant-loop-wanted l = record { so_far : PartedSoFar (format_under packet_limit (header_of l.parser)) tt l.slice l.total l.parting l.left l.before l.cuts.items }
 
 abbrev pub decreases-loop-wanted : goal.decreases-loop-wanted
 decreases-loop-wanted l = length l.left

@@ -1,4 +1,4 @@
-use Rattle.std.proofs.Common.{◌≡◌, ◌≤◌, ◌∷◌, [], length, drop, refl, sym, subst, arith, rules}
+use Rattle.std.proofs.Common.{◌≡◌, ◌<◌, ◌≤◌, ◌∷◌, [], length, drop, refl, sym, subst, arith, rules}
 use Rattle.std.specs.Prelude.{Option, None, Some}
 use Rattle.std.proofs.lemmas.List.{map-append}
 use Rattle.pcap_core.specs.declared.rest.Rest.{Rest}
@@ -10,7 +10,7 @@ use Rattle.pcap_file.proofs.BlockFormat.{blocks_lawful}
 use Rattle.pcap_parts.specs.declared.cut_ng.NgCut.{NgCut}
 use Rattle.pcap_parts.specs.NgParts.{IsWalked, ResumesAt, bounds_of}
 use Rattle.pcap_parts.specs.Parts.{Passes}
-use Rattle.pcap_parts.proofs.CutSteps.{cuts_begin, cuts_end, cuts_end_with_bytes, cuts_enough, cuts_go_on}
+use Rattle.pcap_parts.proofs.Parted.{parted_begin, parted_end, parted_end_with_bytes, parted_enough, parted_more}
 use Rattle.pcap_parts.proofs.Cutting.{each_push}
 use Rattle.pcap_parts.proofs.Walking.{all_resume_further, place_of, resumes_here, walked_state}
 use Rattle.pcap_parts.proofs.cut_ng.cut_blocks.Goals as goal
@@ -31,14 +31,14 @@ loop-wanted-init c =
     resumes_here bytes q s s q walk.interfaces.items [] walk.header (drop walk.first walk.interfaces.items) cut c.requires.walked walked refl (sym c.cut_at.ensures.at.1)
     (omega (arith, c.cut_at.ensures.at.0, fits)) (omega (arith, c.cut_at.ensures.interfaces.0, c.requires.within)) (omega (arith, c.cut_at.ensures.interfaces.0, c.cut_at.ensures.interfaces.1)) in
     record {
-      so_far = rw (c.in_ok-push.ensures.items, c.new-cuts.ensures.items) (cuts_begin block_format blocks_lawful q s (length bytes) c.args.parts fits cut.at c.cut_at.ensures.at.0 c.cut_at.ensures.at.1);
+      so_far = rw (c.in_ok-push.ensures.items, c.new-cuts.ensures.items) (parted_begin block_format blocks_lawful q s (length bytes) fits c.args.parting c.requires.some cut.at c.cut_at.ensures.at.0 c.cut_at.ensures.at.1);
       walked = c.requires.walked;
       inside = c.requires.within;
       resume = rw (c.in_ok-push.ensures.items, c.new-cuts.ensures.items) (here, tt);
     }
 
-pub returns-in-Some-rest-clause-fair : goal.returns-in-Some-rest-clause-fair
-returns-in-Some-rest-clause-fair c =
+pub returns-in-Some-rest-clause-asked : goal.returns-in-Some-rest-clause-asked
+returns-in-Some-rest-clause-asked c =
     let bytes = c.args.bytes.now in
     let s = c.args.slice.now in
     let walk = c.args.walk.now in
@@ -58,7 +58,7 @@ returns-in-Some-rest-clause-fair c =
     subst (λ (p : State). Passes block_format p left after c.in-Some.wanted passed.items passed.rest) (sym state) tells.passes in
     let p : Passes block_format (state_after block_format q items) left after c.in-Some.wanted passed.items (Some c.in-Some-rest.field-0) =
     subst (λ (r : Option Rest). Passes block_format (state_after block_format q items) left after c.in-Some.wanted passed.items r) c.in-Some-rest.is told in
-    cuts_end block_format blocks_lawful q s (length bytes) c.args.parts fits left after c.loop-wanted.before c.in-Some.wanted passed.items (bounds_of c.loop-wanted.cuts.items) c.in-Some-rest.field-0 inv.so_far
+    parted_end block_format blocks_lawful q s (length bytes) fits c.args.parting c.requires.some left after c.loop-wanted.before c.in-Some.wanted passed.items (bounds_of c.loop-wanted.cuts.items) c.in-Some-rest.field-0 inv.so_far
     c.in-Some.ensures p
 
 pub returns-in-Some-rest-clause-resume : goal.returns-in-Some-rest-clause-resume
@@ -66,8 +66,8 @@ returns-in-Some-rest-clause-resume c =
     all_resume_further c.args.bytes.now (state_of c.args.walk.now.parser) c.args.slice.now c.loop-wanted.walk.interfaces.items c.skip.new.self.interfaces.items c.loop-wanted.cuts.items c.skip.ensures.goes_on
     c.loop-wanted.invariant.resume
 
-pub returns-then-is_empty-clause-fair : goal.returns-then-is_empty-clause-fair
-returns-then-is_empty-clause-fair c =
+pub returns-then-is_empty-clause-asked : goal.returns-then-is_empty-clause-asked
+returns-then-is_empty-clause-asked c =
     let bytes = c.args.bytes.now in
     let s = c.args.slice.now in
     let walk = c.args.walk.now in
@@ -88,7 +88,7 @@ returns-then-is_empty-clause-fair c =
     let empty : length after ≡ 0 = search rules in
     let p : Passes block_format (state_after block_format q items) left after c.in-Some.wanted passed.items None =
     subst (λ (r : Option Rest). Passes block_format (state_after block_format q items) left after c.in-Some.wanted passed.items r) c.in-None.is told in
-    cuts_end_with_bytes block_format blocks_lawful q s (length bytes) c.args.parts fits left after c.loop-wanted.before c.in-Some.wanted passed.items (bounds_of c.loop-wanted.cuts.items) inv.so_far
+    parted_end_with_bytes block_format blocks_lawful q s (length bytes) fits c.args.parting c.requires.some left after c.loop-wanted.before c.in-Some.wanted passed.items (bounds_of c.loop-wanted.cuts.items) inv.so_far
     c.in-Some.ensures p empty
 
 pub returns-then-is_empty-clause-resume : goal.returns-then-is_empty-clause-resume
@@ -123,7 +123,8 @@ loop-wanted-preserved c =
     let then = c.skip.new.self in
     let walked : IsWalked bytes after (state_of then.parser) then.header (drop then.first then.interfaces.items) = rw c.in-None.is at tells.walked in
     let inside : then.first ≤ length then.interfaces.items = rw c.in-None.is at tells.within in
-    let more = cuts_go_on block_format blocks_lawful q s (length bytes) c.args.parts fits left after c.loop-wanted.before c.in-Some.wanted passed.items (bounds_of cuts) x.at inv.so_far c.in-Some.ensures p
+    let some : 0 < length after = search rules in
+    let more = parted_more block_format blocks_lawful q s (length bytes) fits c.args.parting c.requires.some left after c.loop-wanted.before c.in-Some.wanted passed.items (bounds_of cuts) x.at inv.so_far c.in-Some.ensures p some
     tells.few at.at.0 at.at.1 in
     let there : IsWalked bytes after (state_of then.parser) x.header (drop x.first then.interfaces.items) = rw (at.header, at.interfaces.0) walked in
     let one : ResumesAt bytes then.interfaces.items q s x =
@@ -137,9 +138,9 @@ loop-wanted-preserved c =
       resume = rw c.in_ok-push-in-None.ensures.items (each_push (ResumesAt bytes then.interfaces.items q s) cuts x before one);
     }
 
-pub returns-clause-fair : goal.returns-clause-fair
-returns-clause-fair c =
+pub returns-clause-asked : goal.returns-clause-asked
+returns-clause-asked c =
     let bytes = c.args.bytes.now in
     let fits = (place_of bytes c.args.slice.now c.requires.walked.items c.requires.walked.texts).1 in
-    cuts_enough block_format blocks_lawful (state_of c.args.walk.now.parser) c.args.slice.now (length bytes) c.args.parts fits c.loop-wanted.left.now c.loop-wanted.before (bounds_of c.loop-wanted.cuts.items)
+    parted_enough block_format blocks_lawful (state_of c.args.walk.now.parser) c.args.slice.now (length bytes) fits c.args.parting c.loop-wanted.left.now c.loop-wanted.before (bounds_of c.loop-wanted.cuts.items)
     c.loop-wanted.invariant.so_far c.in_default.ensures

@@ -22,5 +22,5 @@ returns-clause-fair c = record {
   first = state_of c.in_ok-after.parser;
   after = c.in_ok-after.after.now;
   opens = c.in_ok-after.ensures.tells;
-  fair = c.in_ok-cuts.ensures.fair;
+  fair = c.in_ok-cuts.ensures.asked;
 }

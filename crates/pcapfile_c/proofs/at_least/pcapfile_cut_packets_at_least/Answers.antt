@@ -14,17 +14,17 @@ pub returns-in-Ok : goal.returns-in-Ok
 returns-in-Ok c =
     let bytes = c.args.capture.now.bytes.now in
     let before = c.args.cuts.now in
-    let now = c.step_packets.new.cuts in
+    let now = c.cut_packets.new.cuts in
     let n = c.max-wanted.result in
     let header = header_of c.in-Ok.parser in
     let f = format_under packet_limit header in
     let after = c.in-Ok.after.now in
-    let cuts = take c.step_packets.result now in
+    let cuts = take c.cut_packets.result now in
     let text : HeaderText header bytes after = c.in-Ok.ensures.tells in
     let front : length bytes - length after ≡ 24 = omega (arith, header_length header bytes after text) in
     let cut : IsCut header cuts bytes =
-    record { after = after; header_text = text; cuts_are = subst (λ (k : ℕ). AreCuts f tt after k (length bytes) cuts) front c.step_packets.ensures.cuts } in
-    let steps : IsCutAtLeast n header cuts bytes = record { after = after; header_text = text; steps = c.step_packets.ensures.steps } in
-    let all : StepsPackets n bytes before now c.step_packets.result =
-    record { header = header; cuts = cuts; cut = cut; steps = steps; filled = (sym (length-take-le c.step_packets.result now c.step_packets.ensures.filled), refl, c.step_packets.ensures.others) } in
+    record { after = after; header_text = text; cuts_are = subst (λ (k : ℕ). AreCuts f tt after k (length bytes) cuts) front c.cut_packets.ensures.cuts } in
+    let steps : IsCutAtLeast n header cuts bytes = record { after = after; header_text = text; steps = c.cut_packets.ensures.asked } in
+    let all : StepsPackets n bytes before now c.cut_packets.result =
+    record { header = header; cuts = cuts; cut = cut; steps = steps; filled = (sym (length-take-le c.cut_packets.result now c.cut_packets.ensures.filled), refl, c.cut_packets.ensures.others) } in
     rw (← c.max-wanted.ensures) (inl (refl, refl, all))

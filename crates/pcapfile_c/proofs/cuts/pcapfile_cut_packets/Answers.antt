@@ -24,7 +24,7 @@ returns-in-Ok c =
     let cut : IsCut header cuts bytes =
     record { after = after; header_text = text; cuts_are = subst (λ (n : ℕ). AreCuts f tt after n (length bytes) cuts) front c.cut_packets.ensures.cuts } in
     let fair : IsCutFairly (length before) header cuts bytes =
-    record { after = after; header_text = text; fair = subst (λ (n : ℕ). AreFair f tt after (length bytes) n (length before) cuts) front c.cut_packets.ensures.fair } in
+    record { after = after; header_text = text; fair = subst (λ (n : ℕ). AreFair f tt after (length bytes) n (length before) cuts) front c.cut_packets.ensures.asked } in
     let all : CutsPackets bytes before now c.cut_packets.result =
     record { header = header; cuts = cuts; cut = cut; fair = fair; filled = (sym (length-take-le c.cut_packets.result now c.cut_packets.ensures.filled), refl, c.cut_packets.ensures.others) } in
     inl (refl, refl, all)
