@@ -2,41 +2,35 @@
 
 use pcap_file::{PcapError, Rule};
 use pcapfile_run::{Checked, End, Format};
+use std::alloc::Global;
 use std::io;
 use std::io::ErrorKind;
-use std::test::Fail;
+use std::test::*;
+use test_support::rows::same;
 
-/// How checks end, and what their lines say of it.
-fn ends() -> [(End, &'static str); 7] {
-    [
-        (End::Whole, "1234 bytes"),
-        (End::Most, "1234 bytes or more"),
-        (End::Short, "cut short at byte 1234"),
-        (
-            End::Breaks(Rule::CaptureMagic),
-            "refused at byte 1234 by rule 1: PcapHeader wrong magic number",
-        ),
-        (End::NotUtf8, "not UTF-8 at byte 1234"),
-        (
-            End::Unread(PcapError::IoError(io::Error::new(ErrorKind::Other, "lost"))),
-            "unread from byte 1234: lost",
-        ),
-        (End::Memory, "no memory at byte 1234"),
-    ]
+// Whether a check of seven blocks and 1234 bytes that ended so has this line.
+fn tells(alloc: Global, end: End, text: &str) -> Result<(), Fail> {
+    let checked = Checked {
+        format: Format::PcapNg,
+        items: 7,
+        bytes: 1234,
+        end,
+    };
+    let line = format!(in alloc; "{checked}")?;
+    let wanted = format!(in alloc; "pcapng, 7 blocks, {text}")?;
+    same(line.as_str(), wanted.as_str())
 }
 
 #[test]
 fn lines(rt: HostRuntime) -> Result<(), Fail> {
-    for (end, text) in ends() {
-        let checked = Checked {
-            format: Format::PcapNg,
-            items: 7,
-            bytes: 1234,
-            end,
-        };
-        let line = format!(in rt.alloc(); "{checked}")?;
-        let wanted = format!(in rt.alloc(); "pcapng, 7 blocks, {text}")?;
-        assert_eq!(rt; line.as_str(), wanted.as_str());
-    }
-    Ok(())
+    let alloc = rt.alloc();
+    let lost = PcapError::IoError(io::Error::new(ErrorKind::Other, "lost"));
+    let magic = "refused at byte 1234 by rule 1: PcapHeader wrong magic number";
+    tells(alloc, End::Whole, "1234 bytes")?;
+    tells(alloc, End::Most, "1234 bytes or more")?;
+    tells(alloc, End::Short, "cut short at byte 1234")?;
+    tells(alloc, End::Breaks(Rule::CaptureMagic), magic)?;
+    tells(alloc, End::NotUtf8, "not UTF-8 at byte 1234")?;
+    tells(alloc, End::Unread(lost), "unread from byte 1234: lost")?;
+    tells(alloc, End::Memory, "no memory at byte 1234")
 }
