@@ -1,0 +1,75 @@
+-- What is told of captures, as JSON.
+use Rattle.std.specs.Prelude.{◌≡◌, ◌+◌, ℕ, List, map, codes, Option, None, Some, option_and_then}
+use Rattle.serde_json.specs.Data.{Data, Members, array, null, number, object, string, unsigned, put}
+use Rattle.serde_json.specs.View.{items_of}
+use Rattle.pcap_times.specs.declared.clock.Timestamp.{Timestamp}
+use Rattle.pcapfile_run.specs.Passing.{counted}
+use Rattle.pcapfile_info.specs.declared.captures.Information.{Information}
+use Rattle.pcapfile_info.specs.declared.tally.Tally.{Tally}
+use Rattle.pcapfile_shown.specs.Texts.{average_of, difference, hundredths_text, per_second, seconds_text, since_1970}
+
+-- a number of JSON
+abbrev pub number_data : ℕ → Data
+number_data n = number (unsigned n)
+
+-- these numbers, in order
+abbrev pub numbers_data : List ℕ → Data
+numbers_data ns = array (items_of (map number_data ns))
+
+-- what is there as JSON has it, and else null
+abbrev pub or_null : (ℕ → Data) → Option ℕ → Data
+or_null shown None = null
+or_null shown (Some n) = shown n
+
+-- nanoseconds, as a text in seconds
+abbrev pub seconds_data : ℕ → Data
+seconds_data n = string (seconds_text n)
+
+-- hundredths, as a text
+abbrev pub hundredths_data : ℕ → Data
+hundredths_data n = string (hundredths_text n)
+
+-- the nanoseconds from 1970 to a time, if there is one
+abbrev pub instant_in : Option Timestamp → Option ℕ
+instant_in = option_and_then since_1970
+
+-- the time from the first to the last of these packets
+abbrev pub duration_in : Tally → Option ℕ
+duration_in tally = difference (instant_in tally.earliest) (instant_in tally.latest)
+
+-- how many hundredths of a unit come in a second, if it is known how long they take
+abbrev pub rate_in : ℕ → Option ℕ → Option ℕ
+rate_in count = option_and_then (per_second count)
+
+-- how many packets there are, and their bytes
+abbrev pub with_amounts : Tally → Members → Members
+with_amounts tally members =
+    put (codes "sizes") (numbers_data tally.sizes)
+    (put (codes "average") (or_null hundredths_data (average_of tally.original tally.packets))
+    (put (codes "stored") (number_data tally.stored)
+    (put (codes "original") (number_data tally.original)
+    (put (codes "packets") (number_data tally.packets) members))))
+
+-- from when to when there are packets
+abbrev pub with_times : Tally → Members → Members
+with_times tally members =
+    put (codes "duration") (or_null seconds_data (duration_in tally))
+    (put (codes "latest") (or_null seconds_data (instant_in tally.latest))
+    (put (codes "earliest") (or_null seconds_data (instant_in tally.earliest)) members))
+
+-- how many packets and bytes come in a second
+abbrev pub with_rates : Tally → Members → Members
+with_rates tally members =
+    put (codes "bytes_per_second") (or_null hundredths_data (rate_in tally.original (duration_in tally)))
+    (put (codes "packets_per_second") (or_null hundredths_data (rate_in tally.packets (duration_in tally))) members)
+
+-- what is counted of these packets
+abbrev pub with_figures : Tally → Members → Members
+with_figures tally members = with_rates tally (with_times tally (with_amounts tally members))
+
+-- what is told of a capture has the figures of its packets, beside how its file is made
+abbrev pub Tells : Information → Data → Type 0
+Tells told shown =
+    (made : Members) × (shown ≡ object (with_figures told.totals.all
+    (put (codes "refused") (number_data told.totals.refused)
+    (put (codes "sections") (number_data (counted (told.totals.sections + 1))) made))))

@@ -1,0 +1,145 @@
+//! What is counted of packets, as JSON.
+
+ghost use Rattle.std.specs.Prelude.{◌≡◌, option_map, option_and_then, OnOk, IfOk};
+ghost use Rattle.serde_json.specs.View.{members_view, view};
+ghost use Rattle.pcapfile_shown.specs.Json.{duration_in, hundredths_data, instant_in, numbers_data, or_null, rate_in, seconds_data, with_amounts, with_rates, with_times};
+
+use crate::rate::{
+    Hundredths, Seconds, duration_of, hundredths_of, hundredths_per_second, seconds_since_1970,
+};
+use pcap_file::pcapng::Timestamp;
+use pcapfile_info::{Spread, Tally};
+use serde_json::{Map, Value, push, put};
+use std::alloc::{AllocError, Global};
+
+// These numbers, in order.
+#[tactic(auto, using(crate::proofs::Numbers::numbers_more))]
+fn numbers(alloc: Global, counts: &[u64]) -> Result<Value, AllocError>
+    ensures { IfOk result (λ v. view v ≡ numbers_data counts.now) }
+{
+    let mut values = Vec::new(alloc);
+    for count in counts.iter() {
+        push(&mut values, Value::from(*count))?;
+    }
+    Ok(Value::Array(values))
+}
+
+fn seconds_or_null(alloc: Global, time: Option<Seconds>) -> Result<Value, AllocError>
+    ensures { IfOk result (λ v. view v ≡ or_null seconds_data (option_map (λ s. s.0) time)) }
+{
+    match time {
+        None => Ok(Value::Null),
+        Some(time) => Ok(Value::String(time.to_string(alloc)?)),
+    }
+}
+
+fn hundredths_or_null(alloc: Global, hundredths: Option<Hundredths>) -> Result<Value, AllocError>
+    ensures { IfOk result (λ v. view v ≡ or_null hundredths_data (option_map (λ h. h.0) hundredths)) }
+{
+    match hundredths {
+        None => Ok(Value::Null),
+        Some(hundredths) => Ok(Value::String(hundredths.to_string(alloc)?)),
+    }
+}
+
+// The time from 1970 to this one, if there is one.
+fn seconds_at(time: Option<Timestamp>) -> Option<Seconds>
+    ensures { option_map (λ s. s.0) result ≡ instant_in time }
+{
+    match time {
+        None => None,
+        Some(time) => seconds_since_1970(time),
+    }
+}
+
+// The time from the first to the last of these packets.
+fn duration_of_all(tally: &Tally) -> Option<Seconds>
+    ensures { option_map (λ s. s.0) result ≡ duration_in tally.now }
+{
+    match (tally.earliest, tally.latest) {
+        (Some(earliest), Some(latest)) => duration_of(earliest, latest),
+        _ => None,
+    }
+}
+
+// How many hundredths of a unit come in a second, if it is known how long so many take.
+fn rate_of(count: u64, duration: Option<Seconds>) -> Option<Hundredths>
+    ensures { option_map (λ h. h.0) result ≡ rate_in count (option_map (λ s. s.0) duration) }
+{
+    match duration {
+        None => None,
+        Some(duration) => hundredths_per_second(count, duration),
+    }
+}
+
+// How many packets there are, and their bytes.
+fn put_amounts(map: &mut Map<String, Value>, alloc: Global, tally: &Tally) -> Result<(), AllocError>
+    ensures { OnOk result (members_view map.new.entries ≡ with_amounts tally.now (members_view map.old.entries)) }
+{
+    let average = hundredths_of(tally.original, tally.packets);
+    let sizes = numbers(alloc, &tally.sizes)?;
+    let average = hundredths_or_null(alloc, average)?;
+    put(map, alloc, "packets", Value::from(tally.packets))?;
+    put(map, alloc, "original", Value::from(tally.original))?;
+    put(map, alloc, "stored", Value::from(tally.stored))?;
+    put(map, alloc, "average", average)?;
+    put(map, alloc, "sizes", sizes)
+}
+
+// From when to when there are packets.
+fn put_times(map: &mut Map<String, Value>, alloc: Global, tally: &Tally) -> Result<(), AllocError>
+    ensures { OnOk result (members_view map.new.entries ≡ with_times tally.now (members_view map.old.entries)) }
+{
+    let earliest = seconds_or_null(alloc, seconds_at(tally.earliest))?;
+    let latest = seconds_or_null(alloc, seconds_at(tally.latest))?;
+    let duration = seconds_or_null(alloc, duration_of_all(tally))?;
+    put(map, alloc, "earliest", earliest)?;
+    put(map, alloc, "latest", latest)?;
+    put(map, alloc, "duration", duration)
+}
+
+// How many packets and bytes come in a second.
+fn put_rates(map: &mut Map<String, Value>, alloc: Global, tally: &Tally) -> Result<(), AllocError>
+    ensures { OnOk result (members_view map.new.entries ≡ with_rates tally.now (members_view map.old.entries)) }
+{
+    let duration = duration_of_all(tally);
+    let packets = hundredths_or_null(alloc, rate_of(tally.packets, duration))?;
+    let bytes = hundredths_or_null(alloc, rate_of(tally.original, duration))?;
+    put(map, alloc, "packets_per_second", packets)?;
+    put(map, alloc, "bytes_per_second", bytes)
+}
+
+// How packets are spread over time: an object with the width of each span in nanoseconds, the number of the first span from 1970
+// on, and how many packets lie in each.
+fn over_time(alloc: Global, spread: &Spread) -> Result<Value, AllocError> {
+    let mut packets = Vec::new(alloc);
+    for span in spread.first..=spread.last {
+        push(&mut packets, Value::from(spread.packets_in(span)))?;
+    }
+    let mut map = Map::new(alloc);
+    put(&mut map, alloc, "width", Value::from(spread.width))?;
+    put(&mut map, alloc, "first", Value::from(spread.first))?;
+    put(&mut map, alloc, "packets", Value::Array(packets))?;
+    Ok(Value::Object(map))
+}
+
+/// Puts what is counted of packets.
+pub(crate) fn put_figures(
+    map: &mut Map<String, Value>,
+    alloc: Global,
+    tally: &Tally,
+) -> Result<(), AllocError>
+    ensures { OnOk result (members_view map.new.entries ≡ with_rates tally.now (with_times tally.now (with_amounts tally.now (members_view map.old.entries)))) }
+{
+    put_amounts(map, alloc, tally)?;
+    put_times(map, alloc, tally)?;
+    put_rates(map, alloc, tally)
+}
+
+/// How packets are spread over time, or null where none has a time.
+pub(crate) fn spread_or_null(alloc: Global, spread: &Option<Spread>) -> Result<Value, AllocError> {
+    match spread {
+        None => Ok(Value::Null),
+        Some(spread) => over_time(alloc, spread),
+    }
+}

@@ -1,0 +1,44 @@
+//! How packets are spread over time.
+
+use pcapfile_info::Spread;
+use std::fmt;
+
+/// How packets are spread over time: a sign for each span, which is the higher the more packets lie there.
+#[derive(Clone, Copy)]
+pub(crate) struct OverTime<'a>(pub(crate) &'a Spread);
+
+// The sign of so many packets, where the span with the most has so many: a blank for none, and for others one of eight heights.
+fn sign_of(packets: u64, most: u64) -> &'static str {
+    if packets == 0 || most == 0 {
+        return " ";
+    }
+    match (u128::from(packets) * 8 + u128::from(most) - 1) / u128::from(most) {
+        1 => "▁",
+        2 => "▂",
+        3 => "▃",
+        4 => "▄",
+        5 => "▅",
+        6 => "▆",
+        7 => "▇",
+        _ => "█",
+    }
+}
+
+fn most_packets(spread: &Spread) -> u64 {
+    let mut most = 0;
+    for packets in spread.packets.iter() {
+        most = (*packets).max(most);
+    }
+    most
+}
+
+impl fmt::Display for OverTime<'_> {
+    fn fmt<W: fmt::Write>(&self, f: &mut fmt::Formatter<W>) -> fmt::Result {
+        let spread = self.0;
+        let most = most_packets(spread);
+        for span in spread.first..=spread.last {
+            f.write_str(sign_of(spread.packets_in(span), most))?;
+        }
+        Ok(())
+    }
+}

@@ -1,0 +1,116 @@
+//! What is told of a capture.
+
+use crate::figures::Figures;
+use crate::interfaces::Interfaces;
+use pcap_file::pcap::PcapHeader;
+use pcap_file::{Endianness, TsResolution};
+use pcapfile_info::{Information, Opened};
+use std::fmt;
+
+/// What is told of a capture of this name, in lines: what a check finds of it, how its file is made, its figures, and its
+/// interfaces.
+#[derive(Clone, Copy)]
+pub struct Report<'a> {
+    /// The capture's name.
+    pub name: &'a str,
+    /// What is told of it.
+    pub information: &'a Information,
+}
+
+/// How a classic capture is made.
+#[derive(Clone, Copy)]
+struct Header<'a>(&'a PcapHeader);
+
+/// How a capture of blocks is made.
+#[derive(Clone, Copy)]
+struct Sections<'a> {
+    information: &'a Information,
+    opened: Opened,
+}
+
+pub(crate) fn order_name(order: Endianness) -> &'static str {
+    match order {
+        Endianness::Big => "big-endian",
+        Endianness::Little => "little-endian",
+    }
+}
+
+pub(crate) fn resolution_name(resolution: TsResolution) -> &'static str {
+    match resolution {
+        TsResolution::MicroSecond => "microseconds",
+        TsResolution::NanoSecond => "nanoseconds",
+    }
+}
+
+impl fmt::Display for Header<'_> {
+    fn fmt<W: fmt::Write>(&self, f: &mut fmt::Formatter<W>) -> fmt::Result {
+        let header = self.0;
+        if !header.has_valid_magic() {
+            return Ok(());
+        }
+        let order = order_name(header.endianness());
+        let resolution = resolution_name(header.ts_resolution());
+        let major = header.version_major;
+        let minor = header.version_minor;
+        let link = header.datalink;
+        let link_number = u32::from(link);
+        let snaplen = header.snaplen;
+        writeln!(
+            f,
+            "  File type:         pcap {major}.{minor}, {order}, times in {resolution}"
+        )?;
+        writeln!(f, "  Link type:         {link:?} ({link_number})")?;
+        writeln!(f, "  Packet size limit: {snaplen} bytes")
+    }
+}
+
+impl fmt::Display for Sections<'_> {
+    fn fmt<W: fmt::Write>(&self, f: &mut fmt::Formatter<W>) -> fmt::Result {
+        let opened = self.opened;
+        let major = opened.major_version;
+        let minor = opened.minor_version;
+        let order = order_name(opened.order);
+        let told = self.information;
+        let sections = told.totals.sections.saturating_add(1);
+        let interfaces = told.described.len();
+        let refused = told.totals.refused;
+        let undescribed = told.totals.undescribed.packets;
+        writeln!(f, "  File type:         pcapng {major}.{minor}, {order}")?;
+        writeln!(f, "  Sections:          {sections}")?;
+        writeln!(f, "  Interfaces:        {interfaces}")?;
+        if refused > 0 {
+            writeln!(f, "  Refused packets:   {refused}")?;
+        }
+        if undescribed > 0 {
+            writeln!(f, "  No interface:      {undescribed} packets")?;
+        }
+        Ok(())
+    }
+}
+
+impl fmt::Display for Report<'_> {
+    fn fmt<W: fmt::Write>(&self, f: &mut fmt::Formatter<W>) -> fmt::Result {
+        let name = self.name;
+        let told = self.information;
+        let checked = &told.checked;
+        writeln!(f, "{name}: {checked}")?;
+        if let Some(header) = &told.header {
+            let header = Header(header);
+            write!(f, "{header}")?;
+        }
+        if let Some(opened) = told.opened {
+            let information = told;
+            let sections = Sections {
+                information,
+                opened,
+            };
+            write!(f, "{sections}")?;
+        }
+        for comment in told.comments.iter() {
+            writeln!(f, "  Comment:           {comment:?}")?;
+        }
+        let figures = Figures(&told.totals.all);
+        let interfaces = Interfaces(told);
+        write!(f, "{figures}{interfaces}")
+    }
+}

@@ -1,0 +1,176 @@
+//! What is told of captures, as JSON.
+
+ghost use Rattle.std.specs.Prelude.{◌≡◌, IfOk, string_bytes};
+ghost use Rattle.serde_json.specs.Data.{Data, Members};
+ghost use Rattle.serde_json.specs.View.{view};
+ghost use Rattle.pcapfile_shown.specs.Json.{Tells};
+
+use crate::json::{put_figures, spread_or_null};
+use crate::report::{order_name, resolution_name};
+use pcap_core::DataLink;
+use pcap_file::pcap::PcapHeader;
+use pcapfile_info::{Described, Information, Opened, Tally};
+use pcapfile_run::Format;
+use serde_json::{Map, Value, push, put};
+use std::alloc::{AllocError, Global};
+
+fn format_name(format: Format) -> &'static str {
+    match format {
+        Format::Pcap => "pcap",
+        Format::PcapNg => "pcapng",
+    }
+}
+
+// These texts, in order.
+fn texts(alloc: Global, texts: &[String]) -> Result<Value, AllocError> {
+    let mut values = Vec::new(alloc);
+    for text in texts.iter() {
+        push(&mut values, Value::try_from_str(alloc, text.as_str())?)?;
+    }
+    Ok(Value::Array(values))
+}
+
+fn text_or_null(alloc: Global, text: &Option<String>) -> Result<Value, AllocError> {
+    match text {
+        None => Ok(Value::Null),
+        Some(text) => Value::try_from_str(alloc, text.as_str()),
+    }
+}
+
+// The number of a link type, and its name.
+fn put_link(map: &mut Map<String, Value>, alloc: Global, link: DataLink) -> Result<(), AllocError> {
+    let name = format!(in alloc; "{link:?}")?;
+    put(map, alloc, "link", Value::from(u32::from(link)))?;
+    put(map, alloc, "link_name", Value::String(name))
+}
+
+// How a classic capture is made.
+fn put_header(
+    map: &mut Map<String, Value>,
+    alloc: Global,
+    header: &PcapHeader,
+) -> Result<(), AllocError> {
+    let major = header.version_major;
+    let minor = header.version_minor;
+    let version = format!(in alloc; "{major}.{minor}")?;
+    put(map, alloc, "version", Value::String(version))?;
+    put(map, alloc, "snaplen", Value::from(header.snaplen))?;
+    put_link(map, alloc, header.datalink)?;
+    if !header.has_valid_magic() {
+        return Ok(());
+    }
+    let order = Value::try_from_str(alloc, order_name(header.endianness()))?;
+    let resolution = Value::try_from_str(alloc, resolution_name(header.ts_resolution()))?;
+    put(map, alloc, "order", order)?;
+    put(map, alloc, "resolution", resolution)
+}
+
+// How a capture of blocks is made.
+fn put_opened(
+    map: &mut Map<String, Value>,
+    alloc: Global,
+    opened: Opened,
+) -> Result<(), AllocError> {
+    let major = opened.major_version;
+    let minor = opened.minor_version;
+    let version = format!(in alloc; "{major}.{minor}")?;
+    let order = Value::try_from_str(alloc, order_name(opened.order))?;
+    put(map, alloc, "version", Value::String(version))?;
+    put(map, alloc, "order", order)
+}
+
+// How an interface is described, and what is counted of its packets.
+fn interface(alloc: Global, described: &Described, tally: &Tally) -> Result<Value, AllocError> {
+    let mut map = Map::new(alloc);
+    put(&mut map, alloc, "section", Value::from(described.section))?;
+    put(&mut map, alloc, "number", Value::from(described.number))?;
+    put(&mut map, alloc, "snaplen", Value::from(described.snaplen))?;
+    put(
+        &mut map,
+        alloc,
+        "name",
+        text_or_null(alloc, &described.name)?,
+    )?;
+    put(
+        &mut map,
+        alloc,
+        "comments",
+        texts(alloc, described.comments.as_slice())?,
+    )?;
+    put_link(&mut map, alloc, described.link)?;
+    put_figures(&mut map, alloc, tally)?;
+    put(
+        &mut map,
+        alloc,
+        "over_time",
+        spread_or_null(alloc, &tally.spread)?,
+    )?;
+    Ok(Value::Object(map))
+}
+
+fn interfaces(alloc: Global, told: &Information) -> Result<Value, AllocError> {
+    let mut values = Vec::new(alloc);
+    for (described, tally) in told.described.iter().zip(told.totals.interfaces.iter()) {
+        push(&mut values, interface(alloc, described, tally)?)?;
+    }
+    Ok(Value::Array(values))
+}
+
+// What a check finds, and how the file is made.
+fn put_file(
+    map: &mut Map<String, Value>,
+    alloc: Global,
+    name: &str,
+    told: &Information,
+) -> Result<(), AllocError> {
+    let checked = &told.checked;
+    let check = format!(in alloc; "{checked}")?;
+    put(map, alloc, "file", Value::try_from_str(alloc, name)?)?;
+    put(
+        map,
+        alloc,
+        "format",
+        Value::try_from_str(alloc, format_name(checked.format))?,
+    )?;
+    put(map, alloc, "check", Value::String(check))?;
+    put(map, alloc, "status", Value::from(checked.status()))?;
+    put(map, alloc, "bytes", Value::from(checked.bytes))?;
+    if let Some(header) = &told.header {
+        put_header(map, alloc, header)?;
+    }
+    if let Some(opened) = told.opened {
+        put_opened(map, alloc, opened)?;
+    }
+    Ok(())
+}
+
+/// What is told of a capture of this name, as an object of JSON.
+pub fn told_of(alloc: Global, name: &str, told: &Information) -> Result<Value, AllocError>
+    ensures { IfOk result (λ v. Tells told.now (view v)) }
+{
+    let mut map = Map::new(alloc);
+    put_file(&mut map, alloc, name, told)?;
+    put(
+        &mut map,
+        alloc,
+        "comments",
+        texts(alloc, told.comments.as_slice())?,
+    )?;
+    put(&mut map, alloc, "interfaces", interfaces(alloc, told)?)?;
+    put(
+        &mut map,
+        alloc,
+        "over_time",
+        spread_or_null(alloc, &told.totals.all.spread)?,
+    )?;
+    let sections = told.totals.sections.saturating_add(1);
+    put(&mut map, alloc, "sections", Value::from(sections))?;
+    put(&mut map, alloc, "refused", Value::from(told.totals.refused))?;
+    put_figures(&mut map, alloc, &told.totals.all)?;
+    Ok(Value::Object(map))
+}
+
+/// The same as text, in one line.
+pub fn json_of(alloc: Global, name: &str, told: &Information) -> Result<String, AllocError> {
+    told_of(alloc, name, told)?.to_string(alloc)
+}
