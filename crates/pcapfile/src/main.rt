@@ -7,6 +7,7 @@ mod check;
 mod check_as_is;
 mod convert;
 mod cut;
+mod info;
 mod input;
 mod join;
 mod list;
@@ -152,6 +153,11 @@ fn run(rt: &HostRuntime) -> anyhow::Result<u8> {
         }
         Some(("convert", words)) => convert::convert_file(rt, &conversion(words)),
         Some(("cut", words)) => cut_out(rt, words),
+        Some(("info", info)) => info::inform_files(
+            rt,
+            info.get_strs(words::FILES).unwrap_or_default(),
+            info.get_flag(words::JSON),
+        ),
         Some(("join", words)) => join_parts(rt, words),
         Some(("list", list)) => {
             let names = list.get_strs(words::FILES).unwrap_or_default();

@@ -40,6 +40,9 @@ pub(crate) const BYTES: &str = "bytes";
 /// The name of reading captures as they stand.
 pub(crate) const AS_IS: &str = "as-is";
 
+/// The name of telling it as JSON.
+pub(crate) const JSON: &str = "json";
+
 /// The name of where the other one goes.
 pub(crate) const OUT: &str = "output";
 
@@ -64,6 +67,20 @@ const CHECK: &str =
 With --as-is a packet that breaks a rule has a line for each, with its index and the byte where it
 stands, and the check goes on behind it. A packet of more than 16777216 bytes ends it, since where
 such a packet ends can't be trusted. Of PcapNg nothing is read so yet.";
+
+const INFO: &str =
+    "Tells of each capture what it holds: packets, bytes, times, rates, sizes, and how packets are spread over time.
+
+The first line is that of check. Sizes and rates are those of the packets on the wire; a line of sizes
+has its bar, and each sign of the last line is a span of time, the higher the more packets lie there.
+Behind these the interfaces of PcapNg follow, with the same figures of each where there are several.
+A packet whose body is refused is counted as such alone. Names and comments stand in quotes.
+
+With --json each capture is an object on a line of its own: file, format, check, status, bytes,
+packets, original and stored (their bytes), average, sizes (how many have less than 20 bytes, 40, 80
+and so on), earliest, latest and duration in seconds, packets_per_second, bytes_per_second, over_time
+(width of a span in nanoseconds, number of the first, packets of each), sections, refused, comments
+and interfaces with the same figures. What has decimals is a text; what isn't known is null.";
 
 const LIST: &str =
     "Writes a line for each packet: index, time, stored/original length, and of PcapNg the interface.
@@ -136,6 +153,7 @@ pub(crate) fn command<'a>(alloc: Global) -> Result<Command<'a>, AllocError> {
         .subcommand_required(true)
         .arg_required_else_help(true)
         .subcommand(check(alloc)?)?
+        .subcommand(info(alloc)?)?
         .subcommand(list(alloc)?)?
         .subcommand(convert(alloc)?)?
         .subcommand(cut(alloc)?)?
@@ -150,6 +168,14 @@ fn check<'a>(alloc: Global) -> Result<Command<'a>, AllocError> {
         .after_help(STATUSES)
         .arg(files(alloc))?
         .arg(as_is(alloc))
+}
+
+fn info<'a>(alloc: Global) -> Result<Command<'a>, AllocError> {
+    Command::new(alloc, "info")
+        .about(INFO)
+        .after_help(STATUSES)
+        .arg(files(alloc))?
+        .arg(json(alloc))
 }
 
 fn list<'a>(alloc: Global) -> Result<Command<'a>, AllocError> {
@@ -279,6 +305,13 @@ fn as_is<'a>(alloc: Global) -> Arg<'a> {
         .long("as-is")
         .action(ArgAction::SetTrue)
         .help(AS_IS_HELP)
+}
+
+fn json<'a>(alloc: Global) -> Arg<'a> {
+    Arg::new(alloc, JSON)
+        .long(JSON)
+        .action(ArgAction::SetTrue)
+        .help("An object of JSON for each capture")
 }
 
 fn files<'a>(alloc: Global) -> Arg<'a> {

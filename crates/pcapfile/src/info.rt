@@ -1,0 +1,62 @@
+//! The word `info`.
+
+use crate::input::{buffered, open_stream};
+use crate::tell::{tell_error, tell_io};
+use capcopy_run::Uninterrupted;
+use pcap_file::PcapError;
+use pcapfile_info::{Information, inform_blocks, inform_packets};
+use pcapfile_run::{End, Format, format_of};
+use pcapfile_shown::{Report, json_of};
+use std::io::{BufWriter, Write};
+
+/// The size of the buffer before standard output, in bytes.
+const OUTPUT: usize = 65_536;
+
+/// Writes what is told of each capture, and gives the status: that of the worst of them.
+pub(crate) fn inform_files(rt: &HostRuntime, names: &[&str], as_json: bool) -> anyhow::Result<u8> {
+    let stdout = Uninterrupted::new(rt.stdout());
+    let mut output = BufWriter::with_capacity(rt.alloc(), OUTPUT, stdout)?;
+    let mut status = 0;
+    for name in names {
+        let told = match inform(rt, name) {
+            Ok(information) => write_told(rt, name, &information, as_json, &mut output)?,
+            Err(error) => tell_error(rt, name, &error)?,
+        };
+        status = told.max(status);
+    }
+    Ok(status)
+}
+
+fn inform(rt: &HostRuntime, name: &str) -> Result<Information, PcapError> {
+    let mut input = buffered(rt.alloc(), open_stream(rt, name)?)?;
+    match format_of(&mut input)? {
+        Format::Pcap => Ok(inform_packets(rt.alloc(), input)?),
+        Format::PcapNg => Ok(inform_blocks(rt.alloc(), input)?),
+    }
+}
+
+// Writes what is told of a capture. Of one that can't be read to its end it is only said on standard error why.
+fn write_told<W: Write>(
+    rt: &HostRuntime,
+    name: &str,
+    information: &Information,
+    as_json: bool,
+    output: &mut W,
+) -> anyhow::Result<u8> {
+    let checked = &information.checked;
+    if let End::Unread(_) | End::Memory = &checked.end {
+        eprintln!(rt; "pcapfile: {name}: {checked}")?;
+        return Ok(checked.status());
+    }
+    if as_json {
+        match json_of(rt.alloc(), name, information) {
+            Ok(line) => writeln!(output, "{line}")?,
+            Err(error) => return tell_error(rt, name, &PcapError::from(error)),
+        }
+    } else {
+        let report = Report { name, information };
+        write!(output, "{report}")?;
+    }
+    output.flush()?;
+    Ok(checked.status())
+}
