@@ -93,22 +93,26 @@ class Reading:
     def __init__(self):
         self.order, self.interfaces = None, []
 
-    def told(self, block):
-        """What a block is: its type, what is wrong with it, and of a packet its time."""
+    def flaws_of(self, block):
+        """What is wrong with the body of a section or an interface, which is in force from then on."""
         body = Left(block.body, block.order)
         if block.number == SECTION:
             flaws = section(body)
             self.order, self.interfaces = block.order, []
-        elif self.order is None:
+            return flaws
+        if self.order is None:
             raise rule("SectionHeader missing")
-        elif block.number == INTERFACE:
-            kept, flaws = interface(body)
-            self.interfaces.append(kept)
-        else:
-            flaws = []
-        text = f"{block_type(block.number)} {shown(flaws)}"
+        if block.number != INTERFACE:
+            return []
+        kept, flaws = interface(body)
+        self.interfaces.append(kept)
+        return flaws
+
+    def told(self, block):
+        """What a block is: its type, what is wrong with it, and of a packet its time."""
+        text = f"{block_type(block.number)} {shown(self.flaws_of(block))}"
         if block.number == ENHANCED:
-            wrong, time = enhanced(body, self.interfaces)
+            wrong, time = enhanced(Left(block.body, block.order), self.interfaces)
             text += f" {shown(wrong)} {shown_time(time)}"
         return text
 
@@ -128,3 +132,23 @@ def told(bytes_):
             words.append(str(why))
             break
     return "; ".join(words)
+
+
+def run_told(bytes_):
+    """What is told of a run over a capture: how many blocks there are and how many of them have flaws, the first of these with its
+    place, how many bytes all take, and what follows."""
+    left, reading, flaws, ends = Left(bytes_, "big"), Reading(), [], [0]
+    end = "clean"
+    while left or not flaws:
+        try:
+            left.order = reading.order or "big"
+            flaws.append(reading.flaws_of(frame(left)))
+            ends.append(len(bytes_) - len(left))
+        except (Lacks, Refused) as why:
+            end = str(why)
+            break
+    if not flaws:
+        return end
+    flawed = [number for number, wrong in enumerate(flaws) if wrong]
+    first = f"{flawed[0]} at {ends[flawed[0]]}" if flawed else "none"
+    return f"{len(flaws)} blocks, {len(flawed)} flawed, first {first}, {ends[-1]} bytes, {end}"

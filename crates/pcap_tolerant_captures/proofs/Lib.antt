@@ -1,3 +1,5 @@
 pub mod Format
 pub mod Strict
 mod Refusing
+mod StrictRuns
+mod FirstFlaw

@@ -1,3 +1,5 @@
 pub mod State
 pub mod Blocks
 pub mod Strict
+pub mod Run
+pub mod StrictRun

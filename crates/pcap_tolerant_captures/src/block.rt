@@ -23,6 +23,15 @@ pub struct BlockAsIs<'a> {
 }
 
 impl<'a> BlockAsIs<'a> {
+    ghost use Rattle.pcap_tolerant_captures.specs.Run.{is_flawed};
+
+    /// Whether something is wrong with the body, where that is a section's or an interface's.
+    pub fn is_flawed(&self) -> bool
+        ensures { result ≡ is_flawed self.now }
+    {
+        !self.flaws.is_empty()
+    }
+
     /// The enhanced packet that the body is as it stands, with what is wrong with it. None where the block is of another type.
     ///
     /// `AllocError` where a list can't grow.

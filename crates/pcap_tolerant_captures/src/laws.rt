@@ -1,14 +1,16 @@
 //! Laws of blocks as they stand. Each contract is the law.
 
-ghost use Rattle.std.specs.Prelude.{◌≡◌, ◌≤◌, ℕ, List, [], ◌∷◌, length};
+ghost use Rattle.std.specs.Prelude.{◌≡◌, ◌≤◌, ◌++◌, ℕ, List, [], ◌∷◌, length, All};
 ghost use Rattle.pcap_core.specs.Answer.{Verdict};
 ghost use Rattle.pcap_core.specs.Format.{Asks, Front, IsLawful};
 ghost use Rattle.pcap_core.specs.Laws.{ExactlyOne, IsStable};
 ghost use Rattle.pcap_file.specs.Blocks as strict_blocks;
 ghost use Rattle.pcap_file.specs.State as strict;
 ghost use Rattle.pcap_tolerant_captures.specs.Blocks.{Item, AsIsText, AsIsSays, as_is_format};
-ghost use Rattle.pcap_tolerant_captures.specs.State.{State};
+ghost use Rattle.pcap_tolerant_blocks.specs.Flaws.{Said};
+ghost use Rattle.pcap_tolerant_captures.specs.State.{State, opening};
 ghost use Rattle.pcap_tolerant_captures.specs.Strict.{StrictIs, as_it_stands};
+ghost use Rattle.pcap_tolerant_captures.specs.StrictRun.{IsSound, StrictFrontIs, StrictEndsAt};
 
 /// Blocks as they stand are a format: of all bytes one thing is said, more bytes change nothing, a text is its own, and a request
 /// is the head's, or else the last.
@@ -42,4 +44,17 @@ pub fn blocks_as_they_stand_are_asked_for_twice()
 pub fn strict_block_is()
     ensures { (q : strict.State) (s : List ℕ) (a : Verdict Item) (v : Verdict strict_blocks.Item) →
         AsIsSays (as_it_stands q) s a → strict_blocks.BlockSays q s v → StrictIs q a v }
+{}
+
+/// Where no block of a capture has a flaw, its strict front is the one as it stands: the same blocks, the same section and interfaces
+/// in force after them, and the same rest.
+pub fn capture_without_flaws_is_strict()
+    ensures { (items : List Item) (s left : List ℕ) → Front as_is_format opening items s left → All IsSound items → StrictFrontIs items s left }
+{}
+
+/// Where a block has a flaw, the strict front of a capture is the blocks before the first such block, and the strict reading refuses
+/// that block by its first flaw.
+pub fn strict_capture_ends_at_the_first_flaw()
+    ensures { (before : List Item) (flawed : Item) (others : List Item) (first : Said) (more : List Said) (s left : List ℕ) →
+        Front as_is_format opening (before ++ flawed ∷ others) s left → All IsSound before → flawed.led.flaws ≡ first ∷ more → StrictEndsAt before first.fault s }
 {}

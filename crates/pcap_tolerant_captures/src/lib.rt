@@ -8,6 +8,8 @@ mod block;
 mod kept;
 pub mod laws;
 mod parser;
+mod run;
 
 pub use block::BlockAsIs;
 pub use parser::{OpenedAsIs, PcapNgParserAsIs};
+pub use run::{FlawedAt, NgRunAsIs, parse_pcapng_as_is};

@@ -25,7 +25,7 @@ fn told_block(alloc: Global, parser: &PcapNgParserAsIs, item: &BlockAsIs) -> Res
 }
 
 // Why there is no block, as the rows have it.
-fn told_end(alloc: Global, error: &PcapError) -> Result<String, Fail> {
+pub(crate) fn told_end(alloc: Global, error: &PcapError) -> Result<String, Fail> {
     match error {
         PcapError::IncompleteBuffer(n) => Ok(format!(in alloc; "needs {n}")?),
         PcapError::InvalidField(message) => Ok(format!(in alloc; "invalid {message}")?),

@@ -7,6 +7,8 @@ mod again;
 #[cfg(test)]
 mod block_rows;
 #[cfg(test)]
+mod block_runs;
+#[cfg(test)]
 mod blocks;
 #[cfg(test)]
 mod interfaces;
@@ -14,6 +16,8 @@ mod interfaces;
 mod options;
 #[cfg(test)]
 mod packets;
+#[cfg(test)]
+mod run_rows;
 #[cfg(test)]
 mod runs;
 #[cfg(test)]
