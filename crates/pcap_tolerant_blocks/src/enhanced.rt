@@ -1,6 +1,7 @@
 //! Enhanced packets as they stand.
 
-ghost use Rattle.std.specs.Prelude.{◌≡◌, ◌≤◌, ◌+◌, length, IfOk};
+ghost use Rattle.std.specs.Prelude.{◌≡◌, ◌≤◌, ◌+◌, length, IfOk, IfSome};
+ghost use Rattle.pcap_core.specs.Bytes.{IsBorrowed};
 ghost use Rattle.pcap_blocks.specs.EnhancedPacket.{enhanced_packet, enhanced_entry};
 ghost use Rattle.pcap_blocks.specs.Time.{TimeText};
 ghost use Rattle.pcap_tolerant_blocks.specs.EnhancedAsIs.{EnhancedText, enhanced_in, flaws_said};
@@ -35,6 +36,7 @@ impl<'a> EnhancedAsIs<'a> {
         slice: &'a [u8],
     ) -> Result<(&'a [u8], Self), AllocError>
         ensures read { IfOk result (λ x. EnhancedText B.number_of (enhanced_in x.1) (flaws_said x.1) slice.now x.0.now) }
+        ensures borrowed { IfOk result (λ x. IfSome x.1.packet (λ packet. IsBorrowed packet.data_)) }
     {
         if slice.len() < 20 {
             let flaws = Flaw::alone(alloc, Rule::EnhancedTooShort)?;

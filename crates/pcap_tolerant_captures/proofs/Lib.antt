@@ -1,5 +1,5 @@
 pub mod Format
 pub mod Strict
-mod Refusing
+pub mod Refusing
 mod StrictRuns
 mod FirstFlaw
