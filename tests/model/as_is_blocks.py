@@ -152,3 +152,36 @@ def run_told(bytes_):
     flawed = [number for number, wrong in enumerate(flaws) if wrong]
     first = f"{flawed[0]} at {ends[flawed[0]]}" if flawed else "none"
     return f"{len(flaws)} blocks, {len(flawed)} flawed, first {first}, {ends[-1]} bytes, {end}"
+
+
+def row(bytes_, order, count):
+    """Whether so many blocks stand in a row in front of these bytes, each in the order of the one before it, or fewer, at least one,
+    to their end. A section header that gives no order is none."""
+    if count == 0:
+        return True
+    left = Left(bytes_, order)
+    try:
+        block = frame(left)
+        if block.number == SECTION:
+            section(Left(block.body, block.order))
+    except (Lacks, Refused):
+        return False
+    return not left or row(left.bytes, block.order, count - 1)
+
+
+def header(bytes_):
+    """Whether a section header stands in front of these bytes."""
+    return bytes_.startswith(SECTION.to_bytes(4, "big")) and row(bytes_, "big", 1)
+
+
+def again_told(bytes_):
+    """Where blocks stand again behind the first one, by rows of one, of two and of three, or a section header; and where one does."""
+    left = Left(bytes_, "big")
+    order, behind = frame(left).order, left.bytes
+    places = range(len(behind))
+
+    def first(count):
+        return next((at for at in places if header(behind[at:]) or row(behind[at:], order, count)), "none")
+
+    section_at = next((at for at in places if header(behind[at:])), "none")
+    return ", ".join(str(at) for at in (first(1), first(2), first(3), section_at))

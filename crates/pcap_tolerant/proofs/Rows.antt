@@ -3,7 +3,7 @@ use Rattle.std.proofs.Common.{◌≡◌, ◌<◌, ◌-◌, ℕ, zero, suc, List,
 use Rattle.std.specs.Prelude.{◌⊎◌}
 use Rattle.pcap_core.specs.declared.errors.PcapError.{PcapError}
 use Rattle.pcap_core.specs.declared.errors.PcapError.TheVariants as errors
-use Rattle.pcap_core.specs.Answer.{Order, number_in, whole, lacks, faulty, Refuses}
+use Rattle.pcap_core.specs.Answer.{Order, number_in, Verdict, whole, lacks, faulty, Refuses}
 use Rattle.pcap_core.specs.Faults.{Fault, Invalid, Io, Utf8}
 use Rattle.pcap_core.specs.Format.{Format, IsLawful}
 use Rattle.pcap_core.proofs.Verdicts.{same_whole, whole_no_fault}
@@ -51,6 +51,33 @@ module _ {S V : Type 0} (f : Format S V) (P : V → Type 0) (laws : IsLawful f) 
   row_refused q k s (errors.OutOfMemory memory) x row = x
   row_refused q k s errors.WriterFailed x row = x
 
+  -- ---- the same of a count that goes down by one an item
+
+  pub goes_down : (q : S) (more : ℕ) (s rest : List ℕ) (v : V) → f.says q s (whole v rest) → 0 < more → (length rest ≡ 0 → ⊥) → Row f P q more s → Row f P (f.goes q v) (more - 1) rest
+  goes_down q zero s rest v x some on row = absurd (omega (arith, some))
+  goes_down q (suc k) s rest v x some on row =
+      let e : suc k - 1 ≡ k = omega arith in
+      let here : Row f P (f.goes q v) k rest = elim (row_down q k s rest v x row) [ inl none ↦ absurd (on (ap length none)) | inr next ↦ next ] in
+      subst (λ (n : ℕ). Row f P (f.goes q v) n rest) (sym e) here
+
+  pub goes_up : (q : S) (more : ℕ) (s rest : List ℕ) (v : V) → f.says q s (whole v rest) → P v → 0 < more → Row f P (f.goes q v) (more - 1) rest → Row f P q more s
+  goes_up q zero s rest v x sound some row = absurd (omega (arith, some))
+  goes_up q (suc k) s rest v x sound some row =
+      let e : suc k - 1 ≡ k = omega arith in
+      (v, rest, x, sound, inr (subst (λ (n : ℕ). Row f P (f.goes q v) n rest) e row))
+
+  pub goes_to_the_end : (q : S) (more : ℕ) (s rest : List ℕ) (v : V) → f.says q s (whole v rest) → P v → 0 < more → length rest ≡ 0 → Row f P q more s
+  goes_to_the_end q zero s rest v x sound some none = absurd (omega (arith, some))
+  goes_to_the_end q (suc k) s rest v x sound some none = (v, rest, x, sound, inl (nil_of_length rest none))
+
+  pub goes_no_further : (q : S) (more : ℕ) (s : List ℕ) (e : PcapError) → Refuses ⊥ (λ n. f.says q s (lacks n)) (λ fault. f.says q s (faulty fault)) e → 0 < more → Row f P q more s → ⊥
+  goes_no_further q zero s e x some row = omega (arith, some)
+  goes_no_further q (suc k) s e x some row = row_refused q k s e x row
+
+  pub goes_not_over : (q : S) (more : ℕ) (s rest : List ℕ) (v : V) → f.says q s (whole v rest) → (P v → ⊥) → 0 < more → Row f P q more s → ⊥
+  goes_not_over q zero s rest v x unsound some row = omega (arith, some)
+  goes_not_over q (suc k) s rest v x unsound some row = unsound (row_sound q k s rest v x row)
+
 -- ---- packets under a header
 
 module _ (header : PcapHeader) where
@@ -66,29 +93,20 @@ module _ (header : PcapHeader) where
   laws : IsLawful f
   laws = packets_lawful packet_limit order r
 
+  said : (s : List ℕ) (v : Verdict Captured) → PacketSays packet_limit order r s v → f.says tt s v
+  said s v x = packets_say packet_limit order r tt s v x
+
   pub packets_down : (more : ℕ) (s rest : List ℕ) (v : Captured) → PacketSays packet_limit order r s (whole v rest) → 0 < more → (length rest ≡ 0 → ⊥) → PacketRow header more s → PacketRow header (more - 1) rest
-  packets_down zero s rest v x some on row = absurd (omega (arith, some))
-  packets_down (suc k) s rest v x some on row =
-      let e : suc k - 1 ≡ k = omega arith in
-      let here : PacketRow header k rest = elim (row_down f HasData laws tt k s rest v (packets_say packet_limit order r tt s (whole v rest) x) row) [ inl none ↦ absurd (on (ap length none)) | inr next ↦ next ] in
-      subst (λ (n : ℕ). PacketRow header n rest) (sym e) here
+  packets_down more s rest v x = goes_down f HasData laws tt more s rest v (said s (whole v rest) x)
 
   pub packets_up : (more : ℕ) (s rest : List ℕ) (v : Captured) → PacketSays packet_limit order r s (whole v rest) → HasData v → 0 < more → PacketRow header (more - 1) rest → PacketRow header more s
-  packets_up zero s rest v x has some row = absurd (omega (arith, some))
-  packets_up (suc k) s rest v x has some row =
-      let e : suc k - 1 ≡ k = omega arith in
-      (v, rest, packets_say packet_limit order r tt s (whole v rest) x, has, inr (subst (λ (n : ℕ). PacketRow header n rest) e row))
+  packets_up more s rest v x = goes_up f HasData laws tt more s rest v (said s (whole v rest) x)
 
   pub packets_end : (more : ℕ) (s rest : List ℕ) (v : Captured) → PacketSays packet_limit order r s (whole v rest) → HasData v → 0 < more → length rest ≡ 0 → PacketRow header more s
-  packets_end zero s rest v x has some none = absurd (omega (arith, some))
-  packets_end (suc k) s rest v x has some none = (v, rest, packets_say packet_limit order r tt s (whole v rest) x, has, inl (nil_of_length rest none))
+  packets_end more s rest v x = goes_to_the_end f HasData laws tt more s rest v (said s (whole v rest) x)
 
   pub packets_refused : (more : ℕ) (s : List ℕ) (e : PcapError) → Refuses ⊥ (λ n. PacketSays packet_limit order r s (lacks n)) (λ fault. PacketSays packet_limit order r s (faulty fault)) e → 0 < more → PacketRow header more s → ⊥
-  packets_refused zero s e x some row = omega (arith, some)
-  packets_refused (suc k) s e x some row = row_refused f HasData laws tt k s e (packets_refuse packet_limit order r tt s e x) row
+  packets_refused more s e x = goes_no_further f HasData laws tt more s e (packets_refuse packet_limit order r tt s e x)
 
   pub packets_empty : (more : ℕ) (s rest : List ℕ) (v : Captured) → PacketSays packet_limit order r s (whole v rest) → v.header.incl_len ≡ 0 → 0 < more → PacketRow header more s → ⊥
-  packets_empty zero s rest v x none some row = omega (arith, some)
-  packets_empty (suc k) s rest v x none some row =
-      let sound : HasData v = row_sound f HasData laws tt k s rest v (packets_say packet_limit order r tt s (whole v rest) x) row in
-      omega (arith, none, sound)
+  packets_empty more s rest v x none = goes_not_over f HasData laws tt more s rest v (said s (whole v rest) x) (λ some. omega (arith, none, some))

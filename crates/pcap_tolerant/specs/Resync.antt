@@ -6,6 +6,11 @@ use Rattle.pcap_classic.specs.declared.pcap.header.PcapHeader.{PcapHeader}
 use Rattle.pcap_classic.specs.PacketText.{packet_limit, Captured}
 use Rattle.pcap_classic.specs.Packets.{format_under}
 
+-- the first place before the end from which it holds of the bytes, or that there is none
+abbrev pub FirstPlace : (List ℕ → Type 0) → List ℕ → Option ℕ → Type 0
+FirstPlace Holds s (Some n) = (n < length s) × Holds (drop n s) × ((m : ℕ) → m < n → Holds (drop m s) → ⊥)
+FirstPlace Holds s None = (m : ℕ) → m < length s → Holds (drop m s) → ⊥
+
 module _ {S V : Type 0} (f : Format S V) (IsSound : V → Type 0) where
   -- k sound items stand in a row, or fewer, at least one, to the end
   abbrev pub Row : S → ℕ → List ℕ → Type 0
@@ -14,8 +19,7 @@ module _ {S V : Type 0} (f : Format S V) (IsSound : V → Type 0) where
 
   -- the first place before the end from which a row stands, or that there is none
   abbrev pub Resyncs : S → ℕ → List ℕ → Option ℕ → Type 0
-  Resyncs q k s (Some n) = (n < length s) × Row q k (drop n s) × ((m : ℕ) → m < n → Row q k (drop m s) → ⊥)
-  Resyncs q k s None = (m : ℕ) → m < length s → Row q k (drop m s) → ⊥
+  Resyncs q k = FirstPlace (Row q k)
 
 -- a packet with data: sixteen zero bytes are a packet without
 abbrev pub HasData : Captured → Type 0

@@ -1,5 +1,7 @@
 pub mod Format
 pub mod Strict
+mod FrameRows
+mod StandAgain
 pub mod Refusing
 mod StrictRuns
 mod FirstFlaw

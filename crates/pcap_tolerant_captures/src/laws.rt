@@ -1,14 +1,18 @@
 //! Laws of blocks as they stand. Each contract is the law.
 
-ghost use Rattle.std.specs.Prelude.{◌≡◌, ◌≤◌, ◌++◌, ℕ, List, [], ◌∷◌, length, All};
+ghost use Rattle.std.specs.Prelude.{◌≡◌, ◌≤◌, ◌<◌, ◌++◌, ℕ, List, [], ◌∷◌, length, All, Option};
 ghost use Rattle.pcap_core.specs.Answer.{Verdict};
 ghost use Rattle.pcap_core.specs.Format.{Asks, Front, IsLawful};
 ghost use Rattle.pcap_core.specs.Laws.{ExactlyOne, IsStable};
+ghost use Rattle.pcap_core.specs.declared.common.Endianness.TheVariants.{Big};
+ghost use Rattle.pcap_blocks.specs.InterfaceDescription.{Interface};
+ghost use Rattle.pcap_blocks.specs.SectionHeader.{Section};
 ghost use Rattle.pcap_file.specs.Blocks as strict_blocks;
 ghost use Rattle.pcap_file.specs.State as strict;
 ghost use Rattle.pcap_tolerant_captures.specs.Blocks.{Item, AsIsText, AsIsSays, as_is_format};
 ghost use Rattle.pcap_tolerant_blocks.specs.Flaws.{Said};
-ghost use Rattle.pcap_tolerant_captures.specs.State.{State, opening};
+ghost use Rattle.pcap_tolerant_captures.specs.State.{State, opening, within, order_at};
+ghost use Rattle.pcap_tolerant_captures.specs.Resync.{BlocksStand, HeaderStands, IsGiven};
 ghost use Rattle.pcap_tolerant_captures.specs.Strict.{StrictIs, as_it_stands};
 ghost use Rattle.pcap_tolerant_captures.specs.StrictRun.{IsSound, StrictFrontIs, StrictEndsAt};
 
@@ -57,4 +61,15 @@ pub fn capture_without_flaws_is_strict()
 pub fn strict_capture_ends_at_the_first_flaw()
     ensures { (before : List Item) (flawed : Item) (others : List Item) (first : Said) (more : List Said) (s left : List ℕ) →
         Front as_is_format opening (before ++ flawed ∷ others) s left → All IsSound before → flawed.led.flaws ≡ first ∷ more → StrictEndsAt before first.fault s }
+{}
+
+/// Where `resync` says that blocks stand, the parser gives the next one.
+pub fn blocks_that_stand_are_given()
+    ensures { (section : Section) (interfaces : List (Option Interface)) (k : ℕ) (s : List ℕ) →
+        0 < k → BlocksStand (order_at (within section interfaces)) k s → IsGiven (within section interfaces) s }
+{}
+
+/// Where `resync_section` says that a section header stands, a parser begins.
+pub fn section_that_stands_is_opened()
+    ensures { (s : List ℕ) → HeaderStands Big s → IsGiven opening s }
 {}

@@ -8,6 +8,7 @@ mod block;
 mod kept;
 pub mod laws;
 mod parser;
+pub mod resync;
 mod run;
 
 pub use block::BlockAsIs;

@@ -115,7 +115,7 @@ impl PcapNgParserAsIs {
 
     // The order of blocks that are no section.
     #[tactic(auto, unfolding(pcap_file::specs::State::order_at))]
-    fn order(&self) -> Endianness
+    pub(crate) fn order(&self) -> Endianness
         ensures { result ≡ order_at (state_of self.now) }
     {
         self.section.endianness()

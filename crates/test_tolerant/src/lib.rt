@@ -1,15 +1,19 @@
-//! Packets, options and blocks as they stand, and where packets stand again: small captures and lists that were written by hand,
+//! Packets, options and blocks as they stand, and where packets and blocks stand again: small captures and lists that were written by hand,
 //! with one packet or some bytes of them made wrong.
 #![tactic(auto)]
 
 #[cfg(test)]
 mod again;
 #[cfg(test)]
+mod again_rows;
+#[cfg(test)]
 mod block_rows;
 #[cfg(test)]
 mod block_runs;
 #[cfg(test)]
 mod blocks;
+#[cfg(test)]
+mod blocks_again;
 #[cfg(test)]
 mod interfaces;
 #[cfg(test)]

@@ -1,0 +1,87 @@
+-- Where blocks stand, the next one is given as it stands.
+use Rattle.std.proofs.Common.{◌≡◌, ◌≤◌, ◌<◌, ℕ, suc, zero, List, ◌++◌, length, Option, Some, None, refl, sym, ap, subst, ◌∙◌, arith, append_assoc, inl, inr}
+use Rattle.byteorder.specs.Endian.{big_number}
+use Rattle.pcap_core.specs.declared.common.Endianness.{Endianness}
+use Rattle.pcap_core.specs.declared.common.Endianness.TheVariants.{Big}
+use Rattle.pcap_core.specs.Answer.{Number}
+use Rattle.pcap_core.specs.Faults.{Fault}
+use Rattle.pcap_core.specs.Headed.{HeadReading, good, bad}
+use Rattle.pcap_core.proofs.Texts.{number_same}
+use Rattle.pcap_blocks.specs.declared.block_type.BlockType.{BlockType}
+use Rattle.pcap_blocks.specs.declared.block_type.BlockType.TheVariants as types
+use Rattle.pcap_blocks.specs.BlockType.{block_type}
+use Rattle.pcap_blocks.specs.InterfaceDescription.{Interface}
+use Rattle.pcap_blocks.specs.SectionHeader.{Section, magic_order}
+use Rattle.pcap_file.specs.Frames.{Framed, FrameText, own_order}
+use Rattle.pcap_file.proofs.Refusing.{opening_order}
+use Rattle.pcap_tolerant_blocks.specs.SectionAsIs.{NoSection, short_section, unnamed}
+use Rattle.pcap_tolerant_captures.specs.State.{State, opening, within, order_at, Role, begins_section, adds_interface, leaves_all, role_of, Led, MeansFor, Means}
+use Rattle.pcap_tolerant_captures.specs.Resync.{frames_in_a_row, HasRoom, HeaderStands, BlocksStand, IsGiven}
+use Rattle.pcap_tolerant_captures.proofs.Format.{means_one}
+
+-- a section header has its number
+header_number : (n : ℕ) → block_type n ≡ types.SectionHeader → n ≡ 0x0A0D0D0A
+header_number n is = grind arith
+
+named_there : (e own : Endianness) (number magic : ℕ) → number ≡ 0x0A0D0D0A → own_order e number magic ≡ Some own → magic_order magic ≡ Some own
+unfolding own_order
+named_there e own number magic is named = subst (λ (n : ℕ). own_order e n magic ≡ Some own) is named
+
+magic_more : (magic : ℕ) (s rest more : List ℕ) → Number big_number 4 magic s rest → Number big_number 4 magic (s ++ more) (rest ++ more)
+magic_more magic s rest more x = record { bytes = x.bytes; text = ap (λ (t : List ℕ). t ++ more) x.text ∙ append_assoc x.bytes rest more; length_is = x.length_is; value = x.value }
+
+some_none : (e : Endianness) (o : Option Endianness) → o ≡ Some e → o ≡ None → ⊥
+some_none e o is none = let no : Some e ≡ None = sym is ∙ none in absurd cc
+
+-- a section header in its frame names its order
+module _ (e : Endianness) (b : Framed) (s rest : List ℕ) (frame : FrameText e b s rest) (is : b.type_ ≡ types.SectionHeader) where
+  named : magic_order frame.head.magic ≡ Some b.endianness
+  named = named_there e b.endianness frame.number frame.head.magic (header_number frame.number (sym frame.type_is ∙ is)) frame.head.own_is
+
+  order_known : (fault : Fault) → 16 ≤ length b.body → NoSection b.body fault → ⊥
+  order_known fault room (short_section short) = omega (arith, room, short)
+  order_known fault room (unnamed magic after long number none) =
+      let here : Number big_number 4 magic frame.after (after ++ frame.tail.after_body) =
+      subst (λ (t : List ℕ). Number big_number 4 magic t (after ++ frame.tail.after_body)) (sym frame.tail.body_is) (magic_more magic b.body after frame.tail.after_body number)
+      in
+      let same = number_same big_number 4 magic frame.head.magic frame.after (after ++ frame.tail.after_body) frame.head.more here frame.head.magic_is in
+      some_none b.endianness (magic_order magic) (ap magic_order same.0 ∙ named) none
+
+section_role : (t : BlockType) → role_of t ≡ begins_section → t ≡ types.SectionHeader
+section_role t e = grind arith
+
+-- a section header that has room is refused by nothing
+module _ (q : State) (s rest : List ℕ) (b : Framed) (frame : FrameText (order_at q) b s rest) where
+  given : (r : HeadReading Led) → Means q b r → ((fault : Fault) → Means q b (bad fault) → ⊥) → IsGiven q s
+  given (good led) means none = (record { block = b; led = led }, rest, record { frame = frame; means = means })
+  given (bad fault) means none = absurd (none fault means)
+
+  given_unless : ((fault : Fault) → Means q b (bad fault) → ⊥) → IsGiven q s
+  given_unless none = let one = means_one q b in given one.value one.holds none
+
+  header_given : b.type_ ≡ types.SectionHeader → 16 ≤ length b.body → IsGiven q s
+  header_given is room =
+      given_unless (λ fault means. order_known (order_at q) b s rest frame is fault room (subst (λ (role : Role). MeansFor role q b (bad fault)) (ap role_of is) means))
+
+module _ (section : Section) (interfaces : List (Option Interface)) where
+  abbrev q : State
+  q = within section interfaces
+
+  not_refused : (role : Role) (b : Framed) (fault : Fault) → ((role ≡ begins_section) → NoSection b.body fault → ⊥) → MeansFor role q b (bad fault) → ⊥
+  not_refused begins_section b fault none means = none refl means
+  not_refused adds_interface b fault none means = means
+  not_refused leaves_all b fault none means = means
+
+  frame_given : (s rest : List ℕ) (b : Framed) → FrameText (order_at q) b s rest → HasRoom b → IsGiven q s
+  frame_given s rest b frame room =
+      given_unless q s rest b frame (λ fault means. not_refused (role_of b.type_) b fault (λ begins. let is = section_role b.type_ begins in order_known (order_at q) b s rest frame is fault (room is)) means)
+
+  pub standing_given : (k : ℕ) (s : List ℕ) → 0 < k → BlocksStand (order_at q) k s → IsGiven q s
+  unfolding frames_in_a_row
+  standing_given k s some (inl header) = header_given q s header.rest header.block header.frame header.is_header header.room
+  standing_given zero s some (inr row) = absurd (omega (arith, some))
+  standing_given (suc k) s some (inr row) = frame_given s row.1 row.0 row.2 row.3
+
+pub header_opens : (s : List ℕ) → HeaderStands Big s → IsGiven opening s
+header_opens s header =
+    header_given opening s header.rest header.block (subst (λ (e : Endianness). FrameText e header.block s header.rest) (sym opening_order) header.frame) header.is_header header.room
