@@ -1,12 +1,11 @@
 //! What is asked of streams, and how much room and how many writes that takes.
 
 use crate::sample::reader;
+use pcap_classic::ResultParsing;
 use pcap_classic::pcap::{PacketHeader, PcapReader};
-use pcap_classic::run::{Copied, Under, copy_buffered, copy_pcap, read_pcap};
-use pcap_classic::{Endianness, TsResolution};
+use pcap_classic::run::{Copied, Under, copy_buffered, copy_pcap};
 use std::alloc::{AllocError, Global};
 use std::io::BufReader;
-use std::test::Fail;
 use test_support::captures::{BIG_HEAD, back, big, front};
 use test_support::readers::Halting;
 use test_support::writers::Narrow;
@@ -14,75 +13,6 @@ use test_support::writers::Narrow;
 // Whether so many packets were copied, and nothing failed.
 fn is_whole(copied: &Copied, packets: u64) -> bool {
     copied.packets == packets && copied.fault.is_none()
-}
-
-// Whether a copy of one packet asks its stream, so many bytes in a read, for nothing behind that.
-fn copies_one(alloc: Global, bytes: &[u8], step: usize, under: Under) -> bool {
-    let Ok(mut stream) = Halting::new(alloc, bytes, step) else {
-        return false;
-    };
-    let mut out = Vec::new(alloc);
-    let copied = copy_pcap(alloc, &mut stream, &mut out, under, 1);
-    is_whole(&copied, 1) && stream.taken == 138 && stream.ends == 0
-}
-
-// The same where the copy reads through a buffer of this size.
-fn copies_one_buffered(
-    alloc: Global,
-    bytes: &[u8],
-    step: usize,
-    under: Under,
-    buffer: usize,
-) -> bool {
-    let Ok(stream) = Halting::new(alloc, bytes, step) else {
-        return false;
-    };
-    let Ok(mut reader) = BufReader::with_capacity(alloc, buffer, stream) else {
-        return false;
-    };
-    let mut out = Vec::new(alloc);
-    let copied = copy_buffered(alloc, &mut reader, &mut out, under, 1);
-    is_whole(&copied, 1) && reader.get_ref().ends == 0
-}
-
-#[test]
-fn nothing_after_the_most_copies(rt: HostRuntime) -> Result<(), Fail> {
-    let whole = big(rt.alloc())?;
-    let bytes = whole.as_slice();
-    let little = Under::Order(Endianness::Little, TsResolution::MicroSecond);
-    for under in [Under::Same, little] {
-        for step in [1, 7, 200] {
-            assert!(rt; copies_one(rt.alloc(), bytes, step, under), "by {step}");
-            for buffer in [1, 24, 40, 100, 65_536] {
-                assert!(rt;
-                    copies_one_buffered(rt.alloc(), bytes, step, under, buffer),
-                    "by {step}"
-                );
-            }
-        }
-    }
-    Ok(())
-}
-
-// Whether a run of one packet asks its stream for nothing behind that.
-fn reads_one(alloc: Global, bytes: &[u8], step: usize) -> bool {
-    let Ok(mut stream) = Halting::new(alloc, bytes, step) else {
-        return false;
-    };
-    let is_one = match &read_pcap(alloc, &mut stream, 1) {
-        Ok(read) => read.packets.len() == 1 && read.fault.is_none(),
-        Err(_) => false,
-    };
-    is_one && stream.taken == 138 && stream.ends == 0
-}
-
-#[test]
-fn nothing_after_the_most_packets(rt: HostRuntime) -> Result<(), Fail> {
-    let whole = big(rt.alloc())?;
-    for step in [1, 7, 200] {
-        assert!(rt; reads_one(rt.alloc(), whole.as_slice(), step), "by {step}");
-    }
-    Ok(())
 }
 
 // A capture of five packets of these sizes. None of their bytes are zeros where a head or the data begins.
@@ -95,6 +25,15 @@ fn packets(alloc: Global) -> Result<Vec<u8>, AllocError> {
     Ok(bytes)
 }
 
+// A reader of a stream of these bytes, so many at most in a read.
+fn reader_of(
+    alloc: Global,
+    bytes: Result<Vec<u8>, AllocError>,
+    step: usize,
+) -> ResultParsing<PcapReader<Halting>> {
+    reader(alloc, bytes?.as_slice(), step)
+}
+
 // Whether the next packet has this size, and no room is new since the first one.
 fn holds_the_next(reader: &mut PcapReader<Halting>, size: usize) -> bool {
     let is_given = matches!(reader.next_header(), Some(Ok(_)));
@@ -102,8 +41,8 @@ fn holds_the_next(reader: &mut PcapReader<Halting>, size: usize) -> bool {
 }
 
 // Whether the five packets are held in one room.
-fn holds_all(alloc: Global, bytes: &[u8]) -> bool {
-    let Ok(mut reader) = reader(alloc, bytes, 200) else {
+fn holds_all(alloc: Global) -> bool {
+    let Ok(mut reader) = reader_of(alloc, packets(alloc), 200) else {
         return false;
     };
     let mut is_so = true;
@@ -115,27 +54,22 @@ fn holds_all(alloc: Global, bytes: &[u8]) -> bool {
 }
 
 #[test]
-fn held_packets_share_one_room(rt: HostRuntime) -> Result<(), Fail> {
-    let bytes = packets(rt.alloc())?;
-    assert!(rt; holds_all(rt.alloc(), bytes.as_slice()));
-    Ok(())
+fn held_packets_share_one_room(rt: HostRuntime) {
+    assert!(rt; holds_all(rt.alloc()));
 }
 
 // Whether a copy of the five packets holds them in one room.
-fn copies_all(alloc: Global, bytes: &[u8]) -> bool {
-    let Ok(mut stream) = Halting::new(alloc, bytes, 200) else {
-        return false;
-    };
+fn copies_all(alloc: Global) -> Result<bool, AllocError> {
+    let bytes = packets(alloc)?;
+    let mut stream = Halting::new(alloc, bytes.as_slice(), 200)?;
     let mut out = Vec::new(alloc);
     let copied = copy_pcap(alloc, &mut stream, &mut out, Under::Same, 5);
-    is_whole(&copied, 5) && out.as_slice() == bytes && stream.clear == 3
+    Ok(is_whole(&copied, 5) && out.as_slice() == bytes.as_slice() && stream.clear == 3)
 }
 
 #[test]
-fn copied_packets_share_one_room(rt: HostRuntime) -> Result<(), Fail> {
-    let bytes = packets(rt.alloc())?;
-    assert!(rt; copies_all(rt.alloc(), bytes.as_slice()));
-    Ok(())
+fn copied_packets_share_one_room(rt: HostRuntime) {
+    assert!(rt; matches!(copies_all(rt.alloc()), Ok(true)));
 }
 
 // The header that the reader gives next, if it gives one.
@@ -172,8 +106,8 @@ fn six_packets(alloc: Global) -> Result<Vec<u8>, AllocError> {
 }
 
 // Whether the first packet that is lent stays so while the other packets are owned.
-fn stays_lent(alloc: Global, bytes: &[u8], step: usize) -> bool {
-    let Ok(mut reader) = reader(alloc, bytes, step) else {
+fn stays_lent(alloc: Global, step: usize) -> bool {
+    let Ok(mut reader) = reader_of(alloc, six_packets(alloc), step) else {
         return false;
     };
     let is_owned = owned_length(&mut reader) == Some(98) && reader.data().is_empty();
@@ -183,17 +117,25 @@ fn stays_lent(alloc: Global, bytes: &[u8], step: usize) -> bool {
 }
 
 #[test]
-fn lent_data_stays_while_packets_are_owned(rt: HostRuntime) -> Result<(), Fail> {
-    let bytes = six_packets(rt.alloc())?;
-    for step in [1, 200] {
-        assert!(rt; stays_lent(rt.alloc(), bytes.as_slice(), step), "by {step}");
-    }
-    Ok(())
+fn lent_data_stays_while_packets_are_owned(rt: HostRuntime) {
+    assert!(rt; stays_lent(rt.alloc(), 1));
+    assert!(rt; stays_lent(rt.alloc(), 200));
 }
 
-// Whether all of these 2000 packets go out in one write behind the header's.
-fn goes_out_together(alloc: Global, bytes: &[u8]) -> bool {
-    let Ok(stream) = Halting::new(alloc, bytes, 65_536) else {
+// A stream of 2000 packets of no bytes.
+fn empty_packets(alloc: Global) -> Result<Halting, AllocError> {
+    let mut stream = Halting::new(alloc, &BIG_HEAD[..24], 65_536)?;
+    for _turn in 0..2000 {
+        stream
+            .bytes
+            .extend_from_slice(&[0, 0, 0, 1, 0, 0, 0, 0, 0, 0, 0, 0, 0, 0, 0, 0])?;
+    }
+    Ok(stream)
+}
+
+// Whether all of them, which lie whole in the buffer, go out in one write behind the header's.
+fn go_out_together(alloc: Global) -> bool {
+    let Ok(stream) = empty_packets(alloc) else {
         return false;
     };
     let Ok(mut reader) = BufReader::with_capacity(alloc, 65_536, stream) else {
@@ -201,16 +143,11 @@ fn goes_out_together(alloc: Global, bytes: &[u8]) -> bool {
     };
     let mut output = Narrow::new(alloc, 65_536, true);
     let copied = copy_buffered(alloc, &mut reader, &mut output, Under::Same, 9999);
-    is_whole(&copied, 2000) && output.out.as_slice() == bytes && output.calls == 2
+    let is_same = output.out.as_slice() == reader.get_ref().bytes.as_slice();
+    is_whole(&copied, 2000) && is_same && output.calls == 2
 }
 
-// The packets are empty, and lie whole in the buffer.
 #[test]
-fn packets_go_out_together(rt: HostRuntime) -> Result<(), Fail> {
-    let mut bytes = Vec::from_slice(rt.alloc(), front(&BIG_HEAD, 24))?;
-    for _turn in 0..2000 {
-        bytes.extend_from_slice(&[0, 0, 0, 1, 0, 0, 0, 0, 0, 0, 0, 0, 0, 0, 0, 0])?;
-    }
-    assert!(rt; goes_out_together(rt.alloc(), bytes.as_slice()));
-    Ok(())
+fn packets_go_out_together(rt: HostRuntime) {
+    assert!(rt; go_out_together(rt.alloc()));
 }

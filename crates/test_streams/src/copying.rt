@@ -1,170 +1,365 @@
 //! Copies from streams to writers.
 
-use crate::failing::CALLS;
+use crate::kinds::{is_kind, names};
 use pcap_classic::pcap::{PacketHeader, PcapHeader};
 use pcap_classic::run::{Copied, Under, copy_buffered, copy_pcap, read_pcap};
 use pcap_classic::{Endianness, PcapError, TsResolution};
 use std::alloc::{AllocError, Global};
-use std::io::{BufReader, ErrorKind, Write};
-use std::test::Fail;
-use test_support::captures::{BIG_HEAD, back, big, capture, front};
+use std::io::{BufReader, ErrorKind};
+use test_support::captures::{BIG_HEAD, capture, front};
 use test_support::readers::Halting;
 use test_support::writers::Narrow;
 
 // The buffers that copies read through, in bytes; with none they read the stream itself.
 const BUFFERS: [usize; 7] = [0, 1, 7, 24, 40, 100, 65536];
 
-// A packet of no bytes.
-const EMPTY: [u8; 16] = [0, 0, 0, 1, 0, 0, 0, 0, 0, 0, 0, 0, 0, 0, 0, 0];
+// The most bytes of one read.
+const STEPS: [usize; 4] = [1, 7, 99, 200];
 
-// Why a copy ended.
-#[derive(Clone, Copy)]
-enum End {
-    Clean,
-    Io(ErrorKind),
-    Refused(&'static str),
-    Another,
-}
+// Two packets of no bytes.
+const EMPTY: [u8; 32] = [
+    0, 0, 0, 1, 0, 0, 0, 0, 0, 0, 0, 0, 0, 0, 0, 0, 0, 0, 0, 1, 0, 0, 0, 0, 0, 0, 0, 0, 0, 0, 0, 0,
+];
 
-// A copy: how it ended, how many bytes it took, and how often the stream was called. It holds nothing that is let go.
-#[derive(Clone, Copy)]
-struct Done {
-    packets: u64,
-    end: End,
-    read_failed: bool,
-    write_failed: bool,
-    taken: usize,
-    calls: usize,
-}
+// The same in the other order.
+const TURNED_EMPTY: [u8; 32] = [
+    1, 0, 0, 0, 0, 0, 0, 0, 0, 0, 0, 0, 0, 0, 0, 0, 1, 0, 0, 0, 0, 0, 0, 0, 0, 0, 0, 0, 0, 0, 0, 0,
+];
 
-fn end_of(fault: &Option<PcapError>) -> End {
-    match fault {
-        None => End::Clean,
-        Some(PcapError::IoError(error)) => End::Io(error.kind()),
-        Some(PcapError::InvalidField(message)) => End::Refused(*message),
-        Some(_) => End::Another,
-    }
-}
+// A packet that says it was shorter before it was captured.
+const TOO_LONG: [u8; 16] = [0, 0, 0, 1, 0, 0, 0, 0, 0, 0, 0, 2, 0, 0, 0, 1];
 
-fn ended(copied: &Copied, taken: usize, calls: usize) -> Done {
-    Done {
-        packets: copied.packets,
-        end: end_of(&copied.fault),
-        read_failed: copied.read_failed,
-        write_failed: copied.write_failed,
-        taken,
-        calls,
-    }
-}
-
-// A copy that had no memory to begin.
-fn none() -> Done {
-    Done {
-        packets: 0,
-        end: End::Another,
-        read_failed: true,
-        write_failed: true,
-        taken: 0,
-        calls: 0,
-    }
-}
-
-// Copies these bytes through a buffer of this size. Each read gives so many at most, and one call fails, if not call 0.
-fn copy<W: Write>(
-    alloc: Global,
-    bytes: &[u8],
-    (step, fails_at): (usize, usize),
-    buffer: usize,
-    output: &mut W,
-    under: Under,
-    most: u64,
-) -> Done {
-    let Ok(mut stream) = Halting::new(alloc, bytes, step) else {
-        return none();
-    };
-    stream.fails_at = fails_at;
-    stream.kind = ErrorKind::Interrupted;
-    if buffer == 0 {
-        let copied = copy_pcap(alloc, &mut stream, output, under, most);
-        return ended(&copied, stream.taken, stream.calls);
-    }
-    let Ok(mut reader) = BufReader::with_capacity(alloc, buffer, stream) else {
-        return none();
-    };
-    let copied = copy_buffered(alloc, &mut reader, output, under, most);
-    let ahead = reader.buffer().len();
-    let stream = reader.into_inner();
-    ended(&copied, stream.taken.saturating_sub(ahead), stream.calls)
-}
-
-// Whether so many packets were copied, and nothing failed.
-fn is_whole(done: Done, packets: u64) -> bool {
-    matches!(done.end, End::Clean)
-        && done.packets == packets
-        && !done.read_failed
-        && !done.write_failed
-}
-
-// Whether a write failed, and no read.
-fn is_unwritten(done: Done, packets: u64) -> bool {
-    matches!(done.end, End::Io(_))
-        && done.packets == packets
-        && !done.read_failed
-        && done.write_failed
-}
-
-// Whether no packet was copied, since the stream ended early.
-fn is_torn(done: Done) -> bool {
-    matches!(done.end, End::Io(_)) && done.packets == 0 && !done.read_failed && !done.write_failed
-}
-
-// Whether the magic number of a header was wrong.
-fn is_wrong(done: Done) -> bool {
-    matches!(done.end, End::Refused("PcapHeader wrong magic number"))
-}
-
-// What the capture begins with in the other order and in nanoseconds.
+// What the capture begins with in the other order.
 const TURNED_HEAD: [u8; 40] = [
+    0xd4, 0xc3, 0xb2, 0xa1, 2, 0, 4, 0, 0, 0, 0, 0, 0, 0, 0, 0, 0xff, 0xff, 0, 0, 1, 0, 0, 0, 0x29,
+    0x1b, 0xa1, 0x4f, 0x36, 0x54, 0x02, 0, 0x62, 0, 0, 0, 0x62, 0, 0, 0,
+];
+
+// The same in nanoseconds.
+const FINE_HEAD: [u8; 40] = [
     0x4d, 0x3c, 0xb2, 0xa1, 2, 0, 4, 0, 0, 0, 0, 0, 0, 0, 0, 0, 0xff, 0xff, 0, 0, 1, 0, 0, 0, 0x29,
     0x1b, 0xa1, 0x4f, 0xf0, 0xf2, 0x18, 0x09, 0x62, 0, 0, 0, 0x62, 0, 0, 0,
 ];
-
-// Whether a copy of these bytes under this order is one packet, and this is what goes out.
-fn turns(
-    alloc: Global,
-    bytes: &[u8],
-    step: usize,
-    buffer: usize,
-    under: Under,
-    wanted: &[u8],
-) -> bool {
-    let mut out = Vec::new(alloc);
-    let done = copy(alloc, bytes, (step, 0), buffer, &mut out, under, 9);
-    is_whole(done, 1) && out.as_slice() == wanted
-}
-
-#[test]
-fn other_orders(rt: HostRuntime) -> Result<(), Fail> {
-    let whole = big(rt.alloc())?;
-    let wanted = capture(rt.alloc(), &TURNED_HEAD, 98)?;
-    let (bytes, wanted) = (whole.as_slice(), wanted.as_slice());
-    let under = Under::Order(Endianness::Little, TsResolution::NanoSecond);
-    for buffer in BUFFERS {
-        for step in [1, 200] {
-            assert!(rt;
-                turns(rt.alloc(), bytes, step, buffer, under, wanted),
-                "through {buffer}"
-            );
-        }
-    }
-    Ok(())
-}
 
 // A capture in nanoseconds, with a packet of no bytes.
 const NANOSECONDS: [u8; 40] = [
     0xa1, 0xb2, 0x3c, 0x4d, 0, 2, 0, 4, 0, 0, 0, 0, 0, 0, 0, 0, 0, 0, 0xff, 0xff, 0, 0, 0, 1, 0, 0,
     0, 1, 0, 0, 3, 0xe7, 0, 0, 0, 0, 0, 0, 0, 0,
 ];
+
+// What a stream gives, or what goes out.
+#[derive(Clone, Copy)]
+enum Bytes {
+    // The capture, and two packets of no bytes.
+    Three,
+    // The same in the other order.
+    Turned,
+    // The capture in the other order, in nanoseconds.
+    Fine,
+    // The capture, and a packet that says it was shorter.
+    Long,
+    // A packet of no bytes at 999 nanoseconds.
+    Nanoseconds,
+    // The same at no microseconds.
+    Cut,
+    // Bytes that are no header.
+    Wrong,
+}
+
+fn bytes_of(alloc: Global, of: Bytes) -> Result<Vec<u8>, AllocError> {
+    let (head, end, tail): (&[u8], u8, &[u8]) = match of {
+        Bytes::Three => (&BIG_HEAD, 98, &EMPTY),
+        Bytes::Turned => (&TURNED_HEAD, 98, &TURNED_EMPTY),
+        Bytes::Fine => (&FINE_HEAD, 98, &[]),
+        Bytes::Long => (&BIG_HEAD, 98, &TOO_LONG),
+        Bytes::Nanoseconds => (&NANOSECONDS, 0, &[]),
+        Bytes::Cut => (&BIG_HEAD[..24], 0, &EMPTY[..16]),
+        Bytes::Wrong => (&[0xff; 30], 0, &[]),
+    };
+    let mut bytes = capture(alloc, head, end)?;
+    bytes.extend_from_slice(tail)?;
+    Ok(bytes)
+}
+
+// The header under which a copy is written.
+#[derive(Clone, Copy)]
+enum Header {
+    Same,
+    Order(Endianness, TsResolution),
+    // One with a wrong magic number.
+    Wrong,
+}
+
+fn under(header: Header) -> Under {
+    match header {
+        Header::Same => Under::Same,
+        Header::Order(order, resolution) => Under::Order(order, resolution),
+        Header::Wrong => Under::Header(PcapHeader {
+            magic_number: 0,
+            ..PcapHeader::default()
+        }),
+    }
+}
+
+// Why a copy ends.
+#[derive(Clone, Copy)]
+enum End {
+    Clean,
+    // An error of input or output, of any kind.
+    Io,
+    Kind(ErrorKind),
+    // A header with a wrong magic number.
+    Magic,
+    // A packet that says it was shorter before it was captured.
+    Length,
+}
+
+fn ends(fault: &Option<PcapError>, end: End) -> bool {
+    match end {
+        End::Clean => fault.is_none(),
+        End::Io => matches!(fault, Some(PcapError::IoError(_))),
+        End::Kind(kind) => is_kind(fault, kind),
+        End::Magic => names(fault, "PcapHeader wrong magic number"),
+        End::Length => names(fault, "PacketHeader incl_len > orig_len"),
+    }
+}
+
+// A copy, and what comes of it.
+#[derive(Clone, Copy)]
+struct Row {
+    // What the stream gives, up to so many bytes.
+    given: Bytes,
+    length: usize,
+    // The most bytes of one read, and the call of the stream that fails, if not call 0.
+    step: usize,
+    fails_at: usize,
+    buffer: usize,
+    under: Header,
+    // The most packets.
+    most: u64,
+    // How many bytes the writer has room for, in a call too, and whether it fails where it has none, or takes nothing.
+    room: usize,
+    width: usize,
+    fails: bool,
+    // The calls of the writer that are interrupted, and that take nothing, if not call 0.
+    interrupted: u64,
+    idle: u64,
+    // How many packets are copied, and why no more.
+    packets: u64,
+    end: End,
+    read_failed: bool,
+    write_failed: bool,
+    // The least and the most bytes that are taken, calls of the stream, calls at its end, and calls of the writer.
+    taken: (usize, usize),
+    reads: (usize, usize),
+    ends: (usize, usize),
+    writes: (u64, u64),
+    // What goes out, up to so many bytes.
+    gone: Bytes,
+    out: usize,
+}
+
+// A copy of the capture that comes to its end.
+const WHOLE: Row = Row {
+    given: Bytes::Three,
+    length: 138,
+    step: 200,
+    fails_at: 0,
+    buffer: 0,
+    under: Header::Same,
+    most: 9,
+    room: 1000,
+    width: 1000,
+    fails: true,
+    interrupted: 0,
+    idle: 0,
+    packets: 1,
+    end: End::Clean,
+    read_failed: false,
+    write_failed: false,
+    taken: (0, usize::MAX),
+    reads: (0, usize::MAX),
+    ends: (0, usize::MAX),
+    writes: (0, u64::MAX),
+    gone: Bytes::Three,
+    out: 138,
+};
+
+fn stream_of(alloc: Global, row: Row) -> Result<Halting, AllocError> {
+    let bytes = bytes_of(alloc, row.given)?;
+    let mut stream = Halting::new(alloc, front(bytes.as_slice(), row.length), row.step)?;
+    stream.fails_at = row.fails_at;
+    stream.kind = ErrorKind::Interrupted;
+    Ok(stream)
+}
+
+fn writer_of(alloc: Global, row: Row) -> Narrow {
+    let mut output = Narrow::new(alloc, row.room, row.fails);
+    output.step = row.width;
+    output.interrupted = row.interrupted;
+    output.idle = row.idle;
+    output
+}
+
+// Whether a copy ended as its row says.
+fn is_so(copied: &Copied, row: Row) -> bool {
+    ends(&copied.fault, row.end)
+        && copied.packets == row.packets
+        && copied.read_failed == row.read_failed
+        && copied.write_failed == row.write_failed
+}
+
+// Whether so much was taken of a stream, of which the last bytes are held ahead, and it was called so often.
+fn is_seen(stream: &Halting, row: Row, ahead: usize) -> bool {
+    let taken = stream.taken.saturating_sub(ahead);
+    row.taken.0 <= taken
+        && taken <= row.taken.1
+        && row.reads.0 <= stream.calls
+        && stream.calls <= row.reads.1
+        && row.ends.0 <= stream.ends
+        && stream.ends <= row.ends.1
+}
+
+fn copies(alloc: Global, row: Row, mut stream: Halting, output: &mut Narrow) -> bool {
+    let copied = copy_pcap(alloc, &mut stream, output, under(row.under), row.most);
+    is_so(&copied, row) && is_seen(&stream, row, 0)
+}
+
+// The same through a buffer.
+fn copies_buffered(alloc: Global, row: Row, stream: Halting, output: &mut Narrow) -> bool {
+    let Ok(mut reader) = BufReader::with_capacity(alloc, row.buffer, stream) else {
+        return false;
+    };
+    let copied = copy_buffered(alloc, &mut reader, output, under(row.under), row.most);
+    let ahead = reader.buffer().len();
+    is_so(&copied, row) && is_seen(reader.get_ref(), row, ahead)
+}
+
+// Whether this went out, in so many calls.
+fn is_out(alloc: Global, row: Row, output: &Narrow) -> bool {
+    let Ok(wanted) = bytes_of(alloc, row.gone) else {
+        return false;
+    };
+    output.out.as_slice() == front(wanted.as_slice(), row.out)
+        && row.writes.0 <= output.calls
+        && output.calls <= row.writes.1
+}
+
+fn holds(alloc: Global, row: Row) -> bool {
+    let Ok(stream) = stream_of(alloc, row) else {
+        return false;
+    };
+    let mut output = writer_of(alloc, row);
+    let is_copied = if row.buffer == 0 {
+        copies(alloc, row, stream, &mut output)
+    } else {
+        copies_buffered(alloc, row, stream, &mut output)
+    };
+    is_copied && is_out(alloc, row, &output)
+}
+
+// The same through each buffer.
+fn holds_through_each(alloc: Global, row: Row) -> bool {
+    for buffer in BUFFERS {
+        if !holds(alloc, Row { buffer, ..row }) {
+            return false;
+        }
+    }
+    true
+}
+
+// Copies that come to the same through each buffer, and whatever one read gives.
+const ROWS: [Row; 10] = [
+    // the capture in the other order
+    Row {
+        under: Header::Order(Endianness::Little, TsResolution::NanoSecond),
+        gone: Bytes::Fine,
+        ..WHOLE
+    },
+    // fractions of a microsecond
+    Row {
+        given: Bytes::Nanoseconds,
+        under: Header::Order(Endianness::Big, TsResolution::MicroSecond),
+        gone: Bytes::Cut,
+        ..WHOLE
+    },
+    // no more packets than are asked for, before one that is refused
+    Row {
+        given: Bytes::Long,
+        length: 154,
+        most: 0,
+        packets: 0,
+        taken: (24, 24),
+        out: 24,
+        ..WHOLE
+    },
+    Row {
+        given: Bytes::Long,
+        length: 154,
+        most: 1,
+        taken: (138, 138),
+        ..WHOLE
+    },
+    Row {
+        given: Bytes::Long,
+        length: 154,
+        most: 2,
+        end: End::Length,
+        ..WHOLE
+    },
+    // no call behind what is asked for
+    Row {
+        most: 1,
+        ends: (0, 0),
+        ..WHOLE
+    },
+    Row {
+        under: Header::Order(Endianness::Little, TsResolution::MicroSecond),
+        gone: Bytes::Turned,
+        most: 1,
+        ends: (0, 0),
+        ..WHOLE
+    },
+    // a header with a wrong magic number, under which nothing is asked or written
+    Row {
+        length: 40,
+        under: Header::Wrong,
+        packets: 0,
+        end: End::Magic,
+        reads: (0, 0),
+        out: 0,
+        ..WHOLE
+    },
+    // the same of the stream
+    Row {
+        given: Bytes::Wrong,
+        packets: 0,
+        end: End::Magic,
+        out: 0,
+        ..WHOLE
+    },
+    // a capture that ends inside of its packet
+    Row {
+        length: 40,
+        packets: 0,
+        end: End::Io,
+        out: 24,
+        ..WHOLE
+    },
+];
+
+#[test]
+fn rows(rt: HostRuntime) {
+    for (number, row) in ROWS.iter().enumerate() {
+        for step in STEPS {
+            let row = Row { step, ..*row };
+            assert!(rt;
+                holds_through_each(rt.alloc(), row),
+                "row {number} by {step}"
+            );
+        }
+    }
+}
 
 // Whether these bytes are read as one packet, whose nanoseconds were cut.
 fn is_cut(alloc: Global, bytes: &[u8], step: usize) -> bool {
@@ -180,49 +375,48 @@ fn is_cut(alloc: Global, bytes: &[u8], step: usize) -> bool {
     }
 }
 
-// Whether the packet goes out with whole microseconds, and is read so again.
-fn cuts(alloc: Global, step: usize, buffer: usize) -> bool {
-    let mut out = Vec::new(alloc);
-    let under = Under::Order(Endianness::Big, TsResolution::MicroSecond);
-    let done = copy(alloc, &NANOSECONDS, (step, 0), buffer, &mut out, under, 9);
-    let (head, packet) = (front(out.as_slice(), 24), back(out.as_slice(), 24));
-    let is_out = head == front(&BIG_HEAD, 24) && packet == EMPTY.as_slice();
-    is_whole(done, 1) && is_out && is_cut(alloc, out.as_slice(), step)
+fn are_cut(alloc: Global) -> bool {
+    let Ok(bytes) = bytes_of(alloc, Bytes::Cut) else {
+        return false;
+    };
+    is_cut(alloc, bytes.as_slice(), 1) && is_cut(alloc, bytes.as_slice(), 99)
 }
 
 #[test]
 fn fractions_are_cut(rt: HostRuntime) {
-    for buffer in BUFFERS {
-        for step in [1, 99] {
-            assert!(rt; cuts(rt.alloc(), step, buffer), "through {buffer}");
-        }
+    assert!(rt; are_cut(rt.alloc()));
+}
+
+// A copy that is refused for what was written, which is a beginning of the capture of this length.
+fn into_room(room: usize) -> Row {
+    Row {
+        room,
+        packets: 0,
+        end: End::Io,
+        write_failed: true,
+        out: room,
+        ..WHOLE
     }
 }
 
-// Whether a copy into so much room is refused for what was written, which is a beginning of the capture of this length.
-fn fills(alloc: Global, bytes: &[u8], step: usize, buffer: usize, mut output: Narrow) -> bool {
-    let room = output.room;
-    let done = copy(alloc, bytes, (step, 0), buffer, &mut output, Under::Same, 9);
-    is_unwritten(done, 0) && output.out.as_slice() == front(bytes, room)
+// Whether it is so by each step, and where the writer fails and where it takes nothing.
+fn is_refused(alloc: Global, room: usize) -> bool {
+    let row = into_room(room);
+    let idle = Row {
+        fails: false,
+        ..row
+    };
+    holds_through_each(alloc, Row { step: 1, ..idle })
+        && holds_through_each(alloc, Row { step: 50, ..idle })
+        && holds_through_each(alloc, Row { step: 50, ..row })
+        && holds_through_each(alloc, idle)
 }
 
 #[test]
-fn every_room(rt: HostRuntime) -> Result<(), Fail> {
-    let whole = big(rt.alloc())?;
-    let bytes = whole.as_slice();
-    // the most bytes of one read, and whether the writer fails where it has no room, or takes nothing
-    for (step, fails) in [(1, false), (50, false), (50, true), (200, false)] {
-        for buffer in BUFFERS {
-            for room in 0..138usize {
-                let output = Narrow::new(rt.alloc(), room, fails);
-                assert!(rt;
-                    fills(rt.alloc(), bytes, step, buffer, output),
-                    "into {room}"
-                );
-            }
-        }
+fn every_room(rt: HostRuntime) {
+    for room in 0..138usize {
+        assert!(rt; is_refused(rt.alloc(), room), "into {room}");
     }
-    Ok(())
 }
 
 // How many of three packets went out where so many bytes did, and where the packet ends in which the write failed.
@@ -236,303 +430,173 @@ fn torn_at(room: usize) -> (u64, usize) {
     }
 }
 
-// The capture and two packets of no bytes.
-fn three_packets(alloc: Global) -> Result<Vec<u8>, AllocError> {
-    let mut bytes = big(alloc)?;
-    bytes.extend_from_slice(&EMPTY)?;
-    bytes.extend_from_slice(&EMPTY)?;
-    Ok(bytes)
-}
-
-// Whether a copy of three packets tells those that went out whole into this room.
-fn tears(alloc: Global, bytes: &[u8], buffer: usize, under: Under, room: usize) -> bool {
-    let mut output = Narrow::new(alloc, room, true);
-    let done = copy(alloc, bytes, (200, 0), buffer, &mut output, under, 9);
+// A copy of three packets that tells those that went out whole into this room.
+fn torn(room: usize, under: Header, gone: Bytes) -> Row {
     let (packets, taken) = torn_at(room);
-    let is_turned = under == Under::Order(Endianness::Little, TsResolution::MicroSecond);
-    let is_out = is_turned || output.out.as_slice() == front(bytes, room);
-    is_unwritten(done, packets) && done.taken == taken && is_out && output.out.len() == room
+    Row {
+        length: 170,
+        under,
+        packets,
+        taken: (taken, taken),
+        gone,
+        ..into_room(room)
+    }
+}
+
+// Whether it does in the same order and in both.
+fn tears(alloc: Global, room: usize) -> bool {
+    let big = Header::Order(Endianness::Big, TsResolution::MicroSecond);
+    let little = Header::Order(Endianness::Little, TsResolution::MicroSecond);
+    holds_through_each(alloc, torn(room, Header::Same, Bytes::Three))
+        && holds_through_each(alloc, torn(room, big, Bytes::Three))
+        && holds_through_each(alloc, torn(room, little, Bytes::Turned))
 }
 
 #[test]
-fn torn_packets(rt: HostRuntime) -> Result<(), Fail> {
-    let bytes = three_packets(rt.alloc())?;
-    let orders = [
-        Under::Same,
-        Under::Order(Endianness::Big, TsResolution::MicroSecond),
-        Under::Order(Endianness::Little, TsResolution::MicroSecond),
-    ];
-    for buffer in BUFFERS {
-        for under in orders {
-            for room in 24..170usize {
-                assert!(rt;
-                    tears(rt.alloc(), bytes.as_slice(), buffer, under, room),
-                    "into {room}"
-                );
-            }
-        }
-    }
-    Ok(())
-}
-
-// Whether a copy of the capture ends at this call of the writer, which is interrupted or takes nothing, and these bytes went
-// out.
-fn halts(
-    alloc: Global,
-    whole: &[u8],
-    buffer: usize,
-    under: Under,
-    (call, is_idle): (u64, bool),
-    gone: &[u8],
-) -> bool {
-    let mut output = Narrow::halting(alloc, call, is_idle);
-    let done = copy(alloc, whole, (200, 0), buffer, &mut output, under, 9);
-    let is_kind = match done.end {
-        End::Io(ErrorKind::WriteZero) => is_idle,
-        End::Io(ErrorKind::Interrupted) => !is_idle,
-        _ => false,
-    };
-    is_unwritten(done, 0) && is_kind && output.calls == call && output.out.as_slice() == gone
-}
-
-#[test]
-fn interrupted_writes(rt: HostRuntime) -> Result<(), Fail> {
-    let whole = big(rt.alloc())?;
-    let bytes = whole.as_slice();
-    let under = Under::Order(Endianness::Little, TsResolution::MicroSecond);
-    let mut wanted = Vec::new(rt.alloc());
-    let done = copy(rt.alloc(), bytes, (200, 0), 0, &mut wanted, under, 9);
-    assert!(rt; is_whole(done, 1));
-    for (call, gone) in CALLS {
-        let gone = front(wanted.as_slice(), gone);
-        for is_idle in [false, true] {
-            for buffer in [0, 1, 100, 65536] {
-                let halt = (call, is_idle);
-                assert!(rt;
-                    halts(rt.alloc(), bytes, buffer, under, halt, gone),
-                    "at {call}"
-                );
-            }
-        }
-    }
-    Ok(())
-}
-
-#[test]
-fn interrupted_stretches(rt: HostRuntime) -> Result<(), Fail> {
-    let whole = big(rt.alloc())?;
-    let bytes = whole.as_slice();
-    // the 24 bytes of the header go out in three calls, and then ten bytes of the packet in each
-    for (call, gone) in [(3, 20), (4, 24), (5, 34), (6, 44), (14, 124), (15, 134)] {
-        for is_idle in [false, true] {
-            for buffer in [0, 1, 100, 65536] {
-                let gone = front(bytes, gone);
-                let halt = (call, is_idle);
-                assert!(rt;
-                    halts(rt.alloc(), bytes, buffer, Under::Same, halt, gone),
-                    "at {call}"
-                );
-            }
-        }
-    }
-    Ok(())
-}
-
-// How many bytes of the capture went out where a call of its stream fails, one byte a call.
-fn out_before(fails_at: usize) -> usize {
-    if fails_at <= 24 {
-        0
-    } else if fails_at < 139 {
-        24
-    } else {
-        138
+fn torn_packets(rt: HostRuntime) {
+    for room in 24..170usize {
+        assert!(rt; tears(rt.alloc(), room), "into {room}");
     }
 }
 
-// Whether this call of the stream failed, and no write.
-fn is_unread(done: Done, fails_at: usize) -> bool {
-    matches!(done.end, End::Io(_))
-        && done.read_failed
-        && !done.write_failed
-        && done.calls == fails_at
+// A copy that ends at this call of the writer, which takes ten bytes at most in a call, behind so many bytes.
+fn halting(call: u64, out: usize, under: Header, gone: Bytes) -> Row {
+    Row {
+        width: 10,
+        writes: (call, call),
+        under,
+        gone,
+        out,
+        ..into_room(1000)
+    }
 }
 
-// Whether a copy ends at this call of the stream, which fails, and went out up to there.
-fn stops(alloc: Global, bytes: &[u8], buffer: usize, fails_at: usize) -> bool {
-    let mut out = Vec::new(alloc);
-    let done = copy(
+// Whether it does where that call is interrupted, and where it takes nothing.
+fn halts(alloc: Global, row: Row) -> bool {
+    let call = row.writes.0;
+    let is_told = holds_through_each(
         alloc,
-        bytes,
-        (1, fails_at),
-        buffer,
-        &mut out,
-        Under::Same,
-        9,
+        Row {
+            interrupted: call,
+            end: End::Kind(ErrorKind::Interrupted),
+            ..row
+        },
     );
-    is_unread(done, fails_at) && out.as_slice() == front(bytes, out_before(fails_at))
+    let end = End::Kind(ErrorKind::WriteZero);
+    is_told
+        && holds_through_each(
+            alloc,
+            Row {
+                idle: call,
+                end,
+                ..row
+            },
+        )
 }
+
+// Each call of a writer that takes ten bytes at most of the capture, and how many bytes went out before it: its header, that of
+// the packet, and the packet's bytes.
+const CALLS: [(u64, usize); 15] = [
+    (1, 0),
+    (2, 10),
+    (3, 20),
+    (4, 24),
+    (5, 34),
+    (6, 40),
+    (7, 50),
+    (8, 60),
+    (9, 70),
+    (10, 80),
+    (11, 90),
+    (12, 100),
+    (13, 110),
+    (14, 120),
+    (15, 130),
+];
+
+// The same of some calls where nothing is turned: the header's 24 bytes go out in three, and then ten bytes of the packet in each.
+const STRETCHES: [(u64, usize); 6] = [(3, 20), (4, 24), (5, 34), (6, 44), (14, 124), (15, 134)];
 
 #[test]
-fn every_failed_read(rt: HostRuntime) -> Result<(), Fail> {
-    let whole = big(rt.alloc())?;
-    for buffer in BUFFERS {
-        for fails_at in 1..140usize {
-            assert!(rt;
-                stops(rt.alloc(), whole.as_slice(), buffer, fails_at),
-                "at {fails_at}"
-            );
-        }
-    }
-    Ok(())
-}
-
-// Whether the capture goes out whole after so many reads at most.
-fn reads_at_most(alloc: Global, bytes: &[u8], buffer: usize, calls: usize) -> bool {
-    let mut out = Vec::new(alloc);
-    let done = copy(alloc, bytes, (200, 0), buffer, &mut out, Under::Same, 9);
-    is_whole(done, 1) && done.calls <= calls && out.as_slice() == bytes
-}
-
-#[test]
-fn one_end(rt: HostRuntime) -> Result<(), Fail> {
-    let whole = big(rt.alloc())?;
-    // a buffer, and how many reads there are: those of all 138 bytes, and one of the end
-    for (buffer, calls) in [(24, 7), (40, 5), (100, 3), (65536, 2)] {
-        let bytes = whole.as_slice();
-        assert!(rt;
-            reads_at_most(rt.alloc(), bytes, buffer, calls),
-            "through {buffer}"
-        );
-    }
-    Ok(())
-}
-
-// A packet that says it was shorter before it was captured.
-const TOO_LONG: [u8; 16] = [0, 0, 0, 1, 0, 0, 0, 0, 0, 0, 0, 2, 0, 0, 0, 1];
-
-// Whether so many packets and bytes are copied where that many packets are asked for.
-fn copies(
-    alloc: Global,
-    bytes: &[u8],
-    step: usize,
-    buffer: usize,
-    (most, taken): (u64, usize),
-) -> bool {
-    let mut out = Vec::new(alloc);
-    let done = copy(alloc, bytes, (step, 0), buffer, &mut out, Under::Same, most);
-    is_whole(done, most) && done.taken == taken && out.as_slice() == front(bytes, taken)
-}
-
-// Whether one packet is copied, and the one behind it is refused.
-fn refuses_the_second(alloc: Global, bytes: &[u8], step: usize, buffer: usize) -> bool {
-    let mut out = Vec::new(alloc);
-    let done = copy(alloc, bytes, (step, 0), buffer, &mut out, Under::Same, 2);
-    let is_named = matches!(done.end, End::Refused("PacketHeader incl_len > orig_len"));
-    is_named && done.packets == 1 && out.as_slice() == front(bytes, 138)
-}
-
-#[test]
-fn most_packets(rt: HostRuntime) -> Result<(), Fail> {
-    let mut long = big(rt.alloc())?;
-    long.extend_from_slice(&TOO_LONG)?;
-    let bytes = long.as_slice();
-    for buffer in BUFFERS {
-        for step in [1, 200] {
-            assert!(rt;
-                copies(rt.alloc(), bytes, step, buffer, (0, 24)),
-                "through {buffer}"
-            );
-            assert!(rt;
-                copies(rt.alloc(), bytes, step, buffer, (1, 138)),
-                "through {buffer}"
-            );
-            assert!(rt;
-                refuses_the_second(rt.alloc(), bytes, step, buffer),
-                "through {buffer}"
-            );
-        }
-    }
-    Ok(())
-}
-
-// Whether nothing is asked or written under a header with a wrong magic number.
-fn refuses_the_header(alloc: Global, buffer: usize) -> bool {
-    let header = PcapHeader {
-        magic_number: 0,
-        ..PcapHeader::default()
-    };
-    let mut out = Vec::new(alloc);
-    let under = Under::Header(header);
-    let done = copy(alloc, &BIG_HEAD, (200, 0), buffer, &mut out, under, 9);
-    is_wrong(done) && done.calls == 0 && out.is_empty() && !done.read_failed
-}
-
-#[test]
-fn invalid_header(rt: HostRuntime) {
-    for buffer in BUFFERS {
-        assert!(rt; refuses_the_header(rt.alloc(), buffer), "through {buffer}");
+fn interrupted_writes(rt: HostRuntime) {
+    let under = Header::Order(Endianness::Little, TsResolution::MicroSecond);
+    for (call, out) in CALLS {
+        let row = halting(call, out, under, Bytes::Turned);
+        assert!(rt; halts(rt.alloc(), row), "at {call}");
     }
 }
 
-// Whether a copy of so many bytes of the capture's header takes these, and nothing goes out.
-fn tears_the_header(alloc: Global, buffer: usize, end: usize) -> bool {
-    let mut out = Vec::new(alloc);
-    let bytes = front(&BIG_HEAD, end);
-    let done = copy(alloc, bytes, (9, 0), buffer, &mut out, Under::Same, 9);
-    is_torn(done) && done.taken == end && out.is_empty()
+#[test]
+fn interrupted_stretches(rt: HostRuntime) {
+    for (call, out) in STRETCHES {
+        let row = halting(call, out, Header::Same, Bytes::Three);
+        assert!(rt; halts(rt.alloc(), row), "at {call}");
+    }
+}
+
+// A copy whose stream fails at this call, one byte a call.
+fn unread(fails_at: usize) -> Row {
+    Row {
+        step: 1,
+        fails_at,
+        packets: if fails_at < 139 { 0 } else { 1 },
+        end: End::Io,
+        read_failed: true,
+        reads: (fails_at, fails_at),
+        out: match fails_at {
+            0..25 => 0,
+            25..139 => 24,
+            _ => 138,
+        },
+        ..WHOLE
+    }
+}
+
+#[test]
+fn every_failed_read(rt: HostRuntime) {
+    for fails_at in 1..140usize {
+        let row = unread(fails_at);
+        assert!(rt; holds_through_each(rt.alloc(), row), "at {fails_at}");
+    }
+}
+
+// A copy of so many bytes of the capture's header.
+fn torn_header(length: usize) -> Row {
+    Row {
+        length,
+        step: 9,
+        packets: 0,
+        end: End::Io,
+        taken: (length, length),
+        out: 0,
+        ..WHOLE
+    }
 }
 
 #[test]
 fn torn_headers(rt: HostRuntime) {
-    for buffer in BUFFERS {
-        for end in 0..24usize {
-            assert!(rt; tears_the_header(rt.alloc(), buffer, end), "at {end}");
-        }
+    for length in 0..24usize {
+        let row = torn_header(length);
+        assert!(rt; holds_through_each(rt.alloc(), row), "at {length}");
     }
 }
 
-// Whether nothing goes out of a stream with a wrong magic number.
-fn refuses_the_magic(alloc: Global, step: usize, buffer: usize) -> bool {
-    let mut out = Vec::new(alloc);
-    let done = copy(
-        alloc,
-        &[0xff; 30],
-        (step, 0),
+// A copy of the capture through a buffer, with so many reads at most.
+fn ending(buffer: usize, reads: usize) -> Row {
+    Row {
         buffer,
-        &mut out,
-        Under::Same,
-        9,
-    );
-    is_wrong(done) && out.is_empty()
-}
-
-// Whether the header alone goes out of a capture that ends inside of its packet.
-fn copies_the_header(alloc: Global, step: usize, buffer: usize) -> bool {
-    let mut out = Vec::new(alloc);
-    let done = copy(
-        alloc,
-        &BIG_HEAD,
-        (step, 0),
-        buffer,
-        &mut out,
-        Under::Same,
-        9,
-    );
-    is_torn(done) && out.as_slice() == front(&BIG_HEAD, 24)
+        reads: (0, reads),
+        ..WHOLE
+    }
 }
 
 #[test]
-fn refused_headers(rt: HostRuntime) {
-    for buffer in BUFFERS {
-        for step in [1, 200] {
-            assert!(rt;
-                refuses_the_magic(rt.alloc(), step, buffer),
-                "through {buffer}"
-            );
-            assert!(rt;
-                copies_the_header(rt.alloc(), step, buffer),
-                "through {buffer}"
-            );
-        }
+fn one_end(rt: HostRuntime) {
+    // a buffer, and how many reads there are: those of all 138 bytes, and one of the end
+    for (buffer, reads) in [(24, 7), (40, 5), (100, 3), (65536, 2)] {
+        assert!(rt;
+            holds(rt.alloc(), ending(buffer, reads)),
+            "through {buffer}"
+        );
     }
 }

@@ -6,12 +6,11 @@ use pcap_classic::pcap::{Packet, PcapHeader, PcapWriter};
 use pcap_classic::stream::Told;
 use std::alloc::Global;
 use std::io::Write;
-use std::test::Fail;
 use test_support::captures::{back, big, front};
 use test_support::writers::Narrow;
 
-/// Each call of a writer that takes ten bytes at most of the capture, and how many bytes went out before it.
-pub const CALLS: [(u64, usize); 15] = [
+// Each call of a writer that takes ten bytes at most of the capture, and how many bytes went out before it.
+const CALLS: [(u64, usize); 15] = [
     (1, 0),
     (2, 10),
     (3, 20),
@@ -44,37 +43,33 @@ fn fails_once(output: &mut Narrow, packet: &Packet<'_>, room: usize) -> bool {
     }
 }
 
-// Whether a writer fails once, and these bytes of the capture are what went out.
-fn leaves(mut output: Narrow, packet: &Packet<'_>, gone: &[u8]) -> bool {
-    fails_once(&mut output, packet, gone.len()) && output.out.as_slice() == gone
+// Whether a writer fails once, and the capture's first bytes are what went out, so many.
+fn leaves(alloc: Global, mut output: Narrow, gone: usize) -> bool {
+    let Ok(whole) = big(alloc) else {
+        return false;
+    };
+    let packet = packet(back(whole.as_slice(), 40));
+    fails_once(&mut output, &packet, gone) && output.out.as_slice() == front(whole.as_slice(), gone)
 }
 
 #[test]
-fn every_room(rt: HostRuntime) -> Result<(), Fail> {
-    let whole = big(rt.alloc())?;
-    let packet = packet(back(whole.as_slice(), 40));
+fn every_room(rt: HostRuntime) {
     for fails in [false, true] {
         for room in 0..138usize {
-            let gone = front(whole.as_slice(), room);
             let output = Narrow::new(rt.alloc(), room, fails);
-            assert!(rt; leaves(output, &packet, gone), "into {room}");
+            assert!(rt; leaves(rt.alloc(), output, room), "into {room}");
         }
     }
-    Ok(())
 }
 
 #[test]
-fn interrupted_calls(rt: HostRuntime) -> Result<(), Fail> {
-    let whole = big(rt.alloc())?;
-    let packet = packet(back(whole.as_slice(), 40));
+fn interrupted_calls(rt: HostRuntime) {
     for (call, gone) in CALLS {
-        let gone = front(whole.as_slice(), gone);
         for is_idle in [false, true] {
             let output = Narrow::halting(rt.alloc(), call, is_idle);
-            assert!(rt; leaves(output, &packet, gone), "at {call}");
+            assert!(rt; leaves(rt.alloc(), output, gone), "at {call}");
         }
     }
-    Ok(())
 }
 
 // Whether no writer is made over a header with a wrong magic number, and nothing is asked of its stream.
@@ -89,10 +84,14 @@ fn refuses_the_header(output: &mut Narrow) -> bool {
     )
 }
 
+fn asks_for_nothing(alloc: Global) -> bool {
+    let mut output = Narrow::new(alloc, 1000, true);
+    refuses_the_header(&mut output) && output.out.is_empty() && output.calls == 0
+}
+
 #[test]
 fn invalid_header(rt: HostRuntime) {
-    let mut output = Narrow::new(rt.alloc(), 1000, true);
-    assert!(rt; refuses_the_header(&mut output) && output.out.is_empty() && output.calls == 0);
+    assert!(rt; asks_for_nothing(rt.alloc()));
 }
 
 // Whether no packet of no bytes is written, for the writer that failed, and none is asked for.
@@ -110,12 +109,16 @@ fn fits_one(writer: &mut PcapWriter<Narrow>) -> bool {
     is_written && began && is_refused && writer.failed()
 }
 
+fn fits_one_for_good(alloc: Global) -> bool {
+    match PcapWriter::with_header(PcapHeader::default(), Narrow::new(alloc, 40, true)) {
+        Ok(mut writer) => fits_one(&mut writer) && stays_failed(&mut writer),
+        Err(_) => false,
+    }
+}
+
 #[test]
-fn empty_packet(rt: HostRuntime) -> Result<(), Fail> {
-    let output = Narrow::new(rt.alloc(), 40, true);
-    let mut writer = PcapWriter::with_header(PcapHeader::default(), output)?;
-    assert!(rt; fits_one(&mut writer) && stays_failed(&mut writer));
-    Ok(())
+fn empty_packet(rt: HostRuntime) {
+    assert!(rt; fits_one_for_good(rt.alloc()));
 }
 
 // How many bytes a write took, if it didn't fail.
@@ -172,12 +175,13 @@ fn tells_for_good(alloc: Global, fails: bool) -> bool {
     still_tells(told) && began
 }
 
+fn each_tells(alloc: Global, fails: bool) -> bool {
+    tells_for_good(alloc, fails) && tells_a_flush(alloc, fails) && tells_one_write(alloc, fails)
+}
+
 #[test]
 fn told_writers(rt: HostRuntime) {
-    for fails in [false, true] {
-        assert!(rt; tells_for_good(rt.alloc(), fails));
-        assert!(rt; tells_a_flush(rt.alloc(), fails));
-        assert!(rt; tells_one_write(rt.alloc(), fails));
-    }
+    assert!(rt; each_tells(rt.alloc(), false));
+    assert!(rt; each_tells(rt.alloc(), true));
     assert!(rt; tells_one_flush(rt.alloc()));
 }

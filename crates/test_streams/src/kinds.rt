@@ -7,8 +7,7 @@ use pcap_classic::run::{Under, copy_pcap, read_pcap};
 use pcap_classic::{PcapError, ResultParsing, TsResolution};
 use std::alloc::{AllocError, Global};
 use std::io::ErrorKind;
-use std::test::Fail;
-use test_support::captures::{BIG_HEAD, back, big, contents, front};
+use test_support::captures::{back, big, contents, front};
 use test_support::readers::Halting;
 use test_support::writers::Narrow;
 
@@ -20,7 +19,15 @@ pub fn is_kind(fault: &Option<PcapError>, kind: ErrorKind) -> bool {
     }
 }
 
-/// The same of what a call gave.
+/// Whether this is an `InvalidField` with this message.
+pub fn names(fault: &Option<PcapError>, message: &str) -> bool {
+    match fault {
+        Some(PcapError::InvalidField(told)) => *told == message,
+        _ => false,
+    }
+}
+
+/// Whether a call gave an `IoError` with an error of this kind inside.
 pub fn fails_by<T>(outcome: &ResultParsing<T>, kind: ErrorKind) -> bool {
     match outcome {
         Err(PcapError::IoError(error)) => error.kind() == kind,
@@ -28,227 +35,191 @@ pub fn fails_by<T>(outcome: &ResultParsing<T>, kind: ErrorKind) -> bool {
     }
 }
 
+// What is read of a stream.
+#[derive(Clone, Copy, Debug)]
+enum Reading {
+    Header,
+    PacketHeader,
+    Packet,
+    // A reader, and what it gives.
+    Reader,
+    Item,
+    Run,
+    Copy,
+}
+
+// What is read, where it begins in the capture, how many of its bytes are there, and the most bytes of one read.
+const READS: [(Reading, usize, usize, usize); 7] = [
+    (Reading::Header, 0, 21, 7),
+    (Reading::Reader, 0, 21, 7),
+    (Reading::PacketHeader, 24, 15, 5),
+    // ten bytes of the packet's header, its last six, and ten of its data
+    (Reading::Packet, 24, 26, 10),
+    // the header, the packet's header, and ten bytes of its data
+    (Reading::Item, 0, 50, 50),
+    (Reading::Run, 0, 50, 50),
+    (Reading::Copy, 0, 50, 50),
+];
+
 // What follows the bytes of a stream, which are given in three reads: its end, or a read that fails. With it the kind
 // of the fault.
 const ENDS: [(usize, ErrorKind); 2] = [(0, ErrorKind::UnexpectedEof), (4, ErrorKind::TimedOut)];
 
-fn ending(
-    alloc: Global,
-    bytes: &[u8],
-    step: usize,
-    (fails_at, kind): (usize, ErrorKind),
-) -> Result<Halting, AllocError> {
-    let mut stream = Halting::new(alloc, bytes, step)?;
-    stream.fails_at = fails_at;
-    stream.kind = kind;
-    Ok(stream)
+// So many bytes of the capture from this one on.
+fn big_stream(alloc: Global, start: usize, length: usize) -> Result<Halting, AllocError> {
+    let whole = big(alloc)?;
+    Halting::new(alloc, front(back(whole.as_slice(), start), length), 200)
 }
 
-// Whether the capture's header fails by the end of three reads of a beginning of it.
-fn header_fails(alloc: Global, end: (usize, ErrorKind)) -> bool {
-    match ending(alloc, front(&BIG_HEAD, 21), 7, end) {
-        Ok(mut stream) => fails_by(&PcapHeader::from_reader(&mut stream), end.1),
-        Err(_) => false,
-    }
-}
-
-// Whether a packet does, of which ten bytes of its header came, its last six, and ten of its data.
-fn packet_fails(alloc: Global, whole: &[u8], end: (usize, ErrorKind)) -> bool {
-    let Ok(mut stream) = ending(alloc, front(back(whole, 24), 26), 10, end) else {
-        return false;
-    };
-    let resolution = TsResolution::MicroSecond;
-    let packet = Packet::from_reader::<_, BigEndian>(alloc, &mut stream, resolution);
-    fails_by(&packet, end.1)
-}
-
-#[test]
-fn values(rt: HostRuntime) -> Result<(), Fail> {
-    let whole = big(rt.alloc())?;
-    for end in ENDS {
-        assert!(rt; header_fails(rt.alloc(), end), "at {}", end.0);
-        assert!(rt;
-            packet_fails(rt.alloc(), whole.as_slice(), end),
-            "at {}",
-            end.0
-        );
-    }
-    Ok(())
-}
-
-// Whether no reader is made by the end of three reads of a beginning of the capture's header.
-fn opening_fails(alloc: Global, end: (usize, ErrorKind)) -> bool {
-    match ending(alloc, front(&BIG_HEAD, 21), 7, end) {
-        Ok(stream) => fails_by(&PcapReader::new(alloc, stream), end.1),
-        Err(_) => false,
-    }
-}
-
-// Whether the packet's header fails by the end of three reads of a beginning of it.
-fn packet_header_fails(alloc: Global, end: (usize, ErrorKind)) -> bool {
-    let Ok(mut stream) = ending(alloc, front(back(&BIG_HEAD, 24), 15), 5, end) else {
-        return false;
-    };
-    let resolution = TsResolution::MicroSecond;
-    let header = PacketHeader::from_reader::<_, BigEndian>(&mut stream, resolution);
-    fails_by(&header, end.1)
-}
-
-#[test]
-fn headers(rt: HostRuntime) {
-    for end in ENDS {
-        assert!(rt; opening_fails(rt.alloc(), end), "at {}", end.0);
-        assert!(rt; packet_header_fails(rt.alloc(), end), "at {}", end.0);
-    }
-}
-
-// Whether a reader's first packet fails by the end of three reads of 50 bytes.
-fn reader_fails(alloc: Global, bytes: &[u8], end: (usize, ErrorKind)) -> bool {
-    let Ok(stream) = ending(alloc, bytes, 50, end) else {
-        return false;
-    };
-    match PcapReader::new(alloc, stream) {
+// Whether the first packet of a reader fails.
+fn item_fails(alloc: Global, stream: &mut Halting, kind: ErrorKind) -> bool {
+    match PcapReader::new(alloc, &mut *stream) {
         Ok(mut reader) => match &reader.next() {
-            Some(item) => fails_by(item, end.1),
+            Some(item) => fails_by(item, kind),
             None => false,
         },
         Err(_) => false,
     }
 }
 
-fn run_fails(alloc: Global, bytes: &[u8], end: (usize, ErrorKind)) -> bool {
-    let Ok(stream) = ending(alloc, bytes, 50, end) else {
-        return false;
-    };
-    match &read_pcap(alloc, stream, 9) {
-        Ok(read) => is_kind(&read.fault, end.1),
+fn run_fails(alloc: Global, stream: &mut Halting, kind: ErrorKind) -> bool {
+    match &read_pcap(alloc, &mut *stream, 9) {
+        Ok(read) => is_kind(&read.fault, kind),
         Err(_) => false,
     }
 }
 
-fn copy_fails(alloc: Global, bytes: &[u8], end: (usize, ErrorKind)) -> bool {
-    let Ok(mut stream) = ending(alloc, bytes, 50, end) else {
-        return false;
-    };
-    let mut out = Vec::new(alloc);
-    is_kind(
-        &copy_pcap(alloc, &mut stream, &mut out, Under::Same, 9).fault,
-        end.1,
-    )
-}
-
-#[test]
-fn captures(rt: HostRuntime) -> Result<(), Fail> {
-    let whole = big(rt.alloc())?;
-    // the header, the packet's header, and ten bytes of its data
-    let bytes = front(whole.as_slice(), 50);
-    for end in ENDS {
-        assert!(rt; reader_fails(rt.alloc(), bytes, end), "at {}", end.0);
-        assert!(rt; run_fails(rt.alloc(), bytes, end), "at {}", end.0);
-        assert!(rt; copy_fails(rt.alloc(), bytes, end), "at {}", end.0);
-    }
-    Ok(())
-}
-
-// Whether a writer fails at the capture's packet, by this kind.
-fn written_packet_fails(output: Narrow, packet: &Packet<'_>, kind: ErrorKind) -> bool {
-    match PcapWriter::with_header(PcapHeader::default(), output) {
-        Ok(mut writer) => fails_by(&writer.write_packet(packet), kind),
-        Err(_) => false,
-    }
-}
-
-// Whether it does in a stream of 50 bytes, which fails or takes nothing then, and of which this call is interrupted.
-fn narrow_packet_fails(
-    alloc: Global,
-    contents: &[u8],
-    (fails, interrupted, kind): (bool, u64, ErrorKind),
-) -> bool {
-    let mut output = Narrow::new(alloc, 50, fails);
-    output.interrupted = interrupted;
-    written_packet_fails(output, &packet(contents), kind)
-}
-
-#[test]
-fn writers(rt: HostRuntime) -> Result<(), Fail> {
-    let contents = contents(rt.alloc())?;
-    // whether the writer fails where it has no room, its call that is interrupted, and the kind of the fault
-    let rows = [
-        (false, 0, ErrorKind::WriteZero),
-        (true, 0, ErrorKind::Other),
-        (false, 3, ErrorKind::Interrupted),
-    ];
-    for row in rows {
-        assert!(rt;
-            narrow_packet_fails(rt.alloc(), contents.as_slice(), row),
-            "{} {}",
-            row.0,
-            row.1
-        );
-    }
-    Ok(())
-}
-
-// Whether a capture's header that is written by itself fails by this kind.
-fn header_is_refused(alloc: Global, fails: bool, kind: ErrorKind) -> bool {
-    let mut output = Narrow::new(alloc, 10, fails);
-    let header = PcapHeader::default().write_to::<_, BigEndian>(&mut output);
-    fails_by(&header, kind)
-}
-
-fn packet_header_is_refused(alloc: Global, fails: bool, kind: ErrorKind) -> bool {
-    let mut output = Narrow::new(alloc, 10, fails);
-    let resolution = TsResolution::MicroSecond;
-    let packet = PacketHeader::new(1, 2, 3, 4).write_to::<_, BigEndian>(&mut output, resolution);
-    fails_by(&packet, kind)
-}
-
-fn opening_is_refused(alloc: Global, fails: bool, kind: ErrorKind) -> bool {
-    fails_by(&PcapWriter::new(Narrow::new(alloc, 10, fails)), kind)
-}
-
-fn opening_with_a_header_is_refused(alloc: Global, fails: bool, kind: ErrorKind) -> bool {
-    let output = Narrow::new(alloc, 10, fails);
-    fails_by(
-        &PcapWriter::with_header(PcapHeader::default(), output),
-        kind,
-    )
-}
-
-#[test]
-fn narrow_headers(rt: HostRuntime) {
-    for (fails, kind) in [(false, ErrorKind::WriteZero), (true, ErrorKind::Other)] {
-        assert!(rt; opening_is_refused(rt.alloc(), fails, kind), "{kind:?}");
-        assert!(rt;
-            opening_with_a_header_is_refused(rt.alloc(), fails, kind),
-            "{kind:?}"
-        );
-        assert!(rt; header_is_refused(rt.alloc(), fails, kind), "{kind:?}");
-        assert!(rt;
-            packet_header_is_refused(rt.alloc(), fails, kind),
-            "{kind:?}"
-        );
-    }
-}
-
-// Whether a copy of these bytes into 50 fails by this kind.
-fn narrow_copy_fails(alloc: Global, bytes: &[u8], fails: bool, kind: ErrorKind) -> bool {
-    let Ok(mut stream) = Halting::new(alloc, bytes, 200) else {
-        return false;
-    };
-    let mut output = Narrow::new(alloc, 50, fails);
-    let copied = copy_pcap(alloc, &mut stream, &mut output, Under::Same, 9);
+fn copy_fails(alloc: Global, stream: &mut Halting, mut output: Narrow, kind: ErrorKind) -> bool {
+    let copied = copy_pcap(alloc, &mut *stream, &mut output, Under::Same, 9);
     is_kind(&copied.fault, kind)
 }
 
-#[test]
-fn copies(rt: HostRuntime) -> Result<(), Fail> {
-    let whole = big(rt.alloc())?;
-    for (fails, kind) in [(false, ErrorKind::WriteZero), (true, ErrorKind::Other)] {
-        assert!(rt;
-            narrow_copy_fails(rt.alloc(), whole.as_slice(), fails, kind),
-            "{kind:?}"
-        );
+// Whether reading this fails by this kind.
+fn read_fails(alloc: Global, what: Reading, mut stream: Halting, kind: ErrorKind) -> bool {
+    let micro = TsResolution::MicroSecond;
+    match what {
+        Reading::Header => fails_by(&PcapHeader::from_reader(&mut stream), kind),
+        Reading::PacketHeader => fails_by(
+            &PacketHeader::from_reader::<_, BigEndian>(&mut stream, micro),
+            kind,
+        ),
+        Reading::Packet => fails_by(
+            &Packet::from_reader::<_, BigEndian>(alloc, &mut stream, micro),
+            kind,
+        ),
+        Reading::Reader => fails_by(&PcapReader::new(alloc, stream), kind),
+        Reading::Item => item_fails(alloc, &mut stream, kind),
+        Reading::Run => run_fails(alloc, &mut stream, kind),
+        Reading::Copy => copy_fails(alloc, &mut stream, Narrow::new(alloc, 1000, true), kind),
     }
-    Ok(())
+}
+
+// Whether it does where these bytes of the capture are given, and then this end.
+fn ends_by(
+    alloc: Global,
+    (what, start, length, step): (Reading, usize, usize, usize),
+    (fails_at, kind): (usize, ErrorKind),
+) -> bool {
+    let Ok(mut stream) = big_stream(alloc, start, length) else {
+        return false;
+    };
+    stream.step = step;
+    stream.fails_at = fails_at;
+    stream.kind = kind;
+    read_fails(alloc, what, stream, kind)
+}
+
+#[test]
+fn reads(rt: HostRuntime) {
+    for row in READS {
+        for end in ENDS {
+            assert!(rt; ends_by(rt.alloc(), row, end), "{:?} at {}", row.0, end.0);
+        }
+    }
+}
+
+#[test]
+fn empty_streams(rt: HostRuntime) {
+    for what in [Reading::Header, Reading::PacketHeader, Reading::Packet] {
+        assert!(rt; ends_by(rt.alloc(), (what, 0, 0, 9), ENDS[0]), "{what:?}");
+    }
+}
+
+// What is written to a stream.
+#[derive(Clone, Copy, Debug)]
+enum Writing {
+    Header,
+    PacketHeader,
+    // Writers that are made.
+    Writer,
+    WriterOfHeader,
+    // The capture's packet, behind its header.
+    Packet,
+    Copy,
+}
+
+// What is written, how many bytes there is room for, whether the writer fails where it has none, or takes nothing, its call that
+// is interrupted, if not call 0, and the kind of the fault.
+const WRITES: [(Writing, usize, bool, u64, ErrorKind); 13] = [
+    (Writing::Writer, 10, false, 0, ErrorKind::WriteZero),
+    (Writing::Writer, 10, true, 0, ErrorKind::Other),
+    (Writing::WriterOfHeader, 10, false, 0, ErrorKind::WriteZero),
+    (Writing::WriterOfHeader, 10, true, 0, ErrorKind::Other),
+    (Writing::Header, 10, false, 0, ErrorKind::WriteZero),
+    (Writing::Header, 10, true, 0, ErrorKind::Other),
+    (Writing::PacketHeader, 10, false, 0, ErrorKind::WriteZero),
+    (Writing::PacketHeader, 10, true, 0, ErrorKind::Other),
+    (Writing::Packet, 50, false, 0, ErrorKind::WriteZero),
+    (Writing::Packet, 50, true, 0, ErrorKind::Other),
+    (Writing::Packet, 50, false, 3, ErrorKind::Interrupted),
+    (Writing::Copy, 50, false, 0, ErrorKind::WriteZero),
+    (Writing::Copy, 50, true, 0, ErrorKind::Other),
+];
+
+// Whether writing the capture's packet fails.
+fn packet_fails(alloc: Global, output: Narrow, kind: ErrorKind) -> bool {
+    let Ok(bytes) = contents(alloc) else {
+        return false;
+    };
+    match PcapWriter::with_header(PcapHeader::default(), output) {
+        Ok(mut writer) => fails_by(&writer.write_packet(&packet(bytes.as_slice())), kind),
+        Err(_) => false,
+    }
+}
+
+// Whether writing this of the capture fails by this kind.
+fn write_fails(alloc: Global, what: Writing, mut output: Narrow, kind: ErrorKind) -> bool {
+    let micro = TsResolution::MicroSecond;
+    let header = PcapHeader::default();
+    match what {
+        Writing::Header => fails_by(&header.write_to::<_, BigEndian>(&mut output), kind),
+        Writing::PacketHeader => fails_by(
+            &PacketHeader::new(1, 2, 3, 4).write_to::<_, BigEndian>(&mut output, micro),
+            kind,
+        ),
+        Writing::Writer => fails_by(&PcapWriter::new(output), kind),
+        Writing::WriterOfHeader => fails_by(&PcapWriter::with_header(header, output), kind),
+        Writing::Packet => packet_fails(alloc, output, kind),
+        Writing::Copy => match big_stream(alloc, 0, 138) {
+            Ok(mut stream) => copy_fails(alloc, &mut stream, output, kind),
+            Err(_) => false,
+        },
+    }
+}
+
+// Whether the row holds.
+fn refuses(
+    alloc: Global,
+    (what, room, fails, interrupted, kind): (Writing, usize, bool, u64, ErrorKind),
+) -> bool {
+    let mut output = Narrow::new(alloc, room, fails);
+    output.interrupted = interrupted;
+    write_fails(alloc, what, output, kind)
+}
+
+#[test]
+fn writes(rt: HostRuntime) {
+    for row in WRITES {
+        assert!(rt; refuses(rt.alloc(), row), "{:?} by {:?}", row.0, row.4);
+    }
 }

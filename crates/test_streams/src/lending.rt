@@ -1,10 +1,9 @@
 //! Packets that a reader lends.
 
 use crate::sample::reader;
-use pcap_classic::PcapError;
 use pcap_classic::pcap::{Packet, PacketHeader, PcapHeader, PcapReader};
-use std::alloc::Global;
-use std::test::Fail;
+use pcap_classic::{PcapError, ResultParsing};
+use std::alloc::{AllocError, Global};
 use test_support::captures::{back, big, front};
 use test_support::readers::Halting;
 
@@ -32,26 +31,33 @@ fn lends(reader: &mut PcapReader<Halting>, contents: &[u8]) -> bool {
     is_first && is_given && is_lent && is_taken && is_last
 }
 
-// Whether one does of a stream of this capture, so many bytes at most in a read.
-fn lends_by(alloc: Global, whole: &[u8], step: usize) -> bool {
-    match reader(alloc, whole, step) {
-        Ok(mut reader) => lends(&mut reader, back(whole, 40)),
+// Whether one does of a stream of the capture, so many bytes at most in a read.
+fn lends_by(alloc: Global, step: usize) -> bool {
+    let Ok(whole) = big(alloc) else {
+        return false;
+    };
+    match reader(alloc, whole.as_slice(), step) {
+        Ok(mut reader) => lends(&mut reader, back(whole.as_slice(), 40)),
         Err(_) => false,
     }
 }
 
 #[test]
-fn lent_packets(rt: HostRuntime) -> Result<(), Fail> {
-    let whole = big(rt.alloc())?;
+fn lent_packets(rt: HostRuntime) {
     for step in [1, 7, 200] {
-        assert!(rt; lends_by(rt.alloc(), whole.as_slice(), step), "by {step}");
+        assert!(rt; lends_by(rt.alloc(), step), "by {step}");
     }
-    Ok(())
+}
+
+// A reader of the capture's first bytes, so many.
+fn torn(alloc: Global, end: usize) -> ResultParsing<PcapReader<Halting>> {
+    let whole = big(alloc)?;
+    reader(alloc, front(whole.as_slice(), end), 9)
 }
 
 // Whether a reader is refused a packet that is torn, lends nothing, and gives nothing after it.
-fn is_torn(alloc: Global, bytes: &[u8]) -> bool {
-    let Ok(mut reader) = reader(alloc, bytes, 9) else {
+fn is_torn(alloc: Global, end: usize) -> bool {
+    let Ok(mut reader) = torn(alloc, end) else {
         return false;
     };
     let is_refused = matches!(reader.next_header(), Some(Err(PcapError::IoError(_))));
@@ -59,30 +65,23 @@ fn is_torn(alloc: Global, bytes: &[u8]) -> bool {
 }
 
 #[test]
-fn torn_lent_packets(rt: HostRuntime) -> Result<(), Fail> {
-    let whole = big(rt.alloc())?;
+fn torn_lent_packets(rt: HostRuntime) {
     for end in [25, 39, 40, 137] {
-        assert!(rt;
-            is_torn(rt.alloc(), front(whole.as_slice(), end)),
-            "at {end}"
-        );
+        assert!(rt; is_torn(rt.alloc(), end), "at {end}");
     }
-    Ok(())
 }
 
 // Whether a reader with a header that is known lends the packet of a stream without one.
-fn lends_behind(alloc: Global, whole: &[u8]) -> bool {
-    let Ok(stream) = Halting::new(alloc, back(whole, 24), 9) else {
-        return false;
-    };
+fn lends_behind(alloc: Global) -> Result<bool, AllocError> {
+    let whole = big(alloc)?;
+    let stream = Halting::new(alloc, back(whole.as_slice(), 24), 9)?;
     let mut reader = PcapReader::with_header(alloc, PcapHeader::default(), stream);
     let expected = PacketHeader::new(0x4fa11b29, 152_630_000, 98, 98);
-    given(&mut reader) == Some(expected) && reader.data() == back(whole, 40)
+    let is_given = given(&mut reader) == Some(expected);
+    Ok(is_given && reader.data() == back(whole.as_slice(), 40))
 }
 
 #[test]
-fn readers_of_a_known_header(rt: HostRuntime) -> Result<(), Fail> {
-    let whole = big(rt.alloc())?;
-    assert!(rt; lends_behind(rt.alloc(), whole.as_slice()));
-    Ok(())
+fn readers_of_a_known_header(rt: HostRuntime) {
+    assert!(rt; matches!(lends_behind(rt.alloc()), Ok(true)));
 }

@@ -7,8 +7,7 @@ use byteorder::{BigEndian, ByteOrder, LittleEndian};
 use pcap_classic::pcap::{Packet, PacketHeader, PcapHeader, PcapWriter};
 use pcap_classic::run::{PcapRun, Rest, parse_pcap};
 use pcap_classic::{CowBytes, DataLink, Endianness, PcapError, ResultParsing, TsResolution};
-use std::alloc::Global;
-use std::test::Fail;
+use std::alloc::{AllocError, Global};
 use test_support::captures::{BIG_HEAD, back, big, contents, front};
 use test_support::rows::are_digits;
 
@@ -28,12 +27,15 @@ fn sets() -> bool {
         && header.snaplen == 65535
 }
 
+// Whether a header of another link type is else the default one.
+fn links() -> bool {
+    let other = PcapHeader::with_datalink(DataLink::RAW);
+    other.datalink == DataLink::RAW && other.version_major == 2 && other.version_minor == 4
+}
+
 #[test]
 fn setters(rt: HostRuntime) {
-    assert!(rt; sets());
-    let other = PcapHeader::with_datalink(DataLink::RAW);
-    assert!(rt; other.datalink == DataLink::RAW);
-    assert!(rt; other.version_major == 2 && other.version_minor == 4);
+    assert!(rt; sets() && links());
 }
 
 // A writer of a capture with this magic number, to which this packet was written.
@@ -87,50 +89,68 @@ fn writes_both_ways(alloc: Global, magic_number: u32, header: PacketHeader, byte
     is_written && back(out, end) == back(front(out, end), 24)
 }
 
+// So many bytes of a packet.
+fn bytes_of(alloc: Global, count: usize) -> Result<Vec<u8>, AllocError> {
+    if count == 98 {
+        return contents(alloc);
+    }
+    Vec::from_slice(alloc, front(&[0xaa, 0xbb], count))
+}
+
+// Whether a packet of so many bytes goes out as this header and its bytes, and in both ways where its header says so many.
+fn goes_out(
+    alloc: Global,
+    magic_number: u32,
+    header: PacketHeader,
+    count: usize,
+    digits: &str,
+) -> bool {
+    let Ok(bytes) = bytes_of(alloc, count) else {
+        return false;
+    };
+    let bytes = bytes.as_slice();
+    let mut is_out = writes(alloc, magic_number, header, bytes, digits);
+    if header.incl_len as usize == bytes.len() {
+        is_out &= writes_both_ways(alloc, magic_number, header, bytes);
+    }
+    is_out
+}
+
 #[test]
-fn packets_under_headers(rt: HostRuntime) -> Result<(), Fail> {
-    let alloc = rt.alloc();
-    let contents = contents(alloc)?;
-    // a magic number, a packet's header, its bytes, and the header that goes out
-    let rows: [(u32, PacketHeader, &[u8], &str); 4] = [
+fn packets_under_headers(rt: HostRuntime) {
+    // a magic number, a packet's header, how many bytes it has, and the header that goes out
+    let rows = [
         (
             0xa1b2c3d4,
             PacketHeader::new(1, 2999, 1, 5),
-            &[0xaa],
+            1,
             "00000001 00000002 00000001 00000005",
         ),
         (
             0xa1b23c4d,
             PacketHeader::new(1, 7, 9, 9),
-            &[0xaa, 0xbb],
+            2,
             "00000001 00000007 00000009 00000009",
         ),
         (
             0x4d3cb2a1,
             PacketHeader::new(0x4fa11b29, 152_630_000, 98, 98),
-            contents.as_slice(),
+            98,
             "291ba14f f0f21809 62000000 62000000",
         ),
         (
             0xa1b2c3d4,
             PacketHeader::new(1, 999, 0, 0),
-            &[],
+            0,
             "00000001 00000000 00000000 00000000",
         ),
     ];
-    for (magic_number, header, bytes, digits) in &rows {
+    for (magic_number, header, count, digits) in rows {
         assert!(rt;
-            writes(alloc, *magic_number, *header, *bytes, *digits),
+            goes_out(rt.alloc(), magic_number, header, count, digits),
             "{digits}"
         );
-        if header.incl_len as usize == bytes.len() {
-            assert!(rt;
-                writes_both_ways(alloc, *magic_number, *header, *bytes),
-                "{digits}"
-            );
-        }
     }
-    Ok(())
 }
 
 // The default header, in little-endian order.
@@ -159,11 +179,12 @@ fn begins_fine(alloc: Global, digits: &str) -> bool {
     }
 }
 
+// The same in nanoseconds.
+const FINE: &str = "4d3cb2a1 0200 0400 00000000 00000000 ffff0000 01000000";
+
 #[test]
 fn headers(rt: HostRuntime) {
-    assert!(rt; begins_plain(rt.alloc()));
-    let fine = "4d3cb2a1 0200 0400 00000000 00000000 ffff0000 01000000";
-    assert!(rt; begins_fine(rt.alloc(), fine));
+    assert!(rt; begins_plain(rt.alloc()) && begins_fine(rt.alloc(), FINE));
 }
 
 // What the headers of a capture and of a packet write.
@@ -188,20 +209,17 @@ fn owns(alloc: Global, contents: &[u8]) -> ResultParsing<bool> {
     Ok(is_copied && is_own(&packet.into_owned(alloc)?, contents))
 }
 
-#[test]
-fn parts_by_themselves(rt: HostRuntime) -> Result<(), Fail> {
+// Whether the capture's headers are what its bytes begin with, and its packet owns them.
+fn are_parts(alloc: Global) -> ResultParsing<bool> {
     let header = PacketHeader::new(0x4fa11b29, 152_630_000, 98, 98);
-    assert!(rt; heads(rt.alloc(), &header)?.as_slice() == BIG_HEAD.as_slice());
-    let contents = contents(rt.alloc())?;
-    assert!(rt; owns(rt.alloc(), contents.as_slice())?);
-    Ok(())
+    let is_head = heads(alloc, &header)?.as_slice() == BIG_HEAD.as_slice();
+    let contents = contents(alloc)?;
+    Ok(is_head && owns(alloc, contents.as_slice())?)
 }
 
 #[test]
-fn arrays_of_headers(rt: HostRuntime) -> Result<(), Fail> {
-    let array = PcapHeader::default().to_array::<BigEndian>(rt.alloc())?;
-    assert!(rt; array.as_slice() == &BIG_HEAD[..24]);
-    Ok(())
+fn parts_by_themselves(rt: HostRuntime) {
+    assert!(rt; matches!(are_parts(rt.alloc()), Ok(true)));
 }
 
 // Whether a packet of no bytes owns them.
@@ -214,12 +232,16 @@ fn owns_nothing(alloc: Global) -> ResultParsing<bool> {
     )
 }
 
+// Whether one that is given a byte states it.
+fn states_its_byte(alloc: Global) -> Result<bool, AllocError> {
+    let owned = Packet::new_owned(1, 2, Vec::from_slice(alloc, &[7])?, 3);
+    Ok(owned.header == PacketHeader::new(1, 2, 1, 3))
+}
+
 #[test]
-fn owned_packets(rt: HostRuntime) -> Result<(), Fail> {
-    assert!(rt; owns_nothing(rt.alloc())?);
-    let owned = Packet::new_owned(1, 2, Vec::from_slice(rt.alloc(), &[7])?, 3);
-    assert!(rt; owned.header == PacketHeader::new(1, 2, 1, 3));
-    Ok(())
+fn owned_packets(rt: HostRuntime) {
+    assert!(rt; matches!(owns_nothing(rt.alloc()), Ok(true)));
+    assert!(rt; matches!(states_its_byte(rt.alloc()), Ok(true)));
 }
 
 // Whether a header is written as these digits.
@@ -236,6 +258,17 @@ fn is_array<B: ByteOrder>(alloc: Global, header: &PcapHeader, digits: &str) -> b
     }
 }
 
+// Whether it is both.
+fn is_both<B: ByteOrder>(alloc: Global, header: &PcapHeader, digits: &str) -> bool {
+    is_written::<B>(alloc, header, digits) && is_array::<B>(alloc, header, digits)
+}
+
+#[test]
+fn arrays_of_headers(rt: HostRuntime) {
+    let digits = "a1b2c3d4 0002 0004 00000000 00000000 0000ffff 00000001";
+    assert!(rt; is_array::<BigEndian>(rt.alloc(), &PcapHeader::default(), digits));
+}
+
 #[test]
 fn headers_that_no_capture_has(rt: HostRuntime) {
     let header = PcapHeader {
@@ -245,11 +278,9 @@ fn headers_that_no_capture_has(rt: HostRuntime) {
         ..PcapHeader::default()
     };
     let big = "00000000 0002 0004 fffffffe 00000000 0000ffff 00000002";
-    assert!(rt; is_written::<BigEndian>(rt.alloc(), &header, big));
-    assert!(rt; is_array::<BigEndian>(rt.alloc(), &header, big));
+    assert!(rt; is_both::<BigEndian>(rt.alloc(), &header, big));
     let little = "00000000 0200 0400 feffffff 00000000 ffff0000 02000000";
-    assert!(rt; is_written::<LittleEndian>(rt.alloc(), &header, little));
-    assert!(rt; is_array::<LittleEndian>(rt.alloc(), &header, little));
+    assert!(rt; is_both::<LittleEndian>(rt.alloc(), &header, little));
 }
 
 // Whether a packet's header by itself is written as these digits.
@@ -262,9 +293,13 @@ fn is_written_as(alloc: Global, header: PacketHeader, digits: &str) -> bool {
     is_written && are_digits(out.as_slice(), digits)
 }
 
+// Whether it is where a packet of a byte has it, too.
+fn is_written_in_both(alloc: Global, header: PacketHeader, digits: &str) -> bool {
+    is_written_as(alloc, header, digits) && writes(alloc, 0xa1b2c3d4, header, &[0xaa], digits)
+}
+
 #[test]
 fn lengths_that_no_capture_has(rt: HostRuntime) {
-    let alloc = rt.alloc();
     let rows = [
         (
             PacketHeader::new(1, 2000, 9, 3),
@@ -284,11 +319,7 @@ fn lengths_that_no_capture_has(rt: HostRuntime) {
         ),
     ];
     for (header, digits) in rows {
-        assert!(rt; is_written_as(alloc, header, digits), "{digits}");
-        assert!(rt;
-            writes(alloc, 0xa1b2c3d4, header, &[0xaa], digits),
-            "{digits}"
-        );
+        assert!(rt; is_written_in_both(rt.alloc(), header, digits), "{digits}");
     }
 }
 
@@ -315,7 +346,9 @@ fn turns(writer: &mut PcapWriter<Vec<u8>>, packet: &Packet<'_>, contents: &[u8])
 }
 
 // Whether the packet of this capture goes out, is refused under a wrong magic number, and goes out in the other order.
-fn goes_out_in_both(alloc: Global, whole: &[u8]) -> ResultParsing<bool> {
+fn goes_out_in_both(alloc: Global) -> ResultParsing<bool> {
+    let whole = big(alloc)?;
+    let whole = whole.as_slice();
     let contents = back(whole, 40);
     let packet = packet(contents);
     let mut writer = PcapWriter::with_header(PcapHeader::default(), Vec::new(alloc))?;
@@ -324,10 +357,8 @@ fn goes_out_in_both(alloc: Global, whole: &[u8]) -> ResultParsing<bool> {
 }
 
 #[test]
-fn orders_between_packets(rt: HostRuntime) -> Result<(), Fail> {
-    let whole = big(rt.alloc())?;
-    assert!(rt; goes_out_in_both(rt.alloc(), whole.as_slice())?);
-    Ok(())
+fn orders_between_packets(rt: HostRuntime) {
+    assert!(rt; matches!(goes_out_in_both(rt.alloc()), Ok(true)));
 }
 
 // The capture of this packet, which is the largest that there may be.
@@ -356,11 +387,14 @@ fn is_read(alloc: Global, out: &[u8], bytes: &[u8]) -> bool {
     out.len() == 262_184 && matches!(&parse_pcap(alloc, out), Ok(run) if is_largest(run, bytes))
 }
 
-#[test]
-fn largest_packet(rt: HostRuntime) -> Result<(), Fail> {
-    let mut bytes = Vec::new(rt.alloc());
+fn goes_out_and_in(alloc: Global) -> ResultParsing<bool> {
+    let mut bytes = Vec::new(alloc);
     bytes.resize(262_144, 7)?;
-    let out = largest(rt.alloc(), bytes.as_slice())?;
-    assert!(rt; is_read(rt.alloc(), out.as_slice(), bytes.as_slice()));
-    Ok(())
+    let out = largest(alloc, bytes.as_slice())?;
+    Ok(is_read(alloc, out.as_slice(), bytes.as_slice()))
+}
+
+#[test]
+fn largest_packet(rt: HostRuntime) {
+    assert!(rt; matches!(goes_out_and_in(rt.alloc()), Ok(true)));
 }
