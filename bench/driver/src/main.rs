@@ -1,8 +1,9 @@
 //! The Rust crate, to measure beside it: `driver list|copy|blocks` writes what `capcopy` writes, and `driver CALL PASSES`
-//! makes the calls of `measured_calls`.
+//! makes the calls of `measured_calls`; `driver packets` writes what the example `stream` in `rust/` prints.
 
 mod bodies;
 mod captures;
+mod packets;
 
 use pcap_file::pcap::{PcapReader, PcapWriter};
 use pcap_file::pcapng::{BlockType, PcapNgReader};
@@ -100,7 +101,8 @@ fn main() -> Done {
         ["list"] => list(input, &mut output)?,
         ["copy"] => copy(input, &mut output)?,
         ["blocks"] => blocks(input, &mut output)?,
-        _ => return Err("driver list | copy | blocks | CALL PASSES".into()),
+        ["packets"] => packets::print(input, &mut output)?,
+        _ => return Err("driver list | copy | blocks | packets | CALL PASSES".into()),
     }
     Ok(output.flush()?)
 }
