@@ -50,7 +50,7 @@ sizes_seen : {X : Type 0} (see : X → Seen) (xs : List X) → sum_by (λ x. see
 sizes_seen see [] = refl
 sizes_seen see (x ∷ xs) = sum_by-cons (λ y. seen_size (see y)) x xs ∙ ap (λ (n : ℕ). seen_size (see x) + n) (sizes_seen see xs) ∙ sym (sum_by-cons seen_size (see x) (map see xs))
 
-frame_size : (e : Endianness) (b : Framed) (s rest : List ℕ) → FrameText e b s rest → b.initial_len + length rest ≡ length s
+pub frame_size : (e : Endianness) (b : Framed) (s rest : List ℕ) → FrameText e b s rest → b.initial_len + length rest ≡ length s
 frame_size e b s rest t =
     omega (
       arith,

@@ -3,5 +3,6 @@ pub mod Strict
 mod FrameRows
 mod StandAgain
 pub mod Refusing
+mod HeldBlocks
 mod StrictRuns
-mod FirstFlaw
+pub mod FirstFlaw

@@ -48,7 +48,7 @@ impl<'a> BlockAsIs<'a> {
 }
 
 // The enhanced packet that a body is as it stands, in this order, and what follows it.
-fn packet_in<'a>(
+pub(crate) fn packet_in<'a>(
     order: Endianness,
     alloc: Global,
     slice: &'a [u8],

@@ -8,9 +8,12 @@ mod block;
 mod kept;
 pub mod laws;
 mod parser;
+mod reader;
 pub mod resync;
 mod run;
+mod stated;
 
 pub use block::BlockAsIs;
 pub use parser::{OpenedAsIs, PcapNgParserAsIs};
+pub use reader::{LentAsIs, PcapNgReaderAsIs};
 pub use run::{FlawedAt, NgRunAsIs, parse_pcapng_as_is};

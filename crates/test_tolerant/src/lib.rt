@@ -11,6 +11,8 @@ mod block_rows;
 #[cfg(test)]
 mod block_runs;
 #[cfg(test)]
+mod block_streams;
+#[cfg(test)]
 mod blocks;
 #[cfg(test)]
 mod blocks_again;

@@ -1,0 +1,225 @@
+//! A reader of the blocks of a stream, as they stand.
+
+ghost use Rattle.std.specs.Prelude.{◌≡◌, ⊤, false, [], IfOk, IfNone, IfSome, option_map};
+ghost use Rattle.pcap_core.specs.Held.{held_bytes};
+ghost use Rattle.pcap_core.specs.Reading.{NextGives, Pulls};
+ghost use Rattle.pcap_file.specs.Frames.{framed_of};
+ghost use Rattle.pcap_file.specs.Lent.{header_of, framed_around, HoldsText};
+ghost use Rattle.pcap_tolerant_captures.specs.Blocks.{as_is_format};
+ghost use Rattle.pcap_tolerant_captures.specs.HeldAsIs.{state_in, held_item, LentTells, StaysUnlessTaken};
+
+use crate::block::{BlockAsIs, packet_in};
+use crate::parser::{OpenedAsIs, PcapNgParserAsIs};
+use crate::stated::BlocksAsIs;
+use pcap_blocks::BlockType;
+use pcap_core::ResultParsing;
+use pcap_core::stream::{Held, fill_item};
+use pcap_file::pcapng::BlockHeader;
+use pcap_tolerant_blocks::{EnhancedAsIs, Flaw};
+use std::alloc::{AllocError, Global};
+use std::io::Read;
+
+/// What stands around the body of a block that a reader lends, and what is wrong with that body.
+#[derive(Debug, Drop)]
+pub struct LentAsIs {
+    /// The block's type, its length and the order of its numbers.
+    pub header: BlockHeader,
+    /// What is wrong with the body of a section or an interface, in the order of the text. The body of any other block isn't read.
+    pub flaws: Vec<Flaw>,
+}
+
+/// Reads the blocks of a capture off a stream as they stand, the first section header among them, one for each call of `next_header`:
+/// none is left out for what is wrong with its body. The reader lends the block's bytes until it is called again, so a block
+/// costs no memory of its own, but for a section header or an interface description, which stays in force.
+///
+/// `next_header` is None where the stream ends between blocks; the next call asks the stream again. After its first refusal it is
+/// None for good. Between blocks exactly the bytes of the blocks were taken; a refused call has taken no more than was missing, and
+/// leaves the section and its interfaces as they are.
+#[derive(Drop)]
+pub struct PcapNgReaderAsIs<T> {
+    alloc: Global,
+    parser: Option<PcapNgParserAsIs>,
+    inner: T,
+    has_failed: bool,
+    held: Held,
+    is_done: bool,
+    ghost unfailed: { is_done ≡ false → has_failed ≡ false },
+}
+
+// What a reader lends of a block.
+fn lent(read: BlockAsIs) -> LentAsIs
+    ensures header { result.header ≡ header_of (framed_of read.entry.block) }
+    ensures flaws { result.flaws ≡ read.entry.flaws }
+{
+    let BlockAsIs { block, flaws } = read;
+    let header = BlockHeader {
+        type_: block.type_,
+        initial_len: block.initial_len,
+        endianness: block.endianness(),
+    };
+    LentAsIs { header, flaws }
+}
+
+// Reads the block at the front of these bytes: the next one, or the first one, where the parser begins.
+fn follow(
+    alloc: Global,
+    parser: &mut Option<PcapNgParserAsIs>,
+    bytes: &[u8],
+) -> ResultParsing<LentAsIs>
+    ensures { LentTells (state_in parser.old) (state_in parser.new) bytes.now result }
+{
+    if let Some(begun) = parser {
+        let (_rest, block) = begun.next_block_as_is(bytes)?;
+        return Ok(lent(block));
+    }
+    let (_rest, opened) = PcapNgParserAsIs::new(alloc, bytes)?;
+    let OpenedAsIs {
+        parser: begun,
+        first,
+    } = opened;
+    *parser = Some(begun);
+    Ok(lent(first))
+}
+
+// Holds the text of the next block. Nothing is held before it, nor where none comes; what is in force moves only where one does.
+fn hold<T: Read>(
+    alloc: Global,
+    parser: &mut Option<PcapNgParserAsIs>,
+    stream: &mut T,
+    has_failed: &mut bool,
+    held: &mut Held,
+) -> ResultParsing<Option<LentAsIs>>
+    requires between { held_bytes held.old ≡ [] }
+    requires unfailed { has_failed.old ≡ false }
+    ensures pulls { Pulls (as_is_format.says (state_in parser.old)) (held_item (state_in parser.new) (held_bytes held.new)) (T.remaining stream.old) (T.remaining stream.new) has_failed.new result }
+    ensures stays { StaysUnlessTaken (state_in parser.old) (state_in parser.new) result }
+    ensures text { HoldsText (as_is_format.says (state_in parser.old)) (held_item (state_in parser.new) (held_bytes held.new)) (T.remaining stream.old) (T.remaining stream.new) (held_bytes held.new) result }
+{
+    let Some(_head) = fill_item(&BlocksAsIs { parser }, stream, has_failed, held)? else {
+        return Ok(None);
+    };
+    let block = follow(alloc, parser, held.as_slice())?;
+    Ok(Some(block))
+}
+
+impl<T: Read + Drop> PcapNgReaderAsIs<T> {
+    ghost use Rattle.pcap_file.specs.Lent.{LendsText};
+    ghost use Rattle.pcap_tolerant_captures.specs.ReaderAsIs.{state_of, stream_of, has_failed, is_done, text_of, lent_item, StaysUnlessGiven};
+
+    /// The header of the next block, whose body the reader lends from then on (`body`, `text`, `enhanced`), until it is called again,
+    /// with exactly what is wrong with the body of a section or an interface. These are in force from then on, as they stand.
+    ///
+    /// `InvalidField` for the first rule that the block's frame breaks; by V10 where the first block is no section header, and by V11
+    /// where the body of a section header is under 16 bytes. `IoError` where a read failed, or the stream ended inside the block.
+    /// `OutOfMemory` where its bytes can't be held, or what stays in force can't be kept: room grows with the bytes that come, and
+    /// stays.
+    pub fn next_header(&mut self) -> Option<ResultParsing<LentAsIs>>
+        ensures stays { StaysUnlessGiven (state_of self.old) (state_of self.new) result }
+        ensures next { NextGives (as_is_format.says (state_of self.old)) (lent_item self.new) (T.remaining (stream_of self.old)) (T.remaining (stream_of self.new)) (is_done self.old) (is_done self.new) (has_failed self.old) (has_failed self.new) result }
+        ensures text { LendsText (as_is_format.says (state_of self.old)) (lent_item self.new) (T.remaining (stream_of self.old)) (T.remaining (stream_of self.new)) (text_of self.new) result }
+    {
+        self.held.clear();
+        if self.is_done {
+            return None;
+        }
+        let header = hold(
+            self.alloc,
+            &mut self.parser,
+            &mut self.inner,
+            &mut self.has_failed,
+            &mut self.held,
+        );
+        self.is_done = header.is_err();
+        if self.is_done {
+            self.held.clear();
+        }
+        header.transpose()
+    }
+}
+
+impl<T> PcapNgReaderAsIs<T> {
+    ghost use Rattle.pcap_tolerant_captures.specs.Blocks.{IsPacketIn};
+    ghost use Rattle.pcap_tolerant_captures.specs.State.{opening};
+    ghost use Rattle.pcap_tolerant_captures.specs.ReaderAsIs.{state_of, stream_of, parser_of, has_failed, is_done, text_of, body_of};
+
+    /// A reader of a capture's blocks: nothing is read yet.
+    pub fn new(alloc: Global, stream: T) -> PcapNgReaderAsIs<T>
+        ensures opening { state_of result ≡ opening }
+        ensures stream { stream_of result ≡ stream }
+        ensures unfailed { has_failed result ≡ false }
+        ensures ready { is_done result ≡ false }
+        ensures nothing_held { text_of result ≡ [] }
+    {
+        PcapNgReaderAsIs {
+            alloc,
+            parser: None,
+            inner: stream,
+            has_failed: false,
+            held: Held::new(alloc),
+            is_done: false,
+        }
+    }
+
+    /// The text of the block whose header `next_header` gave last: all of its bytes, from its type to the length behind its body, as
+    /// they stood in the stream. Empty before the first call, and where the last one gave no header.
+    pub fn text(&self) -> &[u8]
+        ensures { result.now ≡ text_of self.now }
+    {
+        self.held.as_slice()
+    }
+
+    /// The body of the block whose `text` the reader lends.
+    pub fn body(&self) -> &[u8]
+        ensures { result.now ≡ body_of self.now }
+    {
+        let bytes = self.text();
+        if bytes.len() < 12 {
+            return &[];
+        }
+        let (_head, after) = bytes.split_at(8);
+        let (body, _len) = after.split_at(bytes.len() - 12);
+        body
+    }
+
+    /// The enhanced packet that the body is as it stands, with what is wrong with it, of the block whose header `next_header` gave
+    /// last. None where the block is of another type.
+    ///
+    /// `AllocError` where a list can't grow.
+    pub fn enhanced(&self, header: BlockHeader) -> Result<Option<EnhancedAsIs<'_>>, AllocError>
+        ensures { IfOk result (IsPacketIn (framed_around header (body_of self.now))) }
+    {
+        if !matches!(header.type_, BlockType::EnhancedPacket) {
+            return Ok(None);
+        }
+        let (_rest, packet) = packet_in(header.endianness, self.alloc, self.body())?;
+        Ok(Some(packet))
+    }
+
+    /// The parser behind the blocks so far, which has the section in force and its interfaces. None before the first section header.
+    pub fn parser(&self) -> Option<&PcapNgParserAsIs>
+        ensures { option_map (λ parser. parser.now) result ≡ parser_of self.now }
+    {
+        self.parser.as_ref()
+    }
+
+    /// Whether a read of the wrapped stream failed.
+    pub fn failed(&self) -> bool
+        ensures { result ≡ has_failed self.now }
+    {
+        self.has_failed
+    }
+
+    /// The wrapped stream.
+    pub fn get_ref(&self) -> &T
+        ensures { result.now ≡ stream_of self.now }
+    {
+        &self.inner
+    }
+
+    /// Gives the wrapped stream back. Held bytes are dropped.
+    pub fn into_reader(self) -> T
+        ensures { result ≡ stream_of self }
+    {
+        self.inner
+    }
+}
