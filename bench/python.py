@@ -1,15 +1,17 @@
 """python.py FILE WAY ROUNDS: walks over a capture's packets through Python, and prints how many they are, and the least seconds
-by the clock, of the processor, and of the thread that took most of it. A way whose module isn't installed prints nothing."""
+by the clock, of the processor, and of the thread or process that took most of it. A way whose module isn't installed prints nothing."""
 
 import importlib.util
+import multiprocessing
 import sys
 import threading
 import time
 
 THREADS = 3
 
-# What each thread that walks a stretch has taken of the processor.
+# What each thread that walks a stretch has taken of the processor, and each process that walks a part.
 taken = {}
+workers = []
 
 
 def iterate(path):
@@ -44,6 +46,21 @@ def by_threads(path):
         _columns._walked = walked
 
 
+def walked(part):
+    """How many packets a part has, and what walking over them has taken of the processor."""
+    begun = time.process_time()
+    return sum(1 for _ in part), time.process_time() - begun
+
+
+def by_workers(path):
+    import pcapfile
+
+    with multiprocessing.get_context("spawn").Pool(THREADS) as pool:
+        counts, processors = zip(*pool.map(walked, pcapfile.parts(path, THREADS)))
+    workers.extend(processors)
+    return sum(counts)
+
+
 def frame(path):
     import pcapfile
 
@@ -70,6 +87,7 @@ def by_scapy(path):
 # Each way, and what it needs.
 WAYS = {
     "iteration": (iterate, ()),
+    "iteration, 3 workers": (by_workers, ()),
     "columns": (columns, ("numpy",)),
     "columns(threads=3)": (by_threads, ("numpy",)),
     "to_pandas": (frame, ("pandas",)),
@@ -86,12 +104,13 @@ def main():
     walls, processors, longest = [], [], []
     for _ in range(rounds):
         taken.clear()
+        workers.clear()
         wall, processor, own = time.perf_counter(), time.process_time(), time.thread_time()
         count = walk(path)
         walls.append(time.perf_counter() - wall)
-        processors.append(time.process_time() - processor)
+        processors.append(time.process_time() - processor + sum(workers))
         taken[threading.get_ident()] = time.thread_time() - own
-        longest.append(max(taken.values()))
+        longest.append(max([*taken.values(), *workers]))
     print(count, min(walls), min(processors), min(longest))
 
 
