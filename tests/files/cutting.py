@@ -213,6 +213,13 @@ def try_pipes(tally, help):
         tally.note("parts of standard input", (ended[0], sorted(made)) != (DONE, ["x-00001", "x-00002", "x-00003"]) and f"it made {sorted(made)}, {ended}")
         ended = ran(tally, folder, "join", *sorted(made), "-o", "-")
         tally.note("joined into a pipe", ended != (DONE, capture, "") and f"it ended with {ended[0]}")
+        first, *others = sorted(made)
+        for words in (["-", *others], [first, "-", others[1]]):
+            given = made[first if words[0] == "-" else others[0]]
+            ended = ran(tally, folder, "join", *words, "-o", "-", given=given)
+            tally.note(f"a part through a pipe, {words}", ended != (DONE, capture, "") and f"it ended with {ended}")
+        ended = ran(tally, folder, "join", "-", "-o", "all", given=capture)
+        tally.note("a whole through a pipe", (ended, help.files(folder).get("all")) != ((DONE, b"", ""), capture) and f"it ended with {ended}")
         ended = ran(tally, folder, "cut", "-", "--parts", "2", "-o", "x", given=capture)
         tally.note("parts of a pipe", ended[0] != USAGE and f"it ended with {ended}")
 

@@ -72,7 +72,7 @@ pub(crate) fn open_packets(rt: &HostRuntime, name: &str) -> io::Result<Option<In
 }
 
 /// Says that a capture of blocks can't be read as it stands, and gives the status.
-pub(crate) fn tell_blocks(rt: &HostRuntime, name: &str) -> anyhow::Result<u8> {
+pub(crate) fn tell_blocks(rt: &HostRuntime, name: &str) -> io::Result<u8> {
     eprintln!(rt; "pcapfile: {name}: is PcapNg, of which nothing is read as it stands yet")?;
     Ok(FAILED)
 }

@@ -1,13 +1,14 @@
 //! The word `check`.
 
 use crate::input::{STANDARD, buffered};
+use crate::tell::tell_io;
 use pcapfile_run::{Checked, End, Format, check_blocks, check_packets, format_of};
 use std::fs::File;
 use std::io;
 use std::io::Read;
 
 /// Writes a line for each capture, and gives the status: that of the worst of them.
-pub(crate) fn check_files(rt: &HostRuntime, names: &[&str]) -> anyhow::Result<u8> {
+pub(crate) fn check_files(rt: &HostRuntime, names: &[&str]) -> io::Result<u8> {
     let mut status = 0;
     for name in names {
         status = check_file(rt, name)?.max(status);
@@ -15,17 +16,14 @@ pub(crate) fn check_files(rt: &HostRuntime, names: &[&str]) -> anyhow::Result<u8
     Ok(status)
 }
 
-// Writes the line of a capture. One that can't be read has it on standard error.
-fn check_file(rt: &HostRuntime, name: &str) -> anyhow::Result<u8> {
+// Writes the line of a capture. One that can't be read, or not be held, has it on standard error.
+fn check_file(rt: &HostRuntime, name: &str) -> io::Result<u8> {
     let checked = match read_and_check(rt, name) {
         Ok(checked) => checked,
-        Err(error) => {
-            eprintln!(rt; "pcapfile: {name}: {error}")?;
-            return Ok(crate::FAILED);
-        }
+        Err(error) => return tell_io(rt, name, &error),
     };
     match checked.end {
-        End::Unread(_) => eprintln!(rt; "pcapfile: {name}: {checked}")?,
+        End::Unread(_) | End::Memory => eprintln!(rt; "pcapfile: {name}: {checked}")?,
         _ => println!(rt; "{name}: {checked}")?,
     }
     Ok(checked.status())

@@ -6,13 +6,14 @@ use crate::tell::{AT_FAULT, tell_exit, tell_io};
 use capcopy_run::{Exit, Uninterrupted};
 use pcapfile_as_is::FlawLines;
 use pcapfile_run::{Checked, End, Format, end_of};
+use std::io;
 use std::io::{BufWriter, Write};
 
 /// The most packets that are told.
 const MOST: u64 = 18_446_744_073_709_551_614;
 
 /// Writes a line for each rule that a packet breaks and one for each capture, and gives the status: that of the worst of them.
-pub(crate) fn check_files_as_is(rt: &HostRuntime, names: &[&str]) -> anyhow::Result<u8> {
+pub(crate) fn check_files_as_is(rt: &HostRuntime, names: &[&str]) -> io::Result<u8> {
     let stdout = Uninterrupted::new(rt.stdout());
     let mut output = BufWriter::with_capacity(rt.alloc(), OUTPUT, stdout)?;
     let mut status = 0;
@@ -22,7 +23,7 @@ pub(crate) fn check_files_as_is(rt: &HostRuntime, names: &[&str]) -> anyhow::Res
     Ok(status)
 }
 
-fn check_file<W: Write>(rt: &HostRuntime, name: &str, output: &mut W) -> anyhow::Result<u8> {
+fn check_file<W: Write>(rt: &HostRuntime, name: &str, output: &mut W) -> io::Result<u8> {
     let input = match open_packets(rt, name) {
         Ok(Some(input)) => input,
         Ok(None) => return tell_blocks(rt, name),
@@ -42,7 +43,7 @@ fn tell_checked<W: Write>(
     name: &str,
     told: Result<Told, Exit>,
     output: &mut W,
-) -> anyhow::Result<u8> {
+) -> io::Result<u8> {
     let told = match told {
         Ok(told) => told,
         Err(exit) => {

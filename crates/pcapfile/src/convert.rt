@@ -69,7 +69,7 @@ impl Ended {
 
 /// Converts a capture, and gives the status. A file is written under another name in the same folder, and has its own once all
 /// of it is there.
-pub(crate) fn convert_file(rt: &HostRuntime, asked: &Conversion) -> anyhow::Result<u8> {
+pub(crate) fn convert_file(rt: &HostRuntime, asked: &Conversion) -> io::Result<u8> {
     if asked.out == STANDARD {
         let ended = open_and_convert(rt, asked, Uninterrupted::new(rt.stdout()));
         return tell_ended(rt, asked, &ended);
@@ -87,11 +87,7 @@ pub(crate) fn convert_file(rt: &HostRuntime, asked: &Conversion) -> anyhow::Resu
     unfinished.finish(rt, told)
 }
 
-fn tell_ended(
-    rt: &HostRuntime,
-    asked: &Conversion,
-    ended: &io::Result<Ended>,
-) -> anyhow::Result<u8> {
+fn tell_ended(rt: &HostRuntime, asked: &Conversion, ended: &io::Result<Ended>) -> io::Result<u8> {
     let ended = match ended {
         Ok(ended) => ended,
         Err(error) => return tell_io(rt, asked.from, error),

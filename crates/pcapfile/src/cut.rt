@@ -78,7 +78,7 @@ fn next_share(place: Place, parts: u64) -> Wanted {
 }
 
 /// Cuts a capture, and gives the status.
-pub(crate) fn cut_file(rt: &HostRuntime, asked: &Cutting) -> anyhow::Result<u8> {
+pub(crate) fn cut_file(rt: &HostRuntime, asked: &Cutting) -> io::Result<u8> {
     if asked.from == STANDARD {
         if let Way::Parts(_) = asked.way {
             eprintln!(rt; "error: --parts asks for a file, whose length is known")?;
@@ -101,7 +101,7 @@ fn cut_stream<R: Read + Drop>(
     asked: &Cutting,
     stream: R,
     length: u64,
-) -> anyhow::Result<u8> {
+) -> io::Result<u8> {
     let mut input = buffered(rt.alloc(), stream)?;
     match format_of(&mut input) {
         Err(error) => tell_io(rt, asked.from, &error),
@@ -121,7 +121,7 @@ fn cut_source<S: Source>(
     asked: &Cutting,
     source: &mut S,
     length: u64,
-) -> anyhow::Result<u8> {
+) -> io::Result<u8> {
     let opening = source.opening_len();
     let mut place = Place {
         opening,
@@ -147,7 +147,7 @@ fn cut_source<S: Source>(
 }
 
 // The name of a part: its number stands before the extension of the name that is given, in five digits or more.
-fn part_name(alloc: Global, out: &str, number: u64) -> anyhow::Result<String> {
+fn part_name(alloc: Global, out: &str, number: u64) -> io::Result<String> {
     let (folder, file) = match out.rsplit_once('/') {
         Some((folder, file)) => (Some(folder), file),
         None => (None, out),
@@ -171,7 +171,7 @@ fn write_part<S: Source>(
     name: &str,
     source: &mut S,
     place: &mut Place,
-) -> anyhow::Result<u8> {
+) -> io::Result<u8> {
     if name == STANDARD && !asked.way.is_many() {
         let stdout = Uninterrupted::new(rt.stdout());
         let written = write_to(rt.alloc(), asked.way, source, *place, stdout);
@@ -212,7 +212,7 @@ fn tell_written(
     name: &str,
     place: Place,
     written: &io::Result<Outcome>,
-) -> anyhow::Result<u8> {
+) -> io::Result<u8> {
     match written {
         Ok(outcome) => {
             let byte = place.opening.saturating_add(place.passed);

@@ -7,13 +7,14 @@ use pcap_file::PcapError;
 use pcapfile_info::{Information, inform_blocks, inform_packets};
 use pcapfile_run::{End, Format, format_of};
 use pcapfile_shown::{Report, json_of};
+use std::io;
 use std::io::{BufWriter, Write};
 
 /// The size of the buffer before standard output, in bytes.
 const OUTPUT: usize = 65_536;
 
 /// Writes what is told of each capture, and gives the status: that of the worst of them.
-pub(crate) fn inform_files(rt: &HostRuntime, names: &[&str], as_json: bool) -> anyhow::Result<u8> {
+pub(crate) fn inform_files(rt: &HostRuntime, names: &[&str], as_json: bool) -> io::Result<u8> {
     let stdout = Uninterrupted::new(rt.stdout());
     let mut output = BufWriter::with_capacity(rt.alloc(), OUTPUT, stdout)?;
     let mut status = 0;
@@ -42,7 +43,7 @@ fn write_told<W: Write>(
     information: &Information,
     as_json: bool,
     output: &mut W,
-) -> anyhow::Result<u8> {
+) -> io::Result<u8> {
     let checked = &information.checked;
     if let End::Unread(_) | End::Memory = &checked.end {
         eprintln!(rt; "pcapfile: {name}: {checked}")?;

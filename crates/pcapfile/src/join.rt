@@ -1,14 +1,13 @@
 //! The word `join`.
 
 use crate::blocks::{Blocks, join_blocks};
-use crate::input::{STANDARD, buffered};
+use crate::input::{STANDARD, Stream, buffered, open_stream};
 use crate::output::{OUTPUT, Unfinished, tell_read};
 use crate::source::{Packets, Source};
 use crate::tell::{AT_FAULT, tell_error, tell_io, tell_outcome};
 use capcopy_run::Uninterrupted;
 use pcapfile_cut::{Joined, Opening, Wanted, join_part};
 use pcapfile_run::{Format, format_of};
-use std::fs::File;
 use std::io;
 use std::io::{BufReader, BufWriter, Write};
 
@@ -21,10 +20,10 @@ pub(crate) struct Joining<'a> {
     pub(crate) out: &'a str,
 }
 
-type Input = BufReader<Uninterrupted<File>>;
+type Input = BufReader<Uninterrupted<Stream>>;
 
 /// Joins parts of a capture, and gives the status.
-pub(crate) fn join_files(rt: &HostRuntime, asked: &Joining) -> anyhow::Result<u8> {
+pub(crate) fn join_files(rt: &HostRuntime, asked: &Joining) -> io::Result<u8> {
     if asked.out == STANDARD {
         return join_into(rt, asked, Uninterrupted::new(rt.stdout()));
     }
@@ -42,7 +41,7 @@ pub(crate) fn join_files(rt: &HostRuntime, asked: &Joining) -> anyhow::Result<u8
     unfinished.finish(rt, told)
 }
 
-fn join_into<W: Write + Drop>(rt: &HostRuntime, asked: &Joining, output: W) -> anyhow::Result<u8> {
+fn join_into<W: Write + Drop>(rt: &HostRuntime, asked: &Joining, output: W) -> io::Result<u8> {
     let mut output = BufWriter::with_capacity(rt.alloc(), OUTPUT, output)?;
     let status = join_parts(rt, asked, &mut output)?;
     if status != 0 {
@@ -54,7 +53,7 @@ fn join_into<W: Write + Drop>(rt: &HostRuntime, asked: &Joining, output: W) -> a
     }
 }
 
-fn join_parts<W: Write>(rt: &HostRuntime, asked: &Joining, output: &mut W) -> anyhow::Result<u8> {
+fn join_parts<W: Write>(rt: &HostRuntime, asked: &Joining, output: &mut W) -> io::Result<u8> {
     let Some((first, others)) = asked.parts.split_first() else {
         return Ok(0);
     };
@@ -82,7 +81,7 @@ fn join_parts<W: Write>(rt: &HostRuntime, asked: &Joining, output: &mut W) -> an
 }
 
 fn open(rt: &HostRuntime, name: &str) -> io::Result<(Format, Input)> {
-    let mut input = buffered(rt.alloc(), File::open(rt, name)?)?;
+    let mut input = buffered(rt.alloc(), open_stream(rt, name)?)?;
     let format = format_of(&mut input)?;
     Ok((format, input))
 }
@@ -94,7 +93,7 @@ fn write_first<S: Source, W: Write>(
     name: &str,
     source: &mut S,
     output: &mut W,
-) -> anyhow::Result<u8> {
+) -> io::Result<u8> {
     let place = source.opening_len();
     let outcome = source.write_part(rt.alloc(), output, Wanted::All, false);
     tell_outcome(rt, name, place, asked.out, &outcome)
@@ -108,7 +107,7 @@ fn join_packets<W: Write>(
     opening: &Opening,
     first: u8,
     output: &mut W,
-) -> anyhow::Result<u8> {
+) -> io::Result<u8> {
     let mut status = first;
     for part in others {
         if status != 0 {
@@ -129,7 +128,7 @@ fn join_next<W: Write>(
     opening: &Opening,
     mut input: Input,
     output: &mut W,
-) -> anyhow::Result<u8> {
+) -> io::Result<u8> {
     match join_part(rt.alloc(), opening, &mut input, output) {
         Joined::Unopened(error) => tell_error(rt, part, &error),
         Joined::OtherHeader => {
@@ -151,7 +150,7 @@ fn join_others<W: Write>(
     first: Blocks<Input>,
     written: u8,
     output: &mut W,
-) -> anyhow::Result<u8> {
+) -> io::Result<u8> {
     let mut before = first;
     let mut status = written;
     for part in others {

@@ -12,7 +12,7 @@ use std::io::{BufWriter, Read, Write};
 const OUTPUT: usize = 65_536;
 
 /// Writes the packets of each capture, behind its name where there are several, and gives the status: that of the worst of them.
-pub(crate) fn list_files(rt: &HostRuntime, names: &[&str]) -> anyhow::Result<u8> {
+pub(crate) fn list_files(rt: &HostRuntime, names: &[&str]) -> io::Result<u8> {
     let stdout = Uninterrupted::new(rt.stdout());
     let mut output = BufWriter::with_capacity(rt.alloc(), OUTPUT, stdout)?;
     let mut status = 0;

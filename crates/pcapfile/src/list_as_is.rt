@@ -5,11 +5,12 @@ use crate::output::OUTPUT;
 use crate::tell::{AT_FAULT, tell_exit, tell_io};
 use capcopy_run::{Exit, Uninterrupted};
 use pcapfile_as_is::PacketLines;
+use std::io;
 use std::io::{BufWriter, Write};
 
 /// Writes the packets of each capture with the rules that they break, behind its name where there are several, and gives the
 /// status: that of the worst of them.
-pub(crate) fn list_files_as_is(rt: &HostRuntime, names: &[&str]) -> anyhow::Result<u8> {
+pub(crate) fn list_files_as_is(rt: &HostRuntime, names: &[&str]) -> io::Result<u8> {
     let stdout = Uninterrupted::new(rt.stdout());
     let mut output = BufWriter::with_capacity(rt.alloc(), OUTPUT, stdout)?;
     let mut status = 0;
@@ -24,7 +25,7 @@ fn list_file<W: Write>(
     name: &str,
     is_headed: bool,
     output: &mut W,
-) -> anyhow::Result<u8> {
+) -> io::Result<u8> {
     let input = match open_packets(rt, name) {
         Ok(Some(input)) => input,
         Ok(None) => return tell_blocks(rt, name),

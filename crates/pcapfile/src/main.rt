@@ -22,7 +22,8 @@ mod source;
 mod tell;
 mod words;
 
-use clap::ArgMatches;
+use clap::error::ErrorKind;
+use clap::{ArgMatches, Error};
 use convert::Conversion;
 use cut::{Cutting, Way};
 use join::Joining;
@@ -30,8 +31,10 @@ use merge::Merge;
 use pcapfile_cut::Wanted;
 use pcapfile_run::Format;
 use repair::Repair;
-use std::env;
+use std::alloc::AllocError;
 use std::process::ExitCode;
+use std::{env, io};
+use tell::status_of;
 
 /// The status of a program that could not read its words or write its answer.
 const FAILED: u8 = 3;
@@ -45,7 +48,7 @@ fn main(rt: HostRuntime) -> ExitCode {
         Err(error) => {
             // There is nowhere left to say that this write failed.
             let _ = eprintln!(rt; "pcapfile: {error}");
-            ExitCode::from(FAILED)
+            ExitCode::from(status_of(&error))
         }
     }
 }
@@ -90,7 +93,7 @@ fn way(words: &ArgMatches) -> Result<Way, &'static str> {
     Ok(Way::One(Wanted::Times { from, until }))
 }
 
-fn cut_out(rt: &HostRuntime, words: &ArgMatches) -> anyhow::Result<u8> {
+fn cut_out(rt: &HostRuntime, words: &ArgMatches) -> io::Result<u8> {
     let way = match way(words) {
         Ok(way) => way,
         Err(word) => {
@@ -108,7 +111,7 @@ fn cut_out(rt: &HostRuntime, words: &ArgMatches) -> anyhow::Result<u8> {
     cut::cut_file(rt, &asked)
 }
 
-fn join_parts(rt: &HostRuntime, words: &ArgMatches) -> anyhow::Result<u8> {
+fn join_parts(rt: &HostRuntime, words: &ArgMatches) -> io::Result<u8> {
     let asked = Joining {
         parts: words.get_strs(words::PARTS_IN).unwrap_or_default(),
         out: words.get_str(words::OUT).unwrap_or_default(),
@@ -132,16 +135,22 @@ fn repairing<'a>(words: &ArgMatches<'a>) -> Repair<'a> {
     }
 }
 
+// Says what is wrong with the words, or what they ask to be told of the program, and gives the status.
+fn tell_words(rt: &HostRuntime, error: &Error) -> io::Result<u8> {
+    if error.kind() == ErrorKind::OutOfMemory {
+        return Err(io::Error::from(AllocError));
+    }
+    error.print(rt)?;
+    Ok(if error.use_stderr() { USAGE } else { 0 })
+}
+
 // Does what the words ask for, and gives the status.
-fn run(rt: &HostRuntime) -> anyhow::Result<u8> {
+fn run(rt: &HostRuntime) -> io::Result<u8> {
     let words: Vec<String> = env::args(rt)?.collect(rt.alloc())?;
     let command = words::command(rt.alloc())?;
     let matches = match command.try_get_matches_from(words.as_slice()) {
         Ok(matches) => matches,
-        Err(error) => {
-            error.print(rt)?;
-            return Ok(u8::try_from(error.exit_code())?);
-        }
+        Err(error) => return tell_words(rt, &error),
     };
     match matches.subcommand() {
         Some(("check", check)) => {

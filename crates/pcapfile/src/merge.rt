@@ -6,12 +6,13 @@ ghost use Rattle.pcapfile_merge.specs.Holding.{IsReady};
 use crate::input::{STANDARD, Stream, buffered, open_stream};
 use crate::opening::{interfaces_of, put_opening};
 use crate::output::{OUTPUT, Unfinished, tell_read};
-use crate::tell::{tell_error, tell_io};
+use crate::tell::{AT_FAULT, tell_error, tell_io};
 use capcopy_run::Uninterrupted;
 use pcap_file::{PcapNgReader, PcapReader, ResultParsing};
 use pcapfile_merge::{Reader, Source, merge_packets};
 use pcapfile_run::{Format, format_of};
 use std::alloc::Global;
+use std::io;
 use std::io::{BufReader, BufWriter, Write};
 
 /// A capture that is merged, off a buffer.
@@ -31,7 +32,7 @@ pub(crate) struct Merge<'a> {
 struct Ended {
     /// The worst status of its files.
     status: u8,
-    /// Whether all that there was to write went out.
+    /// Whether all that there was to write went out, and each capture was read to its end or to its fault.
     is_whole: bool,
 }
 
@@ -47,7 +48,7 @@ impl Ended {
 
 /// Merges captures, and gives the status. A file is written under another name in the same folder, and has its own once all of
 /// it is there.
-pub(crate) fn merge_files(rt: &HostRuntime, asked: &Merge) -> anyhow::Result<u8> {
+pub(crate) fn merge_files(rt: &HostRuntime, asked: &Merge) -> io::Result<u8> {
     if asked.out == STANDARD {
         let ended = merge_to(rt, asked, Uninterrupted::new(rt.stdout()))?;
         return Ok(ended.status);
@@ -73,7 +74,7 @@ pub(crate) fn merge_files(rt: &HostRuntime, asked: &Merge) -> anyhow::Result<u8>
     }
 }
 
-fn merge_to<W: Write + Drop>(rt: &HostRuntime, asked: &Merge, output: W) -> anyhow::Result<Ended> {
+fn merge_to<W: Write + Drop>(rt: &HostRuntime, asked: &Merge, output: W) -> io::Result<Ended> {
     let mut sources = Vec::new(rt.alloc());
     let mut opened = Vec::new(rt.alloc());
     let mut interfaces: u32 = 0;
@@ -92,20 +93,30 @@ fn merge_to<W: Write + Drop>(rt: &HostRuntime, asked: &Merge, output: W) -> anyh
             }
             Err(error) => status = tell_error(rt, name, &error)?.max(status),
         }
+        if status > AT_FAULT {
+            return Ok(Ended::given_up(status));
+        }
     }
     let output = BufWriter::with_capacity(rt.alloc(), OUTPUT, output)?;
     if let Err(error) = write_merged(rt.alloc(), sources.as_mut_slice(), output) {
         return Ok(Ended::given_up(tell_error(rt, asked.out, &error)?));
     }
-    for (name, source) in opened.as_slice().iter().zip(sources.as_slice()) {
+    status = tell_faults(rt, opened.as_slice(), sources.as_slice())?.max(status);
+    Ok(Ended {
+        status,
+        is_whole: status <= AT_FAULT,
+    })
+}
+
+// Says what ended each of the captures of these names before its end, and gives the worst status.
+fn tell_faults(rt: &HostRuntime, names: &[&str], sources: &[Source<Input>]) -> io::Result<u8> {
+    let mut status = 0;
+    for (name, source) in names.iter().zip(sources) {
         if let Some(error) = source.fault() {
             status = tell_error(rt, name, error)?.max(status);
         }
     }
-    Ok(Ended {
-        status,
-        is_whole: true,
-    })
+    Ok(status)
 }
 
 // A reader of a capture of either format.

@@ -17,7 +17,7 @@ pub(crate) struct Unfinished<'a> {
 
 impl<'a> Unfinished<'a> {
     /// The file that becomes the one of this name.
-    pub(crate) fn new(rt: &HostRuntime, name: &'a str) -> anyhow::Result<Unfinished<'a>> {
+    pub(crate) fn new(rt: &HostRuntime, name: &'a str) -> io::Result<Unfinished<'a>> {
         let part = format!(in rt.alloc(); "{name}.part")?;
         Ok(Unfinished { name, part })
     }
@@ -33,7 +33,7 @@ impl<'a> Unfinished<'a> {
     }
 
     /// Gives it its name where the status that was told is 0, and takes it away else. Gives the status.
-    pub(crate) fn finish(&self, rt: &HostRuntime, told: anyhow::Result<u8>) -> anyhow::Result<u8> {
+    pub(crate) fn finish(&self, rt: &HostRuntime, told: io::Result<u8>) -> io::Result<u8> {
         let told = match told {
             Ok(0) => match fs::rename(rt, self.part(), self.name) {
                 Ok(()) => return Ok(0),
@@ -48,7 +48,7 @@ impl<'a> Unfinished<'a> {
 }
 
 /// Says that a file would replace one that is read, and gives the status.
-pub(crate) fn tell_read(rt: &HostRuntime, name: &str) -> anyhow::Result<u8> {
+pub(crate) fn tell_read(rt: &HostRuntime, name: &str) -> io::Result<u8> {
     eprintln!(rt; "pcapfile: {name}: is a capture that is read")?;
     Ok(FAILED)
 }

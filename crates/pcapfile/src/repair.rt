@@ -11,6 +11,7 @@ use pcap_tolerant::ReaderAsIs;
 use pcapfile_as_is::{Repairs, Teller, tell_packets};
 use pcapfile_cut::Opening;
 use std::alloc::Global;
+use std::io;
 use std::io::{BufWriter, Read, Stderr, Write};
 
 /// Where it is said what is changed.
@@ -27,7 +28,7 @@ pub(crate) struct Repair<'a> {
 
 /// Writes a capture of the packets of another one in which none breaks a rule, and gives the status. A file is written under
 /// another name in the same folder, and has its own once all of it is there.
-pub(crate) fn repair_file(rt: &HostRuntime, asked: &Repair) -> anyhow::Result<u8> {
+pub(crate) fn repair_file(rt: &HostRuntime, asked: &Repair) -> io::Result<u8> {
     if asked.out == STANDARD {
         return repair_to(rt, asked, Uninterrupted::new(rt.stdout()));
     }
@@ -43,7 +44,7 @@ pub(crate) fn repair_file(rt: &HostRuntime, asked: &Repair) -> anyhow::Result<u8
     unfinished.finish(rt, told)
 }
 
-fn repair_to<W: Write + Drop>(rt: &HostRuntime, asked: &Repair, output: W) -> anyhow::Result<u8> {
+fn repair_to<W: Write + Drop>(rt: &HostRuntime, asked: &Repair, output: W) -> io::Result<u8> {
     let from = asked.from;
     let mut input = match open_packets(rt, from) {
         Ok(Some(input)) => input,
@@ -81,7 +82,7 @@ fn repair_to<W: Write + Drop>(rt: &HostRuntime, asked: &Repair, output: W) -> an
 }
 
 // Says how many packets are changed, and what the capture couldn't be read for, and gives the status.
-fn tell_end(rt: &HostRuntime, from: &str, told: &Told) -> anyhow::Result<u8> {
+fn tell_end(rt: &HostRuntime, from: &str, told: &Told) -> io::Result<u8> {
     let (packets, flawed) = (told.counted.packets, told.counted.flawed);
     if flawed > 0 {
         eprintln!(rt; "pcapfile: {from}: {flawed} of {packets} packets are changed")?;

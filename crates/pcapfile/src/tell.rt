@@ -13,18 +13,26 @@ pub(crate) const AT_FAULT: u8 = 1;
 /// The status where memory ran out.
 const NO_MEMORY: u8 = 4;
 
+/// The status of a read or write that failed, or for which memory ran out.
+pub(crate) fn status_of(error: &io::Error) -> u8 {
+    match error.kind() {
+        ErrorKind::OutOfMemory => NO_MEMORY,
+        _ => FAILED,
+    }
+}
+
 /// Says why a file can't be read or written, and gives the status.
-pub(crate) fn tell_io(rt: &HostRuntime, name: &str, error: &io::Error) -> anyhow::Result<u8> {
+pub(crate) fn tell_io(rt: &HostRuntime, name: &str, error: &io::Error) -> io::Result<u8> {
     if error.kind() == ErrorKind::UnexpectedEof {
         eprintln!(rt; "pcapfile: {name}: cut short")?;
         return Ok(AT_FAULT);
     }
     eprintln!(rt; "pcapfile: {name}: {error}")?;
-    Ok(FAILED)
+    Ok(status_of(error))
 }
 
 /// Says why a capture is refused, or can't be read or written, and gives the status.
-pub(crate) fn tell_error(rt: &HostRuntime, name: &str, error: &PcapError) -> anyhow::Result<u8> {
+pub(crate) fn tell_error(rt: &HostRuntime, name: &str, error: &PcapError) -> io::Result<u8> {
     match error {
         PcapError::IoError(error) => return tell_io(rt, name, error),
         PcapError::OutOfMemory(_) => {
@@ -38,7 +46,7 @@ pub(crate) fn tell_error(rt: &HostRuntime, name: &str, error: &PcapError) -> any
 }
 
 /// Says how the run over a file ended, where it didn't reach the capture's end, and gives the status.
-pub(crate) fn tell_exit(rt: &HostRuntime, name: &str, exit: &Exit) -> anyhow::Result<u8> {
+pub(crate) fn tell_exit(rt: &HostRuntime, name: &str, exit: &Exit) -> io::Result<u8> {
     match exit {
         Exit::Done => return Ok(0),
         Exit::Refused(error) | Exit::Io(error) => return tell_error(rt, name, error),
@@ -57,7 +65,7 @@ pub(crate) fn tell_outcome(
     place: u64,
     out: &str,
     outcome: &Outcome,
-) -> anyhow::Result<u8> {
+) -> io::Result<u8> {
     let Some(error) = &outcome.fault else {
         return Ok(0);
     };
