@@ -5,6 +5,7 @@
 //   HOSTILE_ERROR=n                 the number of the error, in place of ENOMEM or EIO
 //   HOSTILE_CUT=n                   each read of standard input and write to standard output moves n bytes at most
 //   HOSTILE_MARK=file               is made once a call was refused, and says how many bytes the reads before it gave
+//   HOSTILE_FILES=1               and files count as the standard streams do
 // Reads are those of standard input, writes those to standard output.
 #include <errno.h>
 #include <fcntl.h>
@@ -16,7 +17,7 @@
 void *__libc_malloc(size_t);
 void *__libc_realloc(void *, size_t);
 
-static long calls, at, cut, on, row = 1, number, given;
+static long calls, at, cut, on, files, row = 1, number, given;
 static const char *kind = "";
 
 __attribute__((constructor)) static void start(void) {
@@ -26,6 +27,7 @@ __attribute__((constructor)) static void start(void) {
     if (getenv("HOSTILE_FOR")) row = atol(getenv("HOSTILE_FOR"));
     if (getenv("HOSTILE_ERROR")) number = atol(getenv("HOSTILE_ERROR"));
     on = getenv("HOSTILE_ON") != NULL;
+    files = getenv("HOSTILE_FILES") != NULL;
 }
 
 static int is_refused(const char *call, int error) {
@@ -48,7 +50,7 @@ void *malloc(size_t n) { return is_refused("memory", ENOMEM) ? NULL : __libc_mal
 void *realloc(void *p, size_t n) { return is_refused("memory", ENOMEM) ? NULL : __libc_realloc(p, n); }
 
 ssize_t read(int fd, void *to, size_t n) {
-    if (fd != 0) return syscall(SYS_read, fd, to, n);
+    if (fd != 0 && !(files && fd > 2)) return syscall(SYS_read, fd, to, n);
     if (is_refused("read", EIO)) return -1;
     long came = syscall(SYS_read, fd, to, shortened(n));
     if (came > 0) given += came;
@@ -56,6 +58,6 @@ ssize_t read(int fd, void *to, size_t n) {
 }
 
 ssize_t write(int fd, const void *from, size_t n) {
-    if (fd != 1) return syscall(SYS_write, fd, from, n);
+    if (fd != 1 && !(files && fd > 2)) return syscall(SYS_write, fd, from, n);
     return is_refused("write", EIO) ? -1 : syscall(SYS_write, fd, from, shortened(n));
 }

@@ -1,7 +1,7 @@
 mod BlockLists
 mod Lines
 pub mod Listing
-mod PacketLists
+pub mod PacketLists
 mod PacketLines
 mod Skipping
 mod Exits

@@ -22,7 +22,7 @@ use Rattle.pcap_classic.proofs.Stable.{header_stable}
 use Rattle.capcopy_run.specs.declared.exit.Exit.{Exit}
 use Rattle.capcopy_run.specs.Exits.{EndsAt, exit_of}
 use Rattle.capcopy_run.specs.Listing.{LinesEnd, ListsItems, ListsUntil}
-use Rattle.capcopy_run.specs.PacketLines.{IsPacketLine, packet_lines}
+use Rattle.capcopy_run.specs.PacketLines.{packets_in}
 use Rattle.capcopy_run.specs.Skipping.{TakesExactly}
 use Rattle.capcopy_run.proofs.Listing.{ends_refused, lists_known}
 
@@ -43,23 +43,23 @@ unfolding packet_format
 packet_asked order r left now asked = asked
 
 -- a refusal of a packet that was to be read off a stream ends the lines
-pub packet_unread : (order : Order) (r : TsResolution) (left mid : Option (List ℕ)) (n most : ℕ) → n < most → (e : PcapError) (exit : Exit)
-    → IsIo e ⊎ (⊤ × IsMemory e) ⊎ Shows (IsFaultOf (PacketSays packet_limit order r) left) e → EndsAt e exit → LinesEnd IsPacketLine ((packet_format packet_limit order r).says tt) left mid mid n most (Err exit)
+pub packet_unread : (IsLine : ℕ → Captured → List ℕ → Type 0) (order : Order) (r : TsResolution) (left mid : Option (List ℕ)) (n most : ℕ) → n < most → (e : PcapError) (exit : Exit)
+    → IsIo e ⊎ (⊤ × IsMemory e) ⊎ Shows (IsFaultOf (PacketSays packet_limit order r) left) e → EndsAt e exit → LinesEnd IsLine ((packet_format packet_limit order r).says tt) left mid mid n most (Err exit)
 unfolding packet_format
-packet_unread order r left mid n most fewer e exit cause ends =
+packet_unread IsLine order r left mid n most fewer e exit cause ends =
     let IsSaid = PacketSays packet_limit order r in
     elim cause [
-      | inl io ↦ ends_refused IsPacketLine IsSaid left mid n most fewer true e exit (read_failed io refl) ends
-      | inr (inl memory) ↦ ends_refused IsPacketLine IsSaid left mid n most fewer false e exit (no_memory memory.1 refl) ends
-      | inr (inr shown) ↦ ends_refused IsPacketLine IsSaid left mid n most fewer false e exit (refused shown refl) ends
+      | inl io ↦ ends_refused IsLine IsSaid left mid n most fewer true e exit (read_failed io refl) ends
+      | inr (inl memory) ↦ ends_refused IsLine IsSaid left mid n most fewer false e exit (no_memory memory.1 refl) ends
+      | inr (inr shown) ↦ ends_refused IsLine IsSaid left mid n most fewer false e exit (refused shown refl) ends
     ]
 
 -- a capture whose header was taken, and whose packets were listed in its order and resolution
-pub packets_known : (header : PcapHeader) (order : Endianness) (r : TsResolution) (bytes known now before : Option (List ℕ)) → order ≡ order_of header.magic_number → r ≡ resolution_of header.magic_number
+pub packets_known : (grows : Type 0) (IsLine : ℕ → Captured → List ℕ → Type 0) (header : PcapHeader) (order : Endianness) (r : TsResolution) (bytes known now before : Option (List ℕ)) → order ≡ order_of header.magic_number → r ≡ resolution_of header.magic_number
     → Takes HeaderSays bytes known header → (most : ℕ) (after : Option (List ℕ)) (result : Result (Unit {0}) Exit)
-    → ListsItems IsPacketLine (packet_format packet_limit (number_in order) r) tt known now before after most result → IfSome bytes (λ s. ListsUntil packet_lines most s now before after (exit_of result))
-packets_known header order r bytes known now before is_order is_resolution took most after result run =
+    → ListsItems IsLine (packet_format packet_limit (number_in order) r) tt known now before after most result → IfSome bytes (λ s. ListsUntil (packets_in grows IsLine) most s now before after (exit_of result))
+packets_known grows IsLine header order r bytes known now before is_order is_resolution took most after result run =
     let laws = packets_lawful packet_limit (number_in (order_of header.magic_number)) (resolution_of header.magic_number) in
-    let ordered = subst (λ (e : Endianness). ListsItems IsPacketLine (packet_format packet_limit (number_in e) r) tt known now before after most result) is_order run in
-    let under = subst (λ (t : TsResolution). ListsItems IsPacketLine (packet_format packet_limit (number_in (order_of header.magic_number)) t) tt known now before after most result) is_resolution ordered in
-    lists_known packet_lines header_stable header laws bytes known before before took (Appends-nil before) most now after result under
+    let ordered = subst (λ (e : Endianness). ListsItems IsLine (packet_format packet_limit (number_in e) r) tt known now before after most result) is_order run in
+    let under = subst (λ (t : TsResolution). ListsItems IsLine (packet_format packet_limit (number_in (order_of header.magic_number)) t) tt known now before after most result) is_resolution ordered in
+    lists_known (packets_in grows IsLine) header_stable header laws bytes known before before took (Appends-nil before) most now after result under

@@ -23,13 +23,17 @@ packet_line index header =
 abbrev pub IsPacketLine : ℕ → Captured → List ℕ → Type 0
 IsPacketLine index packet line = line ≡ packet_line index packet.header
 
--- classic captures: no line for the header, and one for each packet
-abbrev pub packet_lines : Kind PcapHeader (Unit {0}) Captured
-packet_lines = record {
+-- classic captures: no line for the header, and such a line for each packet
+abbrev pub packets_in : Type 0 → (ℕ → Captured → List ℕ → Type 0) → Kind PcapHeader (Unit {0}) Captured
+packets_in grows IsLine = record {
   opens = HeaderSays;
-  grows = ⊥;
+  grows = grows;
   heading = λ header. [];
   format = format_under packet_limit;
   start = λ header. tt;
-  IsLine = IsPacketLine;
+  IsLine = IsLine;
 }
+
+-- those lines take no memory
+abbrev pub packet_lines : Kind PcapHeader (Unit {0}) Captured
+packet_lines = packets_in ⊥ IsPacketLine

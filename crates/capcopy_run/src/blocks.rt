@@ -130,7 +130,7 @@ impl Lister for PcapNgParser {
 
     ghost grows = { ⊤ };
 
-    ghost is_line = { IsItemLine };
+    ghost is_line = { λ setting. IsItemLine };
 
     ghost format = { λ setting. block_format };
 

@@ -7,8 +7,8 @@ ghost use Rattle.capcopy_run.specs.Skipping.{TakesExactly};
 use std::io;
 use std::io::{BufRead, ErrorKind};
 
-// Takes so many bytes off the input and keeps none of them.
-pub(crate) fn skip_exact<R: BufRead>(input: &mut R, n: usize) -> io::Result<()>
+/// Takes so many bytes off the input and keeps none of them. The errors are those of the input, and `UnexpectedEof` at its end.
+pub fn skip_exact<R: BufRead>(input: &mut R, n: usize) -> io::Result<()>
     ensures skipped { OnOk result (TakesExactly n (R.remaining input.old) (R.remaining input.new)) }
     ensures part { OnErr result (TakesFewer n (R.remaining input.old) (R.remaining input.new)) }
 {

@@ -15,6 +15,7 @@ mod words;
 
 pub use commands::run;
 pub use exit::Exit;
+pub use input::skip_exact;
 pub use items::{Lister, list_items};
 pub use line::{ROOM, put_byte, put_nine_digits, put_number, put_word};
 pub use output::put_line;

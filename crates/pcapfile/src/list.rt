@@ -3,6 +3,7 @@
 use crate::input::{STANDARD, buffered};
 use crate::tell::{tell_exit, tell_io};
 use capcopy_run::{Exit, Uninterrupted};
+use pcapfile_lines::{Form, HEADING};
 use pcapfile_run::list;
 use std::fs::File;
 use std::io;
@@ -11,13 +12,18 @@ use std::io::{BufWriter, Read, Write};
 /// The size of the buffer before standard output, in bytes.
 const OUTPUT: usize = 65_536;
 
-/// Writes the packets of each capture, behind its name where there are several, and gives the status: that of the worst of them.
-pub(crate) fn list_files(rt: &HostRuntime, names: &[&str]) -> io::Result<u8> {
+/// Writes the packets of each capture, and gives the status: that of the worst of them. The names of several stand before their
+/// lines, but for a form that a program reads.
+pub(crate) fn list_files(rt: &HostRuntime, names: &[&str], form: Option<Form>) -> io::Result<u8> {
     let stdout = Uninterrupted::new(rt.stdout());
     let mut output = BufWriter::with_capacity(rt.alloc(), OUTPUT, stdout)?;
+    if form == Some(Form::Csv) {
+        output.write_all(HEADING.as_bytes())?;
+    }
+    let is_headed = names.len() > 1 && is_read_by_people(form);
     let mut status = 0;
     for name in names {
-        let listed = open_and_list(rt, name, names.len() > 1, &mut output);
+        let listed = open_and_list(rt, name, is_headed, form, &mut output);
         // What was listed goes out before what is said of it.
         output.flush()?;
         status = match listed {
@@ -29,28 +35,34 @@ pub(crate) fn list_files(rt: &HostRuntime, names: &[&str]) -> io::Result<u8> {
     Ok(status)
 }
 
+fn is_read_by_people(form: Option<Form>) -> bool {
+    matches!(form, None | Some(Form::Utc))
+}
+
 fn open_and_list<W: Write>(
     rt: &HostRuntime,
     name: &str,
     is_headed: bool,
+    form: Option<Form>,
     output: &mut W,
 ) -> io::Result<Exit> {
     let heading = if is_headed { Some(name) } else { None };
     if name == STANDARD {
-        return list_stream(rt, rt.stdin(), heading, output);
+        return list_stream(rt, rt.stdin(), heading, form, output);
     }
-    list_stream(rt, File::open(rt, name)?, heading, output)
+    list_stream(rt, File::open(rt, name)?, heading, form, output)
 }
 
 fn list_stream<R: Read + Drop, W: Write>(
     rt: &HostRuntime,
     stream: R,
     heading: Option<&str>,
+    form: Option<Form>,
     output: &mut W,
 ) -> io::Result<Exit> {
     if let Some(name) = heading {
         writeln!(output, "{name}:")?;
     }
     let mut input = buffered(rt.alloc(), stream)?;
-    Ok(list(rt.alloc(), &mut input, output, u64::MAX))
+    Ok(list(rt.alloc(), form, &mut input, output, u64::MAX))
 }

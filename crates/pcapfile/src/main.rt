@@ -29,6 +29,7 @@ use cut::{Cutting, Way};
 use join::Joining;
 use merge::Merge;
 use pcapfile_cut::Wanted;
+use pcapfile_lines::Form;
 use pcapfile_run::Format;
 use repair::Repair;
 use std::alloc::AllocError;
@@ -119,6 +120,20 @@ fn join_parts(rt: &HostRuntime, words: &ArgMatches) -> io::Result<u8> {
     join::join_files(rt, &asked)
 }
 
+// The form that is asked for of the lines of `list`.
+fn form(words: &ArgMatches) -> Option<Form> {
+    if words.get_flag(words::UTC) {
+        return Some(Form::Utc);
+    }
+    if words.get_flag(words::CSV) {
+        return Some(Form::Csv);
+    }
+    if words.get_flag(words::JSON) {
+        return Some(Form::Json);
+    }
+    None
+}
+
 // What the word `merge` is asked for.
 fn merging<'a>(words: &'a ArgMatches<'_>) -> Merge<'a> {
     Merge {
@@ -173,7 +188,7 @@ fn run(rt: &HostRuntime) -> io::Result<u8> {
             if list.get_flag(words::AS_IS) {
                 return list_as_is::list_files_as_is(rt, names);
             }
-            list::list_files(rt, names)
+            list::list_files(rt, names, form(list))
         }
         Some(("merge", words)) => merge::merge_files(rt, &merging(words)),
         Some(("repair", words)) => repair::repair_file(rt, &repairing(words)),

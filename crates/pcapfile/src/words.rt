@@ -43,6 +43,12 @@ pub(crate) const AS_IS: &str = "as-is";
 /// The name of telling it as JSON.
 pub(crate) const JSON: &str = "json";
 
+/// The name of listing times in UTC.
+pub(crate) const UTC: &str = "utc";
+
+/// The name of listing in columns.
+pub(crate) const CSV: &str = "csv";
+
 /// The name of where the other one goes.
 pub(crate) const OUT: &str = "output";
 
@@ -88,6 +94,11 @@ const LIST: &str =
 The time is that of the packet in seconds since 1970 and nanoseconds, and - where it has none. A
 packet of PcapNg whose body is refused has the line 'index refused'. The names of several captures
 stand before their lines.
+
+With --utc the time is that in UTC, as 2023-11-14T22:13:20.250000000Z. With --csv each packet is a row
+of index, seconds, nanoseconds, captured, original (the lengths) and interface, below a row of these
+names; with --json it is an object of JSON on a line of its own, with members of these names. What
+isn't known is empty, or null. No names of captures stand there, and the index begins at 1 in each.
 
 With --as-is a packet that breaks rules has a line as well, with ! and the number of each behind
 it, and a fraction of a second that is too large is carried into the seconds. Of PcapNg nothing is
@@ -183,7 +194,25 @@ fn list<'a>(alloc: Global) -> Result<Command<'a>, AllocError> {
         .about(LIST)
         .after_help(STATUSES)
         .arg(files(alloc))?
+        .arg(utc(alloc, UTC, "Times in UTC")?)?
+        .arg(csv(alloc, CSV, "A row of a table for each packet")?)?
+        .arg(objects(alloc, JSON, "An object of JSON for each packet")?)?
         .arg(as_is(alloc))
+}
+
+fn utc<'a>(alloc: Global, name: &'a str, help: &'a str) -> Result<Arg<'a>, AllocError> {
+    let utc = flag(alloc, name).help(help);
+    utc.conflicts_with_all(&[CSV, JSON, AS_IS])
+}
+
+fn csv<'a>(alloc: Global, name: &'a str, help: &'a str) -> Result<Arg<'a>, AllocError> {
+    let csv = flag(alloc, name).help(help);
+    csv.conflicts_with_all(&[JSON, AS_IS])
+}
+
+fn objects<'a>(alloc: Global, name: &'a str, help: &'a str) -> Result<Arg<'a>, AllocError> {
+    let objects = flag(alloc, name).help(help);
+    objects.conflicts_with_all(&[AS_IS])
 }
 
 fn convert<'a>(alloc: Global) -> Result<Command<'a>, AllocError> {
@@ -301,17 +330,15 @@ fn repair<'a>(alloc: Global) -> Result<Command<'a>, AllocError> {
 }
 
 fn as_is<'a>(alloc: Global) -> Arg<'a> {
-    Arg::new(alloc, AS_IS)
-        .long("as-is")
-        .action(ArgAction::SetTrue)
-        .help(AS_IS_HELP)
+    flag(alloc, AS_IS).help(AS_IS_HELP)
 }
 
 fn json<'a>(alloc: Global) -> Arg<'a> {
-    Arg::new(alloc, JSON)
-        .long(JSON)
-        .action(ArgAction::SetTrue)
-        .help("An object of JSON for each capture")
+    flag(alloc, JSON).help("An object of JSON for each capture")
+}
+
+fn flag<'a>(alloc: Global, name: &'a str) -> Arg<'a> {
+    Arg::new(alloc, name).long(name).action(ArgAction::SetTrue)
 }
 
 fn files<'a>(alloc: Global) -> Arg<'a> {

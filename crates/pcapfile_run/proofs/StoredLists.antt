@@ -18,6 +18,7 @@ use Rattle.capcopy_run.specs.Exits.{exit_of}
 use Rattle.capcopy_run.specs.Lines.{WritesLine}
 use Rattle.capcopy_run.specs.Listing.{ListsItems, ListsUntil}
 use Rattle.capcopy_run.proofs.Listing.{lists_known}
+use Rattle.pcapfile_lines.specs.declared.form.Form.{Form}
 use Rattle.pcapfile_run.specs.declared.checked.Format.{Format}
 use Rattle.pcapfile_run.specs.FileLines.{ListsAs, format_at, IsLineIf, IsNumberedLine, is_packet_item, numbered_blocks, stored_lines}
 use Rattle.pcapfile_run.specs.Numbered.{number_behind, numbered_behind}
@@ -52,24 +53,25 @@ module _ (q : State) (n : ℕ) where
   stored_asked before after asked = asked_numbered block_format is_packet_item q n before after asked
 
 -- the line of a block behind n packets is that of its number
-pub stored_written : (index n m : ℕ) (item : Item) (interfaces : List Interface) (before now : Option (List ℕ)) (result : Result (Unit {0}) Exit) → m ≡ number_behind (is_packet_item item) n
-    → interfaces ≡ interfaces_at item.after → WritesLine (IsLineIf (is_packet_item item) interfaces m item.block) before now result
-    → WritesLine (IsNumberedLine index (numbered_behind is_packet_item n item)) before now result
-stored_written index n m item interfaces before now result counts described writes =
-    let numbered = subst (λ (k : ℕ). WritesLine (IsLineIf (is_packet_item item) interfaces k item.block) before now result) counts writes in
-    subst (λ (l : List Interface). WritesLine (IsLineIf (is_packet_item item) l (number_behind (is_packet_item item) n) item.block) before now result) described numbered
+pub stored_written : (form asked : Option Form) (index n m : ℕ) (item : Item) (interfaces : List Interface) (before now : Option (List ℕ)) (result : Result (Unit {0}) Exit) → form ≡ asked → m ≡ number_behind (is_packet_item item) n
+    → interfaces ≡ interfaces_at item.after → WritesLine (IsLineIf form (is_packet_item item) interfaces m item.block) before now result
+    → WritesLine (IsNumberedLine asked index (numbered_behind is_packet_item n item)) before now result
+stored_written form asked index n m item interfaces before now result same counts described writes =
+    let as_asked = subst (λ (f : Option Form). WritesLine (IsLineIf f (is_packet_item item) interfaces m item.block) before now result) same writes in
+    let numbered = subst (λ (k : ℕ). WritesLine (IsLineIf asked (is_packet_item item) interfaces k item.block) before now result) counts as_asked in
+    subst (λ (l : List Interface). WritesLine (IsLineIf asked (is_packet_item item) l (number_behind (is_packet_item item) n) item.block) before now result) described numbered
 
 -- a capture whose first block was taken, and whose packets were listed
-pub stored_known : (q : State) (bytes known before : Option (List ℕ)) → Takes OpeningSays bytes known q → (most : ℕ) (now after : Option (List ℕ)) (result : Result (Unit {0}) Exit)
-    → ListsItems IsNumberedLine numbered_blocks (q, 0) known now before after most result → IfSome bytes (λ s. ListsUntil stored_lines most s now before after (exit_of result))
-stored_known q bytes known before took most now after result run =
-    lists_known stored_lines opening_stable q stored_lawful bytes known before before took (Appends-nil before) most now after result run
+pub stored_known : (form : Option Form) (q : State) (bytes known before : Option (List ℕ)) → Takes OpeningSays bytes known q → (most : ℕ) (now after : Option (List ℕ)) (result : Result (Unit {0}) Exit)
+    → ListsItems (IsNumberedLine form) numbered_blocks (q, 0) known now before after most result → IfSome bytes (λ s. ListsUntil (stored_lines form) most s now before after (exit_of result))
+stored_known form q bytes known before took most now after result run =
+    lists_known (stored_lines form) opening_stable q stored_lawful bytes known before before took (Appends-nil before) most now after result run
 
 -- a capture of this format that was listed behind its first byte, which was only looked at
-pub lists_told : (format : Format) (most : ℕ) (before mid now out_before out_now : Option (List ℕ)) (exit : Exit) → Keeps before mid → IfSome before (λ s. format ≡ format_at s)
-    → IfSome mid (λ s. ListsAs format most s now out_before out_now exit) → IfSome before (λ s. ListsAs (format_at s) most s now out_before out_now exit)
-lists_told format most None mid now out_before out_now exit kept told lists = tt
-lists_told format most (Some s) None now out_before out_now exit kept told lists = absurd kept
-lists_told format most (Some s) (Some t) now out_before out_now exit kept told lists =
-    let same = subst (λ (l : List ℕ). ListsAs format most l now out_before out_now exit) kept lists in
-    subst (λ (f : Format). ListsAs f most s now out_before out_now exit) told same
+pub lists_told : (form : Option Form) (format : Format) (most : ℕ) (before mid now out_before out_now : Option (List ℕ)) (exit : Exit) → Keeps before mid → IfSome before (λ s. format ≡ format_at s)
+    → IfSome mid (λ s. ListsAs form format most s now out_before out_now exit) → IfSome before (λ s. ListsAs form (format_at s) most s now out_before out_now exit)
+lists_told form format most None mid now out_before out_now exit kept told lists = tt
+lists_told form format most (Some s) None now out_before out_now exit kept told lists = absurd kept
+lists_told form format most (Some s) (Some t) now out_before out_now exit kept told lists =
+    let same = subst (λ (l : List ℕ). ListsAs form format most l now out_before out_now exit) kept lists in
+    subst (λ (f : Format). ListsAs form f most s now out_before out_now exit) told same

@@ -20,7 +20,9 @@ use Rattle.capcopy_run.specs.Listing.{Kind, ListsUntil}
 use Rattle.capcopy_run.specs.PacketLines.{nine_digits, packet_lines}
 use Rattle.pcapfile_run.specs.declared.checked.Format.{Format as CaptureFormat}
 use Rattle.pcapfile_run.specs.declared.checked.Format.TheVariants.{Pcap, PcapNg}
+use Rattle.pcapfile_lines.specs.declared.form.Form.{Form}
 use Rattle.pcapfile_run.specs.BlockPackets.{InBlock, packet_in}
+use Rattle.pcapfile_run.specs.FormedLines.{IsLineOfBlock, packets_as}
 use Rattle.pcapfile_run.specs.Numbered.{Numbered, numbered}
 
 -- the block holds a packet
@@ -72,25 +74,30 @@ IsStoredLine interfaces number block line =
     ((body : Body) × (rest : List ℕ) × SaysOfBody block (whole body rest) × IsBodyLine interfaces number body line)
     ⊎ ((fault : Fault) × SaysOfBody block (faulty fault) × (line ≡ decimal number ++ codes " refused\n"))
 
+-- that line in this form, if one is asked for
+abbrev pub IsStoredIn : Option Form → List Interface → ℕ → Framed → List ℕ → Type 0
+IsStoredIn (Some form) interfaces number block line = IsLineOfBlock form interfaces number block line
+IsStoredIn None interfaces number block line = IsStoredLine interfaces number block line
+
 -- the line of a block, which has none where it holds no packet
-abbrev pub IsLineIf : Bool → List Interface → ℕ → Framed → List ℕ → Type 0
-IsLineIf true interfaces number block line = IsStoredLine interfaces number block line
-IsLineIf false interfaces number block line = line ≡ []
+abbrev pub IsLineIf : Option Form → Bool → List Interface → ℕ → Framed → List ℕ → Type 0
+IsLineIf form true interfaces number block line = IsStoredIn form interfaces number block line
+IsLineIf form false interfaces number block line = line ≡ []
 
 -- the line of a numbered block, whatever its index among all blocks
-abbrev pub IsNumberedLine : ℕ → Numbered Item → List ℕ → Type 0
-IsNumberedLine index numbered line =
-    IsLineIf (is_packet_item numbered.item) (interfaces_at numbered.item.after) numbered.number numbered.item.block line
+abbrev pub IsNumberedLine : Option Form → ℕ → Numbered Item → List ℕ → Type 0
+IsNumberedLine form index numbered line =
+    IsLineIf form (is_packet_item numbered.item) (interfaces_at numbered.item.after) numbered.number numbered.item.block line
 
 -- captures of blocks: a line for each that holds a packet
-abbrev pub stored_lines : Kind State (State × ℕ) (Numbered Item)
-stored_lines = record {
+abbrev pub stored_lines : Option Form → Kind State (State × ℕ) (Numbered Item)
+stored_lines form = record {
   opens = OpeningSays;
   grows = ⊤;
   heading = λ q. [];
   format = λ q. numbered_blocks;
   start = λ q. (q, 0);
-  IsLine = IsNumberedLine;
+  IsLine = IsNumberedLine form;
 }
 
 -- the format of a capture by its first byte: a section header begins with 10, in either order
@@ -98,7 +105,8 @@ abbrev pub format_at : List ℕ → CaptureFormat
 format_at [] = Pcap
 format_at (byte ∷ bytes) = if byte == 10 then PcapNg else Pcap
 
--- what a run that ended so has taken and written of a capture of this format
-abbrev pub ListsAs : CaptureFormat → ℕ → List ℕ → Option (List ℕ) → Option (List ℕ) → Option (List ℕ) → Exit → Type 0
-ListsAs Pcap = ListsUntil packet_lines
-ListsAs PcapNg = ListsUntil stored_lines
+-- what a run that ended so has taken and written of a capture of this format: in this form, if one is asked for
+abbrev pub ListsAs : Option Form → CaptureFormat → ℕ → List ℕ → Option (List ℕ) → Option (List ℕ) → Option (List ℕ) → Exit → Type 0
+ListsAs None Pcap = ListsUntil packet_lines
+ListsAs (Some form) Pcap = ListsUntil (packets_as form)
+ListsAs form PcapNg = ListsUntil (stored_lines form)

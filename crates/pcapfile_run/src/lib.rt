@@ -4,10 +4,13 @@
 mod block_packet;
 mod captures;
 mod checked;
+mod formed;
+mod formed_packets;
 mod lines;
 mod listing;
 mod packets;
 mod pass;
+mod seen;
 
 pub use block_packet::{BlockPacket, holds_packet, interface_at, packet_in_body};
 pub use captures::{check_blocks, check_packets};

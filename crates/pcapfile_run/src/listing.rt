@@ -3,11 +3,14 @@
 ghost use Rattle.std.specs.Prelude.{◌≡◌, IfOk, IfSome};
 ghost use Rattle.std.specs.Io.KnownBytes.{Keeps};
 ghost use Rattle.capcopy_run.specs.Exits.{exit_of};
+ghost use Rattle.pcapfile_run.specs.declared.checked.Format.TheVariants as formats;
 ghost use Rattle.pcapfile_run.specs.FileLines.{ListsAs, format_at};
 
 use crate::checked::Format;
+use crate::formed_packets::list_packets;
 use crate::packets::list_stored;
 use capcopy_run::{Exit, run};
+use pcapfile_lines::Form;
 use std::alloc::Global;
 use std::io;
 use std::io::{BufRead, Write};
@@ -36,25 +39,43 @@ fn exit_at(done: Result<(), Exit>) -> Exit
     }
 }
 
-// Writes the lines of a capture of this format.
+// Writes the lines of a classic capture, in this form if one is asked for.
+fn list_classic<R: BufRead, W: Write>(
+    alloc: Global,
+    form: Option<Form>,
+    input: &mut R,
+    output: &mut W,
+    most: u64,
+) -> Exit
+    ensures { IfSome (R.remaining input.old) (λ s. ListsAs form formats.Pcap most s (R.remaining input.new) (W.contents output.old) (W.contents output.new) result) }
+{
+    match form {
+        None => run(alloc, &["list"], input, output, most),
+        Some(form) => exit_at(list_packets(alloc, form, input, output, most)),
+    }
+}
+
+// Writes the lines of a capture of this format, in this form if one is asked for.
 fn list_as<R: BufRead, W: Write>(
     alloc: Global,
+    form: Option<Form>,
     format: Format,
     input: &mut R,
     output: &mut W,
     most: u64,
 ) -> Exit
-    ensures { IfSome (R.remaining input.old) (λ s. ListsAs format most s (R.remaining input.new) (W.contents output.old) (W.contents output.new) result) }
+    ensures { IfSome (R.remaining input.old) (λ s. ListsAs form format most s (R.remaining input.new) (W.contents output.old) (W.contents output.new) result) }
 {
     match format {
-        Format::Pcap => run(alloc, &["list"], input, output, most),
-        Format::PcapNg => exit_at(list_stored(alloc, input, output, most)),
+        Format::Pcap => list_classic(alloc, form, input, output, most),
+        Format::PcapNg => exit_at(list_stored(alloc, form, input, output, most)),
     }
 }
 
 /// Writes a line for each packet of the capture that the input holds, of either format, with `most` packets or blocks at most.
 ///
-/// Those of a classic capture are the lines of `list` of `capcopy_run`: `index sec.nsec stored/original`. Those of a capture of
+/// In a form they are those of `pcapfile_lines`, where a fraction of a second that passes a second is carried. Without one, those of a
+/// classic capture are the lines of `list` of `capcopy_run`: `index sec.nsec stored/original`. Those of a capture of
 /// blocks have the number of the packet's interface behind them: `index sec.nsec stored/original interface`. The time is that
 /// which the interface's clock shows; a hyphen stands in its place where the packet has none, as a simple packet, where its
 /// interface is not described, and where the seconds since 1970 are no number of 64 bits. A packet whose body is refused has
@@ -62,11 +83,17 @@ fn list_as<R: BufRead, W: Write>(
 ///
 /// What refuses the rest is told after the lines of the packets before it. The output is flushed each time before the input is
 /// asked for more.
-pub fn list<R: BufRead, W: Write>(alloc: Global, input: &mut R, output: &mut W, most: u64) -> Exit
-    ensures { IfSome (R.remaining input.old) (λ s. ListsAs (format_at s) most s (R.remaining input.new) (W.contents output.old) (W.contents output.new) result) }
+pub fn list<R: BufRead, W: Write>(
+    alloc: Global,
+    form: Option<Form>,
+    input: &mut R,
+    output: &mut W,
+    most: u64,
+) -> Exit
+    ensures { IfSome (R.remaining input.old) (λ s. ListsAs form (format_at s) most s (R.remaining input.new) (W.contents output.old) (W.contents output.new) result) }
 {
     match format_of(input) {
         Err(error) => Exit::from(error),
-        Ok(format) => list_as(alloc, format, input, output, most),
+        Ok(format) => list_as(alloc, form, format, input, output, most),
     }
 }

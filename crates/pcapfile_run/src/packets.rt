@@ -1,6 +1,6 @@
 //! The packets of a capture of blocks, a line each.
 
-ghost use Rattle.std.specs.Prelude.{⊤, ◌≡◌, ◌≤◌, ℕ, drop, map, IfSome, MatchResult};
+ghost use Rattle.std.specs.Prelude.{⊤, ◌≡◌, ◌≤◌, ℕ, drop, map, Option, IfSome, MatchResult};
 ghost use Rattle.pcap_blocks.specs.InterfaceDescription.{interface_of};
 ghost use Rattle.pcap_file.specs.Blocks.{Item};
 ghost use Rattle.pcap_file.specs.Bodies.{GrowsInBody};
@@ -12,14 +12,17 @@ ghost use Rattle.capcopy_run.specs.declared.exit.Exit.TheVariants as exits;
 ghost use Rattle.capcopy_run.specs.Exits.{exit_of};
 ghost use Rattle.capcopy_run.specs.Lines.{WritesLine};
 ghost use Rattle.capcopy_run.specs.Listing.{ListsUntil};
-ghost use Rattle.pcapfile_run.specs.FileLines.{IsLineIf, IsNumberedLine, IsStoredLine, numbered_blocks, stored_lines};
+ghost use Rattle.pcapfile_lines.specs.declared.form.Form.{Form};
+ghost use Rattle.pcapfile_run.specs.FileLines.{IsLineIf, IsNumberedLine, IsStoredIn, IsStoredLine, numbered_blocks, stored_lines};
 ghost use Rattle.pcapfile_run.specs.Numbered.{Numbered, number_behind};
 
 use crate::block_packet::holds_packet;
+use crate::formed::write_formed;
 use crate::lines::{make_body_line, make_refused_line};
 use capcopy_run::{Exit, Lister, ROOM, list_items, put_line};
 use pcap_file::PcapError;
 use pcap_file::pcapng::{Block, InterfaceDescriptionBlock, PcapNgParser};
+use pcapfile_lines::Form;
 use std::alloc::Global;
 use std::io::{BufRead, Write};
 
@@ -41,7 +44,7 @@ fn make_line(
 }
 
 // Writes that line.
-fn write_packet<W: Write>(
+fn write_plain<W: Write>(
     alloc: Global,
     output: &mut W,
     number: u64,
@@ -55,33 +58,52 @@ fn write_packet<W: Write>(
     put_line(output, &room[start..])
 }
 
+// Writes the line of that packet in this form, if one is asked for.
+fn write_packet<W: Write>(
+    alloc: Global,
+    output: &mut W,
+    form: Option<Form>,
+    number: u64,
+    interfaces: &[InterfaceDescriptionBlock<'static>],
+    block: &Block,
+) -> Result<(), Exit>
+    ensures { WritesLine (IsStoredIn form (map interface_of interfaces.now) number (framed_of block.now)) (W.contents output.old) (W.contents output.new) result }
+{
+    match form {
+        None => write_plain(alloc, output, number, interfaces, block),
+        Some(form) => write_formed(alloc, output, form, number, interfaces, block),
+    }
+}
+
 // Writes the line of a block behind so many packets, and counts the packet that it holds.
 fn write_block<W: Write>(
     alloc: Global,
     output: &mut W,
+    form: Option<Form>,
     packets: &mut u64,
     interfaces: &[InterfaceDescriptionBlock<'static>],
     block: &Block,
 ) -> Result<(), Exit>
     ensures counts { packets.new ≡ number_behind (is_packet block.now.type_) packets.old }
-    ensures writes { WritesLine (IsLineIf (is_packet block.now.type_) (map interface_of interfaces.now) packets.new (framed_of block.now)) (W.contents output.old) (W.contents output.new) result }
+    ensures writes { WritesLine (IsLineIf form (is_packet block.now.type_) (map interface_of interfaces.now) packets.new (framed_of block.now)) (W.contents output.old) (W.contents output.new) result }
 {
     if !holds_packet(block.type_) {
         return Ok(());
     }
     *packets = packets.saturating_add(1);
-    write_packet(alloc, output, *packets, interfaces, block)
+    write_packet(alloc, output, form, *packets, interfaces, block)
 }
 
-// The packets of a capture of blocks, and how many there were.
+// The packets of a capture of blocks, the form of their lines, and how many there were.
 #[derive(Drop)]
 struct StoredPackets {
+    form: Option<Form>,
     parser: PcapNgParser,
     packets: u64,
 }
 
 impl Lister for StoredPackets {
-    ghost Setting = { Unit {0} };
+    ghost Setting = { Option Form };
 
     ghost State = { State × ℕ };
 
@@ -91,9 +113,9 @@ impl Lister for StoredPackets {
 
     ghost is_line = { IsNumberedLine };
 
-    ghost format = { λ setting. numbered_blocks };
+    ghost format = { λ form. numbered_blocks };
 
-    ghost setting = { λ stored. tt };
+    ghost setting = { λ stored. stored.form };
 
     ghost state = { λ stored. (state_of stored.parser, stored.packets) };
 
@@ -110,7 +132,8 @@ impl Lister for StoredPackets {
             match self.parser.next_block(rest) {
                 Ok((after, block)) => {
                     let interfaces = self.parser.interfaces();
-                    write_block(alloc, output, &mut self.packets, interfaces, &block)?;
+                    let packets = &mut self.packets;
+                    write_block(alloc, output, self.form, packets, interfaces, &block)?;
                     *listed += 1;
                     rest = after;
                 }
@@ -133,22 +156,28 @@ impl Lister for StoredPackets {
             return Ok(false);
         };
         let interfaces = self.parser.interfaces();
-        write_block(alloc, output, &mut self.packets, interfaces, &block)?;
+        let packets = &mut self.packets;
+        write_block(alloc, output, self.form, packets, interfaces, &block)?;
         *listed += 1;
         Ok(true)
     }
 }
 
-/// Writes a line for each packet of a capture of blocks, of which `most` blocks are taken at most behind the first.
+/// Writes a line for each packet of a capture of blocks, in this form if one is asked for, of which `most` blocks are taken at most behind the first.
 pub(crate) fn list_stored<R: BufRead, W: Write>(
     alloc: Global,
+    form: Option<Form>,
     input: &mut R,
     output: &mut W,
     most: u64,
 ) -> Result<(), Exit>
-    ensures { IfSome (R.remaining input.old) (λ s. ListsUntil stored_lines most s (R.remaining input.new) (W.contents output.old) (W.contents output.new) (exit_of result)) }
+    ensures { IfSome (R.remaining input.old) (λ s. ListsUntil (stored_lines form) most s (R.remaining input.new) (W.contents output.old) (W.contents output.new) (exit_of result)) }
 {
     let parser = PcapNgParser::from_reader(alloc, input)?;
-    let mut stored = StoredPackets { parser, packets: 0 };
+    let mut stored = StoredPackets {
+        form,
+        parser,
+        packets: 0,
+    };
     list_items(alloc, &mut stored, input, output, most)
 }

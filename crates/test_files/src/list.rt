@@ -35,7 +35,7 @@ fn status(
     let stream = Halting::new(alloc, capture, step)?;
     let mut input = buffered(alloc, room, stream)?;
     let mut output = Vec::new(alloc);
-    let exit = list(alloc, &mut input, &mut output, ALL);
+    let exit = list(alloc, None, &mut input, &mut output, ALL);
     let lines = lines.replace(alloc, ";", "\n")?;
     if output.as_slice() != lines.as_bytes() {
         return Err(Fail::new(format_args!("other lines than {lines} behind {room}")));

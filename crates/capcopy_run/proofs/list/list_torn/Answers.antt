@@ -19,7 +19,7 @@ returns-in_err-header-clause-turn g c =
     let e = c.in_err-header.field-0.0 in
     let why = header_refuses_packet packet_limit order r e _ (g.R.Read.remaining c.from_reader.new.reader) c.in_err-header.ensures in
     let asked = packet_asked order r _ _ why.0 in
-    rw p.1 (ends_here IsPacketLine (packet_format packet_limit order r) tt _ _ _ _ _ _ _ (packet_unread order r _ _ c.args.listed.now c.args.most c.requires e p.0 why.1 p.2) (asked_refused IsPacketLine ((packet_format packet_limit order r).says tt) _ (g.W.Write.contents c.args.output.now) c.args.listed.now c.args.most c.requires _ e p.0 asked p.2))
+    rw p.1 (ends_here IsPacketLine (packet_format packet_limit order r) tt _ _ _ _ _ _ _ (packet_unread IsPacketLine order r _ _ c.args.listed.now c.args.most c.requires e p.0 why.1 p.2) (asked_refused IsPacketLine ((packet_format packet_limit order r).says tt) _ (g.W.Write.contents c.args.output.now) c.args.listed.now c.args.most c.requires _ e p.0 asked p.2))
 
 pub returns-in_err-skip_exact-clause-turn : goal.returns-in_err-skip_exact-clause-turn
 returns-in_err-skip_exact-clause-turn g c =

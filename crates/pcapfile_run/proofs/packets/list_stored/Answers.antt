@@ -9,8 +9,8 @@ use Rattle.pcapfile_run.proofs.packets.list_stored.Goals as goal
 pub returns-in_err-parser : goal.returns-in_err-parser
 returns-in_err-parser g c =
     let p = err_from_is_err_and c.from_residual.result c.from_residual.ensures.1 in
-    rw p.1 (lists_none stored_lines c.args.most (g.R.Read.remaining c.args.input.now) _ _ _ (Keeps-refl _) c.in_err-parser.ensures.asked _ (λ memory. tt) c.in_err-parser.ensures.refused p.0 p.2)
+    rw p.1 (lists_none (stored_lines c.args.form) c.args.most (g.R.Read.remaining c.args.input.now) _ _ _ (Keeps-refl _) c.in_err-parser.ensures.asked _ (λ memory. tt) c.in_err-parser.ensures.refused p.0 p.2)
 
 pub returns : goal.returns
 returns g c =
-    stored_known (state_of c.in_ok-parser.parser) (g.R.Read.remaining c.args.input.now) (g.R.Read.remaining c.from_reader.new.reader) _ c.in_ok-parser.ensures.takes c.args.most _ _ c.list_items.result c.list_items.ensures.lists
+    stored_known c.args.form (state_of c.in_ok-parser.parser) (g.R.Read.remaining c.args.input.now) (g.R.Read.remaining c.from_reader.new.reader) _ c.in_ok-parser.ensures.takes c.args.most _ _ c.list_items.result c.list_items.ensures.lists

@@ -1,4 +1,4 @@
-use Rattle.std.proofs.Common.{◌+◌, map, Ok, Err}
+use Rattle.std.proofs.Common.{◌+◌, map, Ok, Err, refl}
 use Rattle.std.proofs.lemmas.Result.{err_from_is_err_and}
 use Rattle.pcap_blocks.specs.InterfaceDescription.{interface_of}
 use Rattle.pcap_file.specs.Blocks.{item_of}
@@ -19,8 +19,8 @@ returns-in_err-block-clause-turn g c =
     let e = c.in_err-block.field-0.0 in
     let cause = stored_cause here n _ reads.0 e reads.1.0 in
     let asked = stored_asked here n _ _ reads.1.1 in
-    rw p.1 (ends_here IsNumberedLine numbered_blocks (here, n) _ _ _ _ _ _ _ (ends_refused IsNumberedLine (numbered_blocks.says (here, n)) _ _ c.args.listed.now c.args.most c.requires reads.0 e p.0 cause p.2)
-    (asked_refused IsNumberedLine (numbered_blocks.says (here, n)) _ (g.W.Write.contents c.args.output.now) c.args.listed.now c.args.most c.requires _ e p.0 asked p.2))
+    rw p.1 (ends_here (IsNumberedLine c.args.self.now.form) numbered_blocks (here, n) _ _ _ _ _ _ _ (ends_refused (IsNumberedLine c.args.self.now.form) (numbered_blocks.says (here, n)) _ _ c.args.listed.now c.args.most c.requires reads.0 e p.0 cause p.2)
+    (asked_refused (IsNumberedLine c.args.self.now.form) (numbered_blocks.says (here, n)) _ (g.W.Write.contents c.args.output.now) c.args.listed.now c.args.most c.requires _ e p.0 asked p.2))
 
 pub returns-in_err-write_block-clause-turn : goal.returns-in_err-write_block-clause-turn
 returns-in_err-write_block-clause-turn g c =
@@ -32,9 +32,9 @@ returns-in_err-write_block-clause-turn g c =
     let took = stored_taken here n _ _ item reads.1.1 in
     let p = err_from_is_err_and c.from_residual-in_err-write_block.result c.from_residual-in_err-write_block.ensures.1 in
     let wrote = c.in_err-write_block.ensures in
-    let writes = stored_written (c.args.listed.now + 1) n c.write_block.new.packets item (map interface_of c.interfaces-interfaces.result.now) (g.W.Write.contents c.args.output.now) (g.W.Write.contents c.write_block.new.output) (Err c.in_err-write_block.field-0.0) wrote.counts c.interfaces-interfaces.ensures wrote.writes in
-    rw (p.1, p.2) (ends_here IsNumberedLine numbered_blocks (here, n) _ _ _ _ _ _ _ (ends_torn IsNumberedLine (numbered_blocks.says (here, n)) _ _ c.args.listed.now c.args.most c.requires _ _ numbered _ took writes)
-    (any_torn IsNumberedLine (numbered_blocks.says (here, n)) (g.R.Read.remaining c.args.input.now) _ c.args.listed.now c.args.most c.requires _ _ numbered _ writes))
+    let writes = stored_written c.args.self.now.form c.args.self.now.form (c.args.listed.now + 1) n c.write_block.new.packets item (map interface_of c.interfaces-interfaces.result.now) (g.W.Write.contents c.args.output.now) (g.W.Write.contents c.write_block.new.output) (Err c.in_err-write_block.field-0.0) refl wrote.counts c.interfaces-interfaces.ensures wrote.writes in
+    rw (p.1, p.2) (ends_here (IsNumberedLine c.args.self.now.form) numbered_blocks (here, n) _ _ _ _ _ _ _ (ends_torn (IsNumberedLine c.args.self.now.form) (numbered_blocks.says (here, n)) _ _ c.args.listed.now c.args.most c.requires _ _ numbered _ took writes)
+    (any_torn (IsNumberedLine c.args.self.now.form) (numbered_blocks.says (here, n)) (g.R.Read.remaining c.args.input.now) _ c.args.listed.now c.args.most c.requires _ _ numbered _ writes))
 
 pub returns-clause-turn : goal.returns-clause-turn
 returns-clause-turn g c =
@@ -47,5 +47,5 @@ returns-clause-turn g c =
     let reads = rw c.in-Some.is at c.in_ok-block.ensures.reads in
     let took = stored_taken here n _ _ item reads.1.1 in
     let wrote = c.in_ok-write_block.ensures in
-    let writes = stored_written (c.args.listed.now + 1) n m item (map interface_of c.interfaces-interfaces.result.now) (g.W.Write.contents c.args.output.now) (g.W.Write.contents c.write_block.new.output) (Ok tt) wrote.counts c.interfaces-interfaces.ensures wrote.writes in
-    turn_more IsNumberedLine numbered_blocks stored_lawful (here, n) (there, m) _ _ _ _ c.args.listed.now numbered took (stored_goes here n m item wrote.counts) writes
+    let writes = stored_written c.args.self.now.form c.args.self.now.form (c.args.listed.now + 1) n m item (map interface_of c.interfaces-interfaces.result.now) (g.W.Write.contents c.args.output.now) (g.W.Write.contents c.write_block.new.output) (Ok tt) refl wrote.counts c.interfaces-interfaces.ensures wrote.writes in
+    turn_more (IsNumberedLine c.args.self.now.form) numbered_blocks stored_lawful (here, n) (there, m) _ _ _ _ c.args.listed.now numbered took (stored_goes here n m item wrote.counts) writes

@@ -1,0 +1,12 @@
+//! Lines of packets in several forms.
+#![tactic(auto)]
+
+mod columns;
+mod form;
+mod json;
+mod seen;
+mod utc;
+
+pub use columns::HEADING;
+pub use form::{Form, line_of};
+pub use seen::Seen;

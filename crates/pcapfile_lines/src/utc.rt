@@ -1,0 +1,89 @@
+//! Lines with times in UTC.
+
+ghost use Rattle.std.specs.Prelude.{◌≡◌, ◌<◌, ◌^◌, pos, IfOk, MatchOption, string_bytes};
+ghost use Rattle.jiff_core.specs.Timestamp.{IsTimestampNanos};
+ghost use Rattle.pcapfile_lines.specs.Lines.{IsUtcLine, IsUtcText, ShowsInstant, nanoseconds_of, utc_line, interface_text};
+
+use crate::seen::Seen;
+use jiff_core::Timestamp as Instant;
+use jiff_fmt::temporal::DateTimePrinter;
+use pcap_times::Timestamp;
+use std::alloc::{AllocError, Global};
+
+/// The nanoseconds in a second.
+const BILLION: i128 = 1_000_000_000;
+
+/// More seconds than the calendar has before and behind 1970.
+const MOST: i128 = 1_000_000_000_000;
+
+// The same time, where it is in the years of the calendar.
+fn instant_of(time: Timestamp) -> Option<Instant>
+    ensures { MatchOption result (IsTimestampNanos (nanoseconds_of time) → ⊥) (λ instant. instant.nanosecond ≡ nanoseconds_of time) }
+{
+    if time.seconds < -MOST || time.seconds > MOST {
+        return None;
+    }
+    Instant::from_nanosecond(time.seconds * BILLION + i128::from(time.nanoseconds)).ok()
+}
+
+// An instant as RFC 3339 has it, with nine digits behind the point.
+#[tactic(auto, using(crate::proofs::Times::printer_shows))]
+fn instant_text(alloc: Global, instant: Instant) -> Result<String, AllocError>
+    ensures { IfOk result (λ text. ShowsInstant instant.nanosecond (string_bytes text)) }
+{
+    let text = DateTimePrinter::new()
+        .precision(Some(9))
+        .timestamp_text(instant);
+    String::from_str(alloc, text.as_str())
+}
+
+// The same of a time; a hyphen where there is none.
+#[tactic(auto, using(crate::proofs::Times::instant_shows))]
+fn text_of(alloc: Global, time: Option<Timestamp>) -> Result<String, AllocError>
+    ensures { IfOk result (λ text. IsUtcText time (string_bytes text)) }
+{
+    let Some(time) = time else {
+        return String::from_str(alloc, "-");
+    };
+    match instant_of(time) {
+        None => String::from_str(alloc, "-"),
+        Some(instant) => instant_text(alloc, instant),
+    }
+}
+
+// The end of a line: the number of an interface, if it has one.
+fn interface_of(alloc: Global, interface: Option<u32>) -> Result<String, AllocError>
+    ensures { IfOk result (λ text. string_bytes text ≡ interface_text interface) }
+{
+    match interface {
+        None => String::from_str(alloc, ""),
+        Some(number) => format!(in alloc; " {number}"),
+    }
+}
+
+// The line of a packet with this time and this end.
+fn line_with(
+    alloc: Global,
+    index: u64,
+    time: &str,
+    seen: Seen,
+    interface: &str,
+) -> Result<String, AllocError>
+    ensures { IfOk result (λ line. string_bytes line ≡ utc_line index time.now seen.captured seen.original interface.now) }
+{
+    let captured = seen.captured;
+    let original = seen.original;
+    format!(in alloc; "{index} {time} {captured}/{original}{interface}\n")
+}
+
+/// The line of a packet. None is one whose body is refused.
+pub(crate) fn utc(alloc: Global, index: u64, packet: Option<Seen>) -> Result<String, AllocError>
+    ensures { IfOk result (λ line. IsUtcLine index packet (string_bytes line)) }
+{
+    let Some(seen) = packet else {
+        return format!(in alloc; "{index} refused\n");
+    };
+    let time = text_of(alloc, seen.time)?;
+    let interface = interface_of(alloc, seen.interface)?;
+    line_with(alloc, index, time.as_str(), seen, interface.as_str())
+}

@@ -1,0 +1,16 @@
+use Rattle.std.proofs.Common.{◌≤◌, ◌-◌}
+use Rattle.pcap_classic.specs.PacketText.{packet_limit}
+use Rattle.pcap_classic.specs.Packets.{packet_format}
+use Rattle.pcapfile_run.specs.FormedLines.{IsPacketIn}
+use Rattle.capcopy_run.proofs.Turns.{Walked}
+use Rattle.pcapfile_run.proofs.formed_packets.list_shown.Given as goal
+
+abbrev pub invariant-loop-listed : goal.invariant-loop-listed
+invariant-loop-listed g l = record {
+  walked : Walked (IsPacketIn l.form) (packet_format packet_limit g.B.ByteOrder.number_of l.ts_resolution) tt tt l.shown l.rest (g.W.Write.contents l.fn.output) (g.W.Write.contents l.output) l.fn.listed l.listed;
+  more : l.fn.listed ≤ l.listed;
+  within : l.listed ≤ l.most;
+}
+
+abbrev pub decreases-loop-listed : goal.decreases-loop-listed
+decreases-loop-listed g l = l.most - l.listed
