@@ -35,7 +35,7 @@ use repair::Repair;
 use std::alloc::AllocError;
 use std::process::ExitCode;
 use std::{env, io};
-use tell::status_of;
+use tell::{status_of, tell_arguments};
 
 /// The status of a program that could not read its words or write its answer.
 const FAILED: u8 = 3;
@@ -161,7 +161,11 @@ fn tell_words(rt: &HostRuntime, error: &Error) -> io::Result<u8> {
 
 // Does what the words ask for, and gives the status.
 fn run(rt: &HostRuntime) -> io::Result<u8> {
-    let words: Vec<String> = env::args(rt)?.collect(rt.alloc())?;
+    let words = match env::args(rt) {
+        Ok(words) => words,
+        Err(error) => return tell_arguments(rt, error),
+    };
+    let words: Vec<String> = words.collect(rt.alloc())?;
     let command = words::command(rt.alloc())?;
     let matches = match command.try_get_matches_from(words.as_slice()) {
         Ok(matches) => matches,

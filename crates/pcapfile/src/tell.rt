@@ -1,6 +1,6 @@
 //! What is said of a file on standard error, and the status that it gives.
 
-use crate::FAILED;
+use crate::{FAILED, USAGE};
 use capcopy_run::Exit;
 use pcap_file::PcapError;
 use pcapfile_cut::Outcome;
@@ -19,6 +19,15 @@ pub(crate) fn status_of(error: &io::Error) -> u8 {
         ErrorKind::OutOfMemory => NO_MEMORY,
         _ => FAILED,
     }
+}
+
+/// Says why the arguments can't be read, and gives the status. One that isn't UTF-8 is not understood.
+pub(crate) fn tell_arguments(rt: &HostRuntime, error: io::Error) -> io::Result<u8> {
+    if error.kind() != ErrorKind::InvalidData {
+        return Err(error);
+    }
+    eprintln!(rt; "error: an argument is not UTF-8")?;
+    Ok(USAGE)
 }
 
 /// Says why a file can't be read or written, and gives the status.
