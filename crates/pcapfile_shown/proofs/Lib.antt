@@ -1,2 +1,3 @@
+pub mod EachInterface
 pub mod Numbers
 pub mod Padding

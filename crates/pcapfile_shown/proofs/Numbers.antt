@@ -1,10 +1,17 @@
 -- Numbers that become JSON one by one.
-use Rattle.std.specs.Prelude.{◌≡◌, ◌+◌, ◌<◌, ◌++◌, ◌∷◌, [], ℕ, List, length, map, take}
-use Rattle.std.proofs.Common.{get_or}
-use Rattle.std.proofs.lemmas.List.{map-append, map_more}
-use Rattle.serde_json.specs.View.{view}
+use Rattle.std.specs.Prelude.{◌≡◌, ◌+◌, ◌-◌, ◌<◌, ◌≤◌, ◌++◌, ◌∷◌, [], ℕ, List, String, count_by, length, map, take}
+use Rattle.std.specs.Global.{Global}
+use Rattle.std.specs.List.{range_with_len}
+use Rattle.std.proofs.Common.{◌∙◌, ap, arith, get_or, refl, sym}
+use Rattle.std.proofs.lemmas.List.{map-append, map_more, take_all}
+use Rattle.std.proofs.lemmas.List.FromFn.{get_or-map-range_with_len, length-map-range_with_len}
+use Rattle.serde_json.specs.Data.{array}
+use Rattle.serde_json.specs.View.{items_of, view}
 use Rattle.serde_json.specs.declared.value.Value.{Value}
-use Rattle.pcapfile_shown.specs.Json.{number_data}
+use Rattle.pcapfile_run.specs.Passing.{counted}
+use Rattle.pcapfile_info.specs.declared.spread.Spread.{Spread}
+use Rattle.pcapfile_info.specs.Spreads.{Rows, lies_in}
+use Rattle.pcapfile_shown.specs.Json.{counts_in, number_data, numbers_data, text_data}
 
 -- one number more has become a value
 pub numbers_more : (values : List Value) (value : Value) (counts : List ℕ) (i : ℕ) → i < length counts
@@ -12,3 +19,40 @@ pub numbers_more : (values : List Value) (value : Value) (counts : List ℕ) (i 
     → map view (values ++ value ∷ []) ≡ map number_data (take (i + 1) counts)
 numbers_more values value counts i below before now =
     rw (map-append view values (value ∷ []), map_more number_data counts i 0 below, before, now)
+
+-- one text more has
+pub texts_more : (values : List Value) (value : Value) (texts : List (String Global)) (i : ℕ) (text : String Global) → i < length texts
+    → text ≡ get_or texts i text → map view values ≡ map text_data (take i texts) → view value ≡ text_data text
+    → map view (values ++ value ∷ []) ≡ map text_data (take (i + 1) texts)
+texts_more values value texts i text below is before now =
+    rw (map-append view values (value ∷ []), map_more text_data texts i text below, before, now ∙ ap text_data is)
+
+-- so many packets of any instants lie in the span of this number
+abbrev pub IsCount : Spread → ℕ → ℕ → Type 0
+IsCount spread span packets = (instants : List ℕ) → Rows instants spread → packets ≡ counted (count_by (lies_in spread.width span) instants)
+
+-- the counts of the first so many spans have become values
+abbrev pub AreCounts : Spread → ℕ → List Value → Type 0
+AreCounts spread place values = (instants : List ℕ) → Rows instants spread → map view values ≡ map number_data (take place (counts_in instants spread))
+
+-- that of the next span has become one too
+pub counts_more : (spread : Spread) (values : List Value) (value : Value) (place packets : ℕ) → place < spread.last - spread.first + 1
+    → AreCounts spread place values → view value ≡ number_data packets → IsCount spread (spread.first + place) packets
+    → AreCounts spread (place + 1) (values ++ value ∷ [])
+counts_more spread values value place packets below before now counts instants rows =
+    let f : ℕ → ℕ = λ span. counted (count_by (lies_in spread.width span) instants) in
+    let n : ℕ = spread.last - spread.first + 1 in
+    let all : List ℕ = map f (range_with_len spread.first n) in
+    let within : place < length all = omega (arith, below, length-map-range_with_len f spread.first n) in
+    let here : get_or all place 0 ≡ f (spread.first + place) = get_or-map-range_with_len f spread.first n place (spread.first + place) 0 below refl in
+    numbers_more values value all place within (before instants rows) (now ∙ ap number_data (counts instants rows ∙ sym here))
+
+-- those of all spans have
+pub counts_all : (spread : Spread) (values : List Value) (place : ℕ) → spread.last - spread.first + 1 ≤ place → AreCounts spread place values
+    → (instants : List ℕ) → Rows instants spread → array (items_of (map view values)) ≡ numbers_data (counts_in instants spread)
+counts_all spread values place enough counts instants rows =
+    let f : ℕ → ℕ = λ span. counted (count_by (lies_in spread.width span) instants) in
+    let n : ℕ = spread.last - spread.first + 1 in
+    let all : List ℕ = map f (range_with_len spread.first n) in
+    let whole : length all ≤ place = omega (arith, enough, length-map-range_with_len f spread.first n) in
+    ap (λ shown. array (items_of shown)) (counts instants rows ∙ ap (map number_data) (take_all place all whole))

@@ -1,11 +1,17 @@
 -- What is told of captures, as JSON.
-use Rattle.std.specs.Prelude.{◌≡◌, ◌+◌, ℕ, List, map, codes, Option, None, Some, option_and_then}
-use Rattle.serde_json.specs.Data.{Data, Members, array, null, number, object, string, unsigned, put}
+use Rattle.std.specs.Prelude.{◌≡◌, ◌+◌, ◌-◌, ℕ, List, String, map, codes, count_by, string_bytes, zip, Option, None, Some, option_and_then, option_map}
+use Rattle.std.specs.List.{AllZip, range_with_len}
+use Rattle.std.specs.Global.{Global}
+use Rattle.serde_json.specs.Data.{Data, Members, array, no_members, null, number, object, string, unsigned, put}
 use Rattle.serde_json.specs.View.{items_of}
+use Rattle.pcap_core.specs.Link.{link_number}
 use Rattle.pcap_times.specs.declared.clock.Timestamp.{Timestamp}
 use Rattle.pcapfile_run.specs.Passing.{counted}
 use Rattle.pcapfile_info.specs.declared.captures.Information.{Information}
+use Rattle.pcapfile_info.specs.declared.described.Described.{Described}
+use Rattle.pcapfile_info.specs.declared.spread.Spread.{Spread}
 use Rattle.pcapfile_info.specs.declared.tally.Tally.{Tally}
+use Rattle.pcapfile_info.specs.Spreads.{Rows, lies_in}
 use Rattle.pcapfile_shown.specs.Texts.{average_of, difference, hundredths_text, per_second, seconds_text, since_1970}
 
 -- a number of JSON
@@ -67,9 +73,61 @@ with_rates tally members =
 abbrev pub with_figures : Tally → Members → Members
 with_figures tally members = with_rates tally (with_times tally (with_amounts tally members))
 
--- what is told of a capture has the figures of its packets, beside how its file is made
+-- how many of these instants lie in each span of a row, from the first to the last
+abbrev pub counts_in : List ℕ → Spread → List ℕ
+counts_in instants spread =
+    map (λ span. counted (count_by (lies_in spread.width span) instants)) (range_with_len spread.first (spread.last - spread.first + 1))
+
+-- how these instants are spread over time
+abbrev pub spread_data : List ℕ → Spread → Data
+spread_data instants spread = object
+    (put (codes "packets") (numbers_data (counts_in instants spread))
+    (put (codes "first") (number_data spread.first)
+    (put (codes "width") (number_data spread.width) no_members)))
+
+-- the spread of instants is told, or that there are none
+abbrev pub TellsSpread : Option Spread → Data → Type 0
+TellsSpread None shown = shown ≡ null
+TellsSpread (Some spread) shown = (instants : List ℕ) → Rows instants spread → shown ≡ spread_data instants spread
+
+abbrev pub text_data : String Global → Data
+text_data text = string (string_bytes text)
+
+-- these texts, in order
+abbrev pub texts_data : List (String Global) → Data
+texts_data texts = array (items_of (map text_data texts))
+
+-- a text, if there is one
+abbrev pub text_or_null : Option (String Global) → Data
+text_or_null None = null
+text_or_null (Some text) = text_data text
+
+-- how an interface is described, whose link type has this name
+abbrev pub with_description : Described → Data → Members → Members
+with_description described link_name members =
+    put (codes "link_name") link_name
+    (put (codes "link") (number_data (link_number described.link))
+    (put (codes "comments") (texts_data described.comments.items)
+    (put (codes "name") (text_or_null described.name)
+    (put (codes "snaplen") (number_data described.snaplen)
+    (put (codes "number") (number_data described.number)
+    (put (codes "section") (number_data described.section) members))))))
+
+-- what is told of an interface: how it is described, the figures of its packets, and how they are spread over time
+abbrev pub TellsInterface : Described × Tally → Data → Type 0
+TellsInterface interface shown =
+    (link_name : Data) × (spread : Data) × TellsSpread interface.1.spread spread
+    × (shown ≡ object (put (codes "over_time") spread (with_figures interface.1 (with_description interface.0 link_name no_members))))
+
+-- what is told of a capture: the figures of its packets and how they are spread over time, each of its interfaces, and comments,
+-- beside how its file is made
 abbrev pub Tells : Information → Data → Type 0
 Tells told shown =
-    (made : Members) × (shown ≡ object (with_figures told.totals.all
+    (made : Members) × (spread : Data) × (interfaces : List Data) × TellsSpread told.totals.all.spread spread
+    × AllZip TellsInterface (zip told.described.items told.totals.interfaces.items) interfaces
+    × (shown ≡ object (with_figures told.totals.all
     (put (codes "refused") (number_data told.totals.refused)
-    (put (codes "sections") (number_data (counted (told.totals.sections + 1))) made))))
+    (put (codes "sections") (number_data (counted (told.totals.sections + 1)))
+    (put (codes "over_time") spread
+    (put (codes "interfaces") (array (items_of interfaces))
+    (put (codes "comments") (texts_data told.comments.items) made)))))))

@@ -1,8 +1,9 @@
 //! What is counted of packets, as JSON.
 
-ghost use Rattle.std.specs.Prelude.{◌≡◌, option_map, option_and_then, OnOk, IfOk};
+ghost use Rattle.std.specs.Prelude.{◌≡◌, ℕ, List, option_map, option_and_then, OnOk, IfOk};
 ghost use Rattle.serde_json.specs.View.{members_view, view};
-ghost use Rattle.pcapfile_shown.specs.Json.{duration_in, hundredths_data, instant_in, numbers_data, or_null, rate_in, seconds_data, with_amounts, with_rates, with_times};
+ghost use Rattle.pcapfile_info.specs.Spreads.{Rows};
+ghost use Rattle.pcapfile_shown.specs.Json.{counts_in, duration_in, hundredths_data, instant_in, numbers_data, or_null, rate_in, seconds_data, spread_data, TellsSpread, with_amounts, with_rates, with_times};
 
 use crate::rate::{
     Hundredths, Seconds, duration_of, hundredths_of, hundredths_per_second, seconds_since_1970,
@@ -109,17 +110,31 @@ fn put_rates(map: &mut Map<String, Value>, alloc: Global, tally: &Tally) -> Resu
     put(map, alloc, "bytes_per_second", bytes)
 }
 
+// How many packets lie in each span of a row, from the first to the last.
+#[tactic(auto, using(crate::proofs::Numbers::counts_more, crate::proofs::Numbers::counts_all))]
+fn counts(alloc: Global, spread: &Spread) -> Result<Value, AllocError>
+    ensures { IfOk result (λ v. (instants : List ℕ) → Rows instants spread.now → view v ≡ numbers_data (counts_in instants spread.now)) }
+{
+    let mut values = Vec::new(alloc);
+    for place in 0..spread.last - spread.first + 1 {
+        push(
+            &mut values,
+            Value::from(spread.packets_in(spread.first + place)),
+        )?;
+    }
+    Ok(Value::Array(values))
+}
+
 // How packets are spread over time: an object with the width of each span in nanoseconds, the number of the first span from 1970
 // on, and how many packets lie in each.
-fn over_time(alloc: Global, spread: &Spread) -> Result<Value, AllocError> {
-    let mut packets = Vec::new(alloc);
-    for span in spread.first..=spread.last {
-        push(&mut packets, Value::from(spread.packets_in(span)))?;
-    }
+fn over_time(alloc: Global, spread: &Spread) -> Result<Value, AllocError>
+    ensures { IfOk result (λ v. (instants : List ℕ) → Rows instants spread.now → view v ≡ spread_data instants spread.now) }
+{
+    let packets = counts(alloc, spread)?;
     let mut map = Map::new(alloc);
     put(&mut map, alloc, "width", Value::from(spread.width))?;
     put(&mut map, alloc, "first", Value::from(spread.first))?;
-    put(&mut map, alloc, "packets", Value::Array(packets))?;
+    put(&mut map, alloc, "packets", packets)?;
     Ok(Value::Object(map))
 }
 
@@ -137,7 +152,9 @@ pub(crate) fn put_figures(
 }
 
 /// How packets are spread over time, or null where none has a time.
-pub(crate) fn spread_or_null(alloc: Global, spread: &Option<Spread>) -> Result<Value, AllocError> {
+pub(crate) fn spread_or_null(alloc: Global, spread: &Option<Spread>) -> Result<Value, AllocError>
+    ensures { IfOk result (λ v. TellsSpread spread.now (view v)) }
+{
     match spread {
         None => Ok(Value::Null),
         Some(spread) => over_time(alloc, spread),

@@ -1,9 +1,11 @@
 //! What is told of captures, as JSON.
 
-ghost use Rattle.std.specs.Prelude.{◌≡◌, IfOk, string_bytes};
-ghost use Rattle.serde_json.specs.Data.{Data, Members};
-ghost use Rattle.serde_json.specs.View.{view};
-ghost use Rattle.pcapfile_shown.specs.Json.{Tells};
+ghost use Rattle.std.specs.Prelude.{◌≡◌, List, codes, zip, IfOk, OnOk};
+ghost use Rattle.std.specs.List.{AllZip};
+ghost use Rattle.serde_json.specs.Data.{Data, Members, array, put};
+ghost use Rattle.serde_json.specs.View.{items_of, members_view, view};
+ghost use Rattle.pcap_core.specs.Link.{link_number};
+ghost use Rattle.pcapfile_shown.specs.Json.{number_data, Tells, TellsInterface, text_or_null, texts_data, with_description};
 
 use crate::json::{put_figures, spread_or_null};
 use crate::report::{order_name, resolution_name};
@@ -22,7 +24,10 @@ fn format_name(format: Format) -> &'static str {
 }
 
 // These texts, in order.
-fn texts(alloc: Global, texts: &[String]) -> Result<Value, AllocError> {
+#[tactic(auto, using(crate::proofs::Numbers::texts_more))]
+fn texts(alloc: Global, texts: &[String]) -> Result<Value, AllocError>
+    ensures { IfOk result (λ v. view v ≡ texts_data texts.now) }
+{
     let mut values = Vec::new(alloc);
     for text in texts.iter() {
         push(&mut values, Value::try_from_str(alloc, text.as_str())?)?;
@@ -30,7 +35,9 @@ fn texts(alloc: Global, texts: &[String]) -> Result<Value, AllocError> {
     Ok(Value::Array(values))
 }
 
-fn text_or_null(alloc: Global, text: &Option<String>) -> Result<Value, AllocError> {
+fn text_or_null(alloc: Global, text: &Option<String>) -> Result<Value, AllocError>
+    ensures { IfOk result (λ v. view v ≡ text_or_null text.now) }
+{
     match text {
         None => Ok(Value::Null),
         Some(text) => Value::try_from_str(alloc, text.as_str()),
@@ -38,7 +45,9 @@ fn text_or_null(alloc: Global, text: &Option<String>) -> Result<Value, AllocErro
 }
 
 // The number of a link type, and its name.
-fn put_link(map: &mut Map<String, Value>, alloc: Global, link: DataLink) -> Result<(), AllocError> {
+fn put_link(map: &mut Map<String, Value>, alloc: Global, link: DataLink) -> Result<(), AllocError>
+    ensures { OnOk result ((name : Data) × (members_view map.new.entries ≡ put (codes "link_name") name (put (codes "link") (number_data (link_number link)) (members_view map.old.entries)))) }
+{
     let name = format!(in alloc; "{link:?}")?;
     put(map, alloc, "link", Value::from(u32::from(link)))?;
     put(map, alloc, "link_name", Value::String(name))
@@ -79,36 +88,39 @@ fn put_opened(
     put(map, alloc, "order", order)
 }
 
+// Puts how an interface is described.
+fn put_description(
+    map: &mut Map<String, Value>,
+    alloc: Global,
+    described: &Described,
+) -> Result<(), AllocError>
+    ensures { OnOk result ((link_name : Data) × (members_view map.new.entries ≡ with_description described.now link_name (members_view map.old.entries))) }
+{
+    let name = text_or_null(alloc, &described.name)?;
+    let comments = texts(alloc, described.comments.as_slice())?;
+    put(map, alloc, "section", Value::from(described.section))?;
+    put(map, alloc, "number", Value::from(described.number))?;
+    put(map, alloc, "snaplen", Value::from(described.snaplen))?;
+    put(map, alloc, "name", name)?;
+    put(map, alloc, "comments", comments)?;
+    put_link(map, alloc, described.link)
+}
+
 // How an interface is described, and what is counted of its packets.
-fn interface(alloc: Global, described: &Described, tally: &Tally) -> Result<Value, AllocError> {
+fn interface(alloc: Global, described: &Described, tally: &Tally) -> Result<Value, AllocError>
+    ensures { IfOk result (λ v. TellsInterface (described.now, tally.now) (view v)) }
+{
+    let over_time = spread_or_null(alloc, &tally.spread)?;
     let mut map = Map::new(alloc);
-    put(&mut map, alloc, "section", Value::from(described.section))?;
-    put(&mut map, alloc, "number", Value::from(described.number))?;
-    put(&mut map, alloc, "snaplen", Value::from(described.snaplen))?;
-    put(
-        &mut map,
-        alloc,
-        "name",
-        text_or_null(alloc, &described.name)?,
-    )?;
-    put(
-        &mut map,
-        alloc,
-        "comments",
-        texts(alloc, described.comments.as_slice())?,
-    )?;
-    put_link(&mut map, alloc, described.link)?;
+    put_description(&mut map, alloc, described)?;
     put_figures(&mut map, alloc, tally)?;
-    put(
-        &mut map,
-        alloc,
-        "over_time",
-        spread_or_null(alloc, &tally.spread)?,
-    )?;
+    put(&mut map, alloc, "over_time", over_time)?;
     Ok(Value::Object(map))
 }
 
-fn interfaces(alloc: Global, told: &Information) -> Result<Value, AllocError> {
+fn interfaces(alloc: Global, told: &Information) -> Result<Value, AllocError>
+    ensures { IfOk result (λ v. (shown : List Data) × (view v ≡ array (items_of shown)) × AllZip TellsInterface (zip told.now.described.items told.now.totals.interfaces.items) shown) }
+{
     let mut values = Vec::new(alloc);
     for (described, tally) in told.described.iter().zip(told.totals.interfaces.iter()) {
         push(&mut values, interface(alloc, described, tally)?)?;
@@ -148,21 +160,14 @@ fn put_file(
 pub fn told_of(alloc: Global, name: &str, told: &Information) -> Result<Value, AllocError>
     ensures { IfOk result (λ v. Tells told.now (view v)) }
 {
+    let comments = texts(alloc, told.comments.as_slice())?;
+    let interfaces = interfaces(alloc, told)?;
+    let over_time = spread_or_null(alloc, &told.totals.all.spread)?;
     let mut map = Map::new(alloc);
     put_file(&mut map, alloc, name, told)?;
-    put(
-        &mut map,
-        alloc,
-        "comments",
-        texts(alloc, told.comments.as_slice())?,
-    )?;
-    put(&mut map, alloc, "interfaces", interfaces(alloc, told)?)?;
-    put(
-        &mut map,
-        alloc,
-        "over_time",
-        spread_or_null(alloc, &told.totals.all.spread)?,
-    )?;
+    put(&mut map, alloc, "comments", comments)?;
+    put(&mut map, alloc, "interfaces", interfaces)?;
+    put(&mut map, alloc, "over_time", over_time)?;
     let sections = told.totals.sections.saturating_add(1);
     put(&mut map, alloc, "sections", Value::from(sections))?;
     put(&mut map, alloc, "refused", Value::from(told.totals.refused))?;
