@@ -1,7 +1,7 @@
 /* walk CALL PASSES < CAPTURE: takes each packet of a capture by the library's C header, so many times over, and prints a sum: of
  * a classic capture that of their nanoseconds and stored bytes, as `measured_calls next_packet` does, and of a PcapNg one that
  * of their units of time and stored bytes. CALL is take_packet or take_ng_packet for one in a call, take_packets or
- * take_ng_packets for 256. Of a capture that comes in pieces, into room of 256 KiB, it is push_next for one in a call and
+ * take_ng_packets for 256, and take_block_as_is for a block as it stands. Of a capture that comes in pieces, into room of 256 KiB, it is push_next for one in a call and
  * push_packets for 256, and push_ng_next and push_ng_packets, which tell nanoseconds. open_next takes one in a call of
  * pcapfile_open.h, of either format, and tells nanoseconds too; for that standard input has to be a file. cut_packets and
  * cut_blocks take no packet: they cut the capture into four parts, and the sum is that of the places where these begin. */
@@ -131,6 +131,19 @@ static int32_t add_ng_packets(pcapfile_bytes left, uint64_t *sum) {
     return status;
 }
 
+static int32_t add_blocks_as_is(pcapfile_bytes left, uint64_t *sum) {
+    pcapfile_section section = PCAPFILE_SECTION_INIT;
+    pcapfile_block_as_is block = PCAPFILE_BLOCK_AS_IS_INIT;
+    pcapfile_block_flaw flaws[8];
+    pcapfile_error error = PCAPFILE_ERROR_INIT;
+    int32_t status = PCAPFILE_OK;
+    for (size_t i = 0; i < 8; i++) flaws[i] = (pcapfile_block_flaw)PCAPFILE_BLOCK_FLAW_INIT;
+    while (status == PCAPFILE_OK && left.len > 0)
+        if ((status = pcapfile_take_block_as_is(&section, &left, &block, flaws, 8, &error)) == PCAPFILE_OK)
+            *sum += block.packet.timestamp + block.packet.bytes.len;
+    return status;
+}
+
 static int32_t add_ng_batches(pcapfile_bytes left, uint64_t *sum) {
     static pcapfile_ng_packet packets[BATCH];
     pcapfile_section section = PCAPFILE_SECTION_INIT;
@@ -192,6 +205,7 @@ static const struct {
     { "push_ng_packets", add_pushed_ng_batches },
     { "open_next", add_opened },
     { "take_ng_packet", add_ng_packets },
+    { "take_block_as_is", add_blocks_as_is },
     { "take_ng_packets", add_ng_batches },
     { "cut_packets", add_cuts },
     { "cut_blocks", add_block_cuts },

@@ -418,6 +418,41 @@ int32_t pcapfile_push_ng_packets(pcapfile_push *push, pcapfile_section *section,
 int32_t pcapfile_take_block(pcapfile_section *section, pcapfile_bytes *left, pcapfile_block *block,
                             pcapfile_error *error);
 
+/* What is wrong with a block's body: for the first of its flaws the calls that read it strictly refuse it. */
+typedef struct pcapfile_block_flaw {
+    int32_t status; /* that of such a call: PCAPFILE_INVALID, PCAPFILE_BAD_VALUE or PCAPFILE_NOT_UTF8 */
+    uint32_t rule;  /* of PCAPFILE_INVALID: the rule that is broken; else 0 */
+    uint32_t code;  /* of the option whose value it is; 0 where it is that of the whole body, or of the list of options */
+} pcapfile_block_flaw;
+
+#define PCAPFILE_BLOCK_FLAW_INIT { 0, 0, 0 }
+
+/* A block as it stands. */
+typedef struct pcapfile_block_as_is {
+    uint32_t type;                /* a number of enum pcapfile_block_type, or another */
+    uint8_t has_interface;        /* 1 for an interface whose body has room for its head, else 0 */
+    uint8_t has_packet;           /* 1 for an enhanced packet whose body has room for its head and its bytes, else 0 */
+    size_t flaws;                 /* how many flaws its body has */
+    pcapfile_bytes body;          /* what stands between its lengths, lent from the capture; the block is 12 bytes longer */
+    pcapfile_interface interface; /* its first unit of time and first offset that break no rule count; zeros where has_interface is 0 */
+    pcapfile_ng_packet packet;    /* zeros where has_packet is 0 */
+} pcapfile_block_as_is;
+
+#define PCAPFILE_BLOCK_AS_IS_INIT { 0, 0, 0, 0, PCAPFILE_NO_BYTES, { 0, 0, 0, 0, 0 }, PCAPFILE_NG_PACKET_INIT }
+
+/* Takes the block at the front of `left` as pcapfile_take_block does, but leaves out none for what is wrong with its body: a section
+ * header or an interface with flaws is in force as it stands, and so is an interface whose body has no room for its head, so that
+ * those behind it have their numbers. The bodies of these and of enhanced packets are read with the block, each option whose value
+ * breaks its rule is passed over, and the flaws are told in the order in which they stand: the first ones fill `flaws`, as many as
+ * there are or as it has places, and `flaws` from there on is unchanged. Where a body has no flaw, pcapfile_take_block and the call
+ * that reads it take it; else their refusal is its first flaw. Other bodies are not read; pcapfile_read_packet takes a simple packet.
+ * PCAPFILE_INCOMPLETE where bytes are missing, as of pcapfile_take_block. PCAPFILE_INVALID for the first rule of 6 to 9 that the
+ * block's frame breaks, with rule 10 where the first block is no section header, with rule 11 where a section header's body is under
+ * 16 bytes, or with rule 6 where section->magic_number is none of the three. PCAPFILE_NO_MEMORY for a body that is read. Then
+ * `section`, `left`, `block` and `flaws` are unchanged. */
+int32_t pcapfile_take_block_as_is(pcapfile_section *section, pcapfile_bytes *left, pcapfile_block_as_is *block,
+                                  pcapfile_block_flaw *flaws, size_t flaws_len, pcapfile_error *error);
+
 /* A PcapNg capture that comes in pieces lies in room of the caller's, as a pcap capture does: pcapfile_push_space and
  * pcapfile_push_put are the same. Of `push` only begin and end matter then; a walk begins with PCAPFILE_PUSH_INIT and
  * PCAPFILE_SECTION_INIT. Takes the block at the front of what is held as pcapfile_take_block does; what is held begins after it

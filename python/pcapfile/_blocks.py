@@ -110,7 +110,7 @@ class Walk:
     def __init__(self, window: Window) -> None:
         self.window = window
         self.section, self.error = _library.Section(), _library.Error()
-        self.block = _library.Block(0, _library.no_bytes())
+        self.block: Any = _library.Block(0, _library.no_bytes())
         self.known: Dict[int, _Known] = {}
 
     def take(self) -> None:
@@ -201,9 +201,11 @@ class BlockCapture(Packets):
     read, are passed over. Where the capture is refused, the packets before that come first. One in memory or in a file can be
     iterated over again."""
 
+    _walks = Walk
+
     def __init__(self, source: Source, stretch: Optional[Stretch] = None) -> None:
         super().__init__(source, stretch)
-        self._first = Walk(source.window())
+        self._first = self._walks(source.window())
         self._first.take()
         # The first block of a stream, until something of it is asked for.
         self._head: Optional[Block] = self._first.shown()
@@ -215,8 +217,8 @@ class BlockCapture(Packets):
             return self._first
         bytes_between = source.between if lends else source.read
         if stretch is None:
-            return Walk(bytes_between(0, len(source)))
-        walk = Walk(source.between(stretch.header))
+            return self._walks(bytes_between(0, len(source)))
+        walk = self._walks(source.between(stretch.header))
         walk.take()
         for place in stretch.interfaces:
             walk.window = source.between(place)

@@ -1,6 +1,6 @@
 """Why a capture is refused."""
 
-from typing import Any, Tuple
+from typing import Any, NamedTuple, Optional, Tuple
 
 from . import _library
 from ._rules import Rule
@@ -38,6 +38,21 @@ class Invalid(CaptureError):
         self.text = _library.rule_text(number)
         super().__init__(f"{self.rule}: {self.text}", offset, _library.INVALID)
         self._made_of = (number, offset)
+
+
+class Flaw(NamedTuple):
+    """What is wrong with a block's body: `rule` is the rule that it breaks, or None, and `text` says it. `code` is that of the option
+    whose value it is, or None where it is that of the whole body, or of the list of options."""
+
+    rule: Optional[Rule]
+    code: Optional[int]
+    text: str
+
+
+def flaw_of(status: int, rule: int, code: int = 0) -> Flaw:
+    named = Rule(rule) if status == _library.INVALID else None
+    text = _library.rule_text(rule) if status == _library.INVALID else _OTHERS.get(status, f"status {status}")
+    return Flaw(named, code or None, text)
 
 
 def error_of(status: int, error: _library.Error, offset: int) -> CaptureError:

@@ -91,6 +91,22 @@ class PacketAsIs(ctypes.Structure):
     ]
 
 
+class BlockFlaw(ctypes.Structure):
+    _fields_ = [("status", ctypes.c_int32), ("rule", ctypes.c_uint32), ("code", ctypes.c_uint32)]
+
+
+class BlockAsIs(ctypes.Structure):
+    _fields_ = [
+        ("type", ctypes.c_uint32),
+        ("has_interface", ctypes.c_uint8),
+        ("has_packet", ctypes.c_uint8),
+        ("flaws", ctypes.c_size_t),
+        ("body", Bytes),
+        ("interface", Interface),
+        ("packet", NgPacket),
+    ]
+
+
 class Option(ctypes.Structure):
     _fields_ = [("code", ctypes.c_uint16), ("value", Bytes)]
 
@@ -138,6 +154,10 @@ take_packet_as_is.restype = ctypes.c_int32
 take_block = _library.pcapfile_take_block
 take_block.argtypes = [_to(Section), _to(Bytes), _to(Block), _to(Error)]
 take_block.restype = ctypes.c_int32
+
+take_block_as_is = _library.pcapfile_take_block_as_is
+take_block_as_is.argtypes = [_to(Section), _to(Bytes), _to(BlockAsIs), _to(BlockFlaw), ctypes.c_size_t, _to(Error)]
+take_block_as_is.restype = ctypes.c_int32
 
 read_interface = _library.pcapfile_read_interface
 read_interface.argtypes = [_to(Section), _to(Block), _to(Interface), _to(Error)]

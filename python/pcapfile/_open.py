@@ -8,6 +8,7 @@ from typing import Any, BinaryIO, Optional, Union
 
 from ._as_is import CaptureAsIs
 from ._blocks import BlockCapture
+from ._blocks_as_is import BlockCaptureAsIs
 from ._capture import Capture
 from ._source import Data, Memory, Source, Stream, Stretch, Window
 
@@ -18,8 +19,8 @@ _SECTION = b"\x0a\x0d\x0d\x0a"
 def parse(data: Data, *, strict: bool = True) -> Union[Capture, BlockCapture]:
     """The capture that these bytes are. They must not change while it is used.
 
-    Where it is classic and `strict` is False, its packets are given as they stand, each with the rules that it breaks as `flaws`;
-    a PcapNg capture is a ValueError then."""
+    Where `strict` is False, its packets are given as they stand, each with what is wrong with it as `flaws`: of a classic capture the
+    rules that it breaks, of a PcapNg capture each a `Flaw`."""
     return capture_of(Memory(data), strict=strict)
 
 
@@ -73,9 +74,7 @@ def _mapped(stream: BinaryIO) -> Memory:
 def capture_of(source: Source, stretch: Optional[Stretch] = None, strict: bool = True) -> Union[Capture, BlockCapture]:
     if _front(source.window()) != _SECTION:
         return (Capture if strict else CaptureAsIs)(source, stretch)
-    if not strict:
-        raise ValueError("strict=False is for classic captures, and this one is PcapNg")
-    return BlockCapture(source, stretch)
+    return (BlockCapture if strict else BlockCaptureAsIs)(source, stretch)
 
 
 def _front(window: Window) -> bytes:

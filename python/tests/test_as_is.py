@@ -92,10 +92,6 @@ class PacketsAsTheyStand(unittest.TestCase):
                     next(packets)
                 self.assertEqual(told.exception.offset, 41)
 
-    def test_pcapng_is_refused(self):
-        with self.assertRaises(ValueError):
-            pcapfile.parse(struct.pack("<IIIHHqI", 0x0A0D0D0A, 28, 0x1A2B3C4D, 1, 0, -1, 28), strict=False)
-
 
 if __name__ == "__main__":
     unittest.main()

@@ -119,6 +119,15 @@ impl Interface {
 }
 
 impl<'a> Block<'a> {
+    pub(crate) fn of(type_: u32, body: &'a [u8], section: Section) -> Block<'a> {
+        Block { type_, body, section }
+    }
+
+    /// What is in force after it.
+    pub(crate) fn section(&self) -> Section {
+        self.section
+    }
+
     fn raw(&self) -> calls::Block {
         calls::Block { type_: self.type_, body: calls::Bytes::of(self.body) }
     }
@@ -164,7 +173,7 @@ impl<'a> Block<'a> {
         Records { section: self.section, left: self.body, is_done: self.type_ != NAMES }
     }
 
-    fn lent(&self, packet: &calls::NgPacket) -> BlockPacket<'a> {
+    pub(crate) fn lent(&self, packet: &calls::NgPacket) -> BlockPacket<'a> {
         BlockPacket {
             interface_id: packet.interface_id,
             timestamp: packet.timestamp,

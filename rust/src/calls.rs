@@ -44,6 +44,27 @@ pub struct NgPacket {
 
 #[repr(C)]
 #[derive(Clone, Copy)]
+pub struct BlockAsIs {
+    pub type_: u32,
+    pub has_interface: u8,
+    pub has_packet: u8,
+    pub flaws: usize,
+    pub body: Bytes,
+    pub interface: crate::Interface,
+    pub packet: NgPacket,
+}
+
+impl BlockAsIs {
+    pub fn none() -> BlockAsIs {
+        let none = Bytes::of(b"");
+        let packet = NgPacket { type_: 0, interface_id: 0, orig_len: 0, timestamp: 0, bytes: none };
+        let interface = crate::Interface::default();
+        BlockAsIs { type_: 0, has_interface: 0, has_packet: 0, flaws: 0, body: none, interface, packet }
+    }
+}
+
+#[repr(C)]
+#[derive(Clone, Copy)]
 pub struct BlockOption {
     pub code: u16,
     pub value: Bytes,
@@ -161,6 +182,14 @@ extern "C" {
         section: *mut crate::Section,
         left: *mut Bytes,
         block: *mut Block,
+        error: *mut Error,
+    ) -> i32;
+    pub fn pcapfile_take_block_as_is(
+        section: *mut crate::Section,
+        left: *mut Bytes,
+        block: *mut BlockAsIs,
+        flaws: *mut crate::BlockFlaw,
+        flaws_len: usize,
         error: *mut Error,
     ) -> i32;
     pub fn pcapfile_read_interface(

@@ -17,6 +17,7 @@ extern crate std;
 
 mod as_is;
 mod blocks;
+mod blocks_as_is;
 mod calls;
 mod rules;
 #[cfg(feature = "std")]
@@ -26,6 +27,7 @@ mod writer;
 
 pub use as_is::{Flaws, PacketAsIs, PacketsAsIs};
 pub use blocks::{Block, BlockOption, BlockPacket, Blocks, Interface, NameRecord, Names, Options, Records, Section, Time};
+pub use blocks_as_is::{BlockAsIs, BlockFlaw, BlocksAsIs};
 #[cfg(feature = "std")]
 pub use reader::{AnyPacket, Packets, Reader};
 pub use rules::Rule;

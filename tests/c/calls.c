@@ -114,6 +114,37 @@ static void packets_as_is_below_a_limit(void) {
     EXPECT(error.rule == PCAPFILE_RULE_CAPTURE_MAGIC && error.missing == 0 && packet.bytes.len == 262146);
 }
 
+/* A section header, and an interface whose body is too short, and then one whose unit of time has two bytes. */
+static void blocks_as_is(void) {
+    static const uint8_t bytes[] = {
+        10, 13, 13, 10, 28, 0, 0, 0, 0x4d, 0x3c, 0x2b, 0x1a, 1, 0, 0, 0, 255, 255, 255, 255, 255, 255, 255, 255, 28, 0, 0, 0,
+        1, 0, 0, 0, 16, 0, 0, 0, 1, 0, 0, 0, 16, 0, 0, 0,
+        1, 0, 0, 0, 28, 0, 0, 0, 113, 0, 0, 0, 60, 0, 0, 0, 9, 0, 2, 0, 9, 9, 0, 0, 28, 0, 0, 0,
+    };
+    pcapfile_bytes left = { bytes, sizeof bytes };
+    pcapfile_section section = PCAPFILE_SECTION_INIT;
+    pcapfile_block_as_is block = PCAPFILE_BLOCK_AS_IS_INIT;
+    pcapfile_block_flaw flaw = PCAPFILE_BLOCK_FLAW_INIT;
+    pcapfile_error error = PCAPFILE_ERROR_INIT;
+    EXPECT(pcapfile_take_block_as_is(&section, &left, &block, &flaw, 1, &error) == PCAPFILE_OK && left.len == 44);
+    EXPECT(block.type == PCAPFILE_BLOCK_SECTION && block.flaws == 0 && flaw.status == 0 && section.magic_number == 0x4d3c2b1a);
+    EXPECT(pcapfile_take_block_as_is(&section, &left, &block, &flaw, 0, &error) == PCAPFILE_OK);
+    EXPECT(block.flaws == 1 && flaw.status == 0 && !block.has_interface && block.interface.ts_base == 0 && section.interfaces == 1);
+    EXPECT(pcapfile_take_block_as_is(&section, &left, &block, &flaw, 1, &error) == PCAPFILE_OK && left.len == 0);
+    EXPECT(block.flaws == 1 && flaw.status == PCAPFILE_INVALID && flaw.rule == PCAPFILE_RULE_INTERFACE_RESOLUTION_LENGTH && flaw.code == 9);
+    EXPECT(block.has_interface && block.interface.link == 113 && block.interface.snaplen == 60 && section.interfaces == 2);
+    EXPECT(block.interface.ts_base == 10 && block.interface.ts_exponent == 6 && block.body.ptr == bytes + 52 && block.body.len == 16);
+    EXPECT(!block.has_packet && block.packet.bytes.len == 0);
+    EXPECT(pcapfile_take_block_as_is(&section, &left, &block, &flaw, 1, &error) == PCAPFILE_INCOMPLETE && error.missing == 12);
+    section = (pcapfile_section){ 7, 1, 0, 2 };
+    left = (pcapfile_bytes){ bytes, sizeof bytes };
+    EXPECT(pcapfile_take_block_as_is(&section, &left, &block, &flaw, 1, &error) == PCAPFILE_INVALID);
+    EXPECT(error.rule == PCAPFILE_RULE_SECTION_MAGIC && left.len == sizeof bytes && block.type == 1 && flaw.code == 9);
+    section = (pcapfile_section)PCAPFILE_SECTION_INIT;
+    left = (pcapfile_bytes){ bytes + 28, 16 };
+    EXPECT(pcapfile_take_block_as_is(&section, &left, &block, &flaw, 1, &error) == PCAPFILE_INCOMPLETE);
+}
+
 /* Seven bytes of garbage before three packets, and before one that breaks a rule. */
 static void resyncs(void) {
     uint8_t bytes[7 + 3 * 19];
@@ -704,6 +735,7 @@ int main(void) {
     packets();
     packets_as_is();
     packets_as_is_below_a_limit();
+    blocks_as_is();
     resyncs();
     batches();
     rows();

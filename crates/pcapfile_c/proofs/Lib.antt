@@ -22,3 +22,4 @@ mod TakenOptions
 mod EitherFormat
 pub mod AnyTaken
 mod AnyNgTaken
+mod Standing

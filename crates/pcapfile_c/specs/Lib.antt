@@ -27,3 +27,4 @@ pub mod Records
 pub mod AnyCaptures
 pub mod AnyCalls
 pub mod AtLeast
+pub mod BlocksAsIs

@@ -12,6 +12,7 @@ mod at_least;
 mod batches;
 mod block_cuts;
 mod blocks;
+mod blocks_as_is;
 mod bodies;
 mod cuts;
 mod errors;

@@ -1,0 +1,314 @@
+//! PcapNg captures that lie in memory: their blocks as they stand, with what is wrong with their bodies.
+
+ghost use Rattle.std.specs.Prelude.{◌≡◌, ◌≢◌, ℕ, List, [], None, IsErrAnd, IfOk, IfSome, map};
+ghost use Rattle.pcap_core.specs.declared.rules.Rule.TheVariants.{SectionMagic};
+ghost use Rattle.pcap_core.specs.Answer.{number_in};
+ghost use Rattle.pcap_core.specs.Bytes.{IsBorrowed};
+ghost use Rattle.pcap_core.specs.Faults.{Names};
+ghost use Rattle.pcap_blocks.specs.declared.block_type.BlockType.TheVariants as types;
+ghost use Rattle.pcap_file.specs.Frames.{framed_of};
+ghost use Rattle.pcap_tolerant_blocks.specs.EnhancedAsIs.{EnhancedText, enhanced_in, flaws_said as packet_flaws};
+ghost use Rattle.pcap_tolerant_blocks.specs.Flaws.{said_of};
+ghost use Rattle.pcap_tolerant_blocks.specs.InterfaceAsIs.{InterfaceText, interface_in, flaws_said as interface_flaws};
+ghost use Rattle.pcap_tolerant_captures.specs.State.{State};
+ghost use Rattle.pcapfile_c.specs.Blocks.{order_shown};
+ghost use Rattle.pcapfile_c.specs.BlocksAsIs.{ShowsStanding, shown_flaw, ShowsFlaws, ShowsReading, said_in, IsOf, TellsSection, FindsNothing, FindsInterface, FindsPacket, LeadsStanding, NextStands, TakesStanding, RefusesStanding};
+
+use crate::blocks::{PcapfileBlock, PcapfileSection};
+use crate::bodies::{PcapfileInterface, PcapfileNgPacket, enhanced_shown, interface_shown};
+use crate::errors::{PcapfileError, tell};
+use crate::shown::PcapfileBytes;
+use byteorder::{BigEndian, LittleEndian};
+use pcap_core::rules::Rule;
+use pcap_file::pcapng::{Block, BlockType};
+use pcap_file::{Endianness, PcapError, ResultParsing};
+use pcap_tolerant_blocks::{Broken, EnhancedAsIs, Flaw, InterfaceAsIs, SectionAsIs};
+use std::alloc::{AllocError, Global};
+
+/// What is wrong with the body of a block. In C: `pcapfile_block_flaw`.
+#[repr(C)]
+#[derive(Clone, Copy)]
+pub struct PcapfileBlockFlaw {
+    /// The status by which the strict reading refuses such a body: 3 a rule, 2 a value that is too short, 4 a string.
+    pub status: i32,
+    /// The number of the rule that is broken, under status 3. Else 0.
+    pub rule: u32,
+    /// The code of the option whose value it is. 0 where it is that of the whole body, or of the list of options.
+    pub code: u32,
+}
+
+/// A block as it stands: the number of its type, its body, and what that is. In C: `pcapfile_block_as_is`.
+#[repr(C)]
+#[derive(Clone, Copy)]
+pub struct PcapfileBlockAsIs<'a> {
+    pub type_: u32,
+    /// 1 for an interface whose body has room for its head.
+    pub has_interface: u8,
+    /// 1 for an enhanced packet whose body has room for its head and its bytes.
+    pub has_packet: u8,
+    /// How many flaws its body has.
+    pub flaws: usize,
+    pub body: &'a [u8],
+    /// With the first unit and offset that break no rule.
+    pub interface: PcapfileInterface,
+    pub packet: PcapfileNgPacket<'a>,
+}
+
+/// Takes the block at the front of `left` as it stands, and shows what is wrong with it in the first places of `flaws`, up to their
+/// last one. `section` is what is in force before it, and then after it.
+#[unsafe(no_mangle)]
+pub extern "C" fn pcapfile_take_block_as_is<'a>(
+    alloc: Global,
+    section: &mut PcapfileSection,
+    left: &mut PcapfileBytes<'a>,
+    block: &mut PcapfileBlockAsIs<'a>,
+    flaws: &mut [PcapfileBlockFlaw],
+    error: &mut PcapfileError,
+) -> i32
+    ensures taken { (q : State) → ShowsStanding section.old q →
+        TakesStanding q section.old section.new left.old left.new block.old block.new flaws.old flaws.new error.old error.new result }
+    ensures refused { order_shown section.old.magic_number ≡ None →
+        RefusesStanding section.old section.new left.old left.new block.old block.new flaws.old flaws.new error.new result }
+{
+    match section.next_standing(alloc, left.bytes) {
+        Ok((rest, (found, next))) => {
+            show_flaws(found.flaws.as_slice(), flaws);
+            *block = found.shown;
+            *section = next;
+            left.bytes = rest;
+            0
+        }
+        Err(e) => tell(&e, error),
+    }
+}
+
+// What is found of a block as it stands: what C sees of it, and what is wrong with it.
+#[derive(Drop)]
+struct FoundAsIs<'a> {
+    shown: PcapfileBlockAsIs<'a>,
+    flaws: Vec<Flaw>,
+}
+
+impl PcapfileSection {
+    // The block at the front of a slice as it stands, what is in force after it, and what follows it.
+    fn next_standing<'a>(
+        &self,
+        alloc: Global,
+        slice: &'a [u8],
+    ) -> ResultParsing<(&'a [u8], (FoundAsIs<'a>, PcapfileSection))>
+        ensures said { (q : State) → ShowsStanding self.now q → NextStands q slice.now result }
+        ensures refused { order_shown self.now.magic_number ≡ None → IsErrAnd result (Names SectionMagic) }
+    {
+        let Some(order) = self.order() else {
+            return Err(PcapError::from(Rule::SectionMagic));
+        };
+        let (rest, block) = Block::from_slice(order, slice)?;
+        let found = self.standing(alloc, block)?;
+        Ok((rest, found))
+    }
+
+    // What is found of a block, and what is in force after it.
+    fn standing<'a>(
+        &self,
+        alloc: Global,
+        block: Block<'a>,
+    ) -> ResultParsing<(FoundAsIs<'a>, PcapfileSection)>
+        requires { IsBorrowed block.body }
+        ensures { (q : State) → ShowsStanding self.now q → LeadsStanding q (framed_of block.entry) result }
+    {
+        match block.type_ {
+            BlockType::SectionHeader => {
+                let lent = PcapfileBlock::new(block);
+                let (section, flaws) = section_standing(alloc, lent.body)?;
+                Ok((FoundAsIs::nothing(lent, flaws), section))
+            }
+            _ => self.standing_on(alloc, block),
+        }
+    }
+
+    // The same of a block that is no section.
+    fn standing_on<'a>(
+        &self,
+        alloc: Global,
+        block: Block<'a>,
+    ) -> ResultParsing<(FoundAsIs<'a>, PcapfileSection)>
+        requires other { block.type_ ≢ types.SectionHeader }
+        requires borrowed { IsBorrowed block.body }
+        ensures { (q : State) → ShowsStanding self.now q → LeadsStanding q (framed_of block.entry) result }
+    {
+        if self.magic_number == 0 {
+            return Err(PcapError::from(Rule::SectionMissing));
+        }
+        let (type_, order) = (block.type_, block.endianness());
+        let lent = PcapfileBlock::new(block);
+        match type_ {
+            BlockType::InterfaceDescription => {
+                let found = FoundAsIs::interface(alloc, order, lent)?;
+                let interfaces = self.interfaces.saturating_add(1);
+                Ok((
+                    found,
+                    PcapfileSection {
+                        interfaces,
+                        ..*self
+                    },
+                ))
+            }
+            BlockType::EnhancedPacket => Ok((FoundAsIs::packet(alloc, order, lent)?, *self)),
+            _ => Ok((FoundAsIs::nothing(lent, Vec::new(alloc)), *self)),
+        }
+    }
+}
+
+impl<'a> FoundAsIs<'a> {
+    // What is found where nothing is read of a block, with these flaws.
+    fn nothing(lent: PcapfileBlock<'a>, flaws: Vec<Flaw>) -> FoundAsIs<'a>
+        ensures { FindsNothing lent.entry (said_in flaws) result }
+    {
+        let mut shown = PcapfileBlockAsIs::bare(lent);
+        shown.flaws = flaws.len();
+        FoundAsIs { shown, flaws }
+    }
+
+    // The interface that a block is as it stands.
+    fn interface(
+        alloc: Global,
+        order: Endianness,
+        lent: PcapfileBlock<'a>,
+    ) -> Result<FoundAsIs<'a>, AllocError>
+        ensures { IfOk result (FindsInterface (number_in order) lent.entry) }
+    {
+        let InterfaceAsIs { interface, flaws } = interface_standing(alloc, order, lent.body)?;
+        let mut shown = PcapfileBlockAsIs::bare(lent);
+        shown.flaws = flaws.len();
+        if let Some(interface) = &interface {
+            shown.has_interface = 1;
+            shown.interface = interface_shown(interface);
+        }
+        Ok(FoundAsIs { shown, flaws })
+    }
+
+    // The packet that a block is as it stands.
+    fn packet(
+        alloc: Global,
+        order: Endianness,
+        lent: PcapfileBlock<'a>,
+    ) -> Result<FoundAsIs<'a>, AllocError>
+        ensures { IfOk result (FindsPacket (number_in order) lent.entry) }
+    {
+        let EnhancedAsIs { packet, flaws } = packet_standing(alloc, order, lent.body)?;
+        let mut shown = PcapfileBlockAsIs::bare(lent);
+        shown.flaws = flaws.len();
+        if let Some(packet) = packet {
+            shown.has_packet = 1;
+            shown.packet = enhanced_shown(packet);
+        }
+        Ok(FoundAsIs { shown, flaws })
+    }
+}
+
+impl<'a> PcapfileBlockAsIs<'a> {
+    // What C sees of a block of which nothing is read.
+    fn bare(lent: PcapfileBlock<'a>) -> PcapfileBlockAsIs<'a>
+        ensures of { IsOf lent.entry result }
+        ensures bare { ShowsReading (record { interface = None; packet = None; flaws = [] }) result }
+    {
+        PcapfileBlockAsIs {
+            type_: lent.type_,
+            has_interface: 0,
+            has_packet: 0,
+            flaws: 0,
+            body: lent.body,
+            interface: NO_INTERFACE,
+            packet: PcapfileNgPacket {
+                type_: 0,
+                interface_id: 0,
+                orig_len: 0,
+                timestamp: 0,
+                bytes: &[],
+            },
+        }
+    }
+}
+
+const NO_INTERFACE: PcapfileInterface = PcapfileInterface {
+    link: 0,
+    snaplen: 0,
+    ts_base: 0,
+    ts_exponent: 0,
+    ts_offset: 0,
+};
+
+// The section that the body of a section header puts in force as it stands, and what is wrong with it.
+fn section_standing(alloc: Global, body: &[u8]) -> ResultParsing<(PcapfileSection, Vec<Flaw>)>
+    ensures { TellsSection body.now result }
+{
+    let (_rest, read) = SectionAsIs::from_slice(alloc, body)?;
+    let SectionAsIs { section, flaws } = read;
+    let shown = PcapfileSection {
+        magic_number: section.magic,
+        version_major: section.major_version,
+        version_minor: section.minor_version,
+        interfaces: 0,
+    };
+    Ok((shown, flaws))
+}
+
+// The interface that a body is as it stands, in this order.
+fn interface_standing<'a>(
+    alloc: Global,
+    order: Endianness,
+    body: &'a [u8],
+) -> Result<InterfaceAsIs<'a>, AllocError>
+    ensures { IfOk result (λ x. (rest : List ℕ) × InterfaceText (number_in order) (interface_in x) (interface_flaws x) body.now rest) }
+{
+    match order {
+        Endianness::Big => Ok(InterfaceAsIs::from_slice::<BigEndian>(alloc, body)?.1),
+        Endianness::Little => Ok(InterfaceAsIs::from_slice::<LittleEndian>(alloc, body)?.1),
+    }
+}
+
+// The packet that a body is as it stands, in this order.
+fn packet_standing<'a>(
+    alloc: Global,
+    order: Endianness,
+    body: &'a [u8],
+) -> Result<EnhancedAsIs<'a>, AllocError>
+    ensures read { IfOk result (λ x. (rest : List ℕ) × EnhancedText (number_in order) (enhanced_in x) (packet_flaws x) body.now rest) }
+    ensures borrowed { IfOk result (λ x. IfSome x.packet (λ packet. IsBorrowed packet.data_)) }
+{
+    match order {
+        Endianness::Big => Ok(EnhancedAsIs::from_slice::<BigEndian>(alloc, body)?.1),
+        Endianness::Little => Ok(EnhancedAsIs::from_slice::<LittleEndian>(alloc, body)?.1),
+    }
+}
+
+// Shows what is wrong in the first places, as far as there are places.
+fn show_flaws(flaws: &[Flaw], places: &mut [PcapfileBlockFlaw])
+    ensures { ShowsFlaws (map said_of flaws.now) places.old places.new }
+{
+    let count = flaws.len().min(places.len());
+    for i in 0..count {
+        places[i] = PcapfileBlockFlaw::new(flaws[i]);
+    }
+}
+
+impl PcapfileBlockFlaw {
+    // What C sees of a flaw.
+    fn new(flaw: Flaw) -> PcapfileBlockFlaw
+        ensures { result ≡ shown_flaw (said_of flaw) }
+    {
+        let (status, rule) = match flaw.broken {
+            Broken::Rule(rule) => (3, rule.number()),
+            Broken::TooShort => (2, 0),
+            Broken::NotUtf8 => (4, 0),
+        };
+        PcapfileBlockFlaw {
+            status,
+            rule,
+            code: match flaw.code {
+                Some(code) => u32::from(code),
+                None => 0,
+            },
+        }
+    }
+}

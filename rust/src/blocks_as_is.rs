@@ -1,0 +1,143 @@
+//! PcapNg captures as strangers write them.
+
+use crate::blocks::lent;
+use crate::calls;
+use crate::{Block, BlockPacket, Blocks, Error, Interface, Rule, Section};
+
+/// What is wrong with the body of a block.
+#[repr(C)]
+#[derive(Clone, Copy, Debug, Default, PartialEq, Eq)]
+pub struct BlockFlaw {
+    status: i32,
+    rule: u32,
+    code: u32,
+}
+
+impl BlockFlaw {
+    /// The error by which the strict reading refuses such a body. None of a place that no call has filled.
+    pub fn error(self) -> Option<Error> {
+        (self.status != 0).then(|| Error::of(self.status, calls::Error { rule: self.rule, missing: 0 }))
+    }
+
+    /// The rule that is broken. None where a custom option's value is too short, and where a string is not UTF-8.
+    pub fn rule(self) -> Option<Rule> {
+        self.error().and_then(Error::rule)
+    }
+
+    /// The code of the option whose value it is. None where it is that of the whole body, or of the list of options.
+    pub fn code(self) -> Option<u16> {
+        u16::try_from(self.code).ok().filter(|&code| code != 0)
+    }
+}
+
+/// A block of a PcapNg capture as it stands.
+#[derive(Clone, Copy, Debug, PartialEq, Eq)]
+pub struct BlockAsIs<'a> {
+    /// The block, whose body may have flaws.
+    pub block: Block<'a>,
+    /// The interface that it describes, with the first unit of time and the first offset that break no rule. None of another block,
+    /// and where its body has no room for an interface's head: it keeps its number then.
+    pub interface: Option<Interface>,
+    /// The packet that it is, where it is an enhanced one. None of another block, and where its body has no room for the packet.
+    pub packet: Option<BlockPacket<'a>>,
+    /// How many flaws its body has.
+    pub flaw_count: usize,
+    first: BlockFlaw,
+    text: &'a [u8],
+}
+
+impl<'a> BlockAsIs<'a> {
+    /// The first flaw of its body, by which the strict reading refuses it. None where it has none.
+    pub fn first_flaw(&self) -> Option<BlockFlaw> {
+        (self.flaw_count > 0).then_some(self.first)
+    }
+
+    /// The flaws of its body, in the order in which they stand, as many of the first ones as there are places.
+    pub fn flaws<'p>(&self, places: &'p mut [BlockFlaw]) -> &'p [BlockFlaw] {
+        // A section header is read in its own order, whatever is in force.
+        let section = Section { interfaces: 0, ..self.block.section() };
+        let count = match take(section, self.text, places) {
+            Ok((_, taken, _)) => taken.flaws.min(places.len()),
+            Err(_) => 0,
+        };
+        &places[..count]
+    }
+}
+
+/// The blocks of a PcapNg capture as they stand, as an iterator. A refusal is its last item.
+#[derive(Clone, Debug)]
+pub struct BlocksAsIs<'a> {
+    section: Section,
+    left: &'a [u8],
+    is_done: bool,
+}
+
+impl<'a> Blocks<'a> {
+    /// Its blocks as they stand, from the next one on: none is left out for what is wrong with its body. One is refused where its
+    /// frame is, where the first one is no section header, and where a section header gives no order of bytes.
+    pub fn as_is(self) -> BlocksAsIs<'a> {
+        BlocksAsIs { section: *self.section(), left: self.rest(), is_done: false }
+    }
+}
+
+/// The block at the front of these bytes, what of them follows it, and what is in force then.
+fn take<'a>(
+    mut section: Section,
+    bytes: &'a [u8],
+    places: &mut [BlockFlaw],
+) -> Result<(&'a [u8], calls::BlockAsIs, Section), Error> {
+    let (mut left, mut error) = (calls::Bytes::of(bytes), calls::Error::default());
+    let mut block = calls::BlockAsIs::none();
+    // SAFETY: each pointer is that of a value of its own, `left` is a slice's, and so are the places.
+    let status = unsafe {
+        calls::pcapfile_take_block_as_is(
+            &mut section,
+            &mut left,
+            &mut block,
+            places.as_mut_ptr(),
+            places.len(),
+            &mut error,
+        )
+    };
+    match status {
+        0 => Ok((lent(bytes, left), block, section)),
+        status => Err(Error::of(status, error)),
+    }
+}
+
+impl<'a> BlocksAsIs<'a> {
+    /// What is in force after the blocks that have been given.
+    pub fn section(&self) -> &Section {
+        &self.section
+    }
+
+    /// The bytes after the blocks that have been given.
+    pub fn rest(&self) -> &'a [u8] {
+        self.left
+    }
+
+    fn take(&mut self) -> Result<BlockAsIs<'a>, Error> {
+        let (bytes, mut first) = (self.left, [BlockFlaw::default()]);
+        let (rest, taken, section) = take(self.section, bytes, &mut first)?;
+        let text = &bytes[..bytes.len() - rest.len()];
+        (self.left, self.section) = (rest, section);
+        let block = Block::of(taken.type_, &text[8..text.len() - 4], section);
+        let packet = (taken.has_packet == 1).then(|| block.lent(&taken.packet));
+        let interface = (taken.has_interface == 1).then_some(taken.interface);
+        Ok(BlockAsIs { block, interface, packet, flaw_count: taken.flaws, first: first[0], text })
+    }
+}
+
+impl<'a> Iterator for BlocksAsIs<'a> {
+    type Item = Result<BlockAsIs<'a>, Error>;
+
+    fn next(&mut self) -> Option<Self::Item> {
+        // Of no bytes at all the library tells how many are missing of the first block.
+        if self.is_done || (self.left.is_empty() && self.section != Section::default()) {
+            return None;
+        }
+        let taken = self.take();
+        self.is_done = taken.is_err();
+        Some(taken)
+    }
+}
