@@ -1,6 +1,6 @@
 //! Values that are built here, in both orders: one of each kind of block, and bytes of each length up to five.
 
-use crate::writing::{interface, is_written};
+use crate::writing::{holds, interface, is_written};
 use byteorder::BigEndian;
 use pcap_blocks::{
     BlockType, CustomUtf8Option, EnhancedPacketBlock, EnhancedPacketOption,
@@ -40,11 +40,10 @@ fn is_section(alloc: Global, magic: u32, digits: &str) -> ResultParsing<bool> {
 }
 
 #[test]
-fn sections(rt: HostRuntime) -> Result<(), Fail> {
+fn sections(rt: HostRuntime) {
     for (magic, digits) in SECTIONS {
-        assert!(rt; is_section(rt.alloc(), magic, digits)?, "{magic}");
+        assert!(rt; holds(is_section(rt.alloc(), magic, digits)), "{magic}");
     }
-    Ok(())
 }
 
 fn plain_interface(alloc: Global) -> bool {
@@ -155,16 +154,16 @@ fn names(alloc: Global) -> ResultParsing<bool> {
     Ok(is_written(alloc, &names, digits))
 }
 
+// Whether each of them is written so.
+fn each_kind(alloc: Global) -> ResultParsing<bool> {
+    let is_interface = plain_interface(alloc) && described_interface(alloc)?;
+    let is_packet = obsolete_packet(alloc)? && enhanced_packet(alloc)?;
+    Ok(is_interface && is_packet && statistics(alloc)? && names(alloc)?)
+}
+
 #[test]
-fn each_kind_of_block(rt: HostRuntime) -> Result<(), Fail> {
-    let alloc = rt.alloc();
-    assert!(rt; plain_interface(alloc));
-    assert!(rt; described_interface(alloc)?);
-    assert!(rt; obsolete_packet(alloc)?);
-    assert!(rt; enhanced_packet(alloc)?);
-    assert!(rt; statistics(alloc)?);
-    assert!(rt; names(alloc)?);
-    Ok(())
+fn each_kind_of_block(rt: HostRuntime) {
+    assert!(rt; holds(each_kind(rt.alloc())));
 }
 
 type End = (u32, &'static str, &'static str, &'static str);
@@ -217,12 +216,14 @@ fn unknown_block(alloc: Global, (count, end, len, _): End) -> ResultParsing<bool
     frames(alloc, &unknown, ("0a", len), ["", ""], end)
 }
 
+// Whether each of these blocks is written so.
+fn each_ends(alloc: Global, row: End) -> ResultParsing<bool> {
+    Ok(simple_packet(alloc, row)? && entry(alloc, row)? && unknown_block(alloc, row)?)
+}
+
 #[test]
-fn bytes_of_each_length(rt: HostRuntime) -> Result<(), Fail> {
+fn bytes_of_each_length(rt: HostRuntime) {
     for row in ENDS {
-        assert!(rt; simple_packet(rt.alloc(), row)?, "{} bytes", row.0);
-        assert!(rt; entry(rt.alloc(), row)?, "{} bytes", row.0);
-        assert!(rt; unknown_block(rt.alloc(), row)?, "{} bytes", row.0);
+        assert!(rt; holds(each_ends(rt.alloc(), row)), "{} bytes", row.0);
     }
-    Ok(())
 }

@@ -1,6 +1,6 @@
 //! Writers that fail, and those that take few bytes in a call.
 
-use crate::writing::interface;
+use crate::writing::{are_digits_up_to, holds, interface};
 use pcap_blocks::{BlockType, EnhancedPacketBlock, EnhancedPacketOption, UnknownBlock};
 use pcap_core::{CowBytes, Endianness, PcapError, ResultParsing};
 use pcap_written::{PcapNgBlock, PcapNgWriter};
@@ -8,8 +8,7 @@ use std::alloc::Global;
 use std::borrow::CowStr;
 use std::io::{ErrorKind, Write};
 use std::test::*;
-use test_support::captures::front;
-use test_support::rows::bytes;
+use test_support::rows::are_digits;
 use test_support::writers::Narrow;
 
 // A section, an interface, and a packet with a comment: 28, 20 and 48 bytes.
@@ -92,25 +91,20 @@ fn fails_once(alloc: Global, output: &mut Narrow, gone: usize) -> ResultParsing<
     }
 }
 
-// Whether a writer fails once, and these bytes are what went out.
-fn leaves(alloc: Global, mut output: Narrow, gone: &[u8]) -> bool {
-    let fails = matches!(fails_once(alloc, &mut output, gone.len()), Ok(true));
-    fails && output.out.as_slice() == gone
+// Whether a writer fails once, and so many bytes of them are what went out.
+fn leaves(alloc: Global, mut output: Narrow, gone: usize) -> bool {
+    let fails = holds(fails_once(alloc, &mut output, gone));
+    fails && are_digits_up_to(output.out.as_slice(), WHOLE, gone)
 }
 
 #[test]
-fn every_room(rt: HostRuntime) -> Result<(), Fail> {
-    let whole = bytes(rt.alloc(), WHOLE)?;
+fn every_room(rt: HostRuntime) {
     for fails in [false, true] {
         for room in 0..96usize {
-            let gone = front(whole.as_slice(), room);
-            assert!(rt;
-                leaves(rt.alloc(), Narrow::new(rt.alloc(), room, fails), gone),
-                "at {room}"
-            );
+            let output = Narrow::new(rt.alloc(), room, fails);
+            assert!(rt; leaves(rt.alloc(), output, room), "at {room}");
         }
     }
-    Ok(())
 }
 
 // Each call of a writer that takes ten bytes at most, and how many bytes went out before it.
@@ -128,18 +122,13 @@ const CALLS: [(u64, usize); 10] = [
 ];
 
 #[test]
-fn halted_calls(rt: HostRuntime) -> Result<(), Fail> {
-    let whole = bytes(rt.alloc(), WHOLE)?;
+fn halted_calls(rt: HostRuntime) {
     for (call, gone) in CALLS {
         for is_idle in [false, true] {
-            let gone = front(whole.as_slice(), gone);
-            assert!(rt;
-                leaves(rt.alloc(), Narrow::halting(rt.alloc(), call, is_idle), gone),
-                "at {call}"
-            );
+            let output = Narrow::halting(rt.alloc(), call, is_idle);
+            assert!(rt; leaves(rt.alloc(), output, gone), "at {call}");
         }
     }
-    Ok(())
 }
 
 // Writes a section, an interface, and a packet of two bytes without options.
@@ -158,12 +147,11 @@ fn tells_interrupted(alloc: Global, call: u64) -> bool {
 }
 
 #[test]
-fn interrupted_calls(rt: HostRuntime) -> Result<(), Fail> {
+fn interrupted_calls(rt: HostRuntime) {
     // three for the section, two for the interface, three for what stands before the packet's bytes, and one for each of the rest
     for call in 1..11u64 {
         assert!(rt; tells_interrupted(rt.alloc(), call), "at {call}");
     }
-    Ok(())
 }
 
 // Whether the section, the interface and the packet go out.
@@ -174,22 +162,17 @@ fn goes_out(alloc: Global, output: &mut Narrow) -> ResultParsing<bool> {
     Ok(!writer.failed())
 }
 
-// Whether they go out as these bytes where a write takes so many of them at most.
-fn goes_out_by(alloc: Global, step: usize, whole: &[u8]) -> bool {
+// Whether they go out where a write takes so many of them at most.
+fn goes_out_by(alloc: Global, step: usize) -> bool {
     let mut output = Narrow::new(alloc, 96, true);
     output.step = step;
-    let is_written = matches!(goes_out(alloc, &mut output), Ok(true));
-    is_written && output.out.as_slice() == whole
+    let is_written = holds(goes_out(alloc, &mut output));
+    is_written && are_digits(output.out.as_slice(), WHOLE)
 }
 
 #[test]
-fn short_writes(rt: HostRuntime) -> Result<(), Fail> {
-    let whole = bytes(rt.alloc(), WHOLE)?;
+fn short_writes(rt: HostRuntime) {
     for step in 1..50usize {
-        assert!(rt;
-            goes_out_by(rt.alloc(), step, whole.as_slice()),
-            "by {step}"
-        );
+        assert!(rt; goes_out_by(rt.alloc(), step), "by {step}");
     }
-    Ok(())
 }

@@ -41,16 +41,21 @@ fn hardware(alloc: Global, text: &str, wanted: &[u8]) -> ResultParsing<bool> {
     )
 }
 
-#[test]
-fn texts(rt: HostRuntime) -> Result<(), Fail> {
-    let text = "a".repeat(rt.alloc(), 65_535)?;
+// Whether the longest text goes out.
+fn text_goes_out(alloc: Global) -> Result<bool, Fail> {
+    let text = "a".repeat(alloc, 65_535)?;
     let wanted = around(
-        rt.alloc(),
+        alloc,
         "0a0d0d0a 00010024 1a2b3c4d 0001 0000 ffffffffffffffff 0002 ffff",
         text.as_bytes(),
         "00 0000 0000 00010024",
     )?;
-    assert!(rt; hardware(rt.alloc(), text.as_str(), wanted.as_slice())?);
+    Ok(hardware(alloc, text.as_str(), wanted.as_slice())?)
+}
+
+#[test]
+fn texts(rt: HostRuntime) -> Result<(), Fail> {
+    assert!(rt; text_goes_out(rt.alloc())?);
     Ok(())
 }
 
@@ -59,16 +64,21 @@ fn custom(alloc: Global, value: &[u8], wanted: &[u8]) -> ResultParsing<bool> {
     section(alloc, SectionHeaderOption::CustomBinary(custom), wanted)
 }
 
-#[test]
-fn custom_values(rt: HostRuntime) -> Result<(), Fail> {
-    let value = pattern(rt.alloc(), 65_535)?;
+// Whether the longest custom value does.
+fn value_goes_out(alloc: Global) -> Result<bool, Fail> {
+    let value = pattern(alloc, 65_535)?;
     let wanted = around(
-        rt.alloc(),
+        alloc,
         "0a0d0d0a 00010024 1a2b3c4d 0001 0000 ffffffffffffffff 0bad ffff 00010203",
         back(value.as_slice(), 4),
         "00 0000 0000 00010024",
     )?;
-    assert!(rt; custom(rt.alloc(), value.as_slice(), wanted.as_slice())?);
+    Ok(custom(alloc, value.as_slice(), wanted.as_slice())?)
+}
+
+#[test]
+fn custom_values(rt: HostRuntime) -> Result<(), Fail> {
+    assert!(rt; value_goes_out(rt.alloc())?);
     Ok(())
 }
 
@@ -89,16 +99,21 @@ fn ipv4(alloc: Global, name: &str, wanted: &[u8]) -> Result<bool, AllocError> {
     names(alloc, Record::Ipv4(ipv4), wanted)
 }
 
-#[test]
-fn records(rt: HostRuntime) -> Result<(), Fail> {
-    let name = "a".repeat(rt.alloc(), 65_530)?;
+// Whether the longest record does.
+fn record_goes_out(alloc: Global) -> Result<bool, Fail> {
+    let name = "a".repeat(alloc, 65_530)?;
     let wanted = around(
-        rt.alloc(),
+        alloc,
         "04000000 14000100 0100 ffff 0a000001",
         name.as_bytes(),
         "00 00 0000 0000 14000100",
     )?;
-    assert!(rt; ipv4(rt.alloc(), name.as_str(), wanted.as_slice())?);
+    Ok(ipv4(alloc, name.as_str(), wanted.as_slice())?)
+}
+
+#[test]
+fn records(rt: HostRuntime) -> Result<(), Fail> {
+    assert!(rt; record_goes_out(rt.alloc())?);
     Ok(())
 }
 
@@ -111,15 +126,20 @@ fn unknown(alloc: Global, value: &[u8], wanted: &[u8]) -> Result<bool, AllocErro
     names(alloc, Record::Unknown(unknown), wanted)
 }
 
-#[test]
-fn unknown_records(rt: HostRuntime) -> Result<(), Fail> {
-    let value = pattern(rt.alloc(), 65_535)?;
+// Whether the longest unknown one does.
+fn unknown_goes_out(alloc: Global) -> Result<bool, Fail> {
+    let value = pattern(alloc, 65_535)?;
     let wanted = around(
-        rt.alloc(),
+        alloc,
         "04000000 14000100 0300 ffff",
         value.as_slice(),
         "00 0000 0000 14000100",
     )?;
-    assert!(rt; unknown(rt.alloc(), value.as_slice(), wanted.as_slice())?);
+    Ok(unknown(alloc, value.as_slice(), wanted.as_slice())?)
+}
+
+#[test]
+fn unknown_records(rt: HostRuntime) -> Result<(), Fail> {
+    assert!(rt; unknown_goes_out(rt.alloc())?);
     Ok(())
 }

@@ -1,6 +1,6 @@
 //! Blocks whose bodies are written as they stand.
 
-use crate::writing::{begun, is_refused};
+use crate::writing::{begun, holds, is_refused};
 use pcap_blocks::BlockType;
 use pcap_core::{Endianness, PcapError, ResultParsing};
 use pcap_written::{PcapNgWriter, RawBlock};
@@ -41,15 +41,19 @@ fn leads(
     Ok(writer.endianness() == block.endianness && writer.interfaces() == interfaces)
 }
 
+// Whether all of them go out behind the first section.
+fn goes_out(alloc: Global) -> ResultParsing<bool> {
+    let [first, second, third] = blocks();
+    let mut writer = PcapNgWriter::with_endianness(alloc, Endianness::Big, Vec::new(alloc))?;
+    let is_led = leads(&mut writer, &first, 1)?
+        && leads(&mut writer, &second, 0)?
+        && leads(&mut writer, &third, 1)?;
+    Ok(is_led && writer.into_writer().as_slice() == SECTIONS.as_slice())
+}
+
 #[test]
-fn raw_sections(rt: HostRuntime) -> Result<(), Fail> {
-    let out = Vec::new(rt.alloc());
-    let mut writer = PcapNgWriter::with_endianness(rt.alloc(), Endianness::Big, out)?;
-    for (block, interfaces) in blocks().iter().zip([1, 0, 1]) {
-        assert!(rt; leads(&mut writer, block, interfaces)?);
-    }
-    assert!(rt; writer.into_writer().as_slice() == SECTIONS.as_slice());
-    Ok(())
+fn raw_sections(rt: HostRuntime) {
+    assert!(rt; holds(goes_out(rt.alloc())));
 }
 
 // Whether a block is refused by this message, and nothing goes out for it.
@@ -143,7 +147,7 @@ fn fails_once(alloc: Global, output: &mut Narrow) -> ResultParsing<bool> {
 // Whether it fails behind so many bytes, which are what went out.
 fn fails_behind(alloc: Global, room: usize) -> bool {
     let mut output = Narrow::new(alloc, room, true);
-    let fails = matches!(fails_once(alloc, &mut output), Ok(true));
+    let fails = holds(fails_once(alloc, &mut output));
     fails && output.out.as_slice() == front(&SECTIONS, room)
 }
 

@@ -1,6 +1,6 @@
 //! Blocks that are refused for what is no option and no record, and writers that are not made.
 
-use crate::writing::{has_message, interface, leaves_no_trace};
+use crate::writing::{has_message, holds, interface, leaves_no_trace};
 use pcap_blocks::{
     BlockType, EnhancedPacketBlock, InterfaceDescriptionBlock, InterfaceStatisticsBlock,
     PacketBlock, ParsedBlock, SectionHeaderBlock, SectionHeaderOption, UnknownBlock,
@@ -185,20 +185,19 @@ fn first_section_of_no_order(rt: HostRuntime) {
     );
 }
 
-// Whether no writer is made over a section with this text.
-fn refuses_text(alloc: Global, text: &str) -> Result<bool, AllocError> {
+// Whether no writer is made over a section with a text of so many bytes.
+fn refuses_text(alloc: Global, length: usize) -> Result<bool, AllocError> {
+    let text = "a".repeat(alloc, length)?;
     let long = SectionHeaderBlock {
-        options: vec![in alloc; SectionHeaderOption::OS(CowStr::Borrowed(text))]?,
+        options: vec![in alloc; SectionHeaderOption::OS(CowStr::Borrowed(text.as_str()))]?,
         ..section(alloc, 0x1A2B3C4D)
     };
     Ok(is_not_made(alloc, &long, "Option: value length > 65535"))
 }
 
 #[test]
-fn first_section_with_a_long_text(rt: HostRuntime) -> Result<(), Fail> {
-    let text = "a".repeat(rt.alloc(), 65_536)?;
-    assert!(rt; refuses_text(rt.alloc(), text.as_str())?);
-    Ok(())
+fn first_section_with_a_long_text(rt: HostRuntime) {
+    assert!(rt; holds(refuses_text(rt.alloc(), 65_536)));
 }
 
 #[test]

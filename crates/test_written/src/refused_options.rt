@@ -1,6 +1,6 @@
 //! Options that are refused, of each kind of block. Each stands behind one that could be written.
 
-use crate::writing::leaves_no_trace;
+use crate::writing::{holds, leaves_no_trace};
 use byteorder::BigEndian;
 use pcap_blocks::{
     CustomBinaryOption, CustomUtf8Option, EnhancedPacketBlock, EnhancedPacketOption,
@@ -235,55 +235,56 @@ fn refuses_bytes(alloc: Global, kind: Kind, code: u16) -> ResultParsing<bool> {
     }
 }
 
-#[test]
-fn unknown_options_with_names(rt: HostRuntime) -> Result<(), Fail> {
-    for (name, kind, unnamed) in KINDS {
-        for code in 0..unnamed {
-            let row = (code, 0, [].as_slice());
-            assert!(rt;
-                refuses_unknown(rt.alloc(), kind, row, MISPLACED)?,
-                "{name} {code}"
-            );
-        }
-        for code in [2988, 2989, 19372, 19373] {
-            let row = (code, 0, [].as_slice());
-            assert!(rt;
-                refuses_unknown(rt.alloc(), kind, row, MISPLACED)?,
-                "{name} {code}"
-            );
-        }
-    }
-    Ok(())
+// Whether it is for an unknown option of this code.
+fn refuses_code(alloc: Global, kind: Kind, code: u16) -> bool {
+    let row = (code, 0, [].as_slice());
+    holds(refuses_unknown(alloc, kind, row, MISPLACED))
 }
 
 #[test]
-fn custom_options_of_other_codes(rt: HostRuntime) -> Result<(), Fail> {
-    for (name, kind, _) in KINDS {
-        for code in [0, 1, 2987, 2989, 19373, 65535] {
-            assert!(rt; refuses_string(rt.alloc(), kind, code)?, "{name} {code}");
+fn unknown_options_with_names(rt: HostRuntime) {
+    for (name, kind, unnamed) in KINDS {
+        for code in 0..unnamed {
+            assert!(rt; refuses_code(rt.alloc(), kind, code), "{name} {code}");
         }
-        for code in [0, 1, 2988, 2990, 19372, 65535] {
-            assert!(rt; refuses_bytes(rt.alloc(), kind, code)?, "{name} {code}");
+        for code in [2988, 2989, 19372, 19373] {
+            assert!(rt; refuses_code(rt.alloc(), kind, code), "{name} {code}");
         }
     }
-    Ok(())
+}
+
+#[test]
+fn custom_options_of_other_codes(rt: HostRuntime) {
+    for (name, kind, _) in KINDS {
+        for code in [0, 1, 2987, 2989, 19373, 65535] {
+            assert!(rt;
+                holds(refuses_string(rt.alloc(), kind, code)),
+                "{name} {code}"
+            );
+        }
+        for code in [0, 1, 2988, 2990, 19372, 65535] {
+            assert!(rt;
+                holds(refuses_bytes(rt.alloc(), kind, code)),
+                "{name} {code}"
+            );
+        }
+    }
 }
 
 // Unknown options that state another length than these values have.
 const OTHER_LENGTHS: [(u16, &[u8]); 4] = [(0, &[1]), (1, &[]), (3, &[1, 2, 3, 4]), (65535, &[1])];
 
 #[test]
-fn unknown_options_of_other_lengths(rt: HostRuntime) -> Result<(), Fail> {
+fn unknown_options_of_other_lengths(rt: HostRuntime) {
     for (name, kind, code) in KINDS {
         for (len, value) in OTHER_LENGTHS {
             let row = (code, len, value);
             assert!(rt;
-                refuses_unknown(rt.alloc(), kind, row, DIFFERS)?,
+                holds(refuses_unknown(rt.alloc(), kind, row, DIFFERS)),
                 "{name} {len}"
             );
         }
     }
-    Ok(())
 }
 
 // Whether a block is refused for an address, a filter, a hash or a custom value of these bytes, or for this text.
@@ -349,40 +350,58 @@ fn refuses_hardware(alloc: Global, text: &str) -> ResultParsing<bool> {
     refuses_in_section(alloc, option, TOO_LONG)
 }
 
-#[test]
-fn addresses_of_other_lengths(rt: HostRuntime) -> Result<(), Fail> {
-    let long = pattern(rt.alloc(), 65_536)?;
-    assert!(rt; refuses_ipv4(rt.alloc(), &[0; 7])?);
-    assert!(rt; refuses_ipv4(rt.alloc(), long.as_slice())?);
-    assert!(rt; refuses_ipv6(rt.alloc(), &[0; 16])?);
-    assert!(rt; refuses_mac(rt.alloc(), &[0; 8])?);
-    assert!(rt; refuses_dns_ipv4(rt.alloc(), &[0; 5])?);
-    assert!(rt; refuses_dns_ipv6(rt.alloc(), &[])?);
-    Ok(())
+// Whether each address of another length is refused.
+fn refuses_addresses(alloc: Global) -> ResultParsing<bool> {
+    let long = pattern(alloc, 65_536)?;
+    Ok(
+        refuses_ipv4(alloc, &[0; 7])?
+            && refuses_ipv4(alloc, long.as_slice())?
+            && refuses_ipv6(alloc, &[0; 16])?
+            && refuses_mac(alloc, &[0; 8])?
+            && refuses_dns_ipv4(alloc, &[0; 5])?
+            && refuses_dns_ipv6(alloc, &[])?,
+    )
 }
 
 #[test]
-fn filters(rt: HostRuntime) -> Result<(), Fail> {
+fn addresses_of_other_lengths(rt: HostRuntime) {
+    assert!(rt; holds(refuses_addresses(rt.alloc())));
+}
+
+// Whether an empty filter is, and a long one.
+fn refuses_filters(alloc: Global) -> ResultParsing<bool> {
     let message = "InterfaceDescriptionOption: IfFilter is empty";
-    assert!(rt; refuses_filter(rt.alloc(), &[], message)?);
-    let long = pattern(rt.alloc(), 65_536)?;
-    assert!(rt; refuses_filter(rt.alloc(), long.as_slice(), TOO_LONG)?);
-    Ok(())
+    let long = pattern(alloc, 65_536)?;
+    Ok(refuses_filter(alloc, &[], message)? && refuses_filter(alloc, long.as_slice(), TOO_LONG)?)
 }
 
 #[test]
-fn long_hashes_and_custom_values(rt: HostRuntime) -> Result<(), Fail> {
-    let long = pattern(rt.alloc(), 65_536)?;
-    assert!(rt; refuses_hash(rt.alloc(), long.as_slice())?);
-    assert!(rt; refuses_enhanced_hash(rt.alloc(), long.as_slice())?);
-    assert!(rt; refuses_custom_value(rt.alloc(), long.as_slice())?);
-    Ok(())
+fn filters(rt: HostRuntime) {
+    assert!(rt; holds(refuses_filters(rt.alloc())));
+}
+
+// Whether long hashes and a long custom value are.
+fn refuses_hashes(alloc: Global) -> ResultParsing<bool> {
+    let long = pattern(alloc, 65_536)?;
+    Ok(
+        refuses_hash(alloc, long.as_slice())?
+            && refuses_enhanced_hash(alloc, long.as_slice())?
+            && refuses_custom_value(alloc, long.as_slice())?,
+    )
 }
 
 #[test]
-fn long_texts(rt: HostRuntime) -> Result<(), Fail> {
-    let text = "a".repeat(rt.alloc(), 65_536)?;
-    assert!(rt; refuses_comment(rt.alloc(), text.as_str())?);
-    assert!(rt; refuses_hardware(rt.alloc(), text.as_str())?);
-    Ok(())
+fn long_hashes_and_custom_values(rt: HostRuntime) {
+    assert!(rt; holds(refuses_hashes(rt.alloc())));
+}
+
+// Whether long texts are.
+fn refuses_texts(alloc: Global) -> ResultParsing<bool> {
+    let text = "a".repeat(alloc, 65_536)?;
+    Ok(refuses_comment(alloc, text.as_str())? && refuses_hardware(alloc, text.as_str())?)
+}
+
+#[test]
+fn long_texts(rt: HostRuntime) {
+    assert!(rt; holds(refuses_texts(rt.alloc())));
 }

@@ -1,6 +1,6 @@
 //! Records of names that are refused. Each stands behind one that could be written.
 
-use crate::writing::leaves_no_trace;
+use crate::writing::{holds, leaves_no_trace};
 use pcap_blocks::{Ipv4Record, Ipv6Record, NameResolutionBlock, Record, UnknownRecord};
 use pcap_core::CowBytes;
 use std::alloc::{AllocError, Global};
@@ -83,22 +83,26 @@ const IPV6: [(&[u8], &[&str], &str); 4] = [
     (&SIXTEEN, &[""], "NameResolutionBlock: Ipv6Record len < 18"),
 ];
 
+// Whether such a record is refused.
+
+fn refuses_ipv4(alloc: Global, row: (&[u8], &[&str], &str)) -> Result<bool, AllocError> {
+    refuses(alloc, ipv4(alloc, row.0, row.1)?, row.2)
+}
+
+fn refuses_ipv6(alloc: Global, row: (&[u8], &[&str], &str)) -> Result<bool, AllocError> {
+    refuses(alloc, ipv6(alloc, row.0, row.1)?, row.2)
+}
+
 #[test]
-fn addresses(rt: HostRuntime) -> Result<(), Fail> {
-    let alloc = rt.alloc();
-    for (address, texts, message) in IPV4 {
-        assert!(rt;
-            refuses(alloc, ipv4(alloc, address, texts)?, message)?,
-            "{texts:?} {message}"
-        );
+fn addresses(rt: HostRuntime) {
+    for row in IPV4 {
+        let message = row.2;
+        assert!(rt; holds(refuses_ipv4(rt.alloc(), row)), "{message}");
     }
-    for (address, texts, message) in IPV6 {
-        assert!(rt;
-            refuses(alloc, ipv6(alloc, address, texts)?, message)?,
-            "{texts:?} {message}"
-        );
+    for row in IPV6 {
+        let message = row.2;
+        assert!(rt; holds(refuses_ipv6(rt.alloc(), row)), "{message}");
     }
-    Ok(())
 }
 
 const LONG: &str = "NameResolutionBlock: Record length > 65535";
@@ -113,7 +117,7 @@ fn refuses_lengths(alloc: Global, first: usize, second: usize) -> Result<bool, A
 }
 
 #[test]
-fn long_names(rt: HostRuntime) -> Result<(), Fail> {
+fn long_names(rt: HostRuntime) {
     // with the zero byte of each name the values have 65536 bytes, and more
     for (first, second) in [
         (65_531, 0),
@@ -123,19 +127,22 @@ fn long_names(rt: HostRuntime) -> Result<(), Fail> {
         (40_000, 40_000),
     ] {
         assert!(rt;
-            refuses_lengths(rt.alloc(), first, second)?,
+            holds(refuses_lengths(rt.alloc(), first, second)),
             "{first} {second}"
         );
     }
-    Ok(())
+}
+
+// Whether a record of one name of so many bytes is refused.
+fn refuses_length(alloc: Global, length: usize) -> Result<bool, AllocError> {
+    let text = "a".repeat(alloc, length)?;
+    let record = ipv6(alloc, &SIXTEEN, &[text.as_str()])?;
+    refuses(alloc, record, LONG)
 }
 
 #[test]
-fn long_name_alone(rt: HostRuntime) -> Result<(), Fail> {
-    let text = "a".repeat(rt.alloc(), 65_519)?;
-    let record = ipv6(rt.alloc(), &SIXTEEN, &[text.as_str()])?;
-    assert!(rt; refuses(rt.alloc(), record, LONG)?);
-    Ok(())
+fn long_name_alone(rt: HostRuntime) {
+    assert!(rt; holds(refuses_length(rt.alloc(), 65_519)));
 }
 
 // Whether the mark of the end is refused among the records.
@@ -155,24 +162,33 @@ fn refuses_unknown(
     refuses(alloc, unknown(type_, length, value), message)
 }
 
+// The same of a value of so many bytes.
+fn refuses_stated(
+    alloc: Global,
+    type_: u16,
+    length: u16,
+    count: u32,
+    message: &str,
+) -> Result<bool, AllocError> {
+    let value = pattern(alloc, count)?;
+    refuses_unknown(alloc, type_, length, value.as_slice(), message)
+}
+
 #[test]
-fn ends_and_unknown_records(rt: HostRuntime) -> Result<(), Fail> {
-    assert!(rt; refuses_end(rt.alloc())?);
-    let long = pattern(rt.alloc(), 65_536)?;
+fn ends_and_unknown_records(rt: HostRuntime) {
+    assert!(rt; holds(refuses_end(rt.alloc())));
     let named = "UnknownRecord: type has a name";
     let differs = "UnknownRecord: length != value.len()";
-    for (type_, length, value, message) in [
-        (0, 0, [].as_slice(), named),
-        (1, 0, [].as_slice(), named),
-        (2, 1, [1].as_slice(), named),
-        (3, 1, [].as_slice(), differs),
-        (3, 0, [1].as_slice(), differs),
-        (65535, 0, long.as_slice(), differs),
+    // a type, a length, how many bytes there are, and the message
+    for (type_, length, count, message) in [
+        (0, 0, 0, named),
+        (1, 0, 0, named),
+        (2, 1, 1, named),
+        (3, 1, 0, differs),
+        (3, 0, 1, differs),
+        (65535, 0, 65_536, differs),
     ] {
-        assert!(rt;
-            refuses_unknown(rt.alloc(), type_, length, value, message)?,
-            "{type_} {length}"
-        );
+        let answer = refuses_stated(rt.alloc(), type_, length, count, message);
+        assert!(rt; holds(answer), "{type_} {length}");
     }
-    Ok(())
 }

@@ -50,6 +50,25 @@ pub(crate) fn begun(alloc: Global, order: Endianness) -> ResultParsing<PcapNgWri
     Ok(writer)
 }
 
+// Whether a call answered that it is so.
+pub(crate) fn holds<E: Drop>(answer: Result<bool, E>) -> bool {
+    matches!(answer, Ok(true))
+}
+
+// Whether bytes are the first so many of these digits.
+pub(crate) fn are_digits_up_to(bytes: &[u8], digits: &str, count: usize) -> bool {
+    let mut seen = 0usize;
+    for (place, sign) in digits.bytes().enumerate() {
+        if seen == count.saturating_mul(2) {
+            return are_digits(bytes, digits.get(..place).unwrap_or(""));
+        }
+        if !sign.is_ascii_whitespace() {
+            seen = seen.saturating_add(1);
+        }
+    }
+    are_digits(bytes, digits) && bytes.len() == count
+}
+
 // Whether a block goes out next, as these digits.
 fn writes<B: PcapNgBlock>(writer: &mut PcapNgWriter<Vec<u8>>, block: &B, digits: &str) -> bool {
     let before = writer.get_ref().len();
