@@ -1,5 +1,6 @@
 //! Copies out of a reader's buffer: what goes out is a beginning of the input, whatever the buffer holds.
 
+use crate::told::check;
 use pcap_file::PcapError;
 use pcap_file::run::{NgCopied, copy_pcapng_buffered};
 use std::alloc::{AllocError, Global};
@@ -68,18 +69,23 @@ fn copies_to(alloc: Global, bytes: &[u8], room: usize, end: usize) -> Result<boo
     Ok(is_told && out.as_slice() == front(bytes, used))
 }
 
-#[test]
-fn every_beginning_of_a_buffered_copy(rt: HostRuntime) -> Result<(), Fail> {
-    let bytes = capture(rt.alloc())?;
+// Each beginning through each room.
+fn check_beginnings(alloc: Global) -> Result<(), Fail> {
+    let bytes = capture(alloc)?;
     for room in [1, 13, 40, 200] {
         for end in 0..173 {
-            assert!(rt;
-                copies_to(rt.alloc(), bytes.as_slice(), room, end)?,
-                "{room} at {end}"
-            );
+            check(
+                copies_to(alloc, bytes.as_slice(), room, end)?,
+                format_args!("{room} at {end}"),
+            )?;
         }
     }
     Ok(())
+}
+
+#[test]
+fn every_beginning_of_a_buffered_copy(rt: HostRuntime) -> Result<(), Fail> {
+    check_beginnings(rt.alloc())
 }
 
 // Whether so many blocks go out, which end here.
@@ -97,18 +103,23 @@ fn copies_most(
     Ok(is_told && out.as_slice() == front(bytes, end))
 }
 
-#[test]
-fn most_blocks_of_a_buffered_copy(rt: HostRuntime) -> Result<(), Fail> {
-    let bytes = capture(rt.alloc())?;
+// So many blocks, and no more.
+fn check_most(alloc: Global) -> Result<(), Fail> {
+    let bytes = capture(alloc)?;
     for room in [13, 40, 200] {
         for (most, end) in ENDS.iter().enumerate() {
-            assert!(rt;
-                copies_most(rt.alloc(), bytes.as_slice(), room, most, *end)?,
-                "{room} at {most}"
-            );
+            check(
+                copies_most(alloc, bytes.as_slice(), room, most, *end)?,
+                format_args!("{room} at {most}"),
+            )?;
         }
     }
     Ok(())
+}
+
+#[test]
+fn most_blocks_of_a_buffered_copy(rt: HostRuntime) -> Result<(), Fail> {
+    check_most(rt.alloc())
 }
 
 // Whether a beginning goes out where so many bytes have room, at most so many a call.
@@ -122,18 +133,23 @@ fn fills(alloc: Global, bytes: &[u8], room: usize, step: usize) -> Result<bool, 
     Ok(is_told && output.out.as_slice() == front(bytes, room))
 }
 
-#[test]
-fn every_failed_write_of_a_buffered_copy(rt: HostRuntime) -> Result<(), Fail> {
-    let bytes = capture(rt.alloc())?;
+// Each write that can fail.
+fn check_writes(alloc: Global) -> Result<(), Fail> {
+    let bytes = capture(alloc)?;
     for room in 0..172 {
         for step in [7, 100] {
-            assert!(rt;
-                fills(rt.alloc(), bytes.as_slice(), room, step)?,
-                "at {room}"
-            );
+            check(
+                fills(alloc, bytes.as_slice(), room, step)?,
+                format_args!("at {room}"),
+            )?;
         }
     }
     Ok(())
+}
+
+#[test]
+fn every_failed_write_of_a_buffered_copy(rt: HostRuntime) -> Result<(), Fail> {
+    check_writes(rt.alloc())
 }
 
 // Whether the blocks before the call that fails go out, after so many bytes, one a call.
@@ -147,11 +163,19 @@ fn stops(alloc: Global, bytes: &[u8], end: usize) -> Result<bool, Fail> {
     Ok(is_told && out.as_slice() == front(bytes, used))
 }
 
-#[test]
-fn every_failed_read_of_a_buffered_copy(rt: HostRuntime) -> Result<(), Fail> {
-    let bytes = capture(rt.alloc())?;
+// Each read that can.
+fn check_reads(alloc: Global) -> Result<(), Fail> {
+    let bytes = capture(alloc)?;
     for end in 0..172 {
-        assert!(rt; stops(rt.alloc(), bytes.as_slice(), end)?, "at {end}");
+        check(
+            stops(alloc, bytes.as_slice(), end)?,
+            format_args!("at {end}"),
+        )?;
     }
     Ok(())
+}
+
+#[test]
+fn every_failed_read_of_a_buffered_copy(rt: HostRuntime) -> Result<(), Fail> {
+    check_reads(rt.alloc())
 }

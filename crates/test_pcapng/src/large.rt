@@ -1,5 +1,6 @@
 //! Captures with many interfaces, many options and one large block, which no limit cuts short.
 
+use crate::told::check;
 use pcap_file::pcapng::{Block, PcapNgParser, PcapNgReader};
 use pcap_file::run::{NgRun, Rest, Window, exact_pcapng, parse_pcapng, pieces_pcapng, read_pcapng};
 use std::alloc::Global;
@@ -85,15 +86,20 @@ fn reads(alloc: Global, stream: Halting) -> bool {
     }
 }
 
+// Each run over all of it.
+fn check_runs(alloc: Global) -> Result<(), Fail> {
+    let whole = capture(alloc, LARGE)?;
+    let all = whole.as_slice();
+    check(parses(alloc, all), "runs")?;
+    check(runs_exactly(alloc, all), "runs")?;
+    check(runs_in_pieces(alloc, all), "runs")?;
+    check(reads(alloc, Halting::new(alloc, all, 1_000_000)?), "runs")?;
+    Ok(())
+}
+
 #[test]
 fn runs(rt: HostRuntime) -> Result<(), Fail> {
-    let whole = capture(rt.alloc(), LARGE)?;
-    let all = whole.as_slice();
-    assert!(rt; parses(rt.alloc(), all));
-    assert!(rt; runs_exactly(rt.alloc(), all));
-    assert!(rt; runs_in_pieces(rt.alloc(), all));
-    assert!(rt; reads(rt.alloc(), Halting::new(rt.alloc(), all, 1_000_000)?));
-    Ok(())
+    check_runs(rt.alloc())
 }
 
 // How many bytes the body of the last block has that the reader lends.
@@ -116,12 +122,17 @@ fn lends(alloc: Global, capture: &[u8], len: usize) -> Result<bool, Fail> {
     Ok(is_lent && !reader.failed() && reader.interfaces().len() == INTERFACES)
 }
 
+// A large block that is lent.
+fn check_lent(alloc: Global) -> Result<(), Fail> {
+    // a block of 2 MiB
+    let whole = capture(alloc, 0x0020_0000)?;
+    check(lends(alloc, whole.as_slice(), 2_097_140)?, "lent blocks")?;
+    Ok(())
+}
+
 #[test]
 fn lent_blocks(rt: HostRuntime) -> Result<(), Fail> {
-    // a block of 2 MiB
-    let whole = capture(rt.alloc(), 0x0020_0000)?;
-    assert!(rt; lends(rt.alloc(), whole.as_slice(), 2_097_140)?);
-    Ok(())
+    check_lent(rt.alloc())
 }
 
 // The digits of so many comments, each "a".
@@ -162,12 +173,17 @@ fn counts_read(alloc: Global, stream: Halting) -> usize {
     }
 }
 
+// Lists of many options.
+fn check_options(alloc: Global) -> Result<(), Fail> {
+    let whole = commented(alloc)?;
+    let counts = counts(alloc, whole.as_slice())?;
+    check(counts == (300, 300, 0), "many options")?;
+    let stream = Halting::new(alloc, whole.as_slice(), 1000)?;
+    check(counts_read(alloc, stream) == 300, "many options")?;
+    Ok(())
+}
+
 #[test]
 fn many_options(rt: HostRuntime) -> Result<(), Fail> {
-    let whole = commented(rt.alloc())?;
-    let counts = counts(rt.alloc(), whole.as_slice())?;
-    assert!(rt; counts == (300, 300, 0));
-    let stream = Halting::new(rt.alloc(), whole.as_slice(), 1000)?;
-    assert!(rt; counts_read(rt.alloc(), stream) == 300);
-    Ok(())
+    check_options(rt.alloc())
 }

@@ -1,6 +1,6 @@
 //! Blocks that a reader lends.
 
-use crate::told::{between, by_steps, joined, refusal, state};
+use crate::told::{between, by_steps, check, joined, refusal, state};
 use pcap_file::Endianness;
 use pcap_file::pcapng::{BlockHeader, BlockType, PcapNgReader};
 use std::alloc::Global;
@@ -103,12 +103,17 @@ fn lends_each(alloc: Global, step: usize) -> Result<(), Fail> {
     Ok(())
 }
 
-#[test]
-fn lent_blocks(rt: HostRuntime) -> Result<(), Fail> {
+// Each block by each step.
+fn check_each(alloc: Global) -> Result<(), Fail> {
     for step in [1, 7, 200] {
-        lends_each(rt.alloc(), step)?;
+        lends_each(alloc, step)?;
     }
     Ok(())
+}
+
+#[test]
+fn lent_blocks(rt: HostRuntime) -> Result<(), Fail> {
+    check_each(rt.alloc())
 }
 
 // How many bytes a reader lends, as a text and as its body.
@@ -221,12 +226,17 @@ fn lends_between(alloc: Global, step: usize) -> Result<bool, Fail> {
     Ok(lends_and_gives(&mut reader, 8, Some(16)) && lends_and_gives(&mut reader, 8, None))
 }
 
-#[test]
-fn lent_and_owned_blocks(rt: HostRuntime) -> Result<(), Fail> {
+// Lent and owned ones by turns.
+fn check_owned(alloc: Global) -> Result<(), Fail> {
     for step in [1, 100] {
-        assert!(rt; lends_between(rt.alloc(), step)?, "by {step}");
+        check(lends_between(alloc, step)?, format_args!("by {step}"))?;
     }
     Ok(())
+}
+
+#[test]
+fn lent_and_owned_blocks(rt: HostRuntime) -> Result<(), Fail> {
+    check_owned(rt.alloc())
 }
 
 // Whether a reader lends bodies of these lengths before and behind the end of a stream that goes on.
@@ -246,10 +256,15 @@ fn goes_on(alloc: Global, step: usize) -> Result<bool, Fail> {
     Ok(is_so)
 }
 
-#[test]
-fn a_stream_that_goes_on_and_is_lent(rt: HostRuntime) -> Result<(), Fail> {
+// A stream that goes on behind its end.
+fn check_ends(alloc: Global) -> Result<(), Fail> {
     for step in [1, 100] {
-        assert!(rt; goes_on(rt.alloc(), step)?, "by {step}");
+        check(goes_on(alloc, step)?, format_args!("by {step}"))?;
     }
     Ok(())
+}
+
+#[test]
+fn a_stream_that_goes_on_and_is_lent(rt: HostRuntime) -> Result<(), Fail> {
+    check_ends(rt.alloc())
 }

@@ -53,9 +53,9 @@ fn changes_nothing(alloc: Global, parser: &mut PcapNgParser, row: &str) -> Resul
     same(shown.as_str(), told.as_str())
 }
 
-#[test]
-fn refused_blocks_change_nothing(rt: HostRuntime) -> Result<(), Fail> {
-    let mut parser = after_sections(rt.alloc())?;
+// Blocks that are refused, one behind the other.
+fn check_refused(alloc: Global) -> Result<(), Fail> {
+    let mut parser = after_sections(alloc)?;
     let table = r#"
         01000000 10000000 01000000 10000000 => InvalidField("InterfaceDescriptionBlock: block length < 8")
         0a0d0d0a 10000000 4d3c2b1a 10000000 => InvalidField("SectionHeaderBlock: block length < 16")
@@ -66,9 +66,14 @@ fn refused_blocks_change_nothing(rt: HostRuntime) -> Result<(), Fail> {
         => IncompleteBuffer(12)
     "#;
     for row in table.trim().lines() {
-        changes_nothing(rt.alloc(), &mut parser, row)?;
+        changes_nothing(alloc, &mut parser, row)?;
     }
     Ok(())
+}
+
+#[test]
+fn refused_blocks_change_nothing(rt: HostRuntime) -> Result<(), Fail> {
+    check_refused(rt.alloc())
 }
 
 // Whether the packet of a row came by the interface that it shows.
@@ -90,18 +95,23 @@ fn names_another(alloc: Global, parser: &mut PcapNgParser) -> Result<(), Fail> {
     )
 }
 
-#[test]
-fn interfaces_of_packets(rt: HostRuntime) -> Result<(), Fail> {
-    let mut parser = after_sections(rt.alloc())?;
+// Packets of interfaces, and of none.
+fn check_interfaces(alloc: Global) -> Result<(), Fail> {
+    let mut parser = after_sections(alloc)?;
     let table = "
         06000000 20000000 00000000 00000000 00000000 00000000 00000000 20000000 => Some(InterfaceDescriptionBlock { linktype: ETHERNET, reserved: 0, snaplen: 262144, options: [] })
         06000000 20000000 01000000 00000000 00000000 00000000 00000000 20000000 => None
         06000000 20000000 ffffffff 00000000 00000000 00000000 00000000 20000000 => None
     ";
     for row in table.trim().lines() {
-        comes_by(rt.alloc(), &mut parser, row)?;
+        comes_by(alloc, &mut parser, row)?;
     }
-    names_another(rt.alloc(), &mut parser)
+    names_another(alloc, &mut parser)
+}
+
+#[test]
+fn interfaces_of_packets(rt: HostRuntime) -> Result<(), Fail> {
+    check_interfaces(rt.alloc())
 }
 
 // Why no parser is made of these bytes.

@@ -1,10 +1,11 @@
 //! Blocks that are read and written again without a look at their bodies, or made again of what they hold.
 
+use crate::told::check;
 use pcap_file::pcapng::{
     Block, EnhancedPacketBlock, PcapNgBlock, PcapNgParser, PcapNgReader, PcapNgWriter,
     SectionHeaderBlock, ToBlock,
 };
-use pcap_file::{CowBytes, Endianness, PcapError};
+use pcap_file::{CowBytes, Endianness, PcapError, ResultParsing};
 use std::alloc::Global;
 use std::test::Fail;
 use test_support::captures::SECTIONS;
@@ -30,12 +31,17 @@ fn is_copied(alloc: Global, step: usize) -> Result<bool, Fail> {
     Ok(out.as_slice() == SECTIONS.as_slice())
 }
 
-#[test]
-fn raw_copies(rt: HostRuntime) -> Result<(), Fail> {
+// Copies by each step.
+fn check_copies(alloc: Global) -> Result<(), Fail> {
     for step in [1, 7, 200] {
-        assert!(rt; is_copied(rt.alloc(), step)?, "by {step}");
+        check(is_copied(alloc, step)?, format_args!("by {step}"))?;
     }
     Ok(())
+}
+
+#[test]
+fn raw_copies(rt: HostRuntime) -> Result<(), Fail> {
+    check_copies(rt.alloc())
 }
 
 fn are_equal(made: &Block<'_>, read: &Block<'_>) -> bool {
@@ -46,30 +52,38 @@ fn are_equal(made: &Block<'_>, read: &Block<'_>) -> bool {
         && made.body.as_slice() == read.body.as_slice()
 }
 
-// How many blocks of a capture, the first one among them, are made again of what they hold while this order is said to be in
-// force; another one is made anew.
-fn made_again(alloc: Global, capture: &[u8], order: Endianness) -> Result<usize, Fail> {
+// Whether a block is made again of what it holds while this order is said to be in force.
+fn is_made_again(alloc: Global, block: &Block<'_>, order: Endianness) -> ResultParsing<bool> {
+    let made = block.parsed(alloc)?.to_block(alloc, order)?;
+    Ok(are_equal(&made, block))
+}
+
+// How many blocks of a capture, the first one among them, are; another one is made anew.
+fn made_again(alloc: Global, capture: &[u8], order: Endianness) -> ResultParsing<usize> {
     let (_rest, first) = Block::from_slice(order, capture)?;
-    let section = first.parsed(alloc)?.to_block(alloc, order)?;
-    let mut same = usize::from(are_equal(&section, &first));
+    let mut same = usize::from(is_made_again(alloc, &first, order)?);
     let (mut rest, mut parser) = PcapNgParser::new(alloc, capture)?;
     for _ in 0..capture.len() {
         let Ok((after, block)) = parser.next_block(rest) else {
             break;
         };
-        let made = block.parsed(alloc)?.to_block(alloc, order)?;
-        same = same.saturating_add(usize::from(are_equal(&made, &block)));
+        same = same.saturating_add(usize::from(is_made_again(alloc, &block, order)?));
         rest = after;
     }
     Ok(same)
 }
 
+// All blocks but the first, in each order.
+fn check_made(alloc: Global) -> Result<(), Fail> {
+    // a section and its interface in each order: a section is made in its own
+    let big = made_again(alloc, &SECTIONS, Endianness::Big)?;
+    let little = made_again(alloc, &SECTIONS, Endianness::Little)?;
+    check(big == 3 && little == 3, format_args!("{big} and {little}"))
+}
+
 #[test]
 fn blocks_made_again(rt: HostRuntime) -> Result<(), Fail> {
-    // a section and its interface in each order: a section is made in its own
-    assert_eq!(rt; made_again(rt.alloc(), &SECTIONS, Endianness::Big)?, 3);
-    assert_eq!(rt; made_again(rt.alloc(), &SECTIONS, Endianness::Little)?, 3);
-    Ok(())
+    check_made(rt.alloc())
 }
 
 // The message with which a block is not made.

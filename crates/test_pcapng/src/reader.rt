@@ -1,7 +1,7 @@
 //! The reader, and runs over streams.
 
 use crate::runs::{REFUSED, TORN, beginning, count};
-use crate::told::{between, blocks, by_steps, joined, refusal, state};
+use crate::told::{between, blocks, by_steps, check, joined, refusal, state};
 use pcap_file::pcapng::{Block, PcapNgReader};
 use pcap_file::run::{NgRead, read_pcapng};
 use pcap_file::{PcapError, ResultParsing};
@@ -129,14 +129,19 @@ fn runs_as(alloc: Global, step: usize, row: &Most) -> Result<(), Fail> {
     same(shown.as_str(), told.as_str())
 }
 
-#[test]
-fn most_blocks(rt: HostRuntime) -> Result<(), Fail> {
+// Each row by each step.
+fn check_most(alloc: Global) -> Result<(), Fail> {
     for step in [1, 100] {
         for row in &MOST {
-            runs_as(rt.alloc(), step, row)?;
+            runs_as(alloc, step, row)?;
         }
     }
     Ok(())
+}
+
+#[test]
+fn most_blocks(rt: HostRuntime) -> Result<(), Fail> {
+    check_most(rt.alloc())
 }
 
 /// Blocks behind a section and an interface that are refused, and what a call tells of them.
@@ -188,12 +193,17 @@ fn is_torn(alloc: Global, row: &str) -> Result<(), Fail> {
     same(told.as_str(), "UnexpectedEof")
 }
 
+// First blocks that are torn, and that are refused.
+fn check_first(alloc: Global) -> Result<(), Fail> {
+    for row in TORN.trim().lines() {
+        is_torn(alloc, row)?;
+    }
+    every_row(alloc, REFUSED, refused_first)
+}
+
 #[test]
 fn first_blocks(rt: HostRuntime) -> Result<(), Fail> {
-    for row in TORN.trim().lines() {
-        is_torn(rt.alloc(), row)?;
-    }
-    every_row(rt.alloc(), REFUSED, refused_first)
+    check_first(rt.alloc())
 }
 
 // What a reader gives next, as text.
@@ -249,12 +259,17 @@ fn goes_on(alloc: Global, step: usize) -> Result<bool, Fail> {
     Ok(is_so && state.as_str() == "Little 1.0 -1 [] with ETHERNET/262144/[]")
 }
 
-#[test]
-fn a_stream_that_goes_on(rt: HostRuntime) -> Result<(), Fail> {
+// A stream that goes on, by each step.
+fn check_ends(alloc: Global) -> Result<(), Fail> {
     for step in [1, 100] {
-        assert!(rt; goes_on(rt.alloc(), step)?, "by {step}");
+        check(goes_on(alloc, step)?, format_args!("by {step}"))?;
     }
     Ok(())
+}
+
+#[test]
+fn a_stream_that_goes_on(rt: HostRuntime) -> Result<(), Fail> {
+    check_ends(rt.alloc())
 }
 
 // Whether a reader of these bytes finds an early end, and never asks for more room than it may.
@@ -274,14 +289,19 @@ fn lying(alloc: Global) -> Result<Vec<u8>, AllocError> {
     Ok(bytes)
 }
 
-#[test]
-fn a_block_that_lies(rt: HostRuntime) -> Result<(), Fail> {
-    let bytes = lying(rt.alloc())?;
+// A block that states more than there is.
+fn check_lying(alloc: Global) -> Result<(), Fail> {
+    let bytes = lying(alloc)?;
     for step in [1000, 1_000_000] {
-        assert!(rt;
-            is_asked_in_parts(rt.alloc(), bytes.as_slice(), step)?,
-            "by {step}"
-        );
+        check(
+            is_asked_in_parts(alloc, bytes.as_slice(), step)?,
+            format_args!("by {step}"),
+        )?;
     }
     Ok(())
+}
+
+#[test]
+fn a_block_that_lies(rt: HostRuntime) -> Result<(), Fail> {
+    check_lying(rt.alloc())
 }

@@ -1,5 +1,6 @@
 //! The room that blocks are held in, and what is asked after the most blocks.
 
+use crate::told::check;
 use pcap_file::pcapng::PcapNgReader;
 use pcap_file::run::read_pcapng;
 use std::alloc::Global;
@@ -38,13 +39,18 @@ fn lends_all(reader: &mut PcapNgReader<Halting>) -> bool {
 }
 
 // Room that is new is offered for the head of the first block, and for the rest of it.
+// Blocks that are lent.
+fn check_lent(alloc: Global) -> Result<(), Fail> {
+    let bytes = blocks(alloc)?;
+    let stream = Halting::new(alloc, bytes.as_slice(), 200)?;
+    let mut reader = PcapNgReader::new(alloc, stream)?;
+    check(lends_all(&mut reader), "lent blocks share one room")?;
+    Ok(())
+}
+
 #[test]
 fn lent_blocks_share_one_room(rt: HostRuntime) -> Result<(), Fail> {
-    let bytes = blocks(rt.alloc())?;
-    let stream = Halting::new(rt.alloc(), bytes.as_slice(), 200)?;
-    let mut reader = PcapNgReader::new(rt.alloc(), stream)?;
-    assert!(rt; lends_all(&mut reader));
-    Ok(())
+    check_lent(rt.alloc())
 }
 
 // Whether a run gives five blocks, and no room is new behind the first one.
@@ -55,12 +61,17 @@ fn owns_all(alloc: Global, stream: Halting) -> bool {
     }
 }
 
+// Blocks that are owned.
+fn check_owned(alloc: Global) -> Result<(), Fail> {
+    let bytes = blocks(alloc)?;
+    let stream = Halting::new(alloc, bytes.as_slice(), 200)?;
+    check(owns_all(alloc, stream), "owned blocks share one room")?;
+    Ok(())
+}
+
 #[test]
 fn owned_blocks_share_one_room(rt: HostRuntime) -> Result<(), Fail> {
-    let bytes = blocks(rt.alloc())?;
-    let stream = Halting::new(rt.alloc(), bytes.as_slice(), 200)?;
-    assert!(rt; owns_all(rt.alloc(), stream));
-    Ok(())
+    check_owned(rt.alloc())
 }
 
 // Whether a run of so many blocks takes so many bytes, and asks for none behind them.

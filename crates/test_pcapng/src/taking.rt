@@ -2,7 +2,7 @@
 
 use crate::reader::REFUSED_BLOCKS;
 use crate::runs::{REFUSED, TORN, beginning, count};
-use crate::told::{between, by_steps, joined, refusal, state};
+use crate::told::{between, by_steps, check, joined, refusal, state};
 use pcap_file::pcapng::PcapNgParser;
 use std::alloc::Global;
 use std::io::ErrorKind;
@@ -58,14 +58,19 @@ fn takes_to(alloc: Global, end: usize, step: usize) -> Result<bool, Fail> {
     Ok(blocks == count(used) && told.as_str() == end_is)
 }
 
-#[test]
-fn every_beginning(rt: HostRuntime) -> Result<(), Fail> {
+// Each beginning by each step.
+fn check_beginnings(alloc: Global) -> Result<(), Fail> {
     for step in [1, 5, 100] {
         for end in 0..97 {
-            assert!(rt; takes_to(rt.alloc(), end, step)?, "at {end}");
+            check(takes_to(alloc, end, step)?, format_args!("at {end}"))?;
         }
     }
     Ok(())
+}
+
+#[test]
+fn every_beginning(rt: HostRuntime) -> Result<(), Fail> {
+    check_beginnings(rt.alloc())
 }
 
 // Whether a parser takes the blocks before the call that fails so, after so many bytes, one a call.
@@ -78,17 +83,25 @@ fn fails_at(alloc: Global, end: usize, kind: ErrorKind, kind_is: &str) -> Result
     Ok(blocks == count(used) && told.as_str() == kind_is)
 }
 
-#[test]
-fn every_failed_read(rt: HostRuntime) -> Result<(), Fail> {
+// Each read that can fail, in both ways.
+fn check_reads(alloc: Global) -> Result<(), Fail> {
     for (kind, kind_is) in [
         (ErrorKind::Other, "Other"),
         (ErrorKind::Interrupted, "Interrupted"),
     ] {
         for end in 0..97 {
-            assert!(rt; fails_at(rt.alloc(), end, kind, kind_is)?, "at {end}");
+            check(
+                fails_at(alloc, end, kind, kind_is)?,
+                format_args!("at {end}"),
+            )?;
         }
     }
     Ok(())
+}
+
+#[test]
+fn every_failed_read(rt: HostRuntime) -> Result<(), Fail> {
+    check_reads(rt.alloc())
 }
 
 // Why no parser is made of a stream of these bytes.
@@ -120,12 +133,17 @@ fn is_torn(alloc: Global, row: &str) -> Result<(), Fail> {
     same(told.as_str(), "UnexpectedEof")
 }
 
+// First blocks that are torn, and that are refused.
+fn check_first(alloc: Global) -> Result<(), Fail> {
+    for row in TORN.trim().lines() {
+        is_torn(alloc, row)?;
+    }
+    every_row(alloc, REFUSED, refused_first)
+}
+
 #[test]
 fn first_blocks(rt: HostRuntime) -> Result<(), Fail> {
-    for row in TORN.trim().lines() {
-        is_torn(rt.alloc(), row)?;
-    }
-    every_row(rt.alloc(), REFUSED, refused_first)
+    check_first(rt.alloc())
 }
 
 // What a parser takes off a stream of this capture behind its section, as text: two blocks, and what is in force then.
@@ -157,8 +175,8 @@ fn is_little(alloc: Global, parser: &PcapNgParser) -> Result<bool, Fail> {
     Ok(state.as_str() == "Little 1.0 -1 [] with ETHERNET/262144/[]")
 }
 
-#[test]
-fn a_stream_that_goes_on(rt: HostRuntime) -> Result<(), Fail> {
+// A stream that goes on, by each step.
+fn check_ends(alloc: Global) -> Result<(), Fail> {
     for step in [1, 100] {
         let mut stream = EndsOnce {
             first: front(&SECTIONS, 48),
@@ -166,15 +184,23 @@ fn a_stream_that_goes_on(rt: HostRuntime) -> Result<(), Fail> {
             step,
             has_ended: false,
         };
-        let mut parser = PcapNgParser::from_reader(rt.alloc(), &mut stream)?;
+        let mut parser = PcapNgParser::from_reader(alloc, &mut stream)?;
         for is_block in [true, false, true, true, false, false] {
             let taken = parser.read_block(&mut stream)?;
-            assert_eq!(rt; taken.is_some(), is_block);
+            check(taken.is_some() == is_block, "a stream that goes on")?;
         }
-        let state = state(rt.alloc(), parser.section(), parser.interfaces())?;
-        assert_eq!(rt; state.as_str(), "Little 1.0 -1 [] with ETHERNET/262144/[]");
+        let state = state(alloc, parser.section(), parser.interfaces())?;
+        check(
+            state.as_str() == "Little 1.0 -1 [] with ETHERNET/262144/[]",
+            "a stream that goes on",
+        )?;
     }
     Ok(())
+}
+
+#[test]
+fn a_stream_that_goes_on(rt: HostRuntime) -> Result<(), Fail> {
+    check_ends(rt.alloc())
 }
 
 // How many bytes of a slice are left behind a parser's next block, if one comes.
@@ -197,10 +223,15 @@ fn goes_between(alloc: Global, step: usize) -> Result<bool, Fail> {
     Ok(is_first && is_second && is_third && is_little(alloc, &parser)?)
 }
 
-#[test]
-fn a_slice_between_streams(rt: HostRuntime) -> Result<(), Fail> {
+// A slice between two streams, by each step.
+fn check_between(alloc: Global) -> Result<(), Fail> {
     for step in [1, 100] {
-        assert!(rt; goes_between(rt.alloc(), step)?, "by {step}");
+        check(goes_between(alloc, step)?, format_args!("by {step}"))?;
     }
     Ok(())
+}
+
+#[test]
+fn a_slice_between_streams(rt: HostRuntime) -> Result<(), Fail> {
+    check_between(rt.alloc())
 }

@@ -3,6 +3,7 @@
 use pcap_file::PcapError;
 use pcap_file::pcapng::{Block, InterfaceDescriptionBlock, SectionHeaderBlock};
 use std::alloc::{AllocError, Global};
+use std::fmt::Display;
 use std::test::Fail;
 use test_support::rows::same;
 
@@ -86,4 +87,12 @@ pub fn by_steps<F: Fn(Global, &[u8], usize) -> Result<String, Fail>>(
     let many = call(alloc, bytes, 100)?;
     same(many.as_str(), one.as_str())?;
     Ok(one)
+}
+
+/// A failure that tells why, unless it is so.
+pub fn check<D: Display + Drop>(is_so: bool, why: D) -> Result<(), Fail> {
+    if is_so {
+        return Ok(());
+    }
+    Err(Fail::new(why))
 }
