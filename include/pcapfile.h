@@ -2,7 +2,7 @@
  * both in memory. MIT licence.
  *
  * For all bytes the calls return, and read and write nothing but what they are given. They keep nothing between calls, and
- * may be called from any thread. Those of PcapNg take memory by malloc where a block has options or names, or where a capture
+ * may be called from any thread. Those of PcapNg take memory by malloc where a block has options, names or flaws, or where a capture
  * is cut, and give it back before they return; all others, and those that take options and names, take none. docs/PROMISES_C.md says what is proved.
  *
  * What the proofs take from the caller, and nothing checks:

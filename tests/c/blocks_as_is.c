@@ -1,13 +1,15 @@
-/* blocks_as_is FILE: the blocks of a PcapNg capture as they stand. A line `INDEX TYPE` for each block, and behind it
+/* blocks_as_is [-c PIECE ROOM] FILE: the blocks of a PcapNg capture as they stand, in memory, or as it comes in pieces of at most PIECE
+ * bytes, into room that is ROOM bytes long at first. A line `INDEX TYPE` for each block, and behind it
  *
  *   flaw NAME CODE                                  for each flaw of its body
  *   interface LINK SNAPLEN BASE EXPONENT OFFSET     for an interface whose body has room for its head
  *   packet INTERFACE TIME STORED/ORIGINAL DATA      for an enhanced packet whose body has room for it, with its time by its interface
  *
  * and at the end `refused REASON` where bytes are left. Beside each block the strict calls take the same one, and have to refuse it
- * by its first flaw, or to take it where it has none. The capture lies at the end of a block of memory of its own.
+ * by its first flaw, or to take it where it has none. In memory the capture ends where its block of memory does.
  */
 #include "file.h"
+#include "pieces.h"
 
 #include <inttypes.h>
 #include <string.h>
@@ -91,48 +93,62 @@ static void print_refused(int32_t status, const pcapfile_error *error) {
     printf("refused invalid %.*s\n", (int)text.len, (const char *)text.ptr);
 }
 
-static void print_blocks(pcapfile_bytes left) {
+/* Whether more came of the capture, where so many bytes are missing. */
+static int has_come(struct pieces *pieces, int32_t status, pcapfile_error error) {
+    if (status != PCAPFILE_INCOMPLETE || pieces->left.len == 0) return 0;
+    if (come(pieces, error.missing, &error) != PCAPFILE_OK) exit(NO_FILE);
+    return 1;
+}
+
+static void print_found(const pcapfile_block_as_is *block, uint32_t count) {
     static pcapfile_interface interfaces[INTERFACES];
     static uint8_t is_known[INTERFACES];
+    uint32_t id = block->packet.interface_id;
+    if (block->type == PCAPFILE_BLOCK_INTERFACE && count <= INTERFACES) {
+        is_known[count - 1] = block->has_interface;
+        interfaces[count - 1] = block->interface;
+    }
+    if (block->has_interface)
+        printf("interface %" PRIu32 " %" PRIu32 " %u %u %" PRId64 "\n", block->interface.link, block->interface.snaplen,
+               block->interface.ts_base, block->interface.ts_exponent, block->interface.ts_offset);
+    if (block->has_packet) print_packet(&block->packet, id < count && id < INTERFACES && is_known[id] ? &interfaces[id] : NULL);
+}
+
+static void print_blocks(struct pieces *pieces) {
     pcapfile_section section = PCAPFILE_SECTION_INIT;
     pcapfile_block_as_is block = PCAPFILE_BLOCK_AS_IS_INIT;
     pcapfile_error error = PCAPFILE_ERROR_INIT;
-    for (uint64_t index = 1; left.len > 0; index++) {
+    for (uint64_t index = 1; pieces->push.begin < pieces->push.end || pieces->left.len > 0;) {
         pcapfile_section before = section;
-        pcapfile_bytes all = left;
+        pcapfile_bytes left = { pieces->room + pieces->push.begin, pieces->push.end - pieces->push.begin }, all = left;
         pcapfile_block_flaw few[PLACES] = { { 9, 9, 9 }, { 9, 9, 9 }, { 9, 9, 9 } };
         int32_t status = pcapfile_take_block_as_is(&section, &left, &block, few, PLACES, &error);
         if (status != PCAPFILE_OK) {
             expect(left.len == all.len && !memcmp(&before, &section, sizeof before) && few[0].code == 9, "a refused call changes nothing");
+            if (has_come(pieces, status, error)) continue;
             print_refused(status, &error);
             return;
         }
         pcapfile_block_flaw *flaws = all_flaws(before, all, &block, few);
-        printf("%" PRIu64 " %" PRIu32 "\n", index, block.type);
+        printf("%" PRIu64 " %" PRIu32 "\n", index++, block.type);
         for (size_t i = 0; i < block.flaws; i++) print_flaw(flaws + i);
         compare(before, all, &section, left, &block, flaws);
         free(flaws);
-        if (block.type == PCAPFILE_BLOCK_INTERFACE && section.interfaces <= INTERFACES) {
-            is_known[section.interfaces - 1] = block.has_interface;
-            interfaces[section.interfaces - 1] = block.interface;
-        }
-        if (block.has_interface)
-            printf("interface %" PRIu32 " %" PRIu32 " %u %u %" PRId64 "\n", block.interface.link, block.interface.snaplen,
-                   block.interface.ts_base, block.interface.ts_exponent, block.interface.ts_offset);
-        uint32_t id = block.packet.interface_id;
-        int has_known = id < section.interfaces && id < INTERFACES && is_known[id];
-        if (block.has_packet) print_packet(&block.packet, has_known ? &interfaces[id] : NULL);
+        print_found(&block, section.interfaces);
+        pieces->push.begin = pieces->push.end - left.len;
     }
 }
 
 int main(int argc, char **argv) {
-    if (argc != 2) return USAGE;
-    pcapfile_bytes all = read_file(argv[1]);
-    uint8_t *copy = malloc(all.len + !all.len);
-    if (!all.ptr || !copy) return NO_FILE;
-    memcpy(copy, all.ptr, all.len);
-    print_blocks((pcapfile_bytes){ copy, all.len });
-    free(copy);
+    int is_cut = argc == 5 && !strcmp(argv[1], "-c");
+    if (argc != 2 && !is_cut) return USAGE;
+    pcapfile_bytes all = read_file(argv[argc - 1]);
+    if (!all.ptr) return NO_FILE;
+    struct pieces pieces = is_cut ? pieces_of(all, strtoul(argv[2], NULL, 10), strtoul(argv[3], NULL, 10))
+                                  : pieces_of(all, all.len, all.len + !all.len);
+    if (!pieces.room) return NO_FILE;
+    print_blocks(&pieces);
+    free(pieces.room);
     free((void *)(uintptr_t)all.ptr);
     return 0;
 }
