@@ -1,6 +1,6 @@
 //! The word `convert`.
 
-use crate::input::{STANDARD, buffered};
+use crate::input::{STANDARD, buffered, open_watched};
 use crate::output::{OUTPUT, Unfinished, tell_read};
 use crate::tell::{tell_error, tell_io};
 use capcopy_run::Uninterrupted;
@@ -12,7 +12,6 @@ use pcap_file::run::{
 use pcap_file::{DataLink, PcapError, PcapNgReader, PcapWriter, ResultParsing};
 use pcapfile_run::{Format, format_of};
 use std::alloc::Global;
-use std::fs::File;
 use std::io;
 use std::io::{BufRead, BufWriter, Read, Write};
 
@@ -31,6 +30,8 @@ pub(crate) struct Conversion<'a> {
     pub(crate) to: Option<Format>,
     /// The name of the other one.
     pub(crate) out: &'a str,
+    /// Whether it isn't said how far it is.
+    pub(crate) is_quiet: bool,
 }
 
 /// The blocks before the first interface.
@@ -112,10 +113,8 @@ fn open_and_convert<W: Write + Drop>(
     asked: &Conversion,
     output: W,
 ) -> io::Result<Ended> {
-    if asked.from == STANDARD {
-        return convert_stream(rt, rt.stdin(), asked.to, output);
-    }
-    convert_stream(rt, File::open(rt, asked.from)?, asked.to, output)
+    let stream = open_watched(rt, asked.from, asked.is_quiet)?;
+    convert_stream(rt, stream, asked.to, output)
 }
 
 fn convert_stream<R: Read + Drop, W: Write + Drop>(

@@ -2,7 +2,7 @@
 
 use crate::USAGE;
 use crate::blocks::Blocks;
-use crate::input::{STANDARD, buffered};
+use crate::input::{STANDARD, buffered, open_watched};
 use crate::output::{OUTPUT, Unfinished, tell_read};
 use crate::source::{Packets, Source, flushed};
 use crate::tell::{tell_error, tell_io, tell_outcome};
@@ -11,7 +11,6 @@ use pcap_parts::to_next_end;
 use pcapfile_cut::{Outcome, Wanted};
 use pcapfile_run::{Format, format_of};
 use std::alloc::Global;
-use std::fs::File;
 use std::io;
 use std::io::{BufWriter, Read, Write};
 
@@ -24,6 +23,8 @@ pub(crate) struct Cutting<'a> {
     pub(crate) out: &'a str,
     /// How it is cut.
     pub(crate) way: Way,
+    /// Whether it isn't said how far it is.
+    pub(crate) is_quiet: bool,
 }
 
 /// How a capture is cut.
@@ -84,14 +85,12 @@ pub(crate) fn cut_file(rt: &HostRuntime, asked: &Cutting) -> io::Result<u8> {
             eprintln!(rt; "error: --parts asks for a file, whose length is known")?;
             return Ok(USAGE);
         }
-        return cut_stream(rt, asked, rt.stdin(), 0);
     }
-    let file = match File::open(rt, asked.from) {
-        Ok(file) => file,
-        Err(error) => return tell_io(rt, asked.from, &error),
-    };
-    match file.metadata() {
-        Ok(metadata) => cut_stream(rt, asked, file, metadata.len()),
+    match open_watched(rt, asked.from, asked.is_quiet) {
+        Ok(stream) => {
+            let length = stream.length().unwrap_or_default();
+            cut_stream(rt, asked, stream, length)
+        }
         Err(error) => tell_io(rt, asked.from, &error),
     }
 }

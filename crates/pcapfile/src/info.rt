@@ -1,6 +1,6 @@
 //! The word `info`.
 
-use crate::input::{buffered, open_stream};
+use crate::input::{buffered, open_watched};
 use crate::tell::{tell_error, tell_io};
 use capcopy_run::Uninterrupted;
 use pcap_file::PcapError;
@@ -14,12 +14,17 @@ use std::io::{BufWriter, Write};
 const OUTPUT: usize = 65_536;
 
 /// Writes what is told of each capture, and gives the status: that of the worst of them.
-pub(crate) fn inform_files(rt: &HostRuntime, names: &[&str], as_json: bool) -> io::Result<u8> {
+pub(crate) fn inform_files(
+    rt: &HostRuntime,
+    names: &[&str],
+    as_json: bool,
+    is_quiet: bool,
+) -> io::Result<u8> {
     let stdout = Uninterrupted::new(rt.stdout());
     let mut output = BufWriter::with_capacity(rt.alloc(), OUTPUT, stdout)?;
     let mut status = 0;
     for name in names {
-        let told = match inform(rt, name) {
+        let told = match inform(rt, name, is_quiet) {
             Ok(information) => write_told(rt, name, &information, as_json, &mut output)?,
             Err(error) => tell_error(rt, name, &error)?,
         };
@@ -28,8 +33,8 @@ pub(crate) fn inform_files(rt: &HostRuntime, names: &[&str], as_json: bool) -> i
     Ok(status)
 }
 
-fn inform(rt: &HostRuntime, name: &str) -> Result<Information, PcapError> {
-    let mut input = buffered(rt.alloc(), open_stream(rt, name)?)?;
+fn inform(rt: &HostRuntime, name: &str, is_quiet: bool) -> Result<Information, PcapError> {
+    let mut input = buffered(rt.alloc(), open_watched(rt, name, is_quiet)?)?;
     match format_of(&mut input)? {
         Format::Pcap => Ok(inform_packets(rt.alloc(), input)?),
         Format::PcapNg => Ok(inform_blocks(rt.alloc(), input)?),

@@ -1,7 +1,7 @@
 //! The word `join`.
 
 use crate::blocks::{Blocks, join_blocks};
-use crate::input::{STANDARD, Stream, buffered, open_stream};
+use crate::input::{STANDARD, Watched, buffered, open_watched};
 use crate::output::{OUTPUT, Unfinished, tell_read};
 use crate::source::{Packets, Source};
 use crate::tell::{AT_FAULT, tell_error, tell_io, tell_outcome};
@@ -18,9 +18,11 @@ pub(crate) struct Joining<'a> {
     pub(crate) parts: &'a [&'a str],
     /// The name of the capture that they become.
     pub(crate) out: &'a str,
+    /// Whether it isn't said how far it is.
+    pub(crate) is_quiet: bool,
 }
 
-type Input = BufReader<Uninterrupted<Stream>>;
+type Input = BufReader<Uninterrupted<Watched>>;
 
 /// Joins parts of a capture, and gives the status.
 pub(crate) fn join_files(rt: &HostRuntime, asked: &Joining) -> io::Result<u8> {
@@ -57,7 +59,7 @@ fn join_parts<W: Write>(rt: &HostRuntime, asked: &Joining, output: &mut W) -> io
     let Some((first, others)) = asked.parts.split_first() else {
         return Ok(0);
     };
-    let (format, input) = match open(rt, first) {
+    let (format, input) = match open(rt, asked, first) {
         Ok(opened) => opened,
         Err(error) => return tell_io(rt, first, &error),
     };
@@ -80,8 +82,8 @@ fn join_parts<W: Write>(rt: &HostRuntime, asked: &Joining, output: &mut W) -> io
     }
 }
 
-fn open(rt: &HostRuntime, name: &str) -> io::Result<(Format, Input)> {
-    let mut input = buffered(rt.alloc(), open_stream(rt, name)?)?;
+fn open(rt: &HostRuntime, asked: &Joining, name: &str) -> io::Result<(Format, Input)> {
+    let mut input = buffered(rt.alloc(), open_watched(rt, name, asked.is_quiet)?)?;
     let format = format_of(&mut input)?;
     Ok((format, input))
 }
@@ -113,7 +115,7 @@ fn join_packets<W: Write>(
         if status != 0 {
             break;
         }
-        status = match open(rt, part) {
+        status = match open(rt, asked, part) {
             Ok((_, input)) => join_next(rt, asked, part, opening, input, output)?,
             Err(error) => tell_io(rt, part, &error)?,
         };
@@ -157,7 +159,7 @@ fn join_others<W: Write>(
         if status != 0 {
             break;
         }
-        let input = match open(rt, part) {
+        let input = match open(rt, asked, part) {
             Ok((_, input)) => input,
             Err(error) => return tell_io(rt, part, &error),
         };

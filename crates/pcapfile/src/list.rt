@@ -1,29 +1,35 @@
 //! The word `list`.
 
-use crate::input::{STANDARD, buffered};
+use crate::input::{buffered, open_watched};
 use crate::tell::{tell_exit, tell_io};
 use capcopy_run::{Exit, Uninterrupted};
 use pcapfile_lines::{Form, HEADING};
 use pcapfile_run::list;
-use std::fs::File;
 use std::io;
-use std::io::{BufWriter, Read, Write};
+use std::io::{BufWriter, IsTerminal, Write};
 
 /// The size of the buffer before standard output, in bytes.
 const OUTPUT: usize = 65_536;
 
 /// Writes the packets of each capture, and gives the status: that of the worst of them. The names of several stand before their
 /// lines, but for a form that a program reads.
-pub(crate) fn list_files(rt: &HostRuntime, names: &[&str], form: Option<Form>) -> io::Result<u8> {
+pub(crate) fn list_files(
+    rt: &HostRuntime,
+    names: &[&str],
+    form: Option<Form>,
+    is_quiet: bool,
+) -> io::Result<u8> {
     let stdout = Uninterrupted::new(rt.stdout());
     let mut output = BufWriter::with_capacity(rt.alloc(), OUTPUT, stdout)?;
     if form == Some(Form::Csv) {
         output.write_all(HEADING.as_bytes())?;
     }
+    // On a terminal the lines tell how far it is.
+    let is_quiet = is_quiet || rt.stdout().is_terminal();
     let is_headed = names.len() > 1 && is_read_by_people(form);
     let mut status = 0;
     for name in names {
-        let listed = open_and_list(rt, name, is_headed, form, &mut output);
+        let listed = open_and_list(rt, name, is_headed, form, is_quiet, &mut output);
         // What was listed goes out before what is said of it.
         output.flush()?;
         status = match listed {
@@ -44,23 +50,11 @@ fn open_and_list<W: Write>(
     name: &str,
     is_headed: bool,
     form: Option<Form>,
+    is_quiet: bool,
     output: &mut W,
 ) -> io::Result<Exit> {
-    let heading = if is_headed { Some(name) } else { None };
-    if name == STANDARD {
-        return list_stream(rt, rt.stdin(), heading, form, output);
-    }
-    list_stream(rt, File::open(rt, name)?, heading, form, output)
-}
-
-fn list_stream<R: Read + Drop, W: Write>(
-    rt: &HostRuntime,
-    stream: R,
-    heading: Option<&str>,
-    form: Option<Form>,
-    output: &mut W,
-) -> io::Result<Exit> {
-    if let Some(name) = heading {
+    let stream = open_watched(rt, name, is_quiet)?;
+    if is_headed {
         writeln!(output, "{name}:")?;
     }
     let mut input = buffered(rt.alloc(), stream)?;

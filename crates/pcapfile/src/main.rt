@@ -15,6 +15,7 @@ mod list_as_is;
 mod merge;
 mod opening;
 mod output;
+mod progress;
 mod ranges;
 mod repair;
 mod replay;
@@ -55,7 +56,7 @@ fn main(rt: HostRuntime) -> ExitCode {
 }
 
 // What the word `convert` is asked for.
-fn conversion<'a>(words: &ArgMatches<'a>) -> Conversion<'a> {
+fn conversion<'a>(words: &ArgMatches<'a>, is_quiet: bool) -> Conversion<'a> {
     let to = match words.get_str(words::TO) {
         Some("pcap") => Some(Format::Pcap),
         Some("pcapng") => Some(Format::PcapNg),
@@ -65,6 +66,7 @@ fn conversion<'a>(words: &ArgMatches<'a>) -> Conversion<'a> {
         from: words.get_str(words::IN).unwrap_or_default(),
         to,
         out: words.get_str(words::OUT).unwrap_or_default(),
+        is_quiet,
     }
 }
 
@@ -94,7 +96,7 @@ fn way(words: &ArgMatches) -> Result<Way, &'static str> {
     Ok(Way::One(Wanted::Times { from, until }))
 }
 
-fn cut_out(rt: &HostRuntime, words: &ArgMatches) -> io::Result<u8> {
+fn cut_out(rt: &HostRuntime, words: &ArgMatches, is_quiet: bool) -> io::Result<u8> {
     let way = match way(words) {
         Ok(way) => way,
         Err(word) => {
@@ -108,14 +110,16 @@ fn cut_out(rt: &HostRuntime, words: &ArgMatches) -> io::Result<u8> {
         from: words.get_str(words::CAPTURE).unwrap_or_default(),
         out: words.get_str(words::OUT).unwrap_or_default(),
         way,
+        is_quiet,
     };
     cut::cut_file(rt, &asked)
 }
 
-fn join_parts(rt: &HostRuntime, words: &ArgMatches) -> io::Result<u8> {
+fn join_parts(rt: &HostRuntime, words: &ArgMatches, is_quiet: bool) -> io::Result<u8> {
     let asked = Joining {
         parts: words.get_strs(words::PARTS_IN).unwrap_or_default(),
         out: words.get_str(words::OUT).unwrap_or_default(),
+        is_quiet,
     };
     join::join_files(rt, &asked)
 }
@@ -171,28 +175,35 @@ fn run(rt: &HostRuntime) -> io::Result<u8> {
         Ok(matches) => matches,
         Err(error) => return tell_words(rt, &error),
     };
+    do_word(rt, &matches)
+}
+
+// Does what a word asks for, and gives the status.
+fn do_word(rt: &HostRuntime, matches: &ArgMatches) -> io::Result<u8> {
+    let is_quiet = matches.get_flag(words::QUIET);
     match matches.subcommand() {
         Some(("check", check)) => {
             let names = check.get_strs(words::FILES).unwrap_or_default();
             if check.get_flag(words::AS_IS) {
                 return check_as_is::check_files_as_is(rt, names);
             }
-            check::check_files(rt, names)
+            check::check_files(rt, names, is_quiet)
         }
-        Some(("convert", words)) => convert::convert_file(rt, &conversion(words)),
-        Some(("cut", words)) => cut_out(rt, words),
+        Some(("convert", words)) => convert::convert_file(rt, &conversion(words, is_quiet)),
+        Some(("cut", words)) => cut_out(rt, words, is_quiet),
         Some(("info", info)) => info::inform_files(
             rt,
             info.get_strs(words::FILES).unwrap_or_default(),
             info.get_flag(words::JSON),
+            is_quiet,
         ),
-        Some(("join", words)) => join_parts(rt, words),
+        Some(("join", words)) => join_parts(rt, words, is_quiet),
         Some(("list", list)) => {
             let names = list.get_strs(words::FILES).unwrap_or_default();
             if list.get_flag(words::AS_IS) {
                 return list_as_is::list_files_as_is(rt, names);
             }
-            list::list_files(rt, names, form(list))
+            list::list_files(rt, names, form(list), is_quiet)
         }
         Some(("merge", words)) => merge::merge_files(rt, &merging(words)),
         Some(("repair", words)) => repair::repair_file(rt, &repairing(words)),

@@ -43,6 +43,9 @@ pub(crate) const AS_IS: &str = "as-is";
 /// The name of telling it as JSON.
 pub(crate) const JSON: &str = "json";
 
+/// The name of saying nothing of how far it is.
+pub(crate) const QUIET: &str = "quiet";
+
 /// The name of listing times in UTC.
 pub(crate) const UTC: &str = "utc";
 
@@ -104,6 +107,9 @@ With --as-is a packet that breaks rules has a line as well, with ! and the numbe
 it, and a fraction of a second that is too large is carried into the seconds. Of PcapNg nothing is
 read so yet.";
 
+const QUIET_HELP: &str =
+    "Doesn't say how far a capture is read, as check, info, list, convert, cut and join do on a terminal";
+
 const AS_IS_HELP: &str =
     "Goes on behind packets that break a rule, and tells which; of classic captures";
 
@@ -157,15 +163,31 @@ OUT.part, and is named OUT once all of it is there.";
 
 /// The program's command line.
 pub(crate) fn command<'a>(alloc: Global) -> Result<Command<'a>, AllocError> {
+    let command = with_telling(alloc, program(alloc)?)?;
+    with_writing(alloc, command)
+}
+
+fn program<'a>(alloc: Global) -> Result<Command<'a>, AllocError> {
     Command::new(alloc, "pcapfile")
         .version(VERSION)
         .about("Tells what captures of packets hold, Pcap and PcapNg alike.")
         .after_help(STATUSES)
         .subcommand_required(true)
         .arg_required_else_help(true)
+        .arg(quiet(alloc))
+}
+
+// With the words that tell of captures.
+fn with_telling<'a>(alloc: Global, command: Command<'a>) -> Result<Command<'a>, AllocError> {
+    command
         .subcommand(check(alloc)?)?
         .subcommand(info(alloc)?)?
-        .subcommand(list(alloc)?)?
+        .subcommand(list(alloc)?)
+}
+
+// With the words that write captures.
+fn with_writing<'a>(alloc: Global, command: Command<'a>) -> Result<Command<'a>, AllocError> {
+    command
         .subcommand(convert(alloc)?)?
         .subcommand(cut(alloc)?)?
         .subcommand(join(alloc)?)?
@@ -335,6 +357,11 @@ fn as_is<'a>(alloc: Global) -> Arg<'a> {
 
 fn json<'a>(alloc: Global) -> Arg<'a> {
     flag(alloc, JSON).help("An object of JSON for each capture")
+}
+
+fn quiet<'a>(alloc: Global) -> Arg<'a> {
+    let quiet = flag(alloc, QUIET).help(QUIET_HELP);
+    quiet.global(true)
 }
 
 fn flag<'a>(alloc: Global, name: &'a str) -> Arg<'a> {
