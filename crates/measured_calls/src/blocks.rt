@@ -1,7 +1,9 @@
 //! Calls on a PcapNg capture in memory.
 
 use pcap_classic::ResultParsing;
+use pcap_file::pcapng::{Block, ParsedBlock, PcapNgParser};
 use pcap_file::run::{NgCopied, copy_pcapng, copy_pcapng_buffered};
+use pcap_tolerant_captures::{BlockAsIs, OpenedAsIs, PcapNgParserAsIs};
 use std::alloc::Global;
 use std::io::BufReader;
 
@@ -16,6 +18,8 @@ pub(crate) fn passes_of(
     bytes: &[u8],
 ) -> Option<ResultParsing<u64>> {
     match call {
+        "next_block" => Some(blocks(alloc, passes, bytes)),
+        "next_block_as_is" => Some(blocks_as_they_stand(alloc, passes, bytes)),
         "copy_pcapng" => Some(copy(alloc, passes, bytes)),
         "copy_pcapng_buffered" => Some(copy_out_of_a_buffer(alloc, passes, bytes)),
         _ => None,
@@ -50,6 +54,74 @@ fn copy_out_of_a_buffer(alloc: Global, passes: u64, bytes: &[u8]) -> ResultParsi
             return Err(error);
         }
         sum = sum.wrapping_add(out.len() as u64);
+    }
+    Ok(sum)
+}
+
+// How many bytes of data an enhanced packet has, whose body is read, and none where it is another block.
+fn data_in(alloc: Global, block: &Block) -> ResultParsing<u64> {
+    Ok(match block.parsed(alloc)? {
+        ParsedBlock::EnhancedPacket(packet) => packet.data_.len() as u64,
+        _ => 0,
+    })
+}
+
+fn read_all(alloc: Global, bytes: &[u8]) -> ResultParsing<u64> {
+    let mut sum = 0u64;
+    let (mut left, mut parser) = PcapNgParser::new(alloc, bytes)?;
+    for _ in 0..u64::MAX {
+        if left.is_empty() {
+            break;
+        }
+        let (rest, block) = parser.next_block(left)?;
+        sum = sum.wrapping_add(data_in(alloc, &block)?);
+        left = rest;
+    }
+    Ok(sum)
+}
+
+fn blocks(alloc: Global, passes: u64, bytes: &[u8]) -> ResultParsing<u64> {
+    let mut sum = 0u64;
+    for _ in 0..passes {
+        sum = sum.wrapping_add(read_all(alloc, bytes)?);
+    }
+    Ok(sum)
+}
+
+// How many bytes of data an enhanced packet has as it stands, whose body is read, and how many flaws it or the block has.
+fn data_as_is_in(alloc: Global, block: &BlockAsIs) -> ResultParsing<u64> {
+    let flaws = block.flaws.len() as u64;
+    Ok(match block.enhanced(alloc)? {
+        None => flaws,
+        Some(read) => {
+            let all = flaws.wrapping_add(read.flaws.len() as u64);
+            match &read.packet {
+                None => all,
+                Some(packet) => all.wrapping_add(packet.data_.len() as u64),
+            }
+        }
+    })
+}
+
+fn read_all_as_is(alloc: Global, bytes: &[u8]) -> ResultParsing<u64> {
+    let (mut left, opened) = PcapNgParserAsIs::new(alloc, bytes)?;
+    let OpenedAsIs { mut parser, first } = opened;
+    let mut sum = first.flaws.len() as u64;
+    for _ in 0..u64::MAX {
+        if left.is_empty() {
+            break;
+        }
+        let (rest, block) = parser.next_block_as_is(left)?;
+        sum = sum.wrapping_add(data_as_is_in(alloc, &block)?);
+        left = rest;
+    }
+    Ok(sum)
+}
+
+fn blocks_as_they_stand(alloc: Global, passes: u64, bytes: &[u8]) -> ResultParsing<u64> {
+    let mut sum = 0u64;
+    for _ in 0..passes {
+        sum = sum.wrapping_add(read_all_as_is(alloc, bytes)?);
     }
     Ok(sum)
 }

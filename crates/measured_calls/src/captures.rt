@@ -4,6 +4,7 @@ use pcap_blocks::InterfaceDescriptionBlock;
 use pcap_classic::pcap::{Packet, PcapParser, PcapReader, PcapWriter};
 use pcap_classic::run::{Copied, Under, copy_buffered, copy_pcap};
 use pcap_classic::{DataLink, ResultParsing};
+use pcap_tolerant::next_packet_as_is;
 use pcap_written::PcapNgWriter;
 use std::alloc::Global;
 use std::io::BufReader;
@@ -20,6 +21,7 @@ pub(crate) fn passes_of(
 ) -> Option<ResultParsing<u64>> {
     match call {
         "next_packet" => Some(next_packet(passes, bytes)),
+        "next_packet_as_is" => Some(packets_as_they_stand(passes, bytes)),
         "next" => Some(next(alloc, passes, bytes)),
         "next_header" => Some(next_header(alloc, passes, bytes)),
         "write_packet" => Some(write_packet(alloc, passes, bytes)),
@@ -43,6 +45,27 @@ fn next_packet(passes: u64, bytes: &[u8]) -> ResultParsing<u64> {
             sum = sum
                 .wrapping_add(u64::from(packet.header.ts_nsec))
                 .wrapping_add(packet.data_.len() as u64);
+            left = rest;
+        }
+    }
+    Ok(sum)
+}
+
+fn packets_as_they_stand(passes: u64, bytes: &[u8]) -> ResultParsing<u64> {
+    let mut sum = 0u64;
+    for _ in 0..passes {
+        let (mut left, parser) = PcapParser::new(bytes)?;
+        for _ in 0..u64::MAX {
+            if left.is_empty() {
+                break;
+            }
+            let (rest, packet) = next_packet_as_is(&parser, left, 0)?;
+            sum = sum
+                .wrapping_add(u64::from(packet.fraction))
+                .wrapping_add(packet.data.len() as u64);
+            if packet.flaws.is_broken() {
+                sum = sum.wrapping_add(1);
+            }
             left = rest;
         }
     }

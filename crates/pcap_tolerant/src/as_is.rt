@@ -80,6 +80,15 @@ fn flaws_in(
         TsResolution::NanoSecond => u64::from(fraction),
         TsResolution::MicroSecond => 1000 * u64::from(fraction),
     };
+    // nearly all packets break none, and a branch of its own tells that in fewer instructions
+    if nanos <= 4294967295 && orig_len <= PACKET_LIMIT && incl_len <= orig_len {
+        return Flaws {
+            fraction_too_large: false,
+            included_too_long: false,
+            original_too_long: false,
+            included_past_original: false,
+        };
+    }
     Flaws {
         fraction_too_large: nanos > 4294967295,
         included_too_long: incl_len > PACKET_LIMIT,
