@@ -1,5 +1,9 @@
 -- The words of the line that tells what a check of a capture found, and the status that it gives.
-use Rattle.std.specs.Prelude.{ℕ, List, codes}
+use Rattle.std.specs.Prelude.{◌++◌, ℕ, List, codes, Option, None, Some, option_map}
+use Rattle.std.specs.Fmt.{decimal}
+use Rattle.pcap_core.specs.Faults.{rule_message}
+use Rattle.pcap_core.specs.Rules.{number_of}
+use Rattle.pcapfile_run.specs.declared.checked.Checked.{Checked}
 use Rattle.pcapfile_run.specs.declared.checked.End.{End}
 use Rattle.pcapfile_run.specs.declared.checked.End.TheVariants.{Whole, Most, Short, Breaks, NotUtf8, Unread, Memory}
 use Rattle.pcapfile_run.specs.declared.checked.Format.{Format}
@@ -24,3 +28,20 @@ status_of (Breaks rule) = 1
 status_of NotUtf8 = 1
 status_of (Unread error) = 3
 status_of Memory = 4
+
+-- what a line says of an end at this byte; what the system says of a failed read isn't known
+abbrev pub ending_text : End → ℕ → Option (List ℕ)
+ending_text Whole byte = Some (decimal byte ++ codes " bytes")
+ending_text Most byte = Some (decimal byte ++ codes " bytes or more")
+ending_text Short byte = Some (codes "cut short at byte " ++ decimal byte)
+ending_text (Breaks rule) byte =
+    Some (codes "refused at byte " ++ (decimal byte ++ (codes " by rule " ++ (decimal (number_of rule) ++ (codes ": " ++ rule_message rule)))))
+ending_text NotUtf8 byte = Some (codes "not UTF-8 at byte " ++ decimal byte)
+ending_text (Unread error) byte = None
+ending_text Memory byte = Some (codes "no memory at byte " ++ decimal byte)
+
+-- the line of a check, without its newline: the format, how many items were passed, and their end
+abbrev pub line_of : Checked → Option (List ℕ)
+line_of checked = option_map
+    (λ ending. format_name checked.format ++ (codes ", " ++ (decimal checked.items ++ (codes " " ++ (items_name checked.format ++ (codes ", " ++ ending))))))
+    (ending_text checked.end checked.bytes)

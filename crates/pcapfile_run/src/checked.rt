@@ -5,7 +5,7 @@ ghost use Rattle.pcap_core.specs.declared.rules.Rule.{Rule};
 ghost use Rattle.pcap_core.specs.Errors.{IsIo, IsMemory};
 ghost use Rattle.pcap_core.specs.Faults.{Names};
 ghost use Rattle.pcapfile_run.specs.Checks.{EndIs, FaultIs};
-ghost use Rattle.pcapfile_run.specs.Lines.{format_name, items_name, status_of};
+ghost use Rattle.pcapfile_run.specs.Lines.{ending_text, format_name, items_name, line_of, status_of};
 
 use pcap_file::{PcapError, Rule};
 use std::fmt;
@@ -87,40 +87,50 @@ impl Checked {
     }
 }
 
-/// A line without its newline: the format, how many items, and how many bytes they take, or what refuses the item at which byte.
-impl fmt::Display for Checked {
+// What a line says of an end that stands at this byte.
+#[derive(Clone, Copy)]
+struct Ending<'a> {
+    end: &'a End,
+    byte: u64,
+}
+
+impl fmt::Display for Ending<'_> {
+    ghost output = { λ ending. ending_text ending.end.now ending.byte };
+
     fn fmt<W: fmt::Write>(&self, f: &mut fmt::Formatter<W>) -> fmt::Result {
-        let items = self.items;
-        let bytes = self.bytes;
-        let format = self.format.name();
-        let unit = self.format.items();
-        match &self.end {
-            End::Whole => write!(f, "{format}, {items} {unit}, {bytes} bytes"),
-            End::Most => write!(f, "{format}, {items} {unit}, {bytes} bytes or more"),
-            End::Short => write!(f, "{format}, {items} {unit}, cut short at byte {bytes}"),
+        let byte = self.byte;
+        match self.end {
+            End::Whole => write!(f, "{byte} bytes"),
+            End::Most => write!(f, "{byte} bytes or more"),
+            End::Short => write!(f, "cut short at byte {byte}"),
             End::Breaks(rule) => {
                 let number = rule.number();
                 let text = rule.text();
-                write!(
-                    f,
-                    "{format}, {items} {unit}, refused at byte {bytes} by rule {number}: {text}"
-                )
+                write!(f, "refused at byte {byte} by rule {number}: {text}")
             }
-            End::NotUtf8 => write!(f, "{format}, {items} {unit}, not UTF-8 at byte {bytes}"),
+            End::NotUtf8 => write!(f, "not UTF-8 at byte {byte}"),
             End::Unread(PcapError::IoError(error)) => {
-                write!(
-                    f,
-                    "{format}, {items} {unit}, unread from byte {bytes}: {error}"
-                )
+                write!(f, "unread from byte {byte}: {error}")
             }
-            End::Unread(error) => {
-                write!(
-                    f,
-                    "{format}, {items} {unit}, unread from byte {bytes}: {error}"
-                )
-            }
-            End::Memory => write!(f, "{format}, {items} {unit}, no memory at byte {bytes}"),
+            End::Unread(error) => write!(f, "unread from byte {byte}: {error}"),
+            End::Memory => write!(f, "no memory at byte {byte}"),
         }
+    }
+}
+
+/// A line without its newline: the format, how many items, and how many bytes they take, or what refuses the item at which byte.
+impl fmt::Display for Checked {
+    ghost output = { line_of };
+
+    fn fmt<W: fmt::Write>(&self, f: &mut fmt::Formatter<W>) -> fmt::Result {
+        let format = self.format.name();
+        let items = self.items;
+        let unit = self.format.items();
+        let ending = Ending {
+            end: &self.end,
+            byte: self.bytes,
+        };
+        write!(f, "{format}, {items} {unit}, {ending}")
     }
 }
 
