@@ -1,5 +1,5 @@
-"""What `pcapfile check --as-is`, `list --as-is` and `repair` write. Packets are taken here by struct alone, and the rules are said
-once more."""
+"""What `pcapfile check --as-is`, `list --as-is` and `repair` write. Packets and blocks are taken here by struct alone, and the rules
+are said once more."""
 import random
 import struct
 import tempfile
@@ -14,7 +14,23 @@ MESSAGES = {
     3: "PacketHeader incl_len > 0x40000",
     4: "PacketHeader orig_len > 0x40000",
     5: "PacketHeader incl_len > orig_len",
+    6: "SectionHeaderBlock: invalid magic number",
+    7: "Block: (initial_len % 4) != 0",
+    8: "Block: initial_len < 12",
+    9: "Block initial_length != trailer_length",
+    11: "SectionHeaderBlock: block length < 16",
+    12: "InterfaceDescriptionBlock: block length < 8",
+    17: "Option: slice.len() < 4",
+    18: "Option: length + pad.len() > slice.len()",
+    1901: "InterfaceDescriptionOption: IfIpv4Addr length != 8",
+    1905: "InterfaceDescriptionOption: IfSpeed length != 8",
+    1906: "InterfaceDescriptionOption: IfTsResol length != 1",
+    1909: "InterfaceDescriptionOption: IfFcsLen length != 1",
+    1910: "InterfaceDescriptionOption: IfTsOffset length != 8",
 }
+SECTION, INTERFACE, ENHANCED = 0x0A0D0D0A, 1, 6
+# of the options of an interface that have one length the rule and that length, by their codes
+LENGTHS = {4: (1901, 8), 8: (1905, 8), 9: (1906, 1), 13: (1909, 1), 14: (1910, 8)}
 
 
 class Packet:
@@ -66,6 +82,83 @@ def checked(name, capture):
     end = f"{at} bytes" if not fault else f"{fault} at byte {at}" if fault == "cut short" else f"refused at byte {at} by {fault}"
     lines.append(f"{name}: pcap, {len(packets)} packets, {end}; {flawed} with flaws\n")
     return "".join(lines), AT_FAULT if flawed or fault else DONE
+
+
+def option_flaw(number, code, value):
+    """What is wrong with the value of an option of a section or an interface, of the codes that are drawn here."""
+    if code == 1 or (number, code) == (SECTION, 4):
+        return None if value.isascii() else "is not UTF-8"
+    rule, length = LENGTHS.get(code, (None, len(value)))
+    return rule if number == INTERFACE and len(value) != length else None
+
+
+def options_flaws(order, number, left):
+    """What is wrong with options: the code of one, or None for the list, and the rule or what is said."""
+    flaws = []
+    while left:
+        if len(left) < 4:
+            return [*flaws, (None, 17)]
+        code, length = struct.unpack_from(order + "HH", left)
+        if code == 0:
+            break
+        end = 4 + length + -length % 4
+        if end > len(left):
+            return [*flaws, (None, 18)]
+        flaw = option_flaw(number, code, left[4 : 4 + length])
+        flaws += [(code, flaw)] if flaw else []
+        left = left[end:]
+    return flaws
+
+
+def body_flaws(order, number, body):
+    """What is wrong with the body of a block: those of sections and interfaces are read."""
+    if number == SECTION:
+        return options_flaws(order, number, body[16:])
+    if number != INTERFACE:
+        return []
+    return options_flaws(order, number, body[8:]) if len(body) >= 8 else [(None, 12)]
+
+
+def framed(capture, at, order):
+    """The order, the number of the type, and the body of the block that stands there, or what is said of it."""
+    left = capture[at:]
+    if len(left) < 12:
+        return "cut short"
+    if left[:4] == b"\x0a\x0d\x0d\x0a":
+        order = {b"\x1a\x2b\x3c\x4d": ">", b"\x4d\x3c\x2b\x1a": "<"}.get(left[8:12])
+        if not order:
+            return 6
+    number, length = struct.unpack_from(order + "II", left)
+    if length % 4 or length < 12:
+        return 7 if length % 4 else 8
+    if length > len(left):
+        return "cut short"
+    if left[length - 4 : length] != left[4:8]:
+        return 9
+    return 11 if number == SECTION and length < 28 else (order, number, left[8 : length - 4])
+
+
+def flaw_line(name, count, at, code, flaw):
+    within = "" if code is None else f" in option {code}"
+    if isinstance(flaw, str):
+        return f"{name}: block {count} at byte {at} {flaw}{within}\n"
+    return f"{name}: block {count} at byte {at} breaks rule {flaw}{within}: {MESSAGES[flaw]}\n"
+
+
+def checked_blocks(name, capture):
+    """The lines of a check of a capture of blocks, and its status."""
+    at, order, lines, count, flawed, end = 0, ">", [], 0, 0, None
+    while at < len(capture):
+        block = framed(capture, at, order)
+        if not isinstance(block, tuple):
+            end = f"{block} at byte {at}" if block == "cut short" else f"refused at byte {at} by rule {block}: {MESSAGES[block]}"
+            break
+        order, number, body = block
+        flaws, count = body_flaws(order, number, body), count + 1
+        lines += [flaw_line(name, count, at, code, flaw) for code, flaw in flaws]
+        flawed, at = flawed + bool(flaws), at + len(body) + 12
+    lines.append(f"{name}: pcapng, {count} blocks, {end or f'{at} bytes'}; {flawed} with flaws\n")
+    return "".join(lines), AT_FAULT if flawed or end else DONE
 
 
 def listed(name, capture):
@@ -176,6 +269,55 @@ def captures():
     yield "no capture", b"these are 24 or more bytes"
 
 
+def some_options(draw, order):
+    """Options, some of whose values break rules, up to a mark, to the end of the body, or to where no next one is found."""
+    options = b""
+    for _ in range(draw.randrange(4)):
+        code, size = draw.choice((1, 4, 8, 9, 13, 14, 77)), draw.choice((0, 1, 2, 8, 9))
+        value = (b"\xff" if draw.randrange(3) == 0 else b"a") * size
+        options += struct.pack(order + "HH", code, size) + value + bytes(-size % 4)
+    return options + draw.choice((b"", bytes(4), b"\0\1\0", struct.pack(order + "HH", 1, 200), bytes(4) + b"more"))
+
+
+def some_blocks(draw, help, order):
+    """A section and blocks behind it."""
+    parts = [(SECTION, struct.pack(order + "IHHq", 0x1A2B3C4D, 1, 0, -1) + some_options(draw, order))]
+    for _ in range(draw.randrange(12)):
+        head = draw.choice((struct.pack(order + "HHI", 1, 0, 0), bytes(8), bytes(8), bytes(4), b""))
+        interface = INTERFACE, head + (some_options(draw, order) if len(head) == 8 else b"")
+        parts.append(draw.choice((interface, interface, (ENHANCED, bytes(draw.choice((0, 20, 24)))), (99, b"abcd"))))
+    return b"".join(help.block(order, *part) for part in parts)
+
+
+def block_captures(help):
+    """Captures of blocks by their names."""
+    draw = random.Random(32)
+    for count in range(60):
+        orders = [draw.choice("<>") for _ in range(draw.choice((1, 1, 2, 3)))]
+        yield f"blocks {count}", b"".join(some_blocks(draw, help, order) for order in orders)
+    whole = some_blocks(random.Random(33), help, "<")
+    for size in range(4, len(whole)):
+        yield f"{size} bytes of blocks", whole[:size]
+    for name, wrong in (("zeros", bytes(40)), ("a short block", b"\1\0\0\0\4\0\0\0" + bytes(8)), ("text", b"this is no block, at all")):
+        yield f"blocks and {name}", whole + wrong + whole
+    yield "two lengths", whole + struct.pack("<III", 99, 12, 16)
+    yield "a section that gives no order", whole + help.block("<", SECTION, bytes(16))
+    yield "a section with no room", whole + help.block("<", SECTION, struct.pack("<III", 0x1A2B3C4D, 1, 0))
+
+
+def try_blocks(tally, help):
+    """Each capture of blocks as a file and through a pipe, where neither a list nor a repaired capture is made."""
+    for name, capture in block_captures(help):
+        with tempfile.TemporaryDirectory() as folder:
+            help.put(folder, "in", capture)
+            check = ran(tally, folder, "check", "--as-is", "in")
+            piped = ran(tally, folder, "check", "--as-is", "-", given=capture)
+        for named, ended in (("in", check), ("-", piped)):
+            lines, status = checked_blocks(named, capture)
+            wanted = status, lines.encode(), ""
+            tally.note(f"check --as-is of {name}, {named}", ended != wanted and f"it gave {str(ended)[-300:]}, and not {str(wanted)[-300:]}")
+
+
 def gaps():
     """Captures with bytes between packets that are none."""
     draw = random.Random(31)
@@ -266,16 +408,16 @@ def try_several(tally, help):
         rows = ran(tally, folder, "list", "--as-is", *names)
         tally.note("repair of blocks", ran(tally, folder, "repair", "blocks", "-o", "out")[:2] != (FAILED, b"") and "it isn't refused")
         worst = [ran(tally, folder, "check", "--as-is", *it)[0] for it in (["flawed", "sound"], ["sound", "flawed"], ["sound", "sound"])]
-    lines = checked("flawed", flawed)[0] + checked("sound", sound)[0]
+    lines = checked("flawed", flawed)[0] + checked_blocks("blocks", blocks)[0] + checked("sound", sound)[0]
     listing = f"flawed:\n{listed('', flawed)[0]}sound:\n{listed('', sound)[0]}"
     for name, ended, wanted in (("check", check, lines), ("list", rows, listing)):
         told = ended[2].splitlines()
-        starts = "blocks: is PcapNg", "missing: No such file", "folder: Is a directory"
-        said = len(told) == 3 and all(line.startswith(f"pcapfile: {it}") for line, it in zip(told, starts))
+        starts = ["blocks: is PcapNg"] * (name == "list") + ["missing: No such file", "folder: Is a directory"]
+        said = len(told) == len(starts) and all(line.startswith(f"pcapfile: {it}") for line, it in zip(told, starts))
         tally.note(f"{name} --as-is of several", (ended[:2] != (FAILED, wanted.encode()) or not said) and f"it gave {ended}")
     tally.note("the worst of several", worst != [AT_FAULT, AT_FAULT, DONE] and f"it gave {worst}")
 
 
 def try_all(tally, help):
-    for tries in (try_each, try_repairs, try_sound, try_several):
+    for tries in (try_each, try_blocks, try_repairs, try_sound, try_several):
         tries(tally, help)

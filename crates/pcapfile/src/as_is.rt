@@ -1,4 +1,4 @@
-//! Classic captures that are read as they stand.
+//! Captures that are read as they stand.
 
 ghost use Rattle.std.specs.Prelude.{◌<◌, ◌^◌};
 
@@ -7,7 +7,8 @@ use crate::input::{Stream, buffered, open_stream};
 use capcopy_run::{Exit, Uninterrupted};
 use pcap_file::{PcapError, PcapParser};
 use pcap_tolerant::ReaderAsIs;
-use pcapfile_as_is::{Counted, Teller, tell_packets};
+use pcap_tolerant_captures::PcapNgReaderAsIs;
+use pcapfile_as_is::{BlockFlawLines, Counted, Teller, tell_blocks, tell_packets};
 use pcapfile_cut::Opening;
 use pcapfile_run::{Format, format_of};
 use std::alloc::Global;
@@ -26,9 +27,9 @@ pub(crate) type Input = BufReader<Uninterrupted<Stream>>;
 /// What was told of a capture.
 #[derive(Drop)]
 pub(crate) struct Told {
-    /// How many packets, and how many bytes with the header.
+    /// How many packets or blocks, and how many bytes with the header.
     pub(crate) counted: Counted,
-    /// What refuses the next packet.
+    /// What refuses the next packet or block.
     pub(crate) fault: Option<PcapError>,
     /// Whether that was a read that failed.
     pub(crate) read_failed: bool,
@@ -39,7 +40,7 @@ impl Told {
     pub(crate) fn nothing() -> Told {
         Told {
             counted: Counted {
-                packets: 0,
+                items: 0,
                 flawed: 0,
                 bytes: 0,
             },
@@ -50,30 +51,37 @@ impl Told {
 
     /// What was counted.
     pub(crate) fn counts(&self) -> Counted
-        ensures packets { result.packets < 2 ^ 64 }
+        ensures items { result.items < 2 ^ 64 }
         ensures flawed { result.flawed < 2 ^ 64 }
         ensures bytes { result.bytes < 2 ^ 64 }
     {
         Counted {
-            packets: self.counted.packets.min(u64::MAX),
+            items: self.counted.items.min(u64::MAX),
             flawed: self.counted.flawed.min(u64::MAX),
             bytes: self.counted.bytes.min(u64::MAX),
         }
     }
 }
 
+/// Opens the capture of a name, and finds its format.
+pub(crate) fn open_capture(rt: &HostRuntime, name: &str) -> io::Result<(Format, Input)> {
+    let mut input = buffered(rt.alloc(), open_stream(rt, name)?)?;
+    let format = format_of(&mut input)?;
+    Ok((format, input))
+}
+
 /// Opens the classic capture of a name. None where it is one of blocks.
 pub(crate) fn open_packets(rt: &HostRuntime, name: &str) -> io::Result<Option<Input>> {
-    let mut input = buffered(rt.alloc(), open_stream(rt, name)?)?;
-    Ok(match format_of(&mut input)? {
+    let (format, input) = open_capture(rt, name)?;
+    Ok(match format {
         Format::Pcap => Some(input),
         Format::PcapNg => None,
     })
 }
 
-/// Says that a capture of blocks can't be read as it stands, and gives the status.
-pub(crate) fn tell_blocks(rt: &HostRuntime, name: &str) -> io::Result<u8> {
-    eprintln!(rt; "pcapfile: {name}: is PcapNg, of which nothing is read as it stands yet")?;
+/// Says that of a capture of blocks neither a list nor another capture is made as it stands, and gives the status.
+pub(crate) fn refuse_blocks(rt: &HostRuntime, name: &str) -> io::Result<u8> {
+    eprintln!(rt; "pcapfile: {name}: is PcapNg, which check alone reads as it stands yet")?;
     Ok(FAILED)
 }
 
@@ -107,11 +115,27 @@ pub(crate) fn tell_capture<P: Teller, R: Read + Drop, W: Write>(
     let parser = PcapParser::with_header(*opening.header())?;
     let mut reader = ReaderAsIs::with_parser(alloc, parser, input, LIMIT);
     let mut counted = Counted {
-        packets: 0,
+        items: 0,
         flawed: 0,
         bytes: HEADER,
     };
     told.fault = tell_packets(alloc, teller, &mut reader, output, &mut counted)?;
+    told.counted = counted;
+    told.read_failed = reader.failed();
+    Ok(told)
+}
+
+/// Tells each flaw of the blocks of a capture, and what refuses the next block.
+pub(crate) fn tell_blocks_of<R: Read + Drop, W: Write>(
+    alloc: Global,
+    lines: &BlockFlawLines<'_>,
+    input: R,
+    output: &mut W,
+) -> Result<Told, Exit> {
+    let mut told = Told::nothing();
+    let mut reader = PcapNgReaderAsIs::new(alloc, input);
+    let mut counted = told.counts();
+    told.fault = tell_blocks(alloc, lines, &mut reader, output, &mut counted)?;
     told.counted = counted;
     told.read_failed = reader.failed();
     Ok(told)

@@ -1,18 +1,19 @@
 //! The word `check` of captures as they stand.
 
-use crate::as_is::{Told, open_packets, tell_blocks, tell_capture};
+use crate::as_is::{Input, Told, open_capture, tell_blocks_of, tell_capture};
 use crate::output::OUTPUT;
 use crate::tell::{AT_FAULT, tell_exit, tell_io};
 use capcopy_run::{Exit, Uninterrupted};
-use pcapfile_as_is::FlawLines;
+use pcapfile_as_is::{BlockFlawLines, FlawLines};
 use pcapfile_run::{Checked, End, Format, end_of};
+use std::alloc::Global;
 use std::io;
 use std::io::{BufWriter, Write};
 
-/// The most packets that are told.
+/// The most packets or blocks that are told.
 const MOST: u64 = 18_446_744_073_709_551_614;
 
-/// Writes a line for each rule that a packet breaks and one for each capture, and gives the status: that of the worst of them.
+/// Writes a line for each flaw of a packet or block and one for each capture, and gives the status: that of the worst of them.
 pub(crate) fn check_files_as_is(rt: &HostRuntime, names: &[&str]) -> io::Result<u8> {
     let stdout = Uninterrupted::new(rt.stdout());
     let mut output = BufWriter::with_capacity(rt.alloc(), OUTPUT, stdout)?;
@@ -24,23 +25,34 @@ pub(crate) fn check_files_as_is(rt: &HostRuntime, names: &[&str]) -> io::Result<
 }
 
 fn check_file<W: Write>(rt: &HostRuntime, name: &str, output: &mut W) -> io::Result<u8> {
-    let input = match open_packets(rt, name) {
-        Ok(Some(input)) => input,
-        Ok(None) => return tell_blocks(rt, name),
+    let (format, input) = match open_capture(rt, name) {
+        Ok(opened) => opened,
         Err(error) => return tell_io(rt, name, &error),
     };
     let prefix = format!(in rt.alloc(); "{name}: ")?;
-    let mut lines = FlawLines {
-        prefix: prefix.as_str(),
-    };
-    let told = tell_capture(rt.alloc(), &mut lines, input, output);
-    tell_checked(rt, name, told, output)
+    let told = tell_flaws(rt.alloc(), format, prefix.as_str(), input, output);
+    tell_checked(rt, name, format, told, output)
+}
+
+// Writes the lines of the flaws of a capture of this format.
+fn tell_flaws<W: Write>(
+    alloc: Global,
+    format: Format,
+    prefix: &str,
+    input: Input,
+    output: &mut W,
+) -> Result<Told, Exit> {
+    match format {
+        Format::Pcap => tell_capture(alloc, &mut FlawLines { prefix }, input, output),
+        Format::PcapNg => tell_blocks_of(alloc, &BlockFlawLines { prefix }, input, output),
+    }
 }
 
 // Writes the line of a capture, and gives its status. One that can't be read has its line on standard error.
 fn tell_checked<W: Write>(
     rt: &HostRuntime,
     name: &str,
+    format: Format,
     told: Result<Told, Exit>,
     output: &mut W,
 ) -> io::Result<u8> {
@@ -52,7 +64,7 @@ fn tell_checked<W: Write>(
         }
     };
     let flawed = told.counted.flawed;
-    let checked = checked_of(told);
+    let checked = checked_of(format, told);
     let is_read = !matches!(&checked.end, End::Unread(_));
     if is_read {
         writeln!(output, "{name}: {checked}; {flawed} with flaws")?;
@@ -65,10 +77,10 @@ fn tell_checked<W: Write>(
     Ok(checked.status().max(status))
 }
 
-fn checked_of(told: Told) -> Checked {
-    let (items, bytes) = (told.counted.packets, told.counted.bytes);
+fn checked_of(format: Format, told: Told) -> Checked {
+    let (items, bytes) = (told.counted.items, told.counted.bytes);
     Checked {
-        format: Format::Pcap,
+        format,
         items,
         bytes,
         end: end_of(told.fault, told.read_failed, items, MOST),

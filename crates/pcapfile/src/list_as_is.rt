@@ -1,6 +1,6 @@
 //! The word `list` of captures as they stand.
 
-use crate::as_is::{open_packets, tell_blocks, tell_capture};
+use crate::as_is::{open_packets, refuse_blocks, tell_capture};
 use crate::output::OUTPUT;
 use crate::tell::{AT_FAULT, tell_exit, tell_io};
 use capcopy_run::{Exit, Uninterrupted};
@@ -28,7 +28,7 @@ fn list_file<W: Write>(
 ) -> io::Result<u8> {
     let input = match open_packets(rt, name) {
         Ok(Some(input)) => input,
-        Ok(None) => return tell_blocks(rt, name),
+        Ok(None) => return refuse_blocks(rt, name),
         Err(error) => return tell_io(rt, name, &error),
     };
     if is_headed {

@@ -1,6 +1,6 @@
 //! The word `repair`.
 
-use crate::as_is::{LIMIT, Told, open_header, open_packets, tell_blocks};
+use crate::as_is::{LIMIT, Told, open_header, open_packets, refuse_blocks};
 use crate::input::STANDARD;
 use crate::output::{OUTPUT, Unfinished, tell_read};
 use crate::replay::Replay;
@@ -48,7 +48,7 @@ fn repair_to<W: Write + Drop>(rt: &HostRuntime, asked: &Repair, output: W) -> io
     let from = asked.from;
     let mut input = match open_packets(rt, from) {
         Ok(Some(input)) => input,
-        Ok(None) => return tell_blocks(rt, from),
+        Ok(None) => return refuse_blocks(rt, from),
         Err(error) => return tell_io(rt, from, &error),
     };
     let mut told = Told::nothing();
@@ -83,7 +83,7 @@ fn repair_to<W: Write + Drop>(rt: &HostRuntime, asked: &Repair, output: W) -> io
 
 // Says how many packets are changed, and what the capture couldn't be read for, and gives the status.
 fn tell_end(rt: &HostRuntime, from: &str, told: &Told) -> io::Result<u8> {
-    let (packets, flawed) = (told.counted.packets, told.counted.flawed);
+    let (packets, flawed) = (told.counted.items, told.counted.flawed);
     if flawed > 0 {
         eprintln!(rt; "pcapfile: {from}: {flawed} of {packets} packets are changed")?;
     }

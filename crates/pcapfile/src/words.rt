@@ -73,9 +73,10 @@ const STATUSES: &str = "Exit status:
 const CHECK: &str =
     "Tells of each capture how many packets or blocks it has, or which rule is broken at which byte.
 
-With --as-is a packet that breaks a rule has a line for each, with its index and the byte where it
-stands, and the check goes on behind it. A packet of more than 16777216 bytes ends it, since where
-such a packet ends can't be trusted. Of PcapNg nothing is read so yet.";
+With --as-is each flaw of a packet, or of a section or an interface of PcapNg, has a line, with the
+index of the packet or block and the byte where it stands, and the check goes on behind it. A packet
+of more than 16777216 bytes ends it, since where such a packet ends can't be trusted, and so does a
+block whose frame breaks a rule.";
 
 const INFO: &str =
     "Tells of each capture what it holds: packets, bytes, times, rates, sizes, and how packets are spread over time.
@@ -111,7 +112,7 @@ const QUIET_HELP: &str =
     "Doesn't say how far a capture is read, as check, info, list, convert, cut and join do on a terminal";
 
 const AS_IS_HELP: &str =
-    "Goes on behind packets that break a rule, and tells which; of classic captures";
+    "Goes on behind what breaks a rule, and tells which; a list, of classic captures";
 
 const CONVERT: &str = "Writes a capture in the other format, or as it is where it has that format.
 

@@ -1,2 +1,3 @@
+mod SaidLines
 mod Tellings
 mod Whole

@@ -1,20 +1,28 @@
--- Packets as they stand that are counted.
-use Rattle.std.specs.Prelude.{◌+◌, ◌-◌, ◌^◌, ℕ, List, Bool, min, sum_by, if◌then◌else◌}
-use Rattle.pcap_tolerant.specs.declared.as_is.Flaws.{Flaws}
+-- Packets and blocks as they stand that are counted.
+use Rattle.std.specs.Prelude.{◌+◌, ◌-◌, ◌^◌, ◌==◌, ℕ, length, Bool, not, min, if◌then◌else◌}
 use Rattle.pcap_tolerant.specs.AsIs.{AsIs, breaks_one}
+use Rattle.pcap_tolerant_captures.specs.Blocks.{Item}
 
 -- a number as it is counted: the largest of 64 bits stands for all above it
 abbrev pub counted : ℕ → ℕ
 counted n = min n (2 ^ 64 - 1)
 
+-- one where something holds
+abbrev pub one_if : Bool → ℕ
+one_if holds = if holds then 1 else 0
+
 -- the packet breaks a rule
 abbrev pub has_flaw : AsIs → Bool
 has_flaw packet = breaks_one packet.flaws
 
--- one where a rule is broken
-abbrev pub flaw_count : Flaws → ℕ
-flaw_count flaws = if breaks_one flaws then 1 else 0
+-- the bytes of a packet with its head, as this states them
+abbrev pub size_of : AsIs → ℕ
+size_of packet = 16 + packet.head.included
 
--- the bytes of packets with their heads, as these state them
-abbrev pub size_of : List AsIs → ℕ
-size_of packets = sum_by (λ packet. 16 + packet.head.included) packets
+-- something is wrong with the body of a block
+abbrev pub is_flawed : Item → Bool
+is_flawed item = not (length item.led.flaws == 0)
+
+-- the bytes of a block
+abbrev pub block_size : Item → ℕ
+block_size item = item.block.initial_len

@@ -1,3 +1,4 @@
+pub mod BlockLines
 pub mod Counts
 pub mod FlawLines
 pub mod Lists

@@ -1,32 +1,47 @@
-//! Packets as they stand that are counted.
+//! Packets and blocks as they stand that are counted.
 
 ghost use Rattle.std.specs.Prelude.{◌≡◌, ◌+◌};
-ghost use Rattle.pcapfile_as_is.specs.Counts.{counted, flaw_count};
+ghost use Rattle.pcap_tolerant.specs.AsIs.{breaks_one};
+ghost use Rattle.pcapfile_as_is.specs.Counts.{counted, one_if};
 
 use pcap_tolerant::HeadAsIs;
 
-/// How many packets there were, and where the next one stands. The largest number of 64 bits stands for all above it.
+/// How many packets or blocks there were, and where the next one stands. The largest number of 64 bits stands for all above it.
 #[derive(Clone, Copy, Debug, PartialEq, Eq)]
 pub struct Counted {
-    /// How many packets.
-    pub packets: u64,
-    /// How many of them break a rule.
+    /// How many packets or blocks.
+    pub items: u64,
+    /// How many of them have a flaw.
     pub flawed: u64,
     /// How many bytes stand before the next one.
     pub bytes: u64,
 }
 
+// One where something holds.
+fn count_if(holds: bool) -> u64
+    ensures { result ≡ one_if holds }
+{
+    if holds { 1 } else { 0 }
+}
+
 impl Counted {
     /// One packet more, of this head.
     pub fn add(&mut self, head: &HeadAsIs)
-        ensures packets { self.new.packets ≡ counted (self.old.packets + 1) }
-        ensures flawed { self.new.flawed ≡ counted (self.old.flawed + flaw_count head.now.flaws) }
+        ensures items { self.new.items ≡ counted (self.old.items + 1) }
+        ensures flawed { self.new.flawed ≡ counted (self.old.flawed + one_if (breaks_one head.now.flaws)) }
         ensures bytes { self.new.bytes ≡ counted (self.old.bytes + (16 + head.now.incl_len)) }
     {
-        self.packets = self.packets.saturating_add(1);
-        if head.flaws.is_broken() {
-            self.flawed = self.flawed.saturating_add(1);
-        }
-        self.bytes = self.bytes.saturating_add(16 + u64::from(head.incl_len));
+        self.add_item(16 + u64::from(head.incl_len), head.flaws.is_broken());
+    }
+
+    /// One packet or block more, of so many bytes, which has a flaw or none.
+    pub fn add_item(&mut self, bytes: u64, is_flawed: bool)
+        ensures items { self.new.items ≡ counted (self.old.items + 1) }
+        ensures flawed { self.new.flawed ≡ counted (self.old.flawed + one_if is_flawed) }
+        ensures bytes { self.new.bytes ≡ counted (self.old.bytes + bytes) }
+    {
+        self.items = self.items.saturating_add(1);
+        self.flawed = self.flawed.saturating_add(count_if(is_flawed));
+        self.bytes = self.bytes.saturating_add(bytes);
     }
 }

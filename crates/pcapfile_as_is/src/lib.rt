@@ -1,7 +1,9 @@
-//! Classic captures as strangers write them, at the shell: what is wrong with their packets, lists of these, and captures without
-//! flaws that are made of them.
+//! Captures as strangers write them, at the shell: what is wrong with the packets of classic ones and the blocks of PcapNg, lists of
+//! packets, and captures without flaws that are made of them.
 #![tactic(auto)]
 
+mod block_flaws;
+mod block_telling;
 mod counted;
 mod flaws;
 pub mod laws;
@@ -11,6 +13,8 @@ mod repairs;
 mod teller;
 mod telling;
 
+pub use block_flaws::BlockFlawLines;
+pub use block_telling::tell_blocks;
 pub use counted::Counted;
 pub use flaws::FlawLines;
 pub use listed::PacketLines;

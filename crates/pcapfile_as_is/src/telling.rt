@@ -4,6 +4,7 @@ ghost use Rattle.std.specs.Prelude.{◌≡◌, ◌<◌, ◌^◌, false, MatchRes
 ghost use Rattle.pcap_classic.specs.Magic.{resolution_of};
 ghost use Rattle.pcap_tolerant.specs.ReaderAsIs.{stream_of, header_read, limit_of, has_failed, is_done};
 ghost use Rattle.pcap_tolerant.specs.Run.{as_is_under};
+ghost use Rattle.pcapfile_as_is.specs.Counts.{has_flaw, size_of};
 ghost use Rattle.pcapfile_as_is.specs.Texts.{TellsItems, TellsTorn};
 
 use crate::counted::Counted;
@@ -27,15 +28,15 @@ pub fn tell_packets<P: Teller, T: Read + Drop, W: Write>(
 ) -> Result<Option<PcapError>, Exit>
     requires ready { is_done reader.old ≡ false }
     requires unfailed { has_failed reader.old ≡ false }
-    requires packets { counted.old.packets < 2 ^ 64 }
+    requires items { counted.old.items < 2 ^ 64 }
     requires flawed { counted.old.flawed < 2 ^ 64 }
     requires bytes { counted.old.bytes < 2 ^ 64 }
     ensures same { P.setting teller.new ≡ P.setting teller.old }
     ensures told { let f = as_is_under (limit_of reader.old) (header_read reader.old) in
         let text = P.text (P.setting teller.old) (resolution_of (header_read reader.old).magic_number) in
         MatchResult result
-        (λ fault. TellsItems f text (T.remaining (stream_of reader.old)) (T.remaining (stream_of reader.new)) (W.contents output.old) (W.contents output.new) (has_failed reader.new) 18446744073709551614 counted.old counted.new fault)
-        (λ exit. TellsTorn f text (T.remaining (stream_of reader.old)) (T.remaining (stream_of reader.new)) (W.contents output.old) (W.contents output.new) counted.old exit) }
+        (λ fault. TellsItems f tt size_of has_flaw text (T.remaining (stream_of reader.old)) (T.remaining (stream_of reader.new)) (W.contents output.old) (W.contents output.new) (has_failed reader.new) 18446744073709551614 counted.old counted.new fault)
+        (λ exit. TellsTorn f tt size_of has_flaw text (T.remaining (stream_of reader.old)) (T.remaining (stream_of reader.new)) (W.contents output.old) (W.contents output.new) counted.old exit) }
 {
     let ts_resolution = reader.ts_resolution();
     for turn in 0..MOST {
@@ -44,7 +45,7 @@ pub fn tell_packets<P: Teller, T: Read + Drop, W: Write>(
             Some(Err(error)) => return Ok(Some(error)),
             Some(Ok(head)) => {
                 let packet = reader.packet(head);
-                let number = counted.packets.saturating_add(1);
+                let number = counted.items.saturating_add(1);
                 teller.put(alloc, output, ts_resolution, number, counted.bytes, &packet)?;
                 counted.add(&head);
             }

@@ -1,14 +1,19 @@
-//! What is written of packets as they stand: lines of them, of what is wrong with them, and packets that break no rule.
+//! What is written of packets and blocks as they stand: lines of them, of what is wrong with them, and packets that break no rule.
 
+use crate::block_rows::{NUMBERS, OPTIONS};
 use crate::packets::packet;
 use crate::streams::capture;
 use byteorder::LittleEndian;
 use pcap_core::Endianness;
 use pcap_tolerant::ReaderAsIs;
-use pcapfile_as_is::{Counted, FlawLines, PacketLines, Repairs, Teller, tell_packets};
+use pcap_tolerant_captures::PcapNgReaderAsIs;
+use pcapfile_as_is::{
+    BlockFlawLines, Counted, FlawLines, PacketLines, Repairs, Teller, tell_blocks, tell_packets,
+};
 use std::alloc::Global;
 use std::test::Fail;
 use test_support::readers::Halting;
+use test_support::rows::{bytes, rows};
 use test_support::writers::Narrow;
 
 const LINES: &str = "1 7.000005000 3/3
@@ -22,7 +27,7 @@ a: packet 3 at byte 62 breaks rule 5: PacketHeader incl_len > orig_len
 ";
 
 const COUNTED: Counted = Counted {
-    packets: 3,
+    items: 3,
     flawed: 2,
     bytes: 81,
 };
@@ -34,7 +39,7 @@ fn written<P: Teller>(alloc: Global, teller: &mut P) -> Result<Vec<u8>, Fail> {
     let mut reader = ReaderAsIs::new(alloc, stream, 0)?;
     let mut output = Narrow::new(alloc, 4096, true);
     let mut counted = Counted {
-        packets: 0,
+        items: 0,
         flawed: 0,
         bytes: 24,
     };
@@ -66,5 +71,62 @@ fn repairs(rt: HostRuntime) -> Result<(), Fail> {
     sound.extend_from_slice(&packet::<LittleEndian>([12, 294_968, 3, 3], [4, 5, 6]))?;
     sound.extend_from_slice(&packet::<LittleEndian>([9, 0, 3, 3], [7, 8, 9]))?;
     assert!(rt; out.as_slice() == sound.as_slice());
+    Ok(())
+}
+
+// Of the first capture of the table of options, in either order.
+const BLOCK_FLAWS: &str = "a: block 1 at byte 0 is not UTF-8 in option 1
+a: block 2 at byte 48 is not UTF-8 in option 1
+a: block 2 at byte 48 breaks rule 1901 in option 4: InterfaceDescriptionOption: IfIpv4Addr length != 8
+a: block 2 at byte 48 breaks rule 1905 in option 8: InterfaceDescriptionOption: IfSpeed length != 8
+";
+
+// Of the first capture of the table of numbers.
+const NUMBER_FLAWS: &str =
+    "a: block 2 at byte 28 breaks rule 12: InterfaceDescriptionBlock: block length < 8
+a: block 7 at byte 184 breaks rule 18: Option: length + pad.len() > slice.len()
+a: block 9 at byte 256 breaks rule 1906 in option 9: InterfaceDescriptionOption: IfTsResol length != 1
+";
+
+// What is written of the blocks of the capture in these digits, all of which are told, and how many have flaws.
+fn written_of_blocks(alloc: Global, digits: &str) -> Result<(Vec<u8>, Counted), Fail> {
+    let capture = bytes(alloc, digits)?;
+    let stream = Halting::new(alloc, capture.as_slice(), 9)?;
+    let mut reader = PcapNgReaderAsIs::new(alloc, stream);
+    let mut output = Narrow::new(alloc, 4096, true);
+    let mut counted = Counted {
+        items: 0,
+        flawed: 0,
+        bytes: 0,
+    };
+    let lines = BlockFlawLines { prefix: "a: " };
+    match tell_blocks(alloc, &lines, &mut reader, &mut output, &mut counted) {
+        Ok(None) => Ok((output.out, counted)),
+        _ => Ok((Vec::new(alloc), counted)),
+    }
+}
+
+// Whether of the first capture of a table these lines are written, of so many blocks with flaws.
+fn tells(alloc: Global, table: &str, lines: &str, wanted: Counted) -> Result<bool, Fail> {
+    let table = rows(alloc, table)?;
+    let (digits, _) = table.first().ok_or("a row")?;
+    let (out, counted) = written_of_blocks(alloc, digits)?;
+    Ok(out.as_slice() == lines.as_bytes() && counted == wanted)
+}
+
+#[test]
+fn lines_of_blocks(rt: HostRuntime) -> Result<(), Fail> {
+    let counted = Counted {
+        items: 4,
+        flawed: 2,
+        bytes: 216,
+    };
+    assert!(rt; tells(rt.alloc(), OPTIONS, BLOCK_FLAWS, counted)?);
+    let counted = Counted {
+        items: 11,
+        flawed: 3,
+        bytes: 364,
+    };
+    assert!(rt; tells(rt.alloc(), NUMBERS, NUMBER_FLAWS, counted)?);
     Ok(())
 }

@@ -1,0 +1,39 @@
+-- The lines of the flaws of blocks.
+use Rattle.std.specs.Prelude.{ℕ, List, [], ◌∷◌, ◌++◌, codes, Option, None, Some}
+use Rattle.std.specs.Fmt.{decimal}
+use Rattle.pcap_core.specs.Faults.{Fault, Invalid, Io, Utf8, rule_message}
+use Rattle.pcap_core.specs.Rules.{number_of}
+use Rattle.pcap_tolerant_blocks.specs.Flaws.{Said}
+use Rattle.pcap_tolerant_captures.specs.Blocks.{Item}
+
+-- where the block of this number stands, which has so many bytes before it
+abbrev pub block_place : List ℕ → ℕ → ℕ → List ℕ
+block_place prefix number place = prefix ++ (codes "block " ++ (decimal number ++ (codes " at byte " ++ decimal place)))
+
+-- in which option a flaw is, where it is in one
+abbrev pub option_text : Option ℕ → List ℕ
+option_text None = []
+option_text (Some code) = codes " in option " ++ decimal code
+
+-- the line of a rule of this number and message that is broken at a place
+abbrev pub broken_rule : List ℕ → ℕ → List ℕ → List ℕ → List ℕ
+broken_rule place number option message = place ++ (codes " breaks rule " ++ (decimal number ++ (option ++ (codes ": " ++ (message ++ codes "\n")))))
+
+-- the line of a fault
+abbrev pub fault_line : List ℕ → List ℕ → Fault → List ℕ
+fault_line place option (Invalid rule) = broken_rule place (number_of rule) option (rule_message rule)
+fault_line place option Io = place ++ (codes " is too short" ++ (option ++ codes "\n"))
+fault_line place option Utf8 = place ++ (codes " is not UTF-8" ++ (option ++ codes "\n"))
+
+-- the line of a flaw
+abbrev pub said_line : List ℕ → Said → List ℕ
+said_line place said = fault_line place (option_text said.code) said.fault
+
+-- the lines of flaws, in their order
+abbrev pub said_lines : List ℕ → List Said → List ℕ
+said_lines place [] = []
+said_lines place (said ∷ others) = said_line place said ++ said_lines place others
+
+-- the lines of the block of this number that stands behind so many bytes
+abbrev pub block_lines : List ℕ → ℕ → ℕ → Item → List ℕ
+block_lines prefix number place item = said_lines (block_place prefix number place) item.led.flaws

@@ -1,0 +1,119 @@
+//! A line for each flaw of a block.
+
+ghost use Rattle.std.specs.Prelude.{◌≡◌, map, take, IfOk, string_bytes};
+ghost use Rattle.pcap_core.specs.Faults.{Invalid};
+ghost use Rattle.pcap_tolerant_blocks.specs.Flaws.{fault_of, said_of};
+ghost use Rattle.pcapfile_as_is.specs.BlockLines.{block_place, broken_rule, fault_line, option_text, said_line, said_lines};
+
+use capcopy_run::{Exit, put_line};
+use pcap_core::rules::Rule;
+use pcap_tolerant_blocks::{Broken, Flaw};
+use std::alloc::{AllocError, Global};
+use std::io::Write;
+
+/// Writes a line for each flaw of a block's body: what stands before each line, the block's number, where it stands, the rule's number
+/// and message, and the code of the option whose value it is.
+#[derive(Clone, Copy, Debug, Drop)]
+pub struct BlockFlawLines<'a> {
+    /// What stands before each line.
+    pub prefix: &'a str,
+}
+
+// Where the block of this number stands.
+fn place_of(alloc: Global, prefix: &str, number: u64, place: u64) -> Result<String, AllocError>
+    ensures { IfOk result (λ text. string_bytes text ≡ block_place prefix.now number place) }
+{
+    format!(in alloc; "{prefix}block {number} at byte {place}")
+}
+
+// In which option it is.
+fn option_of(alloc: Global, code: Option<u16>) -> Result<String, AllocError>
+    ensures { IfOk result (λ text. string_bytes text ≡ option_text code) }
+{
+    match code {
+        None => Ok(String::new(alloc)),
+        Some(code) => format!(in alloc; " in option {code}"),
+    }
+}
+
+// The line of a rule of this number and message.
+fn rule_line(
+    alloc: Global,
+    place: &str,
+    number: u32,
+    option: &str,
+    message: &str,
+) -> Result<String, AllocError>
+    ensures { IfOk result (λ line. string_bytes line ≡ broken_rule place.now number option.now message.now) }
+{
+    format!(in alloc; "{place} breaks rule {number}{option}: {message}\n")
+}
+
+// The line of a rule that is broken in an option, or in none.
+fn rule_flaw(alloc: Global, place: &str, option: &str, rule: Rule) -> Result<String, AllocError>
+    ensures { IfOk result (λ line. string_bytes line ≡ fault_line place.now option.now (Invalid rule)) }
+{
+    rule_line(alloc, place, rule.number(), option, rule.text())
+}
+
+// The line of what stands against an option, or against none.
+fn broken_line(
+    alloc: Global,
+    place: &str,
+    option: &str,
+    broken: Broken,
+) -> Result<String, AllocError>
+    ensures { IfOk result (λ line. string_bytes line ≡ fault_line place.now option.now (fault_of broken)) }
+{
+    match broken {
+        Broken::Rule(rule) => rule_flaw(alloc, place, option, rule),
+        Broken::NotUtf8 => format!(in alloc; "{place} is not UTF-8{option}\n"),
+        Broken::TooShort => format!(in alloc; "{place} is too short{option}\n"),
+    }
+}
+
+// The line of a flaw.
+fn line_of(alloc: Global, place: &str, flaw: Flaw) -> Result<String, AllocError>
+    ensures { IfOk result (λ line. string_bytes line ≡ said_line place.now (said_of flaw)) }
+{
+    let within = option_of(alloc, flaw.code)?;
+    broken_line(alloc, place, within.as_str(), flaw.broken)
+}
+
+// The lines of the flaws.
+fn lines_of(alloc: Global, place: &str, flaws: &[Flaw]) -> Result<String, AllocError>
+    ensures { IfOk result (λ lines. string_bytes lines ≡ said_lines place.now (map said_of flaws.now)) }
+{
+    let mut lines = String::new(alloc);
+    let mut told = 0;
+    while told < flaws.len() {
+        let line = line_of(alloc, place, flaws[told])?;
+        lines.push_str(line.as_str())?;
+        told += 1;
+    }
+    Ok(lines)
+}
+
+impl BlockFlawLines<'_> {
+    ghost use Rattle.capcopy_run.specs.Lines.{WritesLine};
+
+    /// Writes the lines of the block of this number, which stands behind so many bytes of its capture. An error of the output is
+    /// `Io`; `Memory` where the lines can't be made.
+    pub fn put<W: Write>(
+        &self,
+        alloc: Global,
+        output: &mut W,
+        number: u64,
+        place: u64,
+        flaws: &[Flaw],
+    ) -> Result<(), Exit>
+        ensures { WritesLine (λ line. line ≡ said_lines (block_place self.now.prefix.now number place) (map said_of flaws.now)) (W.contents output.old) (W.contents output.new) result }
+    {
+        if flaws.is_empty() {
+            return Ok(());
+        }
+        let place = place_of(alloc, self.prefix, number, place)?;
+        let lines = lines_of(alloc, place.as_str(), flaws)?;
+        put_line(output, lines.as_bytes())
+    }
+}
