@@ -1,14 +1,25 @@
 -- What is told of captures, as JSON.
-use Rattle.std.specs.Prelude.{◌≡◌, ◌+◌, ◌-◌, ℕ, List, String, map, codes, count_by, string_bytes, zip, Option, None, Some, option_and_then, option_map}
+use Rattle.std.specs.Prelude.{◌≡◌, ◌+◌, ◌-◌, ◌++◌, ℕ, List, String, map, codes, count_by, string_bytes, zip, if◌then◌else◌, Option, None, Some, IfSome, option_and_then, option_map}
 use Rattle.std.specs.List.{AllZip, range_with_len}
+use Rattle.std.specs.Fmt.{decimal}
 use Rattle.std.specs.Global.{Global}
 use Rattle.serde_json.specs.Data.{Data, Members, array, no_members, null, number, object, string, unsigned, put}
 use Rattle.serde_json.specs.View.{items_of}
 use Rattle.pcap_core.specs.Link.{link_number}
+use Rattle.pcap_core.specs.declared.common.Endianness.{Endianness}
+use Rattle.pcap_core.specs.declared.common.Endianness.TheVariants.{Big, Little}
+use Rattle.pcap_core.specs.declared.link.DataLink.{DataLink}
+use Rattle.pcap_classic.specs.Magic.{is_magic, order_of, resolution_of}
+use Rattle.pcap_classic.specs.declared.common.TsResolution.{TsResolution}
+use Rattle.pcap_classic.specs.declared.common.TsResolution.TheVariants.{MicroSecond, NanoSecond}
+use Rattle.pcap_classic.specs.declared.pcap.header.PcapHeader.{PcapHeader}
 use Rattle.pcap_times.specs.declared.clock.Timestamp.{Timestamp}
+use Rattle.pcapfile_run.specs.Lines.{format_name, line_of, status_of}
 use Rattle.pcapfile_run.specs.Passing.{counted}
+use Rattle.pcapfile_run.specs.declared.checked.Checked.{Checked}
 use Rattle.pcapfile_info.specs.declared.captures.Information.{Information}
 use Rattle.pcapfile_info.specs.declared.described.Described.{Described}
+use Rattle.pcapfile_info.specs.declared.described.Opened.{Opened}
 use Rattle.pcapfile_info.specs.declared.spread.Spread.{Spread}
 use Rattle.pcapfile_info.specs.declared.tally.Tally.{Tally}
 use Rattle.pcapfile_info.specs.Spreads.{Rows, lies_in}
@@ -102,16 +113,19 @@ abbrev pub text_or_null : Option (String Global) → Data
 text_or_null None = null
 text_or_null (Some text) = text_data text
 
+-- a link type: its number, and this name
+abbrev pub with_link : DataLink → Data → Members → Members
+with_link link name members = put (codes "link_name") name (put (codes "link") (number_data (link_number link)) members)
+
 -- how an interface is described, whose link type has this name
 abbrev pub with_description : Described → Data → Members → Members
 with_description described link_name members =
-    put (codes "link_name") link_name
-    (put (codes "link") (number_data (link_number described.link))
+    with_link described.link link_name
     (put (codes "comments") (texts_data described.comments.items)
     (put (codes "name") (text_or_null described.name)
     (put (codes "snaplen") (number_data described.snaplen)
     (put (codes "number") (number_data described.number)
-    (put (codes "section") (number_data described.section) members))))))
+    (put (codes "section") (number_data described.section) members)))))
 
 -- what is told of an interface: how it is described, the figures of its packets, and how they are spread over time
 abbrev pub TellsInterface : Described × Tally → Data → Type 0
@@ -119,15 +133,75 @@ TellsInterface interface shown =
     (link_name : Data) × (spread : Data) × TellsSpread interface.1.spread spread
     × (shown ≡ object (put (codes "over_time") spread (with_figures interface.1 (with_description interface.0 link_name no_members))))
 
--- what is told of a capture: the figures of its packets and how they are spread over time, each of its interfaces, and comments,
--- beside how its file is made
-abbrev pub Tells : Information → Data → Type 0
-Tells told shown =
-    (made : Members) × (spread : Data) × (interfaces : List Data) × TellsSpread told.totals.all.spread spread
+-- a version
+abbrev pub version_data : ℕ → ℕ → Data
+version_data major minor = string (decimal major ++ (codes "." ++ decimal minor))
+
+-- the order of numbers
+abbrev pub order_data : Endianness → Data
+order_data Big = string (codes "big-endian")
+order_data Little = string (codes "little-endian")
+
+-- the resolution of times
+abbrev pub resolution_data : TsResolution → Data
+resolution_data MicroSecond = string (codes "microseconds")
+resolution_data NanoSecond = string (codes "nanoseconds")
+
+-- the order of numbers and the resolution of times, where a magic number says them
+abbrev pub with_kind : ℕ → Members → Members
+with_kind magic members =
+    if is_magic magic
+    then put (codes "resolution") (resolution_data (resolution_of magic)) (put (codes "order") (order_data (order_of magic)) members)
+    else members
+
+-- how a classic capture is made, whose link type has this name
+abbrev pub with_header : PcapHeader → Data → Members → Members
+with_header header link_name members =
+    with_kind header.magic_number (with_link header.datalink link_name
+    (put (codes "snaplen") (number_data header.snaplen)
+    (put (codes "version") (version_data header.version_major header.version_minor) members)))
+
+-- behind other members stands how a classic capture is made, if it is one
+abbrev pub TellsHeader : Option PcapHeader → Members → Members → Type 0
+TellsHeader None before after = after ≡ before
+TellsHeader (Some header) before after = (link_name : Data) × (after ≡ with_header header link_name before)
+
+-- how a capture of blocks is made, if it is one
+abbrev pub with_opened : Option Opened → Members → Members
+with_opened None members = members
+with_opened (Some opened) members =
+    put (codes "order") (order_data opened.order)
+    (put (codes "version") (version_data opened.major_version opened.minor_version) members)
+
+-- the name of a file, its format, and what a check finds, which is a line too
+abbrev pub with_check : List ℕ → Checked → List ℕ → Members → Members
+with_check name checked line members =
+    put (codes "bytes") (number_data checked.bytes)
+    (put (codes "status") (number_data (status_of checked.end))
+    (put (codes "check") (string line)
+    (put (codes "format") (string (format_name checked.format))
+    (put (codes "file") (string name) members))))
+
+-- behind other members stand the name of a file, its format, and what a check finds, which is a line too
+abbrev pub TellsCheck : List ℕ → Checked → Members → Members → Type 0
+TellsCheck name checked before after =
+    (line : List ℕ) × IfSome (line_of checked) (λ known. line ≡ known) × (after ≡ with_check name checked line before)
+
+-- and behind these how the file is made
+abbrev pub TellsFile : List ℕ → Information → Members → Members → Type 0
+TellsFile name told before after =
+    (checked made : Members) × TellsCheck name told.checked before checked × TellsHeader told.header checked made
+    × (after ≡ with_opened told.opened made)
+
+-- what is told of a capture of this name: its file, comments and interfaces, how its packets are spread over time, and their figures
+abbrev pub Tells : List ℕ → Information → Data → Type 0
+Tells name told shown =
+    (file : Members) × (spread : Data) × (interfaces : List Data)
+    × TellsFile name told no_members file × TellsSpread told.totals.all.spread spread
     × AllZip TellsInterface (zip told.described.items told.totals.interfaces.items) interfaces
     × (shown ≡ object (with_figures told.totals.all
     (put (codes "refused") (number_data told.totals.refused)
     (put (codes "sections") (number_data (counted (told.totals.sections + 1)))
     (put (codes "over_time") spread
     (put (codes "interfaces") (array (items_of interfaces))
-    (put (codes "comments") (texts_data told.comments.items) made)))))))
+    (put (codes "comments") (texts_data told.comments.items) file)))))))

@@ -1,5 +1,9 @@
 //! What is told of a capture.
 
+ghost use Rattle.std.specs.Prelude.{◌≡◌};
+ghost use Rattle.serde_json.specs.Data.{string};
+ghost use Rattle.pcapfile_shown.specs.Json.{order_data, resolution_data};
+
 use crate::figures::Figures;
 use crate::interfaces::Interfaces;
 use pcap_file::pcap::PcapHeader;
@@ -28,14 +32,18 @@ struct Sections<'a> {
     opened: Opened,
 }
 
-pub(crate) fn order_name(order: Endianness) -> &'static str {
+pub(crate) fn order_name(order: Endianness) -> &'static str
+    ensures { string result.now ≡ order_data order }
+{
     match order {
         Endianness::Big => "big-endian",
         Endianness::Little => "little-endian",
     }
 }
 
-pub(crate) fn resolution_name(resolution: TsResolution) -> &'static str {
+pub(crate) fn resolution_name(resolution: TsResolution) -> &'static str
+    ensures { string result.now ≡ resolution_data resolution }
+{
     match resolution {
         TsResolution::MicroSecond => "microseconds",
         TsResolution::NanoSecond => "nanoseconds",

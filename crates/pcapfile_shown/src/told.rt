@@ -1,22 +1,25 @@
 //! What is told of captures, as JSON.
 
-ghost use Rattle.std.specs.Prelude.{◌≡◌, List, codes, zip, IfOk, OnOk};
+ghost use Rattle.std.specs.Prelude.{◌≡◌, List, zip, string_bytes, IfOk, OnOk};
 ghost use Rattle.std.specs.List.{AllZip};
-ghost use Rattle.serde_json.specs.Data.{Data, Members, array, put};
+ghost use Rattle.serde_json.specs.Data.{Data, Members, array};
 ghost use Rattle.serde_json.specs.View.{items_of, members_view, view};
-ghost use Rattle.pcap_core.specs.Link.{link_number};
-ghost use Rattle.pcapfile_shown.specs.Json.{number_data, Tells, TellsInterface, text_or_null, texts_data, with_description};
+ghost use Rattle.serde_json.specs.Written.{IsInOrder};
+ghost use Rattle.pcapfile_run.specs.Lines.{format_name};
+ghost use Rattle.pcapfile_shown.specs.Json.{Tells, TellsCheck, TellsFile, TellsHeader, TellsInterface, text_or_null, texts_data, with_description, with_link, with_opened};
 
 use crate::json::{put_figures, spread_or_null};
 use crate::report::{order_name, resolution_name};
 use pcap_core::DataLink;
 use pcap_file::pcap::PcapHeader;
 use pcapfile_info::{Described, Information, Opened, Tally};
-use pcapfile_run::Format;
+use pcapfile_run::{Checked, Format};
 use serde_json::{Map, Value, push, put};
 use std::alloc::{AllocError, Global};
 
-fn format_name(format: Format) -> &'static str {
+fn name_of(format: Format) -> &'static str
+    ensures { result.now ≡ format_name format }
+{
     match format {
         Format::Pcap => "pcap",
         Format::PcapNg => "pcapng",
@@ -46,19 +49,24 @@ fn text_or_null(alloc: Global, text: &Option<String>) -> Result<Value, AllocErro
 
 // The number of a link type, and its name.
 fn put_link(map: &mut Map<String, Value>, alloc: Global, link: DataLink) -> Result<(), AllocError>
-    ensures { OnOk result ((name : Data) × (members_view map.new.entries ≡ put (codes "link_name") name (put (codes "link") (number_data (link_number link)) (members_view map.old.entries)))) }
+    ensures { OnOk result ((name : Data) × (members_view map.new.entries ≡ with_link link name (members_view map.old.entries))) }
 {
     let name = format!(in alloc; "{link:?}")?;
     put(map, alloc, "link", Value::from(u32::from(link)))?;
     put(map, alloc, "link_name", Value::String(name))
 }
 
-// How a classic capture is made.
+// How a classic capture is made, if it is one.
 fn put_header(
     map: &mut Map<String, Value>,
     alloc: Global,
-    header: &PcapHeader,
-) -> Result<(), AllocError> {
+    header: &Option<PcapHeader>,
+) -> Result<(), AllocError>
+    ensures { OnOk result (TellsHeader header.now (members_view map.old.entries) (members_view map.new.entries)) }
+{
+    let Some(header) = header else {
+        return Ok(());
+    };
     let major = header.version_major;
     let minor = header.version_minor;
     let version = format!(in alloc; "{major}.{minor}")?;
@@ -74,12 +82,17 @@ fn put_header(
     put(map, alloc, "resolution", resolution)
 }
 
-// How a capture of blocks is made.
+// How a capture of blocks is made, if it is one.
 fn put_opened(
     map: &mut Map<String, Value>,
     alloc: Global,
-    opened: Opened,
-) -> Result<(), AllocError> {
+    opened: Option<Opened>,
+) -> Result<(), AllocError>
+    ensures { OnOk result (members_view map.new.entries ≡ with_opened opened (members_view map.old.entries)) }
+{
+    let Some(opened) = opened else {
+        return Ok(());
+    };
     let major = opened.major_version;
     let minor = opened.minor_version;
     let version = format!(in alloc; "{major}.{minor}")?;
@@ -128,37 +141,42 @@ fn interfaces(alloc: Global, told: &Information) -> Result<Value, AllocError>
     Ok(Value::Array(values))
 }
 
+// The name of a file, its format, and what a check finds.
+fn put_check(
+    map: &mut Map<String, Value>,
+    alloc: Global,
+    name: &str,
+    checked: &Checked,
+) -> Result<(), AllocError>
+    ensures { OnOk result (TellsCheck name.now checked.now (members_view map.old.entries) (members_view map.new.entries)) }
+{
+    let line = format!(in alloc; "{checked}")?;
+    let name = Value::try_from_str(alloc, name)?;
+    let format = Value::try_from_str(alloc, name_of(checked.format))?;
+    put(map, alloc, "file", name)?;
+    put(map, alloc, "format", format)?;
+    put(map, alloc, "check", Value::String(line))?;
+    put(map, alloc, "status", Value::from(checked.status()))?;
+    put(map, alloc, "bytes", Value::from(checked.bytes))
+}
+
 // What a check finds, and how the file is made.
 fn put_file(
     map: &mut Map<String, Value>,
     alloc: Global,
     name: &str,
     told: &Information,
-) -> Result<(), AllocError> {
-    let checked = &told.checked;
-    let check = format!(in alloc; "{checked}")?;
-    put(map, alloc, "file", Value::try_from_str(alloc, name)?)?;
-    put(
-        map,
-        alloc,
-        "format",
-        Value::try_from_str(alloc, format_name(checked.format))?,
-    )?;
-    put(map, alloc, "check", Value::String(check))?;
-    put(map, alloc, "status", Value::from(checked.status()))?;
-    put(map, alloc, "bytes", Value::from(checked.bytes))?;
-    if let Some(header) = &told.header {
-        put_header(map, alloc, header)?;
-    }
-    if let Some(opened) = told.opened {
-        put_opened(map, alloc, opened)?;
-    }
-    Ok(())
+) -> Result<(), AllocError>
+    ensures { OnOk result (TellsFile name.now told.now (members_view map.old.entries) (members_view map.new.entries)) }
+{
+    put_check(map, alloc, name, &told.checked)?;
+    put_header(map, alloc, &told.header)?;
+    put_opened(map, alloc, told.opened)
 }
 
 /// What is told of a capture of this name, as an object of JSON.
 pub fn told_of(alloc: Global, name: &str, told: &Information) -> Result<Value, AllocError>
-    ensures { IfOk result (λ v. Tells told.now (view v)) }
+    ensures { IfOk result (λ v. Tells name.now told.now (view v)) }
 {
     let comments = texts(alloc, told.comments.as_slice())?;
     let interfaces = interfaces(alloc, told)?;
@@ -175,7 +193,9 @@ pub fn told_of(alloc: Global, name: &str, told: &Information) -> Result<Value, A
     Ok(Value::Object(map))
 }
 
-/// The same as text, in one line.
-pub fn json_of(alloc: Global, name: &str, told: &Information) -> Result<String, AllocError> {
+/// The same as text, in one line: each member once, in the order of their names.
+pub fn json_of(alloc: Global, name: &str, told: &Information) -> Result<String, AllocError>
+    ensures { IfOk result (λ text. (shown : Data) × Tells name.now told.now shown × IsInOrder (string_bytes text) shown) }
+{
     told_of(alloc, name, told)?.to_string(alloc)
 }
