@@ -14,9 +14,8 @@ use test_support::rows::{bytes, rows};
 type Reader = PcapNgReaderAsIs<Halting>;
 
 // A section header of 28 bytes, an interface of 20 and a packet of 36.
-const CAPTURE: &str = "
-    0a0d0d0a 1c000000 4d3c2b1a 01000000 ffffffff ffffffff 1c000000 01000000 14000000 01000000 00000400 14000000 06000000 24000000 00000000 00000000 07000000 01000000 01000000 aa000000 24000000 =>
-";
+const CAPTURE: &str =
+    "0a0d0d0a 1c000000 4d3c2b1a 01000000 ffffffff ffffffff 1c000000 01000000 14000000 01000000 00000400 14000000 06000000 24000000 00000000 00000000 07000000 01000000 01000000 aa000000 24000000";
 
 // What is told of a block that the reader lends: its type and what is wrong with it, and of a packet what is wrong with that, and
 // its time.
@@ -90,9 +89,7 @@ fn blocks_of_streams(rt: HostRuntime) -> Result<(), Fail> {
 
 // The bytes of the small capture.
 fn capture(alloc: Global) -> Result<Vec<u8>, Fail> {
-    let table = rows(alloc, CAPTURE)?;
-    let (digits, _) = table.first().ok_or("a row")?;
-    bytes(alloc, digits)
+    bytes(alloc, CAPTURE)
 }
 
 // How many bytes were taken behind the next block, and how many of them it lends in whole and as its body.
