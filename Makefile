@@ -34,7 +34,7 @@ COPIES = crates/capcopy/out/capcopy
 FILES = crates/pcapfile/out/pcapfile
 LIBRARIES = pcap_core pcap_times pcap_classic pcap_tolerant pcap_blocks pcap_raw_options pcap_written pcap_file pcap_parts pcap_tolerant_blocks pcap_tolerant_captures
 # The toolchain's ports that the library and the programs hold.
-PORTS = byteorder thiserror itoa clap strsim jiff arrayvec
+PORTS = byteorder thiserror itoa clap strsim jiff arrayvec serde_json ryu simdutf8
 JOBS_OF_RT = $(if $(JOBS),--jobs $(JOBS))
 sources_of = crates.txt $(shell find $(foreach crate,$(LIBRARIES) $(1),$(wildcard $(foreach part,src specs proofs,crates/$(crate)/$(part)))) -type f)
 
@@ -89,6 +89,7 @@ $(OUT)/licences: LICENSE NOTICE Makefile
 	mkdir -p $@
 	cp LICENSE NOTICE $@
 	$(foreach port,$(PORTS),cp $(firstword $(wildcard $(foreach name,LICENSE LICENSE-MIT,$(KIT)/rattle/$(port)/$(name)))) $@/LICENSE.$(port) &&) :
+	cp $(KIT)/rattle/ryu/LICENSE-ZMIJ $@/LICENSE.zmij
 
 check: all
 	tests/c/run
