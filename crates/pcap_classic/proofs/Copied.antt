@@ -1,99 +1,102 @@
 -- Packets that are copied, one after another.
-use Rattle.std.proofs.Common.{◌≡◌, ◌≤◌, ℕ, List, [], ◌∷◌, ◌++◌, ◌+◌, refl, ap, sym, ◌∙◌, subst, arith, length-append, append-nil, Err, Some, None, inl, inr}
-use Rattle.std.specs.Prelude.{Option, IfSome}
+use Rattle.std.proofs.Common.{◌≡◌, ◌≤◌, ℕ, List, [], ◌∷◌, ◌++◌, refl, sym, ◌∙◌, subst, arith, append-nil, Some, None, inl, inr}
+use Rattle.std.specs.Prelude.{Option, IfSome, Result}
+use Rattle.std.specs.Result.{result_err}
 use Rattle.std.specs.Option.{IsSomeAnd}
 use Rattle.std.specs.List.{flat_map}
 use Rattle.std.proofs.lemmas.Grind.{flat_map-append}
 use Rattle.std.specs.Io.KnownBytes.{Consumes, Appends, IsAtEnd}
-use Rattle.std.proofs.KnownBytes.{Appends-nil, Appends-trans}
+use Rattle.std.proofs.KnownBytes.{Appends-trans}
 use Rattle.pcap_core.specs.declared.errors.PcapError.{PcapError}
-use Rattle.pcap_core.specs.declared.errors.PcapError.TheVariants as errors
+use Rattle.pcap_core.specs.declared.stream.copying.Tally.{Tally}
+use Rattle.pcap_core.specs.Copying as core
+use Rattle.pcap_core.specs.Copying.{IsWriting}
 use Rattle.pcap_classic.specs.declared.pcap.header.PcapHeader.{PcapHeader}
 use Rattle.pcap_classic.specs.declared.run.copy.Copied.{Copied}
 use Rattle.pcap_classic.specs.declared.run.copy.Under.{Under}
 use Rattle.pcap_core.specs.Answer.{number_in, whole}
-use Rattle.pcap_classic.specs.Copies.{PacketIsSaid, Copying, CopyingOn, Ends, StopsFront, TakesNext, CopiesBehind, CopiesOn, CopiesPackets, CopiesFront, Copies, CopyRun, CopyFront, header_under}
-use Rattle.pcap_core.specs.Errors.{IsIo}
+use Rattle.pcap_classic.specs.Copies.{PacketIsSaid, OpensCopy, Ends, StopsFront, TakesNext, CopiesBehind, CopiesPackets, copied_of, packets_under, CopiesFront, Copies, CopyRun, CopyFront, header_under}
 use Rattle.pcap_core.specs.Format.{Texts, Front, IsLawful}
 use Rattle.pcap_classic.specs.HeaderText.{HeaderText}
 use Rattle.pcap_classic.specs.Magic.{order_of, resolution_of}
 use Rattle.pcap_classic.specs.Packets.{format_under}
 use Rattle.pcap_classic.specs.PacketText.{Captured, packet_limit}
 use Rattle.pcap_core.specs.Reading.{Takes, TakesAsked, HasCause}
-use Rattle.pcap_core.specs.Writing.{AppendsPart, WritesAll}
+use Rattle.pcap_core.specs.Writing.{AppendsPart}
 use Rattle.pcap_classic.specs.Written.{written_header, written_under}
 use Rattle.pcap_core.proofs.Formats.{texts_more, has_front, front_goes_on, nothing_more, nothing_no_text}
 use Rattle.pcap_classic.proofs.HeadedPackets.{packets_lawful}
 use Rattle.pcap_classic.proofs.Stable.{header_stable}
-use Rattle.pcap_core.proofs.Taking.{takes_none, takes_more, takes_all, ends_front}
+use Rattle.pcap_core.proofs.Taking.{ends_front}
 
 pub lawful_under : (header : PcapHeader) → IsLawful (format_under packet_limit header)
 lawful_under header = packets_lawful packet_limit (number_in (order_of header.magic_number)) (resolution_of header.magic_number)
 
-pub copying_none : (header under : PcapHeader) (before out : Option (List ℕ)) → Copying header under before before out out 0
-copying_none header under before out = record {
-  packets = [];
-  count = refl;
-  took = takes_none (format_under packet_limit header) tt before;
-  out = Appends-nil out;
-}
+pub packets_writing : (under : PcapHeader) → IsWriting (packets_under under)
+packets_writing under = record { nothing = refl; joined = λ vs ws s t. flat_map-append (written_under under) vs ws }
 
-pub copying_more : (header under : PcapHeader) (a b c p q r : Option (List ℕ)) (n : ℕ) (packet : Captured) → Copying header under a b p q n
-    → Takes (PacketIsSaid header) b c packet → Appends q r (written_under under packet) → Copying header under a c p r (n + 1)
-copying_more header under a b c p q r n packet so_far taken out =
-    let goes : flat_map (written_under under) (so_far.packets ++ packet ∷ []) ≡ flat_map (written_under under) so_far.packets ++ written_under under packet =
-    flat_map-append (written_under under) so_far.packets (packet ∷ []) ∙ ap (λ l. flat_map (written_under under) so_far.packets ++ l) (append-nil (written_under under packet)) in
-    record {
-      packets = so_far.packets ++ packet ∷ [];
-      count = length-append so_far.packets (packet ∷ []) ∙ omega (arith, so_far.count);
-      took = takes_more (format_under packet_limit header) (lawful_under header) tt so_far.packets packet a b c so_far.took taken;
-      out = subst (λ l. Appends p r l) (sym goes) (Appends-trans p q r (flat_map (written_under under) so_far.packets) (written_under under packet) so_far.out out);
-    }
+module _ (header under : PcapHeader) where
+  -- why packets were no longer copied
+  ends_so : (left now mid out : Option (List ℕ)) (most : ℕ) (tally : Tally) (fault : Option PcapError) → tally.items ≤ most
+      → core.Ends (packets_under under) (PacketIsSaid header) left now mid out most tally.items fault tally.read_failed tally.write_failed
+      → Ends (IsAtEnd left) (Takes (PacketIsSaid header) left now) (HasCause (PacketIsSaid header) left tally.read_failed) (TakesAsked (PacketIsSaid header) left now) under left now mid out most (copied_of tally fault)
+  ends_so left now mid out most tally fault within ends =
+      elim ends [
+        | inl ended ↦ inl (record {
+          fine = ended.0.fine;
+          within = within;
+          no_read_failed = ended.0.no_read_failed;
+          no_write_failed = ended.0.no_write_failed;
+          taken = ended.0.taken;
+          out = ended.0.out;
+          why = ended.1;
+        })
+        | inr fails ↦ elim fails.1 [
+          | inl tear ↦ inr (inl (record {
+            packet = tear.item;
+            next = (tear.text, tear.is_text, tear.took);
+            fewer = fails.0;
+            refused = tear.refused;
+            no_read_failed = tear.no_read_failed;
+            write_failed = tear.write_failed;
+            out = subst (λ (l : List ℕ). AppendsPart mid out l) (append-nil (written_under under tear.item)) tear.out;
+          }))
+          | inr refused ↦ inr (inr (record { fewer = fails.0; refused = refused.refused; part = refused.part; no_write_failed = refused.no_write_failed; out = refused.out }))
+        ]
+      ]
 
-copying_all : (header under : PcapHeader) (a b c p q r : Option (List ℕ)) (n m : ℕ) → Copying header under a b p q n → Copying header under b c q r m → Copying header under a c p r (n + m)
-copying_all header under a b c p q r n m so_far more = record {
-  packets = so_far.packets ++ more.packets;
-  count = length-append so_far.packets more.packets ∙ omega (arith, so_far.count, more.count);
-  took = takes_all (format_under packet_limit header) (lawful_under header) tt so_far.packets more.packets a b c so_far.took more.took;
-  out = subst (λ l. Appends p r l) (sym (flat_map-append (written_under under) so_far.packets more.packets))
-      (Appends-trans p q r (flat_map (written_under under) so_far.packets) (flat_map (written_under under) more.packets) so_far.out more.out);
-}
-
-module _ (header under : PcapHeader) (n : ℕ) where
-  pub on_none : (a p : Option (List ℕ)) → CopyingOn header under n a a p p n
-  on_none a p = record { more = 0; count = omega arith; these = copying_none header under a p }
-
-  pub on_more : (a b c p q r : Option (List ℕ)) (total : ℕ) (packet : Captured) → CopyingOn header under n a b p q total
-      → Takes (PacketIsSaid header) b c packet → Appends q r (written_under under packet) → CopyingOn header under n a c p r (total + 1)
-  on_more a b c p q r total packet so_far taken out = record {
-    more = so_far.more + 1;
-    count = omega (arith, so_far.count);
-    these = copying_more header under a b c p q r so_far.more packet so_far.these taken out;
+  -- packets behind a header were copied
+  behind_header : (before now out out_now : Option (List ℕ)) (most : ℕ) (tally : Tally) (result : Result (Unit {0}) PcapError)
+      → core.CopiesBehind (format_under packet_limit header) (packets_under under) tt before now out out_now most tally result
+      → CopiesBehind header under before now out out_now most (copied_of tally (result_err result))
+  behind_header before now out out_now most tally result run = record {
+    left = run.left;
+    mid = run.mid;
+    so_far = record {
+      packets = run.items;
+      count = sym run.count;
+      took = record { bytes = run.texts.bytes; texts = run.texts.texts; took = run.texts.took };
+      out = run.texts.went;
+    };
+    ends = ends_so run.left now run.mid out_now most tally (result_err result) run.within run.ends;
   }
 
-  -- a step behind steps
-  pub on_all : (a b c p q r : Option (List ℕ)) (m total : ℕ) → CopyingOn header under n a b p q m → CopyingOn header under m b c q r total → CopyingOn header under n a c p r total
-  on_all a b c p q r m total so_far more = record {
-    more = so_far.more + more.more;
-    count = omega (arith, so_far.count, more.count);
-    these = copying_all header under a b c p q r so_far.more more.more so_far.these more.these;
-  }
-
-  -- a step that ends ends what was so far
-  pub copies_on : (a b now p q out : Option (List ℕ)) (m most : ℕ) (copied : Copied) → CopyingOn header under n a b p q m → CopiesOn header under m b now q out most copied
-      → CopiesOn header under n a now p out most copied
-  copies_on a b now p q out m most copied so_far on =
-      record { left = on.left; mid = on.mid; so_far = on_all a b on.left p q on.mid m copied.packets so_far on.so_far; ends = on.ends }
-
--- a write is refused only where it failed
-pub torn_write : (bytes : List ℕ) (mid out : Option (List ℕ)) (e : PcapError) → WritesAll mid out bytes (Err e) → IsIo e × AppendsPart mid out bytes
-torn_write bytes mid out (errors.IoError x) part = (tt, part)
-torn_write bytes mid out (errors.IncompleteBuffer n) part = absurd part
-torn_write bytes mid out (errors.InvalidField t) part = absurd part
-torn_write bytes mid out (errors.Utf8Error x) part = absurd part
-torn_write bytes mid out (errors.FromUtf8Error x) part = absurd part
-torn_write bytes mid out (errors.OutOfMemory x) part = absurd part
-torn_write bytes mid out errors.WriterFailed part = absurd part
+-- a copy of a header and packets
+pub copies_run : (under : Under) (before behind now out_before out_behind out_now : Option (List ℕ)) (header out : PcapHeader) (most : ℕ) (opened tally : Tally) (result : Result (Unit {0}) PcapError)
+    → OpensCopy under before behind out_before out_behind header out opened
+    → core.CopiesBehind (format_under packet_limit header) (packets_under out) tt behind now out_behind out_now most tally result
+    → CopyRun under before now out_before out_now most (copied_of tally (result_err result))
+copies_run under before behind now out_before out_behind out_now header out most opened tally result opens run =
+    inr (inr (inr (record {
+      header = header;
+      behind = behind;
+      out_behind = out_behind;
+      valid = opens.valid;
+      read = opens.read;
+      out = subst (λ (h : PcapHeader). Appends out_before out_behind (written_header h)) opens.asked opens.went;
+      packets = subst (λ (h : PcapHeader). CopiesBehind header h behind now out_behind out_now most (copied_of tally (result_err result))) opens.asked
+          (behind_header header out behind now out_behind out_now most tally result run);
+    })))
 
 -- a copy that did not begin
 pub not_begun : (under : Under) (before now out_before out_now : Option (List ℕ)) (most : ℕ) (copied : Copied) → Copies ⊥ under before now out_before out_now copied → CopyRun under before now out_before out_now most copied

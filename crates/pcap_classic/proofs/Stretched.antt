@@ -1,6 +1,6 @@
 -- Packets that lie one behind the other in a buffer, and go out from there.
 use Rattle.std.proofs.Common.{◌≡◌, ◌≤◌, ◌<◌, ℕ, ◌+◌, ◌-◌, List, [], ◌∷◌, ◌++◌, length, take, drop, refl, ap, sym, ◌∙◌, subst, arith, append_assoc, append-nil, length-append, take-append-drop, length-drop, Bool, Some, None, ◌⊎◌, inl, inr}
-use Rattle.std.specs.Prelude.{Option, IfSome}
+use Rattle.std.specs.Prelude.{Option}
 use lib.Seq.{take-append_seam}
 use Rattle.std.proofs.Math.Seq.{drop-append_seam}
 use Rattle.std.proofs.lemmas.Bool.{cases_lt}
@@ -8,7 +8,7 @@ use Rattle.std.proofs.lemmas.List.{append_cancel_right, length-take}
 use Rattle.std.proofs.lemmas.List.Elements.{All-take}
 use Rattle.std.proofs.lemmas.Grind.{flat_map-append}
 use Rattle.std.specs.List.{flat_map}
-use Rattle.std.specs.Io.KnownBytes.{Consumes, Appends, IsAtEnd}
+use Rattle.std.specs.Io.KnownBytes.{Appends}
 use Rattle.std.proofs.KnownBytes.{Appends-trans}
 use Rattle.pcap_core.specs.declared.errors.PcapError.{PcapError}
 use Rattle.pcap_classic.specs.declared.pcap.header.PcapHeader.{PcapHeader}
@@ -16,8 +16,10 @@ use Rattle.pcap_core.specs.Answer.{number_in, whole, lacks, faulty, Refuses}
 use Rattle.pcap_core.specs.Bytes.{IsBytes}
 use Rattle.pcap_core.specs.Codec.{number_bytes}
 use Rattle.pcap_core.specs.Format.{Texts}
-use Rattle.pcap_core.specs.Reading.{Takes}
-use Rattle.pcap_classic.specs.Copies.{PacketIsSaid, Copying}
+use Rattle.pcap_core.specs.Copying as core
+use Rattle.pcap_core.specs.Writing.{AppendsPart}
+use Rattle.pcap_core.proofs.Copying.{appends_apart}
+use Rattle.pcap_classic.specs.Copies.{PacketIsSaid, packets_under}
 use Rattle.pcap_classic.specs.Magic.{order_of, resolution_of}
 use Rattle.pcap_classic.specs.Packets.{format_under, packet_format, reader_format}
 use Rattle.pcap_classic.specs.PacketText.{Captured, PacketSays, packet_limit}
@@ -28,18 +30,6 @@ use Rattle.pcap_core.proofs.Fronts.{stops}
 use Rattle.pcap_classic.proofs.Concrete.{back_bytes, packet_written, packets_written}
 use Rattle.pcap_classic.proofs.Copied.{lawful_under}
 use Rattle.pcap_classic.proofs.Packets.{packets_refuse, reader_whole}
-
--- what went out in two parts
-appends_apart : (a c : Option (List ℕ)) (first second : List ℕ) → Appends a c (first ++ second) → (b : Option (List ℕ)) × Appends a b first × Appends b c second
-appends_apart None c first second out = (None, tt, tt)
-appends_apart (Some x) None first second out = absurd out
-appends_apart (Some x) (Some z) first second out = (Some (x ++ first), refl, out ∙ sym (append_assoc x first second))
-
--- what came in two parts
-consumes_apart : (a c : Option (List ℕ)) (first second : List ℕ) → Consumes a c (first ++ second) → (b : Option (List ℕ)) × Consumes a b first × Consumes b c second
-consumes_apart None c first second took = (None, tt, tt)
-consumes_apart (Some x) None first second took = absurd took
-consumes_apart (Some x) (Some z) first second took = (Some (second ++ z), took ∙ append_assoc first second z, refl)
 
 -- the front of bytes that are it and a rest
 front_of : (bytes front rest : List ℕ) (n : ℕ) → bytes ≡ front ++ rest → n + length rest ≡ length bytes → take n bytes ≡ front
@@ -55,11 +45,6 @@ rest_of bytes front rest n split count =
 
 some_left : (all gone left : List ℕ) → all ≡ gone ++ left → length gone < length all → 0 < length left
 some_left all gone left split longer = omega (arith, longer, ap length {x = all} {y = gone ++ left} split, length-append gone left)
-
--- a reader that shows nothing is at its end
-pub shows_nothing : (a : Option (List ℕ)) (n : ℕ) → n ≡ 0 → IfSome a (λ xs. n ≡ 0 → xs ≡ []) → IsAtEnd a
-shows_nothing None n none end = tt
-shows_nothing (Some xs) n none end = end none
 
 module _ (header : PcapHeader) where
   -- bytes that are refused begin with no packet
@@ -212,35 +197,40 @@ module _ (header : PcapHeader) where
       let torn = sends.0 in
       rest_within bytes rest (torn.whole_ones.packets ++ torn.packet ∷ []) (texts_push (format_under packet_limit header) tt torn.whole_ones.packets torn.packet bytes torn.middle rest torn.whole_ones.texts torn.next)
 
-  module _ (out : PcapHeader) where
-    -- what went out whole was taken
-    pub whole_taken : (shown rest : List ℕ) (a c p q : Option (List ℕ)) (n used : ℕ) → used + length rest ≡ length shown → Consumes a c (take used shown)
-        → SendsWhole header (written_under out) shown rest p q n → Copying header out a c p q n
-    whole_taken shown rest a c p q n used count took sent =
-        let own = texts_own (format_under packet_limit header) (lawful_under header) tt sent.packets shown rest sent.texts in
+  module _ (out : PcapHeader) (shown rest : List ℕ) (p q : Option (List ℕ)) (n used : ℕ) (count : used + length rest ≡ length shown) where
+    -- what went out whole, as the front of the buffer
+    whole_shown : SendsWhole header (written_under out) shown rest p q n → core.SendsWhole (format_under packet_limit header) (packets_under out) tt (take used shown) p q n
+    whole_shown sent =
+        let f = format_under packet_limit header in
+        let own = texts_own f (lawful_under header) tt sent.packets shown rest sent.texts in
         record {
-          packets = sent.packets;
+          items = sent.packets;
           count = sent.count;
-          took = record { bytes = own.0; texts = own.2; took = subst (λ (l : List ℕ). Consumes a c l) (front_of shown own.0 rest used own.1 count) took };
+          texts = subst (λ (l : List ℕ). Texts f tt sent.packets l []) (sym (front_of shown own.0 rest used own.1 count)) own.2;
+          leave = refl;
           out = sent.out;
         }
 
-    -- and so was the packet that was torn
-    pub torn_taken : (shown rest : List ℕ) (a c p q : Option (List ℕ)) (n used : ℕ) → used + length rest ≡ length shown → Consumes a c (take used shown)
-        → (sent : SendsTorn header (written_under out) shown rest p q n) → (b : Option (List ℕ)) × Copying header out a b p sent.mid n × Takes (PacketIsSaid header) b c sent.packet
-    torn_taken shown rest a c p q n used count took sent =
+    -- and so the packet that was torn
+    torn_shown : SendsTorn header (written_under out) shown rest p q n → core.SendsTorn (format_under packet_limit header) (packets_under out) tt (take used shown) p q n
+    torn_shown sent =
         let f = format_under packet_limit header in
         let laws = lawful_under header in
         let own = texts_own f laws tt sent.whole_ones.packets shown sent.middle sent.whole_ones.texts in
         let next = laws.own tt sent.middle rest sent.packet sent.next in
         let split : shown ≡ (own.0 ++ next.0) ++ rest = own.1 ∙ ap (λ l. own.0 ++ l) next.1 ∙ sym (append_assoc own.0 next.0 rest) in
-        let apart = consumes_apart a c own.0 next.0 (subst (λ (l : List ℕ). Consumes a c l) (front_of shown (own.0 ++ next.0) rest used split count) took) in (
-          apart.0,
-          record {
-            packets = sent.whole_ones.packets;
-            count = sent.whole_ones.count;
-            took = record { bytes = own.0; texts = own.2; took = apart.1 };
-            out = sent.whole_ones.out;
-          },
-          (next.0, next.2, apart.2),
-        )
+        record {
+          front = own.0;
+          text = next.0;
+          split = front_of shown (own.0 ++ next.0) rest used split count;
+          mid = sent.mid;
+          whole_ones = record { items = sent.whole_ones.packets; count = sent.whole_ones.count; texts = own.2; leave = refl; out = sent.whole_ones.out };
+          item = sent.packet;
+          is_text = next.2;
+          out = subst (λ (l : List ℕ). AppendsPart sent.mid q l) (sym (append-nil (written_under out sent.packet))) sent.out;
+        }
+
+    pub sends_shown : (most : ℕ) (old new : Bool) (fault : Option PcapError) → Sends header (written_under out) shown rest p q most n old new fault
+        → core.Sends (format_under packet_limit header) (packets_under out) tt (take used shown) p q most n old new fault
+    sends_shown most old new None sends = (whole_shown sends.0, sends.1, sends.2)
+    sends_shown most old new (Some e) sends = (torn_shown sends.0, sends.1, sends.2, sends.3)

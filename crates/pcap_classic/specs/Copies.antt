@@ -1,5 +1,5 @@
 -- What a copy takes and writes.
-use Rattle.std.specs.Prelude.{◌≡◌, ◌<◌, ◌≤◌, ◌+◌, ◌⊎◌, ℕ, List, [], ◌∷◌, ◌++◌, length, IsTrue, Bool, true, false, Option, None, Some, IfSome, Result, Ok, Err}
+use Rattle.std.specs.Prelude.{◌≡◌, ◌<◌, ◌≤◌, ◌⊎◌, ℕ, List, [], ◌∷◌, ◌++◌, length, IsTrue, Bool, true, false, Option, None, Some, IfSome, Result, Ok, Err}
 use Rattle.std.specs.Option.{IsSomeAnd}
 use Rattle.std.specs.Result.{result_err}
 use Rattle.std.specs.List.{flat_map}
@@ -10,7 +10,9 @@ use Rattle.pcap_core.specs.declared.rules.Rule.TheVariants.{CaptureMagic}
 use Rattle.pcap_classic.specs.declared.run.copy.Copied.{Copied}
 use Rattle.pcap_classic.specs.declared.run.copy.Under.{Under}
 use Rattle.pcap_classic.specs.declared.run.copy.Under.TheVariants.{Same, Header, Order}
+use Rattle.pcap_core.specs.declared.stream.copying.Tally.{Tally}
 use Rattle.pcap_core.specs.Answer.{Verdict, whole}
+use Rattle.pcap_core.specs.Copying.{NothingCopied}
 use Rattle.pcap_core.specs.Errors.{IsMemory, IsIo}
 use Rattle.pcap_core.specs.Faults.{Names}
 use Rattle.pcap_core.specs.Format.{Texts}
@@ -50,6 +52,14 @@ pub record IsNew (copied : Copied) : Type 0 where
 -- a copy that ended with this result
 abbrev pub outcome_of : Copied → Result (Unit {0}) PcapError → Copied
 outcome_of copied result = record copied { fault = result_err result }
+
+-- a copy that came so far, and ended with this fault, or none
+abbrev pub copied_of : Tally → Option PcapError → Copied
+copied_of tally fault = record { packets = tally.items; fault = fault; read_failed = tally.read_failed; write_failed = tally.write_failed }
+
+-- what is written of packets under a header, whatever their bytes were
+abbrev pub packets_under : PcapHeader → List Captured → List ℕ → List ℕ
+packets_under out packets bytes = flat_map (written_under out) packets
 
 -- the item that the held bytes are was written, or a write failed
 abbrev pub WritesHeld : {V : Type 0} → (List ℕ → Verdict V → Type 0) → (V → List ℕ) → List ℕ → Option (List ℕ) → Option (List ℕ) → Result (Unit {0}) PcapError → Type 0
@@ -124,33 +134,6 @@ pub record Copying (header under : PcapHeader) (before now out_before out_now : 
   pub took : TakesTexts (format_under packet_limit header) tt packets before now
   pub out : Appends out_before out_now (flat_map (written_under under) packets)
 
--- So many packets are copied, where n were before.
-pub record CopyingOn (header under : PcapHeader) (n : ℕ) (before now out_before out_now : Option (List ℕ)) (total : ℕ) : Type 0 where
-  pub more : ℕ
-  pub count : total ≡ n + more
-  pub these : Copying header under before now out_before out_now more
-
--- Where n packets were copied before, more were copied, until the copy ended.
-pub record CopiesOn (header under : PcapHeader) (n : ℕ) (before now out_before out_now : Option (List ℕ)) (most : ℕ) (copied : Copied) : Type 0 where
-  pub left : Option (List ℕ)
-  pub mid : Option (List ℕ)
-  pub so_far : CopyingOn header under n before left out_before mid copied.packets
-  pub ends : Ends (IsAtEnd left) (Takes (PacketIsSaid header) left now) (HasCause (PacketIsSaid header) left copied.read_failed)
-      (TakesAsked (PacketIsSaid header) left now) under left now mid out_now most copied
-
--- Where n packets were copied before, more were copied, and the copy goes on.
-pub record GoesOn (header under : PcapHeader) (n : ℕ) (before now out_before out_now : Option (List ℕ)) (most : ℕ) (copied : Copied) : Type 0 where
-  pub so_far : CopyingOn header under n before now out_before out_now copied.packets
-  pub within : copied.packets ≤ most
-  pub no_read_failed : copied.read_failed ≡ false
-  pub no_write_failed : copied.write_failed ≡ false
-
--- One step of a copy, behind n packets: it goes on, or ends, without a refusal or with one.
-abbrev pub StepsOn : PcapHeader → PcapHeader → ℕ → Option (List ℕ) → Option (List ℕ) → Option (List ℕ) → Option (List ℕ) → ℕ → Copied → Result Bool PcapError → Type 0
-StepsOn header under n before now out_before out_now most copied (Ok true) = GoesOn header under n before now out_before out_now most copied
-StepsOn header under n before now out_before out_now most copied (Ok false) = CopiesOn header under n before now out_before out_now most (outcome_of copied (Ok tt))
-StepsOn header under n before now out_before out_now most copied (Err e) = CopiesOn header under n before now out_before out_now most (outcome_of copied (Err e))
-
 -- Packets behind a header were copied to behind another, until the copy ended.
 pub record CopiesBehind (header under : PcapHeader) (before now out_before out_now : Option (List ℕ)) (most : ℕ) (copied : Copied) : Type 0 where
   pub left : Option (List ℕ)
@@ -178,19 +161,19 @@ Copies CopiesThem under before now out_before out_now copied =
     ⊎ CopiesThem
 
 -- The header was taken, and went out as it is asked for.
-pub record OpensCopy (under : Under) (before now out_before out_now : Option (List ℕ)) (header out : PcapHeader) (copied : Copied) : Type 0 where
+pub record OpensCopy (under : Under) (before now out_before out_now : Option (List ℕ)) (header out : PcapHeader) (tally : Tally) : Type 0 where
   pub valid : CanBeUnder under
   pub read : Takes HeaderSays before now header
   pub asked : out ≡ header_under under header
   pub went : Appends out_before out_now (written_header out)
   pub magic : IsTrue (is_magic header.magic_number)
   pub magic_out : IsTrue (is_magic out.magic_number)
-  pub new : IsNew copied
+  pub new : NothingCopied tally
 
 -- The beginning of a copy: its headers, or why it ends there.
-abbrev pub BeginsCopy : Under → Option (List ℕ) → Option (List ℕ) → Option (List ℕ) → Option (List ℕ) → Copied → Result (PcapHeader × PcapHeader) PcapError → Type 0
-BeginsCopy under before now out_before out_now copied (Ok x) = OpensCopy under before now out_before out_now x.0 x.1 copied
-BeginsCopy under before now out_before out_now copied (Err e) = Copies ⊥ under before now out_before out_now (outcome_of copied (Err e))
+abbrev pub BeginsCopy : Under → Option (List ℕ) → Option (List ℕ) → Option (List ℕ) → Option (List ℕ) → Tally → Result (PcapHeader × PcapHeader) PcapError → Type 0
+BeginsCopy under before now out_before out_now tally (Ok x) = OpensCopy under before now out_before out_now x.0 x.1 tally
+BeginsCopy under before now out_before out_now tally (Err e) = Copies ⊥ under before now out_before out_now (copied_of tally (Some e))
 
 -- What holds whether or not a stream tells its bytes.
 abbrev pub CopyRun : Under → Option (List ℕ) → Option (List ℕ) → Option (List ℕ) → Option (List ℕ) → ℕ → Copied → Type 0

@@ -10,6 +10,7 @@ pub mod StreamBytes
 pub mod Pulling
 pub mod Asked
 pub mod Taking
+pub mod Copying
 pub mod Filled
 pub mod Padded
 pub mod Verdicts

@@ -17,6 +17,7 @@ pub mod Reading
 pub mod Takes
 pub mod LentStreams
 pub mod Writing
+pub mod Copying
 pub mod Errors
 pub mod Filling
 pub mod Padded

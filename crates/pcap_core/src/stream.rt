@@ -1,5 +1,6 @@
-//! Streams that tell whether they failed, and buffers that are filled from them as bytes are asked for.
+//! Streams that tell whether they failed, buffers that are filled from them as bytes are asked for, and copies over both.
 
+mod copying;
 mod fill;
 mod filling;
 mod held;
@@ -7,6 +8,7 @@ mod reading;
 mod told;
 mod writing;
 
+pub use copying::{Ahead, Sent, Tally, copy_buffers, copy_items};
 pub use fill::Fill;
 pub use filling::{HasHead, fill_item, take_item};
 pub use held::Held;

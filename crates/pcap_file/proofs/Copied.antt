@@ -1,124 +1,47 @@
 -- Items that are copied, one after another.
-use Rattle.std.proofs.Common.{◌≡◌, ◌<◌, ◌+◌, ℕ, List, [], ◌∷◌, ◌++◌, length, refl, ap, sym, ◌∙◌, subst, arith, length-append, ◌≤◌, ◌⊎◌, inl, inr, Err}
+use Rattle.std.proofs.Common.{◌≡◌, ℕ, List, [], ◌∷◌, refl, sym, subst, inl, Err}
 use Rattle.std.specs.Prelude.{Option, Result, Ok, ⊤}
-use Rattle.std.specs.Io.KnownBytes.{Consumes, Appends, IsAtEnd}
-use Rattle.std.proofs.KnownBytes.{Consumes-nil, Consumes-trans, Appends-nil, Appends-trans}
+use Rattle.std.specs.Result.{result_err}
+use Rattle.std.specs.Io.KnownBytes.{Consumes, Appends}
 use Rattle.pcap_core.specs.declared.errors.PcapError.{PcapError}
-use Rattle.pcap_core.specs.declared.errors.PcapError.TheVariants as errors
 use Rattle.pcap_core.specs.declared.common.Endianness.{Endianness}
+use Rattle.pcap_core.specs.declared.stream.copying.Tally.{Tally}
 use Rattle.pcap_core.specs.Faults.{Fault, Shows}
 use Rattle.pcap_core.specs.Answer.{whole, faulty, Refuses}
-use Rattle.pcap_core.specs.Errors.{IsIo}
-use Rattle.pcap_core.specs.Format.{Format, state_after, IsLawful}
-use Rattle.pcap_core.specs.Writing.{AppendsPart, WritesAll}
-use Rattle.pcap_core.proofs.Formats.{texts_more, texts_all, state_push}
+use Rattle.pcap_core.specs.Copying as core
+use Rattle.pcap_core.specs.Copying.{IsWriting}
+use Rattle.pcap_core.proofs.Copying.{copies_all}
 use Rattle.pcap_core.proofs.Refusals.{shows_more}
-use Rattle.pcap_file.specs.declared.pcapng.copying.NgCopied.{NgCopied}
 use Rattle.pcap_file.specs.Blocks.{Item, BlockSays, block_format}
 use Rattle.pcap_file.specs.Frames.{Framed, FrameSays, frame_format}
 use Rattle.pcap_file.specs.Opening.{OpeningSays}
-use Rattle.pcap_file.specs.Copies.{CopiesLeaving, CopiesTexts, EndsWhole, Fails, CopiesBehind, CopiesNg, FollowsHeld}
+use Rattle.pcap_file.specs.Copies.{CopiesTexts, CopiesNg, FollowsHeld, as_they_came, copied_of}
 use Rattle.pcap_file.specs.State.{State, opening, order_at, CanGrow, FollowTells}
 use Rattle.pcap_file.proofs.Causes.{body_refused, pull_item}
 use Rattle.pcap_file.proofs.Refusing.{refuses_wider, shows_refuses}
 use Rattle.pcap_file.proofs.BlockFormat.{blocks_lawful}
 
--- a write is refused only where it failed
-pub torn_write : (bytes : List ℕ) (mid out : Option (List ℕ)) (e : PcapError) → WritesAll mid out bytes (Err e) → IsIo e × AppendsPart mid out bytes
-torn_write bytes mid out (errors.IoError x) part = (tt, part)
-torn_write bytes mid out (errors.IncompleteBuffer n) part = absurd part
-torn_write bytes mid out (errors.InvalidField t) part = absurd part
-torn_write bytes mid out (errors.Utf8Error x) part = absurd part
-torn_write bytes mid out (errors.FromUtf8Error x) part = absurd part
-torn_write bytes mid out (errors.OutOfMemory x) part = absurd part
-torn_write bytes mid out errors.WriterFailed part = absurd part
+pub bytes_writing : {V : Type 0} → IsWriting {V = V} as_they_came
+bytes_writing = record { nothing = refl; joined = λ vs ws s t. refl }
 
-pub copies_none : {S V : Type 0} (f : Format S V) (q : S) (before out : Option (List ℕ)) → CopiesTexts f q [] before before out out
-copies_none f q before out = record { bytes = []; texts = refl; took = Consumes-nil before; went = Appends-nil out }
-
--- items behind items
-pub copies_all : {S V : Type 0} (f : Format S V) → IsLawful f → (q : S) (vs ws : List V) (a b c p r s : Option (List ℕ)) → CopiesTexts f q vs a b p r → CopiesTexts f (state_after f q vs) ws b c r s → CopiesTexts f q (vs ++ ws) a c p s
-copies_all f laws q vs ws a b c p r s so_far more = record {
-  bytes = so_far.bytes ++ more.bytes;
-  texts = texts_all f q vs ws (so_far.bytes ++ more.bytes) more.bytes [] (texts_more f laws q vs so_far.bytes [] more.bytes so_far.texts) more.texts;
-  took = Consumes-trans a b c so_far.bytes more.bytes so_far.took more.took;
-  went = Appends-trans p r s so_far.bytes more.bytes so_far.went more.went;
-}
-
--- these items were copied, and lead from one state to another
-pub record CopiedTo (q reached : State) (before left out mid : Option (List ℕ)) (n : ℕ) : Type 0 where
-  pub items : List Item
-  pub in_force : state_after block_format q items ≡ reached
-  pub texts : CopiesTexts block_format q items before left out mid
-  pub count : n ≡ length items
-
-pub to_none : (q : State) (before out : Option (List ℕ)) (n : ℕ) → n ≡ 0 → CopiedTo q q before before out out n
-to_none q before out n none = record { items = []; in_force = refl; texts = copies_none block_format q before out; count = none }
-
-pub to_more : (q p next : State) (a b c s r t : Option (List ℕ)) (n m : ℕ) → CopiedTo q p a b s r n → (m ≡ n + 1) → (item : Item) → item.after ≡ next → CopiesTexts block_format p (item ∷ []) b c r t → CopiedTo q next a c s t m
+-- where an item leads
+pub leads_to : (q next : State) (item : Item) → item.after ≡ next → block_format.goes q item ≡ next
 unfolding block_format
-to_more q p next a b c s r t n m so_far count item leads one =
-    let here : CopiesTexts block_format (state_after block_format q so_far.items) (item ∷ []) b c r t = subst (λ (x : State). CopiesTexts block_format x (item ∷ []) b c r t) (sym so_far.in_force) one in
-    record {
-      items = so_far.items ++ item ∷ [];
-      in_force = state_push block_format q so_far.items item ∙ leads;
-      texts = copies_all block_format blocks_lawful q so_far.items (item ∷ []) a b c s r t so_far.texts here;
-      count = omega (arith, count, so_far.count, length-append so_far.items (item ∷ []));
-    }
-
-state_all : {S V : Type 0} (f : Format S V) (q : S) (vs ws : List V) → state_after f q (vs ++ ws) ≡ state_after f (state_after f q vs) ws
-state_all f q [] ws = refl
-state_all f q (v ∷ vs) ws = state_all f (f.goes q v) vs ws
-
--- and blocks behind them that leave what is in force
-pub to_leaving : (q p : State) (a b c s r t : Option (List ℕ)) (n m : ℕ) → CopiedTo q p a b s r n → CopiesLeaving p b c r t n m → CopiedTo q p a c s t m
-to_leaving q p a b c s r t n m so_far more =
-    let here : CopiesTexts block_format (state_after block_format q so_far.items) more.items b c r t = subst (λ (x : State). CopiesTexts block_format x more.items b c r t) (sym so_far.in_force) more.texts in
-    record {
-      items = so_far.items ++ more.items;
-      in_force = state_all block_format q so_far.items more.items ∙ ap (λ (x : State). state_after block_format x more.items) so_far.in_force ∙ more.leave;
-      texts = copies_all block_format blocks_lawful q so_far.items more.items a b c s r t so_far.texts here;
-      count = omega (arith, more.count, so_far.count, length-append so_far.items more.items);
-    }
-
--- the end behind them
-pub to_ends : (q p : State) (a b now s r out : Option (List ℕ)) (n most : ℕ) (copied : NgCopied) → CopiedTo q p a b s r n → copied.blocks ≡ n → n ≤ most → EndsWhole b now r out copied
-    → IsAtEnd b ⊎ (copied.blocks ≡ most) → CopiesBehind q a now s out most copied
-to_ends q p a b now s r out n most copied so_far same few ends why = record {
-  items = so_far.items;
-  left = b;
-  mid = r;
-  texts = so_far.texts;
-  count = same ∙ so_far.count;
-  within = rw same few;
-  ends = inl (ends, why);
-}
-
--- a fault behind them
-pub to_fails : (q p : State) (a b now s r out : Option (List ℕ)) (n most : ℕ) (copied : NgCopied) → CopiedTo q p a b s r n → copied.blocks ≡ n → n < most → Fails (block_format.says p) b now r out copied → CopiesBehind q a now s out most copied
-to_fails q p a b now s r out n most copied so_far same few why =
-    let here : Fails (block_format.says (state_after block_format q so_far.items)) b now r out copied = subst (λ (x : State). Fails (block_format.says x) b now r out copied) (sym so_far.in_force) why in
-    record {
-      items = so_far.items;
-      left = b;
-      mid = r;
-      texts = so_far.texts;
-      count = same ∙ so_far.count;
-      within = omega (arith, same, few);
-      ends = inr (omega (arith, same, few), here);
-    }
+leads_to q next item leads = leads
 
 -- what was copied behind a first block
-pub first_copies : (first : Item) (q : State) (a b now s r out : Option (List ℕ)) (most : ℕ) (copied : NgCopied) → first.after ≡ q → CopiesTexts block_format opening (first ∷ []) a b s r → CopiesBehind q b now r out most copied → CopiesNg a now s out most copied
+pub first_copies : (first : Item) (q : State) (a b now s r out : Option (List ℕ)) (most : ℕ) (tally : Tally) (result : Result (Unit {0}) PcapError) → first.after ≡ q → CopiesTexts block_format opening (first ∷ []) a b s r
+    → core.CopiesBehind block_format as_they_came q b now r out most tally result → CopiesNg a now s out most (copied_of tally (result_err result))
 unfolding block_format
-first_copies first q a b now s r out most copied leads one more =
-    let behind : CopiesBehind first.after b now r out most copied = subst (λ (x : State). CopiesBehind x b now r out most copied) (sym leads) more in
+first_copies first q a b now s r out most tally result leads one more =
+    let behind : core.CopiesBehind block_format as_they_came first.after b now r out most tally result =
+    subst (λ (x : State). core.CopiesBehind block_format as_they_came x b now r out most tally result) (sym leads) more in
     record {
       first = first;
       items = behind.items;
       left = behind.left;
       mid = behind.mid;
-      texts = copies_all block_format blocks_lawful opening (first ∷ []) behind.items a b behind.left s r behind.mid one behind.texts;
+      texts = copies_all block_format as_they_came bytes_writing blocks_lawful opening (first ∷ []) behind.items a b behind.left s r behind.mid one behind.texts;
       count = behind.count;
       within = behind.within;
       ends = behind.ends;

@@ -1,25 +1,25 @@
 -- Blocks that lie one behind the other in a buffer, and go out from there.
-use Rattle.std.proofs.Common.{◌≡◌, ◌≤◌, ◌<◌, ℕ, ◌+◌, ◌-◌, List, [], ◌∷◌, ◌++◌, length, take, drop, refl, ap, sym, ◌∙◌, subst, arith, append_assoc, length-append, take-append-drop, Bool, Some, None, inl}
-use Rattle.std.specs.Prelude.{Option, All, true, false}
+use Rattle.std.proofs.Common.{◌≡◌, ◌≤◌, ◌<◌, ℕ, ◌+◌, ◌-◌, List, [], ◌∷◌, ◌++◌, length, take, drop, refl, ap, sym, ◌∙◌, subst, arith, append_assoc, length-append, take-append-drop, Bool, Some, None}
+use Rattle.std.specs.Prelude.{Option, All}
 use lib.Seq.{take-append_seam}
 use Rattle.std.proofs.lemmas.List.{length-take, take-take}
 use Rattle.std.proofs.lemmas.List.Elements.{All-head, All-nil, All-push, All-tail}
-use Rattle.std.specs.Io.KnownBytes.{Consumes, Appends}
+use Rattle.std.specs.Io.KnownBytes.{Appends}
 use Rattle.pcap_core.specs.declared.errors.PcapError.{PcapError}
 use Rattle.pcap_core.specs.declared.common.Endianness.{Endianness}
 use Rattle.pcap_core.specs.Answer.{whole}
-use Rattle.pcap_core.specs.Errors.{IsIo}
+use Rattle.pcap_core.specs.Copying as core
 use Rattle.pcap_core.specs.Format.{Texts, state_after}
 use Rattle.pcap_core.specs.Headed.{good}
+use Rattle.pcap_core.proofs.Copying.{appends_apart}
 use Rattle.pcap_core.proofs.Formats.{beginning, nothing_no_text, shorter, text_same, texts_more, texts_push}
 use Rattle.pcap_blocks.specs.InterfaceDescription.{Interface}
 use Rattle.pcap_blocks.specs.SectionHeader.{Section}
-use Rattle.pcap_file.specs.declared.pcapng.copying.NgCopied.{NgCopied}
 use Rattle.pcap_file.specs.Blocks.{Item, BlockText, block_format}
-use Rattle.pcap_file.specs.Copies.{CopiesLeaving, EndsTorn, FailsBehind}
+use Rattle.pcap_file.specs.Copies.{as_they_came}
 use Rattle.pcap_file.specs.Frames.{Framed, FrameText, frame_format}
 use Rattle.pcap_file.specs.State.{within, order_at, Means, MeansIf}
-use Rattle.pcap_file.specs.Stretches.{LeavesInForce, IsStretch, Passes, TearsBlock, SendsWhole, SendsTorn}
+use Rattle.pcap_file.specs.Stretches.{LeavesInForce, IsStretch, Passes, TearsBlock, SendsWhole, SendsTorn, Sends}
 use Rattle.pcap_file.proofs.HeadedFrames.{frames_lawful}
 
 -- the order stays behind frames
@@ -199,12 +199,6 @@ pub all_sent : (e : Endianness) (shown rest : List ℕ) (a b : Option (List ℕ)
     → SendsWhole e (take (length shown - length rest) shown) a b n
 all_sent e shown rest a b n taken out = record { stretch = row_of e shown rest n taken; out = out }
 
--- what went out in two parts
-appends_apart : (a c : Option (List ℕ)) (first second : List ℕ) → Appends a c (first ++ second) → (b : Option (List ℕ)) × Appends a b first × Appends b c second
-appends_apart None c first second out = (None, tt, tt)
-appends_apart (Some x) None first second out = absurd out
-appends_apart (Some x) (Some z) first second out = (Some (x ++ first), refl, out ∙ sym (append_assoc x first second))
-
 -- a row of a buffer in which a write failed
 pub torn_sent : (e : Endianness) (stretch : List ℕ) (a b : Option (List ℕ)) (gone used n : ℕ) → TearsBlock e stretch gone used n → gone < length stretch → Appends a b (take gone stretch)
     → SendsTorn e (take used stretch) a b n
@@ -229,12 +223,6 @@ torn_sent e stretch a b gone used n torn less out =
       leaves = torn.leaves;
       out = (rest.0, omega (arith, ap length rest.1, length-append begun.0 rest.0, begun_length, torn.torn, torn.used_is), record { gone = begun.0; split = rest.1; out = apart.2 });
     }
-
--- what came in two parts
-consumes_apart : (a c : Option (List ℕ)) (first second : List ℕ) → Consumes a c (first ++ second) → (b : Option (List ℕ)) × Consumes a b first × Consumes b c second
-consumes_apart None c first second took = (None, tt, tt)
-consumes_apart (Some x) None first second took = absurd took
-consumes_apart (Some x) (Some z) first second took = (Some (second ++ z), took ∙ append_assoc first second z, refl)
 
 -- a block that leaves what is in force
 abbrev item_left : Section → List Interface → Framed → Item
@@ -270,33 +258,30 @@ leaving s is (b ∷ blocks) bytes (after, one, others) leave =
     let more = leaving s is blocks after others (All-tail LeavesInForce b blocks leave) in
     (item_left s is b ∷ more.0, (after, left_text s is b bytes after one (All-head LeavesInForce b blocks leave), more.1), more.2, omega (arith, more.3))
 
--- what went out whole was taken and copied
-pub whole_copied : (s : Section) (is : List Interface) (order : Endianness) → order ≡ order_at (within s is) → (bytes : List ℕ) (before now out out_now : Option (List ℕ)) (n k : ℕ) → Consumes before now bytes
-    → SendsWhole order bytes out out_now k → CopiesLeaving (within s is) before now out out_now n (n + k)
-whole_copied s is order same bytes before now out out_now n k took sent =
-    let items = leaving s is sent.stretch.blocks bytes (subst (λ (o : Endianness). Texts frame_format o sent.stretch.blocks bytes []) same sent.stretch.texts) sent.stretch.leave in
-    record {
-      items = items.0;
-      leave = items.2;
-      texts = record { bytes = bytes; texts = items.1; took = took; went = sent.out };
-      count = omega (arith, items.3, sent.stretch.count);
-    }
+module _ (s : Section) (is : List Interface) (order : Endianness) (same : order ≡ order_at (within s is)) where
+  -- what went out whole, as items
+  whole_left : (bytes : List ℕ) (a b : Option (List ℕ)) (n : ℕ) → SendsWhole order bytes a b n → core.SendsWhole block_format as_they_came (within s is) bytes a b n
+  whole_left bytes a b n sent =
+      let items = leaving s is sent.stretch.blocks bytes (subst (λ (o : Endianness). Texts frame_format o sent.stretch.blocks bytes []) same sent.stretch.texts) sent.stretch.leave in
+      record { items = items.0; count = items.3 ∙ sent.stretch.count; texts = items.1; leave = items.2; out = sent.out }
 
--- and behind it a block that was torn
-pub torn_copied : (s : Section) (is : List Interface) (order : Endianness) → order ≡ order_at (within s is) → (bytes : List ℕ) (before now out out_now : Option (List ℕ)) (n k most : ℕ) (copied : NgCopied) (error : PcapError) → Consumes before now bytes
-    → SendsTorn order bytes out out_now k → copied.blocks ≡ n + k → n + k < most → copied.fault ≡ Some error → IsIo error → copied.read_failed ≡ false → copied.write_failed ≡ true
-    → FailsBehind (within s is) before now out out_now n most copied
-torn_copied s is order same bytes before now out out_now n k most copied error took sent count few fault io read wrote =
-    let apart = consumes_apart before now sent.front sent.text (subst (λ (l : List ℕ). Consumes before now l) sent.split took) in
-    let whole_ones = whole_copied s is order same sent.front before apart.0 out sent.mid n k apart.1 sent.whole_ones in
-    let torn : EndsTorn (block_format.says (within s is)) apart.0 now sent.mid out_now copied = record {
-      item = item_left s is sent.block;
-      text = sent.text;
-      is_text = left_says s is sent.block sent.text [] (subst (λ (o : Endianness). FrameText o sent.block sent.text []) same sent.next) sent.leaves;
-      took = apart.2;
-      refused = rw fault io;
-      no_read_failed = read;
-      write_failed = wrote;
-      out = sent.out;
-    } in
-    record { left = apart.0; mid = sent.mid; so_far = subst (λ (m : ℕ). CopiesLeaving (within s is) before apart.0 out sent.mid n m) (sym count) whole_ones; few = rw count few; why = inl torn }
+  -- what of a buffer went out, as items
+  pub sends_left : (bytes : List ℕ) (a b : Option (List ℕ)) (most n : ℕ) (old new : Bool) (fault : Option PcapError) → Sends order bytes a b most n old new fault
+      → core.Sends block_format as_they_came (within s is) bytes a b most n old new fault
+  sends_left bytes a b most n old new None sends = (whole_left bytes a b n sends.0, sends.1, sends.2)
+  sends_left bytes a b most n old new (Some e) sends =
+      let torn = sends.0 in (
+        record {
+          front = torn.front;
+          text = torn.text;
+          split = torn.split;
+          mid = torn.mid;
+          whole_ones = whole_left torn.front a torn.mid n torn.whole_ones;
+          item = item_left s is torn.block;
+          is_text = left_says s is torn.block torn.text [] (subst (λ (o : Endianness). FrameText o torn.block torn.text []) same torn.next) torn.leaves;
+          out = torn.out;
+        },
+        sends.1,
+        sends.2,
+        sends.3,
+      )

@@ -2,9 +2,10 @@
 
 ghost use Rattle.std.specs.Prelude.{◌≡◌, ◌≤◌, ◌<◌, ◌+◌, ◌^◌, ◌↔◌, ℕ, [], true, false, IsTrue, IfSome, IfOk, OnOk, MatchResult};
 ghost use Rattle.pcap_core.specs.Filling.{Stated};
-ghost use Rattle.pcap_core.specs.Held.{held_bytes};
+ghost use Rattle.pcap_core.specs.Copying.{NothingCopied};
+ghost use Rattle.std.specs.Result.{result_err};
 ghost use Rattle.pcap_classic.specs.StatedPackets.{KnowsHeader};
-ghost use Rattle.pcap_classic.specs.Copies.{BeginsCopy, CanBeUnder, IsNew, outcome_of, CopyRun, CopyFront, CopiesOn, StepsOn, WritesHeld, header_under};
+ghost use Rattle.pcap_classic.specs.Copies.{BeginsCopy, CanBeUnder, copied_of, CopyRun, CopyFront, WritesHeld, header_under};
 ghost use Rattle.pcap_classic.specs.Magic.{is_magic};
 ghost use Rattle.pcap_classic.specs.Packets.{reader_format};
 ghost use Rattle.pcap_classic.specs.PacketText.{packet_limit};
@@ -14,8 +15,9 @@ use crate::common::TsResolution;
 use crate::pcap::{
     PacketHeader, PacketsUnder, PcapHeader, packet_of, put_header, put_packet, read_header,
 };
+use crate::run::stretch::{Went, put_front};
 use pcap_core::rules::Rule;
-use pcap_core::stream::{Held, fill_item, put};
+use pcap_core::stream::{Ahead, Held, Sent, Tally, copy_items, fill_item, put};
 use pcap_core::{Endianness, PcapError, ResultParsing};
 use std::alloc::Global;
 use std::io::{Read, Write};
@@ -45,15 +47,15 @@ pub struct Copied {
 }
 
 impl Copied {
-    // A copy of which nothing is done.
-    pub(crate) fn none() -> Copied
-        ensures { IsNew result }
+    // A copy that came so far, and ended with this fault, or none.
+    pub(crate) fn of(tally: &Tally, fault: Option<PcapError>) -> Copied
+        ensures { result ≡ copied_of tally.now fault }
     {
         Copied {
-            packets: 0,
-            fault: None,
-            read_failed: false,
-            write_failed: false,
+            packets: tally.items,
+            fault,
+            read_failed: tally.read_failed,
+            write_failed: tally.write_failed,
         }
     }
 }
@@ -109,9 +111,9 @@ pub fn copy_pcap<R: Read, W: Write>(
     ensures run { CopyRun under (R.remaining reader.old) (R.remaining reader.new) (W.contents writer.old) (W.contents writer.new) most result }
     ensures front { IfSome (R.remaining reader.old) (λ bytes. CopyFront under bytes (R.remaining reader.new) (W.contents writer.old) (W.contents writer.new) most result) }
 {
-    let mut copied = Copied::none();
-    copied.fault = copy_under(alloc, reader, writer, under, most, &mut copied).err();
-    copied
+    let mut tally = Tally::none();
+    let fault = copy_under(alloc, reader, writer, under, most, &mut tally).err();
+    Copied::of(&tally, fault)
 }
 
 // Copies the header and the packets, and counts these.
@@ -121,13 +123,24 @@ fn copy_under<R: Read, W: Write>(
     writer: &mut W,
     under: Under,
     most: u64,
-    copied: &mut Copied,
+    tally: &mut Tally,
 ) -> ResultParsing<()>
-    requires { IsNew copied.old }
-    ensures { CopyRun under (R.remaining reader.old) (R.remaining reader.new) (W.contents writer.old) (W.contents writer.new) most (outcome_of copied.new result) }
+    requires { NothingCopied tally.old }
+    ensures { CopyRun under (R.remaining reader.old) (R.remaining reader.new) (W.contents writer.old) (W.contents writer.new) most (copied_of tally.new (result_err result)) }
 {
-    let (header, out) = begin_copy(reader, writer, under, copied)?;
-    copy_packets(alloc, reader, writer, &header, &out, most, copied)
+    let (header, out) = begin_copy(reader, writer, under, tally)?;
+    let headers = Headers { header, out };
+    let mut held = Held::new(alloc);
+    copy_items(
+        alloc,
+        &headers,
+        &mut (),
+        reader,
+        writer,
+        most,
+        tally,
+        &mut held,
+    )
 }
 
 // Copies the header: the one that is read, and the one that goes out.
@@ -135,81 +148,95 @@ pub(crate) fn begin_copy<R: Read, W: Write>(
     reader: &mut R,
     writer: &mut W,
     under: Under,
-    copied: &mut Copied,
+    tally: &mut Tally,
 ) -> ResultParsing<(PcapHeader, PcapHeader)>
-    requires { IsNew copied.old }
-    ensures { BeginsCopy under (R.remaining reader.old) (R.remaining reader.new) (W.contents writer.old) (W.contents writer.new) copied.new result }
+    requires { NothingCopied tally.old }
+    ensures { BeginsCopy under (R.remaining reader.old) (R.remaining reader.new) (W.contents writer.old) (W.contents writer.new) tally.new result }
 {
     if !under.is_writable() {
         return Err(PcapError::from(Rule::CaptureMagic));
     }
-    let header = read_header(reader, &mut copied.read_failed)?;
+    let header = read_header(reader, &mut tally.read_failed)?;
     let out = under.header(header);
-    put_header(writer, &mut copied.write_failed, &out)?;
+    put_header(writer, &mut tally.write_failed, &out)?;
     Ok((header, out))
 }
 
-// Copies packets behind a header that was read, to behind one that went out, until `most` are copied.
-fn copy_packets<R: Read, W: Write>(
-    alloc: Global,
-    reader: &mut R,
-    writer: &mut W,
-    header: &PcapHeader,
-    out: &PcapHeader,
-    most: u64,
-    copied: &mut Copied,
-) -> ResultParsing<()>
-    requires read { IsTrue (is_magic header.now.magic_number) }
-    requires written { IsTrue (is_magic out.now.magic_number) }
-    requires within { copied.old.packets ≤ most }
-    requires no_read_failed { copied.old.read_failed ≡ false }
-    requires no_write_failed { copied.old.write_failed ≡ false }
-    ensures { CopiesOn header.now out.now copied.old.packets (R.remaining reader.old) (R.remaining reader.new) (W.contents writer.old) (W.contents writer.new) most (outcome_of copied.new result) }
-{
-    let mut held = Held::new(alloc);
-    while copied.packets < most {
-        if !copy_next(reader, writer, header, out, copied, &mut held)? {
-            return Ok(());
-        }
-    }
-    Ok(())
+// The header that packets are read under, and the one that they are written under.
+#[derive(Drop)]
+pub(crate) struct Headers {
+    pub(crate) header: PcapHeader,
+    pub(crate) out: PcapHeader,
 }
 
-// Copies the next packet, which is held meanwhile, and says whether there was one.
-#[inline(always)]
-pub(crate) fn copy_next<R: Read, W: Write>(
-    reader: &mut R,
-    writer: &mut W,
-    header: &PcapHeader,
-    out: &PcapHeader,
-    copied: &mut Copied,
-    held: &mut Held,
-) -> ResultParsing<bool>
-    requires read { IsTrue (is_magic header.now.magic_number) }
-    requires written { IsTrue (is_magic out.now.magic_number) }
-    requires countable { copied.old.packets + 1 < 2 ^ 64 }
-    requires no_read_failed { copied.old.read_failed ≡ false }
-    requires no_write_failed { copied.old.write_failed ≡ false }
-    requires between { held_bytes held.old ≡ [] }
-    ensures steps { (most : ℕ) → copied.old.packets < most → StepsOn header.now out.now copied.old.packets (R.remaining reader.old) (R.remaining reader.new) (W.contents writer.old) (W.contents writer.new) most copied.new result }
-    ensures counts { IfOk result (λ is_copied. IsTrue is_copied → copied.new.packets ≡ copied.old.packets + 1) }
-    ensures between { OnOk result (held_bytes held.new ≡ []) }
-{
-    let packets = PacketsUnder { header };
-    let Some(head) = fill_item(&packets, reader, &mut copied.read_failed, held)? else {
-        return Ok(false);
-    };
-    put_held(
-        writer,
-        &mut copied.write_failed,
-        header,
-        out,
-        head,
-        held.as_slice(),
-    )?;
-    held.clear();
-    copied.packets += 1;
-    Ok(true)
+impl Ahead for Headers {
+    ghost use Rattle.pcap_classic.specs.Copies.{packets_under};
+    ghost use Rattle.pcap_classic.specs.Packets.{format_under};
+    ghost use Rattle.pcap_classic.specs.PacketText.{Captured};
+
+    type Place = ();
+
+    ghost State = { Unit {0} };
+
+    ghost Value = { Captured };
+
+    ghost stands = { λ headers. IsTrue (is_magic headers.header.magic_number) × IsTrue (is_magic headers.out.magic_number) };
+
+    ghost format = { λ headers. format_under packet_limit headers.header };
+
+    ghost written = { λ headers. packets_under headers.out };
+
+    ghost state = { λ place. tt };
+
+    #[inline(always)]
+    fn copy_next<R: Read, W: Write>(
+        &self,
+        _alloc: Global,
+        _place: &mut (),
+        reader: &mut R,
+        writer: &mut W,
+        tally: &mut Tally,
+        held: &mut Held,
+    ) -> ResultParsing<bool> {
+        let packets = PacketsUnder {
+            header: &self.header,
+        };
+        let Some(head) = fill_item(&packets, reader, &mut tally.read_failed, held)? else {
+            return Ok(false);
+        };
+        put_held(
+            writer,
+            &mut tally.write_failed,
+            &self.header,
+            &self.out,
+            head,
+            held.as_slice(),
+        )?;
+        held.clear();
+        tally.items += 1;
+        Ok(true)
+    }
+
+    fn put_shown<W: Write>(
+        &self,
+        _place: &(),
+        writer: &mut W,
+        has_failed: &mut bool,
+        shown: &[u8],
+        most: u64,
+    ) -> Sent {
+        let Went {
+            packets,
+            rest,
+            fault,
+        } = put_front(writer, has_failed, &self.header, &self.out, shown, most);
+        let used = shown.len() - rest.len();
+        Sent {
+            items: packets,
+            used,
+            fault,
+        }
+    }
 }
 
 // Writes the packet of this header that the bytes are: as they came where the magic number stays the same, or lent from them.

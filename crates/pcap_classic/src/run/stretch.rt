@@ -12,7 +12,7 @@ use pcap_core::stream::{Torn, put_or_tear};
 use std::io::Write;
 
 // What of a buffer went out.
-pub(crate) struct Sent<'a> {
+pub(crate) struct Went<'a> {
     // How many whole packets.
     pub(crate) packets: u64,
     // What follows them, and the packet in which a write failed.
@@ -22,14 +22,14 @@ pub(crate) struct Sent<'a> {
 }
 
 // Writes the whole packets at the front of a buffer, at most so many.
-pub(crate) fn put_shown<'a, W: Write>(
+pub(crate) fn put_front<'a, W: Write>(
     writer: &mut W,
     has_failed: &mut bool,
     header: &PcapHeader,
     out: &PcapHeader,
     shown: &'a [u8],
     most: u64,
-) -> Sent<'a>
+) -> Went<'a>
     requires read { IsTrue (is_magic header.now.magic_number) }
     requires written { IsTrue (is_magic out.now.magic_number) }
     ensures { Sends header.now (written_under out.now) shown.now result.rest.now (W.contents writer.old) (W.contents writer.new) most result.packets has_failed.old has_failed.new result.fault }
@@ -49,7 +49,7 @@ fn put_each<'a, W: Write>(
     out: &PcapHeader,
     shown: &'a [u8],
     most: u64,
-) -> Sent<'a>
+) -> Went<'a>
     requires read { IsTrue (is_magic header.now.magic_number) }
     requires written { IsTrue (is_magic out.now.magic_number) }
     ensures { Sends header.now (written_under out.now) shown.now result.rest.now (W.contents writer.old) (W.contents writer.new) most result.packets has_failed.old has_failed.new result.fault }
@@ -58,7 +58,7 @@ fn put_each<'a, W: Write>(
     let mut rest = shown;
     while packets < most {
         let Ok((after, packet)) = packet_under(header, rest) else {
-            return Sent {
+            return Went {
                 packets,
                 rest,
                 fault: None,
@@ -66,7 +66,7 @@ fn put_each<'a, W: Write>(
         };
         rest = after;
         if let Err(error) = put_packet(writer, has_failed, out, &packet) {
-            return Sent {
+            return Went {
                 packets,
                 rest,
                 fault: Some(error),
@@ -74,7 +74,7 @@ fn put_each<'a, W: Write>(
         }
         packets += 1;
     }
-    Sent {
+    Went {
         packets,
         rest,
         fault: None,
@@ -88,14 +88,14 @@ fn put_stretch<'a, W: Write>(
     header: &PcapHeader,
     shown: &'a [u8],
     most: u64,
-) -> Sent<'a>
+) -> Went<'a>
     requires read { IsTrue (is_magic header.now.magic_number) }
     ensures { Sends header.now (written_under header.now) shown.now result.rest.now (W.contents writer.old) (W.contents writer.new) most result.packets has_failed.old has_failed.new result.fault }
 {
     let (packets, rest) = whole_packets(header, shown, most);
     let stretch = &shown[..shown.len() - rest.len()];
     match put_or_tear(writer, has_failed, stretch) {
-        Ok(()) => Sent {
+        Ok(()) => Went {
             packets,
             rest,
             fault: None,
@@ -103,7 +103,7 @@ fn put_stretch<'a, W: Write>(
         Err(Torn { gone, error }) => {
             let (packets, begun) = whole_packets(header, &shown[..gone], most);
             let (_, rest) = whole_packets(header, &shown[gone - begun.len()..], 1);
-            Sent {
+            Went {
                 packets,
                 rest,
                 fault: Some(error),

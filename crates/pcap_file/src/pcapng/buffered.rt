@@ -1,15 +1,13 @@
 //! Copies of captures of blocks, out of a reader's own buffer.
 
-ghost use Rattle.std.specs.Prelude.{◌≡◌, ◌≤◌, ◌<◌, [], false};
-ghost use Rattle.pcap_core.specs.Held.{held_bytes};
-ghost use Rattle.pcap_file.specs.Copies.{IsNew, outcome_of, CopiesBehind, CopyNgRun, StepsShown};
-ghost use Rattle.pcap_file.specs.State.{state_in};
+ghost use Rattle.std.specs.Prelude.{◌≤◌};
+ghost use Rattle.std.specs.Result.{result_err};
+ghost use Rattle.pcap_core.specs.Copying.{NothingCopied};
+ghost use Rattle.pcap_file.specs.Copies.{copied_of, CopyNgRun};
 
-use crate::pcapng::copying::{NgCopied, copy_first, copy_next};
-use crate::pcapng::state::InForce;
-use crate::pcapng::stretch::{Sent, put_shown};
-use pcap_core::stream::Held;
-use pcap_core::{PcapError, ResultParsing};
+use crate::pcapng::copying::{Blocks, NgCopied, copy_first};
+use pcap_core::ResultParsing;
+use pcap_core::stream::{Held, Tally, copy_buffers};
 use std::alloc::Global;
 use std::io::{BufRead, Write};
 
@@ -28,9 +26,9 @@ pub fn copy_pcapng_buffered<R: BufRead, W: Write>(
     ensures most { result.blocks ≤ most }
     ensures run { CopyNgRun (R.remaining reader.old) (R.remaining reader.new) (W.contents writer.old) (W.contents writer.new) most result }
 {
-    let mut copied = NgCopied::none();
-    copied.fault = copy_all_shown(alloc, reader, writer, most, &mut copied).err();
-    copied
+    let mut tally = Tally::none();
+    let fault = copy_all_shown(alloc, reader, writer, most, &mut tally).err();
+    NgCopied::of(&tally, fault)
 }
 
 // Copies the first block and those after it, and counts these.
@@ -39,92 +37,21 @@ fn copy_all_shown<R: BufRead, W: Write>(
     reader: &mut R,
     writer: &mut W,
     most: u64,
-    copied: &mut NgCopied,
+    tally: &mut Tally,
 ) -> ResultParsing<()>
-    requires { IsNew copied.old }
-    ensures { CopyNgRun (R.remaining reader.old) (R.remaining reader.new) (W.contents writer.old) (W.contents writer.new) most (outcome_of copied.new result) }
+    requires { NothingCopied tally.old }
+    ensures { CopyNgRun (R.remaining reader.old) (R.remaining reader.new) (W.contents writer.old) (W.contents writer.new) most (copied_of tally.new (result_err result)) }
 {
     let mut held = Held::new(alloc);
-    let mut in_force = copy_first(alloc, reader, writer, copied, &mut held)?;
+    let mut in_force = copy_first(alloc, reader, writer, tally, &mut held)?;
     copy_buffers(
         alloc,
+        &Blocks,
         &mut in_force,
         reader,
         writer,
         most,
-        copied,
+        tally,
         &mut held,
     )
-}
-
-// Copies blocks until `most` are copied: those of a buffer, and then the one that follows them.
-fn copy_buffers<R: BufRead, W: Write>(
-    alloc: Global,
-    in_force: &mut InForce,
-    reader: &mut R,
-    writer: &mut W,
-    most: u64,
-    copied: &mut NgCopied,
-    held: &mut Held,
-) -> ResultParsing<()>
-    requires new { IsNew copied.old }
-    requires between { held_bytes held.old ≡ [] }
-    ensures { CopiesBehind (state_in in_force.old) (R.remaining reader.old) (R.remaining reader.new) (W.contents writer.old) (W.contents writer.new) most (outcome_of copied.new result) }
-{
-    while copied.blocks < most {
-        if !copy_shown(in_force, reader, writer, most, copied)? {
-            return Ok(());
-        }
-        if copied.blocks == most {
-            return Ok(());
-        }
-        if !copy_next(alloc, in_force, reader, writer, copied, held)? {
-            return Ok(());
-        }
-    }
-    Ok(())
-}
-
-// Copies the blocks that lie whole at the front of the reader's buffer and put nothing in force, until `most` are copied, and
-// says whether there was a buffer.
-fn copy_shown<R: BufRead, W: Write>(
-    in_force: &InForce,
-    reader: &mut R,
-    writer: &mut W,
-    most: u64,
-    copied: &mut NgCopied,
-) -> ResultParsing<bool>
-    requires fewer { copied.old.blocks < most }
-    requires no_read_failed { copied.old.read_failed ≡ false }
-    requires no_write_failed { copied.old.write_failed ≡ false }
-    ensures { StepsShown (state_in in_force.now) (R.remaining reader.old) (R.remaining reader.new) (W.contents writer.old) (W.contents writer.new) copied.old.blocks most copied.new result }
-{
-    let shown = match reader.fill_buf() {
-        Ok(shown) => shown,
-        Err(e) => {
-            copied.read_failed = true;
-            return Err(PcapError::IoError(e));
-        }
-    };
-    if shown.is_empty() {
-        return Ok(false);
-    }
-    let room = most - copied.blocks;
-    let Sent {
-        blocks,
-        used,
-        fault,
-    } = put_shown(
-        writer,
-        &mut copied.write_failed,
-        in_force.order(),
-        shown,
-        room,
-    );
-    reader.consume(used);
-    copied.blocks += blocks;
-    match fault {
-        None => Ok(true),
-        Some(error) => Err(error),
-    }
 }

@@ -1,22 +1,23 @@
 //! Copies of captures of blocks, from a reader to a writer.
 
-ghost use Rattle.std.specs.Prelude.{◌≡◌, ◌≤◌, ◌<◌, ◌+◌, ◌^◌, [], false, OnOk};
-ghost use Rattle.pcap_core.specs.Errors.{IsIo};
+ghost use Rattle.std.specs.Prelude.{◌≡◌, ◌≤◌, [], OnOk};
+ghost use Rattle.std.specs.Result.{result_err};
+ghost use Rattle.pcap_core.specs.Copying.{NothingCopied};
 ghost use Rattle.pcap_core.specs.Held.{held_bytes};
 ghost use Rattle.pcap_core.specs.Filling.{Stated};
-ghost use Rattle.pcap_file.specs.Copies.{IsNew, outcome_of, StepsNg, BeginsNg, CopiesBehind, CopyNgRun, FollowsHeld};
+ghost use Rattle.pcap_file.specs.Copies.{copied_of, BeginsNg, CopyNgRun, FollowsHeld};
 ghost use Rattle.pcap_file.specs.Frames.{frame_format};
 ghost use Rattle.pcap_file.specs.State.{order_at, state_in};
 ghost use Rattle.pcap_file.specs.StatedFrames.{KnowsFrame};
 
 use crate::pcapng::framing::{FrameHead, FramesIn};
 use crate::pcapng::state::InForce;
-use crate::pcapng::taking::opened;
-use pcap_core::stream::{Held, fill_item, put};
+use crate::pcapng::stretch::put_shown;
+use crate::pcapng::taking::{ended_early, opened};
+use pcap_core::stream::{Ahead, Held, Sent, Tally, copy_items, fill_item, put};
 use pcap_core::{Endianness, PcapError, ResultParsing};
 use std::alloc::Global;
-use std::io;
-use std::io::{ErrorKind, Read, Write};
+use std::io::{Read, Write};
 
 /// How a copy of blocks ended.
 #[derive(Debug, Drop)]
@@ -32,15 +33,15 @@ pub struct NgCopied {
 }
 
 impl NgCopied {
-    // A copy of which nothing is done.
-    pub(crate) fn none() -> NgCopied
-        ensures { IsNew result }
+    // A copy that came so far, and ended with this fault, or none.
+    pub(crate) fn of(tally: &Tally, fault: Option<PcapError>) -> NgCopied
+        ensures { result ≡ copied_of tally.now fault }
     {
         NgCopied {
-            blocks: 0,
-            fault: None,
-            read_failed: false,
-            write_failed: false,
+            blocks: tally.items,
+            fault,
+            read_failed: tally.read_failed,
+            write_failed: tally.write_failed,
         }
     }
 }
@@ -62,9 +63,9 @@ pub fn copy_pcapng<R: Read, W: Write>(
     ensures most { result.blocks ≤ most }
     ensures run { CopyNgRun (R.remaining reader.old) (R.remaining reader.new) (W.contents writer.old) (W.contents writer.new) most result }
 {
-    let mut copied = NgCopied::none();
-    copied.fault = copy_all(alloc, reader, writer, most, &mut copied).err();
-    copied
+    let mut tally = Tally::none();
+    let fault = copy_all(alloc, reader, writer, most, &mut tally).err();
+    NgCopied::of(&tally, fault)
 }
 
 // Copies the first block and those after it, and counts these.
@@ -73,20 +74,21 @@ fn copy_all<R: Read, W: Write>(
     reader: &mut R,
     writer: &mut W,
     most: u64,
-    copied: &mut NgCopied,
+    tally: &mut Tally,
 ) -> ResultParsing<()>
-    requires { IsNew copied.old }
-    ensures { CopyNgRun (R.remaining reader.old) (R.remaining reader.new) (W.contents writer.old) (W.contents writer.new) most (outcome_of copied.new result) }
+    requires { NothingCopied tally.old }
+    ensures { CopyNgRun (R.remaining reader.old) (R.remaining reader.new) (W.contents writer.old) (W.contents writer.new) most (copied_of tally.new (result_err result)) }
 {
     let mut held = Held::new(alloc);
-    let mut in_force = copy_first(alloc, reader, writer, copied, &mut held)?;
-    copy_blocks(
+    let mut in_force = copy_first(alloc, reader, writer, tally, &mut held)?;
+    copy_items(
         alloc,
+        &Blocks,
         &mut in_force,
         reader,
         writer,
         most,
-        copied,
+        tally,
         &mut held,
     )
 }
@@ -96,74 +98,81 @@ pub(crate) fn copy_first<R: Read, W: Write>(
     alloc: Global,
     reader: &mut R,
     writer: &mut W,
-    copied: &mut NgCopied,
+    tally: &mut Tally,
     held: &mut Held,
 ) -> ResultParsing<InForce>
-    requires new { IsNew copied.old }
+    requires new { NothingCopied tally.old }
     requires between { held_bytes held.old ≡ [] }
-    ensures begins { BeginsNg (R.remaining reader.old) (R.remaining reader.new) (W.contents writer.old) (W.contents writer.new) copied.new result }
+    ensures begins { BeginsNg (R.remaining reader.old) (R.remaining reader.new) (W.contents writer.old) (W.contents writer.new) tally.new result }
     ensures between { OnOk result (held_bytes held.new ≡ []) }
 {
     let frames = FramesIn {
         order: Endianness::Big,
     };
-    let Some(head) = fill_item(&frames, reader, &mut copied.read_failed, held)? else {
+    let Some(head) = fill_item(&frames, reader, &mut tally.read_failed, held)? else {
         return Err(ended_early());
     };
     let in_force = opened(alloc, head, held.as_slice())?;
-    put(writer, &mut copied.write_failed, held.as_slice())?;
+    put(writer, &mut tally.write_failed, held.as_slice())?;
     held.clear();
     Ok(in_force)
 }
 
-// Copies blocks until `most` are copied.
-fn copy_blocks<R: Read, W: Write>(
-    alloc: Global,
-    in_force: &mut InForce,
-    reader: &mut R,
-    writer: &mut W,
-    most: u64,
-    copied: &mut NgCopied,
-    held: &mut Held,
-) -> ResultParsing<()>
-    requires new { IsNew copied.old }
-    requires between { held_bytes held.old ≡ [] }
-    ensures { CopiesBehind (state_in in_force.old) (R.remaining reader.old) (R.remaining reader.new) (W.contents writer.old) (W.contents writer.new) most (outcome_of copied.new result) }
-{
-    while copied.blocks < most {
-        if !copy_next(alloc, in_force, reader, writer, copied, held)? {
-            return Ok(());
-        }
-    }
-    Ok(())
-}
+// Blocks, which go out as they came.
+#[derive(Drop)]
+pub(crate) struct Blocks;
 
-// Copies the next block, which is held meanwhile, and says whether there was one.
-pub(crate) fn copy_next<R: Read, W: Write>(
-    alloc: Global,
-    in_force: &mut InForce,
-    reader: &mut R,
-    writer: &mut W,
-    copied: &mut NgCopied,
-    held: &mut Held,
-) -> ResultParsing<bool>
-    requires countable { copied.old.blocks + 1 < 2 ^ 64 }
-    requires no_read_failed { copied.old.read_failed ≡ false }
-    requires no_write_failed { copied.old.write_failed ≡ false }
-    requires between { held_bytes held.old ≡ [] }
-    ensures steps { StepsNg (state_in in_force.old) (state_in in_force.new) (R.remaining reader.old) (R.remaining reader.new) (W.contents writer.old) (W.contents writer.new) copied.old.blocks copied.new result }
-    ensures between { OnOk result (held_bytes held.new ≡ []) }
-{
-    let order = in_force.order();
-    let frames = FramesIn { order };
-    let Some(head) = fill_item(&frames, reader, &mut copied.read_failed, held)? else {
-        return Ok(false);
-    };
-    follow_held(alloc, in_force, frames, head, held.as_slice())?;
-    put(writer, &mut copied.write_failed, held.as_slice())?;
-    held.clear();
-    copied.blocks += 1;
-    Ok(true)
+impl Ahead for Blocks {
+    ghost use Rattle.std.specs.Prelude.{⊤};
+    ghost use Rattle.pcap_file.specs.Blocks.{Item as BlockItem, block_format};
+    ghost use Rattle.pcap_file.specs.Copies.{as_they_came};
+    ghost use Rattle.pcap_file.specs.State.{State as BlockState, state_in};
+
+    type Place = InForce;
+
+    ghost State = { BlockState };
+
+    ghost Value = { BlockItem };
+
+    ghost stands = { λ blocks. ⊤ };
+
+    ghost format = { λ blocks. block_format };
+
+    ghost written = { λ blocks. as_they_came };
+
+    ghost state = { state_in };
+
+    fn copy_next<R: Read, W: Write>(
+        &self,
+        alloc: Global,
+        place: &mut InForce,
+        reader: &mut R,
+        writer: &mut W,
+        tally: &mut Tally,
+        held: &mut Held,
+    ) -> ResultParsing<bool> {
+        let order = place.order();
+        let frames = FramesIn { order };
+        let Some(head) = fill_item(&frames, reader, &mut tally.read_failed, held)? else {
+            return Ok(false);
+        };
+        follow_held(alloc, place, frames, head, held.as_slice())?;
+        put(writer, &mut tally.write_failed, held.as_slice())?;
+        held.clear();
+        tally.items += 1;
+        Ok(true)
+    }
+
+    fn put_shown<W: Write>(
+        &self,
+        place: &InForce,
+        writer: &mut W,
+        has_failed: &mut bool,
+        shown: &[u8],
+        most: u64,
+    ) -> Sent {
+        put_shown(writer, has_failed, place.order(), shown, most)
+    }
 }
 
 // Puts in force what the block says that has this head and is these bytes.
@@ -180,10 +189,4 @@ fn follow_held(
 {
     let block = frames.block(head, held)?;
     in_force.follow(alloc, &block)
-}
-
-fn ended_early() -> PcapError
-    ensures { IsIo result }
-{
-    PcapError::IoError(io::Error::new(ErrorKind::UnexpectedEof, "the stream ended early"))
 }

@@ -6,19 +6,9 @@ ghost use Rattle.pcap_file.specs.Stretches.{IsStretch, NoneBefore, Passes, Passe
 
 use crate::pcapng::fields::{split_u32_in, u32_in};
 use pcap_blocks::BlockType;
-use pcap_core::stream::{Torn, put_or_tear};
-use pcap_core::{Endianness, PcapError};
+use pcap_core::Endianness;
+use pcap_core::stream::{Sent, Torn, put_or_tear};
 use std::io::Write;
-
-// What of a buffer went out.
-pub(crate) struct Sent {
-    // How many whole blocks.
-    pub(crate) blocks: u64,
-    // How many bytes these have, and with them the block in which a write failed.
-    pub(crate) used: usize,
-    // The write that failed.
-    pub(crate) fault: Option<PcapError>,
-}
 
 // Writes the whole blocks at the front of a buffer at once, as they came: at most so many, and up to a section header or an
 // interface.
@@ -30,20 +20,20 @@ pub(crate) fn put_shown<W: Write>(
     most: u64,
 ) -> Sent
     ensures within { result.used ≤ length shown.now }
-    ensures sends { Sends order (take result.used shown.now) (W.contents writer.old) (W.contents writer.new) most result.blocks has_failed.old has_failed.new result.fault }
+    ensures sends { Sends order (take result.used shown.now) (W.contents writer.old) (W.contents writer.new) most result.items has_failed.old has_failed.new result.fault }
 {
     let (blocks, rest) = whole_blocks(order, shown, most);
     let stretch = &shown[..shown.len() - rest.len()];
     match put_or_tear(writer, has_failed, stretch) {
         Ok(()) => Sent {
-            blocks,
+            items: blocks,
             used: stretch.len(),
             fault: None,
         },
         Err(Torn { gone, error }) => {
             let (blocks, used) = torn_block(order, stretch, gone);
             Sent {
-                blocks,
+                items: blocks,
                 used,
                 fault: Some(error),
             }

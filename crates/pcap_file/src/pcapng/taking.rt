@@ -113,7 +113,7 @@ pub(crate) fn open<T: Read>(
     Ok(in_force)
 }
 
-fn ended_early() -> PcapError
+pub(crate) fn ended_early() -> PcapError
     ensures { IsIo result }
 {
     PcapError::IoError(io::Error::new(ErrorKind::UnexpectedEof, "the stream ended early"))

@@ -1,8 +1,17 @@
 use Rattle.std.proofs.lemmas.Result.{err_from_is_err_and}
-use Rattle.pcap_classic.proofs.Copied.{not_begun}
+use Rattle.pcap_classic.proofs.Copied.{copies_run, lawful_under, not_begun, packets_writing}
 use Rattle.pcap_classic.proofs.run.copy.copy_under.Goals as goal
 
 pub returns-in_err-header : goal.returns-in_err-header
 returns-in_err-header g c =
     let p = err_from_is_err_and c.from_residual.result c.from_residual.ensures.1 in
     rw (p.1, p.2) (not_begun _ _ _ _ _ c.args.most _ c.in_err-header.ensures)
+
+pub copy_items-requires-clause-lawful : goal.copy_items-requires-clause-lawful
+copy_items-requires-clause-lawful g c = lawful_under c.in_ok-header.header
+
+pub copy_items-requires-clause-writing : goal.copy_items-requires-clause-writing
+copy_items-requires-clause-writing g c = packets_writing c.in_ok-header.out
+
+pub returns : goal.returns
+returns g c = copies_run c.args.under _ _ _ _ _ _ c.in_ok-header.header c.in_ok-header.out c.args.most _ _ c.copy_items.result c.in_ok-header.ensures c.copy_items.ensures

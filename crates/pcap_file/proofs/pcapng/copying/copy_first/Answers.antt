@@ -7,7 +7,8 @@ use Rattle.std.proofs.KnownBytes.{Keeps-refl}
 use Rattle.pcap_core.specs.declared.common.Endianness.TheVariants.{Big}
 use Rattle.pcap_core.specs.Held.{held_bytes}
 use Rattle.pcap_file.specs.State.{state_in, opening, order_at}
-use Rattle.pcap_file.proofs.Copied.{torn_write, opening_item, one_copied}
+use Rattle.pcap_core.proofs.Copying.{torn_write}
+use Rattle.pcap_file.proofs.Copied.{opening_item, one_copied}
 use Rattle.pcap_file.proofs.HeadedFrames.{frames_lawful}
 use Rattle.pcap_file.proofs.Refusing.{opening_order}
 use Rattle.pcap_file.proofs.Causes.{pull_frame, pull_held, opening_says}

@@ -6,7 +6,7 @@ use Rattle.pcap_core.specs.Format.{Format}
 use Rattle.pcap_core.specs.Reading.{HasCause, TakesAsked}
 use Rattle.pcap_classic.specs.PacketText.{Captured, packet_limit}
 use Rattle.pcap_classic.proofs.Captures.{under_valid}
-use Rattle.pcap_classic.proofs.Copied.{torn_write}
+use Rattle.pcap_core.proofs.Copying.{torn_write}
 use Rattle.pcap_classic.proofs.Packets.{reader_lawful, reader_whole}
 use Rattle.pcap_file.proofs.run.converting.convert_next.Goals as goal
 
