@@ -1,5 +1,6 @@
 """Captures and block bodies to measure on: the same bytes in each run."""
 
+import os
 import random
 import struct
 
@@ -10,6 +11,11 @@ WEIGHTS = (30, 25, 15, 10, 8, 4, 8)
 def mixed(chance):
     """A size of a packet, about 250 bytes in the mean."""
     return chance.choices(SIZES, WEIGHTS)[0] + chance.randrange(100)
+
+
+def larger(chance):
+    """A size with which a million packets take half a gigabyte."""
+    return mixed(chance) + 200
 
 
 def sized(size):
@@ -32,6 +38,16 @@ def write_pcap(path, count, size=mixed, order="<", longest=2048):
         out.write(struct.pack(order + "IHHiIII", 0xA1B2C3D4, 2, 4, 0, 0, 65535, 1))
         for time, data in packets(count, size, longest):
             out.write(head.pack(time // 1_000_000, time % 1_000_000, len(data), len(data)) + data)
+
+
+def read_back(path):
+    """Lets a file go from the cache and reads it, so that it lies there as one does that was read from the disk, and not in as many pieces
+    as it was written in."""
+    with open(path, "rb", buffering=0) as file:
+        os.fsync(file.fileno())
+        os.posix_fadvise(file.fileno(), 0, 0, os.POSIX_FADV_DONTNEED)
+        while file.read(1 << 20):
+            pass
 
 
 def option(code, value):

@@ -22,22 +22,14 @@ class Interface(NamedTuple):
     ts_offset: int
 
 
-class BlockPacket(NamedTuple):
-    """A packet of an interface. `data` lies in the capture: it can be read as long as the capture is open. Of a simple packet it is
-    cut to the original length and to the interface's snaplen, since what follows is padding.
+class Timed:
+    """What the time and the interface of a packet tell."""
 
-    A simple packet has no time, and there `seconds` is None, as it is where the packet names an interface that isn't there,
-    or the seconds pass 64 bits. `offset` is where `data` begins, in bytes from the capture's start.
-    """
+    __slots__ = ()
 
     seconds: Optional[int]
     nanoseconds: int
-    original_length: int
-    data: memoryview
-    timestamp: int
-    interface_id: int
     interface: Optional[Interface]
-    offset: int
 
     @property
     def time(self) -> Optional[float]:
@@ -53,6 +45,28 @@ class BlockPacket(NamedTuple):
     def link(self) -> Optional[int]:
         """The number of the link type of its first layer."""
         return None if self.interface is None else self.interface.link
+
+
+class _Fields(NamedTuple):
+    seconds: Optional[int]
+    nanoseconds: int
+    original_length: int
+    data: memoryview
+    timestamp: int
+    interface_id: int
+    interface: Optional[Interface]
+    offset: int
+
+
+class BlockPacket(_Fields, Timed):
+    """A packet of an interface. `data` lies in the capture: it can be read as long as the capture is open. Of a simple packet it is
+    cut to the original length and to the interface's snaplen, since what follows is padding.
+
+    A simple packet has no time, and there `seconds` is None, as it is where the packet names an interface that isn't there,
+    or the seconds pass 64 bits. `offset` is where `data` begins, in bytes from the capture's start.
+    """
+
+    __slots__ = ()
 
 
 _SIMPLE_PACKET = 3

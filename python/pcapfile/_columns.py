@@ -187,6 +187,8 @@ class _Rows:
     def __init__(self, walk: Any, size: int) -> None:
         self._walk, self._kind, self._size = walk, numpy.dtype(walk.rows), size
         self._taken = ctypes.c_size_t()
+        # A number that numpy adds to many without asking anew what kind of number it is.
+        self._place = numpy.zeros((), "u8")
         self._begin()
 
     def _begin(self) -> None:
@@ -199,12 +201,13 @@ class _Rows:
 
     def take(self, left: _library.Bytes, error: _library.Error) -> int:
         """Takes rows into the places behind those that are filled."""
-        begin, place = self.count, self._walk.window.offset
+        begin, taken, place = self.count, self._taken, self._place
+        place[()] = self._walk.window.offset
         at = self._at + begin * self._kind.itemsize
-        status: int = self._walk.take_rows(left, at, self._size - begin, self._taken, error)
-        self.count = begin + self._taken.value
+        status: int = self._walk.take_rows(left, at, self._size - begin, taken, error)
+        self.count = begin + taken.value
         offsets = self._offsets[begin : self.count]
-        offsets += numpy.uint64(place)
+        numpy.add(offsets, place, offsets)
         return status
 
     def settle(self) -> None:

@@ -109,17 +109,17 @@ class Pieces(Window):
         return self._next - self.left.len
 
     def more(self, missing: int) -> bool:
-        held, room = self.left.len, self.data
-        begin = self.left.ptr - self.start
+        left, room, place = self.left, self.data, self._next
+        held, begin = left.len, left.ptr - self.start
         if 2 * held > len(room):
             self._show(memoryview(mmap.mmap(-1, 2 * len(room))), 0)
-        front = (self._next - held) % PAGE
+        front = (place - held) % PAGE
         behind = front + held
         self.data[front:behind] = room[begin : begin + held]
-        wanted = min(len(self.data) - behind, self._end - self._next)
-        count = os.preadv(self._file.fileno(), [self.data[behind : behind + wanted]], self._next) if wanted > 0 else 0
-        self.left.ptr, self.left.len = self.start + front, held + count
-        self._next += count
+        wanted = self.data[behind : behind + self._end - place]
+        count = os.preadv(self._file.fileno(), [wanted], place) if place < self._end else 0
+        left.ptr, left.len = self.start + front, held + count
+        self._next = place + count
         return count > 0
 
 
