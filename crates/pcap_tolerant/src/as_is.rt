@@ -1,8 +1,9 @@
 //! Packets as they stand: nothing is left out, and what is wrong is said.
 
-ghost use Rattle.std.specs.Prelude.{◌≡◌, ◌≤◌, ◌<◌, ◌*◌, ◌+◌, IsTrue};
+ghost use Rattle.std.specs.Prelude.{◌≡◌, ◌≤◌, ◌<◌, ◌*◌, ◌+◌, IsTrue, MatchResult};
 ghost use Rattle.std.specs.Duration.{as_nanos};
 ghost use Rattle.pcap_core.specs.Answer.{Tells, number_in};
+ghost use Rattle.pcap_core.specs.declared.rules.Rule.TheVariants.{IncludedTooLong};
 ghost use Rattle.pcap_classic.specs.Magic.{is_magic, order_of, resolution_of};
 ghost use Rattle.pcap_classic.specs.Parser.{header_of};
 ghost use Rattle.pcap_classic.specs.PacketText.{Head, nanoseconds};
@@ -64,7 +65,7 @@ impl Flaws {
     }
 }
 
-// The rules that a head of these numbers breaks.
+// The rules that a head of these numbers breaks. V3 where the stored length is above the limit.
 #[inline(always)]
 fn flaws_in(
     ts_resolution: TsResolution,
@@ -72,29 +73,35 @@ fn flaws_in(
     fraction: u32,
     incl_len: u32,
     orig_len: u32,
-) -> Flaws
+    limit: u32,
+) -> Result<Flaws, Rule>
     ensures { let head : Head = record { seconds = ts_sec; fraction = fraction; included = incl_len; original = orig_len } in
-        result ≡ flaws_of ts_resolution head }
+        MatchResult result
+        (λ flaws. (incl_len ≤ raised limit) × (flaws ≡ flaws_of ts_resolution head))
+        (λ rule. (raised limit < incl_len) × (rule ≡ IncludedTooLong)) }
 {
     let nanos = match ts_resolution {
         TsResolution::NanoSecond => u64::from(fraction),
         TsResolution::MicroSecond => 1000 * u64::from(fraction),
     };
-    // nearly all packets break none, and a branch of its own tells that in fewer instructions
+    // nearly all packets break none, and are below every limit: a branch of its own tells that in fewer instructions
     if nanos <= 4294967295 && orig_len <= PACKET_LIMIT && incl_len <= orig_len {
-        return Flaws {
+        return Ok(Flaws {
             fraction_too_large: false,
             included_too_long: false,
             original_too_long: false,
             included_past_original: false,
-        };
+        });
     }
-    Flaws {
+    if incl_len > limit.max(PACKET_LIMIT) {
+        return Err(Rule::IncludedTooLong);
+    }
+    Ok(Flaws {
         fraction_too_large: nanos > 4294967295,
         included_too_long: incl_len > PACKET_LIMIT,
         original_too_long: orig_len > PACKET_LIMIT,
         included_past_original: incl_len > orig_len,
-    }
+    })
 }
 
 /// The head of a packet as it stands: its four numbers as they were written, and which rules they break.
@@ -132,11 +139,7 @@ impl HeadAsIs {
         let (fraction, rest) = split_u32::<B>(rest);
         let (incl_len, rest) = split_u32::<B>(rest);
         let (orig_len, rest) = split_u32::<B>(rest);
-        let most = limit.max(PACKET_LIMIT);
-        if incl_len > most {
-            return Err(PcapError::from(Rule::IncludedTooLong));
-        }
-        let flaws = flaws_in(ts_resolution, ts_sec, fraction, incl_len, orig_len);
+        let flaws = flaws_in(ts_resolution, ts_sec, fraction, incl_len, orig_len, limit)?;
         let head = HeadAsIs {
             ts_sec,
             fraction,
