@@ -3,3 +3,4 @@ mod StrictLists
 pub mod StrictBodies
 mod Bodies
 pub mod OneAsIs
+pub mod OneBodies

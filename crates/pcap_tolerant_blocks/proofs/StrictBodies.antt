@@ -1,139 +1,171 @@
 -- What the strict reading says where bodies stand as they are.
-use Rattle.std.proofs.Common.{◌≡◌, ℕ, List, [], ◌∷◌, length, Option, Some, None, refl, sym, subst, ◌∙◌}
-use Rattle.byteorder.specs.Endian.{big_number}
-use Rattle.pcap_core.specs.declared.common.Endianness.{Endianness}
-use Rattle.pcap_core.specs.Answer.{Order, Number, number_in, Verdict, whole, faulty}
+use Rattle.std.proofs.Common.{ℕ, List, [], ◌∷◌, Option, Some, None, refl, sym, subst, ◌∙◌}
+use Rattle.pcap_core.specs.Answer.{Order, number_in, Verdict, whole, faulty}
 use Rattle.pcap_core.specs.Faults.{Fault, Invalid}
+use Rattle.pcap_core.specs.Laws.{ExactlyOne}
 use Rattle.pcap_core.specs.declared.rules.Rule.{Rule}
-use Rattle.pcap_core.specs.declared.rules.Rule.TheVariants.{InterfaceTooShort, EnhancedTooShort, EnhancedCut}
-use Rattle.pcap_core.specs.Padded.{Padded, Behind}
+use Rattle.pcap_core.specs.declared.rules.Rule.TheVariants.{InterfaceTooShort, EnhancedCut}
+use Rattle.pcap_core.specs.Padded.{Behind}
 use Rattle.pcap_core.proofs.Padded.{behind_number, behind_both}
-use Rattle.pcap_blocks.specs.Values.{Entry}
-use Rattle.pcap_blocks.specs.Options.{may_end_with_body, ListSays}
+use Rattle.pcap_blocks.specs.Values.{Entry, Kind}
+use Rattle.pcap_blocks.specs.Options.{may_end_with_body, OptionList, ListFault, ListSays}
 use Rattle.pcap_blocks.specs.InterfaceDescription.{interface_description, Interface, InterfaceHead, short, in_options, InterfaceSays}
 use Rattle.pcap_blocks.proofs.OneInterface.{interface_one}
-use Rattle.pcap_blocks.specs.SectionHeader.{section_header, magic_order, Section, VersionText, SectionFault, SectionSays}
+use Rattle.pcap_blocks.specs.SectionHeader.{section_header, Section, VersionText, SectionFault, SectionSays}
 use Rattle.pcap_blocks.specs.SectionHeader as strict_section
 use Rattle.pcap_blocks.proofs.OneSection.{section_one}
+use Rattle.pcap_blocks.specs.StoredPacket.{Stored, StoredText, StoredFault}
 use Rattle.pcap_blocks.specs.StoredPacket as stored
-use Rattle.pcap_blocks.specs.EnhancedPacket.{enhanced_packet, Enhanced, EnhancedSays}
+use Rattle.pcap_blocks.specs.EnhancedPacket.{enhanced_packet, Enhanced, EnhancedFault, EnhancedSays}
 use Rattle.pcap_blocks.specs.EnhancedPacket as strict_enhanced
 use Rattle.pcap_blocks.proofs.OneEnhanced.{enhanced_one}
-use Rattle.pcap_tolerant_blocks.specs.Flaws.{Said, alone, StrictIs, StrictIsWhere}
+use Rattle.pcap_blocks.specs.Packet.{packet_kind, PacketBody, PacketBodyFault, PacketBodySays}
+use Rattle.pcap_blocks.specs.Packet as strict_packet
+use Rattle.pcap_blocks.proofs.OnePacket.{packet_body_one}
+use Rattle.pcap_blocks.specs.SimplePacket.{Simple, SimpleFault, SimpleSays}
+use Rattle.pcap_blocks.specs.SimplePacket as strict_simple
+use Rattle.pcap_blocks.proofs.OneWhole.{simple_one}
+use Rattle.pcap_blocks.specs.InterfaceStatistics.{interface_statistics, Statistics, StatisticsFault, StatisticsSays}
+use Rattle.pcap_blocks.specs.InterfaceStatistics as strict_statistics
+use Rattle.pcap_blocks.proofs.OneStatistics.{statistics_one}
+use Rattle.pcap_blocks.proofs.StoredPackets.{behind_time}
+use Rattle.pcap_tolerant_blocks.specs.Flaws.{Said, IfRoom, StrictIs, StrictIsWhere}
+use Rattle.pcap_tolerant_blocks.specs.OptionsAsIs.{OptionsAsIs}
 use Rattle.pcap_tolerant_blocks.specs.InterfaceAsIs.{InterfaceText}
 use Rattle.pcap_tolerant_blocks.specs.SectionAsIs.{SectionText, NoSection, short_section, unnamed}
-use Rattle.pcap_tolerant_blocks.specs.EnhancedAsIs.{PacketHead, EnhancedText, NoPacket, no_head, no_bytes}
+use Rattle.pcap_tolerant_blocks.specs.StoredAsIs.{WithBytes, NoPacket, no_head, no_bytes}
+use Rattle.pcap_tolerant_blocks.specs.EnhancedAsIs.{OfInterface, EnhancedText}
+use Rattle.pcap_tolerant_blocks.specs.PacketBlockAsIs.{WithDrops, PacketBlockText}
+use Rattle.pcap_tolerant_blocks.specs.SimpleAsIs.{Whole, NoLength, SimpleAsIsText}
+use Rattle.pcap_tolerant_blocks.specs.StatisticsAsIs.{AtTime, NoTime, StatisticsAsIsText}
 use Rattle.pcap_tolerant_blocks.proofs.StrictLists.{list_there}
 
-abbrev InterfaceThere : Order → Option Interface → List Said → List ℕ → List ℕ → Type 0
-InterfaceThere order interface flaws s rest = (v : Verdict Interface) × InterfaceSays order s v × StrictIsWhere flaws interface rest v
+-- ---- what bodies share
+
+-- a strict verdict, and that it is the one that the law says
+abbrev Meant : {V : Type 0} → (Verdict V → Type 0) → List Said → Option V → List ℕ → Type 0
+Meant {V} IsSaid flaws value rest = (v : Verdict V) × IsSaid v × StrictIsWhere flaws value rest v
+
+-- it is the only one
+meant : {V : Type 0} (IsSaid : Verdict V → Type 0) (flaws : List Said) (value : Option V) (rest : List ℕ) (v : Verdict V) → ExactlyOne IsSaid → Meant IsSaid flaws value rest → IsSaid v → StrictIsWhere flaws value rest v
+meant {V} IsSaid flaws value rest v one t y = subst (λ (w : Verdict V). StrictIsWhere flaws value rest w) (one.only t.0 t.1 ∙ sym (one.only v y)) t.2
+
+-- where there is no room for a body its rule is the strict fault
+if_room : {V : Type 0} (IsText : V → List Said → List ℕ → List ℕ → Type 0) (NoRoom : List ℕ → Rule → Type 0) (s : List ℕ) (IsSaid : Verdict V → Type 0)
+    → ((value : V) (flaws : List Said) (rest : List ℕ) → IsText value flaws s rest → Meant IsSaid flaws (Some value) rest) → ((rule : Rule) → NoRoom s rule → IsSaid (faulty (Invalid rule)))
+    → (value : Option V) (flaws : List Said) (rest : List ℕ) → IfRoom IsText NoRoom value flaws s rest → Meant IsSaid flaws value rest
+if_room IsText NoRoom s IsSaid there refused None flaws rest x = rw x.2 (faulty (Invalid x.0), refused x.0 x.1, refl)
+if_room IsText NoRoom s IsSaid there refused (Some value) flaws rest x = there value flaws rest x
+
+module _ (order : Order) (kind : Kind) where
+  by_flaws : {V : Type 0} (IsSaid : Verdict V → Type 0) (value : V) (options : List Entry) (flaws : List Said) (s rest : List ℕ) → (v : Verdict (List Entry)) × ListSays may_end_with_body order kind s v × StrictIs flaws options rest v
+      → (OptionList may_end_with_body order kind options s rest → IsSaid (whole value rest)) → ((fault : Fault) → ListFault may_end_with_body order kind s fault → IsSaid (faulty fault)) → Meant IsSaid flaws (Some value) rest
+  by_flaws IsSaid value options [] s rest t sound wrong =
+      (whole value rest, sound (subst (λ (v : Verdict (List Entry)). ListSays may_end_with_body order kind s v) t.2 t.1), refl)
+  by_flaws IsSaid value options (first ∷ others) s rest t sound wrong =
+      (faulty first.fault, wrong first.fault (subst (λ (v : Verdict (List Entry)). ListSays may_end_with_body order kind s v) t.2 t.1), refl)
+
+  -- a body that ends in options is whole where they have no flaw, and else has their first
+  options_behind : {V : Type 0} (IsSaid : Verdict V → Type 0) (value : V) (options : List Entry) (flaws : List Said) (s rest : List ℕ) → OptionsAsIs order kind options flaws s rest
+      → (OptionList may_end_with_body order kind options s rest → IsSaid (whole value rest)) → ((fault : Fault) → ListFault may_end_with_body order kind s fault → IsSaid (faulty fault)) → Meant IsSaid flaws (Some value) rest
+  options_behind IsSaid value options flaws s rest x sound wrong = by_flaws IsSaid value options flaws s rest (list_there order kind options flaws s rest x) sound wrong
+
+-- ---- interfaces
 
 head_behind : (order : Order) (i : Interface) (s rest : List ℕ) → InterfaceHead order i s rest → Behind 8 s rest
 head_behind order i s rest h = behind_both (behind_both (behind_number h.link_number_is) (behind_number h.reserved_is)) (behind_number h.snaplen_is)
 
--- a head, and what is said of the options behind it
-behind_head : (order : Order) (i : Interface) (flaws : List Said) (s after rest : List ℕ) → InterfaceHead order i s after
-    → (v : Verdict (List Entry)) × ListSays may_end_with_body order interface_description after v × StrictIs flaws i.options rest v → InterfaceThere order (Some i) flaws s rest
-behind_head order i [] s after rest head t =
-    (whole i rest, record { after_head = after; head = head; options_are = subst (λ (v : Verdict (List Entry)). ListSays may_end_with_body order interface_description after v) t.2 t.1 }, refl)
-behind_head order i (first ∷ others) s after rest head t =
-    (faulty first.fault, in_options first.fault after (head_behind order i s after head) (subst (λ (v : Verdict (List Entry)). ListSays may_end_with_body order interface_description after v) t.2 t.1), refl)
-
-interface_there : (order : Order) (interface : Option Interface) (flaws : List Said) (s rest : List ℕ) → InterfaceText order interface flaws s rest → InterfaceThere order interface flaws s rest
+interface_there : (order : Order) (interface : Option Interface) (flaws : List Said) (s rest : List ℕ) → InterfaceText order interface flaws s rest → Meant (InterfaceSays order s) flaws interface rest
 interface_there order None flaws s rest x = rw x.1 (faulty (Invalid InterfaceTooShort), short x.0, refl)
-interface_there order (Some i) flaws s rest x = behind_head order i flaws s x.after_head rest x.head (list_there order interface_description i.options flaws x.after_head rest x.options_are)
+interface_there order (Some i) flaws s rest x =
+    options_behind order interface_description (InterfaceSays order s) i i.options flaws x.after_head rest x.options_are (λ list. record { after_head = x.after_head; head = x.head; options_are = list })
+    (λ fault stands. in_options fault x.after_head (head_behind order i s x.after_head x.head) stands)
 
 pub interface_strict : (order : Order) (interface : Option Interface) (flaws : List Said) (s rest : List ℕ) (v : Verdict Interface) → InterfaceText order interface flaws s rest → InterfaceSays order s v
     → StrictIsWhere flaws interface rest v
-interface_strict order interface flaws s rest v x y =
-    let t = interface_there order interface flaws s rest x in
-    let one = interface_one order s in
-    subst (λ (w : Verdict Interface). StrictIsWhere flaws interface rest w) (one.only t.0 t.1 ∙ sym (one.only v y)) t.2
+interface_strict order interface flaws s rest v x y = meant (InterfaceSays order s) flaws interface rest v (interface_one order s) (interface_there order interface flaws s rest x) y
 
 -- ---- sections
-
-abbrev SectionThere : Section → List Said → List ℕ → List ℕ → Type 0
-SectionThere section flaws s rest = (v : Verdict Section) × SectionSays s v × StrictIs flaws section rest v
 
 version_behind : (order : Order) (section : Section) (s rest : List ℕ) → VersionText order section s rest → Behind 12 s rest
 version_behind order section s rest h = behind_both (behind_both (behind_number h.major) (behind_number h.minor)) (behind_number h.length_number)
 
--- a magic number and a version, and what is said of the options behind them
-behind_version : (section : Section) (flaws : List Said) (s behind after rest : List ℕ) (e : Endianness) → Number big_number 4 section.magic s behind → magic_order section.magic ≡ Some e → VersionText (number_in e) section behind after
-    → (v : Verdict (List Entry)) × ListSays may_end_with_body (number_in e) section_header after v × StrictIs flaws section.options rest v → SectionThere section flaws s rest
-behind_version section [] s behind after rest e magic names version t = (
-  whole section rest,
-  record {
-    after_magic = behind;
-    endianness = e;
-    magic_is = magic;
-    names = names;
-    after = record { after_version = after; version = version; options_are = subst (λ (v : Verdict (List Entry)). ListSays may_end_with_body (number_in e) section_header after v) t.2 t.1 };
-  },
-  refl,
-)
-behind_version section (first ∷ others) s behind after rest e magic names version t =
-    let fault = subst (λ (v : Verdict (List Entry)). ListSays may_end_with_body (number_in e) section_header after v) t.2 t.1 in (
-      faulty first.fault,
-      strict_section.after_magic first.fault section.magic behind e magic names (record { after_version = after; behind = version_behind (number_in e) section behind after version; in_options = fault }),
-      refl,
-    )
-
-section_there : (section : Section) (flaws : List Said) (s rest : List ℕ) → SectionText section flaws s rest → SectionThere section flaws s rest
+section_there : (section : Section) (flaws : List Said) (s rest : List ℕ) → SectionText section flaws s rest → Meant (SectionSays s) flaws (Some section) rest
 section_there section flaws s rest x =
     let order = number_in x.endianness in
-    behind_version section flaws s x.after_magic x.after.after_version rest x.endianness x.magic_is x.names x.after.version (list_there order section_header section.options flaws x.after.after_version rest x.after.options_are)
+    options_behind order section_header (SectionSays s) section section.options flaws x.after.after_version rest x.after.options_are
+    (λ list. record { after_magic = x.after_magic; endianness = x.endianness; magic_is = x.magic_is; names = x.names; after = record { after_version = x.after.after_version; version = x.after.version; options_are = list } })
+    (λ fault stands. strict_section.after_magic fault section.magic x.after_magic x.endianness x.magic_is x.names
+    (record { after_version = x.after.after_version; behind = version_behind order section x.after_magic x.after.after_version x.after.version; in_options = stands }))
 
 pub section_strict : (section : Section) (flaws : List Said) (s rest : List ℕ) (v : Verdict Section) → SectionText section flaws s rest → SectionSays s v → StrictIs flaws section rest v
-section_strict section flaws s rest v x y =
-    let t = section_there section flaws s rest x in
-    let one = section_one s in
-    subst (λ (w : Verdict Section). StrictIs flaws section rest w) (one.only t.0 t.1 ∙ sym (one.only v y)) t.2
+section_strict section flaws s rest v x y = meant (SectionSays s) flaws (Some section) rest v (section_one s) (section_there section flaws s rest x) y
 
 pub section_refused : (s : List ℕ) (fault : Fault) → NoSection s fault → SectionFault s fault
 section_refused s fault (short_section lt) = strict_section.short lt
 section_refused s fault (unnamed magic after long number none) = strict_section.no_magic magic after long number none
 
--- ---- enhanced packets
+-- ---- packets with a time, whatever stands before it
 
-abbrev EnhancedThere : Order → Option Enhanced → List Said → List ℕ → List ℕ → Type 0
-EnhancedThere order enhanced flaws s rest = (v : Verdict Enhanced) × EnhancedSays order s v × StrictIsWhere flaws enhanced rest v
+-- a body that ends in a stored packet is whole where the packet has no flaw, and else has its first
+stored_behind : (order : Order) (kind : Kind) {V : Type 0} (IsSaid : Verdict V → Type 0) (value : V) (packet : Stored) (flaws : List Said) (s rest : List ℕ) → WithBytes order kind packet flaws s rest
+    → (StoredText order kind packet s rest → IsSaid (whole value rest)) → ((fault : Fault) → StoredFault order kind s fault → IsSaid (faulty fault)) → Meant IsSaid flaws (Some value) rest
+stored_behind order kind IsSaid value packet flaws s rest x sound wrong =
+    options_behind order kind IsSaid value packet.options flaws x.after_bytes rest x.options_are
+    (λ list. sound (record { after_head = x.after_head; after_bytes = x.after_bytes; head = x.head; captured = x.captured; padded = x.padded; options_are = list }))
+    (λ fault stands. wrong fault (stored.in_options fault packet x.after_head x.after_bytes x.head x.captured x.padded stands))
 
-none_there : (order : Order) (s rest : List ℕ) (rule : Rule) → NoPacket order s rule → EnhancedThere order None (alone rule) s rest
-none_there order s rest rule (no_head lt) = (faulty (Invalid EnhancedTooShort), strict_enhanced.short lt, refl)
-none_there order s rest rule (no_bytes enhanced after head lt) =
-    (faulty (Invalid EnhancedCut), strict_enhanced.in_packet (Invalid EnhancedCut) head.after_interface (behind_number head.interface_is) (stored.cut enhanced.packet after head.head lt), refl)
+enhanced_refused : (order : Order) (s : List ℕ) (rule : Rule) → NoPacket order s rule → EnhancedFault order s (Invalid rule)
+enhanced_refused order s rule (no_head lt) = strict_enhanced.short lt
+enhanced_refused order s rule (no_bytes after behind x) = strict_enhanced.in_packet (Invalid EnhancedCut) after behind (stored.cut x.packet x.after x.head x.missing)
 
--- the bytes of a packet, and what is said of the options behind them
-behind_bytes : (order : Order) (enhanced : Enhanced) (flaws : List Said) (s after after_bytes rest : List ℕ) → PacketHead order enhanced s after → length enhanced.packet.bytes ≡ enhanced.packet.captured_len → Padded enhanced.packet.bytes after after_bytes
-    → (v : Verdict (List Entry)) × ListSays may_end_with_body order enhanced_packet after_bytes v × StrictIs flaws enhanced.packet.options rest v → EnhancedThere order (Some enhanced) flaws s rest
-behind_bytes order enhanced [] s after after_bytes rest head captured padded t = (
-  whole enhanced rest,
-  record {
-    after_interface = head.after_interface;
-    interface_is = head.interface_is;
-    packet_is = record {
-      after_head = after;
-      after_bytes = after_bytes;
-      head = head.head;
-      captured = captured;
-      padded = padded;
-      options_are = subst (λ (v : Verdict (List Entry)). ListSays may_end_with_body order enhanced_packet after_bytes v) t.2 t.1;
-    };
-  },
-  refl,
-)
-behind_bytes order enhanced (first ∷ others) s after after_bytes rest head captured padded t =
-    let fault = subst (λ (v : Verdict (List Entry)). ListSays may_end_with_body order enhanced_packet after_bytes v) t.2 t.1 in
-    (faulty first.fault, strict_enhanced.in_packet first.fault head.after_interface (behind_number head.interface_is) (stored.in_options first.fault enhanced.packet after after_bytes head.head captured padded fault), refl)
-
-enhanced_there : (order : Order) (enhanced : Option Enhanced) (flaws : List Said) (s rest : List ℕ) → EnhancedText order enhanced flaws s rest → EnhancedThere order enhanced flaws s rest
-enhanced_there order None flaws s rest x = rw x.2 (none_there order s rest x.0 x.1)
-enhanced_there order (Some e) flaws s rest x =
-    behind_bytes order e flaws s x.after_head x.after_bytes rest x.head x.captured x.padded (list_there order enhanced_packet e.packet.options flaws x.after_bytes rest x.options_are)
+enhanced_there : (order : Order) (s : List ℕ) (enhanced : Enhanced) (flaws : List Said) (rest : List ℕ) → OfInterface order enhanced flaws s rest → Meant (EnhancedSays order s) flaws (Some enhanced) rest
+enhanced_there order s enhanced flaws rest x =
+    stored_behind order enhanced_packet (EnhancedSays order s) enhanced enhanced.packet flaws x.after_interface rest x.packet_is
+    (λ text. record { after_interface = x.after_interface; interface_is = x.interface_is; packet_is = text }) (λ fault stands. strict_enhanced.in_packet fault x.after_interface (behind_number x.interface_is) stands)
 
 pub enhanced_strict : (order : Order) (enhanced : Option Enhanced) (flaws : List Said) (s rest : List ℕ) (v : Verdict Enhanced) → EnhancedText order enhanced flaws s rest → EnhancedSays order s v → StrictIsWhere flaws enhanced rest v
 enhanced_strict order enhanced flaws s rest v x y =
-    let t = enhanced_there order enhanced flaws s rest x in
-    let one = enhanced_one order s in
-    subst (λ (w : Verdict Enhanced). StrictIsWhere flaws enhanced rest w) (one.only t.0 t.1 ∙ sym (one.only v y)) t.2
+    meant (EnhancedSays order s) flaws enhanced rest v (enhanced_one order s) (if_room (OfInterface order) (NoPacket order) s (EnhancedSays order s) (enhanced_there order s) (enhanced_refused order s) enhanced flaws rest x) y
+
+packet_refused : (order : Order) (s : List ℕ) (rule : Rule) → NoPacket order s rule → PacketBodyFault order s (Invalid rule)
+packet_refused order s rule (no_head lt) = strict_packet.short lt
+packet_refused order s rule (no_bytes after behind x) = strict_packet.in_packet (Invalid EnhancedCut) after behind (stored.cut x.packet x.after x.head x.missing)
+
+packet_there : (order : Order) (s : List ℕ) (body : PacketBody) (flaws : List Said) (rest : List ℕ) → WithDrops order body flaws s rest → Meant (PacketBodySays order s) flaws (Some body) rest
+packet_there order s body flaws rest x =
+    stored_behind order packet_kind (PacketBodySays order s) body body.packet flaws x.after_drops rest x.packet_is
+    (λ text. record { after_interface = x.after_interface; after_drops = x.after_drops; interface_is = x.interface_is; drops_are = x.drops_are; packet_is = text })
+    (λ fault stands. strict_packet.in_packet fault x.after_drops (behind_both (behind_number x.interface_is) (behind_number x.drops_are)) stands)
+
+pub packet_strict : (order : Order) (body : Option PacketBody) (flaws : List Said) (s rest : List ℕ) (v : Verdict PacketBody) → PacketBlockText order body flaws s rest → PacketBodySays order s v → StrictIsWhere flaws body rest v
+packet_strict order body flaws s rest v x y =
+    meant (PacketBodySays order s) flaws body rest v (packet_body_one order s) (if_room (WithDrops order) (NoPacket order) s (PacketBodySays order s) (packet_there order s) (packet_refused order s) body flaws rest x) y
+
+-- ---- simple packets
+
+simple_refused : (s : List ℕ) (rule : Rule) → NoLength s rule → SimpleFault s (Invalid rule)
+simple_refused s rule x = rw x.0 (strict_simple.short x.1)
+
+simple_there : (order : Order) (s : List ℕ) (simple : Simple) (flaws : List Said) (rest : List ℕ) → Whole order simple flaws s rest → Meant (SimpleSays order s) flaws (Some simple) rest
+simple_there order s simple flaws rest x = rw x.1 (whole simple rest, x.0, refl)
+
+pub simple_strict : (order : Order) (simple : Option Simple) (flaws : List Said) (s rest : List ℕ) (v : Verdict Simple) → SimpleAsIsText order simple flaws s rest → SimpleSays order s v → StrictIsWhere flaws simple rest v
+simple_strict order simple flaws s rest v x y =
+    meant (SimpleSays order s) flaws simple rest v (simple_one order s) (if_room (Whole order) NoLength s (SimpleSays order s) (simple_there order s) (simple_refused s) simple flaws rest x) y
+
+-- ---- statistics
+
+statistics_refused : (order : Order) (s : List ℕ) (rule : Rule) → NoTime s rule → StatisticsFault order s (Invalid rule)
+statistics_refused order s rule x = rw x.0 (strict_statistics.short x.1)
+
+statistics_there : (order : Order) (s : List ℕ) (statistics : Statistics) (flaws : List Said) (rest : List ℕ) → AtTime order statistics flaws s rest → Meant (StatisticsSays order s) flaws (Some statistics) rest
+statistics_there order s statistics flaws rest x =
+    options_behind order interface_statistics (StatisticsSays order s) statistics statistics.options flaws x.after_time rest x.options_are
+    (λ list. record { after_interface = x.after_interface; after_time = x.after_time; interface_is = x.interface_is; time_is = x.time_is; options_are = list })
+    (λ fault stands. strict_statistics.in_options fault x.after_time (behind_both (behind_number x.interface_is) (behind_time x.time_is)) stands)
+
+pub statistics_strict : (order : Order) (statistics : Option Statistics) (flaws : List Said) (s rest : List ℕ) (v : Verdict Statistics) → StatisticsAsIsText order statistics flaws s rest → StatisticsSays order s v
+    → StrictIsWhere flaws statistics rest v
+statistics_strict order statistics flaws s rest v x y =
+    meant (StatisticsSays order s) flaws statistics rest v (statistics_one order s) (if_room (AtTime order) NoTime s (StatisticsSays order s) (statistics_there order s) (statistics_refused order s) statistics flaws rest x) y

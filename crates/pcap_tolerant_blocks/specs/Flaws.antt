@@ -1,6 +1,6 @@
 -- What is wrong with a body, and what the strict reading says of the same bytes.
 use Rattle.std.specs.Prelude.{◌≡◌, ℕ, List, [], ◌∷◌, Option, Some, None, Result, Ok, Err}
-use Rattle.pcap_core.specs.Answer.{Verdict, whole, faulty}
+use Rattle.pcap_core.specs.Answer.{Verdict, whole, faulty, Says}
 use Rattle.pcap_core.specs.Faults.{Fault, Invalid, Io, Utf8}
 use Rattle.pcap_core.specs.declared.rules.Rule.{Rule}
 use Rattle.pcap_blocks.specs.Values.{Value, Entry}
@@ -31,6 +31,15 @@ said_of flaw = record { code = flaw.code; fault = fault_of flaw.broken }
 -- a body's flaw and no other
 abbrev pub alone : Rule → List Said
 alone rule = record { code = None; fault = Invalid rule } ∷ []
+
+-- s is this value as it stands, with these flaws, and then rest; or there is no room for one, by this rule, and all is left
+abbrev pub IfRoom : {V : Type 0} → (V → List Said → List ℕ → List ℕ → Type 0) → (List ℕ → Rule → Type 0) → Option V → List Said → List ℕ → List ℕ → Type 0
+IfRoom IsText NoRoom None flaws s rest = (rule : Rule) × NoRoom s rule × (flaws ≡ alone rule) × (rest ≡ s)
+IfRoom IsText NoRoom (Some value) flaws s rest = IsText value flaws s rest
+
+-- what is said of bytes where such a value is asked for: it is there, however wrong
+abbrev pub IfRoomSays : {V : Type 0} → (V → List Said → List ℕ → List ℕ → Type 0) → (List ℕ → Rule → Type 0) → List ℕ → Verdict (Flawed (Option V)) → Type 0
+IfRoomSays IsText NoRoom s = Says (λ x rest. IfRoom IsText NoRoom x.value x.flaws s rest) (λ n. ⊥) (λ fault. ⊥)
 
 -- what a call tells that reads a value: what it holds, or its fault
 abbrev pub IsRead : {X V : Type 0} → Result V Fault → (X → V) → Result X Broken → Type 0

@@ -2,5 +2,9 @@ pub mod Flaws
 pub mod OptionsAsIs
 pub mod InterfaceAsIs
 pub mod SectionAsIs
+pub mod StoredAsIs
 pub mod EnhancedAsIs
+pub mod PacketBlockAsIs
+pub mod SimpleAsIs
+pub mod StatisticsAsIs
 pub mod InForce

@@ -1,18 +1,19 @@
 //! Enhanced packets as they stand.
 
-ghost use Rattle.std.specs.Prelude.{◌≡◌, ◌≤◌, ◌+◌, length, IfOk, IfSome};
+ghost use Rattle.std.specs.Prelude.{◌≡◌, None, IfOk, IfSome};
 ghost use Rattle.pcap_core.specs.Bytes.{IsBorrowed};
 ghost use Rattle.pcap_blocks.specs.EnhancedPacket.{enhanced_packet, enhanced_entry};
-ghost use Rattle.pcap_blocks.specs.Time.{TimeText};
+ghost use Rattle.pcap_tolerant_blocks.specs.Flaws.{alone};
 ghost use Rattle.pcap_tolerant_blocks.specs.EnhancedAsIs.{EnhancedText, enhanced_in, flaws_said};
 
 use crate::flaws::{Broken, Flaw};
-use crate::list::{ReadsValue, list_as_is};
+use crate::list::ReadsValue;
+use crate::stored::stored_as_is;
 use crate::values::{custom_bytes_value, custom_string_value, string_value, u32_value, u64_value};
 use byteorder::ByteOrder;
 use pcap_blocks::{EnhancedPacketBlock, EnhancedPacketOption, UnknownOption};
 use pcap_core::CowBytes;
-use pcap_core::fields::{split_padded, split_u32};
+use pcap_core::fields::split_u32;
 use pcap_core::rules::Rule;
 use std::alloc::{AllocError, Global};
 
@@ -39,57 +40,41 @@ impl<'a> EnhancedAsIs<'a> {
         ensures borrowed { IfOk result (λ x. IfSome x.1.packet (λ packet. IsBorrowed packet.data_)) }
     {
         if slice.len() < 20 {
-            let flaws = Flaw::alone(alloc, Rule::EnhancedTooShort)?;
-            return Ok((
-                slice,
-                EnhancedAsIs {
-                    packet: None,
-                    flaws,
-                },
-            ));
+            return EnhancedAsIs::none(alloc, slice, Rule::EnhancedTooShort);
         }
         let (interface_id, rest) = split_u32::<B>(slice);
-        let (timestamp, rest) = split_time::<B>(rest);
-        let (captured_len, rest) = split_u32::<B>(rest);
-        let (original_len, rest) = split_u32::<B>(rest);
-        let Some((bytes, rest)) = split_padded(rest, captured_len as usize) else {
-            let flaws = Flaw::alone(alloc, Rule::EnhancedCut)?;
-            return Ok((
-                slice,
-                EnhancedAsIs {
-                    packet: None,
-                    flaws,
-                },
-            ));
+        let Some(stored) = stored_as_is::<EnhancedPacketOption, B>(alloc, rest)? else {
+            return EnhancedAsIs::none(alloc, slice, Rule::EnhancedCut);
         };
-        let list = list_as_is::<EnhancedPacketOption, B>(alloc, rest)?;
         let packet = EnhancedPacketBlock {
             interface_id,
-            timestamp,
-            captured_len,
-            original_len,
-            data_: CowBytes::Borrowed(bytes),
-            options: list.options,
+            timestamp: stored.timestamp,
+            captured_len: stored.captured_len,
+            original_len: stored.original_len,
+            data_: stored.data_,
+            options: stored.options,
         };
+        let flaws = stored.flaws;
         Ok((
-            list.left,
+            stored.left,
             EnhancedAsIs {
                 packet: Some(packet),
-                flaws: list.flaws,
+                flaws,
             },
         ))
     }
-}
 
-// The time in the first eight bytes, its high half first, and the bytes after them.
-fn split_time<B: ByteOrder>(bytes: &[u8]) -> (u64, &[u8])
-    requires { 8 ≤ length bytes.now }
-    ensures time { TimeText B.number_of result.0 bytes.now result.1.now }
-    ensures rest { length result.1.now + 8 ≡ length bytes.now }
-{
-    let (high, rest) = split_u32::<B>(bytes);
-    let (low, rest) = split_u32::<B>(rest);
-    ((u64::from(high) << 32) + u64::from(low), rest)
+    // No packet, by this rule.
+    fn none(alloc: Global, slice: &'a [u8], rule: Rule) -> Result<(&'a [u8], Self), AllocError>
+        ensures { IfOk result (λ x. (x.0.now ≡ slice.now) × (enhanced_in x.1 ≡ None) × (flaws_said x.1 ≡ alone rule)) }
+    {
+        let flaws = Flaw::alone(alloc, rule)?;
+        let none = EnhancedAsIs {
+            packet: None,
+            flaws,
+        };
+        Ok((slice, none))
+    }
 }
 
 impl<'a> ReadsValue<'a> for EnhancedPacketOption<'a> {

@@ -12,7 +12,7 @@ use std::alloc::{AllocError, Global};
 pub enum Broken {
     /// It breaks this rule.
     Rule(Rule),
-    /// It is the value of a custom option, and has fewer than 4 bytes.
+    /// It is the value of a custom option, and has fewer than 4 bytes, or a number or time of statistics, and has fewer than 8.
     TooShort,
     /// It is a string, and no UTF-8.
     NotUtf8,

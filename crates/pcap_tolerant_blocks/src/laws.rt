@@ -8,8 +8,14 @@ ghost use Rattle.pcap_blocks.specs.Options.{may_end_with_body, ListSays};
 ghost use Rattle.pcap_blocks.specs.InterfaceDescription.{Interface, InterfaceSays};
 ghost use Rattle.pcap_core.specs.Faults.{Fault};
 ghost use Rattle.pcap_blocks.specs.EnhancedPacket.{Enhanced, EnhancedSays};
+ghost use Rattle.pcap_blocks.specs.InterfaceStatistics.{Statistics, StatisticsSays};
+ghost use Rattle.pcap_blocks.specs.Packet.{PacketBody, PacketBodySays};
 ghost use Rattle.pcap_blocks.specs.SectionHeader.{Section, SectionFault, SectionSays};
-ghost use Rattle.pcap_tolerant_blocks.specs.EnhancedAsIs.{EnhancedText};
+ghost use Rattle.pcap_blocks.specs.SimplePacket.{Simple, SimpleSays};
+ghost use Rattle.pcap_tolerant_blocks.specs.EnhancedAsIs.{EnhancedText, EnhancedAsIsSays};
+ghost use Rattle.pcap_tolerant_blocks.specs.PacketBlockAsIs.{PacketBlockText, PacketBlockAsIsSays};
+ghost use Rattle.pcap_tolerant_blocks.specs.SimpleAsIs.{SimpleAsIsText, SimpleAsIsSays};
+ghost use Rattle.pcap_tolerant_blocks.specs.StatisticsAsIs.{StatisticsAsIsText, StatisticsAsIsSay};
 ghost use Rattle.pcap_tolerant_blocks.specs.SectionAsIs.{SectionText, NoSection, SectionAsIsSays};
 ghost use Rattle.pcap_tolerant_blocks.specs.Flaws.{Said, StrictIs, StrictIsWhere};
 ghost use Rattle.pcap_tolerant_blocks.specs.InterfaceAsIs.{InterfaceText, InterfaceAsIsSays};
@@ -41,6 +47,24 @@ pub fn strict_enhanced_is()
         EnhancedText order enhanced flaws s rest → EnhancedSays order s v → StrictIsWhere flaws enhanced rest v }
 {}
 
+/// The same of an obsolete packet block.
+pub fn strict_packet_block_is()
+    ensures { (order : Order) (body : Option PacketBody) (flaws : List Said) (s rest : List ℕ) (v : Verdict PacketBody) →
+        PacketBlockText order body flaws s rest → PacketBodySays order s v → StrictIsWhere flaws body rest v }
+{}
+
+/// The same of a simple packet, which has no flaw where there is one.
+pub fn strict_simple_is()
+    ensures { (order : Order) (simple : Option Simple) (flaws : List Said) (s rest : List ℕ) (v : Verdict Simple) →
+        SimpleAsIsText order simple flaws s rest → SimpleSays order s v → StrictIsWhere flaws simple rest v }
+{}
+
+/// The same of interface statistics.
+pub fn strict_statistics_are()
+    ensures { (order : Order) (statistics : Option Statistics) (flaws : List Said) (s rest : List ℕ) (v : Verdict Statistics) →
+        StatisticsAsIsText order statistics flaws s rest → StatisticsSays order s v → StrictIsWhere flaws statistics rest v }
+{}
+
 /// Of all bytes exactly one thing is said as options as they stand: which options, with which flaws, and what follows them.
 pub fn options_as_they_stand_are_one()
     ensures { (order : Order) (kind : Kind) (s : List ℕ) → ExactlyOne (OptionsAsIsSay order kind s) }
@@ -54,4 +78,24 @@ pub fn interface_as_it_stands_is_one()
 /// The same as a section as it stands, or why no order of bytes is known.
 pub fn section_as_it_stands_is_one()
     ensures { (s : List ℕ) → ExactlyOne (SectionAsIsSays s) }
+{}
+
+/// The same as an enhanced packet as it stands.
+pub fn enhanced_as_it_stands_is_one()
+    ensures { (order : Order) (s : List ℕ) → ExactlyOne (EnhancedAsIsSays order s) }
+{}
+
+/// The same as an obsolete packet block as it stands.
+pub fn packet_block_as_it_stands_is_one()
+    ensures { (order : Order) (s : List ℕ) → ExactlyOne (PacketBlockAsIsSays order s) }
+{}
+
+/// The same as a simple packet as it stands.
+pub fn simple_as_it_stands_is_one()
+    ensures { (order : Order) (s : List ℕ) → ExactlyOne (SimpleAsIsSays order s) }
+{}
+
+/// The same as interface statistics as they stand.
+pub fn statistics_as_they_stand_are_one()
+    ensures { (order : Order) (s : List ℕ) → ExactlyOne (StatisticsAsIsSay order s) }
 {}

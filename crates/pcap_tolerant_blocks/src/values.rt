@@ -3,7 +3,7 @@
 ghost use Rattle.std.specs.Prelude.{◌≡◌};
 ghost use Rattle.std.specs.Cow.{cow_str_bytes};
 ghost use Rattle.pcap_core.specs.Bytes.{cow_bytes};
-ghost use Rattle.pcap_blocks.specs.Values.{Bytes, Integer, custom_string, custom_bytes, string_at, fixed_at, some_at, byte_at, number_at, value_of};
+ghost use Rattle.pcap_blocks.specs.Values.{Bytes, Integer, custom_string, custom_bytes, string_at, fixed_at, some_at, byte_at, number_at, first_number_at, first_time_at, value_of};
 ghost use Rattle.pcap_blocks.specs.CommonOptions.{custom_bytes_entry, custom_string_entry};
 ghost use Rattle.pcap_tolerant_blocks.specs.Flaws.{IsRead, IsOption};
 
@@ -74,6 +74,29 @@ pub(crate) fn u64_value<B: ByteOrder>(value: &[u8], wrong: Rule) -> Result<u64, 
         return Err(Broken::Rule(wrong));
     }
     Ok(B::read_u64(value))
+}
+
+// The number in the first 8 bytes; more are ignored.
+pub(crate) fn first_number_value<B: ByteOrder>(value: &[u8]) -> Result<u64, Broken>
+    ensures tells { IsRead (first_number_at B.number_of value.now) Integer result }
+{
+    if value.len() < 8 {
+        return Err(Broken::TooShort);
+    }
+    let (number, _ignored) = value.split_at(8);
+    Ok(B::read_u64(number))
+}
+
+// The time in the first 8 bytes, its high half first; more are ignored.
+pub(crate) fn first_time_value<B: ByteOrder>(value: &[u8]) -> Result<u64, Broken>
+    ensures tells { IsRead (first_time_at B.number_of value.now) Integer result }
+{
+    if value.len() < 8 {
+        return Err(Broken::TooShort);
+    }
+    let (high, rest) = value.split_at(4);
+    let (low, _ignored) = rest.split_at(4);
+    Ok((u64::from(B::read_u32(high)) << 32) + u64::from(B::read_u32(low)))
 }
 
 // A string of an enterprise.

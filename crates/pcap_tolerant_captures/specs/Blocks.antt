@@ -1,14 +1,24 @@
 -- Blocks as they stand, under the section and interfaces in force.
 use Rattle.std.specs.Prelude.{◌≡◌, ◌≢◌, ◌⊎◌, ℕ, List, map, Option, Some, None}
-use Rattle.pcap_core.specs.Answer.{Verdict, Says, number_in}
+use Rattle.pcap_core.specs.Answer.{Order, Verdict, Says, number_in}
 use Rattle.pcap_core.specs.Faults.{Fault}
 use Rattle.pcap_core.specs.Format.{Format}
 use Rattle.pcap_core.specs.Headed.{good, bad}
+use Rattle.pcap_blocks.specs.declared.block_type.BlockType.{BlockType}
 use Rattle.pcap_blocks.specs.declared.block_type.BlockType.TheVariants as types
 use Rattle.pcap_file.specs.Frames.{Framed, framed_of, FrameText, FrameLacks, FrameFault}
 use Rattle.pcap_tolerant_blocks.specs.declared.enhanced.EnhancedAsIs.{EnhancedAsIs}
 use Rattle.pcap_tolerant_blocks.specs.EnhancedAsIs.{EnhancedText, enhanced_in, flaws_said}
-use Rattle.pcap_tolerant_blocks.specs.Flaws.{said_of}
+use Rattle.pcap_tolerant_blocks.specs.Flaws.{Said, said_of}
+use Rattle.pcap_tolerant_blocks.specs.declared.packet_block.PacketBlockAsIs.{PacketBlockAsIs}
+use Rattle.pcap_tolerant_blocks.specs.PacketBlockAsIs.{PacketBlockText, packet_in}
+use Rattle.pcap_tolerant_blocks.specs.PacketBlockAsIs as packet_block
+use Rattle.pcap_tolerant_blocks.specs.declared.simple.SimpleAsIs.{SimpleAsIs}
+use Rattle.pcap_tolerant_blocks.specs.SimpleAsIs.{SimpleAsIsText, simple_in}
+use Rattle.pcap_tolerant_blocks.specs.SimpleAsIs as simple
+use Rattle.pcap_tolerant_blocks.specs.declared.statistics.StatisticsAsIs.{StatisticsAsIs}
+use Rattle.pcap_tolerant_blocks.specs.StatisticsAsIs.{StatisticsAsIsText, statistics_in}
+use Rattle.pcap_tolerant_blocks.specs.StatisticsAsIs as statistics
 use Rattle.pcap_tolerant_captures.specs.declared.block.BlockAsIs.{BlockAsIs}
 use Rattle.pcap_tolerant_captures.specs.declared.parser.OpenedAsIs.{OpenedAsIs}
 use Rattle.pcap_tolerant_captures.specs.State.{State, order_at, Led, Means, CanGrow, state_of}
@@ -53,7 +63,23 @@ pub record MayGrow (q : State) (s : List ℕ) : Type 0 where
 unfoldable pub as_is_format : Format State Item
 as_is_format = record { says = AsIsSays; goes = λ q item. item.led.after; head = 12 }
 
--- the enhanced packet that a block's body is as it stands; none where the block is of another type
+-- what the body of a block of this type is as it stands; none where the block is of another type
+abbrev pub IsBodyOf : {X V : Type 0} → BlockType → (Order → Option V → List Said → List ℕ → List ℕ → Type 0) → (X → Option V) → (X → List Said) → Framed → Option X → Type 0
+IsBodyOf type IsText value flaws b None = b.type_ ≢ type
+IsBodyOf type IsText value flaws b (Some x) = (b.type_ ≡ type) × ((rest : List ℕ) × IsText (number_in b.endianness) (value x) (flaws x) b.body rest)
+
+-- the enhanced packet that a block's body is as it stands
 abbrev pub IsPacketIn : Framed → Option EnhancedAsIs → Type 0
-IsPacketIn b None = b.type_ ≢ types.EnhancedPacket
-IsPacketIn b (Some x) = (b.type_ ≡ types.EnhancedPacket) × ((rest : List ℕ) × EnhancedText (number_in b.endianness) (enhanced_in x) (flaws_said x) b.body rest)
+IsPacketIn = IsBodyOf types.EnhancedPacket EnhancedText enhanced_in flaws_said
+
+-- the simple packet that it is
+abbrev pub IsSimpleIn : Framed → Option SimpleAsIs → Type 0
+IsSimpleIn = IsBodyOf types.SimplePacket SimpleAsIsText simple_in simple.flaws_said
+
+-- the obsolete packet that it is
+abbrev pub IsPacketBlockIn : Framed → Option PacketBlockAsIs → Type 0
+IsPacketBlockIn = IsBodyOf types.Packet PacketBlockText packet_in packet_block.flaws_said
+
+-- the statistics that it is
+abbrev pub AreStatisticsIn : Framed → Option StatisticsAsIs → Type 0
+AreStatisticsIn = IsBodyOf types.InterfaceStatistics StatisticsAsIsText statistics_in statistics.flaws_said

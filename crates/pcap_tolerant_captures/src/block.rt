@@ -4,13 +4,16 @@ ghost use Rattle.std.specs.Prelude.{◌≡◌, IfOk};
 ghost use Rattle.pcap_core.specs.Answer.{number_in};
 ghost use Rattle.pcap_file.specs.Frames.{framed_of};
 ghost use Rattle.pcap_tolerant_blocks.specs.EnhancedAsIs.{EnhancedText, enhanced_in, flaws_said};
-ghost use Rattle.pcap_tolerant_captures.specs.Blocks.{IsPacketIn};
+ghost use Rattle.pcap_tolerant_blocks.specs.PacketBlockAsIs.{PacketBlockText, packet_in as packet_of_block, flaws_said as packet_block_flaws};
+ghost use Rattle.pcap_tolerant_blocks.specs.SimpleAsIs.{SimpleAsIsText, simple_in as simple_of, flaws_said as simple_flaws};
+ghost use Rattle.pcap_tolerant_blocks.specs.StatisticsAsIs.{StatisticsAsIsText, statistics_in as statistics_of, flaws_said as statistics_flaws};
+ghost use Rattle.pcap_tolerant_captures.specs.Blocks.{IsPacketIn, IsSimpleIn, IsPacketBlockIn, AreStatisticsIn};
 
 use byteorder::{BigEndian, LittleEndian};
 use pcap_blocks::BlockType;
 use pcap_core::Endianness;
 use pcap_file::pcapng::Block;
-use pcap_tolerant_blocks::{EnhancedAsIs, Flaw};
+use pcap_tolerant_blocks::{EnhancedAsIs, Flaw, PacketBlockAsIs, SimpleAsIs, StatisticsAsIs};
 use std::alloc::{AllocError, Global};
 
 /// A block as it stands, and what is wrong with its body, where that is a section's or an interface's.
@@ -45,6 +48,48 @@ impl<'a> BlockAsIs<'a> {
         let (_rest, packet) = packet_in(self.block.endianness(), alloc, body)?;
         Ok(Some(packet))
     }
+
+    /// The simple packet that the body is as it stands, with what is wrong with it. None where the block is of another type.
+    ///
+    /// `AllocError` where a list can't grow.
+    pub fn simple(&self, alloc: Global) -> Result<Option<SimpleAsIs<'_>>, AllocError>
+        ensures { IfOk result (IsSimpleIn (framed_of self.now.block)) }
+    {
+        if !matches!(self.block.type_, BlockType::SimplePacket) {
+            return Ok(None);
+        }
+        let body = self.block.body.as_slice();
+        let (_rest, packet) = simple_in(self.block.endianness(), alloc, body)?;
+        Ok(Some(packet))
+    }
+
+    /// The obsolete packet that the body is as it stands, with what is wrong with it. None where the block is of another type.
+    ///
+    /// `AllocError` where a list can't grow.
+    pub fn packet_block(&self, alloc: Global) -> Result<Option<PacketBlockAsIs<'_>>, AllocError>
+        ensures { IfOk result (IsPacketBlockIn (framed_of self.now.block)) }
+    {
+        if !matches!(self.block.type_, BlockType::Packet) {
+            return Ok(None);
+        }
+        let body = self.block.body.as_slice();
+        let (_rest, packet) = packet_block_in(self.block.endianness(), alloc, body)?;
+        Ok(Some(packet))
+    }
+
+    /// The interface statistics that the body is as they stand, with what is wrong with them. None where the block is of another type.
+    ///
+    /// `AllocError` where a list can't grow.
+    pub fn statistics(&self, alloc: Global) -> Result<Option<StatisticsAsIs<'_>>, AllocError>
+        ensures { IfOk result (AreStatisticsIn (framed_of self.now.block)) }
+    {
+        if !matches!(self.block.type_, BlockType::InterfaceStatistics) {
+            return Ok(None);
+        }
+        let body = self.block.body.as_slice();
+        let (_rest, statistics) = statistics_in(self.block.endianness(), alloc, body)?;
+        Ok(Some(statistics))
+    }
 }
 
 // The enhanced packet that a body is as it stands, in this order, and what follows it.
@@ -58,5 +103,47 @@ pub(crate) fn packet_in<'a>(
     match order {
         Endianness::Big => EnhancedAsIs::from_slice::<BigEndian>(alloc, slice),
         Endianness::Little => EnhancedAsIs::from_slice::<LittleEndian>(alloc, slice),
+    }
+}
+
+// The simple packet that a body is as it stands, in this order, and what follows it.
+fn simple_in<'a>(
+    order: Endianness,
+    alloc: Global,
+    slice: &'a [u8],
+) -> Result<(&'a [u8], SimpleAsIs<'a>), AllocError>
+    ensures { IfOk result (λ x. SimpleAsIsText (number_in order) (simple_of x.1) (simple_flaws x.1) slice.now x.0.now) }
+{
+    match order {
+        Endianness::Big => SimpleAsIs::from_slice::<BigEndian>(alloc, slice),
+        Endianness::Little => SimpleAsIs::from_slice::<LittleEndian>(alloc, slice),
+    }
+}
+
+// The obsolete packet that a body is as it stands, in this order, and what follows it.
+fn packet_block_in<'a>(
+    order: Endianness,
+    alloc: Global,
+    slice: &'a [u8],
+) -> Result<(&'a [u8], PacketBlockAsIs<'a>), AllocError>
+    ensures { IfOk result (λ x. PacketBlockText (number_in order) (packet_of_block x.1) (packet_block_flaws x.1) slice.now x.0.now) }
+{
+    match order {
+        Endianness::Big => PacketBlockAsIs::from_slice::<BigEndian>(alloc, slice),
+        Endianness::Little => PacketBlockAsIs::from_slice::<LittleEndian>(alloc, slice),
+    }
+}
+
+// The interface statistics that a body is as they stand, in this order, and what follows them.
+fn statistics_in<'a>(
+    order: Endianness,
+    alloc: Global,
+    slice: &'a [u8],
+) -> Result<(&'a [u8], StatisticsAsIs<'a>), AllocError>
+    ensures { IfOk result (λ x. StatisticsAsIsText (number_in order) (statistics_of x.1) (statistics_flaws x.1) slice.now x.0.now) }
+{
+    match order {
+        Endianness::Big => StatisticsAsIs::from_slice::<BigEndian>(alloc, slice),
+        Endianness::Little => StatisticsAsIs::from_slice::<LittleEndian>(alloc, slice),
     }
 }

@@ -17,6 +17,8 @@ mod blocks;
 #[cfg(test)]
 mod blocks_again;
 #[cfg(test)]
+mod bodies;
+#[cfg(test)]
 mod interfaces;
 #[cfg(test)]
 mod options;

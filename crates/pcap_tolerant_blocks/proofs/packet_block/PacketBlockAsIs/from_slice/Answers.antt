@@ -1,0 +1,18 @@
+use Rattle.std.proofs.Common.{arith}
+use Rattle.pcap_core.specs.declared.rules.Rule.TheVariants.{EnhancedTooShort, EnhancedCut}
+use Rattle.pcap_core.proofs.Padded.{behind_number, behind_both}
+use Rattle.pcap_tolerant_blocks.specs.StoredAsIs.{NoPacket, no_head, no_bytes}
+use Rattle.pcap_tolerant_blocks.specs.PacketBlockAsIs.{WithDrops, packet_in, flaws_said}
+use Rattle.pcap_tolerant_blocks.proofs.Bodies.{none_read}
+use Rattle.pcap_tolerant_blocks.proofs.packet_block.PacketBlockAsIs.from_slice.Goals as goal
+
+pub returns-then-slice-lt20-clause-read : goal.returns-then-slice-lt20-clause-read
+returns-then-slice-lt20-clause-read g c =
+    let order = g.B.ByteOrder.number_of in
+    none_read (WithDrops order) (NoPacket order) packet_in flaws_said c.args.slice.now EnhancedTooShort c.none.result (no_head (omega arith)) c.none.ensures
+
+pub returns-in_default-clause-read : goal.returns-in_default-clause-read
+returns-in_default-clause-read g c =
+    let order = g.B.ByteOrder.number_of in
+    let none = no_bytes _ (behind_both (behind_number c.split_u16-interface_id.ensures.number) (behind_number c.split_u16-drop_count.ensures.number)) (rw c.in_default.is at c.in_ok-stored.ensures.read) in
+    none_read (WithDrops order) (NoPacket order) packet_in flaws_said c.args.slice.now EnhancedCut c.none-in_default.result none c.none-in_default.ensures

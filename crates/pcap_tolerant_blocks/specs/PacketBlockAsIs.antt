@@ -1,0 +1,32 @@
+-- Obsolete packets as they stand ('Packet Block').
+use Rattle.std.specs.Prelude.{ℕ, List, map, Option}
+use Rattle.std.specs.Option.{option_map}
+use Rattle.pcap_core.specs.Answer.{Order, Number, Verdict}
+use Rattle.pcap_blocks.specs.Packet.{PacketBody, packet_kind, packet_of}
+use Rattle.pcap_tolerant_blocks.specs.Flaws.{Said, Flawed, said_of, IfRoom, IfRoomSays}
+use Rattle.pcap_tolerant_blocks.specs.StoredAsIs.{WithBytes, NoPacket}
+use Rattle.pcap_tolerant_blocks.specs.declared.packet_block.PacketBlockAsIs.{PacketBlockAsIs}
+
+-- s is an interface, a count of lost packets and a packet as it stands, with these flaws, and then rest
+pub record WithDrops (order : Order) (body : PacketBody) (flaws : List Said) (s rest : List ℕ) : Type 0 where
+  pub after_interface : List ℕ
+  pub after_drops : List ℕ
+  pub interface_is : Number order 2 body.interface_id s after_interface
+  pub drops_are : Number order 2 body.drop_count after_interface after_drops
+  pub packet_is : WithBytes order packet_kind body.packet flaws after_drops rest
+
+-- s is an obsolete packet as it stands, with these flaws, and then rest; or there is none, and all is left
+abbrev pub PacketBlockText : Order → Option PacketBody → List Said → List ℕ → List ℕ → Type 0
+PacketBlockText order = IfRoom (WithDrops order) (NoPacket order)
+
+-- what is said of bytes where an obsolete packet as it stands is asked for
+abbrev pub PacketBlockAsIsSays : Order → List ℕ → Verdict (Flawed (Option PacketBody)) → Type 0
+PacketBlockAsIsSays order = IfRoomSays (WithDrops order) (NoPacket order)
+
+-- the packet of the code, where there is one
+abbrev pub packet_in : PacketBlockAsIs → Option PacketBody
+packet_in x = option_map packet_of x.packet
+
+-- what is wrong with it
+abbrev pub flaws_said : PacketBlockAsIs → List Said
+flaws_said x = map said_of x.flaws.items

@@ -1,0 +1,101 @@
+//! Packet blocks as they stand, which enhanced packets have replaced.
+
+ghost use Rattle.std.specs.Prelude.{◌≡◌, None, IfOk, IfSome};
+ghost use Rattle.pcap_core.specs.Bytes.{IsBorrowed};
+ghost use Rattle.pcap_blocks.specs.Packet.{packet_kind, packet_entry};
+ghost use Rattle.pcap_tolerant_blocks.specs.Flaws.{alone};
+ghost use Rattle.pcap_tolerant_blocks.specs.PacketBlockAsIs.{PacketBlockText, packet_in, flaws_said};
+
+use crate::flaws::{Broken, Flaw};
+use crate::list::ReadsValue;
+use crate::stored::stored_as_is;
+use crate::values::{custom_bytes_value, custom_string_value, string_value, u32_value};
+use byteorder::ByteOrder;
+use pcap_blocks::{PacketBlock, PacketOption, UnknownOption};
+use pcap_core::CowBytes;
+use pcap_core::fields::split_u16;
+use pcap_core::rules::Rule;
+use std::alloc::{AllocError, Global};
+
+/// An obsolete packet block as it stands, and what is wrong with it.
+#[derive(Debug, Drop)]
+pub struct PacketBlockAsIs<'a> {
+    /// The packet. An option whose value breaks its rule is one of an unknown code, with its bytes. None where the body has no
+    /// room for the packet's head, or for the bytes that this states.
+    pub packet: Option<PacketBlock<'a>>,
+    /// What is wrong, in the order of the text: the strict reading refuses the packet for the first of these.
+    pub flaws: Vec<Flaw>,
+}
+
+impl<'a> PacketBlockAsIs<'a> {
+    /// The packet that a block's body is as it stands, and what follows its options: these end at their mark, with the slice, or
+    /// where no next one can be found. All is left where there is no packet. Strings and bytes are borrowed from the slice.
+    ///
+    /// `AllocError` where a list can't grow.
+    pub fn from_slice<B: ByteOrder>(
+        alloc: Global,
+        slice: &'a [u8],
+    ) -> Result<(&'a [u8], Self), AllocError>
+        ensures read { IfOk result (λ x. PacketBlockText B.number_of (packet_in x.1) (flaws_said x.1) slice.now x.0.now) }
+        ensures borrowed { IfOk result (λ x. IfSome x.1.packet (λ packet. IsBorrowed packet.data_)) }
+    {
+        if slice.len() < 20 {
+            return PacketBlockAsIs::none(alloc, slice, Rule::EnhancedTooShort);
+        }
+        let (interface_id, rest) = split_u16::<B>(slice);
+        let (drop_count, rest) = split_u16::<B>(rest);
+        let Some(stored) = stored_as_is::<PacketOption, B>(alloc, rest)? else {
+            return PacketBlockAsIs::none(alloc, slice, Rule::EnhancedCut);
+        };
+        let packet = PacketBlock {
+            interface_id,
+            drop_count,
+            timestamp: stored.timestamp,
+            captured_len: stored.captured_len,
+            original_len: stored.original_len,
+            data_: stored.data_,
+            options: stored.options,
+        };
+        let flaws = stored.flaws;
+        Ok((
+            stored.left,
+            PacketBlockAsIs {
+                packet: Some(packet),
+                flaws,
+            },
+        ))
+    }
+
+    // No packet, by this rule.
+    fn none(alloc: Global, slice: &'a [u8], rule: Rule) -> Result<(&'a [u8], Self), AllocError>
+        ensures { IfOk result (λ x. (x.0.now ≡ slice.now) × (packet_in x.1 ≡ None) × (flaws_said x.1 ≡ alone rule)) }
+    {
+        let flaws = Flaw::alone(alloc, rule)?;
+        let none = PacketBlockAsIs {
+            packet: None,
+            flaws,
+        };
+        Ok((slice, none))
+    }
+}
+
+impl<'a> ReadsValue<'a> for PacketOption<'a> {
+    ghost kind = { packet_kind };
+
+    ghost view = { packet_entry };
+
+    fn from_value<B: ByteOrder>(code: u16, len: u16, value: &'a [u8]) -> Result<Self, Broken> {
+        Ok(match code {
+            1 => Self::Comment(string_value(value)?),
+            2 => Self::Flags(u32_value::<B>(value, Rule::PacketFlagsLength)?),
+            3 => Self::Hash(CowBytes::Borrowed(value)),
+            2988 | 19372 => Self::CustomUtf8(custom_string_value::<B>(code, value)?),
+            2989 | 19373 => Self::CustomBinary(custom_bytes_value::<B>(code, value)?),
+            _ => Self::Unknown(UnknownOption::new(code, len, value)),
+        })
+    }
+
+    fn unread(option: UnknownOption<'a>) -> Self {
+        Self::Unknown(option)
+    }
+}

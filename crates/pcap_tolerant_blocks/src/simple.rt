@@ -1,0 +1,55 @@
+//! Simple packets as they stand.
+
+ghost use Rattle.std.specs.Prelude.{IfOk, IfSome};
+ghost use Rattle.pcap_blocks.specs.SimplePacket.{SimpleIsBorrowed};
+ghost use Rattle.pcap_tolerant_blocks.specs.SimpleAsIs.{SimpleAsIsText, simple_in, flaws_said};
+
+use crate::flaws::Flaw;
+use byteorder::ByteOrder;
+use pcap_blocks::SimplePacketBlock;
+use pcap_core::CowBytes;
+use pcap_core::fields::split_u32;
+use pcap_core::rules::Rule;
+use std::alloc::{AllocError, Global};
+
+/// A simple packet as it stands, and what is wrong with it.
+#[derive(Debug, Drop)]
+pub struct SimpleAsIs<'a> {
+    /// The packet. None where the body has no room for its original length.
+    pub packet: Option<SimplePacketBlock<'a>>,
+    /// What is wrong: that there is no packet, for which the strict reading refuses it. Nothing can be wrong with one.
+    pub flaws: Vec<Flaw>,
+}
+
+impl<'a> SimpleAsIs<'a> {
+    /// The packet that a block's body is as it stands; nothing is left of it. All is left where there is no packet. Its bytes are
+    /// borrowed from the slice.
+    ///
+    /// `AllocError` where there is no packet, and the list of what is wrong can't grow.
+    pub fn from_slice<B: ByteOrder>(
+        alloc: Global,
+        slice: &'a [u8],
+    ) -> Result<(&'a [u8], Self), AllocError>
+        ensures read { IfOk result (λ x. SimpleAsIsText B.number_of (simple_in x.1) (flaws_said x.1) slice.now x.0.now) }
+        ensures borrowed { IfOk result (λ x. IfSome x.1.packet SimpleIsBorrowed) }
+    {
+        if slice.len() < 4 {
+            let flaws = Flaw::alone(alloc, Rule::SimpleTooShort)?;
+            let none = SimpleAsIs {
+                packet: None,
+                flaws,
+            };
+            return Ok((slice, none));
+        }
+        let (original_len, bytes) = split_u32::<B>(slice);
+        let packet = SimplePacketBlock {
+            original_len,
+            data_: CowBytes::Borrowed(bytes),
+        };
+        let simple = SimpleAsIs {
+            packet: Some(packet),
+            flaws: Vec::new(alloc),
+        };
+        Ok((&slice[slice.len()..], simple))
+    }
+}
