@@ -1,15 +1,14 @@
 -- What both kinds of packets with a time hold after their interface, as it stands ('Enhanced Packet Block', 'Packet Block').
-use Rattle.std.specs.Prelude.{◌≡◌, ◌<◌, ℕ, List, length, map}
+use Rattle.std.specs.Prelude.{◌≡◌, ◌<◌, ℕ, List, [], length}
 use Rattle.pcap_core.specs.declared.rules.Rule.{Rule}
 use Rattle.pcap_core.specs.declared.rules.Rule.TheVariants.{EnhancedTooShort, EnhancedCut}
 use Rattle.pcap_core.specs.Answer.{Order}
-use Rattle.pcap_core.specs.Bytes.{cow_bytes}
 use Rattle.pcap_core.specs.Padded.{up_to_4, Padded, Behind}
 use Rattle.pcap_blocks.specs.Values.{Entry, Kind}
 use Rattle.pcap_blocks.specs.StoredPacket.{Stored, StoredHead}
-use Rattle.pcap_tolerant_blocks.specs.Flaws.{Said, said_of}
+use Rattle.pcap_tolerant_blocks.specs.Flaws.{Said}
 use Rattle.pcap_tolerant_blocks.specs.OptionsAsIs.{OptionsAsIs}
-use Rattle.pcap_tolerant_blocks.specs.declared.stored.StoredAsIs.{StoredAsIs}
+use Rattle.pcap_tolerant_blocks.specs.declared.stored.StoredBytes.{StoredBytes}
 
 -- s is a packet with its bytes, and its options as they stand with these flaws, and then rest
 pub record WithBytes (order : Order) (kind : Kind) (packet : Stored) (flaws : List Said) (s rest : List ℕ) : Type 0 where
@@ -32,16 +31,13 @@ pub data NoPacket (order : Order) (s : List ℕ) : Rule → Type 0 where
   no_head : length s < 20 → NoPacket order s EnhancedTooShort
   no_bytes : (after : List ℕ) → Behind 4 s after → NoBytes order after → NoPacket order s EnhancedCut
 
--- a packet of the code, without its interface
-abbrev pub stored_in : {O : Type 0} → (O → Entry) → StoredAsIs O → Stored
-stored_in view p = record {
-  timestamp = p.timestamp;
-  captured_len = p.captured_len;
-  original_len = p.original_len;
-  bytes = cow_bytes p.data_;
-  options = map view p.options.items;
-}
+-- a packet of the code, without its interface and with these options
+abbrev pub stored_with : StoredBytes → List Entry → Stored
+stored_with p options = record { timestamp = p.timestamp; captured_len = p.captured_len; original_len = p.original_len; bytes = p.bytes.now; options = options }
 
--- s is that packet of the code with its flaws, and then what it leaves
-abbrev pub ReadsStored : {O : Type 0} → Order → Kind → (O → Entry) → List ℕ → StoredAsIs O → Type 0
-ReadsStored order kind view s p = WithBytes order kind (stored_in view p) (map said_of p.flaws.items) s p.left.now
+-- s is the head of a packet of the code and its bytes with their padding, and then rest
+pub record HasBytes (order : Order) (p : StoredBytes) (s rest : List ℕ) : Type 0 where
+  pub after_head : List ℕ
+  pub head : StoredHead order (stored_with p []) s after_head
+  pub captured : length p.bytes.now ≡ p.captured_len
+  pub padded : Padded p.bytes.now after_head rest

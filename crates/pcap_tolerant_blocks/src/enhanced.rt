@@ -7,8 +7,8 @@ ghost use Rattle.pcap_tolerant_blocks.specs.Flaws.{alone};
 ghost use Rattle.pcap_tolerant_blocks.specs.EnhancedAsIs.{EnhancedText, enhanced_in, flaws_said};
 
 use crate::flaws::{Broken, Flaw};
-use crate::list::ReadsValue;
-use crate::stored::stored_as_is;
+use crate::list::{ReadsValue, list_as_is};
+use crate::stored::split_stored;
 use crate::values::{custom_bytes_value, custom_string_value, string_value, u32_value, u64_value};
 use byteorder::ByteOrder;
 use pcap_blocks::{EnhancedPacketBlock, EnhancedPacketOption, UnknownOption};
@@ -43,23 +43,23 @@ impl<'a> EnhancedAsIs<'a> {
             return EnhancedAsIs::none(alloc, slice, Rule::EnhancedTooShort);
         }
         let (interface_id, rest) = split_u32::<B>(slice);
-        let Some(stored) = stored_as_is::<EnhancedPacketOption, B>(alloc, rest)? else {
+        let Some((stored, rest)) = split_stored::<B>(rest) else {
             return EnhancedAsIs::none(alloc, slice, Rule::EnhancedCut);
         };
+        let list = list_as_is::<EnhancedPacketOption, B>(alloc, rest)?;
         let packet = EnhancedPacketBlock {
             interface_id,
             timestamp: stored.timestamp,
             captured_len: stored.captured_len,
             original_len: stored.original_len,
-            data_: stored.data_,
-            options: stored.options,
+            data_: CowBytes::Borrowed(stored.bytes),
+            options: list.options,
         };
-        let flaws = stored.flaws;
         Ok((
-            stored.left,
+            list.left,
             EnhancedAsIs {
                 packet: Some(packet),
-                flaws,
+                flaws: list.flaws,
             },
         ))
     }

@@ -107,7 +107,7 @@ pub(crate) fn packet_in<'a>(
 }
 
 // The simple packet that a body is as it stands, in this order, and what follows it.
-fn simple_in<'a>(
+pub(crate) fn simple_in<'a>(
     order: Endianness,
     alloc: Global,
     slice: &'a [u8],
@@ -121,7 +121,7 @@ fn simple_in<'a>(
 }
 
 // The obsolete packet that a body is as it stands, in this order, and what follows it.
-fn packet_block_in<'a>(
+pub(crate) fn packet_block_in<'a>(
     order: Endianness,
     alloc: Global,
     slice: &'a [u8],
@@ -135,7 +135,7 @@ fn packet_block_in<'a>(
 }
 
 // The interface statistics that a body is as they stand, in this order, and what follows them.
-fn statistics_in<'a>(
+pub(crate) fn statistics_in<'a>(
     order: Endianness,
     alloc: Global,
     slice: &'a [u8],

@@ -8,14 +8,14 @@ ghost use Rattle.pcap_file.specs.Lent.{header_of, framed_around, HoldsText};
 ghost use Rattle.pcap_tolerant_captures.specs.Blocks.{as_is_format};
 ghost use Rattle.pcap_tolerant_captures.specs.HeldAsIs.{state_in, held_item, LentTells, StaysUnlessTaken};
 
-use crate::block::{BlockAsIs, packet_in};
+use crate::block::{BlockAsIs, packet_block_in, packet_in, simple_in, statistics_in};
 use crate::parser::{OpenedAsIs, PcapNgParserAsIs};
 use crate::stated::BlocksAsIs;
 use pcap_blocks::BlockType;
 use pcap_core::ResultParsing;
 use pcap_core::stream::{Held, fill_item};
 use pcap_file::pcapng::BlockHeader;
-use pcap_tolerant_blocks::{EnhancedAsIs, Flaw};
+use pcap_tolerant_blocks::{EnhancedAsIs, Flaw, PacketBlockAsIs, SimpleAsIs, StatisticsAsIs};
 use std::alloc::{AllocError, Global};
 use std::io::Read;
 
@@ -106,7 +106,7 @@ impl<T: Read + Drop> PcapNgReaderAsIs<T> {
     ghost use Rattle.pcap_file.specs.Lent.{LendsText};
     ghost use Rattle.pcap_tolerant_captures.specs.ReaderAsIs.{state_of, stream_of, has_failed, is_done, text_of, lent_item, StaysUnlessGiven};
 
-    /// The header of the next block, whose body the reader lends from then on (`body`, `text`, `enhanced`), until it is called again,
+    /// The header of the next block, whose body the reader lends from then on (`body`, `text`, `enhanced` and its like), until it is called again,
     /// with exactly what is wrong with the body of a section or an interface. These are in force from then on, as they stand.
     ///
     /// `InvalidField` for the first rule that the block's frame breaks; by V10 where the first block is no section header, and by V11
@@ -138,7 +138,7 @@ impl<T: Read + Drop> PcapNgReaderAsIs<T> {
 }
 
 impl<T> PcapNgReaderAsIs<T> {
-    ghost use Rattle.pcap_tolerant_captures.specs.Blocks.{IsPacketIn};
+    ghost use Rattle.pcap_tolerant_captures.specs.Blocks.{IsPacketIn, IsSimpleIn, IsPacketBlockIn, AreStatisticsIn};
     ghost use Rattle.pcap_tolerant_captures.specs.State.{opening};
     ghost use Rattle.pcap_tolerant_captures.specs.ReaderAsIs.{state_of, stream_of, parser_of, has_failed, is_done, text_of, body_of};
 
@@ -193,6 +193,42 @@ impl<T> PcapNgReaderAsIs<T> {
         }
         let (_rest, packet) = packet_in(header.endianness, self.alloc, self.body())?;
         Ok(Some(packet))
+    }
+
+    /// The same of an obsolete packet block.
+    pub fn packet_block(
+        &self,
+        header: BlockHeader,
+    ) -> Result<Option<PacketBlockAsIs<'_>>, AllocError>
+        ensures { IfOk result (IsPacketBlockIn (framed_around header (body_of self.now))) }
+    {
+        if !matches!(header.type_, BlockType::Packet) {
+            return Ok(None);
+        }
+        let (_rest, packet) = packet_block_in(header.endianness, self.alloc, self.body())?;
+        Ok(Some(packet))
+    }
+
+    /// The same of a simple packet.
+    pub fn simple(&self, header: BlockHeader) -> Result<Option<SimpleAsIs<'_>>, AllocError>
+        ensures { IfOk result (IsSimpleIn (framed_around header (body_of self.now))) }
+    {
+        if !matches!(header.type_, BlockType::SimplePacket) {
+            return Ok(None);
+        }
+        let (_rest, packet) = simple_in(header.endianness, self.alloc, self.body())?;
+        Ok(Some(packet))
+    }
+
+    /// The same of interface statistics.
+    pub fn statistics(&self, header: BlockHeader) -> Result<Option<StatisticsAsIs<'_>>, AllocError>
+        ensures { IfOk result (AreStatisticsIn (framed_around header (body_of self.now))) }
+    {
+        if !matches!(header.type_, BlockType::InterfaceStatistics) {
+            return Ok(None);
+        }
+        let (_rest, statistics) = statistics_in(header.endianness, self.alloc, self.body())?;
+        Ok(Some(statistics))
     }
 
     /// The parser behind the blocks so far, which has the section in force and its interfaces. None before the first section header.

@@ -3,7 +3,7 @@ use Rattle.pcap_core.specs.declared.rules.Rule.TheVariants.{EnhancedTooShort, En
 use Rattle.pcap_core.proofs.Padded.{behind_number}
 use Rattle.pcap_tolerant_blocks.specs.StoredAsIs.{NoPacket, no_head, no_bytes}
 use Rattle.pcap_tolerant_blocks.specs.EnhancedAsIs.{OfInterface, enhanced_in, flaws_said}
-use Rattle.pcap_tolerant_blocks.proofs.Bodies.{none_read}
+use Rattle.pcap_tolerant_blocks.proofs.Bodies.{none_read, with_options}
 use Rattle.pcap_tolerant_blocks.proofs.enhanced.EnhancedAsIs.from_slice.Goals as goal
 
 pub returns-then-slice-lt20-clause-read : goal.returns-then-slice-lt20-clause-read
@@ -14,5 +14,9 @@ returns-then-slice-lt20-clause-read g c =
 pub returns-in_default-clause-read : goal.returns-in_default-clause-read
 returns-in_default-clause-read g c =
     let order = g.B.ByteOrder.number_of in
-    let none = no_bytes _ (behind_number c.split_u32-interface_id.ensures.number) (rw c.in_default.is at c.in_ok-stored.ensures.read) in
+    let none = no_bytes _ (behind_number c.split_u32-interface_id.ensures.number) c.in_default.ensures in
     none_read (OfInterface order) (NoPacket order) enhanced_in flaws_said c.args.slice.now EnhancedCut c.none-in_default.result none c.none-in_default.ensures
+
+pub returns-clause-read : goal.returns-clause-read
+returns-clause-read g c =
+    record { after_interface = _; interface_is = c.split_u32-interface_id.ensures.number; packet_is = with_options _ _ c.in-Some.stored _ _ _ _ _ c.in-Some.ensures c.in_ok-list.ensures.read }
