@@ -1,5 +1,5 @@
 -- Packets as rows, one after the other.
-use Rattle.std.proofs.Common.{◌≡◌, ◌<◌, ◌≤◌, ◌+◌, ◌-◌, ℕ, List, [], ◌∷◌, ◌++◌, length, Option, Some, None, refl, sym, subst, arith}
+use Rattle.std.proofs.Common.{◌≡◌, ◌≤◌, ◌+◌, ◌-◌, ℕ, List, [], ◌∷◌, ◌++◌, length, Option, Some, refl, sym, subst, arith}
 use Rattle.pcap_core.specs.declared.common.Endianness.{Endianness}
 use Rattle.pcap_core.specs.Answer.{number_in, whole}
 use Rattle.pcap_core.specs.Format.{Texts}
@@ -11,7 +11,7 @@ use Rattle.pcapfile_c.specs.declared.bodies.PcapfileNgPacket.{PcapfileNgPacket}
 use Rattle.pcapfile_c.specs.declared.rows.PcapfileNgRow.{PcapfileNgRow}
 use Rattle.pcapfile_c.specs.declared.rows.PcapfileRow.{PcapfileRow}
 use Rattle.pcapfile_c.specs.declared.shown.PcapfileHeader.{PcapfileHeader}
-use Rattle.pcapfile_c.specs.Batches.{OtherText, PacketText}
+use Rattle.pcapfile_c.specs.Batches.{PacketText}
 use Rattle.pcapfile_c.specs.Calls.{PacketsSaid}
 use Rattle.pcapfile_c.specs.Rows.{NgPassageText, ShowsNgRow, ShowsRow, ng_row_format, row_format}
 

@@ -3,6 +3,7 @@ pub mod Refusals
 pub mod Calls
 pub mod Writing
 pub mod Blocks
+pub mod EnhancedOptions
 pub mod Bodies
 pub mod Batches
 pub mod Push

@@ -7,8 +7,7 @@ use Rattle.pcap_core.specs.declared.rules.Rule.{Rule}
 use Rattle.pcap_core.specs.Answer.{Order, number_in, whole, faulty}
 use Rattle.pcap_core.specs.Faults.{Shows}
 use Rattle.pcap_blocks.specs.Names.{NameText, NameSays, NamesText, NamesSay}
-use Rattle.pcap_blocks.specs.NameResolution.{RecordsText, RecordsFault}
-use Rattle.pcap_blocks.specs.Record.{Address, AddressSays, AddressText, NameRecord, End, Ipv4, Ipv6, Other, Form, RecordValueSays, RecordText, RecordSays}
+use Rattle.pcap_blocks.specs.Record.{Address, AddressSays, NameRecord, End, Ipv4, Ipv6, Other, Form, RecordValueSays, RecordText, RecordSays}
 use Rattle.pcapfile_c.specs.declared.errors.PcapfileError.{PcapfileError}
 use Rattle.pcapfile_c.specs.declared.records.PcapfileRecord.{PcapfileRecord}
 use Rattle.pcapfile_c.specs.declared.shown.PcapfileBytes.{PcapfileBytes}

@@ -1,6 +1,6 @@
 //! Laws of many calls.
 
-ghost use Rattle.std.specs.Prelude.{◌≡◌, ◌⊎◌, ℕ, ℤ, List, [], ◌∷◌, ◌++◌, filter};
+ghost use Rattle.std.specs.Prelude.{◌≡◌, ◌⊎◌, ℕ, ℤ, List, [], ◌∷◌, filter};
 ghost use Rattle.std.specs.List.{AllZip};
 ghost use Rattle.pcap_core.specs.Format.{Front, state_after};
 ghost use Rattle.pcap_classic.specs.declared.pcap.header.PcapHeader.{PcapHeader};

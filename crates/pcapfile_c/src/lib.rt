@@ -15,6 +15,7 @@ mod blocks;
 mod blocks_as_is;
 mod bodies;
 mod cuts;
+mod enhanced_options;
 mod errors;
 pub mod laws;
 mod options;

@@ -1,10 +1,7 @@
 use Rattle.std.specs.Prelude.{⊤}
-use Rattle.std.proofs.Common.{◌≡◌, ◌<◌, ◌≤◌, ◌*◌, ℕ, List, length, refl, subst, inl, inr, rules, arith, ◌∙◌}
-use Rattle.std.proofs.lemmas.List.{length-map}
-use Rattle.pcap_file.specs.Blocks.{block_format}
+use Rattle.std.proofs.Common.{◌≡◌, ◌<◌, ◌≤◌, ◌*◌, ℕ, List, length, refl, subst, inl, inr, rules}
 use Rattle.pcap_file.specs.Opening.{OpeningSays}
 use Rattle.pcap_parts.specs.declared.cut_ng.NgCut.{NgCut}
-use Rattle.pcap_parts.proofs.Stepping.{steps_fit}
 use Rattle.pcapfile_c.specs.AtLeast.{StepsBlocks}
 use Rattle.pcapfile_c.specs.Cuts.{Fills}
 use Rattle.pcapfile_c.proofs.CutPlaces.{block_steps_fit}

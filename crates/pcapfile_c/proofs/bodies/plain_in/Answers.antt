@@ -1,30 +1,30 @@
-use Rattle.std.proofs.Common.{rules, ◌≡◌, [], length, refl}
+use Rattle.std.proofs.Common.{refl}
 use Rattle.pcap_blocks.specs.EnhancedPacket.{Enhanced, EnhancedText}
-use Rattle.pcap_blocks.specs.Options.OptionList.{with_body}
-use Rattle.pcap_core.proofs.Formats.{nil_of_length}
+use Rattle.pcapfile_c.specs.EnhancedOptions.{OptionsText}
 use Rattle.pcapfile_c.proofs.bodies.plain_in.Goals as goal
 
-pub returns-in-Some : goal.returns-in-Some
-returns-in-Some g c =
+pub returns : goal.returns
+returns g c =
     let interface = c.split_u32-interface_id in
     let high = c.split_u32-high in
     let low = c.split_u32-low in
     let captured = c.split_u32-captured_len in
     let original = c.split_u32-orig_len in
-    let short : length c.in-Some.options.now ≡ 0 = search rules in
-    let none : c.in-Some.options.now ≡ [] = nil_of_length c.in-Some.options.now short in
+    let split = c.in_ok-bytes in
+    let behind = c.in_ok-_behind._behind.now in
+    let options : OptionsText g.B.ByteOrder.number_of split.options.now behind = c.in_ok-_behind.ensures in
     let packet : Enhanced =
     record {
       interface_id = interface.result.0;
-      packet = record { timestamp = c.joined.result; captured_len = captured.result.0; original_len = original.result.0; bytes = c.in-Some.bytes.now; options = [] };
+      packet = record { timestamp = c.joined.result; captured_len = captured.result.0; original_len = original.result.0; bytes = split.bytes.now; options = options.0 };
     } in
-    let text : EnhancedText g.B.ByteOrder.number_of packet c.args.body.now [] =
+    let text : EnhancedText g.B.ByteOrder.number_of packet c.args.body.now behind =
     record {
       after_interface = interface.result.1.now;
       interface_is = interface.ensures.number;
       packet_is = record {
         after_head = original.result.1.now;
-        after_bytes = c.in-Some.options.now;
+        after_bytes = split.options.now;
         head = record {
           after_time = low.result.1.now;
           after_captured = captured.result.1.now;
@@ -32,9 +32,9 @@ returns-in-Some g c =
           captured_is = captured.ensures.number;
           original_is = original.ensures.number;
         };
-        captured = c.in-Some.ensures.len;
-        padded = c.in-Some.ensures.padded;
-        options_are = with_body none tt refl;
+        captured = split.ensures.len;
+        padded = split.ensures.padded;
+        options_are = options.1;
       };
     } in
-    (packet, [], record { type_is = refl; interface_is = refl; timestamp_is = refl; original_is = refl; bytes_are = refl }, text)
+    (packet, behind, record { type_is = refl; interface_is = refl; timestamp_is = refl; original_is = refl; bytes_are = refl }, text)

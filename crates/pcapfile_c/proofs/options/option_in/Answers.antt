@@ -1,5 +1,4 @@
 use Rattle.std.proofs.Common.{arith}
-use Rattle.pcap_core.specs.Answer.{faulty}
 use Rattle.pcap_core.specs.Faults.{Invalid}
 use Rattle.pcap_core.specs.declared.rules.Rule.TheVariants.{OptionTooShort, OptionCut}
 use Rattle.pcap_core.proofs.Refusals.{named_shows}

@@ -1,6 +1,6 @@
 use Rattle.std.proofs.Common.{refl, length, rules}
 use Rattle.pcap_core.specs.Answer.{faulty}
-use Rattle.pcap_core.specs.Faults.{Fault, Invalid}
+use Rattle.pcap_core.specs.Faults.{Fault}
 use Rattle.pcap_core.specs.declared.rules.Rule.TheVariants.{EndNotEmpty}
 use Rattle.pcap_core.proofs.Refusals.{named_shows}
 use Rattle.pcap_blocks.specs.Record.{RecordValueSays, no_value, Ipv4, Ipv6, Other}

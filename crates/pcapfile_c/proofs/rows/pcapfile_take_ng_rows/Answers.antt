@@ -1,4 +1,4 @@
-use Rattle.std.proofs.Common.{rules, ◌≡◌, ◌<◌, ◌≤◌, ◌-◌, length, ◌∷◌, [], ◌++◌, Some, None, w32, to_z, of_z, refl, sym, inr, arith, ◌∙◌}
+use Rattle.std.proofs.Common.{rules, ◌≡◌, ◌<◌, ◌-◌, length, ◌∷◌, [], ◌++◌, Some, None, w32, to_z, of_z, refl, sym, inr, arith, ◌∙◌}
 use Rattle.std.proofs.lemmas.List.{length-set}
 use Rattle.std.proofs.lemmas.Option.{same_Some}
 use Rattle.pcap_core.specs.declared.rules.Rule.TheVariants.{SectionMagic}

@@ -1,0 +1,14 @@
+use Rattle.std.proofs.Common.{List, length}
+use Rattle.pcap_core.specs.Padded.{Chain}
+use Rattle.pcap_blocks.specs.EnhancedPacket.{enhanced_packet}
+use Rattle.pcap_blocks.specs.Options.{OptionText}
+use Rattle.pcap_blocks.specs.Values.{Entry}
+use Rattle.pcapfile_c.proofs.enhanced_options.behind_some.Given as goal
+
+abbrev pub invariant-loop-left : goal.invariant-loop-left
+invariant-loop-left g l = record {
+  so_far : (options : List Entry) × Chain (OptionText g.B.ByteOrder.number_of enhanced_packet) options l.fn.slice l.left;
+}
+
+abbrev pub decreases-loop-left : goal.decreases-loop-left
+decreases-loop-left g l = length l.left
