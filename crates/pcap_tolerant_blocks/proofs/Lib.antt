@@ -4,3 +4,4 @@ pub mod StrictBodies
 mod Bodies
 pub mod OneAsIs
 pub mod OneBodies
+pub mod Pieces

@@ -8,3 +8,4 @@ pub mod PacketBlockAsIs
 pub mod SimpleAsIs
 pub mod StatisticsAsIs
 pub mod InForce
+pub mod SoundOptions

@@ -68,7 +68,7 @@ fn judge<'a, O: ReadsValue<'a>, B: ByteOrder>(code: u16, len: u16, value: &'a [u
 
 // The option at the front of a slice as it stands, or none at the mark that ends a list, and what follows it; else why there
 // is none.
-fn option_as_is<'a, O: ReadsValue<'a>, B: ByteOrder>(
+pub(crate) fn option_as_is<'a, O: ReadsValue<'a>, B: ByteOrder>(
     slice: &'a [u8],
 ) -> Result<(&'a [u8], Option<OptionAsIs<O>>), Rule>
     ensures tells { MatchResult result

@@ -29,6 +29,8 @@ mod run_rows;
 #[cfg(test)]
 mod runs;
 #[cfg(test)]
+mod sound;
+#[cfg(test)]
 mod streams;
 #[cfg(test)]
 mod told;

@@ -1,0 +1,28 @@
+use Rattle.std.proofs.Common.{◌-◌, ◌++◌, ◌∙◌, ℕ, List, length, take, ap, refl, append_assoc, Some}
+use Rattle.pcap_core.specs.Faults.{Invalid}
+use Rattle.pcap_blocks.proofs.ReadOptions.{not_empty}
+use Rattle.pcap_tolerant_blocks.specs.OptionsAsIs.{flaws_or_none, judged_of}
+use Rattle.pcap_tolerant_blocks.specs.SoundOptions.{are_none, text_if}
+use Rattle.pcap_tolerant_blocks.proofs.Pieces.{option_more, pieces_end}
+use Rattle.pcap_tolerant_blocks.proofs.sound.put_sound.Goals as goal
+
+pub returns-in-Err : goal.returns-in-Err
+returns-in-Err g c =
+    let so_far = c.loop-left.invariant in
+    let left = c.loop-left.left.now in
+    (so_far.0, pieces_end g.B.ByteOrder.number_of g.O.ReadsValue.kind c.args.slice.now left left so_far.0 (Some (Invalid c.in-Err._rule)) so_far.1 (λ over. not_empty left c.loop-left-test.ensures, c.in-Err.ensures.tells, refl), so_far.2)
+
+pub loop-left-preserved : goal.loop-left-preserved
+loop-left-preserved g c =
+    let order = g.B.ByteOrder.number_of in
+    let kind = g.O.ReadsValue.kind in
+    let so_far = c.loop-left.invariant in
+    let left = c.loop-left.left.now in
+    let after = c.in-Ok.read.0.now in
+    let read = c.in-Some.read in
+    let text = rw c.in-Some.is at c.in-Ok.ensures.tells in
+    let put = text_if (are_none (flaws_or_none read.flaw)) (take (length left - length after) left) in (
+      so_far.0 ++ put,
+      option_more order kind c.args.slice.now left after so_far.0 (judged_of g.O.ReadsValue.view read) so_far.1 text,
+      c.in_ok-put_if_sound.ensures ∙ ap (λ (l : List ℕ). l ++ put) so_far.2 ∙ append_assoc c.args.out.now.items so_far.0 put,
+    )

@@ -1,0 +1,60 @@
+-- Options whose values break no rule, as their bytes stand ('Options').
+use Rattle.std.specs.Prelude.{◌≡◌, ℕ, List, [], ◌∷◌, ◌++◌, filter, All, Bool, true, false, Option}
+use Rattle.std.specs.List.{flat_map}
+use Rattle.pcap_core.specs.Answer.{Order}
+use Rattle.pcap_core.specs.Faults.{Fault}
+use Rattle.pcap_blocks.specs.EnhancedPacket.{enhanced_packet}
+use Rattle.pcap_blocks.specs.InterfaceDescription.{interface_description}
+use Rattle.pcap_blocks.specs.Options.{may_end_with_body}
+use Rattle.pcap_blocks.specs.SectionHeader.{section_header}
+use Rattle.pcap_blocks.specs.Values.{Kind}
+use Rattle.pcap_raw_options.specs.UpTo.{StopsAt, no_kind}
+use Rattle.pcap_tolerant_blocks.specs.declared.sound.OptionsOf.{OptionsOf}
+use Rattle.pcap_tolerant_blocks.specs.declared.sound.OptionsOf.TheVariants as of
+use Rattle.pcap_tolerant_blocks.specs.Flaws.{Said}
+use Rattle.pcap_tolerant_blocks.specs.OptionsAsIs.{Judged, JudgedText}
+
+-- the shapes of the values of these options, by their codes
+abbrev pub kind_of : OptionsOf → Kind
+kind_of of.Section = section_header
+kind_of of.Interface = interface_description
+kind_of of.EnhancedPacket = enhanced_packet
+
+-- an option as it stands, and its bytes
+pub record Piece : Type 0 where
+  pub option : Judged
+  pub text : List ℕ
+
+-- they are the option, whatever follows them
+abbrev pub IsPiece : Order → Kind → Piece → Type 0
+IsPiece order kind piece = (rest : List ℕ) → JudgedText order kind piece.option (piece.text ++ rest) rest
+
+-- its bytes
+abbrev pub text_in : Piece → List ℕ
+text_in piece = piece.text
+
+-- nothing is wrong
+abbrev pub are_none : List Said → Bool
+are_none [] = true
+are_none (first ∷ others) = false
+
+-- its value breaks no rule
+abbrev pub is_sound : Piece → Bool
+is_sound piece = are_none piece.option.flaws
+
+-- these bytes, where nothing is wrong with what they are
+abbrev pub text_if : Bool → List ℕ → List ℕ
+text_if true text = text
+text_if false text = []
+
+-- s is options as they stand, up to their mark, to the end, or to where no next one is found, and kept is the bytes of those whose
+-- values break no rule
+pub record SoundOptions (order : Order) (kind : Kind) (s kept : List ℕ) : Type 0 where
+  pub pieces : List Piece
+  pub stop : List ℕ
+  pub cut : Option Fault
+  pub rest : List ℕ
+  pub are : All (IsPiece order kind) pieces
+  pub text : s ≡ flat_map text_in pieces ++ stop
+  pub stops : StopsAt may_end_with_body order no_kind [] cut stop rest
+  pub kept_are : kept ≡ flat_map text_in (filter is_sound pieces)

@@ -1,0 +1,95 @@
+//! Options whose values break no rule, as their bytes stand.
+
+ghost use Rattle.std.specs.Prelude.{◌≡◌, ◌≤◌, ◌-◌, ◌++◌, ℕ, List, length, take, OnOk};
+ghost use Rattle.pcap_core.specs.Answer.{number_in};
+ghost use Rattle.pcap_tolerant_blocks.specs.OptionsAsIs.{flaws_or_none};
+ghost use Rattle.pcap_tolerant_blocks.specs.SoundOptions.{SoundOptions, are_none, kind_of, text_if};
+
+use crate::flaws::Flaw;
+use crate::list::{ReadsValue, option_as_is};
+use byteorder::{BigEndian, ByteOrder, LittleEndian};
+use pcap_blocks::{EnhancedPacketOption, InterfaceDescriptionOption, SectionHeaderOption};
+use pcap_core::Endianness;
+use std::alloc::AllocError;
+
+/// Whose options are meant.
+#[derive(Clone, Copy, Debug, PartialEq, Eq)]
+pub enum OptionsOf {
+    /// Those of a section header.
+    Section,
+    /// Those of an interface description.
+    Interface,
+    /// Those of an enhanced packet.
+    EnhancedPacket,
+}
+
+/// Puts the options at the front of a slice whose values break no rule behind other bytes, each with its bytes as they stand. The
+/// options end at their mark, which isn't put, with the slice, or where no next one can be found.
+///
+/// `AllocError` where the bytes can't grow.
+pub fn put_sound_options(
+    of: OptionsOf,
+    order: Endianness,
+    slice: &[u8],
+    out: &mut Vec<u8>,
+) -> Result<(), AllocError>
+    ensures { OnOk result ((kept : List ℕ) × SoundOptions (number_in order) (kind_of of) slice.now kept × (out.new.items ≡ out.old.items ++ kept)) }
+{
+    match of {
+        OptionsOf::Section => put_in::<SectionHeaderOption>(order, slice, out),
+        OptionsOf::Interface => put_in::<InterfaceDescriptionOption>(order, slice, out),
+        OptionsOf::EnhancedPacket => put_in::<EnhancedPacketOption>(order, slice, out),
+    }
+}
+
+// Puts those of one kind.
+fn put_in<'a, O: ReadsValue<'a> + Drop>(
+    order: Endianness,
+    slice: &'a [u8],
+    out: &mut Vec<u8>,
+) -> Result<(), AllocError>
+    ensures { OnOk result ((kept : List ℕ) × SoundOptions (number_in order) O.kind slice.now kept × (out.new.items ≡ out.old.items ++ kept)) }
+{
+    match order {
+        Endianness::Big => put_sound::<O, BigEndian>(slice, out),
+        Endianness::Little => put_sound::<O, LittleEndian>(slice, out),
+    }
+}
+
+// Puts the bytes of an option, behind which others follow, if nothing is wrong with it.
+fn put_if_sound(
+    left: &[u8],
+    after: &[u8],
+    flaw: Option<Flaw>,
+    out: &mut Vec<u8>,
+) -> Result<(), AllocError>
+    requires { length after.now ≤ length left.now }
+    ensures { OnOk result (out.new.items ≡ out.old.items ++ text_if (are_none (flaws_or_none flaw)) (take (length left.now - length after.now) left.now)) }
+{
+    match flaw {
+        None => out.extend_from_slice(&left[..left.len() - after.len()]),
+        Some(_flaw) => Ok(()),
+    }
+}
+
+// Puts those of one kind in one order.
+fn put_sound<'a, O: ReadsValue<'a> + Drop, B: ByteOrder>(
+    slice: &'a [u8],
+    out: &mut Vec<u8>,
+) -> Result<(), AllocError>
+    ensures { OnOk result ((kept : List ℕ) × SoundOptions B.number_of O.kind slice.now kept × (out.new.items ≡ out.old.items ++ kept)) }
+{
+    let mut left = slice;
+    while !left.is_empty() {
+        let (after, option) = match option_as_is::<O, B>(left) {
+            Ok(read) => read,
+            Err(_rule) => return Ok(()),
+        };
+        let Some(read) = option else {
+            return Ok(());
+        };
+        put_if_sound(left, after, read.flaw, out)?;
+        left = after;
+    }
+    Ok(())
+}
