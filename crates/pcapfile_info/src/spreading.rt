@@ -83,6 +83,18 @@ impl Spread {
         }
     }
 
+    // The span of an instant. Most packets lie in the last one, and want no division.
+    fn span_of(&self, instant: u64) -> u64
+        ensures { result ≡ instant / self.now.width }
+    {
+        let start = self.last * self.width;
+        if start <= instant && instant - start < self.width {
+            self.last
+        } else {
+            instant / self.width
+        }
+    }
+
     // Whether the span of this number can be one of the row.
     fn has_room(&self, span: u64) -> bool
         ensures { IsTrue result ↔ HasRoom self.now span }
@@ -119,9 +131,12 @@ impl Spread {
     pub(crate) fn add(&mut self, instant: u64)
         ensures { (instants : List ℕ) → Spreads instants self.old → Spreads (instants ++ instant ∷ []) self.new }
     {
-        if !self.has_room(instant / self.width) {
+        let span = self.span_of(instant);
+        if self.has_room(span) {
+            self.put(span);
+        } else {
             self.widen(instant);
+            self.put(instant / self.width);
         }
-        self.put(instant / self.width);
     }
 }
