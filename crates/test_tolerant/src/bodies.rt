@@ -106,14 +106,19 @@ fn statistics_of_interfaces(rt: HostRuntime) -> Result<(), Fail> {
 
 // How many flaws the body of a block has as each of the three kinds, where it is one.
 fn flaws_of(alloc: Global, item: &BlockAsIs) -> Result<[Option<usize>; 3], Fail> {
-    let packet_block = item.packet_block(alloc)?;
-    let simple = item.simple(alloc)?;
-    let statistics = item.statistics(alloc)?;
-    Ok([
-        packet_block.map(|read| read.flaws.len()),
-        simple.map(|read| read.flaws.len()),
-        statistics.map(|read| read.flaws.len()),
-    ])
+    let packet_block = match item.packet_block(alloc)? {
+        Some(read) => Some(read.flaws.len()),
+        None => None,
+    };
+    let simple = match item.simple(alloc)? {
+        Some(read) => Some(read.flaws.len()),
+        None => None,
+    };
+    let statistics = match item.statistics(alloc)? {
+        Some(read) => Some(read.flaws.len()),
+        None => None,
+    };
+    Ok([packet_block, simple, statistics])
 }
 
 // The same of the block behind a section header.
