@@ -9,7 +9,7 @@ from typing import TYPE_CHECKING, Any, Deque, Dict, Iterator, List, NamedTuple, 
 
 from . import _library
 from ._errors import CaptureError, Incomplete
-from ._source import Pieces
+from ._source import PIECE_OF_MANY, Pieces, room_of
 
 try:
     import numpy
@@ -65,12 +65,13 @@ def side_by_side(walk: Any, source: "Memory", end: int, batch: int, threads: int
     stretches = _guessed(seems, source, begin, end, threads)
     waiting: Deque[Tuple[int, int, Any, "Future[_Walked]"]] = deque()
     pool, most, ahead = ThreadPoolExecutor(threads), 2 * threads, 2 * threads
+    rooms = deque(room_of(PIECE_OF_MANY) for _ in range(threads + 1))
     reached, now = begin, walk
     try:
         while True:
             while len(waiting) < ahead and (stretch := next(stretches, None)):
                 start = walk if stretch[0] == begin else seems
-                waiting.append((*stretch, start.state, pool.submit(_walked, start.over(source.read(*stretch)), batch)))
+                waiting.append((*stretch, start.state, pool.submit(_walked, start, source, *stretch, batch, rooms)))
             if not waiting:
                 break
             first, last, state, walked = waiting.popleft()
@@ -83,7 +84,7 @@ def side_by_side(walk: Any, source: "Memory", end: int, batch: int, threads: int
             if first == reached and state == now.state:
                 found, ahead = walked.result(), min(2 * ahead, most)
             else:
-                found = _walked(now.over(source.read(reached, last)), batch)
+                found = _walked(now, source, reached, last, batch, rooms)
             yield from found.columns
             reached, now = last, found.walk
             if found.refusal is not None:
@@ -102,19 +103,23 @@ class _Walked(NamedTuple):
     refusal: Optional[CaptureError]
 
 
-def _walked(walk: Any, batch: int) -> _Walked:
+def _walked(start: Any, source: "Memory", begin: int, end: int, batch: int, rooms: Deque[memoryview]) -> _Walked:
+    """A walk between two places, over bytes that are read into one of these rooms: there is one for each who walks at once."""
     columns: List[Any] = []
+    room, refusal = rooms.pop(), None
+    walk = start.over(source.read(begin, end, room))
     try:
         for rows in of_walk(walk, batch):
             columns.append(rows)
     except CaptureError as error:
-        return _Walked(columns, walk, error)
-    return _Walked(columns, walk, None)
+        refusal = error
+    rooms.append(room)
+    return _Walked(columns, walk, refusal)
 
 
 def _guessed(walk: Any, source: "Memory", begin: int, end: int, threads: int) -> Iterator[Tuple[int, int]]:
-    """Stretches of about equal length between two places, each up to where packets seem to stand again."""
-    count = max(threads, (end - begin) // _STRETCH)
+    """Stretches of about equal length between two places, as many for each thread, each up to where packets seem to stand again."""
+    count = threads * -(-(end - begin) // (threads * _STRETCH))
     for place in [begin + (end - begin) * k // count for k in range(1, count)]:
         guess = walk.guess(source.view(place, min(place + _SEARCHED, end)), place)
         if guess is not None and begin < guess < end:

@@ -14,6 +14,9 @@ CHUNK = 1 << 18
 # How many bytes of a file are read at once where none of them are lent: they stay in a processor's cache.
 PIECE = 1 << 18
 
+# The same of one of several threads: each read, and each walk over what was read, asks for the interpreter's lock once.
+PIECE_OF_MANY = 1 << 20
+
 # How far apart pages of memory begin at least. A file's bytes are copied faster to where they lie as they do in its pages.
 PAGE = 4096
 
@@ -77,11 +80,12 @@ class Memory:
         window.left.ptr, window.left.len = window.start + begin, len(self) - begin
         return window
 
-    def read(self, begin: int, end: int) -> Window:
-        """Those between two places, of which none are lent. Those of a file are read, as mapping each page costs more."""
+    def read(self, begin: int, end: int, room: Optional[memoryview] = None) -> Window:
+        """Those between two places, of which none are lent. Those of a file are read, into this room, where there is one, as mapping
+        each page costs more."""
         if self._file is None or not hasattr(os, "preadv"):
             return self.between(begin, end)
-        return Pieces(self._file, begin, end)
+        return Pieces(self._file, begin, end, room_of(PIECE) if room is None else room)
 
     def close(self) -> None:
         self._bytes.release()
@@ -94,12 +98,17 @@ class Memory:
                 pass
 
 
+def room_of(size: int) -> memoryview:
+    """Memory of whole pages."""
+    return memoryview(mmap.mmap(-1, size))
+
+
 class Pieces(Window):
     """Bytes of a file between two places, which are read piece by piece into the same memory: none of them may be lent."""
 
-    def __init__(self, file: BinaryIO, begin: int, end: int) -> None:
+    def __init__(self, file: BinaryIO, begin: int, end: int, room: memoryview) -> None:
         self._file, self._next, self._end = file, begin, end
-        super().__init__(memoryview(mmap.mmap(-1, PIECE)))
+        super().__init__(room)
         self.left.len = 0
 
     @property
@@ -112,7 +121,7 @@ class Pieces(Window):
         left, room, place = self.left, self.data, self._next
         held, begin = left.len, left.ptr - self.start
         if 2 * held > len(room):
-            self._show(memoryview(mmap.mmap(-1, 2 * len(room))), 0)
+            self._show(room_of(2 * len(room)), 0)
         front = (place - held) % PAGE
         behind = front + held
         self.data[front:behind] = room[begin : begin + held]

@@ -50,7 +50,8 @@ class Threads(unittest.TestCase):
         room = tempfile.TemporaryDirectory()
         self.addCleanup(room.cleanup)
         self.folder = Path(room.name)
-        for module, name, value in ((_columns, "_STRETCH", 1000), (_source, "PIECE", 256), (_source, "PAGE", 16)):
+        small = ((_columns, "_STRETCH", 1000), (_columns, "PIECE_OF_MANY", 512), (_source, "PIECE", 256), (_source, "PAGE", 16))
+        for module, name, value in small:
             patch = mock.patch.object(module, name, value)
             patch.start()
             self.addCleanup(patch.stop)
