@@ -4,4 +4,8 @@ pub mod StrictBodies
 mod Bodies
 pub mod OneAsIs
 pub mod OneBodies
+mod Growth
 pub mod Pieces
+pub mod RecordsAsIs
+pub mod StrictNames
+pub mod OneNames

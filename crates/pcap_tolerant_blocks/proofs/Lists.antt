@@ -1,5 +1,5 @@
 -- Options that are read one behind the other, as they stand.
-use Rattle.std.proofs.Common.{◌≡◌, ◌≢◌, ◌<◌, ℕ, List, [], ◌∷◌, ◌++◌, length, map, Option, Some, None, Result, Ok, Err, IfErr, refl, sym, ap, subst, ◌∙◌, arith, append_assoc}
+use Rattle.std.proofs.Common.{◌≡◌, ◌≢◌, ℕ, List, [], ◌∷◌, ◌++◌, map, Option, Some, None, Result, Ok, Err, IfErr, refl, sym, ap, subst, ◌∙◌, append_assoc}
 use Rattle.std.proofs.lemmas.List.{append-nil, map-append}
 use Rattle.pcap_core.specs.Answer.{Order}
 use Rattle.pcap_core.specs.Faults.{Fault}
@@ -7,7 +7,6 @@ use Rattle.pcap_core.specs.Padded.{Chain}
 use Rattle.pcap_core.proofs.Padded.{chain_more}
 use Rattle.pcap_blocks.specs.Values.{Entry, Kind}
 use Rattle.pcap_blocks.specs.Options.{may_end_with_body, OptionFault}
-use Rattle.pcap_blocks.proofs.OneList.{head_length}
 use Rattle.pcap_raw_options.specs.UpTo.{StopsAt, no_kind}
 use Rattle.pcap_tolerant_blocks.specs.declared.flaws.Flaw.{Flaw}
 use Rattle.pcap_tolerant_blocks.specs.Flaws.{Said, said_of}
@@ -17,10 +16,6 @@ use Rattle.pcap_tolerant_blocks.specs.OptionsAsIs.{Judged, JudgedText, entry_in,
 pub holds_on_err : {A E : Type 0} (P : Type 0) → P → (r : Result A E) → IfErr r (λ e. P)
 holds_on_err P p (Ok x) = tt
 holds_on_err P p (Err e) = p
-
-some_length : (s : List ℕ) → s ≢ [] → 0 < length s
-some_length [] some = absurd (some refl)
-some_length (b ∷ s) some = omega arith
 
 flaws_push : (each : List Judged) (option : Judged) → flaws_in (each ++ option ∷ []) [] ≡ flaws_in each [] ++ option.flaws
 flaws_push [] option = append-nil option.flaws
@@ -65,11 +60,3 @@ module _ (order : Order) (kind : Kind) where
   read_cut options flaws flaw s left fault is so_far some stands =
       let said : map said_of (flaws ++ flaw ∷ []) ≡ map said_of flaws ++ cut_by (Some fault) = map-append said_of flaws (flaw ∷ []) ∙ ap (λ (x : Said). map said_of flaws ++ x ∷ []) is in
       subst (λ (l : List Said). OptionsAsIs order kind options l s left) (sym said) (read_ends options (map said_of flaws) s left left (Some fault) so_far (λ over. some, stands, refl))
-
-  some_items : (each : List Judged) (s left : List ℕ) → Chain (JudgedText order kind) each s left → left ≢ [] → 0 < length s
-  some_items [] s left are some = subst (λ (t : List ℕ). 0 < length t) (sym are) (some_length left some)
-  some_items (option ∷ each) s left are some = omega (arith, head_length order are.1.code (length are.1.v) s are.1.after_head are.1.head)
-
-  -- where bytes are left, there were some
-  pub some_read : (options : List Entry) (flaws : List Said) (s left : List ℕ) → ReadSoFar order kind options flaws s left → left ≢ [] → 0 < length s
-  some_read options flaws s left so_far some = some_items so_far.each s left so_far.are some

@@ -35,10 +35,10 @@ one_image P Q make to from one =
 -- ---- options: the raw ones up to their fault, each judged by its kind
 
 module _ (order : Order) (kind : Kind) where
-  judge_raw : Entry → Judged
+  pub judge_raw : Entry → Judged
   judge_raw o = judged o.code (value_bytes o.value) (value_of order (shape_at kind o.code) (value_bytes o.value))
 
-  raw_text : (option : Judged) (s after : List ℕ) → JudgedText order kind option s after → (o : Entry) × OptionText order no_kind o s after × (option ≡ judge_raw o)
+  pub raw_text : (option : Judged) (s after : List ℕ) → JudgedText order kind option s after → (o : Entry) × OptionText order no_kind o s after × (option ≡ judge_raw o)
   unfolding judge_raw
   raw_text option s after t = (
     record { code = t.code; value = Unknown (length t.v) t.v },
@@ -75,7 +75,7 @@ module _ (order : Order) (kind : Kind) where
   judged_all [] s stop are = are
   judged_all (o ∷ raws) s stop are = (are.0, judged_text o s are.0 are.1, judged_all raws are.0 stop are.2)
 
-  stops_any : (options others : List Entry) (cut : Option Fault) (s rest : List ℕ) → StopsAt may_end_with_body order no_kind options cut s rest → StopsAt may_end_with_body order no_kind others cut s rest
+  pub stops_any : (options others : List Entry) (cut : Option Fault) (s rest : List ℕ) → StopsAt may_end_with_body order no_kind options cut s rest → StopsAt may_end_with_body order no_kind others cut s rest
   stops_any options others None s rest x = x
   stops_any options others (Some fault) s rest x = x
 

@@ -1,18 +1,23 @@
 -- Options whose values break no rule, as their bytes stand.
-use Rattle.std.proofs.Common.{◌≡◌, ◌≤◌, ◌-◌, ℕ, List, [], ◌∷◌, ◌++◌, length, take, Bool, true, false, Option, refl, sym, ap, subst, ◌∙◌, arith, append_assoc, append-nil, length-append}
+use Rattle.std.proofs.Common.{◌≡◌, ◌<◌, ◌≤◌, ◌-◌, ℕ, List, [], ◌∷◌, ◌++◌, length, take, Bool, true, false, Option, refl, sym, ap, subst, ◌∙◌, arith, append_assoc, append-nil, length-append}
 use Rattle.std.specs.Prelude.{All, filter}
 use Rattle.std.specs.List.{flat_map}
 use Rattle.std.proofs.Math.Seq.{take-append_seam}
 use Rattle.std.proofs.lemmas.List.Concat.{flat_map-append}
 use Rattle.std.proofs.lemmas.List.Elements.{All-nil, All-push, filter-append}
-use Rattle.pcap_core.specs.Answer.{Order, Number}
+use Rattle.std.proofs.lemmas.List.{length-take}
+use Rattle.pcap_core.specs.Answer.{Order, Number, Verdict, whole, lacks, faulty}
 use Rattle.pcap_core.specs.Faults.{Fault}
-use Rattle.pcap_core.specs.Padded.{Padded}
-use Rattle.pcap_blocks.specs.Values.{Kind}
+use Rattle.pcap_core.specs.Padded.{Padded, Chain}
+use Rattle.pcap_core.proofs.OnePadded.{padded_length}
+use Rattle.pcap_blocks.specs.Values.{Entry, Kind}
+use Rattle.pcap_blocks.proofs.OneList.{head_length}
 use Rattle.pcap_blocks.specs.Options.{may_end_with_body, CodeLengthText}
 use Rattle.pcap_raw_options.specs.UpTo.{StopsAt, no_kind}
-use Rattle.pcap_tolerant_blocks.specs.OptionsAsIs.{Judged, JudgedText}
-use Rattle.pcap_tolerant_blocks.specs.SoundOptions.{Piece, IsPiece, SoundOptions, are_none, is_sound, text_if, text_in}
+use Rattle.pcap_tolerant_blocks.specs.Flaws.{Flawed}
+use Rattle.pcap_tolerant_blocks.specs.OptionsAsIs.{Judged, JudgedText, OptionsAsIsSay}
+use Rattle.pcap_tolerant_blocks.specs.SoundOptions.{Piece, IsPiece, SoundOptions, PutsSome, are_none, is_sound, text_if, text_in}
+use Rattle.pcap_tolerant_blocks.proofs.OneAsIs.{list_one, stops_any}
 
 three : (a b d rest : List ℕ) → (a ++ (b ++ d)) ++ rest ≡ a ++ (b ++ (d ++ rest))
 three a b d rest = simp append_assoc
@@ -92,3 +97,29 @@ module _ (order : Order) (kind : Kind) where
   -- an option leaves no more than there was
   pub leaves_less : (option : Judged) (left after : List ℕ) → JudgedText order kind option left after → length after ≤ length left
   leaves_less option left after is = let t = piece_there option left after is in omega (arith, ap length t.3, length-append t.0.text after)
+
+  -- the options that stand in what is left
+  pieces_on : (each : List Judged) (s left stop kept : List ℕ) → PiecesSoFar s left kept → Chain (JudgedText order kind) each left stop → (more : List ℕ) × PiecesSoFar s stop (kept ++ more)
+  pieces_on [] s left stop kept so_far are = ([], subst (λ (l : List ℕ). PiecesSoFar s l (kept ++ [])) are (subst (PiecesSoFar s left) (sym (append-nil kept)) so_far))
+  pieces_on (option ∷ each) s left stop kept so_far are =
+      let put = text_if (are_none option.flaws) (take (length left - length are.0) left) in
+      let on = pieces_on each s are.0 stop (kept ++ put) (option_more s left are.0 kept option so_far are.1) are.2 in
+      (put ++ on.0, subst (PiecesSoFar s stop) (append_assoc kept put on.0) on.1)
+
+  pieces_all : (s left kept : List ℕ) → PiecesSoFar s left kept → (v : Verdict (Flawed (List Entry))) → OptionsAsIsSay order kind left v → (more : List ℕ) × SoundOptions order kind s (kept ++ more)
+  pieces_all s left kept so_far (whole x rest) h =
+      let on = pieces_on h.each s left h.stop kept so_far h.are in
+      (on.0, pieces_end s h.stop rest (kept ++ on.0) h.cut on.1 (stops_any order kind x.value [] h.cut h.stop rest h.stops))
+  pieces_all s left kept so_far (lacks n) h = absurd h
+  pieces_all s left kept so_far (faulty f) h = absurd h
+
+  -- an option without a flaw is put
+  pub puts_some : (s left after kept : List ℕ) (option : Judged) → PiecesSoFar s left kept → JudgedText order kind option left after → option.flaws ≡ [] → PutsSome order kind s
+  puts_some s left after kept option so_far text none =
+      let put = take (length left - length after) left in
+      let sound : are_none option.flaws ≡ true = ap are_none none in
+      let next = subst (λ (b : Bool). PiecesSoFar s after (kept ++ text_if b put)) sound (option_more s left after kept option so_far text) in
+      let list = list_one order kind after in
+      let all = pieces_all s after (kept ++ put) next list.value list.holds in
+      let less : length after < length left = omega (arith, head_length order text.code (length text.v) left text.after_head text.head, padded_length text.v text.after_head after text.padded) in
+      record { kept = (kept ++ put) ++ all.0; are_put = all.1; some = λ e. omega (arith, less, ap length e, length-append (kept ++ put) all.0, length-append kept put, length-take (length left - length after) left) }

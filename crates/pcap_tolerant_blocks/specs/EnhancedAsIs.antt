@@ -1,9 +1,9 @@
 -- Enhanced packets as they stand ('Enhanced Packet Block').
-use Rattle.std.specs.Prelude.{ℕ, List, map, Option}
+use Rattle.std.specs.Prelude.{◌≡◌, ℕ, List, [], map, Option}
 use Rattle.std.specs.Option.{option_map}
 use Rattle.pcap_core.specs.Answer.{Order, Number, Verdict}
 use Rattle.pcap_blocks.specs.EnhancedPacket.{Enhanced, enhanced_packet, enhanced_of}
-use Rattle.pcap_tolerant_blocks.specs.Flaws.{Said, Flawed, said_of, IfRoom, IfRoomSays}
+use Rattle.pcap_tolerant_blocks.specs.Flaws.{Said, Flawed, said_of, IfRoom, IfRoomSays, KeepsSome}
 use Rattle.pcap_tolerant_blocks.specs.StoredAsIs.{WithBytes, NoPacket}
 use Rattle.pcap_tolerant_blocks.specs.declared.enhanced.EnhancedAsIs.{EnhancedAsIs}
 
@@ -16,6 +16,10 @@ pub record OfInterface (order : Order) (enhanced : Enhanced) (flaws : List Said)
 -- s is an enhanced packet as it stands, with these flaws, and then rest; or there is none, and all is left
 abbrev pub EnhancedText : Order → Option Enhanced → List Said → List ℕ → List ℕ → Type 0
 EnhancedText order = IfRoom (OfInterface order) (NoPacket order)
+
+-- s is no packet without flaws and options, so that a list grows
+abbrev pub EnhancedGrows : Order → List ℕ → Type 0
+EnhancedGrows order = KeepsSome (OfInterface order) (λ x. x.packet.options ≡ [])
 
 -- what is said of bytes where an enhanced packet as it stands is asked for
 abbrev pub EnhancedAsIsSays : Order → List ℕ → Verdict (Flawed (Option Enhanced)) → Type 0

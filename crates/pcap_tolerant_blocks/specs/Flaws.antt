@@ -41,6 +41,10 @@ IfRoom IsText NoRoom (Some value) flaws s rest = IsText value flaws s rest
 abbrev pub IfRoomSays : {V : Type 0} → (V → List Said → List ℕ → List ℕ → Type 0) → (List ℕ → Rule → Type 0) → List ℕ → Verdict (Flawed (Option V)) → Type 0
 IfRoomSays IsText NoRoom s = Says (λ x rest. IfRoom IsText NoRoom x.value x.flaws s rest) (λ n. ⊥) (λ fault. ⊥)
 
+-- something of s is kept in a list: it is no bare value without a flaw
+abbrev pub KeepsSome : {V : Type 0} → (V → List Said → List ℕ → List ℕ → Type 0) → (V → Type 0) → List ℕ → Type 0
+KeepsSome {V} IsText IsBare s = (value : V) (rest : List ℕ) → IsText value [] s rest → IsBare value → ⊥
+
 -- what a call tells that reads a value: what it holds, or its fault
 abbrev pub IsRead : {X V : Type 0} → Result V Fault → (X → V) → Result X Broken → Type 0
 IsRead read view (Ok x) = read ≡ Ok (view x)

@@ -1,10 +1,10 @@
 -- Interfaces as they stand ('Interface Description Block').
-use Rattle.std.specs.Prelude.{◌≡◌, ◌<◌, ℕ, List, length, map, Option, Some, None}
+use Rattle.std.specs.Prelude.{◌≡◌, ◌<◌, ℕ, List, [], length, map, Option, Some, None}
 use Rattle.std.specs.Option.{option_map}
 use Rattle.pcap_core.specs.Answer.{Order, Verdict, Says}
 use Rattle.pcap_core.specs.declared.rules.Rule.TheVariants.{InterfaceTooShort}
 use Rattle.pcap_blocks.specs.InterfaceDescription.{Interface, InterfaceHead, interface_description, interface_of}
-use Rattle.pcap_tolerant_blocks.specs.Flaws.{Said, Flawed, said_of, alone}
+use Rattle.pcap_tolerant_blocks.specs.Flaws.{Said, Flawed, said_of, alone, KeepsSome}
 use Rattle.pcap_tolerant_blocks.specs.OptionsAsIs.{OptionsAsIs}
 use Rattle.pcap_tolerant_blocks.specs.declared.interface.InterfaceAsIs.{InterfaceAsIs}
 
@@ -18,6 +18,10 @@ pub record WithHead (order : Order) (interface : Interface) (flaws : List Said) 
 abbrev pub InterfaceText : Order → Option Interface → List Said → List ℕ → List ℕ → Type 0
 InterfaceText order None flaws s rest = (length s < 8) × (flaws ≡ alone InterfaceTooShort) × (rest ≡ s)
 InterfaceText order (Some interface) flaws s rest = WithHead order interface flaws s rest
+
+-- s is no interface without flaws and options, so that a list grows
+abbrev pub InterfaceGrows : Order → List ℕ → Type 0
+InterfaceGrows order = KeepsSome (WithHead order) (λ x. x.options ≡ [])
 
 -- what is said of bytes where an interface as it stands is asked for: it is there, however wrong
 abbrev pub InterfaceAsIsSays : Order → List ℕ → Verdict (Flawed (Option Interface)) → Type 0

@@ -7,5 +7,6 @@ pub mod EnhancedAsIs
 pub mod PacketBlockAsIs
 pub mod SimpleAsIs
 pub mod StatisticsAsIs
+pub mod NamesAsIs
 pub mod InForce
 pub mod SoundOptions

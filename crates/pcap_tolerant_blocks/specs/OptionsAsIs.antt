@@ -6,7 +6,7 @@ use Rattle.pcap_core.specs.Padded.{Padded, Chain}
 use Rattle.pcap_blocks.specs.Values.{Entry, Value, Unknown, Kind, shape_at, value_of}
 use Rattle.pcap_blocks.specs.Options.{may_end_with_body, CodeLengthText}
 use Rattle.pcap_raw_options.specs.UpTo.{StopsAt, no_kind}
-use Rattle.pcap_tolerant_blocks.specs.Flaws.{Said, Flawed, said_of}
+use Rattle.pcap_tolerant_blocks.specs.Flaws.{Said, Flawed, said_of, KeepsSome}
 use Rattle.pcap_tolerant_blocks.specs.declared.flaws.Flaw.{Flaw}
 use Rattle.pcap_tolerant_blocks.specs.declared.list.OptionAsIs.{OptionAsIs}
 use Rattle.pcap_tolerant_blocks.specs.declared.list.ListAsIs.{ListAsIs}
@@ -58,6 +58,10 @@ pub record OptionsAsIs (order : Order) (kind : Kind) (options : List Entry) (fla
 -- what is said of bytes where options as they stand are asked for: they are there, however wrong
 abbrev pub OptionsAsIsSay : Order → Kind → List ℕ → Verdict (Flawed (List Entry)) → Type 0
 OptionsAsIsSay order kind s = Says (λ x rest. OptionsAsIs order kind x.value x.flaws s rest) (λ n. ⊥) (λ fault. ⊥)
+
+-- s has an option or a flaw, so that a list grows
+abbrev pub OptionsGrow : Order → Kind → List ℕ → Type 0
+OptionsGrow order kind = KeepsSome (OptionsAsIs order kind) (λ options. options ≡ [])
 
 -- ---- what the code holds
 

@@ -1,9 +1,9 @@
 -- Obsolete packets as they stand ('Packet Block').
-use Rattle.std.specs.Prelude.{ℕ, List, map, Option}
+use Rattle.std.specs.Prelude.{◌≡◌, ℕ, List, [], map, Option}
 use Rattle.std.specs.Option.{option_map}
 use Rattle.pcap_core.specs.Answer.{Order, Number, Verdict}
 use Rattle.pcap_blocks.specs.Packet.{PacketBody, packet_kind, packet_of}
-use Rattle.pcap_tolerant_blocks.specs.Flaws.{Said, Flawed, said_of, IfRoom, IfRoomSays}
+use Rattle.pcap_tolerant_blocks.specs.Flaws.{Said, Flawed, said_of, IfRoom, IfRoomSays, KeepsSome}
 use Rattle.pcap_tolerant_blocks.specs.StoredAsIs.{WithBytes, NoPacket}
 use Rattle.pcap_tolerant_blocks.specs.declared.packet_block.PacketBlockAsIs.{PacketBlockAsIs}
 
@@ -18,6 +18,10 @@ pub record WithDrops (order : Order) (body : PacketBody) (flaws : List Said) (s 
 -- s is an obsolete packet as it stands, with these flaws, and then rest; or there is none, and all is left
 abbrev pub PacketBlockText : Order → Option PacketBody → List Said → List ℕ → List ℕ → Type 0
 PacketBlockText order = IfRoom (WithDrops order) (NoPacket order)
+
+-- s is no packet without flaws and options, so that a list grows
+abbrev pub PacketBlockGrows : Order → List ℕ → Type 0
+PacketBlockGrows order = KeepsSome (WithDrops order) (λ x. x.packet.options ≡ [])
 
 -- what is said of bytes where an obsolete packet as it stands is asked for
 abbrev pub PacketBlockAsIsSays : Order → List ℕ → Verdict (Flawed (Option PacketBody)) → Type 0

@@ -1,11 +1,13 @@
 -- Options whose values break no rule, as their bytes stand ('Options').
-use Rattle.std.specs.Prelude.{◌≡◌, ℕ, List, [], ◌∷◌, ◌++◌, filter, All, Bool, true, false, Option}
+use Rattle.std.specs.Prelude.{◌≡◌, ◌≢◌, ℕ, List, [], ◌∷◌, ◌++◌, filter, All, Bool, true, false, Option}
 use Rattle.std.specs.List.{flat_map}
 use Rattle.pcap_core.specs.Answer.{Order}
 use Rattle.pcap_core.specs.Faults.{Fault}
 use Rattle.pcap_blocks.specs.EnhancedPacket.{enhanced_packet}
 use Rattle.pcap_blocks.specs.InterfaceDescription.{interface_description}
+use Rattle.pcap_blocks.specs.InterfaceStatistics.{interface_statistics}
 use Rattle.pcap_blocks.specs.Options.{may_end_with_body}
+use Rattle.pcap_blocks.specs.Packet.{packet_kind}
 use Rattle.pcap_blocks.specs.SectionHeader.{section_header}
 use Rattle.pcap_blocks.specs.Values.{Kind}
 use Rattle.pcap_raw_options.specs.UpTo.{StopsAt, no_kind}
@@ -19,6 +21,8 @@ abbrev pub kind_of : OptionsOf → Kind
 kind_of of.Section = section_header
 kind_of of.Interface = interface_description
 kind_of of.EnhancedPacket = enhanced_packet
+kind_of of.Packet = packet_kind
+kind_of of.InterfaceStatistics = interface_statistics
 
 -- an option as it stands, and its bytes
 pub record Piece : Type 0 where
@@ -58,3 +62,9 @@ pub record SoundOptions (order : Order) (kind : Kind) (s kept : List ℕ) : Type
   pub text : s ≡ flat_map text_in pieces ++ stop
   pub stops : StopsAt may_end_with_body order no_kind [] cut stop rest
   pub kept_are : kept ≡ flat_map text_in (filter is_sound pieces)
+
+-- some of s is put: it has an option whose value breaks no rule
+pub record PutsSome (order : Order) (kind : Kind) (s : List ℕ) : Type 0 where
+  pub kept : List ℕ
+  pub are_put : SoundOptions order kind s kept
+  pub some : kept ≢ []

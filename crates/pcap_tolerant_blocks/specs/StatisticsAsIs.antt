@@ -1,12 +1,12 @@
 -- Interface statistics as they stand ('Interface Statistics Block').
-use Rattle.std.specs.Prelude.{◌≡◌, ◌<◌, ℕ, List, length, map, Option}
+use Rattle.std.specs.Prelude.{◌≡◌, ◌<◌, ℕ, List, [], length, map, Option}
 use Rattle.std.specs.Option.{option_map}
 use Rattle.pcap_core.specs.declared.rules.Rule.{Rule}
 use Rattle.pcap_core.specs.declared.rules.Rule.TheVariants.{StatisticsTooShort}
 use Rattle.pcap_core.specs.Answer.{Order, Number, Verdict}
 use Rattle.pcap_blocks.specs.Time.{TimeText}
 use Rattle.pcap_blocks.specs.InterfaceStatistics.{Statistics, interface_statistics, statistics_of}
-use Rattle.pcap_tolerant_blocks.specs.Flaws.{Said, Flawed, said_of, IfRoom, IfRoomSays}
+use Rattle.pcap_tolerant_blocks.specs.Flaws.{Said, Flawed, said_of, IfRoom, IfRoomSays, KeepsSome}
 use Rattle.pcap_tolerant_blocks.specs.OptionsAsIs.{OptionsAsIs}
 use Rattle.pcap_tolerant_blocks.specs.declared.statistics.StatisticsAsIs.{StatisticsAsIs}
 
@@ -25,6 +25,10 @@ NoTime s rule = (rule ≡ StatisticsTooShort) × (length s < 12)
 -- s is statistics as they stand, with these flaws, and then rest; or there are none, and all is left
 abbrev pub StatisticsAsIsText : Order → Option Statistics → List Said → List ℕ → List ℕ → Type 0
 StatisticsAsIsText order = IfRoom (AtTime order) NoTime
+
+-- s is no statistics without flaws and options, so that a list grows
+abbrev pub StatisticsGrow : Order → List ℕ → Type 0
+StatisticsGrow order = KeepsSome (AtTime order) (λ x. x.options ≡ [])
 
 -- what is said of bytes where statistics as they stand are asked for
 abbrev pub StatisticsAsIsSay : Order → List ℕ → Verdict (Flawed (Option Statistics)) → Type 0

@@ -1,8 +1,8 @@
 //! Interfaces as they stand.
 
-ghost use Rattle.std.specs.Prelude.{◌≡◌, ◌<◌, length, IfOk, IfErr};
+ghost use Rattle.std.specs.Prelude.{IfOk, IfErr};
 ghost use Rattle.pcap_blocks.specs.InterfaceDescription.{interface_description, interface_entry};
-ghost use Rattle.pcap_tolerant_blocks.specs.InterfaceAsIs.{InterfaceText, interface_in, flaws_said};
+ghost use Rattle.pcap_tolerant_blocks.specs.InterfaceAsIs.{InterfaceText, interface_in, flaws_said, InterfaceGrows};
 
 use crate::flaws::{Broken, Flaw};
 use crate::list::{ReadsValue, list_as_is};
@@ -31,12 +31,13 @@ impl<'a> InterfaceAsIs<'a> {
     /// The interface that a block's body is as it stands, and what follows its options: these end at their mark, with the slice,
     /// or where no next one can be found. Strings and bytes are borrowed from the slice.
     ///
-    /// `AllocError` where a list can't grow; an empty slice needs no memory but for its flaw.
+    /// `AllocError` where a list can't grow, and only where there is a flaw or an option.
     pub fn from_slice<B: ByteOrder>(
         alloc: Global,
         slice: &'a [u8],
     ) -> Result<(&'a [u8], Self), AllocError>
         ensures read { IfOk result (λ x. InterfaceText B.number_of (interface_in x.1) (flaws_said x.1) slice.now x.0.now) }
+        ensures memory { IfErr result (λ _. InterfaceGrows B.number_of slice.now) }
     {
         if slice.len() < 8 {
             let flaws = Flaw::alone(alloc, Rule::InterfaceTooShort)?;

@@ -9,10 +9,12 @@ ghost use Rattle.pcap_blocks.specs.InterfaceDescription.{Interface, InterfaceSay
 ghost use Rattle.pcap_core.specs.Faults.{Fault};
 ghost use Rattle.pcap_blocks.specs.EnhancedPacket.{Enhanced, EnhancedSays};
 ghost use Rattle.pcap_blocks.specs.InterfaceStatistics.{Statistics, StatisticsSays};
+ghost use Rattle.pcap_blocks.specs.NameResolution.{Resolution, ResolutionSays};
 ghost use Rattle.pcap_blocks.specs.Packet.{PacketBody, PacketBodySays};
 ghost use Rattle.pcap_blocks.specs.SectionHeader.{Section, SectionFault, SectionSays};
 ghost use Rattle.pcap_blocks.specs.SimplePacket.{Simple, SimpleSays};
 ghost use Rattle.pcap_tolerant_blocks.specs.EnhancedAsIs.{EnhancedText, EnhancedAsIsSays};
+ghost use Rattle.pcap_tolerant_blocks.specs.NamesAsIs.{NamesText, NamesAsIsSay};
 ghost use Rattle.pcap_tolerant_blocks.specs.PacketBlockAsIs.{PacketBlockText, PacketBlockAsIsSays};
 ghost use Rattle.pcap_tolerant_blocks.specs.SimpleAsIs.{SimpleAsIsText, SimpleAsIsSays};
 ghost use Rattle.pcap_tolerant_blocks.specs.StatisticsAsIs.{StatisticsAsIsText, StatisticsAsIsSay};
@@ -65,6 +67,12 @@ pub fn strict_statistics_are()
         StatisticsAsIsText order statistics flaws s rest → StatisticsSays order s v → StrictIsWhere flaws statistics rest v }
 {}
 
+/// The same of names, which are always there.
+pub fn strict_names_are()
+    ensures { (order : Order) (names : Resolution) (flaws : List Said) (s rest : List ℕ) (v : Verdict Resolution) →
+        NamesText order names flaws s rest → ResolutionSays order s v → StrictIs flaws names rest v }
+{}
+
 /// Of all bytes exactly one thing is said as options as they stand: which options, with which flaws, and what follows them.
 pub fn options_as_they_stand_are_one()
     ensures { (order : Order) (kind : Kind) (s : List ℕ) → ExactlyOne (OptionsAsIsSay order kind s) }
@@ -98,4 +106,9 @@ pub fn simple_as_it_stands_is_one()
 /// The same as interface statistics as they stand.
 pub fn statistics_as_they_stand_are_one()
     ensures { (order : Order) (s : List ℕ) → ExactlyOne (StatisticsAsIsSay order s) }
+{}
+
+/// The same as names as they stand.
+pub fn names_as_they_stand_are_one()
+    ensures { (order : Order) (s : List ℕ) → ExactlyOne (NamesAsIsSay order s) }
 {}

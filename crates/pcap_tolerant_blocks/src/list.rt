@@ -1,13 +1,13 @@
 //! Lists of options as they stand.
 
-ghost use Rattle.std.specs.Prelude.{◌≡◌, ◌<◌, [], ◌∷◌, ◌++◌, length, map, IfOk, IfErr, OnOk, MatchResult, MatchOption};
+ghost use Rattle.std.specs.Prelude.{◌≡◌, ◌≢◌, [], ◌∷◌, ◌++◌, length, map, IfOk, IfErr, OnOk, MatchResult, MatchOption};
 ghost use Rattle.pcap_core.specs.Faults.{Invalid};
 ghost use Rattle.pcap_blocks.specs.Values.{Entry, Kind, shape_at, value_of};
 ghost use Rattle.pcap_blocks.specs.Options.{EndMark, OptionFault};
 ghost use Rattle.pcap_blocks.specs.CommonOptions.{unknown_entry};
 ghost use Rattle.pcap_raw_options.specs.UpTo.{no_kind};
 ghost use Rattle.pcap_tolerant_blocks.specs.Flaws.{IsOption, said_of};
-ghost use Rattle.pcap_tolerant_blocks.specs.OptionsAsIs.{judged, judged_of, JudgedText, ListsAsIs, flaws_or_none};
+ghost use Rattle.pcap_tolerant_blocks.specs.OptionsAsIs.{judged, judged_of, JudgedText, ListsAsIs, OptionsGrow, flaws_or_none};
 
 use crate::flaws::{Broken, Flaw};
 use byteorder::ByteOrder;
@@ -90,8 +90,9 @@ pub(crate) fn option_as_is<'a, O: ReadsValue<'a>, B: ByteOrder>(
 }
 
 // Puts a flaw behind the others, where there is one.
-fn note(flaws: &mut Vec<Flaw>, flaw: Option<Flaw>) -> Result<(), AllocError>
+pub(crate) fn note(flaws: &mut Vec<Flaw>, flaw: Option<Flaw>) -> Result<(), AllocError>
     ensures items { OnOk result (map said_of flaws.new.items ≡ map said_of flaws.old.items ++ flaws_or_none flaw) }
+    ensures memory { IfErr result (λ _. flaws_or_none flaw ≢ []) }
 {
     if let Some(flaw) = flaw {
         flaws.push(flaw)?;
@@ -120,7 +121,7 @@ pub(crate) fn list_as_is<'a, O: ReadsValue<'a> + Drop, B: ByteOrder>(
     slice: &'a [u8],
 ) -> Result<ListAsIs<'a, O>, AllocError>
     ensures read { IfOk result (ListsAsIs B.number_of O.kind O.view slice.now) }
-    ensures memory { IfErr result (λ _. 0 < length slice.now) }
+    ensures memory { IfErr result (λ _. OptionsGrow B.number_of O.kind slice.now) }
 {
     let mut options = Vec::new(alloc);
     let mut flaws = Vec::new(alloc);

@@ -1,10 +1,10 @@
 //! Packet blocks as they stand, which enhanced packets have replaced.
 
-ghost use Rattle.std.specs.Prelude.{◌≡◌, None, IfOk, IfSome};
+ghost use Rattle.std.specs.Prelude.{◌≡◌, None, IfOk, IfErr, IfSome};
 ghost use Rattle.pcap_core.specs.Bytes.{IsBorrowed};
 ghost use Rattle.pcap_blocks.specs.Packet.{packet_kind, packet_entry};
 ghost use Rattle.pcap_tolerant_blocks.specs.Flaws.{alone};
-ghost use Rattle.pcap_tolerant_blocks.specs.PacketBlockAsIs.{PacketBlockText, packet_in, flaws_said};
+ghost use Rattle.pcap_tolerant_blocks.specs.PacketBlockAsIs.{PacketBlockText, packet_in, flaws_said, PacketBlockGrows};
 
 use crate::flaws::{Broken, Flaw};
 use crate::list::{ReadsValue, list_as_is};
@@ -31,12 +31,13 @@ impl<'a> PacketBlockAsIs<'a> {
     /// The packet that a block's body is as it stands, and what follows its options: these end at their mark, with the slice, or
     /// where no next one can be found. All is left where there is no packet. Strings and bytes are borrowed from the slice.
     ///
-    /// `AllocError` where a list can't grow.
+    /// `AllocError` where a list can't grow, and only where there is a flaw or an option.
     pub fn from_slice<B: ByteOrder>(
         alloc: Global,
         slice: &'a [u8],
     ) -> Result<(&'a [u8], Self), AllocError>
         ensures read { IfOk result (λ x. PacketBlockText B.number_of (packet_in x.1) (flaws_said x.1) slice.now x.0.now) }
+        ensures memory { IfErr result (λ _. PacketBlockGrows B.number_of slice.now) }
         ensures borrowed { IfOk result (λ x. IfSome x.1.packet (λ packet. IsBorrowed packet.data_)) }
     {
         if slice.len() < 20 {

@@ -1,6 +1,6 @@
 //! Simple packets as they stand.
 
-ghost use Rattle.std.specs.Prelude.{IfOk, IfSome};
+ghost use Rattle.std.specs.Prelude.{◌<◌, length, IfOk, IfErr, IfSome};
 ghost use Rattle.pcap_blocks.specs.SimplePacket.{SimpleIsBorrowed};
 ghost use Rattle.pcap_tolerant_blocks.specs.SimpleAsIs.{SimpleAsIsText, simple_in, flaws_said};
 
@@ -25,12 +25,13 @@ impl<'a> SimpleAsIs<'a> {
     /// The packet that a block's body is as it stands; nothing is left of it. All is left where there is no packet. Its bytes are
     /// borrowed from the slice.
     ///
-    /// `AllocError` where there is no packet, and the list of what is wrong can't grow.
+    /// `AllocError` where the list of what is wrong can't grow, and only where there is no packet.
     pub fn from_slice<B: ByteOrder>(
         alloc: Global,
         slice: &'a [u8],
     ) -> Result<(&'a [u8], Self), AllocError>
         ensures read { IfOk result (λ x. SimpleAsIsText B.number_of (simple_in x.1) (flaws_said x.1) slice.now x.0.now) }
+        ensures memory { IfErr result (λ _. length slice.now < 4) }
         ensures borrowed { IfOk result (λ x. IfSome x.1.packet SimpleIsBorrowed) }
     {
         if slice.len() < 4 {

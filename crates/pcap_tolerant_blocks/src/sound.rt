@@ -1,14 +1,17 @@
 //! Options whose values break no rule, as their bytes stand.
 
-ghost use Rattle.std.specs.Prelude.{◌≡◌, ◌≤◌, ◌-◌, ◌++◌, ℕ, List, length, take, OnOk};
+ghost use Rattle.std.specs.Prelude.{◌≡◌, ◌≤◌, ◌-◌, ◌++◌, ℕ, List, length, take, None, IfErr, OnOk};
 ghost use Rattle.pcap_core.specs.Answer.{number_in};
 ghost use Rattle.pcap_tolerant_blocks.specs.OptionsAsIs.{flaws_or_none};
-ghost use Rattle.pcap_tolerant_blocks.specs.SoundOptions.{SoundOptions, are_none, kind_of, text_if};
+ghost use Rattle.pcap_tolerant_blocks.specs.SoundOptions.{SoundOptions, PutsSome, are_none, kind_of, text_if};
 
 use crate::flaws::Flaw;
 use crate::list::{ReadsValue, option_as_is};
 use byteorder::{BigEndian, ByteOrder, LittleEndian};
-use pcap_blocks::{EnhancedPacketOption, InterfaceDescriptionOption, SectionHeaderOption};
+use pcap_blocks::{
+    EnhancedPacketOption, InterfaceDescriptionOption, InterfaceStatisticsOption, PacketOption,
+    SectionHeaderOption,
+};
 use pcap_core::Endianness;
 use std::alloc::AllocError;
 
@@ -21,24 +24,31 @@ pub enum OptionsOf {
     Interface,
     /// Those of an enhanced packet.
     EnhancedPacket,
+    /// Those of an obsolete packet block.
+    Packet,
+    /// Those of interface statistics.
+    InterfaceStatistics,
 }
 
 /// Puts the options at the front of a slice whose values break no rule behind other bytes, each with its bytes as they stand. The
 /// options end at their mark, which isn't put, with the slice, or where no next one can be found.
 ///
-/// `AllocError` where the bytes can't grow.
+/// `AllocError` where the bytes can't grow, and only where there is such an option.
 pub fn put_sound_options(
     of: OptionsOf,
     order: Endianness,
     slice: &[u8],
     out: &mut Vec<u8>,
 ) -> Result<(), AllocError>
-    ensures { OnOk result ((kept : List ℕ) × SoundOptions (number_in order) (kind_of of) slice.now kept × (out.new.items ≡ out.old.items ++ kept)) }
+    ensures put { OnOk result ((kept : List ℕ) × SoundOptions (number_in order) (kind_of of) slice.now kept × (out.new.items ≡ out.old.items ++ kept)) }
+    ensures memory { IfErr result (λ _. PutsSome (number_in order) (kind_of of) slice.now) }
 {
     match of {
         OptionsOf::Section => put_in::<SectionHeaderOption>(order, slice, out),
         OptionsOf::Interface => put_in::<InterfaceDescriptionOption>(order, slice, out),
         OptionsOf::EnhancedPacket => put_in::<EnhancedPacketOption>(order, slice, out),
+        OptionsOf::Packet => put_in::<PacketOption>(order, slice, out),
+        OptionsOf::InterfaceStatistics => put_in::<InterfaceStatisticsOption>(order, slice, out),
     }
 }
 
@@ -48,7 +58,8 @@ fn put_in<'a, O: ReadsValue<'a> + Drop>(
     slice: &'a [u8],
     out: &mut Vec<u8>,
 ) -> Result<(), AllocError>
-    ensures { OnOk result ((kept : List ℕ) × SoundOptions (number_in order) O.kind slice.now kept × (out.new.items ≡ out.old.items ++ kept)) }
+    ensures put { OnOk result ((kept : List ℕ) × SoundOptions (number_in order) O.kind slice.now kept × (out.new.items ≡ out.old.items ++ kept)) }
+    ensures memory { IfErr result (λ _. PutsSome (number_in order) O.kind slice.now) }
 {
     match order {
         Endianness::Big => put_sound::<O, BigEndian>(slice, out),
@@ -64,7 +75,8 @@ fn put_if_sound(
     out: &mut Vec<u8>,
 ) -> Result<(), AllocError>
     requires { length after.now ≤ length left.now }
-    ensures { OnOk result (out.new.items ≡ out.old.items ++ text_if (are_none (flaws_or_none flaw)) (take (length left.now - length after.now) left.now)) }
+    ensures put { OnOk result (out.new.items ≡ out.old.items ++ text_if (are_none (flaws_or_none flaw)) (take (length left.now - length after.now) left.now)) }
+    ensures memory { IfErr result (λ _. flaw ≡ None) }
 {
     match flaw {
         None => out.extend_from_slice(&left[..left.len() - after.len()]),
@@ -77,7 +89,8 @@ fn put_sound<'a, O: ReadsValue<'a> + Drop, B: ByteOrder>(
     slice: &'a [u8],
     out: &mut Vec<u8>,
 ) -> Result<(), AllocError>
-    ensures { OnOk result ((kept : List ℕ) × SoundOptions B.number_of O.kind slice.now kept × (out.new.items ≡ out.old.items ++ kept)) }
+    ensures put { OnOk result ((kept : List ℕ) × SoundOptions B.number_of O.kind slice.now kept × (out.new.items ≡ out.old.items ++ kept)) }
+    ensures memory { IfErr result (λ _. PutsSome B.number_of O.kind slice.now) }
 {
     let mut left = slice;
     while !left.is_empty() {

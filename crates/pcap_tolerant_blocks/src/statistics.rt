@@ -1,8 +1,8 @@
 //! Interface statistics as they stand.
 
-ghost use Rattle.std.specs.Prelude.{IfOk};
+ghost use Rattle.std.specs.Prelude.{IfOk, IfErr};
 ghost use Rattle.pcap_blocks.specs.InterfaceStatistics.{interface_statistics, statistics_entry};
-ghost use Rattle.pcap_tolerant_blocks.specs.StatisticsAsIs.{StatisticsAsIsText, statistics_in, flaws_said};
+ghost use Rattle.pcap_tolerant_blocks.specs.StatisticsAsIs.{StatisticsAsIsText, statistics_in, flaws_said, StatisticsGrow};
 
 use crate::flaws::{Broken, Flaw};
 use crate::list::{ReadsValue, list_as_is};
@@ -30,12 +30,13 @@ impl<'a> StatisticsAsIs<'a> {
     /// The statistics that a block's body is as it stands, and what follows their options: these end at their mark, with the slice,
     /// or where no next one can be found. All is left where there are none. Strings and bytes are borrowed from the slice.
     ///
-    /// `AllocError` where a list can't grow.
+    /// `AllocError` where a list can't grow, and only where there is a flaw or an option.
     pub fn from_slice<B: ByteOrder>(
         alloc: Global,
         slice: &'a [u8],
     ) -> Result<(&'a [u8], Self), AllocError>
         ensures read { IfOk result (λ x. StatisticsAsIsText B.number_of (statistics_in x.1) (flaws_said x.1) slice.now x.0.now) }
+        ensures memory { IfErr result (λ _. StatisticsGrow B.number_of slice.now) }
     {
         if slice.len() < 12 {
             let flaws = Flaw::alone(alloc, Rule::StatisticsTooShort)?;

@@ -19,4 +19,4 @@ pub use packet::put_packet;
 pub use place::Place;
 pub use raw::{RawBlock, RawPcapNgBlock};
 pub use unwritable::{Unput, Unwritable};
-pub use writer::{PcapNgWriter, encode, encode_body};
+pub use writer::{PcapNgWriter, encode, encode_body, frame};

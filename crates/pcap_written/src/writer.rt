@@ -249,8 +249,10 @@ impl<W: Write> PcapNgWriter<W> {
     }
 }
 
-// Makes the text of a block of bytes, in its own order.
-fn frame(text: &mut Vec<u8>, block: RawBlock<'_>) -> Result<(), AllocError>
+/// Makes the text of a block of bytes, in its own order, in place of what `text` had.
+///
+/// `AllocError` where the text can't grow.
+pub fn frame(text: &mut Vec<u8>, block: RawBlock<'_>) -> Result<(), AllocError>
     requires { length block.body.now + 12 < 2 ^ 32 }
     ensures { OnOk result (text.new.items ≡ raw_text (raw_of block.entry)) }
 {

@@ -1,14 +1,18 @@
-use Rattle.std.proofs.Common.{◌<◌, length, map}
+use Rattle.std.proofs.Common.{map}
 use Rattle.std.proofs.lemmas.List.{map-append}
 use Rattle.pcap_blocks.proofs.ReadOptions.{not_empty}
 use Rattle.pcap_tolerant_blocks.specs.Flaws.{said_of}
-use Rattle.pcap_tolerant_blocks.specs.OptionsAsIs.{judged_of}
-use Rattle.pcap_tolerant_blocks.proofs.Lists.{holds_on_err, read_more, read_cut, some_read}
+use Rattle.pcap_tolerant_blocks.specs.OptionsAsIs.{judged_of, OptionsGrow}
+use Rattle.pcap_tolerant_blocks.proofs.Lists.{holds_on_err, read_more, read_cut}
+use Rattle.pcap_tolerant_blocks.proofs.Growth.{grows_by_option, grows_by_fault}
 use Rattle.pcap_tolerant_blocks.proofs.list.list_as_is.Goals as goal
 
 pub returns-in_err-push-in-Err-clause-memory : goal.returns-in_err-push-in-Err-clause-memory
 returns-in_err-push-in-Err-clause-memory g c =
-    holds_on_err (0 < length c.args.slice.now) (some_read g.B.ByteOrder.number_of g.O.ReadsValue.kind _ _ _ _ c.loop-left.invariant (not_empty _ c.loop-left-test.ensures)) c.from_residual.result
+    let order = g.B.ByteOrder.number_of in
+    let kind = g.O.ReadsValue.kind in
+    let grows = grows_by_fault order kind _ _ c.args.slice.now c.loop-left.left.now _ c.loop-left.invariant (not_empty _ c.loop-left-test.ensures) c.in-Err.ensures.tells in
+    holds_on_err (OptionsGrow order kind c.args.slice.now) grows c.from_residual.result
 
 pub returns-in-Err-clause-read : goal.returns-in-Err-clause-read
 returns-in-Err-clause-read g c =
@@ -16,7 +20,11 @@ returns-in-Err-clause-read g c =
 
 pub returns-in_err-keep-in-Some-clause-memory : goal.returns-in_err-keep-in-Some-clause-memory
 returns-in_err-keep-in-Some-clause-memory g c =
-    holds_on_err (0 < length c.args.slice.now) (some_read g.B.ByteOrder.number_of g.O.ReadsValue.kind _ _ _ _ c.loop-left.invariant (not_empty _ c.loop-left-test.ensures)) c.from_residual-in_err-keep-in-Some.result
+    let order = g.B.ByteOrder.number_of in
+    let kind = g.O.ReadsValue.kind in
+    let text = rw c.in-Some.is at c.in-Ok.ensures.tells in
+    let grows = grows_by_option order kind _ _ c.args.slice.now c.loop-left.left.now c.in-Ok.read.0.now (judged_of g.O.ReadsValue.view c.in-Some.read) c.loop-left.invariant text in
+    holds_on_err (OptionsGrow order kind c.args.slice.now) grows c.from_residual-in_err-keep-in-Some.result
 
 pub loop-left-preserved : goal.loop-left-preserved
 loop-left-preserved g c =

@@ -1,9 +1,13 @@
-use Rattle.std.proofs.Common.{arith}
+use Rattle.std.proofs.Common.{refl, arith}
 use Rattle.pcap_core.specs.declared.rules.Rule.TheVariants.{EnhancedTooShort, EnhancedCut}
 use Rattle.pcap_core.proofs.Padded.{behind_number}
-use Rattle.pcap_tolerant_blocks.specs.StoredAsIs.{NoPacket, no_head, no_bytes}
-use Rattle.pcap_tolerant_blocks.specs.EnhancedAsIs.{OfInterface, enhanced_in, flaws_said}
+use Rattle.pcap_blocks.specs.EnhancedPacket.{enhanced_packet}
+use Rattle.pcap_tolerant_blocks.specs.StoredAsIs.{NoPacket, no_head, no_bytes, stored_with}
+use Rattle.pcap_tolerant_blocks.specs.EnhancedAsIs.{OfInterface, EnhancedText, EnhancedGrows, enhanced_in, flaws_said}
 use Rattle.pcap_tolerant_blocks.proofs.Bodies.{none_read, with_options}
+use Rattle.pcap_tolerant_blocks.proofs.Growth.{grows_without_room, grows_behind}
+use Rattle.pcap_tolerant_blocks.proofs.Lists.{holds_on_err}
+use Rattle.pcap_tolerant_blocks.proofs.OneBodies.{enhanced_one}
 use Rattle.pcap_tolerant_blocks.proofs.enhanced.EnhancedAsIs.from_slice.Goals as goal
 
 pub returns-then-slice-lt20-clause-read : goal.returns-then-slice-lt20-clause-read
@@ -20,3 +24,18 @@ returns-in_default-clause-read g c =
 pub returns-clause-read : goal.returns-clause-read
 returns-clause-read g c =
     record { after_interface = _; interface_is = c.split_u32-interface_id.ensures.number; packet_is = with_options _ _ c.in-Some.stored _ _ _ _ _ c.in-Some.ensures c.in_ok-list.ensures.read }
+
+pub returns-in_default-clause-memory : goal.returns-in_default-clause-memory
+returns-in_default-clause-memory g c =
+    let order = g.B.ByteOrder.number_of in
+    let s = c.args.slice.now in
+    let none = no_bytes _ (behind_number c.split_u32-interface_id.ensures.number) c.in_default.ensures in
+    holds_on_err (EnhancedGrows order s) (grows_without_room (EnhancedText order) s (enhanced_one order s) _ EnhancedCut (EnhancedCut, none, refl, refl)) c.none-in_default.result
+
+pub returns-in_err-list-clause-memory : goal.returns-in_err-list-clause-memory
+returns-in_err-list-clause-memory g c =
+    let order = g.B.ByteOrder.number_of in
+    let s = c.args.slice.now in
+    let grows = grows_behind (EnhancedText order) s (enhanced_one order s) order enhanced_packet c.in-Some.rest.now (λ x. x.packet.options) (λ options. record { interface_id = c.split_u32-interface_id.result.0; packet = stored_with c.in-Some.stored options })
+    (λ options. refl) (λ options flaws rest list. record { after_interface = _; interface_is = c.split_u32-interface_id.ensures.number; packet_is = with_options _ _ c.in-Some.stored _ _ _ _ _ c.in-Some.ensures list }) c.in_err-list.ensures.memory in
+    holds_on_err (EnhancedGrows order s) grows c.from_residual.result

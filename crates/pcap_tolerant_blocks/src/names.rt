@@ -1,0 +1,147 @@
+//! Name resolution as it stands.
+
+ghost use Rattle.std.specs.Prelude.{◌≡◌, ◌≢◌, [], ◌++◌, map, IfOk, IfErr, OnOk};
+ghost use Rattle.pcap_blocks.specs.NameResolution.{name_resolution, name_entry, names_of};
+ghost use Rattle.pcap_tolerant_blocks.specs.Flaws.{said_of};
+ghost use Rattle.pcap_tolerant_blocks.specs.NamesAsIs.{NamesText, NamesGrow, RecordsRead, RecordsGrow, flaws_said};
+
+use crate::flaws::{Broken, Flaw};
+use crate::list::{ReadsValue, list_as_is, note};
+use crate::records::{RecordAsIs, record_as_is};
+use crate::values::{custom_bytes_value, custom_string_value, fixed_value, string_value};
+use byteorder::ByteOrder;
+use pcap_blocks::{NameResolutionBlock, NameResolutionOption, Record, UnknownOption};
+use pcap_core::rules::Rule;
+use std::alloc::{AllocError, Global};
+
+/// Names of addresses as they stand, and what is wrong with them.
+#[derive(Debug, Drop)]
+pub struct NamesAsIs<'a> {
+    /// The names. A record whose value breaks its rule is one of an unknown type, with its bytes, and such an option one of an
+    /// unknown code.
+    pub names: NameResolutionBlock<'a>,
+    /// What is wrong, in the order of the text: the strict reading refuses the names for the first of these. What is wrong with a
+    /// record has no code.
+    pub flaws: Vec<Flaw>,
+}
+
+// Records as they stand, what is wrong with them, what is left, and whether their end stands before that.
+#[derive(Drop)]
+struct RecordsAsIs<'a> {
+    records: Vec<Record<'a>>,
+    flaws: Vec<Flaw>,
+    left: &'a [u8],
+    has_end: bool,
+}
+
+impl<'a> NamesAsIs<'a> {
+    /// The names that a block's body is as they stand, and what follows their options. The records end at one of the end's type,
+    /// also where this has a value, and the options follow it: these end at their mark, with the slice, or where no next one can be
+    /// found. Where no next record can be found there are no options, and all from there on is left. Strings and bytes are borrowed
+    /// from the slice.
+    ///
+    /// `AllocError` where a list can't grow, and only where there is a flaw, a record or an option.
+    pub fn from_slice<B: ByteOrder>(
+        alloc: Global,
+        slice: &'a [u8],
+    ) -> Result<(&'a [u8], Self), AllocError>
+        ensures read { IfOk result (λ x. NamesText B.number_of (names_of x.1.names) (flaws_said x.1) slice.now x.0.now) }
+        ensures memory { IfErr result (λ _. NamesGrow B.number_of slice.now) }
+    {
+        let read = records_as_is::<B>(alloc, slice)?;
+        let RecordsAsIs {
+            records,
+            mut flaws,
+            left,
+            has_end,
+        } = read;
+        if !has_end {
+            let names = NameResolutionBlock {
+                records,
+                options: Vec::new(alloc),
+            };
+            return Ok((left, NamesAsIs { names, flaws }));
+        }
+        let list = list_as_is::<NameResolutionOption, B>(alloc, left)?;
+        note_all(&mut flaws, list.flaws)?;
+        let names = NameResolutionBlock {
+            records,
+            options: list.options,
+        };
+        Ok((list.left, NamesAsIs { names, flaws }))
+    }
+}
+
+// Puts flaws behind others.
+fn note_all(flaws: &mut Vec<Flaw>, mut more: Vec<Flaw>) -> Result<(), AllocError>
+    ensures items { OnOk result (map said_of flaws.new.items ≡ map said_of flaws.old.items ++ map said_of more.items) }
+    ensures memory { IfErr result (λ _. map said_of more.items ≢ []) }
+{
+    if more.is_empty() {
+        return Ok(());
+    }
+    flaws.append(&mut more)?;
+    Ok(())
+}
+
+// The records at the front of a slice as they stand: to their end, or to where no next one can be found.
+fn records_as_is<'a, B: ByteOrder>(
+    alloc: Global,
+    slice: &'a [u8],
+) -> Result<RecordsAsIs<'a>, AllocError>
+    ensures read { IfOk result (RecordsRead B.number_of slice.now) }
+    ensures memory { IfErr result (λ _. RecordsGrow B.number_of slice.now) }
+{
+    let mut records = Vec::new(alloc);
+    let mut flaws = Vec::new(alloc);
+    let mut left = slice;
+    loop {
+        match record_as_is::<B>(alloc, left)? {
+            RecordAsIs::Kept(record, flaw, after) => {
+                records.push(record)?;
+                note(&mut flaws, flaw)?;
+                left = after;
+            }
+            RecordAsIs::End(flaw, after) => {
+                note(&mut flaws, flaw)?;
+                return Ok(RecordsAsIs {
+                    records,
+                    flaws,
+                    left: after,
+                    has_end: true,
+                });
+            }
+            RecordAsIs::Cut(flaw) => {
+                flaws.push(flaw)?;
+                return Ok(RecordsAsIs {
+                    records,
+                    flaws,
+                    left,
+                    has_end: false,
+                });
+            }
+        }
+    }
+}
+
+impl<'a> ReadsValue<'a> for NameResolutionOption<'a> {
+    ghost kind = { name_resolution };
+
+    ghost view = { name_entry };
+
+    fn from_value<B: ByteOrder>(code: u16, len: u16, value: &'a [u8]) -> Result<Self, Broken> {
+        Ok(match code {
+            1 => Self::Comment(string_value(value)?),
+            2 => Self::NsDnsName(string_value(value)?),
+            3 => Self::NsDnsIpv4Addr(fixed_value(value, 4, Rule::NameIpv4Length)?),
+            4 => Self::NsDnsIpv6Addr(fixed_value(value, 16, Rule::NameIpv6Length)?),
+            2988 | 19372 => Self::CustomUtf8(custom_string_value::<B>(code, value)?),
+            2989 | 19373 => Self::CustomBinary(custom_bytes_value::<B>(code, value)?),
+            _ => Self::Unknown(UnknownOption::new(code, len, value)),
+        })
+    }
+
+    fn unread(option: UnknownOption<'a>) -> Self {
+        Self::Unknown(option)
+    }
+}
