@@ -18,6 +18,7 @@ pub mod Takes
 pub mod LentStreams
 pub mod Writing
 pub mod Copying
+pub mod AsTheyCame
 pub mod Errors
 pub mod Filling
 pub mod Padded

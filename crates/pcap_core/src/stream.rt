@@ -1,5 +1,6 @@
 //! Streams that tell whether they failed, buffers that are filled from them as bytes are asked for, and copies over both.
 
+mod as_they_came;
 mod copying;
 mod fill;
 mod filling;
@@ -8,6 +9,7 @@ mod reading;
 mod told;
 mod writing;
 
+pub use as_they_came::{AsTheyCame, Holding};
 pub use copying::{Ahead, Sent, Tally, copy_buffers, copy_items};
 pub use fill::Fill;
 pub use filling::{HasHead, fill_item, take_item};

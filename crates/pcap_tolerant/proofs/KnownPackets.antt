@@ -63,7 +63,7 @@ module _ (limit : ℕ) (header : PcapHeader) where
   )
 
   -- the packet that held bytes show
-  held_stands : (head : HeadAsIs) (s : List ℕ) → Stated (KnowsAsIs limit header) (as_is_under limit header).head head s → (as_is_under limit header).says tt s (whole (held_as_is s head) [])
+  pub held_stands : (head : HeadAsIs) (s : List ℕ) → Stated (KnowsAsIs limit header) (as_is_under limit header).head head s → (as_is_under limit header).says tt s (whole (held_as_is s head) [])
   held_stands head s t =
       let long : length t.front ≡ 16 = t.length_is ∙ under_head in
       let back : drop 16 s ≡ t.body = ap (drop 16) t.split ∙ drop_at t.front t.body 16 long in

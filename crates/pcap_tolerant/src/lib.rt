@@ -4,6 +4,7 @@
 #![tactic(auto)]
 
 pub mod as_is;
+mod copy;
 pub mod laws;
 mod reader;
 pub mod resync;
@@ -11,5 +12,6 @@ mod run;
 mod stated;
 
 pub use as_is::{Flaws, HeadAsIs, PacketAsIs, next_packet_as_is};
+pub use copy::{copy_pcap_as_is, copy_pcap_as_is_buffered};
 pub use reader::ReaderAsIs;
 pub use run::{PcapRunAsIs, parse_pcap_as_is};

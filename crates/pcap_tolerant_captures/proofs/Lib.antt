@@ -4,5 +4,6 @@ mod FrameRows
 mod StandAgain
 pub mod Refusing
 mod HeldBlocks
+mod Copied
 mod StrictRuns
 pub mod FirstFlaw

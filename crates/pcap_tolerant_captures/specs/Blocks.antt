@@ -4,12 +4,16 @@ use Rattle.pcap_core.specs.Answer.{Order, Verdict, Says, number_in}
 use Rattle.pcap_core.specs.Faults.{Fault}
 use Rattle.pcap_core.specs.Format.{Format}
 use Rattle.pcap_core.specs.Headed.{good, bad}
+use Rattle.pcap_blocks.specs.NameResolution.{names_of}
 use Rattle.pcap_blocks.specs.declared.block_type.BlockType.{BlockType}
 use Rattle.pcap_blocks.specs.declared.block_type.BlockType.TheVariants as types
 use Rattle.pcap_file.specs.Frames.{Framed, framed_of, FrameText, FrameLacks, FrameFault}
 use Rattle.pcap_tolerant_blocks.specs.declared.enhanced.EnhancedAsIs.{EnhancedAsIs}
 use Rattle.pcap_tolerant_blocks.specs.EnhancedAsIs.{EnhancedText, enhanced_in, flaws_said}
 use Rattle.pcap_tolerant_blocks.specs.Flaws.{Said, said_of}
+use Rattle.pcap_tolerant_blocks.specs.declared.names.NamesAsIs.{NamesAsIs}
+use Rattle.pcap_tolerant_blocks.specs.NamesAsIs.{NamesText}
+use Rattle.pcap_tolerant_blocks.specs.NamesAsIs as names
 use Rattle.pcap_tolerant_blocks.specs.declared.packet_block.PacketBlockAsIs.{PacketBlockAsIs}
 use Rattle.pcap_tolerant_blocks.specs.PacketBlockAsIs.{PacketBlockText, packet_in}
 use Rattle.pcap_tolerant_blocks.specs.PacketBlockAsIs as packet_block
@@ -83,3 +87,8 @@ IsPacketBlockIn = IsBodyOf types.Packet PacketBlockText packet_in packet_block.f
 -- the statistics that it is
 abbrev pub AreStatisticsIn : Framed → Option StatisticsAsIs → Type 0
 AreStatisticsIn = IsBodyOf types.InterfaceStatistics StatisticsAsIsText statistics_in statistics.flaws_said
+
+-- the names that it is, with what is wrong with them; none where the block is of another type
+abbrev pub AreNamesIn : Framed → Option NamesAsIs → Type 0
+AreNamesIn b None = b.type_ ≢ types.NameResolution
+AreNamesIn b (Some x) = (b.type_ ≡ types.NameResolution) × ((rest : List ℕ) × NamesText (number_in b.endianness) (names_of x.names) (names.flaws_said x) b.body rest)

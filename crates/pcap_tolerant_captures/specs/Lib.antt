@@ -5,4 +5,5 @@ pub mod Resync
 pub mod HeldAsIs
 pub mod ReaderAsIs
 pub mod Run
+pub mod Copies
 pub mod StrictRun

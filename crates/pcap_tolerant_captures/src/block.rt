@@ -5,15 +5,19 @@ ghost use Rattle.pcap_core.specs.Answer.{number_in};
 ghost use Rattle.pcap_file.specs.Frames.{framed_of};
 ghost use Rattle.pcap_tolerant_blocks.specs.EnhancedAsIs.{EnhancedText, enhanced_in, flaws_said};
 ghost use Rattle.pcap_tolerant_blocks.specs.PacketBlockAsIs.{PacketBlockText, packet_in as packet_of_block, flaws_said as packet_block_flaws};
+ghost use Rattle.pcap_blocks.specs.NameResolution.{names_of};
+ghost use Rattle.pcap_tolerant_blocks.specs.NamesAsIs.{NamesText, flaws_said as names_flaws};
 ghost use Rattle.pcap_tolerant_blocks.specs.SimpleAsIs.{SimpleAsIsText, simple_in as simple_of, flaws_said as simple_flaws};
 ghost use Rattle.pcap_tolerant_blocks.specs.StatisticsAsIs.{StatisticsAsIsText, statistics_in as statistics_of, flaws_said as statistics_flaws};
-ghost use Rattle.pcap_tolerant_captures.specs.Blocks.{IsPacketIn, IsSimpleIn, IsPacketBlockIn, AreStatisticsIn};
+ghost use Rattle.pcap_tolerant_captures.specs.Blocks.{IsPacketIn, IsSimpleIn, IsPacketBlockIn, AreStatisticsIn, AreNamesIn};
 
 use byteorder::{BigEndian, LittleEndian};
 use pcap_blocks::BlockType;
 use pcap_core::Endianness;
 use pcap_file::pcapng::Block;
-use pcap_tolerant_blocks::{EnhancedAsIs, Flaw, PacketBlockAsIs, SimpleAsIs, StatisticsAsIs};
+use pcap_tolerant_blocks::{
+    EnhancedAsIs, Flaw, NamesAsIs, PacketBlockAsIs, SimpleAsIs, StatisticsAsIs,
+};
 use std::alloc::{AllocError, Global};
 
 /// A block as it stands, and what is wrong with its body, where that is a section's or an interface's.
@@ -90,6 +94,20 @@ impl<'a> BlockAsIs<'a> {
         let (_rest, statistics) = statistics_in(self.block.endianness(), alloc, body)?;
         Ok(Some(statistics))
     }
+
+    /// The names of addresses that the body is as they stand, with what is wrong with them. None where the block is of another type.
+    ///
+    /// `AllocError` where a list can't grow.
+    pub fn names(&self, alloc: Global) -> Result<Option<NamesAsIs<'_>>, AllocError>
+        ensures { IfOk result (AreNamesIn (framed_of self.now.block)) }
+    {
+        if !matches!(self.block.type_, BlockType::NameResolution) {
+            return Ok(None);
+        }
+        let body = self.block.body.as_slice();
+        let (_rest, names) = names_in(self.block.endianness(), alloc, body)?;
+        Ok(Some(names))
+    }
 }
 
 // The enhanced packet that a body is as it stands, in this order, and what follows it.
@@ -145,5 +163,19 @@ pub(crate) fn statistics_in<'a>(
     match order {
         Endianness::Big => StatisticsAsIs::from_slice::<BigEndian>(alloc, slice),
         Endianness::Little => StatisticsAsIs::from_slice::<LittleEndian>(alloc, slice),
+    }
+}
+
+// The names of addresses that a body is as they stand, in this order, and what follows them.
+pub(crate) fn names_in<'a>(
+    order: Endianness,
+    alloc: Global,
+    slice: &'a [u8],
+) -> Result<(&'a [u8], NamesAsIs<'a>), AllocError>
+    ensures { IfOk result (λ x. NamesText (number_in order) (names_of x.1.names) (names_flaws x.1) slice.now x.0.now) }
+{
+    match order {
+        Endianness::Big => NamesAsIs::from_slice::<BigEndian>(alloc, slice),
+        Endianness::Little => NamesAsIs::from_slice::<LittleEndian>(alloc, slice),
     }
 }

@@ -5,6 +5,7 @@
 #![tactic(auto)]
 
 mod block;
+mod copy;
 mod kept;
 pub mod laws;
 mod parser;
@@ -14,6 +15,7 @@ mod run;
 mod stated;
 
 pub use block::BlockAsIs;
+pub use copy::{NgCopiedAsIs, copy_pcapng_as_is, copy_pcapng_as_is_buffered};
 pub use parser::{OpenedAsIs, PcapNgParserAsIs};
 pub use reader::{LentAsIs, PcapNgReaderAsIs};
 pub use run::{FlawedAt, NgRunAsIs, parse_pcapng_as_is};

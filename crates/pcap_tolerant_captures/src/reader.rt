@@ -8,14 +8,16 @@ ghost use Rattle.pcap_file.specs.Lent.{header_of, framed_around, HoldsText};
 ghost use Rattle.pcap_tolerant_captures.specs.Blocks.{as_is_format};
 ghost use Rattle.pcap_tolerant_captures.specs.HeldAsIs.{state_in, held_item, LentTells, StaysUnlessTaken};
 
-use crate::block::{BlockAsIs, packet_block_in, packet_in, simple_in, statistics_in};
+use crate::block::{BlockAsIs, names_in, packet_block_in, packet_in, simple_in, statistics_in};
 use crate::parser::{OpenedAsIs, PcapNgParserAsIs};
 use crate::stated::BlocksAsIs;
 use pcap_blocks::BlockType;
 use pcap_core::ResultParsing;
 use pcap_core::stream::{Held, fill_item};
 use pcap_file::pcapng::BlockHeader;
-use pcap_tolerant_blocks::{EnhancedAsIs, Flaw, PacketBlockAsIs, SimpleAsIs, StatisticsAsIs};
+use pcap_tolerant_blocks::{
+    EnhancedAsIs, Flaw, NamesAsIs, PacketBlockAsIs, SimpleAsIs, StatisticsAsIs,
+};
 use std::alloc::{AllocError, Global};
 use std::io::Read;
 
@@ -82,7 +84,7 @@ fn follow(
 }
 
 // Holds the text of the next block. Nothing is held before it, nor where none comes; what is in force moves only where one does.
-fn hold<T: Read>(
+pub(crate) fn hold<T: Read>(
     alloc: Global,
     parser: &mut Option<PcapNgParserAsIs>,
     stream: &mut T,
@@ -138,7 +140,7 @@ impl<T: Read + Drop> PcapNgReaderAsIs<T> {
 }
 
 impl<T> PcapNgReaderAsIs<T> {
-    ghost use Rattle.pcap_tolerant_captures.specs.Blocks.{IsPacketIn, IsSimpleIn, IsPacketBlockIn, AreStatisticsIn};
+    ghost use Rattle.pcap_tolerant_captures.specs.Blocks.{IsPacketIn, IsSimpleIn, IsPacketBlockIn, AreStatisticsIn, AreNamesIn};
     ghost use Rattle.pcap_tolerant_captures.specs.State.{opening};
     ghost use Rattle.pcap_tolerant_captures.specs.ReaderAsIs.{state_of, stream_of, parser_of, has_failed, is_done, text_of, body_of};
 
@@ -229,6 +231,17 @@ impl<T> PcapNgReaderAsIs<T> {
         }
         let (_rest, statistics) = statistics_in(header.endianness, self.alloc, self.body())?;
         Ok(Some(statistics))
+    }
+
+    /// The same of names of addresses.
+    pub fn names(&self, header: BlockHeader) -> Result<Option<NamesAsIs<'_>>, AllocError>
+        ensures { IfOk result (AreNamesIn (framed_around header (body_of self.now))) }
+    {
+        if !matches!(header.type_, BlockType::NameResolution) {
+            return Ok(None);
+        }
+        let (_rest, names) = names_in(header.endianness, self.alloc, self.body())?;
+        Ok(Some(names))
     }
 
     /// The parser behind the blocks so far, which has the section in force and its interfaces. None before the first section header.

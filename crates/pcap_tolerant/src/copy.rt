@@ -1,0 +1,188 @@
+//! Copies of captures whose packets may break rules, from a reader to a writer.
+
+ghost use Rattle.std.specs.Prelude.{◌≡◌, ◌≤◌, [], OnOk};
+ghost use Rattle.std.specs.Result.{result_err};
+ghost use Rattle.pcap_core.specs.Copying.{NothingCopied};
+ghost use Rattle.pcap_core.specs.Held.{held_bytes};
+ghost use Rattle.pcap_classic.specs.Copies.{copied_of};
+ghost use Rattle.pcap_tolerant.specs.Copies.{BeginsAsIs, CopyRunAsIs};
+
+use crate::as_is::next_packet_as_is;
+use crate::stated::PacketsAsIs;
+use pcap_classic::pcap::PcapParser;
+use pcap_classic::run::Copied;
+use pcap_core::stream::{
+    AsTheyCame, Held, Holding, Tally, copy_buffers, copy_items, fill_array, fill_item, put,
+};
+use pcap_core::{PcapError, ResultParsing};
+use std::alloc::Global;
+use std::io::{BufRead, Read, Write};
+
+impl Holding for PacketsAsIs<'_> {
+    ghost use Rattle.std.specs.Prelude.{⊤};
+    ghost use Rattle.pcap_classic.specs.Parser.{header_of};
+    ghost use Rattle.pcap_tolerant.specs.AsIs.{AsIs};
+    ghost use Rattle.pcap_tolerant.specs.Run.{as_is_under};
+
+    type Place = ();
+
+    ghost State = { Unit {0} };
+
+    ghost Value = { AsIs };
+
+    ghost format = { λ packets. as_is_under packets.limit (header_of packets.parser.now) };
+
+    ghost state = { λ place. tt };
+
+    ghost leaves = { λ packet. ⊤ };
+
+    #[inline(always)]
+    fn hold_next<R: Read>(
+        &self,
+        _alloc: Global,
+        _place: &mut (),
+        reader: &mut R,
+        has_failed: &mut bool,
+        held: &mut Held,
+    ) -> ResultParsing<bool> {
+        let head = fill_item(self, reader, has_failed, held)?;
+        Ok(head.is_some())
+    }
+
+    #[inline(always)]
+    fn pass<'a>(&self, _place: &(), bytes: &'a [u8]) -> Option<&'a [u8]> {
+        match next_packet_as_is(self.parser, bytes, self.limit) {
+            Ok((after, _packet)) => Some(after),
+            Err(_error) => None,
+        }
+    }
+}
+
+/// Copies a capture from a reader to a writer, byte by byte: its header, and then at most `most` of its packets, each of them
+/// before the next one is read, whatever rules they break. Where there is no fault exactly what was copied was taken from the
+/// reader.
+///
+/// A header that is refused gives what `PcapHeader::from_reader` gives, and nothing is written; a rest that is refused gives
+/// what `ReaderAsIs` gives there under this limit, the header and all packets before it have gone out, and no more of it was
+/// taken than was missing. `IoError` also where a write failed: a beginning of the header or packet that comes next has gone
+/// out then, and it was taken. `OutOfMemory` where a packet can't be held.
+pub fn copy_pcap_as_is<R: Read, W: Write>(
+    alloc: Global,
+    reader: &mut R,
+    writer: &mut W,
+    limit: u32,
+    most: u64,
+) -> Copied
+    ensures most { result.packets ≤ most }
+    ensures run { CopyRunAsIs limit (R.remaining reader.old) (R.remaining reader.new) (W.contents writer.old) (W.contents writer.new) most result }
+{
+    let mut tally = Tally::none();
+    let fault = copy_all(alloc, reader, writer, limit, most, &mut tally).err();
+    copied(&tally, fault)
+}
+
+/// Copies a capture as `copy_pcap_as_is` does, from a reader that shows its buffer: packets that lie whole in it are written from
+/// there and never copied. The packet that ends outside of it is held, as all are by `copy_pcap_as_is`. A reader that shows no
+/// byte is at its end; what its buffer holds and no packet took stays in it.
+///
+/// It is refused as `copy_pcap_as_is` is.
+pub fn copy_pcap_as_is_buffered<R: BufRead, W: Write>(
+    alloc: Global,
+    reader: &mut R,
+    writer: &mut W,
+    limit: u32,
+    most: u64,
+) -> Copied
+    ensures most { result.packets ≤ most }
+    ensures run { CopyRunAsIs limit (R.remaining reader.old) (R.remaining reader.new) (W.contents writer.old) (W.contents writer.new) most result }
+{
+    let mut tally = Tally::none();
+    let fault = copy_all_shown(alloc, reader, writer, limit, most, &mut tally).err();
+    copied(&tally, fault)
+}
+
+// A copy that came so far, and ended with this fault, or none.
+fn copied(tally: &Tally, fault: Option<PcapError>) -> Copied
+    ensures { result ≡ copied_of tally.now fault }
+{
+    Copied {
+        packets: tally.items,
+        fault,
+        read_failed: tally.read_failed,
+        write_failed: tally.write_failed,
+    }
+}
+
+// Copies the header and the packets, and counts these.
+fn copy_all<R: Read, W: Write>(
+    alloc: Global,
+    reader: &mut R,
+    writer: &mut W,
+    limit: u32,
+    most: u64,
+    tally: &mut Tally,
+) -> ResultParsing<()>
+    requires { NothingCopied tally.old }
+    ensures { CopyRunAsIs limit (R.remaining reader.old) (R.remaining reader.new) (W.contents writer.old) (W.contents writer.new) most (copied_of tally.new (result_err result)) }
+{
+    let parser = copy_header(reader, writer, tally)?;
+    let items = PacketsAsIs {
+        parser: &parser,
+        limit,
+    };
+    copy_items(
+        alloc,
+        &AsTheyCame { items },
+        &mut (),
+        reader,
+        writer,
+        most,
+        tally,
+        &mut Held::new(alloc),
+    )
+}
+
+// The same out of the reader's own buffer.
+fn copy_all_shown<R: BufRead, W: Write>(
+    alloc: Global,
+    reader: &mut R,
+    writer: &mut W,
+    limit: u32,
+    most: u64,
+    tally: &mut Tally,
+) -> ResultParsing<()>
+    requires { NothingCopied tally.old }
+    ensures { CopyRunAsIs limit (R.remaining reader.old) (R.remaining reader.new) (W.contents writer.old) (W.contents writer.new) most (copied_of tally.new (result_err result)) }
+{
+    let parser = copy_header(reader, writer, tally)?;
+    let items = PacketsAsIs {
+        parser: &parser,
+        limit,
+    };
+    copy_buffers(
+        alloc,
+        &AsTheyCame { items },
+        &mut (),
+        reader,
+        writer,
+        most,
+        tally,
+        &mut Held::new(alloc),
+    )
+}
+
+// Copies the header, and gives the parser of the packets behind it.
+fn copy_header<R: Read, W: Write>(
+    reader: &mut R,
+    writer: &mut W,
+    tally: &mut Tally,
+) -> ResultParsing<PcapParser>
+    requires { NothingCopied tally.old }
+    ensures { BeginsAsIs (R.remaining reader.old) (R.remaining reader.new) (W.contents writer.old) (W.contents writer.new) tally.new result }
+{
+    let mut bytes = [0; 24];
+    fill_array(reader, &mut tally.read_failed, &mut bytes)?;
+    let (_, parser) = PcapParser::new(&bytes)?;
+    put(writer, &mut tally.write_failed, &bytes)?;
+    Ok(parser)
+}
