@@ -1,3 +1,4 @@
+mod ListedBlocks
 mod SaidLines
 mod Tellings
 mod Whole

@@ -1,5 +1,6 @@
 -- The lines of the flaws of blocks.
-use Rattle.std.specs.Prelude.{ℕ, List, [], ◌∷◌, ◌++◌, codes, Option, None, Some}
+use Rattle.std.specs.Prelude.{ℕ, List, [], ◌++◌, codes, Option, None, Some}
+use Rattle.std.specs.List.{flat_map}
 use Rattle.std.specs.Fmt.{decimal}
 use Rattle.pcap_core.specs.Faults.{Fault, Invalid, Io, Utf8, rule_message}
 use Rattle.pcap_core.specs.Rules.{number_of}
@@ -31,8 +32,7 @@ said_line place said = fault_line place (option_text said.code) said.fault
 
 -- the lines of flaws, in their order
 abbrev pub said_lines : List ℕ → List Said → List ℕ
-said_lines place [] = []
-said_lines place (said ∷ others) = said_line place said ++ said_lines place others
+said_lines place = flat_map (said_line place)
 
 -- the lines of the block of this number that stands behind so many bytes
 abbrev pub block_lines : List ℕ → ℕ → ℕ → Item → List ℕ

@@ -1,6 +1,7 @@
 -- Packets and blocks as they stand that are counted.
-use Rattle.std.specs.Prelude.{◌+◌, ◌-◌, ◌^◌, ◌==◌, ℕ, length, Bool, not, min, if◌then◌else◌}
+use Rattle.std.specs.Prelude.{◌+◌, ◌-◌, ◌^◌, ◌==◌, ℕ, List, length, Bool, not, min, if◌then◌else◌}
 use Rattle.pcap_tolerant.specs.AsIs.{AsIs, breaks_one}
+use Rattle.pcap_tolerant_blocks.specs.Flaws.{Said}
 use Rattle.pcap_tolerant_captures.specs.Blocks.{Item}
 
 -- a number as it is counted: the largest of 64 bits stands for all above it
@@ -19,9 +20,13 @@ has_flaw packet = breaks_one packet.flaws
 abbrev pub size_of : AsIs → ℕ
 size_of packet = 16 + packet.head.included
 
+-- something is wrong with a body
+abbrev pub are_some : List Said → Bool
+are_some flaws = not (length flaws == 0)
+
 -- something is wrong with the body of a block
 abbrev pub is_flawed : Item → Bool
-is_flawed item = not (length item.led.flaws == 0)
+is_flawed item = are_some item.led.flaws
 
 -- the bytes of a block
 abbrev pub block_size : Item → ℕ

@@ -1,5 +1,6 @@
--- What is written of items as they stand, one after another.
-use Rattle.std.specs.Prelude.{◌≡◌, ◌+◌, ℕ, List, [], ◌∷◌, ◌++◌, length, count_by, sum_by, Bool, Option, Err}
+-- What is told of items as they stand, one after another.
+use Rattle.std.specs.Prelude.{◌≡◌, ◌+◌, ⊤, ℕ, List, [], ◌∷◌, length, map, count_by, sum_by, Bool, true, Option, Result, Ok, Err}
+use Rattle.std.specs.List.{flat_map}
 use Rattle.std.specs.Io.KnownBytes.{Appends}
 use Rattle.pcap_core.specs.declared.errors.PcapError.{PcapError}
 use Rattle.pcap_core.specs.Format.{Format, state_after}
@@ -8,46 +9,91 @@ use Rattle.pcap_core.specs.Takes.{TakesTexts, TakesItems}
 use Rattle.capcopy_run.specs.declared.exit.Exit.{Exit}
 use Rattle.capcopy_run.specs.Lines.{WritesLine}
 use Rattle.pcapfile_as_is.specs.declared.counted.Counted.{Counted}
-use Rattle.pcapfile_as_is.specs.Counts.{counted}
+use Rattle.pcapfile_as_is.specs.declared.counted.Told.{Told}
+use Rattle.pcapfile_as_is.specs.Counts.{counted, one_if}
 
--- the texts of items, the first of which has this number and stands behind so many bytes
-abbrev pub texts_of : {V : Type 0} → (V → ℕ) → (ℕ → ℕ → V → List ℕ) → ℕ → ℕ → List V → List ℕ
-texts_of size text number place [] = []
-texts_of size text number place (item ∷ items) = text (counted number) (counted place) item ++ texts_of size text (number + 1) (place + size item) items
+-- an item that has a number, and a flaw or none
+abbrev pub numbered : Bool → Told
+numbered flawed = record { has_number = true; has_flaw = flawed }
 
--- items of a format under a state, each of so many bytes, with a flaw or none, and its text
-module _ {S V : Type 0} (f : Format S V) (q : S) (size : V → ℕ) (flawed : V → Bool) (text : ℕ → ℕ → V → List ℕ) where
-  -- these items were counted behind what was counted before
-  pub record Counts (old new : Counted) (items : List V) : Type 0 where
-    pub items_are : new.items ≡ counted (old.items + length items)
-    pub flawed_are : new.flawed ≡ counted (old.flawed + count_by flawed items)
-    pub bytes_are : new.bytes ≡ counted (old.bytes + sum_by size items)
+-- an item has a number, and a flaw or none and a text as these say
+abbrev pub TellsBy : {V : Type 0} → (V → Bool) → (ℕ → ℕ → V → List ℕ) → ℕ → ℕ → V → Told → List ℕ → Type 0
+TellsBy flawed text number place item told bytes = (told ≡ numbered (flawed item)) × (bytes ≡ text number place item)
+
+-- one call that tells of an item: its text went out as a line does
+abbrev pub WritesTold : (Told → List ℕ → Type 0) → Option (List ℕ) → Option (List ℕ) → Result Told Exit → Type 0
+WritesTold IsTold before after (Ok told) = WritesLine (IsTold told) before after (Ok tt)
+WritesTold IsTold before after (Err exit) = (told : Told) × WritesLine (IsTold told) before after (Err exit)
+
+-- an item, what was told of it, and its text
+pub record Row (V : Type 0) : Type 0 where
+  pub item : V
+  pub told : Told
+  pub text : List ℕ
+
+-- the item alone
+abbrev pub item_in : {V : Type 0} → Row V → V
+item_in row = row.item
+
+-- the text alone
+abbrev pub text_in : {V : Type 0} → Row V → List ℕ
+text_in row = row.text
+
+-- the item has a number
+abbrev pub has_number : {V : Type 0} → Row V → Bool
+has_number row = row.told.has_number
+
+-- it has a flaw
+abbrev pub has_flaw : {V : Type 0} → Row V → Bool
+has_flaw row = row.told.has_flaw
+
+-- its bytes
+abbrev pub size_in : {V : Type 0} → (V → ℕ) → Row V → ℕ
+size_in size row = size row.item
+
+-- this is told of items, where the first that has a number has this one, and stand behind so many bytes
+abbrev pub AreTold : {V : Type 0} → (V → ℕ) → (ℕ → ℕ → V → Told → List ℕ → Type 0) → ℕ → ℕ → List (Row V) → Type 0
+AreTold size IsTold number place [] = ⊤
+AreTold size IsTold number place (row ∷ rows) =
+    IsTold (counted number) (counted place) row.item row.told row.text × AreTold size IsTold (number + one_if row.told.has_number) (place + size row.item) rows
+
+-- items of a format under a state, each of so many bytes, and what is told of each by its number and its place
+module _ {S V : Type 0} (f : Format S V) (q : S) (size : V → ℕ) (IsTold : ℕ → ℕ → V → Told → List ℕ → Type 0) where
+  -- those that have numbers, those with flaws and all bytes were counted behind what was counted before
+  pub record Counts (old new : Counted) (rows : List (Row V)) : Type 0 where
+    pub items_are : new.items ≡ counted (old.items + count_by has_number rows)
+    pub flawed_are : new.flawed ≡ counted (old.flawed + count_by has_flaw rows)
+    pub bytes_are : new.bytes ≡ counted (old.bytes + sum_by (size_in size) rows)
 
   -- so many items were taken, and no more, they lead to this state, they are counted, and their texts went out
   pub record Telling (reached : S) (before left out_before out_now : Option (List ℕ)) (old new : Counted) (n : ℕ) : Type 0 where
-    pub items : List V
-    pub count : length items ≡ n
-    pub leads : state_after f q items ≡ reached
-    pub took : TakesTexts f q items before left
-    pub long : length took.bytes ≡ sum_by size items
-    pub counts : Counts old new items
-    pub out : Appends out_before out_now (texts_of size text (old.items + 1) old.bytes items)
+    pub rows : List (Row V)
+    pub count : length rows ≡ n
+    pub leads : state_after f q (map item_in rows) ≡ reached
+    pub took : TakesTexts f q (map item_in rows) before left
+    pub long : length took.bytes ≡ sum_by (size_in size) rows
+    pub told : AreTold size IsTold (old.items + 1) old.bytes rows
+    pub counts : Counts old new rows
+    pub out : Appends out_before out_now (flat_map text_in rows)
 
   -- items were taken up to a cause to stop, at most so many, they are counted, and their texts went out
   pub record TellsItems (before now out_before out_now : Option (List ℕ)) (failed : Bool) (most : ℕ) (old new : Counted) (fault : Option PcapError) : Type 0 where
-    pub items : List V
-    pub run : TakesItems f q before now failed most items fault
-    pub long : length run.took.bytes ≡ sum_by size items
-    pub counts : Counts old new items
-    pub out : Appends out_before out_now (texts_of size text (old.items + 1) old.bytes items)
+    pub rows : List (Row V)
+    pub run : TakesItems f q before now failed most (map item_in rows) fault
+    pub long : length run.took.bytes ≡ sum_by (size_in size) rows
+    pub told : AreTold size IsTold (old.items + 1) old.bytes rows
+    pub counts : Counts old new rows
+    pub out : Appends out_before out_now (flat_map text_in rows)
 
   -- items were taken, and the texts of all but the last went out, whose own ended so
   pub record TellsTorn (before now out_before out_now : Option (List ℕ)) (old : Counted) (exit : Exit) : Type 0 where
-    pub items : List V
+    pub rows : List (Row V)
     pub next : V
+    pub told_next : Told
     pub left : Option (List ℕ)
-    pub took : TakesTexts f q items before left
-    pub took_next : Takes (f.says (state_after f q items)) left now next
+    pub took : TakesTexts f q (map item_in rows) before left
+    pub took_next : Takes (f.says (state_after f q (map item_in rows))) left now next
+    pub told : AreTold size IsTold (old.items + 1) old.bytes rows
     pub mid : Option (List ℕ)
-    pub out : Appends out_before mid (texts_of size text (old.items + 1) old.bytes items)
-    pub torn : WritesLine (λ line. line ≡ text (counted (old.items + 1 + length items)) (counted (old.bytes + sum_by size items)) next) mid out_now (Err exit)
+    pub out : Appends out_before mid (flat_map text_in rows)
+    pub torn : WritesLine (IsTold (counted (old.items + 1 + count_by has_number rows)) (counted (old.bytes + sum_by (size_in size) rows)) next told_next) mid out_now (Err exit)

@@ -2,12 +2,16 @@
 
 ghost use Rattle.std.specs.Prelude.{◌≡◌, map, take, IfOk, string_bytes};
 ghost use Rattle.pcap_core.specs.Faults.{Invalid};
+ghost use Rattle.capcopy_run.specs.Lines.{WritesLine};
 ghost use Rattle.pcap_tolerant_blocks.specs.Flaws.{fault_of, said_of};
 ghost use Rattle.pcapfile_as_is.specs.BlockLines.{block_place, broken_rule, fault_line, option_text, said_line, said_lines};
 
+use crate::block_teller::BlockTeller;
+use crate::counted::Told;
 use capcopy_run::{Exit, put_line};
 use pcap_core::rules::Rule;
 use pcap_tolerant_blocks::{Broken, Flaw};
+use pcap_tolerant_captures::{LentAsIs, PcapNgReaderAsIs};
 use std::alloc::{AllocError, Global};
 use std::io::Write;
 
@@ -94,26 +98,51 @@ fn lines_of(alloc: Global, place: &str, flaws: &[Flaw]) -> Result<String, AllocE
     Ok(lines)
 }
 
-impl BlockFlawLines<'_> {
-    ghost use Rattle.capcopy_run.specs.Lines.{WritesLine};
+// Writes the lines of the flaws of the block of this number.
+fn put_flaws<W: Write>(
+    alloc: Global,
+    output: &mut W,
+    prefix: &str,
+    number: u64,
+    place: u64,
+    flaws: &[Flaw],
+) -> Result<(), Exit>
+    ensures { WritesLine (λ line. line ≡ said_lines (block_place prefix.now number place) (map said_of flaws.now)) (W.contents output.old) (W.contents output.new) result }
+{
+    if flaws.is_empty() {
+        return Ok(());
+    }
+    let place = place_of(alloc, prefix, number, place)?;
+    let lines = lines_of(alloc, place.as_str(), flaws)?;
+    put_line(output, lines.as_bytes())
+}
 
-    /// Writes the lines of the block of this number, which stands behind so many bytes of its capture. An error of the output is
-    /// `Io`; `Memory` where the lines can't be made.
-    pub fn put<W: Write>(
-        &self,
+impl BlockTeller for BlockFlawLines<'_> {
+    ghost use Rattle.std.specs.Prelude.{ℕ, List};
+    ghost use Rattle.pcapfile_as_is.specs.BlockLines.{block_lines};
+    ghost use Rattle.pcapfile_as_is.specs.Counts.{is_flawed};
+    ghost use Rattle.pcapfile_as_is.specs.Texts.{TellsBy};
+
+    ghost Setting = { List ℕ };
+
+    ghost setting = { λ lines. lines.prefix.now };
+
+    ghost is_told = { λ prefix. TellsBy is_flawed (block_lines prefix) };
+
+    fn put<T, W: Write>(
+        &mut self,
         alloc: Global,
         output: &mut W,
         number: u64,
         place: u64,
-        flaws: &[Flaw],
-    ) -> Result<(), Exit>
-        ensures { WritesLine (λ line. line ≡ said_lines (block_place self.now.prefix.now number place) (map said_of flaws.now)) (W.contents output.old) (W.contents output.new) result }
-    {
-        if flaws.is_empty() {
-            return Ok(());
-        }
-        let place = place_of(alloc, self.prefix, number, place)?;
-        let lines = lines_of(alloc, place.as_str(), flaws)?;
-        put_line(output, lines.as_bytes())
+        reader: &PcapNgReaderAsIs<T>,
+        lent: &LentAsIs,
+    ) -> Result<Told, Exit> {
+        let flaws = lent.flaws.as_slice();
+        put_flaws(alloc, output, self.prefix, number, place, flaws)?;
+        Ok(Told {
+            has_number: true,
+            has_flaw: !flaws.is_empty(),
+        })
     }
 }

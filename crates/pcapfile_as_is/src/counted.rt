@@ -17,6 +17,15 @@ pub struct Counted {
     pub bytes: u64,
 }
 
+/// What was told of a packet or a block.
+#[derive(Clone, Copy, Debug, PartialEq, Eq)]
+pub struct Told {
+    /// Whether it has a number, and counts among those of its capture.
+    pub has_number: bool,
+    /// Whether it has a flaw.
+    pub has_flaw: bool,
+}
+
 // One where something holds.
 fn count_if(holds: bool) -> u64
     ensures { result ≡ one_if holds }
@@ -31,17 +40,21 @@ impl Counted {
         ensures flawed { self.new.flawed ≡ counted (self.old.flawed + one_if (breaks_one head.now.flaws)) }
         ensures bytes { self.new.bytes ≡ counted (self.old.bytes + (16 + head.now.incl_len)) }
     {
-        self.add_item(16 + u64::from(head.incl_len), head.flaws.is_broken());
+        let told = Told {
+            has_number: true,
+            has_flaw: head.flaws.is_broken(),
+        };
+        self.add_item(16 + u64::from(head.incl_len), told);
     }
 
-    /// One packet or block more, of so many bytes, which has a flaw or none.
-    pub fn add_item(&mut self, bytes: u64, is_flawed: bool)
-        ensures items { self.new.items ≡ counted (self.old.items + 1) }
-        ensures flawed { self.new.flawed ≡ counted (self.old.flawed + one_if is_flawed) }
+    /// One packet or block more, of so many bytes, of which this was told.
+    pub fn add_item(&mut self, bytes: u64, told: Told)
+        ensures items { self.new.items ≡ counted (self.old.items + one_if told.has_number) }
+        ensures flawed { self.new.flawed ≡ counted (self.old.flawed + one_if told.has_flaw) }
         ensures bytes { self.new.bytes ≡ counted (self.old.bytes + bytes) }
     {
-        self.items = self.items.saturating_add(1);
-        self.flawed = self.flawed.saturating_add(count_if(is_flawed));
+        self.items = self.items.saturating_add(count_if(told.has_number));
+        self.flawed = self.flawed.saturating_add(count_if(told.has_flaw));
         self.bytes = self.bytes.saturating_add(bytes);
     }
 }

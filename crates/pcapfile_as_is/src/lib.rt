@@ -3,6 +3,9 @@
 #![tactic(auto)]
 
 mod block_flaws;
+mod block_listed;
+mod block_repairs;
+mod block_teller;
 mod block_telling;
 mod counted;
 mod flaws;
@@ -14,8 +17,11 @@ mod teller;
 mod telling;
 
 pub use block_flaws::BlockFlawLines;
+pub use block_listed::BlockPacketLines;
+pub use block_repairs::BlockRepairs;
+pub use block_teller::BlockTeller;
 pub use block_telling::tell_blocks;
-pub use counted::Counted;
+pub use counted::{Counted, Told};
 pub use flaws::FlawLines;
 pub use listed::PacketLines;
 pub use mended::repaired;

@@ -5,7 +5,7 @@ ghost use Rattle.pcap_classic.specs.Magic.{resolution_of};
 ghost use Rattle.pcap_tolerant.specs.ReaderAsIs.{stream_of, header_read, limit_of, has_failed, is_done};
 ghost use Rattle.pcap_tolerant.specs.Run.{as_is_under};
 ghost use Rattle.pcapfile_as_is.specs.Counts.{has_flaw, size_of};
-ghost use Rattle.pcapfile_as_is.specs.Texts.{TellsItems, TellsTorn};
+ghost use Rattle.pcapfile_as_is.specs.Texts.{TellsBy, TellsItems, TellsTorn};
 
 use crate::counted::Counted;
 use crate::teller::Teller;
@@ -15,15 +15,14 @@ use pcap_tolerant::ReaderAsIs;
 use std::alloc::Global;
 use std::io::{Read, Write};
 
-/// The most packets that are told.
-pub(crate) const MOST: u64 = 18_446_744_073_709_551_614;
-
-/// Writes the text of each packet of a reader, counts it, and gives what refuses the next one. The errors are those of the teller.
+/// Writes the text of each packet of a reader, `most` of them at most, counts it, and gives what refuses the next one. The errors
+/// are those of the teller.
 pub fn tell_packets<P: Teller, T: Read + Drop, W: Write>(
     alloc: Global,
     teller: &mut P,
     reader: &mut ReaderAsIs<T>,
     output: &mut W,
+    most: u64,
     counted: &mut Counted,
 ) -> Result<Option<PcapError>, Exit>
     requires ready { is_done reader.old ≡ false }
@@ -33,13 +32,13 @@ pub fn tell_packets<P: Teller, T: Read + Drop, W: Write>(
     requires bytes { counted.old.bytes < 2 ^ 64 }
     ensures same { P.setting teller.new ≡ P.setting teller.old }
     ensures told { let f = as_is_under (limit_of reader.old) (header_read reader.old) in
-        let text = P.text (P.setting teller.old) (resolution_of (header_read reader.old).magic_number) in
+        let tells = TellsBy has_flaw (P.text (P.setting teller.old) (resolution_of (header_read reader.old).magic_number)) in
         MatchResult result
-        (λ fault. TellsItems f tt size_of has_flaw text (T.remaining (stream_of reader.old)) (T.remaining (stream_of reader.new)) (W.contents output.old) (W.contents output.new) (has_failed reader.new) 18446744073709551614 counted.old counted.new fault)
-        (λ exit. TellsTorn f tt size_of has_flaw text (T.remaining (stream_of reader.old)) (T.remaining (stream_of reader.new)) (W.contents output.old) (W.contents output.new) counted.old exit) }
+        (λ fault. TellsItems f tt size_of tells (T.remaining (stream_of reader.old)) (T.remaining (stream_of reader.new)) (W.contents output.old) (W.contents output.new) (has_failed reader.new) most counted.old counted.new fault)
+        (λ exit. TellsTorn f tt size_of tells (T.remaining (stream_of reader.old)) (T.remaining (stream_of reader.new)) (W.contents output.old) (W.contents output.new) counted.old exit) }
 {
     let ts_resolution = reader.ts_resolution();
-    for turn in 0..MOST {
+    for turn in 0..most {
         match reader.next_header() {
             None => return Ok(None),
             Some(Err(error)) => return Ok(Some(error)),

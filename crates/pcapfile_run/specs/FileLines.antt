@@ -44,24 +44,28 @@ abbrev pub IsTimeText : Option Interface → ℕ → List ℕ → Type 0
 IsTimeText (Some interface) units text = (time : Timestamp) × IsTimeAt interface units time × ShowsTime time text
 IsTimeText None units text = text ≡ codes "-"
 
--- the end of a line: the stored and the original length of a packet, and its interface
-abbrev pub lengths_text : ℕ → ℕ → ℕ → List ℕ
-lengths_text stored original interface = codes " " ++ (decimal stored ++ (codes "/" ++ (decimal original ++ (codes " " ++ (decimal interface ++ codes "\n")))))
+-- what a line tells last, before its end: the stored and the original length of a packet, and its interface
+abbrev pub lengths_text : ℕ → ℕ → ℕ → List ℕ → List ℕ
+lengths_text stored original interface ending = codes " " ++ (decimal stored ++ (codes "/" ++ (decimal original ++ (codes " " ++ (decimal interface ++ ending)))))
 
--- the line of the packet of this number: its number, its time, and the end
-abbrev pub stored_line : ℕ → List ℕ → ℕ → ℕ → ℕ → List ℕ
-stored_line number time stored original interface = decimal number ++ (codes " " ++ (time ++ lengths_text stored original interface))
+-- the line of the packet of this number with this end: its number, its time, its lengths and its interface
+abbrev pub stored_line : ℕ → List ℕ → ℕ → ℕ → ℕ → List ℕ → List ℕ
+stored_line number time stored original interface ending = decimal number ++ (codes " " ++ (time ++ lengths_text stored original interface ending))
 
--- the time of a packet that came by the interface of this number; a hyphen where it has none
-abbrev pub IsUnitsText : List Interface → ℕ → Option ℕ → List ℕ → Type 0
-IsUnitsText interfaces number (Some units) text = IsTimeText (slice_get interfaces number) units text
-IsUnitsText interfaces number None text = text ≡ codes "-"
+-- the time of a packet that came by this interface, if it is described; a hyphen where it has none
+abbrev pub IsUnitsText : Option Interface → Option ℕ → List ℕ → Type 0
+IsUnitsText interface (Some units) text = IsTimeText interface units text
+IsUnitsText interface None text = text ≡ codes "-"
+
+-- the line with this end of a packet in a block that came by this interface, if it is described
+abbrev pub IsPacketText : Option Interface → ℕ → InBlock → List ℕ → List ℕ → Type 0
+IsPacketText interface number packet ending line =
+    (time : List ℕ) × IsUnitsText interface packet.units time
+    × (line ≡ stored_line number time (length packet.bytes) packet.original_len packet.interface ending)
 
 -- the line of a packet in a block, where these interfaces are described; none where there is no packet
 abbrev pub IsPacketLine : List Interface → ℕ → Option InBlock → List ℕ → Type 0
-IsPacketLine interfaces number (Some packet) line =
-    (time : List ℕ) × IsUnitsText interfaces packet.interface packet.units time
-    × (line ≡ stored_line number time (length packet.bytes) packet.original_len packet.interface)
+IsPacketLine interfaces number (Some packet) line = IsPacketText (slice_get interfaces packet.interface) number packet (codes "\n") line
 IsPacketLine interfaces number None line = line ≡ []
 
 -- the line of the packet that a body is

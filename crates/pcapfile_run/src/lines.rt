@@ -4,7 +4,8 @@ ghost use Rattle.std.specs.Prelude.{◌≡◌, ◌≢◌, ◌≤◌, ◌+◌, �
 ghost use Rattle.std.specs.Fmt.{decimal};
 ghost use Rattle.pcap_blocks.specs.InterfaceDescription.{interface_of};
 ghost use Rattle.pcap_blocks.specs.ParsedBlock.{body_of};
-ghost use Rattle.pcapfile_run.specs.FileLines.{IsBodyLine, IsTimeText, IsUnitsText, ShowsTime, lengths_text};
+ghost use Rattle.pcapfile_run.specs.BlockPackets.{in_block};
+ghost use Rattle.pcapfile_run.specs.FileLines.{IsBodyLine, IsPacketText, IsTimeText, IsUnitsText, ShowsTime, lengths_text};
 
 use crate::block_packet::{BlockPacket, interface_at, packet_in_body};
 use capcopy_run::{ROOM, put_byte, put_nine_digits, put_number, put_word};
@@ -48,13 +49,19 @@ fn put_time_at(
     }
 }
 
-// Makes the end of a line, which tells the lengths of a packet and its interface, and returns where it begins.
-fn put_lengths(room: &mut [u8; ROOM], stored: usize, original: u32, interface: u32) -> usize
-    ensures start { (62 ≤ result) × (result ≤ 126) }
-    ensures text { drop result room.new ≡ lengths_text stored original interface }
+// Puts the lengths of a packet and its interface before the text that begins at `end`, and returns where it begins then.
+fn put_lengths(
+    room: &mut [u8; ROOM],
+    end: usize,
+    stored: usize,
+    original: u32,
+    interface: u32,
+) -> usize
+    requires { (63 ≤ end) × (end ≤ 126) }
+    ensures start { (result ≤ end) × (end ≤ result + 63) }
+    ensures text { drop result room.new ≡ lengths_text stored original interface (drop end room.old) }
 {
-    let start = put_byte(room, ROOM, b'\n');
-    let start = put_number(room, start, u64::from(interface));
+    let start = put_number(room, end, u64::from(interface));
     let start = put_byte(room, start, b' ');
     let start = put_number(room, start, u64::from(original));
     let start = put_byte(room, start, b'/');
@@ -72,24 +79,42 @@ fn put_packet_number(room: &mut [u8; ROOM], end: usize, number: u64) -> usize
     put_number(room, start, number)
 }
 
-// Puts the time of a packet before the text that begins at `end`.
+// Puts the time of a packet before the text that begins at `end`, where it came by this interface, if that is described.
 fn put_packet_time(
     room: &mut [u8; ROOM],
     end: usize,
-    interfaces: &[InterfaceDescriptionBlock<'static>],
-    packet: BlockPacket,
+    interface: Option<&InterfaceDescriptionBlock<'static>>,
+    units: Option<u64>,
 ) -> usize
     requires { (41 ≤ end) × (end ≤ 126) }
     ensures start { (result ≤ end) × (end ≤ result + 41) }
-    ensures text { (text : List ℕ) × IsUnitsText (map interface_of interfaces.now) packet.entry.interface packet.entry.units text × (drop result room.new ≡ text ++ drop end room.old) }
+    ensures text { (text : List ℕ) × IsUnitsText (option_map (λ i. interface_of i.now) interface.entry) units text × (drop result room.new ≡ text ++ drop end room.old) }
 {
-    match packet.units {
+    match units {
         None => put_byte(room, end, b'-'),
-        Some(units) => {
-            let interface = interface_at(interfaces, packet.interface);
-            put_time_at(room, end, interface, units)
-        }
+        Some(units) => put_time_at(room, end, interface, units),
     }
+}
+
+/// Puts the line of the packet of this number before the end of that line, which begins at `end`, and returns where the line begins:
+/// the number, the time by the packet's interface, if that is described, the stored and the original length, and the interface's
+/// number. A hyphen stands where the packet has no time, its interface isn't described, and where the seconds since 1970 are no
+/// number of 64 bits.
+pub fn put_packet(
+    room: &mut [u8; ROOM],
+    end: usize,
+    number: u64,
+    interface: Option<&InterfaceDescriptionBlock<'static>>,
+    packet: BlockPacket,
+) -> usize
+    requires { (125 ≤ end) × (end ≤ 126) }
+    ensures within { result ≤ 126 }
+    ensures line { IsPacketText (option_map (λ i. interface_of i.now) interface.entry) number (in_block packet.entry) (drop end room.old) (drop result room.new) }
+{
+    let stored = packet.bytes.len();
+    let start = put_lengths(room, end, stored, packet.original_len, packet.interface);
+    let start = put_packet_time(room, start, interface, packet.units);
+    put_packet_number(room, start, number)
 }
 
 /// Makes the line of the packet of this number that a body is, at the end of the room, and returns where it begins. It is empty
@@ -106,10 +131,9 @@ pub(crate) fn make_body_line(
     let Some(packet) = packet_in_body(interfaces, parsed) else {
         return ROOM;
     };
-    let stored = packet.bytes.len();
-    let start = put_lengths(room, stored, packet.original_len, packet.interface);
-    let start = put_packet_time(room, start, interfaces, packet);
-    put_packet_number(room, start, number)
+    let end = put_byte(room, ROOM, b'\n');
+    let interface = interface_at(interfaces, packet.interface);
+    put_packet(room, end, number, interface, packet)
 }
 
 /// Makes the line of the packet of this number whose body is refused, at the end of the room, and returns where it begins.

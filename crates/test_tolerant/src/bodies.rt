@@ -104,8 +104,8 @@ fn statistics_of_interfaces(rt: HostRuntime) -> Result<(), Fail> {
     Ok(())
 }
 
-// How many flaws the body of a block has as each of the three kinds, where it is one.
-fn flaws_of(alloc: Global, item: &BlockAsIs) -> Result<[Option<usize>; 3], Fail> {
+// How many flaws the body of a block has as each of the four kinds, where it is one.
+fn flaws_of(alloc: Global, item: &BlockAsIs) -> Result<[Option<usize>; 4], Fail> {
     let packet_block = match item.packet_block(alloc)? {
         Some(read) => Some(read.flaws.len()),
         None => None,
@@ -118,11 +118,15 @@ fn flaws_of(alloc: Global, item: &BlockAsIs) -> Result<[Option<usize>; 3], Fail>
         Some(read) => Some(read.flaws.len()),
         None => None,
     };
-    Ok([packet_block, simple, statistics])
+    let names = match item.names(alloc)? {
+        Some(read) => Some(read.flaws.len()),
+        None => None,
+    };
+    Ok([packet_block, simple, statistics, names])
 }
 
 // The same of the block behind a section header.
-fn flaws_behind(alloc: Global, digits: &str) -> Result<[Option<usize>; 3], Fail> {
+fn flaws_behind(alloc: Global, digits: &str) -> Result<[Option<usize>; 4], Fail> {
     let section = "0a0d0d0a 1c000000 4d3c2b1a 0100 0000 ffffffffffffffff 1c000000";
     let section = bytes(alloc, section)?;
     let block = bytes(alloc, digits)?;
@@ -138,12 +142,20 @@ fn bodies_of_blocks(rt: HostRuntime) -> Result<(), Fail> {
         // an obsolete packet with a comment that isn't UTF-8
         (
             "02000000 28000000  0100 0200 00000000 00000000 00000000 00000000  0100 0100 ff000000  28000000",
-            [Some(1), None, None],
+            [Some(1), None, None, None],
         ),
-        ("03000000 10000000 00000000 10000000", [None, Some(0), None]),
-        ("03000000 0c000000 0c000000", [None, Some(1), None]),
-        ("05000000 0c000000 0c000000", [None, None, Some(1)]),
-        ("06000000 0c000000 0c000000", [None, None, None]),
+        (
+            "03000000 10000000 00000000 10000000",
+            [None, Some(0), None, None],
+        ),
+        ("03000000 0c000000 0c000000", [None, Some(1), None, None]),
+        ("05000000 0c000000 0c000000", [None, None, Some(1), None]),
+        // a name that isn't UTF-8
+        (
+            "04000000 1c000000  0100 0600 7f000001 ff000000  0000 0000  1c000000",
+            [None, None, None, Some(1)],
+        ),
+        ("06000000 0c000000 0c000000", [None, None, None, None]),
     ];
     for (digits, flaws) in rows {
         assert!(rt; flaws_behind(rt.alloc(), digits)? == flaws);

@@ -7,6 +7,8 @@ mod again;
 #[cfg(test)]
 mod again_rows;
 #[cfg(test)]
+mod block_copies;
+#[cfg(test)]
 mod block_rows;
 #[cfg(test)]
 mod block_runs;
@@ -19,7 +21,11 @@ mod blocks_again;
 #[cfg(test)]
 mod bodies;
 #[cfg(test)]
+mod copies;
+#[cfg(test)]
 mod interfaces;
+#[cfg(test)]
+mod names;
 #[cfg(test)]
 mod options;
 #[cfg(test)]

@@ -1,0 +1,264 @@
+//! A line for each packet in a block as it stands.
+
+ghost use Rattle.std.specs.Prelude.{◌≡◌, ◌++◌, List, ℕ, map, take, codes, IfOk, string_bytes, option_map};
+ghost use Rattle.std.specs.List.{flat_map};
+ghost use Rattle.std.specs.Fmt.{decimal};
+ghost use Rattle.pcap_blocks.specs.InterfaceDescription.{interface_of};
+ghost use Rattle.pcap_blocks.specs.ParsedBlock.{EnhancedBody, OldPacketBody, SimpleBody, body_of as body_shown};
+ghost use Rattle.pcap_file.specs.Lent.{framed_around};
+ghost use Rattle.pcap_tolerant_blocks.specs.EnhancedAsIs.{enhanced_in};
+ghost use Rattle.pcap_tolerant_blocks.specs.Flaws.{fault_of, said_of};
+ghost use Rattle.pcap_tolerant_blocks.specs.InForce.{known};
+ghost use Rattle.pcap_tolerant_blocks.specs.PacketBlockAsIs.{packet_in as obsolete_in};
+ghost use Rattle.pcap_tolerant_blocks.specs.SimpleAsIs.{simple_in};
+ghost use Rattle.pcap_tolerant_captures.specs.ReaderAsIs.{state_of, body_of};
+ghost use Rattle.capcopy_run.specs.Lines.{WritesLine};
+ghost use Rattle.pcapfile_run.specs.BlockPackets.{in_block};
+ghost use Rattle.pcapfile_run.specs.FileLines.{IsPacketText};
+ghost use Rattle.pcapfile_as_is.specs.Texts.{WritesTold};
+ghost use Rattle.pcapfile_as_is.specs.BlockLists.{HoldsIf, IsListedBody, IsMarkedLine, described, ending, mark_of, packet_as_is, said_mark};
+
+use crate::block_teller::BlockTeller;
+use crate::counted::Told;
+use capcopy_run::{Exit, ROOM, put_line};
+use pcap_file::pcapng::{BlockHeader, InterfaceDescriptionBlock, ParsedBlock};
+use pcap_tolerant_blocks::{Broken, EnhancedAsIs, Flaw, PacketBlockAsIs, SimpleAsIs};
+use pcap_tolerant_captures::{LentAsIs, PcapNgReaderAsIs};
+use pcapfile_run::{BlockPacket, packet_in_body, put_packet};
+use std::alloc::{AllocError, Global};
+use std::io::Write;
+use std::slice;
+
+/// Writes a line for each packet in a block: what `pcapfile list` writes of it, by its interface where that is known, and behind
+/// that ` !` and the number of each rule that its body breaks, ` !utf8` for what is no UTF-8, and ` !short` for a value that is too
+/// short. A packet for which its block has no room has the line `index refused` with the mark of its rule. Other blocks have no
+/// line and no number.
+#[derive(Clone, Copy, Debug, Drop)]
+pub struct BlockPacketLines;
+
+// What the body of a block that holds a packet is as it stands, where it has room for the packet, and what is wrong with it.
+#[derive(Drop)]
+struct BodyAsIs<'a> {
+    body: Option<ParsedBlock<'a>>,
+    flaws: Vec<Flaw>,
+}
+
+fn of_enhanced(read: EnhancedAsIs<'_>) -> BodyAsIs<'_>
+    ensures body { option_map body_shown result.body ≡ option_map EnhancedBody (enhanced_in read.entry) }
+    ensures flaws { result.flaws ≡ read.entry.flaws }
+{
+    let EnhancedAsIs { packet, flaws } = read;
+    let body = match packet {
+        None => None,
+        Some(packet) => Some(ParsedBlock::EnhancedPacket(packet)),
+    };
+    BodyAsIs { body, flaws }
+}
+
+fn of_obsolete(read: PacketBlockAsIs<'_>) -> BodyAsIs<'_>
+    ensures body { option_map body_shown result.body ≡ option_map OldPacketBody (obsolete_in read.entry) }
+    ensures flaws { result.flaws ≡ read.entry.flaws }
+{
+    let PacketBlockAsIs { packet, flaws } = read;
+    let body = match packet {
+        None => None,
+        Some(packet) => Some(ParsedBlock::Packet(packet)),
+    };
+    BodyAsIs { body, flaws }
+}
+
+fn of_simple(read: SimpleAsIs<'_>) -> BodyAsIs<'_>
+    ensures body { option_map body_shown result.body ≡ option_map SimpleBody (simple_in read.entry) }
+    ensures flaws { result.flaws ≡ read.entry.flaws }
+{
+    let SimpleAsIs { packet, flaws } = read;
+    let body = match packet {
+        None => None,
+        Some(packet) => Some(ParsedBlock::SimplePacket(packet)),
+    };
+    BodyAsIs { body, flaws }
+}
+
+// The body of the block that a reader lends, where that holds a packet.
+fn body_lent<T>(
+    reader: &PcapNgReaderAsIs<T>,
+    header: BlockHeader,
+) -> Result<Option<BodyAsIs<'_>>, AllocError>
+    ensures { IfOk result (λ held. HoldsIf (framed_around header (body_of reader.now)) (option_map (λ body. (option_map body_shown body.body, map said_of body.flaws.items)) held)) }
+{
+    if let Some(read) = reader.enhanced(header)? {
+        return Ok(Some(of_enhanced(read)));
+    }
+    if let Some(read) = reader.packet_block(header)? {
+        return Ok(Some(of_obsolete(read)));
+    }
+    match reader.simple(header)? {
+        None => Ok(None),
+        Some(read) => Ok(Some(of_simple(read))),
+    }
+}
+
+// The interface of this number, where one is known by it.
+fn interface_known<T>(
+    reader: &PcapNgReaderAsIs<T>,
+    number: u32,
+) -> Option<&InterfaceDescriptionBlock<'static>>
+    ensures { option_map (λ interface. interface_of interface.now) result ≡ known number (described (state_of reader.now)) }
+{
+    match reader.parser() {
+        None => None,
+        Some(parser) => parser.interface(number),
+    }
+}
+
+// The packet that a body is, where this is the first interface, if it is known.
+fn packet_of<'a>(
+    first: Option<&InterfaceDescriptionBlock<'static>>,
+    body: &'a Option<ParsedBlock<'_>>,
+) -> Option<BlockPacket<'a>>
+    ensures { option_map in_block result ≡ packet_as_is (option_map (λ interface. interface_of interface.now) first.entry) (option_map body_shown body.now) }
+{
+    let Some(body) = body else {
+        return None;
+    };
+    match first {
+        None => packet_in_body(&[], body),
+        Some(first) => packet_in_body(slice::from_ref(first), body),
+    }
+}
+
+// The mark of a flaw.
+fn mark_made(alloc: Global, broken: Broken) -> Result<String, AllocError>
+    ensures { IfOk result (λ mark. string_bytes mark ≡ mark_of (fault_of broken)) }
+{
+    match broken {
+        Broken::Rule(rule) => {
+            let number = rule.number();
+            format!(in alloc; " !{number}")
+        }
+        Broken::NotUtf8 => String::from_str(alloc, " !utf8"),
+        Broken::TooShort => String::from_str(alloc, " !short"),
+    }
+}
+
+// The end of a line, which marks these flaws.
+fn ending_made(alloc: Global, flaws: &[Flaw]) -> Result<String, AllocError>
+    ensures { IfOk result (λ end. string_bytes end ≡ ending (map said_of flaws.now)) }
+{
+    let mut end = String::new(alloc);
+    let mut marked = 0;
+    while marked < flaws.len() {
+        let mark = mark_made(alloc, flaws[marked].broken)?;
+        end.push_str(mark.as_str())?;
+        marked += 1;
+    }
+    end.push_str("\n")?;
+    Ok(end)
+}
+
+// The line of the packet of this number, which came by this interface, if it is known.
+fn packet_line(
+    alloc: Global,
+    number: u64,
+    interface: Option<&InterfaceDescriptionBlock<'static>>,
+    packet: BlockPacket,
+    end: &str,
+) -> Result<Vec<u8>, AllocError>
+    ensures { IfOk result (λ line. IsPacketText (option_map (λ interface. interface_of interface.now) interface.entry) number (in_block packet.entry) end.now line.items) }
+{
+    let mut room = [0; ROOM];
+    let start = put_packet(&mut room, ROOM, number, interface, packet);
+    let mut line = Vec::from_slice(alloc, &room[start..])?;
+    line.extend_from_slice(end.as_bytes())?;
+    Ok(line)
+}
+
+// The line of the packet of this number for which its block has no room.
+fn refused_line(alloc: Global, number: u64, end: &str) -> Result<Vec<u8>, AllocError>
+    ensures { IfOk result (λ line. line.items ≡ decimal number ++ (codes " refused" ++ end.now)) }
+{
+    let line = format!(in alloc; "{number} refused{end}")?;
+    Ok(line.into_bytes())
+}
+
+// The line of the packet of this number in a body.
+fn line_of<T>(
+    alloc: Global,
+    number: u64,
+    reader: &PcapNgReaderAsIs<T>,
+    held: &BodyAsIs<'_>,
+) -> Result<Vec<u8>, AllocError>
+    ensures { let interfaces = described (state_of reader.now) in
+        IfOk result (λ line. IsMarkedLine interfaces number (packet_as_is (known 0 interfaces) (option_map body_shown held.now.body)) (map said_of held.now.flaws.items) line.items) }
+{
+    let end = ending_made(alloc, held.flaws.as_slice())?;
+    match packet_of(interface_known(reader, 0), &held.body) {
+        None => refused_line(alloc, number, end.as_str()),
+        Some(packet) => {
+            let interface = interface_known(reader, packet.interface);
+            packet_line(alloc, number, interface, packet, end.as_str())
+        }
+    }
+}
+
+// Writes that line.
+fn put_line_of<T, W: Write>(
+    alloc: Global,
+    output: &mut W,
+    number: u64,
+    reader: &PcapNgReaderAsIs<T>,
+    held: &BodyAsIs<'_>,
+) -> Result<(), Exit>
+    ensures { let interfaces = described (state_of reader.now) in
+        WritesLine (IsMarkedLine interfaces number (packet_as_is (known 0 interfaces) (option_map body_shown held.now.body)) (map said_of held.now.flaws.items)) (W.contents output.old) (W.contents output.new) result }
+{
+    let line = line_of(alloc, number, reader, held)?;
+    put_line(output, line.as_slice())
+}
+
+// Writes that line, and tells whether the body has a flaw.
+fn put_held<T, W: Write>(
+    alloc: Global,
+    output: &mut W,
+    number: u64,
+    reader: &PcapNgReaderAsIs<T>,
+    held: &BodyAsIs<'_>,
+) -> Result<Told, Exit>
+    ensures { let interfaces = described (state_of reader.now) in
+        WritesTold (IsListedBody interfaces number (option_map body_shown held.now.body) (map said_of held.now.flaws.items)) (W.contents output.old) (W.contents output.new) result }
+{
+    put_line_of(alloc, output, number, reader, held)?;
+    Ok(Told {
+        has_number: true,
+        has_flaw: !held.flaws.is_empty(),
+    })
+}
+
+impl BlockTeller for BlockPacketLines {
+    ghost use Rattle.pcapfile_as_is.specs.Texts.{WritesTold};
+    ghost use Rattle.pcapfile_as_is.specs.BlockLists.{IsListed};
+
+    ghost Setting = { Unit {0} };
+
+    ghost setting = { λ lines. tt };
+
+    ghost is_told = { λ setting. IsListed };
+
+    fn put<T, W: Write>(
+        &mut self,
+        alloc: Global,
+        output: &mut W,
+        number: u64,
+        place: u64,
+        reader: &PcapNgReaderAsIs<T>,
+        lent: &LentAsIs,
+    ) -> Result<Told, Exit> {
+        match body_lent(reader, lent.header)? {
+            None => Ok(Told {
+                has_number: false,
+                has_flaw: !lent.flaws.as_slice().is_empty(),
+            }),
+            Some(held) => put_held(alloc, output, number, reader, &held),
+        }
+    }
+}

@@ -1,0 +1,37 @@
+//! What is written of each block.
+
+ghost use Rattle.std.specs.Prelude.{◌≡◌, ℕ, List};
+ghost use Rattle.pcap_tolerant_captures.specs.Blocks.{Item};
+ghost use Rattle.pcap_tolerant_captures.specs.ReaderAsIs.{lent_item};
+ghost use Rattle.pcapfile_as_is.specs.declared.counted.Told.{Told as WasTold};
+ghost use Rattle.pcapfile_as_is.specs.Texts.{WritesTold};
+
+use crate::counted::Told;
+use capcopy_run::Exit;
+use pcap_tolerant_captures::{LentAsIs, PcapNgReaderAsIs};
+use std::alloc::Global;
+use std::io::Write;
+
+/// What writes a text for each block.
+pub trait BlockTeller {
+    ghost Setting: { Type 0 };
+
+    ghost setting: { Self → Setting };
+
+    ghost is_told: { Setting → ℕ → ℕ → Item → WasTold → List ℕ → Type 0 };
+
+    /// Writes the text of the block that a reader lends, which stands behind so many bytes of its capture, and tells whether it has a
+    /// number and a flaw. The number is the one that it has, if it has one. An error of the output is `Io`; `Memory` where the text
+    /// can't be made.
+    fn put<T, W: Write>(
+        &mut self,
+        alloc: Global,
+        output: &mut W,
+        number: u64,
+        place: u64,
+        reader: &PcapNgReaderAsIs<T>,
+        lent: &LentAsIs,
+    ) -> Result<Told, Exit>
+        ensures same { setting self.new ≡ setting self.old }
+        ensures writes { WritesTold (is_told (setting self.old) number place (lent_item reader.now lent.now)) (W.contents output.old) (W.contents output.new) result };
+}

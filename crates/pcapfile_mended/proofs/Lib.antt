@@ -1,0 +1,2 @@
+pub mod BodiesSaid
+pub mod StrictAgain

@@ -1,0 +1,24 @@
+//! Laws of mended blocks. Each contract is the law.
+
+ghost use Rattle.std.specs.Prelude.{◌≡◌, ℕ, List, [], true};
+ghost use Rattle.pcap_core.specs.Answer.{Order, number_in};
+ghost use Rattle.pcap_blocks.specs.Options.{may_end_with_body, OptionList};
+ghost use Rattle.pcap_blocks.specs.Values.{Entry, Kind};
+ghost use Rattle.pcap_tolerant_blocks.specs.SoundOptions.{SoundOptions};
+ghost use Rattle.pcap_written.specs.Raw.{Raw};
+ghost use Rattle.pcapfile_mended.specs.Mended.{Becomes, IsTaken, IsTakenAfter, Mends, stays, unstated};
+
+/// The sound options of a body, one behind the other, are a strict list of options that ends with the body.
+pub fn sound_options_are_a_list()
+    ensures { (order : Order) (kind : Kind) (s kept : List ℕ) → SoundOptions order kind s kept → (options : List Entry) × OptionList may_end_with_body order kind options kept [] }
+{}
+
+/// The strict reading takes the body of each block that is mended, unless that is left out.
+pub fn mended_blocks_are_taken()
+    ensures { (raw : Raw) (becomes : Becomes) → Mends raw becomes → IsTakenAfter raw becomes }
+{}
+
+/// A block whose body the strict reading takes stays what it is, but for a section that states its length.
+pub fn sound_blocks_stay()
+    ensures { (raw : Raw) (becomes : Becomes) → IsTaken (number_in raw.endianness) raw.type_ raw.body true → unstated raw.type_ raw.body ≡ raw.body → Mends raw becomes → becomes ≡ stays }
+{}
