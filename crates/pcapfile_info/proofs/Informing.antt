@@ -80,7 +80,7 @@ module _ {S V : Type 0} (f : Format S V) (laws : IsLawful f) (q : S) (IsSight : 
       } in
       (informs, refl)
 
-  pub items_informed : (tells : TellsItems f q IsSight first (Some after) now failed most_passed old new fault) → old.bytes ≡ counted (length opening) → checked.items ≡ new.items → checked.bytes ≡ new.bytes
+  pub items_informed : (tells : TellsItems f q IsSight first (TotalsAre first) (Some after) now failed most_passed old new fault) → old.bytes ≡ counted (length opening) → checked.items ≡ new.items → checked.bytes ≡ new.bytes
       → EndIs fault failed checked.items (old.items + most_passed) checked.end → (informs : InformsItems f q IsSight first s after old.items checked new.totals) × (informs.checks.items ≡ tells.items)
   items_informed tells before items bytes end =
       informed_left tells.items tells.run.left tells.run.took tells.run.within tells.run.stops tells.sights tells.are_sights tells.totals before (items ∙ tells.number) (bytes ∙ tells.bytes) end
@@ -103,10 +103,10 @@ packets_refused (Some s) now failed e end totals nothing reads is = (
 )
 
 packets_behind : (header : PcapHeader) (s after : List ℕ) (took : Takes HeaderSays (Some s) (Some after) header) (now : Option (List ℕ)) (failed : Bool) (old new : Progress) (fault : Option PcapError) (end : End) → old.items ≡ 0 → old.bytes ≡ 24
-    → TellsItems (reader_format packet_limit header) tt IsPacketSight 1 (Some after) now failed most_passed old new fault → EndIs fault failed new.items most_passed end
+    → TellsItems (reader_format packet_limit header) tt IsPacketSight 1 (TotalsAre 1) (Some after) now failed most_passed old new fault → EndIs fault failed new.items most_passed end
     → InformsPackets s (checked_of Pcap new.items new.bytes end) (Some header) new.totals
 packets_behind header s after took now failed old new fault end items bytes tells is =
-    let under = under_valid packet_limit header took.1.valid (λ (f : Format (Unit {0}) Captured). TellsItems f tt IsPacketSight 1 (Some after) now failed most_passed old new fault) tells in
+    let under = under_valid packet_limit header took.1.valid (λ (f : Format (Unit {0}) Captured). TellsItems f tt IsPacketSight 1 (TotalsAre 1) (Some after) now failed most_passed old new fault) tells in
     let text : HeaderText header s after = subst (λ (l : List ℕ). HeaderText header l after) (sym took.2) (header_stable.text took.0 after [] header took.1) in
     let long : old.bytes ≡ counted (length took.0) = omega (arith, bytes, header_length header took.0 [] took.1) in
     let checked : Checked = record { format = Pcap; items = new.items; bytes = new.bytes; end = end } in
@@ -116,13 +116,13 @@ packets_behind header s after took now failed old new fault end items bytes tell
 
 -- the header is read, and then packets by a reader of it
 pub packets_informed : (header read : PcapHeader) → read ≡ header → (known after behind now : Option (List ℕ)) → behind ≡ after → (failed : Bool) (old new : Progress) (fault : Option PcapError) (end : End) → old.items ≡ 0 → old.bytes ≡ 24
-    → Takes HeaderSays known after header → TellsItems (reader_format packet_limit read) tt IsPacketSight 1 behind now failed most_passed old new fault → EndIs fault failed new.items most_passed end
+    → Takes HeaderSays known after header → TellsItems (reader_format packet_limit read) tt IsPacketSight 1 (TotalsAre 1) behind now failed most_passed old new fault → EndIs fault failed new.items most_passed end
     → IfSome known (λ s. InformsPackets s (checked_of Pcap new.items new.bytes end) (Some header) new.totals)
 packets_informed header read same None after behind now stream failed old new fault end items bytes took tells is = tt
 packets_informed header read same (Some s) None behind now stream failed old new fault end items bytes took tells is = absurd took.2
 packets_informed header read same (Some s) (Some after) behind now stream failed old new fault end items bytes took tells is =
-    let there = subst (λ (h : PcapHeader). TellsItems (reader_format packet_limit h) tt IsPacketSight 1 behind now failed most_passed old new fault) same tells in
-    let here = subst (λ (l : Option (List ℕ)). TellsItems (reader_format packet_limit header) tt IsPacketSight 1 l now failed most_passed old new fault) stream there in
+    let there = subst (λ (h : PcapHeader). TellsItems (reader_format packet_limit h) tt IsPacketSight 1 (TotalsAre 1) behind now failed most_passed old new fault) same tells in
+    let here = subst (λ (l : Option (List ℕ)). TellsItems (reader_format packet_limit header) tt IsPacketSight 1 (TotalsAre 1) l now failed most_passed old new fault) stream there in
     packets_behind header s after took now failed old new fault end items bytes here is
 
 -- the first block is refused
@@ -147,7 +147,7 @@ blocks_refused described comments no_described no_comments (Some s) e end totals
 
 -- the first block is read, and then blocks
 pub blocks_informed : (told : Option Opened) (described : List Described) (comments : List (String Global)) (known after now : Option (List ℕ)) (text : List ℕ) (first : State) (n : ℕ) → n ≡ length text → n < 2 ^ 64 → (failed : Bool) (old new : Progress) (fault : Option PcapError) (end : End) → old.items ≡ 1 → old.bytes ≡ n
-    → TakesText OpeningSays known after text first → (tells : TellsItems block_format first IsBlockSight 0 after now failed most_passed old new fault) → LacksMemory fault ⊎ DescribesBlocks first tells.items described comments
+    → TakesText OpeningSays known after text first → (tells : TellsItems block_format first IsBlockSight 0 (TotalsAre 0) after now failed most_passed old new fault) → LacksMemory fault ⊎ DescribesBlocks first tells.items described comments
     → EndIs fault failed new.items 18446744073709551615 end → told ≡ opened_at first
     → IfSome known (λ s. InformsBlocks s (checked_of PcapNg new.items new.bytes end) None new.totals told described comments)
 blocks_informed told described comments None after now text first n long room failed old new fault end items bytes took tells kept is opens_as = tt

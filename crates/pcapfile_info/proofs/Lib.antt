@@ -1,3 +1,4 @@
+mod Alone
 mod Bodies
 mod Describing
 mod Informing

@@ -48,9 +48,9 @@ item_behind sight k old mid new same adds = (
   λ first sights before. adds.2 first sights (subst (λ (t : Totals). TotalsAre first sights t) (sym same.2) before),
 )
 
-module _ {S V : Type 0} (f : Format S V) (q : S) (IsSight : ℕ → V → Sight → Type 0) (first : ℕ) where
+module _ {S V : Type 0} (f : Format S V) (q : S) (IsSight : ℕ → V → Sight → Type 0) (first : ℕ) (Kept : List Sight → Totals → Type 0) where
   -- nothing is passed yet
-  abbrev pub telling_none : (before : Option (List ℕ)) (old : Progress) → old.bytes < 2 ^ 64 → TotalsAre first [] old.totals → Telling f q IsSight first q before before old old 0
+  abbrev pub telling_none : (before : Option (List ℕ)) (old : Progress) → old.bytes < 2 ^ 64 → Kept [] old.totals → Telling f q IsSight first Kept q before before old old 0
   telling_none before old room nothing = record {
     items = [];
     count = refl;
@@ -64,10 +64,11 @@ module _ {S V : Type 0} (f : Format S V) (q : S) (IsSight : ℕ → V → Sight 
   }
 
   -- one item more, of so many bytes, of which this is seen
-  abbrev pub telling_more : IsLawful f → (here there : S) (before left now : Option (List ℕ)) (old mid new : Progress) (n k : ℕ) (item : V) (sight : Sight) → Telling f q IsSight first here before left old mid n
-      → (took : Takes (f.says here) left now item) → f.goes here item ≡ there → length took.0 ≡ k → IsSight (length mid.totals.interfaces.items) item sight → AddsItem sight k mid new
-      → Telling f q IsSight first there before now old new (n + 1)
-  telling_more laws here there before left now old mid new n k item sight so_far took goes long is adds =
+  abbrev pub telling_more : IsLawful f → (here there : S) (before left now : Option (List ℕ)) (old mid new : Progress) (n k : ℕ) (item : V) (sight : Sight) → (so_far : Telling f q IsSight first Kept here before left old mid n)
+      → (took : Takes (f.says here) left now item) → f.goes here item ≡ there → length took.0 ≡ k → IsSight (first + sum_by interfaces_in so_far.sights) item sight
+      → new.items ≡ mid.items + 1 → new.bytes ≡ counted (mid.bytes + k) → ((sights : List Sight) → Kept sights mid.totals → Kept (sights ++ sight ∷ []) new.totals)
+      → Telling f q IsSight first Kept there before now old new (n + 1)
+  telling_more laws here there before left now old mid new n k item sight so_far took goes long is number bytes adds =
       let both = subst (λ (s : S). (t : Takes (f.says s) left now item) × (length t.0 ≡ k)) (sym so_far.leads) (took, long) in
       record {
         items = so_far.items ++ item ∷ [];
@@ -78,16 +79,16 @@ module _ {S V : Type 0} (f : Format S V) (q : S) (IsSight : ℕ → V → Sight 
           texts = texts_push f q so_far.items item (so_far.took.bytes ++ both.0.0) both.0.0 [] (texts_more f laws q so_far.items so_far.took.bytes [] both.0.0 so_far.took.texts) both.0.1;
           took = Consumes-trans before left now so_far.took.bytes both.0.0 so_far.took.took both.0.2;
         };
-        number = omega (arith, adds.0, so_far.number);
-        bytes = bytes_more old.bytes mid.bytes new.bytes (length so_far.took.bytes) k so_far.bytes adds.1 ∙ ap (λ (m : ℕ). counted (old.bytes + m)) (sym (length-append so_far.took.bytes both.0.0 ∙ ap (λ (m : ℕ). length so_far.took.bytes + m) both.1));
+        number = omega (arith, number, so_far.number);
+        bytes = bytes_more old.bytes mid.bytes new.bytes (length so_far.took.bytes) k so_far.bytes bytes ∙ ap (λ (m : ℕ). counted (old.bytes + m)) (sym (length-append so_far.took.bytes both.0.0 ∙ ap (λ (m : ℕ). length so_far.took.bytes + m) both.1));
         sights = so_far.sights ++ sight ∷ [];
-        are_sights = sights_push IsSight first so_far.items so_far.sights item sight so_far.are_sights (subst (λ (m : ℕ). IsSight m item sight) so_far.totals.described is);
-        totals = adds.2 first so_far.sights so_far.totals;
+        are_sights = sights_push IsSight first so_far.items so_far.sights item sight so_far.are_sights is;
+        totals = adds so_far.sights so_far.totals;
       }
 
   -- it stops
-  abbrev pub telling_stops : (here : S) (before left now : Option (List ℕ)) (failed : Bool) (most : ℕ) (old new : Progress) (n : ℕ) (fault : Option PcapError) → Telling f q IsSight first here before left old new n
-      → n ≤ most → Stops (f.says here) left now failed n most fault → TellsItems f q IsSight first before now failed most old new fault
+  abbrev pub telling_stops : (here : S) (before left now : Option (List ℕ)) (failed : Bool) (most : ℕ) (old new : Progress) (n : ℕ) (fault : Option PcapError) → Telling f q IsSight first Kept here before left old new n
+      → n ≤ most → Stops (f.says here) left now failed n most fault → TellsItems f q IsSight first Kept before now failed most old new fault
   telling_stops here before left now failed most old new n fault so_far within stops = record {
     items = so_far.items;
     run = record {
@@ -103,13 +104,14 @@ module _ {S V : Type 0} (f : Format S V) (q : S) (IsSight : ℕ → V → Sight 
     totals = so_far.totals;
   }
 
+module _ {S V : Type 0} (f : Format S V) (q : S) (IsSight : ℕ → V → Sight → Type 0) (first : ℕ) where
   -- it stops for want of memory, once an item was taken that is not counted
   pub telling_lacks : IsLawful f → (here : S) (before left now : Option (List ℕ)) (failed : Bool) (most : ℕ) (old mid new : Progress) (n : ℕ) (item : V) (e : PcapError)
-      → Telling f q IsSight first here before left old mid n → n < most → Takes (f.says here) left now item → failed ≡ false → IsMemory e → AddsNothing mid new
-      → TellsItems f q IsSight first before now failed most old new (Some e)
+      → Telling f q IsSight first (TotalsAre first) here before left old mid n → n < most → Takes (f.says here) left now item → failed ≡ false → IsMemory e → AddsNothing mid new
+      → TellsItems f q IsSight first (TotalsAre first) before now failed most old new (Some e)
   telling_lacks laws here before left now failed most old mid new n item e so_far fewer took unfailed memory nothing =
       let asked : TakesAsked (f.says here) left now = record { taken = took.0; from_stream = took.2; asked = λ k less. asked_text f laws here item took.0 took.1 k less } in
-      let stays : Telling f q IsSight first here before left old new n = record {
+      let stays : Telling f q IsSight first (TotalsAre first) here before left old new n = record {
         items = so_far.items;
         count = so_far.count;
         leads = so_far.leads;
@@ -120,4 +122,4 @@ module _ {S V : Type 0} (f : Format S V) (q : S) (IsSight : ℕ → V → Sight 
         are_sights = so_far.are_sights;
         totals = nothing.2 first so_far.sights so_far.totals;
       } in
-      telling_stops here before left now failed most old new n (Some e) stays (omega (arith, fewer)) (fewer, no_memory memory unfailed, asked)
+      telling_stops f q IsSight first (TotalsAre first) here before left now failed most old new n (Some e) stays (omega (arith, fewer)) (fewer, no_memory memory unfailed, asked)

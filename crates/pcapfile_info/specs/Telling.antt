@@ -6,11 +6,17 @@ use Rattle.pcap_core.specs.Takes.{TakesTexts, TakesItems}
 use Rattle.pcapfile_run.specs.Passing.{counted}
 use Rattle.pcapfile_info.specs.declared.progress.Progress.{Progress}
 use Rattle.pcapfile_info.specs.declared.seen.Sight.{Sight}
-use Rattle.pcapfile_info.specs.Totals.{Adds, Stay, TotalsAre, interfaces_in}
+use Rattle.pcapfile_info.specs.declared.totals.Totals.{Totals}
+use Rattle.pcapfile_info.specs.declared.seen.Seen.{Seen}
+use Rattle.pcapfile_info.specs.Totals.{Adds, AddsAlone, Stay, interfaces_in}
 
 -- one item more, of so many bytes, of which this is seen
 abbrev pub AddsItem : Sight → ℕ → Progress → Progress → Type 0
 AddsItem sight bytes old new = (new.items ≡ old.items + 1) × (new.bytes ≡ counted (old.bytes + bytes)) × Adds sight old.totals new.totals
+
+-- one packet more, of so many bytes, which is counted among all alone
+abbrev pub AddsPacketAlone : Seen → ℕ → Progress → Progress → Type 0
+AddsPacketAlone seen bytes old new = (new.items ≡ old.items + 1) × (new.bytes ≡ counted (old.bytes + bytes)) × AddsAlone seen old.totals new.totals
 
 -- no item more
 abbrev pub AddsNothing : Progress → Progress → Type 0
@@ -27,7 +33,8 @@ AreSights IsSight n [] (sight ∷ sights) = ⊥
 AreSights IsSight n (v ∷ vs) [] = ⊥
 AreSights IsSight n (v ∷ vs) (sight ∷ sights) = IsSight n v sight × AreSights IsSight (n + interfaces_in sight) vs sights
 
-module _ {S V : Type 0} (f : Format S V) (q : S) (IsSight : ℕ → V → Sight → Type 0) (first : ℕ) where
+-- Kept is what is counted of items of which these are seen
+module _ {S V : Type 0} (f : Format S V) (q : S) (IsSight : ℕ → V → Sight → Type 0) (first : ℕ) (Kept : List Sight → Totals → Type 0) where
   -- items that lead to this state were taken, and no more, and what is seen of them is counted
   pub record Telling (here : S) (before left : Option (List ℕ)) (old new : Progress) (n : ℕ) : Type 0 where
     pub items : List V
@@ -38,7 +45,7 @@ module _ {S V : Type 0} (f : Format S V) (q : S) (IsSight : ℕ → V → Sight 
     pub bytes : new.bytes ≡ counted (old.bytes + length took.bytes)
     pub sights : List Sight
     pub are_sights : AreSights IsSight first items sights
-    pub totals : TotalsAre first sights new.totals
+    pub totals : Kept sights new.totals
 
   -- items were taken up to a cause to stop, at most so many, and what is seen of them is counted
   pub record TellsItems (before now : Option (List ℕ)) (failed : Bool) (most : ℕ) (old new : Progress) (fault : Option PcapError) : Type 0 where
@@ -48,4 +55,4 @@ module _ {S V : Type 0} (f : Format S V) (q : S) (IsSight : ℕ → V → Sight 
     pub bytes : new.bytes ≡ counted (old.bytes + length run.took.bytes)
     pub sights : List Sight
     pub are_sights : AreSights IsSight first items sights
-    pub totals : TotalsAre first sights new.totals
+    pub totals : Kept sights new.totals

@@ -64,6 +64,18 @@ pub record TotalsAre (first : ℕ) (sights : List Sight) (totals : Totals) : Typ
   pub refused : totals.refused ≡ counted (count_by is_refused sights)
   pub sections : totals.sections ≡ counted (count_by is_section sights)
 
+-- what is counted of packets that all came by one interface, before it is counted by that interface
+pub record AllAre (sights : List Sight) (totals : Totals) : Type 0 where
+  pub all : Tallies (packets_of sights) totals.all
+  pub undescribed : Tallies [] totals.undescribed
+  pub described : length totals.interfaces.items ≡ 1
+  pub refused : totals.refused ≡ 0
+  pub sections : totals.sections ≡ 0
+
+-- one packet more
+abbrev pub AddsAlone : Seen → Totals → Totals → Type 0
+AddsAlone seen old new = (sights : List Sight) → AllAre sights old → AllAre (sights ++ Packet seen ∷ []) new
+
 -- one item more, of which this is seen
 abbrev pub Adds : Sight → Totals → Totals → Type 0
 Adds sight old new = (first : ℕ) (sights : List Sight) → TotalsAre first sights old → TotalsAre first (sights ++ sight ∷ []) new

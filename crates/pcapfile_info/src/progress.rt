@@ -11,11 +11,10 @@ ghost use Rattle.pcap_blocks.specs.SectionHeader.{section_of};
 ghost use Rattle.pcap_file.specs.Blocks.{block_format};
 ghost use Rattle.pcap_file.specs.Reader as ng;
 ghost use Rattle.pcapfile_run.specs.Passing.{counted};
-ghost use Rattle.pcapfile_info.specs.declared.seen.Sight.TheVariants.{Packet};
 ghost use Rattle.pcapfile_info.specs.Describing.{AddsDescribed, DescribesBlocks, LacksMemory, SameDescribed, last_description, told_of};
 ghost use Rattle.pcapfile_info.specs.Sights.{IsBlockSight, IsPacketSight};
-ghost use Rattle.pcapfile_info.specs.Telling.{AddsItem, AddsNothing, SameCounts, TellsItems};
-ghost use Rattle.pcapfile_info.specs.Totals.{IsBelow, IsWithin, TotalsAre};
+ghost use Rattle.pcapfile_info.specs.Telling.{AddsItem, AddsNothing, AddsPacketAlone, SameCounts, TellsItems};
+ghost use Rattle.pcapfile_info.specs.Totals.{AllAre, IsWithin, TotalsAre};
 
 use crate::blocks::sight_of_block;
 use crate::described::{Described, describe_last, push_comments};
@@ -43,14 +42,13 @@ pub(crate) struct Progress {
 }
 
 impl Progress {
-    // One item more, of so many bytes, of which this packet is seen.
-    fn add_packet(&mut self, seen: Seen, bytes: u64)
+    // One packet more, of so many bytes, which is counted among all alone.
+    fn add_packet_alone(&mut self, seen: Seen, bytes: u64)
         requires few { self.old.items + 1 < 2 ^ 64 }
-        requires within { IsBelow (length self.old.totals.interfaces.items) seen.interface }
-        ensures adds { AddsItem (Packet seen) bytes self.old self.new }
+        ensures adds { AddsPacketAlone seen bytes self.old self.new }
         ensures same { SameDescribed self.old self.new }
     {
-        self.totals.add_packet(seen);
+        self.totals.all.add(seen);
         self.items += 1;
         self.bytes = self.bytes.saturating_add(bytes);
     }
@@ -113,6 +111,33 @@ impl Progress {
     }
 }
 
+// Passes the packets of a reader, which are counted among all alone, and gives what refuses the next one.
+fn pass_packets<T: Read + Drop>(
+    reader: &mut PcapReader<T>,
+    progress: &mut Progress,
+) -> Option<PcapError>
+    requires ready { is_done reader.old ≡ false }
+    requires unfailed { has_failed reader.old ≡ false }
+    requires few { progress.old.items < 2 }
+    requires room { progress.old.bytes < 2 ^ 64 }
+    requires nothing { AllAre [] progress.old.totals }
+    ensures header { reader.new.header ≡ reader.old.header }
+    ensures same { SameDescribed progress.old progress.new }
+    ensures tells { TellsItems (reader_format packet_limit reader.old.header) tt IsPacketSight 1 AllAre (T.remaining (stream_of reader.old)) (T.remaining (stream_of reader.new)) (has_failed reader.new) 18446744073709551614 progress.old progress.new result }
+{
+    for turn in 0..MOST {
+        match reader.next_header() {
+            None => return None,
+            Some(Ok(header)) => {
+                let seen = seen_of(header, reader.data());
+                progress.add_packet_alone(seen, 16 + u64::from(header.incl_len));
+            }
+            Some(Err(error)) => return Some(error),
+        }
+    }
+    None
+}
+
 /// Passes the packets of a reader, and gives what refuses the next one.
 pub(crate) fn tell_packets<T: Read + Drop>(
     reader: &mut PcapReader<T>,
@@ -125,19 +150,11 @@ pub(crate) fn tell_packets<T: Read + Drop>(
     requires nothing { TotalsAre 1 [] progress.old.totals }
     ensures header { reader.new.header ≡ reader.old.header }
     ensures same { SameDescribed progress.old progress.new }
-    ensures tells { TellsItems (reader_format packet_limit reader.old.header) tt IsPacketSight 1 (T.remaining (stream_of reader.old)) (T.remaining (stream_of reader.new)) (has_failed reader.new) 18446744073709551614 progress.old progress.new result }
+    ensures tells { TellsItems (reader_format packet_limit reader.old.header) tt IsPacketSight 1 (TotalsAre 1) (T.remaining (stream_of reader.old)) (T.remaining (stream_of reader.new)) (has_failed reader.new) 18446744073709551614 progress.old progress.new result }
 {
-    for turn in 0..MOST {
-        match reader.next_header() {
-            None => return None,
-            Some(Ok(header)) => {
-                let seen = seen_of(header, reader.data());
-                progress.add_packet(seen, 16 + u64::from(header.incl_len));
-            }
-            Some(Err(error)) => return Some(error),
-        }
-    }
-    None
+    let fault = pass_packets(reader, progress);
+    progress.totals.give_to_the_interface();
+    fault
 }
 
 // Counts the block that a reader lends.
@@ -172,7 +189,7 @@ pub(crate) fn tell_blocks<T: Read + Drop>(
     requires nothing { TotalsAre 0 [] progress.old.totals }
     requires first { progress.old.section ≡ 1 }
     requires described { DescribesBlocks (ng.state_of reader.old) [] progress.old.described.items progress.old.comments.items }
-    ensures { (told : TellsItems block_format (ng.state_of reader.old) IsBlockSight 0 (T.remaining (ng.stream_of reader.old)) (T.remaining (ng.stream_of reader.new)) (ng.has_failed reader.new) 18446744073709551614 progress.old progress.new result) × (LacksMemory result ⊎ DescribesBlocks (ng.state_of reader.old) told.items progress.new.described.items progress.new.comments.items) }
+    ensures { (told : TellsItems block_format (ng.state_of reader.old) IsBlockSight 0 (TotalsAre 0) (T.remaining (ng.stream_of reader.old)) (T.remaining (ng.stream_of reader.new)) (ng.has_failed reader.new) 18446744073709551614 progress.old progress.new result) × (LacksMemory result ⊎ DescribesBlocks (ng.state_of reader.old) told.items progress.new.described.items progress.new.comments.items) }
 {
     for turn in 0..MOST {
         match reader.next_header() {

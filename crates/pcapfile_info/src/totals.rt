@@ -1,8 +1,11 @@
 //! What is counted of the items of a capture.
 
-ghost use Rattle.std.specs.Prelude.{[], IfOk, MatchResult, length};
+ghost use Rattle.std.specs.Prelude.{◌≡◌, List, [], IfOk, MatchResult, length};
+ghost use Rattle.pcap_classic.specs.PacketText.{Captured};
 ghost use Rattle.pcapfile_info.specs.declared.seen.Sight.TheVariants.{Packet};
-ghost use Rattle.pcapfile_info.specs.Totals.{Adds, IsBelow, IsWithin, Stay, TotalsAre};
+ghost use Rattle.pcapfile_info.specs.Sights.{IsPacketSight};
+ghost use Rattle.pcapfile_info.specs.Telling.{AreSights};
+ghost use Rattle.pcapfile_info.specs.Totals.{Adds, AllAre, IsBelow, IsWithin, Stay, TotalsAre};
 
 use crate::seen::{Seen, Sight};
 use crate::tally::Tally;
@@ -56,6 +59,14 @@ impl Totals {
             None => self.undescribed.add(seen),
             Some(index) => self.interfaces[index].add(seen),
         }
+    }
+
+    /// Gives what is counted of all packets to the one interface by which they came.
+    pub(crate) fn give_to_the_interface(&mut self)
+        requires { length self.old.interfaces.items ≡ 1 }
+        ensures { (packets : List Captured) (sights : List Sight) → AreSights IsPacketSight 1 packets sights → AllAre sights self.old → TotalsAre 1 sights self.new }
+    {
+        self.interfaces[0] = self.all;
     }
 
     /// One item more, of which this is seen. An `Err` leaves what they are of as it was.

@@ -1,0 +1,82 @@
+-- Packets that all came by one interface.
+use Rattle.std.proofs.Common.{◌≡◌, ◌<◌, ◌+◌, ◌++◌, ◌∷◌, [], ℕ, List, length, set, inl, inr, refl, sym, ap, ◌∙◌, subst, arith, length-append}
+use Rattle.std.specs.Prelude.{All, count_by, filter, sum_by}
+use Rattle.std.specs.List.{slice_index_or}
+use Rattle.std.proofs.lemmas.List.{get_or-set_same, length-set}
+use Rattle.std.proofs.lemmas.List.Elements.{All-nil, All-cons, filter_map-append}
+use Rattle.std.proofs.lemmas.List.Sums.{sum_by-cons}
+use Rattle.pcap_classic.specs.PacketText.{Captured}
+use Rattle.pcapfile_run.specs.Passing.{counted}
+use Rattle.pcapfile_info.specs.declared.seen.Seen.{Seen}
+use Rattle.pcapfile_info.specs.declared.seen.Sight.{Sight}
+use Rattle.pcapfile_info.specs.declared.seen.Sight.TheVariants.{Packet}
+use Rattle.pcapfile_info.specs.declared.tally.Tally.{Tally}
+use Rattle.pcapfile_info.specs.declared.totals.Totals.{Totals}
+use Rattle.pcapfile_info.specs.Sights.{IsPacketSight, captured_seen}
+use Rattle.pcapfile_info.specs.Tallies.{Tallies}
+use Rattle.pcapfile_info.specs.Telling.{AreSights}
+use Rattle.pcapfile_info.specs.Totals.{AllAre, TotalsAre, IsBelow, packet_in, packets_of, interfaces_in, is_refused, is_section, is_by, is_undescribed}
+
+-- none of what is seen is anything else than a packet by interface 0
+record ByOne (sights : List Sight) : Type 0 where
+  undescribed : filter is_undescribed (packets_of sights) ≡ []
+  by_it : filter (is_by 0) (packets_of sights) ≡ packets_of sights
+  no_interface : sum_by interfaces_in sights ≡ 0
+  no_refused : count_by is_refused sights ≡ 0
+  no_section : count_by is_section sights ≡ 0
+  below : All (λ packet. IsBelow 1 packet.interface) (packets_of sights)
+
+by_one_more : (packet : Captured) (sights : List Sight) → ByOne sights → ByOne (Packet (captured_seen packet) ∷ sights)
+by_one_more packet sights others = record {
+  undescribed = others.undescribed;
+  by_it = ap (λ (l : List Seen). captured_seen packet ∷ l) others.by_it;
+  no_interface = others.no_interface;
+  no_refused = others.no_refused;
+  no_section = others.no_section;
+  below = All-cons (λ it. IsBelow 1 it.interface) (captured_seen packet) (packets_of sights) (omega arith) others.below;
+}
+
+by_one : (n : ℕ) (packets : List Captured) (sights : List Sight) → AreSights IsPacketSight n packets sights → ByOne sights
+by_one n [] [] are = record { undescribed = refl; by_it = refl; no_interface = refl; no_refused = refl; no_section = refl; below = All-nil (λ it. IsBelow 1 it.interface) }
+by_one n [] (sight ∷ sights) are = absurd are
+by_one n (packet ∷ packets) [] are = absurd are
+by_one n (packet ∷ packets) (sight ∷ sights) (first, are) = subst (λ (s : Sight). ByOne (s ∷ sights)) (sym first) (by_one_more packet sights (by_one (n + interfaces_in sight) packets sights are))
+
+-- nothing is counted of no packet
+pub alone_none : (totals : Totals) → TotalsAre 1 [] totals → AllAre [] totals
+alone_none totals nothing = record {
+  all = nothing.all;
+  undescribed = nothing.undescribed;
+  described = nothing.described;
+  refused = nothing.refused;
+  sections = nothing.sections;
+}
+
+-- one packet more
+pub alone_push : (sights : List Sight) (seen : Seen) (old new : Totals) → AllAre sights old → Tallies (packets_of sights ++ seen ∷ []) new.all → new.undescribed ≡ old.undescribed → new.interfaces ≡ old.interfaces → new.refused ≡ old.refused
+    → new.sections ≡ old.sections → AllAre (sights ++ Packet seen ∷ []) new
+alone_push sights seen old new before all undescribed interfaces refused sections = record {
+  all = rw (filter_map-append packet_in sights (Packet seen ∷ [])) all;
+  undescribed = rw undescribed before.undescribed;
+  described = rw interfaces before.described;
+  refused = refused ∙ before.refused;
+  sections = sections ∙ before.sections;
+}
+
+-- what is counted of all is what is counted by the interface
+pub given_to_it : (packets : List Captured) (sights : List Sight) → AreSights IsPacketSight 1 packets sights → (old new : Totals) → AllAre sights old → new.all ≡ old.all → new.undescribed ≡ old.undescribed
+    → new.interfaces.items ≡ set old.interfaces.items 0 old.all → new.refused ≡ old.refused → new.sections ≡ old.sections → TotalsAre 1 sights new
+given_to_it packets sights are old new before all undescribed interfaces refused sections =
+    let one = by_one 1 packets sights are in
+    let long : length new.interfaces.items ≡ 1 = ap length interfaces ∙ length-set old.interfaces.items 0 old.all ∙ before.described in
+    record {
+      all = rw all before.all;
+      undescribed = rw (one.undescribed, undescribed) before.undescribed;
+      described = omega (arith, long, one.no_interface);
+      by_interface = λ index d less.
+          let first : index ≡ 0 = omega (arith, less, long) in
+          rw (first, one.by_it, interfaces, get_or-set_same old.interfaces.items 0 old.all d (omega (arith, before.described))) before.all;
+      within = rw long one.below;
+      refused = refused ∙ before.refused ∙ ap counted (sym one.no_refused);
+      sections = sections ∙ before.sections ∙ ap counted (sym one.no_section);
+    }
