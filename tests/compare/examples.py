@@ -11,9 +11,8 @@ import tempfile
 
 TOP = os.path.dirname(os.path.dirname(os.path.dirname(os.path.abspath(__file__))))
 TOOLS = ("tcpdump", "tshark", "capinfos", "editcap")
-STARTS = (0, 20, 40, 80, 160, 320, 640, 1280, 2560, 5120)
 SECONDS = 600
-PROGRAMS = ("pcapfile", "example_dissect", "example_feed", "example_replay", "example_statistics")
+PROGRAMS = ("pcapfile", "example_dissect", "example_feed", "example_replay")
 # Where packets begin in a classic capture behind its snaplen, and what is said of packets that are left out of one.
 LINK, LEFT_OUT = 20, re.compile(rb"(\d+) packets have no place there")
 
@@ -75,44 +74,6 @@ def dissect(path):
     return "".join(lines)
 
 
-def chart(sizes):
-    """The rows of the histogram of these sizes."""
-    counts = [0] * len(STARTS)
-    for size in sizes:
-        counts[max(row for row, start in enumerate(STARTS) if start <= size)] += 1
-    most = max(counts)
-    return "".join(f"{start:>6}.. {'#' * (50 * count // most)} {count}\n" for start, count in zip(STARTS, counts))
-
-
-def statistics(path):
-    """The interfaces of tshark's packets, without their numbers."""
-    interfaces = {}
-    is_pcapng = is_pcapng_file(path)
-    rows = fields(path, "frame.section_number", "frame.interface_id", "frame.time_epoch", "frame.len")
-    for section, interface, time, size in rows:
-        if interface or not is_pcapng:
-            interfaces.setdefault((int(section or 1), int(interface or 0)), []).append((time, int(size)))
-    text = ""
-    for _, packets in sorted(interfaces.items()):
-        sizes, times = [size for _, size in packets], [carried(time) for time, _ in packets if time]
-        text += f"interface: {len(sizes)} packets, {sum(sizes)} bytes\n"
-        if times:
-            text += f"from {min(times, key=in_order)}\nto   {max(times, key=in_order)}\n"
-        text += chart(sizes)
-    return text
-
-
-def in_order(time):
-    seconds, nanoseconds = time.split(".")
-    return int(seconds), int(nanoseconds)
-
-
-def shown_interfaces(text):
-    """What example_statistics shows, without the numbers of interfaces, and without those that have no packet."""
-    shown = ["interface: " + part.partition(": ")[2] for part in text.split("interface ")[1:]]
-    return "".join(part for part in shown if not part.startswith("interface: 0 packets"))
-
-
 def is_pcapng_file(path):
     with open(path, "rb") as it:
         return it.read(4) == b"\n\r\r\n"
@@ -154,25 +115,9 @@ def verdict(written, is_accepted, wanted):
     return BEGINNING if not is_accepted and wanted.startswith(written) else DIFFERENT
 
 
-def text_verdict(name, path, wanted, *words, shown=str):
+def text_verdict(name, path, wanted, *words):
     written, is_accepted = run_example(name, path, *words)
-    return verdict(shown(written.decode()), is_accepted, wanted)
-
-
-def counted(path):
-    """How many packets and bytes capinfos counts."""
-    packets, size = output("capinfos", "-T", "-r", "-c", "-d", path).stdout.decode().split("\t")[1:3]
-    return int(packets), int(size)
-
-
-def totals_verdict(path):
-    """Whether the sums of example_statistics are those of capinfos."""
-    written, is_accepted = run_example("example_statistics", path)
-    heads = [line.split() for line in written.decode().splitlines() if line.startswith("interface")]
-    sums = sum(int(head[2]) for head in heads), sum(int(head[4]) for head in heads)
-    if not is_accepted:
-        return BEGINNING
-    return SAME if sums == counted(path) else DIFFERENT
+    return verdict(written.decode(), is_accepted, wanted)
 
 
 def lines_verdict(path):
@@ -198,8 +143,6 @@ def verdicts(path):
         yield "example_replay", text_verdict("example_replay", path, replay(path), "0")
         if link == "ether":
             yield "example_dissect", text_verdict("example_dissect", path, dissect(path))
-    yield "example_statistics", text_verdict("example_statistics", path, statistics(path), shown=shown_interfaces)
-    yield "example_statistics, sums", totals_verdict(path)
 
 
 def compare(files, folder):

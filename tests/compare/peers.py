@@ -4,6 +4,7 @@ Of each capture these have to say the same:
 
 - `check` and capinfos: whether it is whole or cut short, and behind how many packets; of PcapNg the first alone
 - `info` and capinfos: packets, bytes, times, rates, and of each interface its snaplen and its packets
+- `info` and tshark: of each interface of one section its packets, their bytes, lengths by classes, first and last time
 - `list`, `list --utc`, `list --as-is` and tshark: each packet's time, lengths and interface
 - `cut` and editcap: the packets that are left by numbers, by times and in parts of a third of them, as tshark reads them
 - `join` of such parts: the capture's bytes; and by mergecap, which puts them behind each other, the same packets
@@ -13,6 +14,7 @@ Of each capture these have to say the same:
 Where pcapfile refuses a capture, what it tells before has to be a beginning. MEANT has the differences that are meant besides, each
 with its reason, and docs/DIFFERENCES.md has them too. written.py holds `convert` beside editcap.
 """
+import bisect
 import collections
 import concurrent.futures
 import glob
@@ -34,6 +36,8 @@ FIGURES = "-T -r -M -S -c -s -d -u -a -e -x -y -z".split()
 TORN = re.compile(rb"An error occurred after reading (\d+) packets")
 INTERFACE = re.compile(r"Interface #\d+ info:\n(?: +.*\n)*? +Capture length = (\d+)\n(?: +.*\n)*? +Number of packets = (\d+)")
 LONGEST, WRAPS = 262144, Decimal(2**32) / 10**9
+# The least length of each class of `info`.
+LEAST = (0, 20, 40, 80, 160, 320, 640, 1280, 2560, 5120)
 # By how much the difference of two times of this century may be off, as capinfos has them.
 DOUBLE = Decimal(2) ** -21
 MEANT = {
@@ -185,6 +189,8 @@ def info(capture):
         yield "info, average size", SAME if is_near(told["average"], row[7]) else DIFFERENT
         yield "info, times and rates", times_verdict(capture, told, row)
     yield "info, interfaces", interfaces_verdict(capture, told)
+    if told["sections"] < 2 and not told["refused"]:
+        yield "info, by interface", SAME if all(has_figures(capture, *it) for it in told_by_interface(capture, told)) else DIFFERENT
 
 
 def times_verdict(capture, told, row):
@@ -212,6 +218,24 @@ def interfaces_verdict(capture, told):
     if told["sections"] > 1:
         return capture.means("sections") if [it[0] for it in ours] == [it[0] for it in theirs][: len(ours)] else DIFFERENT
     return SAME if ours == theirs else DIFFERENT
+
+
+def told_by_interface(capture, told):
+    """The figures of each interface, with its number."""
+    return enumerate(told["interfaces"] if capture.is_pcapng else [told])
+
+
+def has_figures(capture, number, told):
+    """Whether these are the figures of tshark's packets by the interface of this number."""
+    packets = [it for it in capture.packets if int(it.interface or 0) == number]
+    classes = collections.Counter(bisect.bisect(LEAST, it.wire) - 1 for it in packets)
+    wanted = [len(packets), sum(it.stored for it in packets), sum(it.wire for it in packets), [classes[row] for row in range(len(LEAST))]]
+    if [told["packets"], told["stored"], told["original"], told["sizes"]] != wanted:
+        return False
+    times = [it.time for it in packets if it.time is not None]
+    if not times or any(it.is_carried for it in packets):
+        return bool(times) or told["earliest"] is told["latest"] is None
+    return [Decimal(told["earliest"]), Decimal(told["latest"])] == [min(times), max(times)]
 
 
 def lines(capture, shown):

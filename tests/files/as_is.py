@@ -27,10 +27,24 @@ MESSAGES = {
     1906: "InterfaceDescriptionOption: IfTsResol length != 1",
     1909: "InterfaceDescriptionOption: IfFcsLen length != 1",
     1910: "InterfaceDescriptionOption: IfTsOffset length != 8",
+    1911: "EnhancedPacketOption: Flags length != 4",
+    1912: "EnhancedPacketOption: DropCount length != 8",
+    1913: "PacketOption: Flags length != 4",
 }
-SECTION, INTERFACE, ENHANCED = 0x0A0D0D0A, 1, 6
-# of the options of an interface that have one length the rule and that length, by their codes
-LENGTHS = {4: (1901, 8), 8: (1905, 8), 9: (1906, 1), 13: (1909, 1), 14: (1910, 8)}
+SECTION, INTERFACE, OBSOLETE, SIMPLE, ENHANCED = 0x0A0D0D0A, 1, 2, 3, 6
+# the options that are strings, beside comments, by the block's type and their codes
+STRINGS = {(SECTION, 2), (SECTION, 4), (INTERFACE, 2)}
+# of the options that have one length the rule and that length, by the block's type and their codes
+LENGTHS = {
+    (INTERFACE, 4): (1901, 8),
+    (INTERFACE, 8): (1905, 8),
+    (INTERFACE, 9): (1906, 1),
+    (INTERFACE, 13): (1909, 1),
+    (INTERFACE, 14): (1910, 8),
+    (OBSOLETE, 2): (1913, 4),
+    (ENHANCED, 2): (1911, 4),
+    (ENHANCED, 4): (1912, 8),
+}
 
 
 class Packet:
@@ -85,29 +99,37 @@ def checked(name, capture):
 
 
 def option_flaw(number, code, value):
-    """What is wrong with the value of an option of a section or an interface, of the codes that are drawn here."""
-    if code == 1 or (number, code) == (SECTION, 4):
+    """What is wrong with the value of an option, of the codes that are drawn here."""
+    if code == 2988 and len(value) < 4:
+        return "is too short"
+    if code == 1 or (number, code) in STRINGS:
         return None if value.isascii() else "is not UTF-8"
-    rule, length = LENGTHS.get(code, (None, len(value)))
-    return rule if number == INTERFACE and len(value) != length else None
+    rule, length = LENGTHS.get((number, code), (None, len(value)))
+    return rule if len(value) != length else None
 
 
-def options_flaws(order, number, left):
-    """What is wrong with options: the code of one, or None for the list, and the rule or what is said."""
-    flaws = []
+def options_in(order, left):
+    """Options as codes and values, up to their mark or the end, and the rule by which no next one is found."""
+    options = []
     while left:
         if len(left) < 4:
-            return [*flaws, (None, 17)]
+            return options, 17
         code, length = struct.unpack_from(order + "HH", left)
         if code == 0:
             break
         end = 4 + length + -length % 4
         if end > len(left):
-            return [*flaws, (None, 18)]
-        flaw = option_flaw(number, code, left[4 : 4 + length])
-        flaws += [(code, flaw)] if flaw else []
+            return options, 18
+        options.append((code, left[4 : 4 + length]))
         left = left[end:]
-    return flaws
+    return options, None
+
+
+def options_flaws(order, number, left):
+    """What is wrong with options: the code of one, or None for the list, and the rule or what is said."""
+    options, cut = options_in(order, left)
+    flaws = [(code, option_flaw(number, code, value)) for code, value in options]
+    return [it for it in [*flaws, (None, cut)] if it[1]]
 
 
 def body_flaws(order, number, body):
@@ -172,6 +194,71 @@ def listed(name, capture):
         said = fault if fault == "cut short" else f"Invalid field value: {fault.partition(': ')[2]}"
         said = f"pcapfile: {name}: {said}\n"
     return "".join(lines), said if fault else "", AT_FAULT if fault or any(it.flaws for it in packets) else DONE
+
+
+def packet_in(order, number, body, interfaces):
+    """The packet in a body: its interface, its units, its lengths, or None where it has no room, and what is wrong."""
+    if number == SIMPLE:
+        if len(body) < 4:
+            return None, [15]
+        wire, snaplen = struct.unpack_from(order + "I", body)[0], interfaces[0][0] if interfaces and interfaces[0] else 0
+        return (0, None, min(wire, snaplen or wire, len(body) - 4), wire), []
+    if len(body) < 20:
+        return None, [13]
+    interface = struct.unpack_from(order + ("I" if number == ENHANCED else "H"), body)[0]
+    high, low, stored, wire = struct.unpack_from(order + "IIII", body, 4)
+    end = 20 + stored + -stored % 4
+    if end > len(body):
+        return None, [14]
+    return (interface, high << 32 | low, stored, wire), [flaw for _, flaw in options_flaws(order, number, body[end:])]
+
+
+def interface_in(order, body):
+    """The snaplen, the units in a second and the offset of an interface, or None where it has no room for its head."""
+    if len(body) < 8:
+        return None
+    options, _ = options_in(order, body[8:])
+    units = [value[0] for code, value in options if code == 9 and len(value) == 1] + [6]
+    offsets = [value for code, value in options if code == 14 and len(value) == 8] + [bytes(8)]
+    per = 2 ** (units[0] & 127) if units[0] & 128 else 10 ** units[0]
+    return struct.unpack_from(order + "I", body, 4)[0], per, struct.unpack(order + "q", offsets[0])[0]
+
+
+def shown_time(interfaces, number, units):
+    """The time of so many units by the clock of an interface, or a hyphen."""
+    if units is None or number >= len(interfaces) or not interfaces[number]:
+        return "-"
+    _, per, offset = interfaces[number]
+    seconds, nanoseconds = divmod(offset * BILLION + units * BILLION // per, BILLION)
+    return f"{seconds}.{nanoseconds:09}" if 0 <= seconds < 1 << 64 else "-"
+
+
+def marks(flaws):
+    return "".join(" !utf8" if it == "is not UTF-8" else " !short" if it == "is too short" else f" !{it}" for it in flaws)
+
+
+def listed_blocks(name, capture):
+    """The lines of a list of a capture of blocks, what is said of the capture, and the status."""
+    at, order, interfaces, lines, flawed, said = 0, ">", [], [], False, ""
+    while at < len(capture):
+        block = framed(capture, at, order)
+        if not isinstance(block, tuple):
+            said = block if block == "cut short" else f"Invalid field value: {MESSAGES[block]}"
+            break
+        order, number, body = block
+        at, interfaces = at + len(body) + 12, [] if number == SECTION else interfaces
+        flaws = [flaw for _, flaw in body_flaws(order, number, body)]
+        if number == INTERFACE:
+            interfaces = [*interfaces, interface_in(order, body)]
+        if number in (OBSOLETE, SIMPLE, ENHANCED):
+            packet, flaws = packet_in(order, number, body, interfaces)
+            told = "refused"
+            if packet:
+                interface, units, stored, wire = packet
+                told = f"{shown_time(interfaces, interface, units)} {stored}/{wire} {interface}"
+            lines.append(f"{len(lines) + 1} {told}{marks(flaws)}\n")
+        flawed |= bool(flaws)
+    return "".join(lines), said and f"pcapfile: {name}: {said}\n", AT_FAULT if flawed or said else DONE
 
 
 def mended(packet, unit, data):
@@ -273,10 +360,22 @@ def some_options(draw, order):
     """Options, some of whose values break rules, up to a mark, to the end of the body, or to where no next one is found."""
     options = b""
     for _ in range(draw.randrange(4)):
-        code, size = draw.choice((1, 4, 8, 9, 13, 14, 77)), draw.choice((0, 1, 2, 8, 9))
+        code, size = draw.choice((1, 2, 4, 8, 9, 13, 14, 77)), draw.choice((0, 1, 2, 4, 8, 9))
         value = (b"\xff" if draw.randrange(3) == 0 else b"a") * size
         options += struct.pack(order + "HH", code, size) + value + bytes(-size % 4)
     return options + draw.choice((b"", bytes(4), b"\0\1\0", struct.pack(order + "HH", 1, 200), bytes(4) + b"more"))
+
+
+def some_packet(draw, order):
+    """A block that holds a packet, or has no room for one."""
+    number, size = draw.choice((OBSOLETE, SIMPLE, ENHANCED)), draw.choice((0, 1, 4, 7))
+    if number == SIMPLE:
+        return number, draw.choice((b"", struct.pack(order + "I", draw.choice((0, 3, 9))) + bytes(size)))
+    head = struct.pack(order + ("I" if number == ENHANCED else "HH"), draw.randrange(4), *([] if number == ENHANCED else [7]))
+    time = draw.choice((0, 1700000000123456, 1 << 63, (1 << 64) - 1))
+    head += struct.pack(order + "IIII", time >> 32, time & 0xFFFFFFFF, size, size + draw.randrange(3))
+    whole = head + bytes(size + -size % 4) + some_options(draw, order)
+    return number, whole[: draw.choice((12, 20, len(whole), len(whole), len(whole)))]
 
 
 def some_blocks(draw, help, order):
@@ -285,7 +384,7 @@ def some_blocks(draw, help, order):
     for _ in range(draw.randrange(12)):
         head = draw.choice((struct.pack(order + "HHI", 1, 0, 0), bytes(8), bytes(8), bytes(4), b""))
         interface = INTERFACE, head + (some_options(draw, order) if len(head) == 8 else b"")
-        parts.append(draw.choice((interface, interface, (ENHANCED, bytes(draw.choice((0, 20, 24)))), (99, b"abcd"))))
+        parts.append(draw.choice((interface, some_packet(draw, order), some_packet(draw, order), (99, b"abcd"))))
     return b"".join(help.block(order, *part) for part in parts)
 
 
@@ -306,12 +405,16 @@ def block_captures(help):
 
 
 def try_blocks(tally, help):
-    """Each capture of blocks as a file and through a pipe, where neither a list nor a repaired capture is made."""
+    """Each capture of blocks as a file and through a pipe."""
     for name, capture in block_captures(help):
         with tempfile.TemporaryDirectory() as folder:
             help.put(folder, "in", capture)
             check = ran(tally, folder, "check", "--as-is", "in")
             piped = ran(tally, folder, "check", "--as-is", "-", given=capture)
+            list_ = ran(tally, folder, "list", "--as-is", "in")
+        lines, said, status = listed_blocks("in", capture)
+        wanted = status, lines.encode(), said
+        tally.note(f"list --as-is of {name}", list_ != wanted and f"it gave {str(list_)[-300:]}, and not {str(wanted)[-300:]}")
         for named, ended in (("in", check), ("-", piped)):
             lines, status = checked_blocks(named, capture)
             wanted = status, lines.encode(), ""
@@ -409,10 +512,10 @@ def try_several(tally, help):
         tally.note("repair of blocks", ran(tally, folder, "repair", "blocks", "-o", "out")[:2] != (FAILED, b"") and "it isn't refused")
         worst = [ran(tally, folder, "check", "--as-is", *it)[0] for it in (["flawed", "sound"], ["sound", "flawed"], ["sound", "sound"])]
     lines = checked("flawed", flawed)[0] + checked_blocks("blocks", blocks)[0] + checked("sound", sound)[0]
-    listing = f"flawed:\n{listed('', flawed)[0]}sound:\n{listed('', sound)[0]}"
+    listing = f"flawed:\n{listed('', flawed)[0]}blocks:\nsound:\n{listed('', sound)[0]}"
     for name, ended, wanted in (("check", check, lines), ("list", rows, listing)):
         told = ended[2].splitlines()
-        starts = ["blocks: is PcapNg"] * (name == "list") + ["missing: No such file", "folder: Is a directory"]
+        starts = ["missing: No such file", "folder: Is a directory"]
         said = len(told) == len(starts) and all(line.startswith(f"pcapfile: {it}") for line, it in zip(told, starts))
         tally.note(f"{name} --as-is of several", (ended[:2] != (FAILED, wanted.encode()) or not said) and f"it gave {ended}")
     tally.note("the worst of several", worst != [AT_FAULT, AT_FAULT, DONE] and f"it gave {worst}")

@@ -9,16 +9,46 @@ import tempfile
 import time
 
 MILLION = 10**6
-# Bytes that come at once, and what is said of them behind more than a second: how many million, and fewer of them a second. On a slow
-# machine it may be said before that as well.
+# Bytes that come at once, and what is said of them behind more than a second: how many million, packets, and how many million a second.
+# On a slow machine it may be said before that as well.
 HALF = 12 * MILLION
-SAID = re.compile(r"(?:\d+ MB read, \d+ MB a second\x1b\[K\r)*12 MB read, (\d+) MB a second\x1b\[K\r")
+LINE = r"(\d+)(?: of (\d+))? MB read, (\d+) packets, (\d+) MB a second\x1b\[K\r"
+HEADER = struct.pack("<IHHiIII", 0xA1B23C4D, 2, 4, 0, 0, 262144, 1)
+TAKEN_AWAY = "\x1b[K"
 
 
 def packets(size):
     """So many bytes of packets of 100000 bytes each."""
     text = struct.pack("<IIII", 1, 2, 100000 - 16, 100000) + bytes(100000 - 16)
     return text * (size // len(text))
+
+
+def small_packets(order, count):
+    """So many packets of few bytes, some of which look like heads."""
+    return b"".join(struct.pack(order + "IIII", 1, 2, k % 21, 21) + bytes([k]) * (k % 21) for k in range(count))
+
+
+def block(order, number, body):
+    body += bytes(-len(body) % 4)
+    return struct.pack(order + "II", number, len(body) + 12) + body + struct.pack(order + "I", len(body) + 12)
+
+
+def blocks(order):
+    """A section and an interface with seven packets: three enhanced ones, two simple ones and two of the obsolete kind."""
+    section = block(order, 0x0A0D0D0A, struct.pack(order + "IHHq", 0x1A2B3C4D, 1, 0, -1))
+    parts = [section, block(order, 1, struct.pack(order + "HHI", 1, 0, 0)), block(order, 4, bytes(4))]
+    for k in range(3):
+        parts.append(block(order, 6, struct.pack(order + "IIIII", 0, 0, k, 10 * k, 40) + bytes(10 * k)))
+        if k:
+            parts.append(block(order, 2, struct.pack(order + "HHIIII", 0, 0, 0, k, 5, 40) + b"12345"))
+            parts.append(block(order, 3, struct.pack(order + "I", 4 * k) + bytes(4 * k)))
+        parts.append(block(order, 5, struct.pack(order + "III", 0, 0, k)))
+    return b"".join(parts)
+
+
+def lines(said):
+    """The numbers of each line of what was said, or None where it is something else."""
+    return [it.groups() for it in re.finditer(LINE, said)] if re.fullmatch(f"(?:{LINE})*", said) else None
 
 
 def taken(terminal):
@@ -32,20 +62,22 @@ def taken(terminal):
     return came.decode()
 
 
-def said_by(tally, words, folder, pause, on_terminal=True):
-    """What a word says of a capture of which one half comes, and behind a pause a packet and then the other half; and its status."""
-    header = struct.pack("<IHHiIII", 0xA1B23C4D, 2, 4, 0, 0, 262144, 1)
+def said_by(tally, words, folder, pause, on_terminal=True, first=(HEADER + packets(HALF),), then=packets(100000), last=packets(HALF)):
+    """What a word says of a capture of which these pieces come one by one, and behind a pause one more and then the last one; and its
+    status."""
     ours, theirs = pty.openpty()
     errors = {"stderr": theirs if on_terminal else subprocess.DEVNULL}
     with subprocess.Popen([tally.program, *words], stdin=subprocess.PIPE, stdout=subprocess.DEVNULL, cwd=folder, **errors) as ran:
-        ran.stdin.write(header + packets(HALF))
-        ran.stdin.flush()
+        for piece in first:
+            ran.stdin.write(piece)
+            ran.stdin.flush()
+            time.sleep(0 if len(first) == 1 else 0.001)
         time.sleep(pause)
-        ran.stdin.write(packets(100000))
+        ran.stdin.write(then)
         ran.stdin.flush()
         time.sleep(0.3)
         before = taken(ours)
-        ran.stdin.write(packets(HALF))
+        ran.stdin.write(last)
         ran.stdin.close()
     os.close(theirs)
     behind = taken(ours)
@@ -53,20 +85,79 @@ def said_by(tally, words, folder, pause, on_terminal=True):
     return before, behind, ran.returncode
 
 
-def try_all(tally):
-    words = ["check", "-"], ["info", "-"], ["list", "-"], ["convert", "-", "-o", "out"], ["cut", "-", "-o", "out"], ["join", "-", "-o", "out"]
-    with tempfile.TemporaryDirectory() as folder:
-        for word in words:
-            before, behind, status = said_by(tally, word, folder, 1.3)
-            found = SAID.fullmatch(before)
+def try_words(tally, folder):
+    """Each word says how many bytes and packets it read, and takes the line away."""
+    with open(f"{folder}/whole", "wb") as it:
+        it.write(HEADER + packets(HALF))
+    words = (
+        ["check"], ["check", "--as-is"], ["info"], ["list"], ["list", "--as-is"], ["convert", "-o", "out"], ["cut", "-o", "out"],
+        ["join", "-o", "out"], ["repair", "-o", "out"], ["merge", "-o", "out", "whole"],
+    )
+    for word in words:
+        before, behind, status = said_by(tally, [*word, "-"], folder, 1.3)
+        found, size = lines(before), 24 if "whole" in word else 12
+        tally.note(
+            f"{' '.join(word)}, on a terminal",
+            not (found and found[-1][:3] == (str(size), None, str(10 * size + 1)) and 0 < int(found[-1][3]) < size) and f"it said {before!r}",
+            not behind.endswith(TAKEN_AWAY) and f"it left {behind!r}",
+            status != 0 and f"it ended with {status}",
+        )
+
+
+def try_packets(tally, folder):
+    """Packets of each kind are counted, wherever the bytes are cut, up to where they make no sense."""
+    big = struct.pack(">IHHiIII", 0xA1B2C3D4, 2, 4, 0, 0, 262144, 1)
+    few = small_packets("<", 3)
+    for name, capture, more, count, word in (
+        ("little", HEADER + small_packets("<", 30), small_packets("<", 1), 31, ["check"]),
+        ("big", big + small_packets(">", 30), small_packets(">", 1), 31, ["check"]),
+        ("blocks", blocks("<") + blocks(">") + blocks("<"), block("<", 3, bytes(8)), 22, ["list"]),
+        ("garbage", HEADER + few + b"\xff" * 100 + few, few, 3, ["repair", "-o", "out"]),
+    ):
+        for size in (1, 5, 13, len(capture)):
+            pieces = [capture[at : at + size] for at in range(0, len(capture), size)]
+            before, _, status = said_by(tally, [*word, "-"], folder, 1.3, first=pieces, then=more, last=b"")
+            found = lines(before)
             tally.note(
-                f"{word[0]}, on a terminal",
-                not (found and 0 < int(found[1]) < 12) and f"it said {before!r}",
-                not behind.endswith("\x1b[K") and f"it left {behind!r}",
+                f"packets of {name}, by {size} bytes",
+                not (found and found[-1][2] == str(count)) and f"it said {before!r}, and not of {count}",
                 status != 0 and f"it ended with {status}",
             )
-        for name, more, pause in (("quiet", ["--quiet"], 1.3), ("at once", [], 0)):
-            before, behind, status = said_by(tally, ["check", *more, "-"], folder, pause)
-            tally.note(f"check, {name}", (before, behind, status) != ("", "", 0) and f"it said {before!r}, {behind!r} and ended with {status}")
-        before, behind, status = said_by(tally, ["check", "-"], folder, 1.3, False)
-        tally.note("check, on no terminal", (before, behind, status) != ("", "", 0) and f"it said {before!r}, {behind!r} and ended with {status}")
+
+
+def try_faults(tally, folder):
+    """A line of what is wrong stands alone."""
+    torn = struct.pack("<IIII", 1, 2, 10, 9) + bytes(10)
+    for word in (["list"], ["convert", "-o", "out"], ["cut", "-o", "out"], ["join", "-o", "out"], ["merge", "-o", "out"], ["repair", "-o", "out"]):
+        _, behind, status = said_by(tally, [*word, "-"], folder, 1.3, last=torn)
+        said = behind.rpartition(TAKEN_AWAY)[2]
+        told = said.startswith("pcapfile: -: ") and said.endswith("\r\n") and " MB " not in said
+        wanted = 0 if word[0] == "repair" else 1
+        tally.note(f"{word[0]}, a fault behind it", not (told and TAKEN_AWAY in behind) and f"it said {behind!r}", status != wanted and f"it ended with {status}")
+
+
+def try_all_lengths(tally, folder):
+    """Of several files it is said how many bytes all have."""
+    ours, theirs = pty.openpty()
+    with subprocess.Popen([tally.program, "merge", "whole", "whole", "-o", "-"], stdout=subprocess.PIPE, cwd=folder, stderr=theirs) as ran:
+        time.sleep(1.3)
+        out = ran.stdout.read()
+    os.close(theirs)
+    said = taken(ours)
+    os.close(ours)
+    found = lines(said.removesuffix(TAKEN_AWAY).partition(TAKEN_AWAY + TAKEN_AWAY)[0])
+    known = found and all(it[1] == "24" and int(it[0]) < 25 for it in found)
+    tally.note("merge, of two files", not (known and len(out) > 2 * HALF) and f"it said {said!r}", ran.returncode != 0 and f"it ended with {ran.returncode}")
+
+
+def try_silence(tally, folder):
+    """Nothing is said where nothing is to be."""
+    for name, more, pause, on_terminal in (("quiet", ["--quiet"], 1.3, True), ("at once", [], 0, True), ("on no terminal", [], 1.3, False)):
+        before, behind, status = said_by(tally, ["check", *more, "-"], folder, pause, on_terminal)
+        tally.note(f"check, {name}", (before, behind, status) != ("", "", 0) and f"it said {before!r}, {behind!r} and ended with {status}")
+
+
+def try_all(tally):
+    with tempfile.TemporaryDirectory() as folder:
+        for tries in (try_words, try_packets, try_faults, try_all_lengths, try_silence):
+            tries(tally, folder)

@@ -1,5 +1,5 @@
-"""Whether docs/PCAPFILE.md, docs/PCAPFILE_INFO.md and docs/CAPCOPY.md show what the programs write: each command there is run where
-the captures of crates/pcapfile/data lie, and `capcopy` is the one that is built in this checkout.
+"""Whether docs/PCAPFILE.md, its further pages and docs/CAPCOPY.md show what the programs write: each command there is run where the
+captures of crates/pcapfile/data lie, and `capcopy` is the one that is built in this checkout.
 
 A block of a page is commands, each behind '$ ', with what it writes to standard output and standard error below it.
 """
@@ -9,7 +9,7 @@ import shutil
 import subprocess
 import tempfile
 
-PAGES = ("docs/PCAPFILE.md", "docs/PCAPFILE_INFO.md", "docs/CAPCOPY.md")
+PAGES = ("docs/PCAPFILE.md", "docs/PCAPFILE_INFO.md", "docs/PCAPFILE_REPAIR.md", "docs/CAPCOPY.md")
 BLOCK = re.compile(r"^```console\n(.*?)^```$", re.S | re.M)
 COMMAND = re.compile(r"^\$ (.*)\n((?:(?!\$ ).*\n)*)", re.M)
 

@@ -3,12 +3,13 @@
 ghost use Rattle.std.specs.Prelude.{◌<◌, ◌^◌};
 
 use crate::FAILED;
-use crate::input::{Stream, buffered, open_stream};
+use crate::console::Console;
+use crate::input::{Watched, buffered, open_watched};
 use capcopy_run::{Exit, Uninterrupted};
 use pcap_file::{PcapError, PcapParser};
 use pcap_tolerant::ReaderAsIs;
 use pcap_tolerant_captures::PcapNgReaderAsIs;
-use pcapfile_as_is::{BlockFlawLines, Counted, Teller, tell_blocks, tell_packets};
+use pcapfile_as_is::{BlockTeller, Counted, Teller, tell_blocks, tell_packets};
 use pcapfile_cut::Opening;
 use pcapfile_run::{Format, format_of};
 use std::alloc::Global;
@@ -18,11 +19,14 @@ use std::io::{BufReader, Read, Write};
 /// The longest packet that is read as it stands, in bytes.
 pub(crate) const LIMIT: u32 = 16_777_216;
 
+/// The most packets or blocks that are told.
+pub(crate) const MOST: u64 = 18_446_744_073_709_551_614;
+
 /// How many bytes the header of a capture has.
 const HEADER: u64 = 24;
 
 /// A capture, off a buffer.
-pub(crate) type Input = BufReader<Uninterrupted<Stream>>;
+pub(crate) type Input = BufReader<Uninterrupted<Watched>>;
 
 /// What was told of a capture.
 #[derive(Drop)]
@@ -64,24 +68,24 @@ impl Told {
 }
 
 /// Opens the capture of a name, and finds its format.
-pub(crate) fn open_capture(rt: &HostRuntime, name: &str) -> io::Result<(Format, Input)> {
-    let mut input = buffered(rt.alloc(), open_stream(rt, name)?)?;
+pub(crate) fn open_capture(console: &Console, name: &str) -> io::Result<(Format, Input)> {
+    let mut input = buffered(console.alloc(), open_watched(console, name)?)?;
     let format = format_of(&mut input)?;
     Ok((format, input))
 }
 
 /// Opens the classic capture of a name. None where it is one of blocks.
-pub(crate) fn open_packets(rt: &HostRuntime, name: &str) -> io::Result<Option<Input>> {
-    let (format, input) = open_capture(rt, name)?;
+pub(crate) fn open_packets(console: &Console, name: &str) -> io::Result<Option<Input>> {
+    let (format, input) = open_capture(console, name)?;
     Ok(match format {
         Format::Pcap => Some(input),
         Format::PcapNg => None,
     })
 }
 
-/// Says that of a capture of blocks neither a list nor another capture is made as it stands, and gives the status.
-pub(crate) fn refuse_blocks(rt: &HostRuntime, name: &str) -> io::Result<u8> {
-    eprintln!(rt; "pcapfile: {name}: is PcapNg, which check alone reads as it stands yet")?;
+/// Says that of a capture of blocks no other one is made as it stands, and gives the status.
+pub(crate) fn refuse_blocks(console: &Console, name: &str) -> io::Result<u8> {
+    eprintln!(console.for_line(); "pcapfile: {name}: is PcapNg, which is not repaired yet")?;
     Ok(FAILED)
 }
 
@@ -119,23 +123,23 @@ pub(crate) fn tell_capture<P: Teller, R: Read + Drop, W: Write>(
         flawed: 0,
         bytes: HEADER,
     };
-    told.fault = tell_packets(alloc, teller, &mut reader, output, &mut counted)?;
+    told.fault = tell_packets(alloc, teller, &mut reader, output, MOST, &mut counted)?;
     told.counted = counted;
     told.read_failed = reader.failed();
     Ok(told)
 }
 
-/// Tells each flaw of the blocks of a capture, and what refuses the next block.
-pub(crate) fn tell_blocks_of<R: Read + Drop, W: Write>(
+/// Tells each block of a capture, and what refuses the next one. The errors are those of the teller.
+pub(crate) fn tell_blocks_of<P: BlockTeller, R: Read + Drop, W: Write>(
     alloc: Global,
-    lines: &BlockFlawLines<'_>,
+    teller: &mut P,
     input: R,
     output: &mut W,
 ) -> Result<Told, Exit> {
     let mut told = Told::nothing();
     let mut reader = PcapNgReaderAsIs::new(alloc, input);
     let mut counted = told.counts();
-    told.fault = tell_blocks(alloc, lines, &mut reader, output, &mut counted)?;
+    told.fault = tell_blocks(alloc, teller, &mut reader, output, MOST, &mut counted)?;
     told.counted = counted;
     told.read_failed = reader.failed();
     Ok(told)

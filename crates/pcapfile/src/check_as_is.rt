@@ -1,8 +1,9 @@
 //! The word `check` of captures as they stand.
 
-use crate::as_is::{Input, Told, open_capture, tell_blocks_of, tell_capture};
+use crate::as_is::{Input, MOST, Told, open_capture, tell_blocks_of, tell_capture};
+use crate::console::Console;
 use crate::output::OUTPUT;
-use crate::tell::{AT_FAULT, tell_exit, tell_io};
+use crate::tell::{AT_FAULT, tell_io, tell_unwritten};
 use capcopy_run::{Exit, Uninterrupted};
 use pcapfile_as_is::{BlockFlawLines, FlawLines};
 use pcapfile_run::{Checked, End, Format, end_of};
@@ -10,28 +11,25 @@ use std::alloc::Global;
 use std::io;
 use std::io::{BufWriter, Write};
 
-/// The most packets or blocks that are told.
-const MOST: u64 = 18_446_744_073_709_551_614;
-
 /// Writes a line for each flaw of a packet or block and one for each capture, and gives the status: that of the worst of them.
-pub(crate) fn check_files_as_is(rt: &HostRuntime, names: &[&str]) -> io::Result<u8> {
-    let stdout = Uninterrupted::new(rt.stdout());
-    let mut output = BufWriter::with_capacity(rt.alloc(), OUTPUT, stdout)?;
+pub(crate) fn check_files_as_is(console: &Console, names: &[&str]) -> io::Result<u8> {
+    let stdout = Uninterrupted::new(console.rt().stdout());
+    let mut output = BufWriter::with_capacity(console.alloc(), OUTPUT, stdout)?;
     let mut status = 0;
     for name in names {
-        status = check_file(rt, name, &mut output)?.max(status);
+        status = check_file(console, name, &mut output)?.max(status);
     }
     Ok(status)
 }
 
-fn check_file<W: Write>(rt: &HostRuntime, name: &str, output: &mut W) -> io::Result<u8> {
-    let (format, input) = match open_capture(rt, name) {
+fn check_file<W: Write>(console: &Console, name: &str, output: &mut W) -> io::Result<u8> {
+    let (format, input) = match open_capture(console, name) {
         Ok(opened) => opened,
-        Err(error) => return tell_io(rt, name, &error),
+        Err(error) => return tell_io(console, name, &error),
     };
-    let prefix = format!(in rt.alloc(); "{name}: ")?;
-    let told = tell_flaws(rt.alloc(), format, prefix.as_str(), input, output);
-    tell_checked(rt, name, format, told, output)
+    let prefix = format!(in console.alloc(); "{name}: ")?;
+    let told = tell_flaws(console.alloc(), format, prefix.as_str(), input, output);
+    tell_checked(console, name, format, told, output)
 }
 
 // Writes the lines of the flaws of a capture of this format.
@@ -44,13 +42,13 @@ fn tell_flaws<W: Write>(
 ) -> Result<Told, Exit> {
     match format {
         Format::Pcap => tell_capture(alloc, &mut FlawLines { prefix }, input, output),
-        Format::PcapNg => tell_blocks_of(alloc, &BlockFlawLines { prefix }, input, output),
+        Format::PcapNg => tell_blocks_of(alloc, &mut BlockFlawLines { prefix }, input, output),
     }
 }
 
-// Writes the line of a capture, and gives its status. One that can't be read has its line on standard error.
+// Writes the line of a capture, and gives its status. One that can't be read, or not be held, has it on standard error.
 fn tell_checked<W: Write>(
-    rt: &HostRuntime,
+    console: &Console,
     name: &str,
     format: Format,
     told: Result<Told, Exit>,
@@ -60,18 +58,18 @@ fn tell_checked<W: Write>(
         Ok(told) => told,
         Err(exit) => {
             output.flush()?;
-            return tell_exit(rt, name, &exit);
+            return tell_unwritten(console, name, exit);
         }
     };
     let flawed = told.counted.flawed;
     let checked = checked_of(format, told);
-    let is_read = !matches!(&checked.end, End::Unread(_));
-    if is_read {
+    let is_told = !matches!(&checked.end, End::Unread(_) | End::Memory);
+    if is_told {
         writeln!(output, "{name}: {checked}; {flawed} with flaws")?;
     }
     output.flush()?;
-    if !is_read {
-        eprintln!(rt; "pcapfile: {name}: {checked}; {flawed} with flaws")?;
+    if !is_told {
+        eprintln!(console.for_line(); "pcapfile: {name}: {checked}; {flawed} with flaws")?;
     }
     let status = if flawed > 0 { AT_FAULT } else { 0 };
     Ok(checked.status().max(status))

@@ -1,5 +1,6 @@
 //! The word `convert`.
 
+use crate::console::Console;
 use crate::input::{STANDARD, buffered, open_watched};
 use crate::output::{OUTPUT, Unfinished, tell_read};
 use crate::tell::{tell_error, tell_io};
@@ -30,8 +31,6 @@ pub(crate) struct Conversion<'a> {
     pub(crate) to: Option<Format>,
     /// The name of the other one.
     pub(crate) out: &'a str,
-    /// Whether it isn't said how far it is.
-    pub(crate) is_quiet: bool,
 }
 
 /// The blocks before the first interface.
@@ -70,65 +69,69 @@ impl Ended {
 
 /// Converts a capture, and gives the status. A file is written under another name in the same folder, and has its own once all
 /// of it is there.
-pub(crate) fn convert_file(rt: &HostRuntime, asked: &Conversion) -> io::Result<u8> {
+pub(crate) fn convert_file(console: &Console, asked: &Conversion) -> io::Result<u8> {
     if asked.out == STANDARD {
-        let ended = open_and_convert(rt, asked, Uninterrupted::new(rt.stdout()));
-        return tell_ended(rt, asked, &ended);
+        let ended = open_and_convert(console, asked, Uninterrupted::new(console.rt().stdout()));
+        return tell_ended(console, asked, &ended);
     }
     if asked.out == asked.from {
-        return tell_read(rt, asked.out);
+        return tell_read(console, asked.out);
     }
-    let unfinished = Unfinished::new(rt, asked.out)?;
-    let file = match unfinished.create(rt) {
+    let unfinished = Unfinished::new(console, asked.out)?;
+    let file = match unfinished.create(console) {
         Ok(file) => file,
-        Err(error) => return tell_io(rt, unfinished.part(), &error),
+        Err(error) => return tell_io(console, unfinished.part(), &error),
     };
-    let ended = open_and_convert(rt, asked, Uninterrupted::new(file));
-    let told = tell_ended(rt, asked, &ended);
-    unfinished.finish(rt, told)
+    let ended = open_and_convert(console, asked, Uninterrupted::new(file));
+    let told = tell_ended(console, asked, &ended);
+    unfinished.finish(console, told)
 }
 
-fn tell_ended(rt: &HostRuntime, asked: &Conversion, ended: &io::Result<Ended>) -> io::Result<u8> {
+fn tell_ended(console: &Console, asked: &Conversion, ended: &io::Result<Ended>) -> io::Result<u8> {
     let ended = match ended {
         Ok(ended) => ended,
-        Err(error) => return tell_io(rt, asked.from, error),
+        Err(error) => return tell_io(console, asked.from, error),
     };
     let from = asked.from;
     let (packets, blocks) = (ended.left_out, ended.others);
     if packets > 0 {
-        eprintln!(rt; "pcapfile: {from}: {packets} packets have no place there, and are left out")?;
+        eprintln!(console.for_line();
+            "pcapfile: {from}: {packets} packets have no place there, and are left out"
+        )?;
     }
     if blocks > 0 {
-        eprintln!(rt; "pcapfile: {from}: {blocks} blocks without a packet are left out")?;
+        eprintln!(console.for_line();
+            "pcapfile: {from}: {blocks} blocks without a packet are left out"
+        )?;
     }
     match &ended.fault {
         None => Ok(0),
-        Some(error) if ended.write_failed => tell_error(rt, asked.out, error),
-        Some(error) => tell_error(rt, from, error),
+        Some(error) if ended.write_failed => tell_error(console, asked.out, error),
+        Some(error) => tell_error(console, from, error),
     }
 }
 
 fn open_and_convert<W: Write + Drop>(
-    rt: &HostRuntime,
+    console: &Console,
     asked: &Conversion,
     output: W,
 ) -> io::Result<Ended> {
-    let stream = open_watched(rt, asked.from, asked.is_quiet)?;
-    convert_stream(rt, stream, asked.to, output)
+    let stream = open_watched(console, asked.from)?;
+    convert_stream(console, stream, asked.to, output)
 }
 
 fn convert_stream<R: Read + Drop, W: Write + Drop>(
-    rt: &HostRuntime,
+    console: &Console,
     stream: R,
     to: Option<Format>,
     output: W,
 ) -> io::Result<Ended> {
-    let mut input = buffered(rt.alloc(), stream)?;
-    let output = BufWriter::with_capacity(rt.alloc(), OUTPUT, output)?;
+    let mut input = buffered(console.alloc(), stream)?;
+    let output = BufWriter::with_capacity(console.alloc(), OUTPUT, output)?;
     let from = format_of(&mut input)?;
     Ok(match to.unwrap_or(other(from)) {
-        Format::Pcap => convert_to_packets(rt.alloc(), from, input, output),
-        Format::PcapNg => convert_to_blocks(rt.alloc(), from, input, output),
+        Format::Pcap => convert_to_packets(console.alloc(), from, input, output),
+        Format::PcapNg => convert_to_blocks(console.alloc(), from, input, output),
     })
 }
 

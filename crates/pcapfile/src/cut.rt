@@ -2,6 +2,7 @@
 
 use crate::USAGE;
 use crate::blocks::Blocks;
+use crate::console::Console;
 use crate::input::{STANDARD, buffered, open_watched};
 use crate::output::{OUTPUT, Unfinished, tell_read};
 use crate::source::{Packets, Source, flushed};
@@ -23,8 +24,6 @@ pub(crate) struct Cutting<'a> {
     pub(crate) out: &'a str,
     /// How it is cut.
     pub(crate) way: Way,
-    /// Whether it isn't said how far it is.
-    pub(crate) is_quiet: bool,
 }
 
 /// How a capture is cut.
@@ -79,44 +78,44 @@ fn next_share(place: Place, parts: u64) -> Wanted {
 }
 
 /// Cuts a capture, and gives the status.
-pub(crate) fn cut_file(rt: &HostRuntime, asked: &Cutting) -> io::Result<u8> {
+pub(crate) fn cut_file(console: &Console, asked: &Cutting) -> io::Result<u8> {
     if asked.from == STANDARD {
         if let Way::Parts(_) = asked.way {
-            eprintln!(rt; "error: --parts asks for a file, whose length is known")?;
+            eprintln!(console.for_line(); "error: --parts asks for a file, whose length is known")?;
             return Ok(USAGE);
         }
     }
-    match open_watched(rt, asked.from, asked.is_quiet) {
+    match open_watched(console, asked.from) {
         Ok(stream) => {
             let length = stream.length().unwrap_or_default();
-            cut_stream(rt, asked, stream, length)
+            cut_stream(console, asked, stream, length)
         }
-        Err(error) => tell_io(rt, asked.from, &error),
+        Err(error) => tell_io(console, asked.from, &error),
     }
 }
 
 fn cut_stream<R: Read + Drop>(
-    rt: &HostRuntime,
+    console: &Console,
     asked: &Cutting,
     stream: R,
     length: u64,
 ) -> io::Result<u8> {
-    let mut input = buffered(rt.alloc(), stream)?;
+    let mut input = buffered(console.alloc(), stream)?;
     match format_of(&mut input) {
-        Err(error) => tell_io(rt, asked.from, &error),
+        Err(error) => tell_io(console, asked.from, &error),
         Ok(Format::Pcap) => match Packets::new(input) {
-            Ok(mut packets) => cut_source(rt, asked, &mut packets, length),
-            Err(error) => tell_error(rt, asked.from, &error),
+            Ok(mut packets) => cut_source(console, asked, &mut packets, length),
+            Err(error) => tell_error(console, asked.from, &error),
         },
-        Ok(Format::PcapNg) => match Blocks::new(rt.alloc(), input) {
-            Ok(mut blocks) => cut_source(rt, asked, &mut blocks, length),
-            Err(error) => tell_error(rt, asked.from, &error),
+        Ok(Format::PcapNg) => match Blocks::new(console.alloc(), input) {
+            Ok(mut blocks) => cut_source(console, asked, &mut blocks, length),
+            Err(error) => tell_error(console, asked.from, &error),
         },
     }
 }
 
 fn cut_source<S: Source>(
-    rt: &HostRuntime,
+    console: &Console,
     asked: &Cutting,
     source: &mut S,
     length: u64,
@@ -128,18 +127,18 @@ fn cut_source<S: Source>(
         length: length.saturating_sub(opening),
     };
     if !asked.way.is_many() {
-        return write_part(rt, asked, asked.out, source, &mut place);
+        return write_part(console, asked, asked.out, source, &mut place);
     }
     for number in 1..u64::MAX {
-        let name = part_name(rt.alloc(), asked.out, number)?;
-        let status = write_part(rt, asked, name.as_str(), source, &mut place)?;
+        let name = part_name(console.alloc(), asked.out, number)?;
+        let status = write_part(console, asked, name.as_str(), source, &mut place)?;
         if status != 0 {
             return Ok(status);
         }
         match source.is_at_end() {
             Ok(true) => break,
             Ok(false) => {}
-            Err(error) => return tell_io(rt, asked.from, &error),
+            Err(error) => return tell_io(console, asked.from, &error),
         }
     }
     Ok(0)
@@ -165,31 +164,31 @@ fn part_name(alloc: Global, out: &str, number: u64) -> io::Result<String> {
 
 // Writes one part, and gives the status. The place moves behind what was read.
 fn write_part<S: Source>(
-    rt: &HostRuntime,
+    console: &Console,
     asked: &Cutting,
     name: &str,
     source: &mut S,
     place: &mut Place,
 ) -> io::Result<u8> {
     if name == STANDARD && !asked.way.is_many() {
-        let stdout = Uninterrupted::new(rt.stdout());
-        let written = write_to(rt.alloc(), asked.way, source, *place, stdout);
-        return tell_written(rt, asked, name, *place, &written);
+        let stdout = Uninterrupted::new(console.rt().stdout());
+        let written = write_to(console.alloc(), asked.way, source, *place, stdout);
+        return tell_written(console, asked, name, *place, &written);
     }
     if name == asked.from {
-        return tell_read(rt, name);
+        return tell_read(console, name);
     }
-    let unfinished = Unfinished::new(rt, name)?;
-    let file = match unfinished.create(rt) {
+    let unfinished = Unfinished::new(console, name)?;
+    let file = match unfinished.create(console) {
         Ok(file) => Uninterrupted::new(file),
-        Err(error) => return tell_io(rt, unfinished.part(), &error),
+        Err(error) => return tell_io(console, unfinished.part(), &error),
     };
-    let written = write_to(rt.alloc(), asked.way, source, *place, file);
-    let told = tell_written(rt, asked, name, *place, &written);
+    let written = write_to(console.alloc(), asked.way, source, *place, file);
+    let told = tell_written(console, asked, name, *place, &written);
     if let Ok(outcome) = &written {
         place.passed = place.passed.saturating_add(outcome.bytes);
     }
-    unfinished.finish(rt, told)
+    unfinished.finish(console, told)
 }
 
 fn write_to<S: Source, W: Write + Drop>(
@@ -206,7 +205,7 @@ fn write_to<S: Source, W: Write + Drop>(
 }
 
 fn tell_written(
-    rt: &HostRuntime,
+    console: &Console,
     asked: &Cutting,
     name: &str,
     place: Place,
@@ -215,8 +214,8 @@ fn tell_written(
     match written {
         Ok(outcome) => {
             let byte = place.opening.saturating_add(place.passed);
-            tell_outcome(rt, asked.from, byte, name, outcome)
+            tell_outcome(console, asked.from, byte, name, outcome)
         }
-        Err(error) => tell_io(rt, name, error),
+        Err(error) => tell_io(console, name, error),
     }
 }

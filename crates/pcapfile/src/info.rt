@@ -1,5 +1,6 @@
 //! The word `info`.
 
+use crate::console::Console;
 use crate::input::{buffered, open_watched};
 use crate::tell::{tell_error, tell_io};
 use capcopy_run::Uninterrupted;
@@ -14,36 +15,31 @@ use std::io::{BufWriter, Write};
 const OUTPUT: usize = 65_536;
 
 /// Writes what is told of each capture, and gives the status: that of the worst of them.
-pub(crate) fn inform_files(
-    rt: &HostRuntime,
-    names: &[&str],
-    as_json: bool,
-    is_quiet: bool,
-) -> io::Result<u8> {
-    let stdout = Uninterrupted::new(rt.stdout());
-    let mut output = BufWriter::with_capacity(rt.alloc(), OUTPUT, stdout)?;
+pub(crate) fn inform_files(console: &Console, names: &[&str], as_json: bool) -> io::Result<u8> {
+    let stdout = Uninterrupted::new(console.rt().stdout());
+    let mut output = BufWriter::with_capacity(console.alloc(), OUTPUT, stdout)?;
     let mut status = 0;
     for name in names {
-        let told = match inform(rt, name, is_quiet) {
-            Ok(information) => write_told(rt, name, &information, as_json, &mut output)?,
-            Err(error) => tell_error(rt, name, &error)?,
+        let told = match inform(console, name) {
+            Ok(information) => write_told(console, name, &information, as_json, &mut output)?,
+            Err(error) => tell_error(console, name, &error)?,
         };
         status = told.max(status);
     }
     Ok(status)
 }
 
-fn inform(rt: &HostRuntime, name: &str, is_quiet: bool) -> Result<Information, PcapError> {
-    let mut input = buffered(rt.alloc(), open_watched(rt, name, is_quiet)?)?;
+fn inform(console: &Console, name: &str) -> Result<Information, PcapError> {
+    let mut input = buffered(console.alloc(), open_watched(console, name)?)?;
     match format_of(&mut input)? {
-        Format::Pcap => Ok(inform_packets(rt.alloc(), input)?),
-        Format::PcapNg => Ok(inform_blocks(rt.alloc(), input)?),
+        Format::Pcap => Ok(inform_packets(console.alloc(), input)?),
+        Format::PcapNg => Ok(inform_blocks(console.alloc(), input)?),
     }
 }
 
 // Writes what is told of a capture. Of one that can't be read to its end it is only said on standard error why.
 fn write_told<W: Write>(
-    rt: &HostRuntime,
+    console: &Console,
     name: &str,
     information: &Information,
     as_json: bool,
@@ -51,13 +47,15 @@ fn write_told<W: Write>(
 ) -> io::Result<u8> {
     let checked = &information.checked;
     if let End::Unread(_) | End::Memory = &checked.end {
-        eprintln!(rt; "pcapfile: {name}: {checked}")?;
+        eprintln!(console.for_line(); "pcapfile: {name}: {checked}")?;
         return Ok(checked.status());
     }
+    // The line of how far it is goes before any other.
+    console.clear();
     if as_json {
-        match json_of(rt.alloc(), name, information) {
+        match json_of(console.alloc(), name, information) {
             Ok(line) => writeln!(output, "{line}")?,
-            Err(error) => return tell_error(rt, name, &PcapError::from(error)),
+            Err(error) => return tell_error(console, name, &PcapError::from(error)),
         }
     } else {
         let report = Report { name, information };

@@ -2,7 +2,8 @@
 
 ghost use Rattle.std.specs.Prelude.{None};
 
-use crate::progress::Progress;
+use crate::console::{Console, Shared};
+use crate::walk::Walk;
 use capcopy_run::Uninterrupted;
 use std::alloc::Global;
 use std::fs::File;
@@ -41,20 +42,13 @@ impl Read for Stream {
     }
 }
 
-/// Opens the capture of a name.
-pub(crate) fn open_stream(rt: &HostRuntime, name: &str) -> io::Result<Stream> {
-    if name == STANDARD {
-        return Ok(Stream::Standard(rt.stdin()));
-    }
-    Ok(Stream::File(File::open(rt, name)?))
-}
-
 /// A capture that is read while it is said how far.
 #[derive(Drop)]
 pub(crate) struct Watched {
     stream: Stream,
     length: Option<u64>,
-    progress: Option<Progress>,
+    walk: Walk,
+    progress: Option<Shared>,
 }
 
 impl Watched {
@@ -69,33 +63,52 @@ impl Read for Watched {
 
     fn read(&mut self, buf: &mut [u8]) -> io::Result<usize> {
         let came = self.stream.read(buf)?;
-        if let Some(progress) = &mut self.progress {
-            progress.add(came);
+        if let Some(progress) = &self.progress {
+            let packets = self.walk.pass(&buf[..came]);
+            let mut now = progress.get();
+            now.add(came, packets);
+            progress.set(now);
         }
         Ok(came)
     }
+}
+
+fn open_stream(rt: &HostRuntime, name: &str) -> io::Result<Stream> {
+    if name == STANDARD {
+        return Ok(Stream::Standard(rt.stdin()));
+    }
+    Ok(Stream::File(File::open(rt, name)?))
 }
 
 // How many bytes a stream has, where it is a file.
 fn length_of(stream: &Stream) -> io::Result<Option<u64>> {
     match stream {
         Stream::Standard(_) => Ok(None),
-        Stream::File(file) => Ok(Some(file.metadata()?.len())),
+        Stream::File(file) => {
+            let metadata = file.metadata()?;
+            Ok(if metadata.is_file() {
+                Some(metadata.len())
+            } else {
+                None
+            })
+        }
     }
 }
 
-/// Opens the capture of a name. How far it is read is said where standard error is a terminal, but for a quiet one.
-pub(crate) fn open_watched(rt: &HostRuntime, name: &str, is_quiet: bool) -> io::Result<Watched> {
-    let stream = open_stream(rt, name)?;
+/// Opens the capture of a name, and says from now on how far it is read.
+pub(crate) fn open_watched(console: &Console, name: &str) -> io::Result<Watched> {
+    console.begin();
+    open_further(console, name)
+}
+
+/// Opens the capture of a name, which is read beside others: it is said how far all of these are read.
+pub(crate) fn open_further(console: &Console, name: &str) -> io::Result<Watched> {
+    let stream = open_stream(console.rt(), name)?;
     let length = length_of(&stream)?;
-    let progress = if is_quiet {
-        None
-    } else {
-        Progress::new(rt, length)
-    };
     Ok(Watched {
         stream,
         length,
-        progress,
+        walk: Walk::new(),
+        progress: console.add_capture(length)?,
     })
 }

@@ -1,6 +1,7 @@
 //! The word `join`.
 
 use crate::blocks::{Blocks, join_blocks};
+use crate::console::Console;
 use crate::input::{STANDARD, Watched, buffered, open_watched};
 use crate::output::{OUTPUT, Unfinished, tell_read};
 use crate::source::{Packets, Source};
@@ -18,92 +19,90 @@ pub(crate) struct Joining<'a> {
     pub(crate) parts: &'a [&'a str],
     /// The name of the capture that they become.
     pub(crate) out: &'a str,
-    /// Whether it isn't said how far it is.
-    pub(crate) is_quiet: bool,
 }
 
 type Input = BufReader<Uninterrupted<Watched>>;
 
 /// Joins parts of a capture, and gives the status.
-pub(crate) fn join_files(rt: &HostRuntime, asked: &Joining) -> io::Result<u8> {
+pub(crate) fn join_files(console: &Console, asked: &Joining) -> io::Result<u8> {
     if asked.out == STANDARD {
-        return join_into(rt, asked, Uninterrupted::new(rt.stdout()));
+        return join_into(console, asked, Uninterrupted::new(console.rt().stdout()));
     }
     for part in asked.parts {
         if *part == asked.out {
-            return tell_read(rt, part);
+            return tell_read(console, part);
         }
     }
-    let unfinished = Unfinished::new(rt, asked.out)?;
-    let file = match unfinished.create(rt) {
+    let unfinished = Unfinished::new(console, asked.out)?;
+    let file = match unfinished.create(console) {
         Ok(file) => Uninterrupted::new(file),
-        Err(error) => return tell_io(rt, unfinished.part(), &error),
+        Err(error) => return tell_io(console, unfinished.part(), &error),
     };
-    let told = join_into(rt, asked, file);
-    unfinished.finish(rt, told)
+    let told = join_into(console, asked, file);
+    unfinished.finish(console, told)
 }
 
-fn join_into<W: Write + Drop>(rt: &HostRuntime, asked: &Joining, output: W) -> io::Result<u8> {
-    let mut output = BufWriter::with_capacity(rt.alloc(), OUTPUT, output)?;
-    let status = join_parts(rt, asked, &mut output)?;
+fn join_into<W: Write + Drop>(console: &Console, asked: &Joining, output: W) -> io::Result<u8> {
+    let mut output = BufWriter::with_capacity(console.alloc(), OUTPUT, output)?;
+    let status = join_parts(console, asked, &mut output)?;
     if status != 0 {
         return Ok(status);
     }
     match output.flush() {
         Ok(()) => Ok(0),
-        Err(error) => tell_io(rt, asked.out, &error),
+        Err(error) => tell_io(console, asked.out, &error),
     }
 }
 
-fn join_parts<W: Write>(rt: &HostRuntime, asked: &Joining, output: &mut W) -> io::Result<u8> {
+fn join_parts<W: Write>(console: &Console, asked: &Joining, output: &mut W) -> io::Result<u8> {
     let Some((first, others)) = asked.parts.split_first() else {
         return Ok(0);
     };
-    let (format, input) = match open(rt, asked, first) {
+    let (format, input) = match open(console, first) {
         Ok(opened) => opened,
-        Err(error) => return tell_io(rt, first, &error),
+        Err(error) => return tell_io(console, first, &error),
     };
     match format {
         Format::Pcap => match Packets::new(input) {
             Ok(mut packets) => {
                 let opening = *packets.opening();
-                let status = write_first(rt, asked, first, &mut packets, output)?;
-                join_packets(rt, asked, others, &opening, status, output)
+                let status = write_first(console, asked, first, &mut packets, output)?;
+                join_packets(console, asked, others, &opening, status, output)
             }
-            Err(error) => tell_error(rt, first, &error),
+            Err(error) => tell_error(console, first, &error),
         },
-        Format::PcapNg => match Blocks::new(rt.alloc(), input) {
+        Format::PcapNg => match Blocks::new(console.alloc(), input) {
             Ok(mut blocks) => {
-                let status = write_first(rt, asked, first, &mut blocks, output)?;
-                join_others(rt, asked, others, blocks, status, output)
+                let status = write_first(console, asked, first, &mut blocks, output)?;
+                join_others(console, asked, others, blocks, status, output)
             }
-            Err(error) => tell_error(rt, first, &error),
+            Err(error) => tell_error(console, first, &error),
         },
     }
 }
 
-fn open(rt: &HostRuntime, asked: &Joining, name: &str) -> io::Result<(Format, Input)> {
-    let mut input = buffered(rt.alloc(), open_watched(rt, name, asked.is_quiet)?)?;
+fn open(console: &Console, name: &str) -> io::Result<(Format, Input)> {
+    let mut input = buffered(console.alloc(), open_watched(console, name)?)?;
     let format = format_of(&mut input)?;
     Ok((format, input))
 }
 
 // Writes the first part as it is, and gives the status.
 fn write_first<S: Source, W: Write>(
-    rt: &HostRuntime,
+    console: &Console,
     asked: &Joining,
     name: &str,
     source: &mut S,
     output: &mut W,
 ) -> io::Result<u8> {
     let place = source.opening_len();
-    let outcome = source.write_part(rt.alloc(), output, Wanted::All, false);
-    tell_outcome(rt, name, place, asked.out, &outcome)
+    let outcome = source.write_part(console.alloc(), output, Wanted::All, false);
+    tell_outcome(console, name, place, asked.out, &outcome)
 }
 
 // Writes the packets of the others behind a first part that was written with this status.
 fn join_packets<W: Write>(
-    rt: &HostRuntime,
+    console: &Console,
     asked: &Joining,
     others: &[&str],
     opening: &Opening,
@@ -115,38 +114,40 @@ fn join_packets<W: Write>(
         if status != 0 {
             break;
         }
-        status = match open(rt, asked, part) {
-            Ok((_, input)) => join_next(rt, asked, part, opening, input, output)?,
-            Err(error) => tell_io(rt, part, &error)?,
+        status = match open(console, part) {
+            Ok((_, input)) => join_next(console, asked, part, opening, input, output)?,
+            Err(error) => tell_io(console, part, &error)?,
         };
     }
     Ok(status)
 }
 
 fn join_next<W: Write>(
-    rt: &HostRuntime,
+    console: &Console,
     asked: &Joining,
     part: &str,
     opening: &Opening,
     mut input: Input,
     output: &mut W,
 ) -> io::Result<u8> {
-    match join_part(rt.alloc(), opening, &mut input, output) {
-        Joined::Unopened(error) => tell_error(rt, part, &error),
+    match join_part(console.alloc(), opening, &mut input, output) {
+        Joined::Unopened(error) => tell_error(console, part, &error),
         Joined::OtherHeader => {
-            eprintln!(rt; "pcapfile: {part}: its header is not that of the first part")?;
+            eprintln!(console.for_line();
+                "pcapfile: {part}: its header is not that of the first part"
+            )?;
             Ok(AT_FAULT)
         }
         Joined::Packets(outcome) => {
             let place = opening.bytes().len() as u64;
-            tell_outcome(rt, part, place, asked.out, &outcome)
+            tell_outcome(console, part, place, asked.out, &outcome)
         }
     }
 }
 
 // Writes the blocks of the others behind a first part that was written with this status.
 fn join_others<W: Write>(
-    rt: &HostRuntime,
+    console: &Console,
     asked: &Joining,
     others: &[&str],
     first: Blocks<Input>,
@@ -159,17 +160,17 @@ fn join_others<W: Write>(
         if status != 0 {
             break;
         }
-        let input = match open(rt, asked, part) {
+        let input = match open(console, part) {
             Ok((_, input)) => input,
-            Err(error) => return tell_io(rt, part, &error),
+            Err(error) => return tell_io(console, part, &error),
         };
-        let mut blocks = match Blocks::new(rt.alloc(), input) {
+        let mut blocks = match Blocks::new(console.alloc(), input) {
             Ok(blocks) => blocks,
-            Err(error) => return tell_error(rt, part, &error),
+            Err(error) => return tell_error(console, part, &error),
         };
         let place = blocks.opening_len();
-        let outcome = join_blocks(rt.alloc(), &mut blocks, before.in_force(), output);
-        status = tell_outcome(rt, part, place, asked.out, &outcome)?;
+        let outcome = join_blocks(console.alloc(), &mut blocks, before.in_force(), output);
+        status = tell_outcome(console, part, place, asked.out, &outcome)?;
         before = blocks;
     }
     Ok(status)

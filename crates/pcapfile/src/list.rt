@@ -1,44 +1,51 @@
 //! The word `list`.
 
+use crate::console::Console;
 use crate::input::{buffered, open_watched};
-use crate::tell::{tell_exit, tell_io};
+use crate::tell::{tell_exit, tell_io, tell_unwritten};
 use capcopy_run::{Exit, Uninterrupted};
+use pcap_core::stream::Told;
 use pcapfile_lines::{Form, HEADING};
 use pcapfile_run::list;
 use std::io;
-use std::io::{BufWriter, IsTerminal, Write};
+use std::io::{BufWriter, Write};
 
 /// The size of the buffer before standard output, in bytes.
 const OUTPUT: usize = 65_536;
 
 /// Writes the packets of each capture, and gives the status: that of the worst of them. The names of several stand before their
 /// lines, but for a form that a program reads.
-pub(crate) fn list_files(
-    rt: &HostRuntime,
-    names: &[&str],
-    form: Option<Form>,
-    is_quiet: bool,
-) -> io::Result<u8> {
-    let stdout = Uninterrupted::new(rt.stdout());
-    let mut output = BufWriter::with_capacity(rt.alloc(), OUTPUT, stdout)?;
+pub(crate) fn list_files(console: &Console, names: &[&str], form: Option<Form>) -> io::Result<u8> {
+    let stdout = Uninterrupted::new(console.rt().stdout());
+    let mut output = Told::new(BufWriter::with_capacity(console.alloc(), OUTPUT, stdout)?);
     if form == Some(Form::Csv) {
         output.write_all(HEADING.as_bytes())?;
     }
-    // On a terminal the lines tell how far it is.
-    let is_quiet = is_quiet || rt.stdout().is_terminal();
     let is_headed = names.len() > 1 && is_read_by_people(form);
     let mut status = 0;
     for name in names {
-        let listed = open_and_list(rt, name, is_headed, form, is_quiet, &mut output);
+        let listed = open_and_list(console, name, is_headed, form, &mut output);
+        let write_failed = output.failed();
         // What was listed goes out before what is said of it.
         output.flush()?;
-        status = match listed {
-            Ok(exit) => tell_exit(rt, name, &exit)?,
-            Err(error) => tell_io(rt, name, &error)?,
-        }
-        .max(status);
+        status = tell_listed(console, name, listed, write_failed)?.max(status);
     }
     Ok(status)
+}
+
+// Says what ended the list of a capture before its end, and gives the status. A write that failed ends them all.
+fn tell_listed(
+    console: &Console,
+    name: &str,
+    listed: io::Result<Exit>,
+    write_failed: bool,
+) -> io::Result<u8> {
+    match listed {
+        Ok(exit) if write_failed => tell_unwritten(console, name, exit),
+        Ok(exit) => tell_exit(console, name, &exit),
+        Err(error) if write_failed => Err(error),
+        Err(error) => tell_io(console, name, &error),
+    }
 }
 
 fn is_read_by_people(form: Option<Form>) -> bool {
@@ -46,17 +53,16 @@ fn is_read_by_people(form: Option<Form>) -> bool {
 }
 
 fn open_and_list<W: Write>(
-    rt: &HostRuntime,
+    console: &Console,
     name: &str,
     is_headed: bool,
     form: Option<Form>,
-    is_quiet: bool,
     output: &mut W,
 ) -> io::Result<Exit> {
-    let stream = open_watched(rt, name, is_quiet)?;
+    let stream = open_watched(console, name)?;
     if is_headed {
         writeln!(output, "{name}:")?;
     }
-    let mut input = buffered(rt.alloc(), stream)?;
-    Ok(list(rt.alloc(), form, &mut input, output, u64::MAX))
+    let mut input = buffered(console.alloc(), stream)?;
+    Ok(list(console.alloc(), form, &mut input, output, u64::MAX))
 }

@@ -5,6 +5,7 @@ mod as_is;
 mod blocks;
 mod check;
 mod check_as_is;
+mod console;
 mod convert;
 mod cut;
 mod info;
@@ -21,10 +22,12 @@ mod repair;
 mod replay;
 mod source;
 mod tell;
+mod walk;
 mod words;
 
 use clap::error::ErrorKind;
 use clap::{ArgMatches, Error};
+use console::Console;
 use convert::Conversion;
 use cut::{Cutting, Way};
 use join::Joining;
@@ -34,6 +37,7 @@ use pcapfile_lines::Form;
 use pcapfile_run::Format;
 use repair::Repair;
 use std::alloc::AllocError;
+use std::io::IsTerminal;
 use std::process::ExitCode;
 use std::{env, io};
 use tell::{status_of, tell_arguments};
@@ -56,7 +60,7 @@ fn main(rt: HostRuntime) -> ExitCode {
 }
 
 // What the word `convert` is asked for.
-fn conversion<'a>(words: &ArgMatches<'a>, is_quiet: bool) -> Conversion<'a> {
+fn conversion<'a>(words: &ArgMatches<'a>) -> Conversion<'a> {
     let to = match words.get_str(words::TO) {
         Some("pcap") => Some(Format::Pcap),
         Some("pcapng") => Some(Format::PcapNg),
@@ -66,7 +70,6 @@ fn conversion<'a>(words: &ArgMatches<'a>, is_quiet: bool) -> Conversion<'a> {
         from: words.get_str(words::IN).unwrap_or_default(),
         to,
         out: words.get_str(words::OUT).unwrap_or_default(),
-        is_quiet,
     }
 }
 
@@ -96,11 +99,11 @@ fn way(words: &ArgMatches) -> Result<Way, &'static str> {
     Ok(Way::One(Wanted::Times { from, until }))
 }
 
-fn cut_out(rt: &HostRuntime, words: &ArgMatches, is_quiet: bool) -> io::Result<u8> {
+fn cut_out(console: &Console, words: &ArgMatches) -> io::Result<u8> {
     let way = match way(words) {
         Ok(way) => way,
         Err(word) => {
-            eprintln!(rt;
+            eprintln!(console.for_line();
                 "error: the value of --{word} is not understood; 'pcapfile cut --help' has the forms"
             )?;
             return Ok(USAGE);
@@ -110,18 +113,16 @@ fn cut_out(rt: &HostRuntime, words: &ArgMatches, is_quiet: bool) -> io::Result<u
         from: words.get_str(words::CAPTURE).unwrap_or_default(),
         out: words.get_str(words::OUT).unwrap_or_default(),
         way,
-        is_quiet,
     };
-    cut::cut_file(rt, &asked)
+    cut::cut_file(console, &asked)
 }
 
-fn join_parts(rt: &HostRuntime, words: &ArgMatches, is_quiet: bool) -> io::Result<u8> {
+fn join_parts(console: &Console, words: &ArgMatches) -> io::Result<u8> {
     let asked = Joining {
         parts: words.get_strs(words::PARTS_IN).unwrap_or_default(),
         out: words.get_str(words::OUT).unwrap_or_default(),
-        is_quiet,
     };
-    join::join_files(rt, &asked)
+    join::join_files(console, &asked)
 }
 
 // The form that is asked for of the lines of `list`.
@@ -178,35 +179,41 @@ fn run(rt: &HostRuntime) -> io::Result<u8> {
     do_word(rt, &matches)
 }
 
+// Whether a word writes lines for people while it reads, which tell how far it is.
+fn tells_meanwhile(word: &str, words: &ArgMatches) -> bool {
+    match word {
+        "list" => true,
+        "check" => words.get_flag(words::AS_IS),
+        _ => false,
+    }
+}
+
 // Does what a word asks for, and gives the status.
 fn do_word(rt: &HostRuntime, matches: &ArgMatches) -> io::Result<u8> {
-    let is_quiet = matches.get_flag(words::QUIET);
-    match matches.subcommand() {
-        Some(("check", check)) => {
-            let names = check.get_strs(words::FILES).unwrap_or_default();
-            if check.get_flag(words::AS_IS) {
-                return check_as_is::check_files_as_is(rt, names);
-            }
-            check::check_files(rt, names, is_quiet)
-        }
-        Some(("convert", words)) => convert::convert_file(rt, &conversion(words, is_quiet)),
-        Some(("cut", words)) => cut_out(rt, words, is_quiet),
-        Some(("info", info)) => info::inform_files(
-            rt,
-            info.get_strs(words::FILES).unwrap_or_default(),
-            info.get_flag(words::JSON),
-            is_quiet,
-        ),
-        Some(("join", words)) => join_parts(rt, words, is_quiet),
-        Some(("list", list)) => {
-            let names = list.get_strs(words::FILES).unwrap_or_default();
-            if list.get_flag(words::AS_IS) {
-                return list_as_is::list_files_as_is(rt, names);
-            }
-            list::list_files(rt, names, form(list), is_quiet)
-        }
-        Some(("merge", words)) => merge::merge_files(rt, &merging(words)),
-        Some(("repair", words)) => repair::repair_file(rt, &repairing(words)),
+    let Some((word, words)) = matches.subcommand() else {
+        return Ok(0);
+    };
+    let is_told = rt.stdout().is_terminal() && tells_meanwhile(word, words);
+    let console = Console::new(rt, is_told || matches.get_flag(words::QUIET))?;
+    match word {
+        "check" | "info" | "list" => tell_files(&console, word, words),
+        "convert" => convert::convert_file(&console, &conversion(words)),
+        "cut" => cut_out(&console, words),
+        "join" => join_parts(&console, words),
+        "merge" => merge::merge_files(&console, &merging(words)),
+        "repair" => repair::repair_file(&console, &repairing(words)),
         _ => Ok(0),
+    }
+}
+
+// Tells of captures what such a word asks for, and gives the status.
+fn tell_files(console: &Console, word: &str, words: &ArgMatches) -> io::Result<u8> {
+    let names = words.get_strs(words::FILES).unwrap_or_default();
+    match word {
+        "info" => info::inform_files(console, names, words.get_flag(words::JSON)),
+        "check" if words.get_flag(words::AS_IS) => check_as_is::check_files_as_is(console, names),
+        "check" => check::check_files(console, names),
+        "list" if words.get_flag(words::AS_IS) => list_as_is::list_files_as_is(console, names),
+        _ => list::list_files(console, names, form(words)),
     }
 }

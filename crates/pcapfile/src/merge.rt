@@ -3,7 +3,8 @@
 ghost use Rattle.std.specs.Prelude.{IfOk};
 ghost use Rattle.pcapfile_merge.specs.Holding.{IsReady};
 
-use crate::input::{STANDARD, Stream, buffered, open_stream};
+use crate::console::Console;
+use crate::input::{STANDARD, Watched, buffered, open_further};
 use crate::opening::{interfaces_of, put_opening};
 use crate::output::{OUTPUT, Unfinished, tell_read};
 use crate::tell::{AT_FAULT, tell_error, tell_io};
@@ -16,7 +17,7 @@ use std::io;
 use std::io::{BufReader, BufWriter, Write};
 
 /// A capture that is merged, off a buffer.
-type Input = BufReader<Uninterrupted<Stream>>;
+type Input = BufReader<Uninterrupted<Watched>>;
 
 /// What the word is asked for.
 #[derive(Drop)]
@@ -48,60 +49,61 @@ impl Ended {
 
 /// Merges captures, and gives the status. A file is written under another name in the same folder, and has its own once all of
 /// it is there.
-pub(crate) fn merge_files(rt: &HostRuntime, asked: &Merge) -> io::Result<u8> {
+pub(crate) fn merge_files(console: &Console, asked: &Merge) -> io::Result<u8> {
     if asked.out == STANDARD {
-        let ended = merge_to(rt, asked, Uninterrupted::new(rt.stdout()))?;
+        let ended = merge_to(console, asked, Uninterrupted::new(console.rt().stdout()))?;
         return Ok(ended.status);
     }
     if asked.names.contains(&asked.out) {
-        return tell_read(rt, asked.out);
+        return tell_read(console, asked.out);
     }
-    let unfinished = Unfinished::new(rt, asked.out)?;
-    let file = match unfinished.create(rt) {
+    let unfinished = Unfinished::new(console, asked.out)?;
+    let file = match unfinished.create(console) {
         Ok(file) => file,
-        Err(error) => return tell_io(rt, unfinished.part(), &error),
+        Err(error) => return tell_io(console, unfinished.part(), &error),
     };
-    let ended = merge_to(rt, asked, Uninterrupted::new(file));
+    let ended = merge_to(console, asked, Uninterrupted::new(file));
     match ended {
         Ok(
             Ended {
                 status,
                 is_whole: true,
             },
-        ) => Ok(unfinished.finish(rt, Ok(0))?.max(status)),
-        Ok(given_up) => unfinished.finish(rt, Ok(given_up.status)),
-        Err(error) => unfinished.finish(rt, Err(error)),
+        ) => Ok(unfinished.finish(console, Ok(0))?.max(status)),
+        Ok(given_up) => unfinished.finish(console, Ok(given_up.status)),
+        Err(error) => unfinished.finish(console, Err(error)),
     }
 }
 
-fn merge_to<W: Write + Drop>(rt: &HostRuntime, asked: &Merge, output: W) -> io::Result<Ended> {
-    let mut sources = Vec::new(rt.alloc());
-    let mut opened = Vec::new(rt.alloc());
+fn merge_to<W: Write + Drop>(console: &Console, asked: &Merge, output: W) -> io::Result<Ended> {
+    let mut sources = Vec::new(console.alloc());
+    let mut opened = Vec::new(console.alloc());
     let mut interfaces: u32 = 0;
     let mut status = 0;
+    console.begin();
     for name in asked.names {
-        let stream = match open_stream(rt, name) {
+        let stream = match open_further(console, name) {
             Ok(stream) => stream,
-            Err(error) => return Ok(Ended::given_up(tell_io(rt, name, &error)?)),
+            Err(error) => return Ok(Ended::given_up(tell_io(console, name, &error)?)),
         };
-        match open_reader(rt.alloc(), stream) {
+        match open_reader(console.alloc(), stream) {
             Ok(reader) => {
-                let source = Source::new(rt.alloc(), reader, interfaces);
+                let source = Source::new(console.alloc(), reader, interfaces);
                 interfaces = interfaces.saturating_add(interfaces_of(source.reader()));
                 sources.push(source)?;
                 opened.push(*name)?;
             }
-            Err(error) => status = tell_error(rt, name, &error)?.max(status),
+            Err(error) => status = tell_error(console, name, &error)?.max(status),
         }
         if status > AT_FAULT {
             return Ok(Ended::given_up(status));
         }
     }
-    let output = BufWriter::with_capacity(rt.alloc(), OUTPUT, output)?;
-    if let Err(error) = write_merged(rt.alloc(), sources.as_mut_slice(), output) {
-        return Ok(Ended::given_up(tell_error(rt, asked.out, &error)?));
+    let output = BufWriter::with_capacity(console.alloc(), OUTPUT, output)?;
+    if let Err(error) = write_merged(console.alloc(), sources.as_mut_slice(), output) {
+        return Ok(Ended::given_up(tell_error(console, asked.out, &error)?));
     }
-    status = tell_faults(rt, opened.as_slice(), sources.as_slice())?.max(status);
+    status = tell_faults(console, opened.as_slice(), sources.as_slice())?.max(status);
     Ok(Ended {
         status,
         is_whole: status <= AT_FAULT,
@@ -109,18 +111,18 @@ fn merge_to<W: Write + Drop>(rt: &HostRuntime, asked: &Merge, output: W) -> io::
 }
 
 // Says what ended each of the captures of these names before its end, and gives the worst status.
-fn tell_faults(rt: &HostRuntime, names: &[&str], sources: &[Source<Input>]) -> io::Result<u8> {
+fn tell_faults(console: &Console, names: &[&str], sources: &[Source<Input>]) -> io::Result<u8> {
     let mut status = 0;
     for (name, source) in names.iter().zip(sources) {
         if let Some(error) = source.fault() {
-            status = tell_error(rt, name, error)?.max(status);
+            status = tell_error(console, name, error)?.max(status);
         }
     }
     Ok(status)
 }
 
 // A reader of a capture of either format.
-fn open_reader(alloc: Global, stream: Stream) -> ResultParsing<Reader<Input>>
+fn open_reader(alloc: Global, stream: Watched) -> ResultParsing<Reader<Input>>
     ensures { IfOk result (λ reader. IsReady reader) }
 {
     let mut input = buffered(alloc, stream)?;

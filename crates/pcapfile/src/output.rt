@@ -1,6 +1,7 @@
 //! Files that have their name once all of them is there.
 
 use crate::FAILED;
+use crate::console::Console;
 use crate::tell::tell_io;
 use std::fs::File;
 use std::{fs, io};
@@ -17,8 +18,8 @@ pub(crate) struct Unfinished<'a> {
 
 impl<'a> Unfinished<'a> {
     /// The file that becomes the one of this name.
-    pub(crate) fn new(rt: &HostRuntime, name: &'a str) -> io::Result<Unfinished<'a>> {
-        let part = format!(in rt.alloc(); "{name}.part")?;
+    pub(crate) fn new(console: &Console, name: &'a str) -> io::Result<Unfinished<'a>> {
+        let part = format!(in console.alloc(); "{name}.part")?;
         Ok(Unfinished { name, part })
     }
 
@@ -28,27 +29,27 @@ impl<'a> Unfinished<'a> {
     }
 
     /// Makes it. A file of that name that is there already is an error.
-    pub(crate) fn create(&self, rt: &HostRuntime) -> io::Result<File> {
-        File::create_new(rt, self.part())
+    pub(crate) fn create(&self, console: &Console) -> io::Result<File> {
+        File::create_new(console.rt(), self.part())
     }
 
     /// Gives it its name where the status that was told is 0, and takes it away else. Gives the status.
-    pub(crate) fn finish(&self, rt: &HostRuntime, told: io::Result<u8>) -> io::Result<u8> {
+    pub(crate) fn finish(&self, console: &Console, told: io::Result<u8>) -> io::Result<u8> {
         let told = match told {
-            Ok(0) => match fs::rename(rt, self.part(), self.name) {
+            Ok(0) => match fs::rename(console.rt(), self.part(), self.name) {
                 Ok(()) => return Ok(0),
-                Err(error) => tell_io(rt, self.name, &error),
+                Err(error) => tell_io(console, self.name, &error),
             },
             failed => failed,
         };
         // What made this fail has been told.
-        let _ = fs::remove_file(rt, self.part());
+        let _ = fs::remove_file(console.rt(), self.part());
         told
     }
 }
 
 /// Says that a file would replace one that is read, and gives the status.
-pub(crate) fn tell_read(rt: &HostRuntime, name: &str) -> io::Result<u8> {
-    eprintln!(rt; "pcapfile: {name}: is a capture that is read")?;
+pub(crate) fn tell_read(console: &Console, name: &str) -> io::Result<u8> {
+    eprintln!(console.for_line(); "pcapfile: {name}: is a capture that is read")?;
     Ok(FAILED)
 }

@@ -1,6 +1,7 @@
 //! The word `repair`.
 
-use crate::as_is::{LIMIT, Told, open_header, open_packets, refuse_blocks};
+use crate::as_is::{LIMIT, MOST, Told, open_header, open_packets, refuse_blocks};
+use crate::console::{Console, Notes};
 use crate::input::STANDARD;
 use crate::output::{OUTPUT, Unfinished, tell_read};
 use crate::replay::Replay;
@@ -12,10 +13,7 @@ use pcapfile_as_is::{Repairs, Teller, tell_packets};
 use pcapfile_cut::Opening;
 use std::alloc::Global;
 use std::io;
-use std::io::{BufWriter, Read, Stderr, Write};
-
-/// Where it is said what is changed.
-type Notes = BufWriter<Uninterrupted<Stderr>>;
+use std::io::{BufWriter, Read, Write};
 
 /// What the word is asked for.
 #[derive(Drop)]
@@ -28,45 +26,44 @@ pub(crate) struct Repair<'a> {
 
 /// Writes a capture of the packets of another one in which none breaks a rule, and gives the status. A file is written under
 /// another name in the same folder, and has its own once all of it is there.
-pub(crate) fn repair_file(rt: &HostRuntime, asked: &Repair) -> io::Result<u8> {
+pub(crate) fn repair_file(console: &Console, asked: &Repair) -> io::Result<u8> {
     if asked.out == STANDARD {
-        return repair_to(rt, asked, Uninterrupted::new(rt.stdout()));
+        return repair_to(console, asked, Uninterrupted::new(console.rt().stdout()));
     }
     if asked.out == asked.from {
-        return tell_read(rt, asked.out);
+        return tell_read(console, asked.out);
     }
-    let unfinished = Unfinished::new(rt, asked.out)?;
-    let file = match unfinished.create(rt) {
+    let unfinished = Unfinished::new(console, asked.out)?;
+    let file = match unfinished.create(console) {
         Ok(file) => file,
-        Err(error) => return tell_io(rt, unfinished.part(), &error),
+        Err(error) => return tell_io(console, unfinished.part(), &error),
     };
-    let told = repair_to(rt, asked, Uninterrupted::new(file));
-    unfinished.finish(rt, told)
+    let told = repair_to(console, asked, Uninterrupted::new(file));
+    unfinished.finish(console, told)
 }
 
-fn repair_to<W: Write + Drop>(rt: &HostRuntime, asked: &Repair, output: W) -> io::Result<u8> {
+fn repair_to<W: Write + Drop>(console: &Console, asked: &Repair, output: W) -> io::Result<u8> {
     let from = asked.from;
-    let mut input = match open_packets(rt, from) {
+    let mut input = match open_packets(console, from) {
         Ok(Some(input)) => input,
-        Ok(None) => return refuse_blocks(rt, from),
-        Err(error) => return tell_io(rt, from, &error),
+        Ok(None) => return refuse_blocks(console, from),
+        Err(error) => return tell_io(console, from, &error),
     };
     let mut told = Told::nothing();
     let Some(opening) = open_header(&mut input, &mut told) else {
-        return tell_end(rt, from, &told);
+        return tell_end(console, from, &told);
     };
-    let prefix = format!(in rt.alloc(); "pcapfile: {from}: ")?;
-    let stderr = Uninterrupted::new(rt.stderr());
+    let prefix = format!(in console.alloc(); "pcapfile: {from}: ")?;
     let mut repairs = Repairs {
         order: opening.header().endianness(),
         prefix: prefix.as_str(),
-        notes: BufWriter::with_capacity(rt.alloc(), OUTPUT, stderr)?,
-        room: Vec::new(rt.alloc()),
+        notes: BufWriter::with_capacity(console.alloc(), OUTPUT, console.notes()?)?,
+        room: Vec::new(console.alloc()),
     };
-    let mut output = BufWriter::with_capacity(rt.alloc(), OUTPUT, output)?;
-    let input = Replay::new(rt.alloc(), input);
+    let mut output = BufWriter::with_capacity(console.alloc(), OUTPUT, output)?;
+    let input = Replay::new(console.alloc(), input);
     let done = repair_rows(
-        rt.alloc(),
+        console.alloc(),
         &opening,
         &mut repairs,
         input,
@@ -76,20 +73,22 @@ fn repair_to<W: Write + Drop>(rt: &HostRuntime, asked: &Repair, output: W) -> io
     // That something can't be said stops nothing.
     let _ = repairs.notes.flush();
     match done {
-        Ok(()) => tell_end(rt, from, &told),
-        Err(exit) => tell_exit(rt, asked.out, &exit),
+        Ok(()) => tell_end(console, from, &told),
+        Err(exit) => tell_exit(console, asked.out, &exit),
     }
 }
 
 // Says how many packets are changed, and what the capture couldn't be read for, and gives the status.
-fn tell_end(rt: &HostRuntime, from: &str, told: &Told) -> io::Result<u8> {
+fn tell_end(console: &Console, from: &str, told: &Told) -> io::Result<u8> {
     let (packets, flawed) = (told.counted.items, told.counted.flawed);
     if flawed > 0 {
-        eprintln!(rt; "pcapfile: {from}: {flawed} of {packets} packets are changed")?;
+        eprintln!(console.for_line();
+            "pcapfile: {from}: {flawed} of {packets} packets are changed"
+        )?;
     }
     match &told.fault {
         None => Ok(0),
-        Some(error) => tell_error(rt, from, error),
+        Some(error) => tell_error(console, from, error),
     }
 }
 
@@ -97,7 +96,7 @@ fn tell_end(rt: &HostRuntime, from: &str, told: &Told) -> io::Result<u8> {
 fn repair_rows<R: Read + Drop, W: Write>(
     alloc: Global,
     opening: &Opening,
-    repairs: &mut Repairs<'_, Notes>,
+    repairs: &mut Repairs<'_, BufWriter<Notes>>,
     mut input: Replay<R>,
     output: &mut W,
     told: &mut Told,
@@ -143,7 +142,7 @@ fn repair_row<P: Teller, R: Read + Drop, W: Write>(
     let mut counted = before.counts();
     let parser = PcapParser::with_header(*opening.header())?;
     let mut reader = ReaderAsIs::with_parser(alloc, parser, input, LIMIT);
-    told.fault = tell_packets(alloc, repairs, &mut reader, output, &mut counted)?;
+    told.fault = tell_packets(alloc, repairs, &mut reader, output, MOST, &mut counted)?;
     told.counted = counted;
     told.read_failed = reader.failed();
     let held = Vec::from_slice(alloc, reader.held())?;
@@ -175,7 +174,7 @@ fn is_torn(told: &Told) -> bool {
 fn pass_garbage<R: Read>(
     alloc: Global,
     parser: &PcapParser,
-    repairs: &mut Repairs<'_, Notes>,
+    repairs: &mut Repairs<'_, BufWriter<Notes>>,
     input: &mut Replay<R>,
     told: &mut Told,
 ) -> bool {
@@ -195,7 +194,7 @@ fn pass_garbage<R: Read>(
     }
 }
 
-fn say_left_out(repairs: &mut Repairs<'_, Notes>, place: u64, bytes: u64, what: &str) {
+fn say_left_out(repairs: &mut Repairs<'_, BufWriter<Notes>>, place: u64, bytes: u64, what: &str) {
     let prefix = repairs.prefix;
     // That something can't be said stops nothing.
     let _ = writeln!(

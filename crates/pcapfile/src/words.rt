@@ -105,14 +105,13 @@ names; with --json it is an object of JSON on a line of its own, with members of
 isn't known is empty, or null. No names of captures stand there, and the index begins at 1 in each.
 
 With --as-is a packet that breaks rules has a line as well, with ! and the number of each behind
-it, and a fraction of a second that is too large is carried into the seconds. Of PcapNg nothing is
-read so yet.";
+it, of PcapNg also !utf8 or !short for a value that is no UTF-8 or too short, and a fraction of a
+second that is too large is carried into the seconds.";
 
 const QUIET_HELP: &str =
-    "Doesn't say how far a capture is read, as check, info, list, convert, cut and join do on a terminal";
+    "Doesn't say how far captures are read, which each word says on a terminal";
 
-const AS_IS_HELP: &str =
-    "Goes on behind what breaks a rule, and tells which; a list, of classic captures";
+const AS_IS_HELP: &str = "Goes on behind what breaks a rule, and tells which";
 
 const CONVERT: &str = "Writes a capture in the other format, or as it is where it has that format.
 
