@@ -176,6 +176,7 @@ impl Ahead for Blocks {
 }
 
 // Puts in force what the block says that has this head and is these bytes.
+#[inline(always)]
 fn follow_held(
     alloc: Global,
     in_force: &mut InForce,
