@@ -1,5 +1,5 @@
 -- What the word list writes of captures in other forms.
-use Rattle.std.specs.Prelude.{◌≡◌, ◌+◌, ◌/◌, ◌%◌, ◌⊎◌, ⊤, ℕ, pos, List, [], length, Bool, true, false, Option, None, Some}
+use Rattle.std.specs.Prelude.{◌≡◌, ◌+◌, ◌/◌, ◌%◌, ◌⊎◌, ⊤, ℕ, pos, List, [], length, Option, None, Some}
 use Rattle.std.specs.List.{slice_get}
 use Rattle.pcap_core.specs.Answer.{whole, faulty}
 use Rattle.pcap_core.specs.Faults.{Fault}
@@ -12,8 +12,7 @@ use Rattle.pcap_blocks.specs.InterfaceTimes.{IsTimeAt}
 use Rattle.pcap_blocks.specs.ParsedBlock.{Body}
 use Rattle.pcap_file.specs.Bodies.{SaysOfBody}
 use Rattle.pcap_file.specs.Frames.{Framed}
-use Rattle.capcopy_run.specs.declared.exit.Exit.{Exit}
-use Rattle.capcopy_run.specs.Listing.{Kind, ListsUntil}
+use Rattle.capcopy_run.specs.Listing.{Kind}
 use Rattle.capcopy_run.specs.PacketLines.{packets_in}
 use Rattle.pcapfile_lines.specs.declared.form.Form.{Form}
 use Rattle.pcapfile_lines.specs.declared.seen.Seen.{Seen}
