@@ -1,5 +1,5 @@
-"""What `pcapfile check --as-is`, `list --as-is` and `repair` write. Packets and blocks are taken here by struct alone, and the rules
-are said once more."""
+"""What `pcapfile check --as-is` and `list --as-is` write, and `repair` of classic captures. Packets and blocks are taken here by struct
+alone, and the rules are said once more."""
 import random
 import struct
 import tempfile
@@ -18,6 +18,7 @@ MESSAGES = {
     7: "Block: (initial_len % 4) != 0",
     8: "Block: initial_len < 12",
     9: "Block initial_length != trailer_length",
+    10: "SectionHeader missing",
     11: "SectionHeaderBlock: block length < 16",
     12: "InterfaceDescriptionBlock: block length < 8",
     17: "Option: slice.len() < 4",
@@ -143,21 +144,22 @@ def body_flaws(order, number, body):
 
 def framed(capture, at, order):
     """The order, the number of the type, and the body of the block that stands there, or what is said of it."""
-    left = capture[at:]
-    if len(left) < 12:
+    left = len(capture) - at
+    if left < 12:
         return "cut short"
-    if left[:4] == b"\x0a\x0d\x0d\x0a":
-        order = {b"\x1a\x2b\x3c\x4d": ">", b"\x4d\x3c\x2b\x1a": "<"}.get(left[8:12])
+    if capture[at : at + 4] == b"\x0a\x0d\x0d\x0a":
+        order = {b"\x1a\x2b\x3c\x4d": ">", b"\x4d\x3c\x2b\x1a": "<"}.get(capture[at + 8 : at + 12])
         if not order:
             return 6
-    number, length = struct.unpack_from(order + "II", left)
+    number, length = struct.unpack_from(order + "II", capture, at)
     if length % 4 or length < 12:
         return 7 if length % 4 else 8
-    if length > len(left):
+    if length > left:
         return "cut short"
-    if left[length - 4 : length] != left[4:8]:
+    end = at + length
+    if capture[end - 4 : end] != capture[at + 4 : at + 8]:
         return 9
-    return 11 if number == SECTION and length < 28 else (order, number, left[8 : length - 4])
+    return 11 if number == SECTION and length < 28 else (order, number, capture[at + 8 : end - 4])
 
 
 def flaw_line(name, count, at, code, flaw):
@@ -509,7 +511,6 @@ def try_several(tally, help):
         names = ["flawed", "blocks", "missing", "folder", "sound"]
         check = ran(tally, folder, "check", "--as-is", *names)
         rows = ran(tally, folder, "list", "--as-is", *names)
-        tally.note("repair of blocks", ran(tally, folder, "repair", "blocks", "-o", "out")[:2] != (FAILED, b"") and "it isn't refused")
         worst = [ran(tally, folder, "check", "--as-is", *it)[0] for it in (["flawed", "sound"], ["sound", "flawed"], ["sound", "sound"])]
     lines = checked("flawed", flawed)[0] + checked_blocks("blocks", blocks)[0] + checked("sound", sound)[0]
     listing = f"flawed:\n{listed('', flawed)[0]}blocks:\nsound:\n{listed('', sound)[0]}"

@@ -2,7 +2,6 @@
 
 ghost use Rattle.std.specs.Prelude.{◌<◌, ◌^◌};
 
-use crate::FAILED;
 use crate::console::Console;
 use crate::input::{Watched, buffered, open_watched};
 use capcopy_run::{Exit, Uninterrupted};
@@ -52,18 +51,18 @@ impl Told {
             read_failed: false,
         }
     }
+}
 
-    /// What was counted.
-    pub(crate) fn counts(&self) -> Counted
-        ensures items { result.items < 2 ^ 64 }
-        ensures flawed { result.flawed < 2 ^ 64 }
-        ensures bytes { result.bytes < 2 ^ 64 }
-    {
-        Counted {
-            items: self.counted.items.min(u64::MAX),
-            flawed: self.counted.flawed.min(u64::MAX),
-            bytes: self.counted.bytes.min(u64::MAX),
-        }
+/// A copy of what was counted.
+pub(crate) fn counts(counted: &Counted) -> Counted
+    ensures items { result.items < 2 ^ 64 }
+    ensures flawed { result.flawed < 2 ^ 64 }
+    ensures bytes { result.bytes < 2 ^ 64 }
+{
+    Counted {
+        items: counted.items.min(u64::MAX),
+        flawed: counted.flawed.min(u64::MAX),
+        bytes: counted.bytes.min(u64::MAX),
     }
 }
 
@@ -72,21 +71,6 @@ pub(crate) fn open_capture(console: &Console, name: &str) -> io::Result<(Format,
     let mut input = buffered(console.alloc(), open_watched(console, name)?)?;
     let format = format_of(&mut input)?;
     Ok((format, input))
-}
-
-/// Opens the classic capture of a name. None where it is one of blocks.
-pub(crate) fn open_packets(console: &Console, name: &str) -> io::Result<Option<Input>> {
-    let (format, input) = open_capture(console, name)?;
-    Ok(match format {
-        Format::Pcap => Some(input),
-        Format::PcapNg => None,
-    })
-}
-
-/// Says that of a capture of blocks no other one is made as it stands, and gives the status.
-pub(crate) fn refuse_blocks(console: &Console, name: &str) -> io::Result<u8> {
-    eprintln!(console.for_line(); "pcapfile: {name}: is PcapNg, which is not repaired yet")?;
-    Ok(FAILED)
 }
 
 /// Reads the header of a capture. A refusal is told.
@@ -138,7 +122,7 @@ pub(crate) fn tell_blocks_of<P: BlockTeller, R: Read + Drop, W: Write>(
 ) -> Result<Told, Exit> {
     let mut told = Told::nothing();
     let mut reader = PcapNgReaderAsIs::new(alloc, input);
-    let mut counted = told.counts();
+    let mut counted = counts(&told.counted);
     told.fault = tell_blocks(alloc, teller, &mut reader, output, MOST, &mut counted)?;
     told.counted = counted;
     told.read_failed = reader.failed();

@@ -19,10 +19,12 @@ mod output;
 mod progress;
 mod ranges;
 mod repair;
-mod replay;
+mod repaired;
+mod rows;
 mod source;
 mod tell;
 mod walk;
+mod window;
 mod words;
 
 use clap::error::ErrorKind;

@@ -151,15 +151,18 @@ interface of each capture is one of the other one. What refuses a capture is sai
 and its packets before that are merged. The file is written as OUT.part, and is named OUT once all
 of it is there.";
 
-const REPAIR: &str =
-    "Writes what can be read of a classic capture as one in which no packet breaks a rule.
+const REPAIR: &str = "Writes what can be read of a capture as one in which nothing breaks a rule.
 
 A fraction of a second that is too large is carried into the seconds, the first 262144 bytes of a
-longer packet are kept, and an original length is raised to the stored one or cut to 262144. Other
-packets stay as they are. Bytes that are no packet are left out up to two packets in a row that
-break no rule, and so is a last packet that is cut short. What is changed and left out is said on
-standard error, each with its byte. Of PcapNg nothing is read so yet. The file is written as
-OUT.part, and is named OUT once all of it is there.";
+longer packet are kept, and an original length is raised to the stored one or cut to 262144. Of
+PcapNg options are left out whose values break rules, an interface that is too short is filled up,
+and other blocks that have no room for what they hold are left out; sections state no length. All
+else stays as it is.
+
+Bytes that are no packet or block are left out up to a section header, or to two packets or blocks
+in a row that stand without a fault, and so is a last one that is cut short. What is changed and
+left out is said on standard error, each with its byte. The file is written as OUT.part, and is
+named OUT once all of it is there.";
 
 /// The program's command line.
 pub(crate) fn command<'a>(alloc: Global) -> Result<Command<'a>, AllocError> {

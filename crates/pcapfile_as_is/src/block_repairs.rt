@@ -25,9 +25,9 @@ const OPTIONS_LEFT: &str = "options that break rules are left out";
 
 /// Writes each block mended, and says what it changed.
 #[derive(Debug, Drop)]
-pub struct BlockRepairs<'a, E> {
+pub struct BlockRepairs<E> {
     /// What stands before each line that is said.
-    pub prefix: &'a str,
+    pub prefix: String,
     /// Where it is said. That something can't be said stops nothing.
     pub notes: E,
     /// Room for a block's body.
@@ -104,10 +104,10 @@ fn change_of(block: RawBlock<'_>, has_flaws: bool) -> &'static str {
     }
 }
 
-impl<E: Write> BlockRepairs<'_, E> {
+impl<E: Write> BlockRepairs<E> {
     // Says what became of the block of this number, which stands behind so many bytes.
     fn tell(&mut self, number: u64, place: u64, mended: Mended, change: &str) {
-        let prefix = self.prefix;
+        let prefix = self.prefix.as_str();
         let what = match mended {
             Mended::Stays => return,
             Mended::Changed => change,
@@ -117,7 +117,7 @@ impl<E: Write> BlockRepairs<'_, E> {
     }
 }
 
-impl<E: Write> BlockTeller for BlockRepairs<'_, E> {
+impl<E: Write> BlockTeller for BlockRepairs<E> {
     ghost use Rattle.pcapfile_as_is.specs.MendedBlocks.{TellsMended};
 
     ghost Setting = { Unit {0} };

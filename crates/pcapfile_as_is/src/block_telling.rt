@@ -1,6 +1,6 @@
 //! Blocks as they stand that are taken off a stream, and told one after the other.
 
-ghost use Rattle.std.specs.Prelude.{◌≡◌, ◌<◌, ◌^◌, false, MatchResult};
+ghost use Rattle.std.specs.Prelude.{◌≡◌, ◌<◌, ◌^◌, false, MatchResult, IfOk, IfNone};
 ghost use Rattle.pcap_tolerant_captures.specs.Blocks.{as_is_format};
 ghost use Rattle.pcap_tolerant_captures.specs.ReaderAsIs.{state_of, stream_of, has_failed, is_done};
 ghost use Rattle.pcapfile_as_is.specs.Counts.{block_size};
@@ -30,6 +30,7 @@ pub fn tell_blocks<P: BlockTeller, T: Read + Drop, W: Write>(
     requires flawed { counted.old.flawed < 2 ^ 64 }
     requires bytes { counted.old.bytes < 2 ^ 64 }
     ensures same { P.setting teller.new ≡ P.setting teller.old }
+    ensures ready { IfOk result (λ fault. IfNone fault ((is_done reader.new ≡ false) × (has_failed reader.new ≡ false))) }
     ensures told { let tells = P.is_told (P.setting teller.old) in
         MatchResult result
         (λ fault. TellsItems as_is_format (state_of reader.old) block_size tells (T.remaining (stream_of reader.old)) (T.remaining (stream_of reader.new)) (W.contents output.old) (W.contents output.new) (has_failed reader.new) most counted.old counted.new fault)

@@ -20,11 +20,11 @@ use std::io::Write;
 
 /// Writes each packet repaired, in the order of its capture's numbers, and says what it changed.
 #[derive(Debug, Drop)]
-pub struct Repairs<'a, E> {
+pub struct Repairs<E> {
     /// The order of the numbers.
     pub order: Endianness,
     /// What stands before each line that is said.
-    pub prefix: &'a str,
+    pub prefix: String,
     /// Where it is said. That something can't be said stops nothing.
     pub notes: E,
     /// Room for a packet's bytes.
@@ -63,7 +63,7 @@ fn put_made<W: Write>(
     put_line(output, room.as_slice())
 }
 
-impl<E: Write> Repairs<'_, E> {
+impl<E: Write> Repairs<E> {
     // Says what the packet of this number, which stands behind so many bytes, became.
     fn tell(&mut self, number: u64, place: u64, packet: &PacketAsIs<'_>, made: &Packet<'_>)
         ensures { self.new.order ≡ self.old.order }
@@ -71,7 +71,7 @@ impl<E: Write> Repairs<'_, E> {
         if !packet.flaws.is_broken() {
             return;
         }
-        let prefix = self.prefix;
+        let prefix = self.prefix.as_str();
         let header = made.header;
         if packet.flaws.fraction_too_large {
             let (fraction, seconds, nanos) = (packet.fraction, header.ts_sec, header.ts_nsec);
@@ -97,7 +97,7 @@ impl<E: Write> Repairs<'_, E> {
     }
 }
 
-impl<E: Write> Teller for Repairs<'_, E> {
+impl<E: Write> Teller for Repairs<E> {
     ghost use Rattle.pcap_core.specs.declared.common.Endianness.{Endianness as Order};
 
     ghost Setting = { Order };

@@ -1,6 +1,6 @@
 //! Packets as they stand that are taken off a stream, and told one after the other.
 
-ghost use Rattle.std.specs.Prelude.{◌≡◌, ◌<◌, ◌^◌, false, MatchResult};
+ghost use Rattle.std.specs.Prelude.{◌≡◌, ◌<◌, ◌^◌, false, MatchResult, IfOk, IfNone};
 ghost use Rattle.pcap_classic.specs.Magic.{resolution_of};
 ghost use Rattle.pcap_tolerant.specs.ReaderAsIs.{stream_of, header_read, limit_of, has_failed, is_done};
 ghost use Rattle.pcap_tolerant.specs.Run.{as_is_under};
@@ -31,6 +31,7 @@ pub fn tell_packets<P: Teller, T: Read + Drop, W: Write>(
     requires flawed { counted.old.flawed < 2 ^ 64 }
     requires bytes { counted.old.bytes < 2 ^ 64 }
     ensures same { P.setting teller.new ≡ P.setting teller.old }
+    ensures ready { IfOk result (λ fault. IfNone fault ((is_done reader.new ≡ false) × (has_failed reader.new ≡ false))) }
     ensures told { let f = as_is_under (limit_of reader.old) (header_read reader.old) in
         let tells = TellsBy has_flaw (P.text (P.setting teller.old) (resolution_of (header_read reader.old).magic_number)) in
         MatchResult result

@@ -71,7 +71,7 @@ fn lines(rt: HostRuntime) -> Result<(), Fail> {
 fn repairs(rt: HostRuntime) -> Result<(), Fail> {
     let mut repairs = Repairs {
         order: Endianness::Little,
-        prefix: "a: ",
+        prefix: String::from_str(rt.alloc(), "a: ")?,
         notes: Narrow::new(rt.alloc(), 4096, true),
         room: Vec::new(rt.alloc()),
     };
@@ -266,7 +266,7 @@ a: block 3 at byte 56: options that break rules are left out, and the length of 
 // What the capture in these digits becomes, what is said of it, and how many blocks are told.
 fn mended(alloc: Global, digits: &str) -> Result<(Vec<u8>, Vec<u8>, Counted), Fail> {
     let mut repairs = BlockRepairs {
-        prefix: "a: ",
+        prefix: String::from_str(alloc, "a: ")?,
         notes: Narrow::new(alloc, 4096, true),
         body: Vec::new(alloc),
         text: Vec::new(alloc),

@@ -1,0 +1,302 @@
+"""What `pcapfile repair` makes of captures of blocks. What becomes of a block is said here once more, over `as_is`, which takes blocks by
+struct alone."""
+import random
+import shutil
+import struct
+import subprocess
+import tempfile
+
+import as_is
+from as_is import AT_FAULT, DONE, ENHANCED, INTERFACE, MESSAGES, MOST, OBSOLETE, SECTION, SIMPLE, framed, option_flaw, options_flaws
+
+MAGIC, UNSTATED = b"\x0a\x0d\x0d\x0a", b"\xff" * 8
+LEFT = "options that break rules are left out"
+
+
+def sound_options(order, number, left):
+    """The options whose values break no rule, as their bytes stand."""
+    kept = b""
+    while len(left) >= 4:
+        code, length = struct.unpack_from(order + "HH", left)
+        end = 4 + length + -length % 4
+        if code == 0 or end > len(left):
+            break
+        kept += b"" if option_flaw(number, code, left[4 : 4 + length]) else left[:end]
+        left = left[end:]
+    return kept
+
+
+def with_options(order, number, body, front):
+    """A body without the options that break rules, behind so many bytes, and whether any does."""
+    if not options_flaws(order, number, body[front:]):
+        return body, False
+    return body[:front] + sound_options(order, number, body[front:]), True
+
+
+def mended(order, number, body):
+    """The body that a block has then, or None, and what is said of it."""
+    if number == SECTION:
+        made, is_flawed = with_options(order, number, body, 16)
+        stated = ["the length of its section is stated no more"] * (body[8:16] != UNSTATED)
+        return made[:8] + UNSTATED + made[16:], ", and ".join([LEFT] * is_flawed + stated)
+    if number == INTERFACE and len(body) < 8:
+        return body + bytes(8 - len(body)), "its body is too short for an interface, and is filled up with zeros"
+    front = 8
+    if number in (OBSOLETE, SIMPLE, ENHANCED):
+        packet, _ = as_is.packet_in(order, number, body, [])
+        if not packet:
+            return None, "its body breaks a rule, and it is left out"
+        front = 20 + packet[2] + -packet[2] % 4
+    if number not in (INTERFACE, OBSOLETE, ENHANCED):
+        return body, ""
+    made, is_flawed = with_options(order, number, body, front)
+    return made, LEFT * is_flawed
+
+
+def block(order, number, body):
+    return struct.pack(order + "II", number, len(body) + 12) + body + struct.pack(order + "I", len(body) + 12)
+
+
+def is_section(capture, at):
+    found = framed(capture, at, ">") if capture.startswith(MAGIC, at) else None
+    return isinstance(found, tuple)
+
+
+def stand(capture, at, order):
+    """Whether a section header stands there, or two blocks in a row, or one to the end."""
+    if is_section(capture, at):
+        return True
+    for _ in range(2):
+        found = framed(capture, at, order)
+        if not isinstance(found, tuple):
+            return False
+        order, at = found[0], at + len(found[2]) + 12
+        if at == len(capture):
+            return True
+    return True
+
+
+def is_torn(capture, at, order):
+    """Whether the block that is cut short there states no length that is too large."""
+    if len(capture) - at < 12:
+        return True
+    if capture[at : at + 4] == MAGIC:
+        order = ">" if capture[at + 8 : at + 12] == b"\x1a\x2b\x3c\x4d" else "<"
+    return struct.unpack_from(order + "I", capture, at + 4)[0] <= MOST
+
+
+def unopened(name, capture):
+    """What is said of a capture in which no section header stands."""
+    if capture[:1] != b"\n":
+        return as_is.repaired(name, capture)
+    found = framed(capture, 0, ">") if capture[:4] == MAGIC[: len(capture)] else 10
+    said = found if found == "cut short" else f"Invalid field value: {MESSAGES[found]}"
+    return None, f"pcapfile: {name}: {said}\n", AT_FAULT
+
+
+def repaired(name, capture):
+    """The capture that is written, or None; what is said, and the status."""
+    if len(capture) >= 24 and as_is.opened(capture):
+        return as_is.repaired(name, capture)
+    at = next((it for it in range(len(capture)) if is_section(capture, it)), None)
+    if at is None:
+        return unopened(name, capture)
+    said = [f"{at} bytes at byte 0 are no blocks, and are left out"] * (at > 0)
+    out, order, count, changed = b"", ">", 0, 0
+    while at < len(capture):
+        found, left = framed(capture, at, order), len(capture) - at
+        if isinstance(found, tuple):
+            order, number, body = found
+            made, change = mended(order, number, body)
+            count, changed = count + 1, changed + bool(change)
+            said += [f"block {count} at byte {at}: {change}"] * bool(change)
+            out, at = out + (b"" if made is None else block(order, number, made)), at + len(body) + 12
+        elif found == "cut short" and is_torn(capture, at, order):
+            said.append(f"{left} bytes at byte {at} are of a block that is cut short, and are left out")
+            break
+        else:
+            behind = next((it for it in range(at, len(capture)) if stand(capture, it, order)), len(capture))
+            said.append(f"{behind - at} bytes at byte {at} are no blocks, and are left out")
+            at = behind
+    said += [f"{changed} of {count} blocks are changed or left out"] * (changed > 0)
+    return out, "".join(f"pcapfile: {name}: {it}\n" for it in said), DONE
+
+
+def section(order, options=b"", length=-1):
+    return block(order, SECTION, struct.pack(order + "IHHq", 0x1A2B3C4D, 1, 0, length) + options)
+
+
+def option(order, code, value):
+    return struct.pack(order + "HH", code, len(value)) + value + bytes(-len(value) % 4)
+
+
+def enhanced(order, number, units, data, options=b""):
+    head = struct.pack(order + "IIIII", number, units >> 32, units & 0xFFFFFFFF, len(data), len(data))
+    return block(order, ENHANCED, head + data + bytes(-len(data) % 4) + options)
+
+
+def with_others(order, options, place, code, value):
+    """A bad option of this code before, between or behind good ones, all of which stay."""
+    return options[:place] + option(order, code, value) + options[place:]
+
+
+def flawed_options(order):
+    """Captures with an option that breaks a rule before, between and behind good ones, what they become, and what is said of them."""
+    good = option(order, 1, b"good") + option(order, 1, b"and good")
+    clock = option(order, 9, b"\x09")
+    head, packet = struct.pack(order + "HHI", 1, 0, 0), enhanced(order, 0, 1700000000000000001, b"data")
+    interface = block(order, INTERFACE, head + clock)
+    for place, where in ((0, "before"), (8, "between"), (20, "behind")):
+        broken, whole = (section(order, it) + interface + packet for it in (with_others(order, good, place, 4, b"\xff"), good))
+        yield f"an option {where} others of a section", broken, whole, """\
+pcapfile: in: block 1 at byte 0: options that break rules are left out
+pcapfile: in: 1 of 3 blocks are changed or left out
+"""
+        bodies = (head + it + clock for it in (with_others(order, good, place, 8, b"short"), good))
+        broken, whole = (section(order) + block(order, INTERFACE, it) + packet for it in bodies)
+        yield f"an option {where} others of an interface", broken, whole, """\
+pcapfile: in: block 2 at byte 28: options that break rules are left out
+pcapfile: in: 1 of 3 blocks are changed or left out
+"""
+        packets = (enhanced(order, 0, 5, b"x", it) for it in (with_others(order, good, place, 2, b"\1\2"), good))
+        broken, whole = (section(order) + interface + it + packet for it in packets)
+        yield f"an option {where} others of a packet", broken, whole, """\
+pcapfile: in: block 3 at byte 56: options that break rules are left out
+pcapfile: in: 1 of 4 blocks are changed or left out
+"""
+
+
+def by_hand(order):
+    """Captures, what they become, and what is said of them: a section of 28 bytes, an interface of 28 and four packets of 36."""
+    interface = block(order, INTERFACE, struct.pack(order + "HHI", 1, 0, 0) + option(order, 9, b"\x09"))
+    packets = [enhanced(order, 0, 1700000000000000001 + k, bytes([k] * (k + 1))) for k in range(4)]
+    sound = section(order) + interface + b"".join(packets)
+    other = enhanced(order, 1, 5, b"data")
+    yield "a sound capture", sound, sound, ""
+    yield "a packet of an unknown interface", sound + other, sound + other, ""
+    past, kept = (sound + enhanced(order, 0, 5, b"data", it) for it in (struct.pack(order + "HH", 1, 5) + b"1234", b""))
+    yield "an option that goes on past the body", past, kept, """\
+pcapfile: in: block 7 at byte 200: options that break rules are left out
+pcapfile: in: 1 of 7 blocks are changed or left out
+"""
+    short, filled = (block(order, INTERFACE, b"\1\0\0\0" + it) for it in (b"", bytes(4)))
+    yield "an interface too short", sound[:28] + short + interface + other, sound[:28] + filled + interface + other, """\
+pcapfile: in: block 2 at byte 28: its body is too short for an interface, and is filled up with zeros
+pcapfile: in: 1 of 4 blocks are changed or left out
+"""
+    yield "packets with no room", sound + block(order, ENHANCED, bytes(16)) + block(order, SIMPLE, b"") + other, sound + other, """\
+pcapfile: in: block 7 at byte 200: its body breaks a rule, and it is left out
+pcapfile: in: block 8 at byte 228: its body breaks a rule, and it is left out
+pcapfile: in: 2 of 9 blocks are changed or left out
+"""
+    yield "a section that states its length", section(order, length=172) + sound[28:], sound, """\
+pcapfile: in: block 1 at byte 0: the length of its section is stated no more
+pcapfile: in: 1 of 6 blocks are changed or left out
+"""
+    yield "garbage between blocks", sound[:92] + b"\xff" * 21 + sound[92:164] + b"text" * 5 + sound[164:], sound, """\
+pcapfile: in: 21 bytes at byte 92 are no blocks, and are left out
+pcapfile: in: 20 bytes at byte 185 are no blocks, and are left out
+"""
+    yield "a wrong length", sound[:96] + struct.pack(order + "I", 40) + sound[100:], sound[:92] + sound[128:], """\
+pcapfile: in: 36 bytes at byte 92 are no blocks, and are left out
+"""
+    yield "garbage before the first section", b"no" * 9 + sound, sound, "pcapfile: in: 18 bytes at byte 0 are no blocks, and are left out\n"
+    yield "garbage at the end", sound + bytes(40), sound, "pcapfile: in: 40 bytes at byte 200 are no blocks, and are left out\n"
+    yield "a torn last block", sound[:-1], sound[:164], """\
+pcapfile: in: 35 bytes at byte 164 are of a block that is cut short, and are left out
+"""
+    yield "three bytes of a last block", sound[:167], sound[:164], """\
+pcapfile: in: 3 bytes at byte 164 are of a block that is cut short, and are left out
+"""
+
+
+def captures(help):
+    """Captures of blocks, broken at random and at each byte, and with gaps that are longer than what is looked at at once."""
+    yield from as_is.block_captures(help)
+    draw = random.Random(34)
+    for count in range(40):
+        orders = [draw.choice("<>") for _ in range(draw.choice((1, 2, 3)))]
+        whole = b"".join(as_is.some_blocks(draw, help, order) for order in orders)
+        for _ in range(draw.randrange(1, 4)):
+            at = draw.randrange(len(whole))
+            junk = draw.choice((b"", b"\0" * 7, b"\0" * 40, b"\xff" * 33, b"some text", draw.randbytes(50)))
+            whole = whole[:at] + junk + whole[at + draw.choice((0, 0, 1, 12)) :]
+        yield f"broken blocks {count}", whole
+    few = section("<") + block("<", INTERFACE, bytes(8)) + enhanced("<", 0, 1, b"data")
+    for order in "<>":
+        yield f"a section that states its length and more, {order}", section(order, option(order, 1, b"\xff"), 99) + few
+    for size in (MOST - 3, MOST + 1):
+        yield f"a block of {size} bytes that is cut short", few + struct.pack("<III", 9, size, 0) + few
+    yield "a block of more bytes", few + block("<", 9, bytes(MOST)) + few
+    for size in (2097152 - 524320 - 9, 2097152 - 524320 + 3, 2621440):
+        yield f"a gap of {size} bytes", few + b"\xff" * size + few[28:] + b"\xff" * 77 + few
+        yield f"{size} bytes before a section", b"\0" * size + few
+    yield "no section", b"\n\x0d\x0d\n" + few[4:12] + few[28:] * 3
+    yield "a byte of a section", b"\n"
+    yield "a line", b"\nthis is text"
+
+
+def repair(tally, help, capture):
+    """How a repair of a file ended, what lies in its folder then, and what a check and a list say of the other one."""
+    with tempfile.TemporaryDirectory() as folder:
+        help.put(folder, "in", capture)
+        help.put(folder, "out", b"old")
+        ended = as_is.ran(tally, folder, "repair", "in", "-o", "out")
+        left = help.files(folder)
+        return ended, left, as_is.ran(tally, folder, "check", "out"), as_is.ran(tally, folder, "list", "out")
+
+
+def try_blocks(tally, help):
+    """Each capture of blocks, repaired into a file and through pipes; the strict reading takes the other one, and lists its packets."""
+    for name, capture in captures(help):
+        out, said, status = repaired("in", capture)
+        ended, left, check, list_ = repair(tally, help, capture)
+        with tempfile.TemporaryDirectory() as folder:
+            piped = as_is.ran(tally, folder, "repair", "-", "-o", "-", given=capture)
+        lines = as_is.listed_blocks("out", out)[0].encode() if out else b""
+        tally.note(
+            f"repair of {name}",
+            ended != (status, b"", said) and f"it gave {str(ended)[-300:]}, and not {str((status, said))[-300:]}",
+            left != {"in": capture, "out": b"old" if out is None else out} and f"it left {sorted(left)}, and not the capture",
+            piped != (status, out or b"", said.replace("pcapfile: in: ", "pcapfile: -: ")) and f"through pipes it gave {str(piped)[-300:]}",
+            out and (check[0] != DONE or list_ != (DONE, lines, "")) and f"the strict reading says {check} and {list_}",
+        )
+
+
+def try_by_hand(tally, help):
+    """The captures that are broken by hand: what they become, and what is said of them."""
+    for order in "<>":
+        for name, capture, wanted, said in (*by_hand(order), *flawed_options(order)):
+            ended, left, check, _ = repair(tally, help, capture)
+            tally.note(
+                f"repair of {name}, {order}",
+                ended != (DONE, b"", said) and f"it gave {ended}, and not {said!r}",
+                left["out"] != wanted and f"it wrote {left['out'].hex()}, and not {wanted.hex()}",
+                check[0] != DONE and f"a check gives {check}",
+                shown_by_tshark(left["out"]) not in (None, shown(help, left["out"])) and "tshark reads other packets",
+            )
+
+
+def shown(help, capture):
+    """Time, stored length and length on the wire of each packet, where each has an interface."""
+    try:
+        return [f"{time // 10**9}.{time % 10**9:09}\t{len(data)}\t{wire}" for _, time, wire, data in help.packets_of(capture)]
+    except IndexError:
+        return None
+
+
+def shown_by_tshark(capture):
+    """The same as tshark tells it, where it is there and takes the capture."""
+    if not shutil.which("tshark"):
+        return None
+    with tempfile.TemporaryDirectory() as folder:
+        with open(f"{folder}/out", "wb") as it:
+            it.write(capture)
+        fields = [word for field in ("frame.time_epoch", "frame.cap_len", "frame.len") for word in ("-e", field)]
+        ran = subprocess.run(["tshark", "-r", f"{folder}/out", "-T", "fields", *fields], capture_output=True, text=True, timeout=60)
+    return None if ran.returncode else ran.stdout.splitlines()
+
+
+def try_all(tally, help):
+    for tries in (try_blocks, try_by_hand):
+        tries(tally, help)
