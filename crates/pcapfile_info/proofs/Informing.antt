@@ -12,9 +12,8 @@ use Rattle.pcap_core.proofs.Taking.{run_reads}
 use Rattle.pcap_classic.specs.declared.pcap.header.PcapHeader.{PcapHeader}
 use Rattle.pcap_classic.specs.HeaderText.{HeaderText, HeaderSays}
 use Rattle.pcap_classic.specs.Magic.{order_of, resolution_of}
-use Rattle.pcap_classic.specs.Packets.{format_under, reader_format}
-use Rattle.pcap_classic.specs.PacketText.{packet_limit, Captured}
-use Rattle.pcap_classic.proofs.Captures.{under_valid}
+use Rattle.pcap_classic.specs.Packets.{format_under}
+use Rattle.pcap_classic.specs.PacketText.{packet_limit}
 use Rattle.pcap_classic.proofs.HeadedPackets.{packets_lawful}
 use Rattle.pcap_classic.proofs.Stable.{header_stable}
 use Rattle.pcap_classic.proofs.Texts.{header_length}
@@ -102,28 +101,19 @@ packets_refused (Some s) now failed e end totals nothing reads is = (
   ),
 )
 
-packets_behind : (header : PcapHeader) (s after : List ℕ) (took : Takes HeaderSays (Some s) (Some after) header) (now : Option (List ℕ)) (failed : Bool) (old new : Progress) (fault : Option PcapError) (end : End) → old.items ≡ 0 → old.bytes ≡ 24
-    → TellsItems (reader_format packet_limit header) tt IsPacketSight 1 (TotalsAre 1) (Some after) now failed most_passed old new fault → EndIs fault failed new.items most_passed end
-    → InformsPackets s (checked_of Pcap new.items new.bytes end) (Some header) new.totals
-packets_behind header s after took now failed old new fault end items bytes tells is =
-    let under = under_valid packet_limit header took.1.valid (λ (f : Format (Unit {0}) Captured). TellsItems f tt IsPacketSight 1 (TotalsAre 1) (Some after) now failed most_passed old new fault) tells in
+-- the header is read, and then packets under it
+pub packets_informed : (header : PcapHeader) (known after now : Option (List ℕ)) (failed : Bool) (old new : Progress) (fault : Option PcapError) (end : End) → old.items ≡ 0 → old.bytes ≡ 24
+    → Takes HeaderSays known after header → TellsItems (format_under packet_limit header) tt IsPacketSight 1 (TotalsAre 1) after now failed most_passed old new fault → EndIs fault failed new.items most_passed end
+    → IfSome known (λ s. InformsPackets s (checked_of Pcap new.items new.bytes end) (Some header) new.totals)
+packets_informed header None after now failed old new fault end items bytes took tells is = tt
+packets_informed header (Some s) None now failed old new fault end items bytes took tells is = absurd took.2
+packets_informed header (Some s) (Some after) now failed old new fault end items bytes took tells is =
     let text : HeaderText header s after = subst (λ (l : List ℕ). HeaderText header l after) (sym took.2) (header_stable.text took.0 after [] header took.1) in
     let long : old.bytes ≡ counted (length took.0) = omega (arith, bytes, header_length header took.0 [] took.1) in
     let checked : Checked = record { format = Pcap; items = new.items; bytes = new.bytes; end = end } in
     let ends = subst (λ (n : ℕ). EndIs fault failed new.items (n + most_passed) end) (sym items) is in
-    let informs = items_informed (format_under packet_limit header) (packets_lawful packet_limit (number_in (order_of header.magic_number)) (resolution_of header.magic_number)) tt IsPacketSight 1 s took.0 after took.2 now failed old new fault checked under long refl refl ends in
+    let informs = items_informed (format_under packet_limit header) (packets_lawful packet_limit (number_in (order_of header.magic_number)) (resolution_of header.magic_number)) tt IsPacketSight 1 s took.0 after took.2 now failed old new fault checked tells long refl refl ends in
     (refl, inr (header, after, text, refl, subst (λ (n : ℕ). InformsItems (format_under packet_limit header) tt IsPacketSight 1 s after n checked new.totals) items informs.0))
-
--- the header is read, and then packets by a reader of it
-pub packets_informed : (header read : PcapHeader) → read ≡ header → (known after behind now : Option (List ℕ)) → behind ≡ after → (failed : Bool) (old new : Progress) (fault : Option PcapError) (end : End) → old.items ≡ 0 → old.bytes ≡ 24
-    → Takes HeaderSays known after header → TellsItems (reader_format packet_limit read) tt IsPacketSight 1 (TotalsAre 1) behind now failed most_passed old new fault → EndIs fault failed new.items most_passed end
-    → IfSome known (λ s. InformsPackets s (checked_of Pcap new.items new.bytes end) (Some header) new.totals)
-packets_informed header read same None after behind now stream failed old new fault end items bytes took tells is = tt
-packets_informed header read same (Some s) None behind now stream failed old new fault end items bytes took tells is = absurd took.2
-packets_informed header read same (Some s) (Some after) behind now stream failed old new fault end items bytes took tells is =
-    let there = subst (λ (h : PcapHeader). TellsItems (reader_format packet_limit h) tt IsPacketSight 1 (TotalsAre 1) behind now failed most_passed old new fault) same tells in
-    let here = subst (λ (l : Option (List ℕ)). TellsItems (reader_format packet_limit header) tt IsPacketSight 1 (TotalsAre 1) l now failed most_passed old new fault) stream there in
-    packets_behind header s after took now failed old new fault end items bytes here is
 
 -- the first block is refused
 pub blocks_refused : (described : List Described) (comments : List (String Global)) → described ≡ [] → comments ≡ [] → (known : Option (List ℕ)) (e : PcapError) (end : End) (totals : Totals) → TotalsAre 0 [] totals

@@ -6,3 +6,4 @@ mod Spans
 mod Tallying
 mod Telling
 mod Totalling
+mod Turns

@@ -1,5 +1,5 @@
 -- Items of which it is told what is seen, of any format.
-use Rattle.std.specs.Prelude.{⊤, ◌≡◌, ◌+◌, ℕ, List, [], ◌∷◌, length, Bool, Option}
+use Rattle.std.specs.Prelude.{⊤, ◌≡◌, ◌+◌, ℕ, List, [], ◌∷◌, length, Bool, true, false, Option, Some, None, Result, Ok, Err}
 use Rattle.pcap_core.specs.declared.errors.PcapError.{PcapError}
 use Rattle.pcap_core.specs.Format.{Format, state_after}
 use Rattle.pcap_core.specs.Takes.{TakesTexts, TakesItems}
@@ -56,3 +56,20 @@ module _ {S V : Type 0} (f : Format S V) (q : S) (IsSight : ℕ → V → Sight 
     pub sights : List Sight
     pub are_sights : AreSights IsSight first items sights
     pub totals : Kept sights new.totals
+
+module _ {S V : Type 0} (f : Format S V) (IsSight : ℕ → V → Sight → Type 0) (first : ℕ) (Kept : List Sight → Totals → Type 0) where
+  -- whatever items were told of that lead here, others that lead there are told of too
+  abbrev pub GoesOn : S → S → Option (List ℕ) → Option (List ℕ) → Progress → Progress → Type 0
+  GoesOn here there left now mid new =
+      (q : S) (before : Option (List ℕ)) (old : Progress) → Telling f q IsSight first Kept here before left old mid mid.items → Telling f q IsSight first Kept there before now old new new.items
+
+  -- whatever items were told of that lead here, the run ends so
+  abbrev pub Ends : S → Option (List ℕ) → Option (List ℕ) → Bool → ℕ → Progress → Progress → Option PcapError → Type 0
+  Ends here left now failed most mid new fault =
+      (q : S) (before : Option (List ℕ)) (old : Progress) → Telling f q IsSight first Kept here before left old mid mid.items → TellsItems f q IsSight first Kept before now failed most old new fault
+
+  -- a turn over a stream: it says whether the run goes on, where no read failed
+  abbrev pub TurnGives : S → S → Option (List ℕ) → Option (List ℕ) → Bool → ℕ → Progress → Progress → Result Bool PcapError → Type 0
+  TurnGives here there left now failed most mid new (Ok true) = (failed ≡ false) × GoesOn here there left now mid new
+  TurnGives here there left now failed most mid new (Ok false) = Ends here left now failed most mid new None
+  TurnGives here there left now failed most mid new (Err e) = Ends here left now failed most mid new (Some e)

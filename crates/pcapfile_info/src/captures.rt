@@ -4,13 +4,14 @@ ghost use Rattle.std.specs.Prelude.{◌≡◌, [], None, IfSome, IfOk};
 ghost use Rattle.pcapfile_info.specs.Information.{InformsPackets, InformsBlocks};
 
 use crate::described::{Described, Opened, opened_by, push_comments};
-use crate::progress::{MOST, Progress, tell_blocks, tell_packets};
+use crate::passing::tell_packets;
+use crate::progress::{MOST, Progress, tell_blocks};
 use crate::totals::Totals;
+use pcap_file::PcapNgReader;
 use pcap_file::pcap::{PcapHeader, read_header};
-use pcap_file::{PcapNgReader, PcapReader};
 use pcapfile_run::{Checked, Format, end_of};
 use std::alloc::{AllocError, Global};
-use std::io::Read;
+use std::io::{BufRead, Read};
 
 /// What is told of a capture.
 #[derive(Debug, Drop)]
@@ -31,7 +32,7 @@ pub struct Information {
 
 /// Tells what a classic capture that comes off a stream holds. No more than one packet is held in memory. `AllocError` where
 /// there is no room for what is counted.
-pub fn inform_packets<R: Read + Drop>(
+pub fn inform_packets<R: BufRead + Drop>(
     alloc: Global,
     mut input: R,
 ) -> Result<Information, AllocError>
@@ -60,7 +61,6 @@ pub fn inform_packets<R: Read + Drop>(
             });
         }
     };
-    let mut reader = PcapReader::with_header(alloc, header, input);
     let mut progress = Progress {
         items: 0,
         bytes: 24,
@@ -69,7 +69,7 @@ pub fn inform_packets<R: Read + Drop>(
         described: Vec::new(alloc),
         comments: Vec::new(alloc),
     };
-    let fault = tell_packets(&mut reader, &mut progress);
+    let fault = tell_packets(alloc, &header, &mut input, &mut read_failed, &mut progress);
     let Progress {
         items,
         bytes,
@@ -78,7 +78,7 @@ pub fn inform_packets<R: Read + Drop>(
         described,
         comments,
     } = progress;
-    let end = end_of(fault, reader.failed(), items, MOST);
+    let end = end_of(fault, read_failed, items, MOST);
     Ok(Information {
         checked: Checked {
             format,

@@ -5,6 +5,7 @@ mod blocks;
 mod captures;
 mod described;
 mod packets;
+mod passing;
 mod progress;
 mod seen;
 mod spread;

@@ -3,26 +3,24 @@
 ghost use Rattle.std.specs.Prelude.{◌≡◌, ◌+◌, ◌^◌, ◌<◌, ◌⊎◌, ◌++◌, [], false, length, map, IfOk, MatchResult};
 ghost use Rattle.std.specs.Option.{option_to_list};
 ghost use Rattle.pcap_core.specs.Errors.{IsMemory};
-ghost use Rattle.pcap_classic.specs.Packets.{reader_format};
-ghost use Rattle.pcap_classic.specs.PacketText.{packet_limit};
-ghost use Rattle.pcap_classic.specs.Reader.{stream_of, has_failed, is_done};
 ghost use Rattle.pcap_blocks.specs.InterfaceDescription.{interface_of};
 ghost use Rattle.pcap_blocks.specs.SectionHeader.{section_of};
 ghost use Rattle.pcap_file.specs.Blocks.{block_format};
 ghost use Rattle.pcap_file.specs.Reader as ng;
 ghost use Rattle.pcapfile_run.specs.Passing.{counted};
 ghost use Rattle.pcapfile_info.specs.Describing.{AddsDescribed, DescribesBlocks, LacksMemory, SameDescribed, last_description, told_of};
-ghost use Rattle.pcapfile_info.specs.Sights.{IsBlockSight, IsPacketSight};
+ghost use Rattle.pcapfile_info.specs.Sights.{IsBlockSight, captured_as, captured_seen};
 ghost use Rattle.pcapfile_info.specs.Telling.{AddsItem, AddsNothing, AddsPacketAlone, SameCounts, TellsItems};
-ghost use Rattle.pcapfile_info.specs.Totals.{AllAre, IsWithin, TotalsAre};
+ghost use Rattle.pcapfile_info.specs.Totals.{IsWithin, TotalsAre};
 
 use crate::blocks::sight_of_block;
 use crate::described::{Described, describe_last, push_comments};
 use crate::packets::seen_of;
-use crate::seen::{Seen, Sight};
+use crate::seen::Sight;
 use crate::totals::Totals;
+use pcap_file::pcap::PacketHeader;
 use pcap_file::pcapng::{BlockHeader, BlockType, InterfaceDescriptionBlock, SectionHeaderBlock};
-use pcap_file::{PcapError, PcapNgReader, PcapReader, ResultParsing};
+use pcap_file::{PcapError, PcapNgReader, ResultParsing};
 use std::alloc::{AllocError, Global};
 use std::io::Read;
 
@@ -42,15 +40,16 @@ pub(crate) struct Progress {
 }
 
 impl Progress {
-    // One packet more, of so many bytes, which is counted among all alone.
-    fn add_packet_alone(&mut self, seen: Seen, bytes: u64)
+    /// One packet of a classic capture more, which is counted among all alone.
+    #[inline(always)]
+    pub(crate) fn add_packet_alone(&mut self, header: PacketHeader, bytes: &[u8])
         requires few { self.old.items + 1 < 2 ^ 64 }
-        ensures adds { AddsPacketAlone seen bytes self.old self.new }
+        ensures adds { AddsPacketAlone (captured_seen (captured_as header bytes.now)) (16 + header.incl_len) self.old self.new }
         ensures same { SameDescribed self.old self.new }
     {
-        self.totals.all.add(seen);
+        self.totals.all.add(seen_of(header, bytes));
         self.items += 1;
-        self.bytes = self.bytes.saturating_add(bytes);
+        self.bytes = self.bytes.saturating_add(16 + u64::from(header.incl_len));
     }
 
     // Keeps how the last of the section's interfaces is described.
@@ -109,52 +108,6 @@ impl Progress {
         self.bytes = self.bytes.saturating_add(bytes);
         Ok(())
     }
-}
-
-// Passes the packets of a reader, which are counted among all alone, and gives what refuses the next one.
-fn pass_packets<T: Read + Drop>(
-    reader: &mut PcapReader<T>,
-    progress: &mut Progress,
-) -> Option<PcapError>
-    requires ready { is_done reader.old ≡ false }
-    requires unfailed { has_failed reader.old ≡ false }
-    requires few { progress.old.items < 2 }
-    requires room { progress.old.bytes < 2 ^ 64 }
-    requires nothing { AllAre [] progress.old.totals }
-    ensures header { reader.new.header ≡ reader.old.header }
-    ensures same { SameDescribed progress.old progress.new }
-    ensures tells { TellsItems (reader_format packet_limit reader.old.header) tt IsPacketSight 1 AllAre (T.remaining (stream_of reader.old)) (T.remaining (stream_of reader.new)) (has_failed reader.new) 18446744073709551614 progress.old progress.new result }
-{
-    for turn in 0..MOST {
-        match reader.next_header() {
-            None => return None,
-            Some(Ok(header)) => {
-                let seen = seen_of(header, reader.data());
-                progress.add_packet_alone(seen, 16 + u64::from(header.incl_len));
-            }
-            Some(Err(error)) => return Some(error),
-        }
-    }
-    None
-}
-
-/// Passes the packets of a reader, and gives what refuses the next one.
-pub(crate) fn tell_packets<T: Read + Drop>(
-    reader: &mut PcapReader<T>,
-    progress: &mut Progress,
-) -> Option<PcapError>
-    requires ready { is_done reader.old ≡ false }
-    requires unfailed { has_failed reader.old ≡ false }
-    requires few { progress.old.items < 2 }
-    requires room { progress.old.bytes < 2 ^ 64 }
-    requires nothing { TotalsAre 1 [] progress.old.totals }
-    ensures header { reader.new.header ≡ reader.old.header }
-    ensures same { SameDescribed progress.old progress.new }
-    ensures tells { TellsItems (reader_format packet_limit reader.old.header) tt IsPacketSight 1 (TotalsAre 1) (T.remaining (stream_of reader.old)) (T.remaining (stream_of reader.new)) (has_failed reader.new) 18446744073709551614 progress.old progress.new result }
-{
-    let fault = pass_packets(reader, progress);
-    progress.totals.give_to_the_interface();
-    fault
 }
 
 // Counts the block that a reader lends.

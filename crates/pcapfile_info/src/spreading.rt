@@ -83,16 +83,13 @@ impl Spread {
         }
     }
 
-    // The span of an instant. Most packets lie in the last one, and want no division.
-    fn span_of(&self, instant: u64) -> u64
-        ensures { result ≡ instant / self.now.width }
+    // Whether an instant lies in the last span, as that of most packets does. It wants no division.
+    #[inline(always)]
+    fn is_in_last(&self, instant: u64) -> bool
+        ensures { IsTrue result → instant / self.now.width ≡ self.now.last }
     {
         let start = self.last * self.width;
-        if start <= instant && instant - start < self.width {
-            self.last
-        } else {
-            instant / self.width
-        }
+        start <= instant && instant - start < self.width
     }
 
     // Whether the span of this number can be one of the row.
@@ -127,16 +124,29 @@ impl Spread {
         self.last = self.last.max(span);
     }
 
-    /// One packet more.
-    pub(crate) fn add(&mut self, instant: u64)
+    // One packet more, in whichever span.
+    #[inline(never)]
+    fn add_anywhere(&mut self, instant: u64)
         ensures { (instants : List ℕ) → Spreads instants self.old → Spreads (instants ++ instant ∷ []) self.new }
     {
-        let span = self.span_of(instant);
+        let span = instant / self.width;
         if self.has_room(span) {
             self.put(span);
         } else {
             self.widen(instant);
             self.put(instant / self.width);
+        }
+    }
+
+    /// One packet more.
+    #[inline(always)]
+    pub(crate) fn add(&mut self, instant: u64)
+        ensures { (instants : List ℕ) → Spreads instants self.old → Spreads (instants ++ instant ∷ []) self.new }
+    {
+        if self.is_in_last(instant) {
+            self.put(self.last);
+        } else {
+            self.add_anywhere(instant);
         }
     }
 }

@@ -1,8 +1,8 @@
 //! What is counted of packets.
 
-ghost use Rattle.std.specs.Prelude.{◌≡◌, ◌<◌, ◌⊎◌, ◌++◌, ◌∷◌, [], List, Some, IsTrue, ◌↔◌, IfSome};
+ghost use Rattle.std.specs.Prelude.{◌≡◌, ◌<◌, ◌⊎◌, ◌++◌, ◌∷◌, [], ℕ, List, Some, IsTrue, ◌↔◌, IfSome};
 ghost use Rattle.pcapfile_info.specs.declared.seen.Seen.{Seen};
-ghost use Rattle.pcapfile_info.specs.Tallies.{instant_of, IsBefore, IsEarlierOf, IsEarliestWith, IsLaterOf, IsLatestWith, IsSpreadWith, size_class, Tallies};
+ghost use Rattle.pcapfile_info.specs.Tallies.{instant_of, IsBefore, IsEarliestWith, IsLatestWith, IsSpread, IsSpreadWith, size_class, Tallies};
 
 use crate::seen::Seen;
 use crate::spread::Spread;
@@ -42,44 +42,30 @@ fn is_before(left: Timestamp, right: Timestamp) -> bool
     left < right
 }
 
-// The earlier one of a time and another, if there is one.
-fn earlier_of(known: Option<Timestamp>, time: Timestamp) -> Timestamp
-    ensures { IsEarlierOf known time result }
+// Keeps the earlier one of a time and another, if there is one.
+#[inline(always)]
+fn keep_earlier(known: &mut Option<Timestamp>, time: Timestamp)
+    ensures { IsEarliestWith known.old (Some time) known.new }
 {
-    let Some(first) = known else {
-        return time;
-    };
-    if is_before(first, time) { first } else { time }
-}
-
-// The later one of a time and another, if there is one.
-fn later_of(known: Option<Timestamp>, time: Timestamp) -> Timestamp
-    ensures { IsLaterOf known time result }
-{
-    let Some(last) = known else {
-        return time;
-    };
-    if is_before(time, last) { last } else { time }
-}
-
-// The earliest time behind a packet of this time.
-fn earliest_with(known: Option<Timestamp>, time: Option<Timestamp>) -> Option<Timestamp>
-    ensures { IsEarliestWith known time result }
-{
-    match time {
-        None => known,
-        Some(time) => Some(earlier_of(known, time)),
+    if let Some(first) = known {
+        if is_before(*first, time) {
+            return;
+        }
     }
+    *known = Some(time);
 }
 
-// The latest time behind a packet of this time.
-fn latest_with(known: Option<Timestamp>, time: Option<Timestamp>) -> Option<Timestamp>
-    ensures { IsLatestWith known time result }
+// Keeps the later one of a time and another, if there is one.
+#[inline(always)]
+fn keep_later(known: &mut Option<Timestamp>, time: Timestamp)
+    ensures { IsLatestWith known.old (Some time) known.new }
 {
-    match time {
-        None => known,
-        Some(time) => Some(later_of(known, time)),
+    if let Some(last) = known {
+        if is_before(time, *last) {
+            return;
+        }
     }
+    *known = Some(time);
 }
 
 // The nanoseconds from 1970 to a time: none before that, and 2^64 - 1 for more than that.
@@ -97,14 +83,11 @@ fn instant_of(time: Timestamp) -> u64
     }
 }
 
-// Puts the time of a packet, where it has one, into spans of time.
-fn add_time(spread: &mut Option<Spread>, time: Option<Timestamp>)
-    ensures { IsSpreadWith spread.old time spread.new }
+// Puts an instant into spans of time.
+#[inline(always)]
+fn add_instant(spread: &mut Option<Spread>, instant: u64)
+    ensures { (instants : List ℕ) → IsSpread instants spread.old → IsSpread (instants ++ instant ∷ []) spread.new }
 {
-    let Some(time) = time else {
-        return;
-    };
-    let instant = instant_of(time);
     match spread {
         None => *spread = Some(Spread::new(instant)),
         Some(spread) => spread.add(instant),
@@ -146,7 +129,24 @@ impl Tally {
         }
     }
 
+    // The time of one packet more, where it has one.
+    #[inline(always)]
+    fn add_time(&mut self, time: Option<Timestamp>)
+        ensures same { (self.new.packets ≡ self.old.packets) × (self.new.stored ≡ self.old.stored) × (self.new.original ≡ self.old.original) × (self.new.sizes ≡ self.old.sizes) }
+        ensures earliest { IsEarliestWith self.old.earliest time self.new.earliest }
+        ensures latest { IsLatestWith self.old.latest time self.new.latest }
+        ensures spread { IsSpreadWith self.old.spread time self.new.spread }
+    {
+        let Some(time) = time else {
+            return;
+        };
+        keep_earlier(&mut self.earliest, time);
+        keep_later(&mut self.latest, time);
+        add_instant(&mut self.spread, instant_of(time));
+    }
+
     /// One packet more.
+    #[inline(always)]
     pub(crate) fn add(&mut self, seen: Seen)
         ensures { (packets : List Seen) → Tallies packets self.old → Tallies (packets ++ seen ∷ []) self.new }
     {
@@ -155,8 +155,6 @@ impl Tally {
         self.packets = self.packets.saturating_add(1);
         self.stored = self.stored.saturating_add(seen.stored);
         self.original = self.original.saturating_add(u64::from(seen.original));
-        self.earliest = earliest_with(self.earliest, seen.time);
-        self.latest = latest_with(self.latest, seen.time);
-        add_time(&mut self.spread, seen.time);
+        self.add_time(seen.time);
     }
 }

@@ -1,16 +1,16 @@
 use Rattle.pcapfile_info.proofs.Alone.{alone_none}
-use Rattle.pcapfile_info.proofs.progress.tell_packets.Goals as goal
+use Rattle.pcapfile_info.proofs.passing.tell_packets.Goals as goal
 
-pub pass_packets-fault-requires-clause-nothing : goal.pass_packets-fault-requires-clause-nothing
-pass_packets-fault-requires-clause-nothing g c = alone_none c.args.progress.now.totals c.requires.nothing
+pub pass_packets-requires-clause-nothing : goal.pass_packets-requires-clause-nothing
+pass_packets-requires-clause-nothing g c = alone_none c.args.progress.now.totals c.requires.nothing
 
 pub give_to_the_interface-requires : goal.give_to_the_interface-requires
-give_to_the_interface-requires g c = c.pass_packets-fault.ensures.tells.totals.described
+give_to_the_interface-requires g c = c.pass_packets.ensures.tells.totals.described
 
 pub returns-clause-tells : goal.returns-clause-tells
 returns-clause-tells g c =
-    let tells = c.pass_packets-fault.ensures.tells in
-    record {
+    let tells = c.pass_packets.ensures.tells in
+    rw c.err-fault.ensures.value (record {
       items = tells.items;
       run = tells.run;
       number = tells.number;
@@ -18,4 +18,4 @@ returns-clause-tells g c =
       sights = tells.sights;
       are_sights = tells.are_sights;
       totals = c.give_to_the_interface.ensures tells.items tells.sights tells.are_sights tells.totals;
-    }
+    })

@@ -1,0 +1,180 @@
+//! Packets of classic captures that are passed: where they lie whole in the input's buffer, and held where they end outside of it.
+
+ghost use Rattle.std.specs.Prelude.{◌≡◌, ◌+◌, ◌^◌, ◌<◌, ◌≤◌, ℕ, List, Option, [], true, false, drop, length, IsTrue, IfOk, OnOk};
+ghost use Rattle.std.specs.Io.KnownBytes.{prepend_known};
+ghost use Rattle.std.specs.Result.{result_err};
+ghost use Rattle.pcap_core.specs.Answer.{whole};
+ghost use Rattle.pcap_core.specs.Filling.{Stated};
+ghost use Rattle.pcap_core.specs.Held.{held_bytes};
+ghost use Rattle.pcap_classic.specs.Magic.{is_magic};
+ghost use Rattle.pcap_classic.specs.Packets.{format_under, packet_format, reader_format};
+ghost use Rattle.pcap_classic.specs.StatedPackets.{KnowsHeader};
+ghost use Rattle.pcap_classic.specs.PacketText.{Captured, packet_limit};
+ghost use Rattle.pcapfile_info.specs.Describing.{SameDescribed};
+ghost use Rattle.pcapfile_info.specs.Sights.{IsPacketSight, captured_seen};
+ghost use Rattle.pcapfile_info.specs.Telling.{AddsPacketAlone, GoesOn, TellsItems, TurnGives};
+ghost use Rattle.pcapfile_info.specs.Totals.{AllAre, TotalsAre};
+
+use crate::progress::{MOST, Progress};
+use byteorder::{BigEndian, ByteOrder, LittleEndian};
+use pcap_core::stream::{Held, fill_item};
+use pcap_file::pcap::{Packet, PacketHeader, PacketsUnder, PcapHeader, packet_of};
+use pcap_file::{Endianness, PcapError, ResultParsing, TsResolution};
+use std::alloc::Global;
+use std::io::{BufRead, Read};
+
+// Passes the packets that lie whole at the front of these bytes, and gives how many bytes these are.
+fn pass_whole<B: ByteOrder>(
+    ts_resolution: TsResolution,
+    shown: &[u8],
+    progress: &mut Progress,
+) -> usize
+    requires { progress.old.items ≤ 18446744073709551614 }
+    ensures within { result ≤ length shown.now }
+    ensures few { (progress.old.items ≤ progress.new.items) × (progress.new.items ≤ 18446744073709551614) }
+    ensures same { SameDescribed progress.old progress.new }
+    ensures walks { (behind : Option (List ℕ)) → GoesOn (packet_format packet_limit B.number_of ts_resolution) IsPacketSight 1 AllAre tt tt (prepend_known shown.now behind) (prepend_known (drop result shown.now) behind) progress.old progress.new }
+{
+    let mut rest = shown;
+    while progress.items < MOST {
+        let Ok((after, packet)) = Packet::from_slice::<B>(rest, ts_resolution) else {
+            break;
+        };
+        progress.add_packet_alone(packet.header, packet.data_.as_slice());
+        rest = after;
+    }
+    shown.len() - rest.len()
+}
+
+// The same of packets under this header.
+fn pass_under(header: &PcapHeader, shown: &[u8], progress: &mut Progress) -> usize
+    requires valid { IsTrue (is_magic header.now.magic_number) }
+    requires fewer { progress.old.items ≤ 18446744073709551614 }
+    ensures within { result ≤ length shown.now }
+    ensures few { (progress.old.items ≤ progress.new.items) × (progress.new.items ≤ 18446744073709551614) }
+    ensures same { SameDescribed progress.old progress.new }
+    ensures walks { (behind : Option (List ℕ)) → GoesOn (format_under packet_limit header.now) IsPacketSight 1 AllAre tt tt (prepend_known shown.now behind) (prepend_known (drop result shown.now) behind) progress.old progress.new }
+{
+    let ts_resolution = header.ts_resolution();
+    match header.endianness() {
+        Endianness::Big => pass_whole::<BigEndian>(ts_resolution, shown, progress),
+        Endianness::Little => pass_whole::<LittleEndian>(ts_resolution, shown, progress),
+    }
+}
+
+// Passes the packets that lie whole in the input's buffer, and says whether anything lies there.
+fn pass_shown<R: BufRead>(
+    header: &PcapHeader,
+    input: &mut R,
+    read_failed: &mut bool,
+    progress: &mut Progress,
+) -> ResultParsing<bool>
+    requires valid { IsTrue (is_magic header.now.magic_number) }
+    requires unfailed { read_failed.old ≡ false }
+    requires fewer { progress.old.items < 18446744073709551614 }
+    ensures few { (progress.old.items ≤ progress.new.items) × (progress.new.items ≤ 18446744073709551614) }
+    ensures same { SameDescribed progress.old progress.new }
+    ensures turn { TurnGives (format_under packet_limit header.now) IsPacketSight 1 AllAre tt tt (R.remaining input.old) (R.remaining input.new) read_failed.new 18446744073709551614 progress.old progress.new result }
+{
+    let shown = match input.fill_buf() {
+        Ok(shown) => shown,
+        Err(error) => {
+            *read_failed = true;
+            return Err(PcapError::IoError(error));
+        }
+    };
+    if shown.is_empty() {
+        return Ok(false);
+    }
+    let used = pass_under(header, shown, progress);
+    input.consume(used);
+    Ok(true)
+}
+
+// One packet more, which the bytes are.
+fn add_held(header: &PcapHeader, head: PacketHeader, held: &[u8], progress: &mut Progress)
+    requires stated { Stated (KnowsHeader header.now) (reader_format packet_limit header.now).head head held.now }
+    requires few { progress.old.items + 1 < 2 ^ 64 }
+    ensures adds { (packet : Captured) × (reader_format packet_limit header.now).says tt held.now (whole packet []) × AddsPacketAlone (captured_seen packet) (16 + packet.header.incl_len) progress.old progress.new }
+    ensures same { SameDescribed progress.old progress.new }
+{
+    let packet = packet_of(header, head, held);
+    progress.add_packet_alone(packet.header, packet.data_.as_slice());
+}
+
+// Passes the next packet, which is held meanwhile, and says whether there was one.
+fn pass_held<R: Read>(
+    header: &PcapHeader,
+    input: &mut R,
+    read_failed: &mut bool,
+    held: &mut Held,
+    progress: &mut Progress,
+) -> ResultParsing<bool>
+    requires valid { IsTrue (is_magic header.now.magic_number) }
+    requires unfailed { read_failed.old ≡ false }
+    requires between { held_bytes held.old ≡ [] }
+    requires fewer { progress.old.items < 18446744073709551614 }
+    ensures between { OnOk result (held_bytes held.new ≡ []) }
+    ensures counts { IfOk result (λ more. more ≡ true → progress.new.items ≡ progress.old.items + 1) }
+    ensures same { SameDescribed progress.old progress.new }
+    ensures turn { TurnGives (format_under packet_limit header.now) IsPacketSight 1 AllAre tt tt (R.remaining input.old) (R.remaining input.new) read_failed.new 18446744073709551614 progress.old progress.new result }
+{
+    let Some(head) = fill_item(&PacketsUnder { header }, input, read_failed, held)? else {
+        return Ok(false);
+    };
+    add_held(header, head, held.as_slice(), progress);
+    held.clear();
+    Ok(true)
+}
+
+// Passes the packets behind a header, which are counted among all alone.
+fn pass_packets<R: BufRead>(
+    alloc: Global,
+    header: &PcapHeader,
+    input: &mut R,
+    read_failed: &mut bool,
+    progress: &mut Progress,
+) -> ResultParsing<()>
+    requires valid { IsTrue (is_magic header.now.magic_number) }
+    requires unfailed { read_failed.old ≡ false }
+    requires none_yet { progress.old.items ≡ 0 }
+    requires room { progress.old.bytes < 2 ^ 64 }
+    requires nothing { AllAre [] progress.old.totals }
+    ensures same { SameDescribed progress.old progress.new }
+    ensures tells { TellsItems (format_under packet_limit header.now) tt IsPacketSight 1 AllAre (R.remaining input.old) (R.remaining input.new) read_failed.new 18446744073709551614 progress.old progress.new (result_err result) }
+{
+    let mut held = Held::new(alloc);
+    while progress.items < MOST {
+        if !pass_shown(header, input, read_failed, progress)? {
+            return Ok(());
+        }
+        if progress.items == MOST {
+            return Ok(());
+        }
+        if !pass_held(header, input, read_failed, &mut held, progress)? {
+            return Ok(());
+        }
+    }
+    Ok(())
+}
+
+/// Passes the packets behind a header, and gives what refuses the next one.
+pub(crate) fn tell_packets<R: BufRead>(
+    alloc: Global,
+    header: &PcapHeader,
+    input: &mut R,
+    read_failed: &mut bool,
+    progress: &mut Progress,
+) -> Option<PcapError>
+    requires valid { IsTrue (is_magic header.now.magic_number) }
+    requires unfailed { read_failed.old ≡ false }
+    requires none_yet { progress.old.items ≡ 0 }
+    requires room { progress.old.bytes < 2 ^ 64 }
+    requires nothing { TotalsAre 1 [] progress.old.totals }
+    ensures same { SameDescribed progress.old progress.new }
+    ensures tells { TellsItems (format_under packet_limit header.now) tt IsPacketSight 1 (TotalsAre 1) (R.remaining input.old) (R.remaining input.new) read_failed.new 18446744073709551614 progress.old progress.new result }
+{
+    let fault = pass_packets(alloc, header, input, read_failed, progress).err();
+    progress.totals.give_to_the_interface();
+    fault
+}
