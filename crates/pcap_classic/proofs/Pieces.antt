@@ -8,7 +8,6 @@ use Rattle.pcap_core.specs.Run.{IsRest}
 use Rattle.pcap_classic.specs.declared.pcap.header.PcapHeader.{PcapHeader}
 use Rattle.pcap_classic.specs.declared.pcap.parser.PcapParser.{PcapParser}
 use Rattle.pcap_classic.specs.declared.run.PcapRun.{PcapRun}
-use Rattle.pcap_core.specs.declared.run.pieces.Progress.TheVariants.{Within}
 use Rattle.pcap_classic.specs.HeaderText.{HeaderSays, HeaderText, FieldsText}
 use Rattle.pcap_classic.specs.Magic.{order_of}
 use Rattle.pcap_classic.specs.Packets.{capture_format, format_under}
@@ -57,14 +56,14 @@ holds_packets s n (inl x) = inl (x.0, x.2, x.3, record { after = x.1; header_tex
 holds_packets s n (inr x) = inr x
 
 -- a run over all pieces
-pub fed_run : (s : List ℕ) (parser : PcapParser) (run : PcapRun) → IsFedUpTo HeaderSays (capture_format packet_limit) (λ packet. packet) header_of s (Within parser run.rest) run.used (map content_of run.packets.items)
+pub fed_run : (s : List ℕ) (parser : PcapParser) (run : PcapRun) → IsFedUpTo HeaderSays (capture_format packet_limit) (λ packet. packet) (header_of parser) s run.rest run.used (map content_of run.packets.items)
     → run.header ≡ header_of parser → IsRun run s
 fed_run s parser run x same =
-    let r : Reaches HeaderSays (capture_format packet_limit) (λ packet. packet) (header_of parser) (map content_of run.packets.items) s x.left = x.fed.0 in
+    let r : Reaches HeaderSays (capture_format packet_limit) (λ packet. packet) (header_of parser) (map content_of run.packets.items) s x.left = x.reaches in
     let header : r.first ≡ run.header = sym (state_stays packet_limit r.first r.leads.values) ∙ r.leads.state_is ∙ sym same in
     let packets : r.leads.values ≡ map content_of run.packets.items = sym (map-id r.leads.values) ∙ r.leads.parts in
     let texts = texts_under packet_limit r.first r.leads.values r.after x.left r.leads.texts in
-    let rest : IsRest ((format_under packet_limit run.header).says tt) x.left run.rest = rw same x.fed.1 in
+    let rest : IsRest ((format_under packet_limit run.header).says tt) x.left run.rest = rw same x.rest_is in
     record {
       left = x.left;
       front = record {

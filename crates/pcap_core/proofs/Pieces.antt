@@ -1,6 +1,6 @@
 -- Bytes that come in pieces, over any format.
 use Rattle.std.proofs.Common.{◌≡◌, ◌<◌, ◌≤◌, ◌+◌, ◌-◌, ℕ, List, [], ◌∷◌, ◌++◌, suc, length, take, drop, false, Result, Ok, Err, refl, sym, ap, subst, ◌∙◌, arith, append_assoc, append-nil, length-append, length-drop, inl, inr}
-use Rattle.std.specs.Prelude.{All, IfOk, replicate, ◌==◌}
+use Rattle.std.specs.Prelude.{⊤, All, IfOk, replicate, ◌==◌}
 use Rattle.std.specs.Borrow.{Bor}
 use Rattle.std.proofs.lemmas.Bool.Decides.{nat_tests}
 use Rattle.std.proofs.lemmas.Grind.{flat_map-append}
@@ -14,11 +14,12 @@ use Rattle.pcap_core.specs.declared.rest.Rest.{Rest}
 use Rattle.pcap_core.specs.declared.rest.Rest.TheVariants.{Clean, Needs, Refused}
 use Rattle.pcap_core.specs.declared.run.pieces.Progress.{Progress}
 use Rattle.pcap_core.specs.declared.run.pieces.Progress.TheVariants.{Before, Within}
-use Rattle.pcap_core.specs.Answer.{Verdict, whole, lacks, faulty, Refuses}
+use Rattle.pcap_core.specs.Answer.{Verdict, whole, lacks, faulty, Made, Refuses, TellsWhere}
+use Rattle.pcap_core.specs.Errors.{IsMemory}
 use Rattle.pcap_core.specs.Faults.{Invalid, Io, Utf8}
 use Rattle.pcap_core.specs.Format.{Format, Front, IsLawful}
 use Rattle.pcap_core.specs.Laws.{IsStable}
-use Rattle.pcap_core.specs.Pieces.{AfterEach, Came, HoldsItems, IsFed, IsOpening, Reaches, TakesPart, joined_pieces}
+use Rattle.pcap_core.specs.Pieces.{AfterEach, Came, HoldsItems, IsFed, IsOpening, Reaches, TakesFront, TakesPart, joined_pieces}
 use Rattle.pcap_core.specs.Waiting.{IsAsked, IsWaiting, error_with, progress_shown, progress_with, rest_with}
 use Rattle.pcap_core.proofs.Formats.{front_same, lacks_no_text, texts_more}
 use Rattle.pcap_core.proofs.Fronts.{said_not_refused}
@@ -26,6 +27,7 @@ use Rattle.pcap_core.proofs.Items.{leads_more, leads_none, leads_shorter}
 use Rattle.pcap_core.proofs.Refusals.{shows_more}
 use Rattle.pcap_core.proofs.Requested.{texts_long}
 use Rattle.pcap_core.proofs.Showing.{rest_no_text}
+use Rattle.pcap_core.proofs.Verdicts.{one_made}
 
 -- ---- numbers, one for each piece
 
@@ -148,11 +150,68 @@ module _ {V : Type 0} (Of : List ℕ → Verdict V → Type 0) (stable : IsStabl
   asked_still (Needs n) x = stable.request s more missing less x
   asked_still (Refused error) x = shows_more (λ fault stands. stable.fault s more fault stands) error x
 
+-- ---- what a parser tells
+
+module _ {X S : Type 0} (IsSaid : Verdict S → Type 0) (view : X → S) where
+  -- a call that may always grow something
+  pub tells_grown : (M : Type 0) (answer : Result (Bor (List ℕ) × X) PcapError) → TellsWhere M IsSaid view answer → TellsWhere ⊤ IsSaid view answer
+  tells_grown M (Ok x) tells = tells
+  tells_grown M (Err (errors.IncompleteBuffer n)) tells = tells
+  tells_grown M (Err (errors.InvalidField text)) tells = tells
+  tells_grown M (Err (errors.IoError io)) tells = tells
+  tells_grown M (Err (errors.Utf8Error utf)) tells = tells
+  tells_grown M (Err (errors.FromUtf8Error utf)) tells = tells
+  tells_grown M (Err (errors.OutOfMemory memory)) tells = tt
+  tells_grown M (Err errors.WriterFailed) tells = tells
+
+module _ {X S V W : Type 0} (f : Format S V) (part : V → W) (view : X → W) (q next : S) (s : List ℕ) where
+  -- a refusal that leaves the state
+  pub front_refused : (M : Type 0) → next ≡ q → (error : PcapError) → Refuses M (λ n. f.says q s (lacks n)) (λ fault. f.says q s (faulty fault)) error → TakesFront f part view q next s (Err error)
+  front_refused M stays (errors.IncompleteBuffer n) refuses = (stays, refuses)
+  front_refused M stays (errors.InvalidField text) refuses = (refuses.0, refuses.1, (stays, refuses.2))
+  front_refused M stays (errors.IoError io) refuses = (stays, refuses)
+  front_refused M stays (errors.Utf8Error utf) refuses = (stays, refuses)
+  front_refused M stays (errors.FromUtf8Error utf) refuses = absurd refuses
+  front_refused M stays (errors.OutOfMemory memory) refuses = tt
+  front_refused M stays errors.WriterFailed refuses = absurd refuses
+
+  -- want of memory, wherever it comes
+  pub front_memory : (error : PcapError) → IsMemory error → TakesFront f part view q next s (Err error)
+  front_memory (errors.OutOfMemory memory) is = tt
+  front_memory (errors.IncompleteBuffer n) is = absurd is
+  front_memory (errors.InvalidField text) is = absurd is
+  front_memory (errors.IoError io) is = absurd is
+  front_memory (errors.Utf8Error utf) is = absurd is
+  front_memory (errors.FromUtf8Error utf) is = absurd is
+  front_memory errors.WriterFailed is = absurd is
+
+-- what opens a capture, with its value made into another
+pub made_opening : {V W : Type 0} (make : V → W) (opens : List ℕ → Verdict V → Type 0) → IsOpening opens → IsOpening (λ s. Made make (opens s))
+made_opening make opens opening = record {
+  one = λ s. one_made make (opens s) (opening.one s);
+  stable = record {
+    text = λ s more rest v x. (x.0, x.1, opening.stable.text s more rest x.0 x.2);
+    fault = λ s more fault x. opening.stable.fault s more fault x;
+    request = λ s more n fewer x. opening.stable.request s more n fewer x;
+  };
+  ends = λ s rest v x. opening.ends s rest x.0 x.2;
+}
+
+-- ---- items one after the other
+
 -- what follows the first bytes of a list is the list without them
 after_is_drop : (s t after : List ℕ) → s ≡ t ++ after → drop (length s - length after) s ≡ after
 after_is_drop s t after e =
     let count : length s - length after ≡ length t = omega (arith, ap length e, length-append t after) in
     ap (λ (n : ℕ). drop n s) count ∙ ap (λ (l : List ℕ). drop (length t) l) e ∙ drop-append_seam t after
+
+-- however a capture is set: where the one is reached, so is the other
+abbrev pub ReachesOn : {Y S V W : Type 0} → (Y → List ℕ → Verdict S → Type 0) → Format S V → (V → W) → S → List W → List ℕ → S → List W → List ℕ → Type 0
+ReachesOn {Y = Y} opens f part q ws held next more left = (setting : Y) (s : List ℕ) → Reaches (opens setting) f part q ws s held → Reaches (opens setting) f part next more s left
+
+pub item_shorter : {S V W : Type 0} (f : Format S V) → IsLawful f → (part : V → W) (q next : S) (w : W) (held : List ℕ) (at count : ℕ) → TakesPart f part q next w (drop at held) count
+    → count < length held - at
+item_shorter f laws part q next w held at count t = omega (arith, leads_shorter f part laws q next w (drop at held) t.0 t.1, t.2, length-drop at held)
 
 module _ {S V W : Type 0} (opens : List ℕ → Verdict S → Type 0) (f : Format S V) (laws : IsLawful f) (part : V → W) where
   -- an item more
@@ -163,9 +222,6 @@ module _ {S V W : Type 0} (opens : List ℕ → Verdict S → Type 0) (f : Forma
       let parts : held ≡ (take at held ++ o.0) ++ t.0 = sym (take-append-drop at held) ∙ ap (λ (l : List ℕ). take at held ++ l) o.1 ∙ sym (append_assoc (take at held) o.0 t.0) in
       let left : drop (length held - count) held ≡ t.0 = ap (λ (n : ℕ). drop (length held - n) held) (sym t.2) ∙ after_is_drop held (take at held ++ o.0) t.0 parts in
       record { first = r.first; after = r.after; opening = r.opening; leads = rw left (leads_more f part r.first q next ws w r.after (drop at held) t.0 r.leads t.1) }
-
-  pub item_shorter : (q next : S) (w : W) (held : List ℕ) (at count : ℕ) → TakesPart f part q next w (drop at held) count → count < length held - at
-  item_shorter q next w held at count t = omega (arith, leads_shorter f part laws q next w (drop at held) t.0 t.1, t.2, length-drop at held)
 
 module _ {P S V W : Type 0} (opens : List ℕ → Verdict S → Type 0) (opening : IsOpening opens) (f : Format S V) (laws : IsLawful f) (part : V → W) (state : P → S) where
   -- a piece after items

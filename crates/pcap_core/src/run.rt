@@ -10,6 +10,6 @@ mod window;
 pub use exact::show_items;
 pub use found::{Found, found_in};
 pub use items::{Ended, ItemRun, Items, parse_items};
-pub use pieces::{PieceParser, Pieces, Progress, feed_pieces, pieces_fit};
+pub use pieces::{PieceParser, Pieces, feed_pieces, pieces_fit};
 pub use requests::{Request, Requests};
 pub use window::Window;

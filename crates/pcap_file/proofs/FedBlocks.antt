@@ -1,7 +1,6 @@
 -- Blocks of a capture that comes in pieces.
 use Rattle.std.proofs.Common.{◌≡◌, ℕ, List, length, map, refl, sym, ap, ◌∙◌, inl, inr}
 use Rattle.std.proofs.lemmas.List.{length-map}
-use Rattle.pcap_core.specs.declared.run.pieces.Progress.TheVariants.{Within}
 use Rattle.pcap_core.specs.Format.{state_after}
 use Rattle.pcap_core.specs.Pieces.{HoldsItems, IsFedUpTo, IsOpening, OpensNone, Reaches}
 use Rattle.pcap_core.proofs.Showing.{rest_no_text}
@@ -37,14 +36,14 @@ holds_blocks s n (inl x) =
 holds_blocks s n (inr x) = inr x
 
 -- a run over all pieces
-pub fed_run : (s : List ℕ) (run : NgRun) → IsFedUpTo OpeningSays block_format (λ (item : Item). item.block) state_of s (Within run.parser run.rest) run.used (map framed_of run.blocks.items) → IsRun run s
+pub fed_run : (s : List ℕ) (run : NgRun) → IsFedUpTo OpeningSays block_format (λ (item : Item). item.block) (state_of run.parser) s run.rest run.used (map framed_of run.blocks.items) → IsRun run s
 fed_run s run x =
-    let r : Reaches OpeningSays block_format (λ (item : Item). item.block) (state_of run.parser) (map framed_of run.blocks.items) s x.left = x.fed.0 in
+    let r : Reaches OpeningSays block_format (λ (item : Item). item.block) (state_of run.parser) (map framed_of run.blocks.items) s x.left = x.reaches in
     record {
       left = x.left;
-      front = run_front r.first (state_of run.parser) (map framed_of run.blocks.items) s r.after x.left r.opening r.leads (rest_no_text block_format blocks_lawful (state_of run.parser) x.left run.rest x.fed.1);
+      front = run_front r.first (state_of run.parser) (map framed_of run.blocks.items) s r.after x.left r.opening r.leads (rest_no_text block_format blocks_lawful (state_of run.parser) x.left run.rest x.rest_is);
       used = x.used_is;
-      rest = x.fed.1;
+      rest = x.rest_is;
     }
 
 -- what has a front has a first block

@@ -7,7 +7,7 @@ ghost use Rattle.pcap_classic.specs.PacketText.{packet_limit, Captured, content_
 ghost use Rattle.pcap_classic.specs.Packets.{capture_format};
 ghost use Rattle.pcap_classic.specs.Parser.{header_of};
 
-use pcap_core::run::{Found, PieceParser, Progress, feed_pieces, pieces_fit};
+use pcap_core::run::{PieceParser, feed_pieces, pieces_fit};
 use pcap_core::{PcapError, ResultParsing};
 use pcap_file::PcapParser;
 use pcap_file::pcap::Packet;
@@ -23,13 +23,15 @@ struct Counting {
 impl PieceParser for Counting {
     type Item = Packet<'static>;
 
+    type Setting = ();
+
     ghost State = { PcapHeader };
 
     ghost Value = { Captured };
 
     ghost Part = { Captured };
 
-    ghost opens = { HeaderSays };
+    ghost opens = { λ _. HeaderSays };
 
     ghost format = { capture_format packet_limit };
 
@@ -41,19 +43,16 @@ impl PieceParser for Counting {
 
     ghost owned = { λ packet. IsOwned packet.data_ };
 
-    fn open(alloc: Global, held: &[u8]) -> ResultParsing<Found<(Counting, usize), PcapError>> {
-        match PcapParser::open(alloc, held)? {
-            Found::Item((parser, left)) => Ok(Found::Item((Counting { parser, calls: 0 }, left))),
-            Found::Needs(n) => Ok(Found::Needs(n)),
-            Found::Refused(e) => Ok(Found::Refused(e)),
-        }
+    fn open<'a>(alloc: Global, setting: (), held: &'a [u8]) -> ResultParsing<(&'a [u8], Counting)> {
+        let (after, parser) = PcapParser::open(alloc, setting, held)?;
+        Ok((after, Counting { parser, calls: 0 }))
     }
 
-    fn take(
+    fn take<'a>(
         &mut self,
         alloc: Global,
-        held: &[u8],
-    ) -> ResultParsing<Found<(Packet<'static>, usize), PcapError>> {
+        held: &'a [u8],
+    ) -> ResultParsing<(&'a [u8], Packet<'static>)> {
         self.calls = self.calls.saturating_add(1);
         self.parser.take(alloc, held)
     }
@@ -68,11 +67,8 @@ fn asked(alloc: Global, bytes: &[u8], size: usize) -> Option<(usize, usize)> {
     if !pieces_fit(&pieces) {
         return None;
     }
-    let fed = feed_pieces::<Counting>(alloc, &pieces).ok()?;
-    match fed.progress {
-        Progress::Before(_) => None,
-        Progress::Within(counting, _) => Some((fed.items.len(), counting.calls)),
-    }
+    let fed = feed_pieces::<Counting>(alloc, (), &pieces).ok()?;
+    Some((fed.items.len(), fed.parser.calls))
 }
 
 // A header, a packet of 60 bytes, an empty one, and one of 44: 24, 76, 16 and 60 bytes.
@@ -147,13 +143,15 @@ struct Sparing {
 impl PieceParser for Sparing {
     type Item = Packet<'static>;
 
+    type Setting = ();
+
     ghost State = { PcapHeader };
 
     ghost Value = { Captured };
 
     ghost Part = { Captured };
 
-    ghost opens = { HeaderSays };
+    ghost opens = { λ _. HeaderSays };
 
     ghost format = { capture_format packet_limit };
 
@@ -165,22 +163,19 @@ impl PieceParser for Sparing {
 
     ghost owned = { λ packet. IsOwned packet.data_ };
 
-    fn open(alloc: Global, held: &[u8]) -> ResultParsing<Found<(Sparing, usize), PcapError>> {
+    fn open<'a>(alloc: Global, setting: (), held: &'a [u8]) -> ResultParsing<(&'a [u8], Sparing)> {
         if held.len() > 24 {
             return Err(PcapError::OutOfMemory(AllocError));
         }
-        match PcapParser::open(alloc, held)? {
-            Found::Item((parser, left)) => Ok(Found::Item((Sparing { parser }, left))),
-            Found::Needs(n) => Ok(Found::Needs(n)),
-            Found::Refused(e) => Ok(Found::Refused(e)),
-        }
+        let (after, parser) = PcapParser::open(alloc, setting, held)?;
+        Ok((after, Sparing { parser }))
     }
 
-    fn take(
+    fn take<'a>(
         &mut self,
         alloc: Global,
-        held: &[u8],
-    ) -> ResultParsing<Found<(Packet<'static>, usize), PcapError>> {
+        held: &'a [u8],
+    ) -> ResultParsing<(&'a [u8], Packet<'static>)> {
         self.parser.take(alloc, held)
     }
 }
@@ -196,10 +191,10 @@ fn is_refused(alloc: Global, bytes: &[u8], size: usize) -> bool {
     if !pieces_fit(&pieces) {
         return false;
     }
-    match feed_pieces::<Sparing>(alloc, &pieces) {
-        Ok(fed) => matches!(fed.progress, Progress::Before(PcapError::InvalidField(_))),
-        Err(_) => false,
-    }
+    matches!(
+        feed_pieces::<Sparing>(alloc, (), &pieces),
+        Err(PcapError::InvalidField(_))
+    )
 }
 
 // A refused header is asked about once, with its 24 bytes, however much comes behind it.

@@ -14,12 +14,14 @@ ghost use Rattle.pcap_classic.specs.Run.{IsRun};
 
 use crate::pcap::{Packet, PcapParser};
 use crate::run::PcapRun;
-use pcap_core::run::{Found, Items, PieceParser, Pieces, Progress, feed_pieces, found_in};
-use pcap_core::{PcapError, ResultParsing};
+use pcap_core::ResultParsing;
+use pcap_core::run::{PieceParser, feed_pieces};
 use std::alloc::Global;
 
 impl PieceParser for PcapParser {
     type Item = Packet<'static>;
+
+    type Setting = ();
 
     ghost State = { PcapHeader };
 
@@ -27,7 +29,7 @@ impl PieceParser for PcapParser {
 
     ghost Part = { Captured };
 
-    ghost opens = { HeaderSays };
+    ghost opens = { λ _. HeaderSays };
 
     ghost format = { capture_format packet_limit };
 
@@ -39,24 +41,21 @@ impl PieceParser for PcapParser {
 
     ghost owned = { λ packet. IsOwned packet.data_ };
 
-    fn open(alloc: Global, held: &[u8]) -> ResultParsing<Found<(PcapParser, usize), PcapError>> {
-        match found_in(PcapParser::new(held))? {
-            Found::Item((after, parser)) => Ok(Found::Item((parser, after.len()))),
-            Found::Needs(n) => Ok(Found::Needs(n)),
-            Found::Refused(e) => Ok(Found::Refused(e)),
-        }
+    fn open<'a>(
+        _alloc: Global,
+        _setting: (),
+        held: &'a [u8],
+    ) -> ResultParsing<(&'a [u8], PcapParser)> {
+        PcapParser::new(held)
     }
 
-    fn take(
+    fn take<'a>(
         &mut self,
         alloc: Global,
-        held: &[u8],
-    ) -> ResultParsing<Found<(Packet<'static>, usize), PcapError>> {
-        match self.next_item(held)? {
-            Found::Item((after, packet)) => Ok(Found::Item((packet.to_owned(alloc)?, after.len()))),
-            Found::Needs(n) => Ok(Found::Needs(n)),
-            Found::Refused(e) => Ok(Found::Refused(e)),
-        }
+        held: &'a [u8],
+    ) -> ResultParsing<(&'a [u8], Packet<'static>)> {
+        let (after, packet) = self.next_packet(held)?;
+        Ok((after, packet.into_owned(alloc)?))
     }
 }
 
@@ -75,22 +74,12 @@ pub fn pieces_pcap(alloc: Global, pieces: &[&[u8]]) -> ResultParsing<(PcapRun<'s
     ensures owned { IfOk result (λ x. All (λ packet. IsOwned packet.data_) x.0.packets.items) }
     ensures refused { IfErr result (Refuses ⊤ (LacksHeader (joined_pieces pieces.now)) (HasHeaderFault (joined_pieces pieces.now))) }
 {
-    let Pieces {
-        progress,
-        items,
-        numbers,
-        used,
-    } = feed_pieces::<PcapParser>(alloc, pieces)?;
-    match progress {
-        Progress::Before(error) => Err(error),
-        Progress::Within(parser, rest) => {
-            let run = PcapRun {
-                header: *parser.header(),
-                packets: items,
-                used,
-                rest,
-            };
-            Ok((run, numbers))
-        }
-    }
+    let fed = feed_pieces::<PcapParser>(alloc, (), pieces)?;
+    let run = PcapRun {
+        header: *fed.parser.header(),
+        packets: fed.items,
+        used: fed.used,
+        rest: fed.rest,
+    };
+    Ok((run, fed.numbers))
 }

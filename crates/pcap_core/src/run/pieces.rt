@@ -1,15 +1,15 @@
 //! Items of a capture that comes in pieces.
 
-ghost use Rattle.std.specs.Prelude.{◌≡◌, ◌≤◌, ◌<◌, ◌+◌, ◌-◌, ◌^◌, ◌↔◌, ◌++◌, ℕ, List, [], length, drop, take, map, replicate, All, IsTrue, IfOk, IfErr};
+ghost use Rattle.std.specs.Prelude.{◌≡◌, ◌≤◌, ◌<◌, ◌+◌, ◌-◌, ◌^◌, ◌↔◌, ◌++◌, ⊤, ℕ, List, [], length, drop, take, map, replicate, All, IsTrue, IfOk, IfErr};
 ghost use Rattle.std.specs.Vec.{vec_capacity, vec_len};
-ghost use Rattle.pcap_core.specs.Answer.{Verdict};
+ghost use Rattle.pcap_core.specs.Answer.{Refuses, TellsWhere, Verdict, lacks, faulty};
 ghost use Rattle.pcap_core.specs.Errors.{IsMemory};
 ghost use Rattle.pcap_core.specs.Format.{Format, IsLawful};
 ghost use Rattle.pcap_core.specs.Found.{IfItem};
-ghost use Rattle.pcap_core.specs.Pieces.{AfterEach, Came, HoldsItems, IsFedUpTo, IsOpening, OpensWith, Reaches, TakesFront, joined_pieces};
+ghost use Rattle.pcap_core.specs.Pieces.{AfterEach, Came, FindsFront, HoldsItems, IsFedUpTo, IsOpening, OpensWith, Reaches, TakesFront, behind_of, joined_pieces};
 ghost use Rattle.pcap_core.specs.Waiting.{IsWaiting, error_with, progress_shown, progress_with, rest_shown, rest_with};
 
-use crate::run::Found;
+use crate::run::{Found, found_in};
 use crate::{PcapError, Rest, ResultParsing};
 use std::alloc::Global;
 
@@ -18,13 +18,16 @@ pub trait PieceParser: Drop {
     /// What is kept of an item.
     type Item: Drop;
 
+    /// What is set before a capture is opened.
+    type Setting: Copy + Drop;
+
     ghost State: { Type 0 };
 
     ghost Value: { Type 0 };
 
     ghost Part: { Type 0 };
 
-    ghost opens: { List ℕ → Verdict State → Type 0 };
+    ghost opens: { Self.Setting → List ℕ → Verdict State → Type 0 };
 
     ghost format: { Format State Value };
 
@@ -36,23 +39,23 @@ pub trait PieceParser: Drop {
 
     ghost owned: { Self.Item → Type 0 };
 
-    /// The parser after what opens a capture, and how many bytes follow that.
-    fn open(alloc: Global, held: &[u8]) -> ResultParsing<Found<(Self, usize), PcapError>>
-        ensures { OpensWith opens state held.now result };
-
-    /// The item at the front, and how many bytes follow it.
-    fn take(
-        &mut self,
+    /// The parser after what opens a capture, and what follows that.
+    fn open<'a>(
         alloc: Global,
-        held: &[u8],
-    ) -> ResultParsing<Found<(Self::Item, usize), PcapError>>
+        setting: Self::Setting,
+        held: &'a [u8],
+    ) -> ResultParsing<(&'a [u8], Self)>
+        ensures { TellsWhere ⊤ (opens setting held.now) state result };
+
+    /// The item at the front, and what follows it. Only an item changes the parser's state.
+    fn take<'a>(&mut self, alloc: Global, held: &'a [u8]) -> ResultParsing<(&'a [u8], Self::Item)>
         ensures takes { TakesFront format part view (state self.old) (state self.new) held.now result }
-        ensures owned { IfOk result (IfItem (λ x. owned x.0)) };
+        ensures owned { IfOk result (λ x. owned x.1) };
 }
 
 /// How far a capture came that comes in pieces.
 #[derive(Drop)]
-pub enum Progress<P> {
+enum Progress<P> {
     /// What opens it isn't whole, or is refused, as the error says.
     Before(PcapError),
     /// The parser after the items so far, and what is said of the bytes that are left.
@@ -62,40 +65,52 @@ pub enum Progress<P> {
 /// What all pieces hold.
 #[derive(Drop)]
 pub struct Pieces<P, T> {
-    /// How far the capture came.
-    pub progress: Progress<P>,
-    /// Its items, in order.
+    /// The parser after what opens the capture and its items.
+    pub parser: P,
+    /// The items, in order.
     pub items: Vec<T>,
     /// For each piece, how many items it and those before it hold.
     pub numbers: Vec<usize>,
     /// How many bytes were taken: what opens the capture, and the items.
     pub used: usize,
+    /// What is said of the bytes that are left.
+    pub rest: Rest,
 }
 
-/// Feeds a parser with the pieces, in order, and counts after each of them the items so far.
+/// Feeds a parser that is set so with the pieces, in order, and counts after each of them the items so far.
 ///
-/// `OutOfMemory` where something can't grow.
+/// Where what opens the capture is refused, that refusal, and `IncompleteBuffer` where it isn't whole. `OutOfMemory` where
+/// something can't grow.
 pub fn feed_pieces<P: PieceParser>(
     alloc: Global,
+    setting: P::Setting,
     pieces: &[&[u8]],
 ) -> ResultParsing<Pieces<P, P::Item>>
     requires lawful { IsLawful P.format }
-    requires opening { IsOpening P.opens }
+    requires opening { IsOpening (P.opens setting) }
     requires fit { length (joined_pieces pieces.now) < 2 ^ 64 }
-    ensures fed { IfOk result (λ x. IsFedUpTo P.opens P.format P.part P.state (joined_pieces pieces.now) x.progress x.used (map P.view x.items.items)) }
-    ensures numbers { IfOk result (λ x. AfterEach (HoldsItems P.opens P.format) [] pieces.now x.numbers.items) }
+    ensures fed { IfOk result (λ x. IsFedUpTo (P.opens setting) P.format P.part (P.state x.parser) (joined_pieces pieces.now) x.rest x.used (map P.view x.items.items)) }
+    ensures numbers { IfOk result (λ x. AfterEach (HoldsItems (P.opens setting) P.format) [] pieces.now x.numbers.items) }
     ensures owned { IfOk result (λ x. All P.owned x.items.items) }
-    ensures memory { IfErr result IsMemory }
+    ensures refused { IfErr result (Refuses ⊤ (λ n. P.opens setting (joined_pieces pieces.now) (lacks n)) (λ fault. P.opens setting (joined_pieces pieces.now) (faulty fault))) }
 {
     let mut held = Vec::new(alloc);
     let mut items = Vec::new(alloc);
-    let mut progress = opened(alloc, &mut held, &mut items)?;
+    let mut progress = opened(alloc, setting, &mut held, &mut items)?;
     let mut missing = due(&progress);
     let mut numbers = Vec::with_capacity(alloc, pieces.len())?;
     let mut total = 0;
     while numbers.len() < pieces.len() {
         let piece = pieces[numbers.len()];
-        missing = feed_piece(alloc, piece, missing, &mut progress, &mut held, &mut items)?;
+        missing = feed_piece(
+            alloc,
+            setting,
+            piece,
+            missing,
+            &mut progress,
+            &mut held,
+            &mut items,
+        )?;
         numbers.push_reserved(items.len());
         let left = pieces.split_at(numbers.len()).1;
         let single;
@@ -104,12 +119,16 @@ pub fn feed_pieces<P: PieceParser>(
         total += piece.len() + single;
     }
     let used = total - held.len();
-    Ok(Pieces {
-        progress: shown(progress, missing, held.len()),
-        items,
-        numbers,
-        used,
-    })
+    match shown(progress, missing, held.len()) {
+        Progress::Before(error) => Err(error),
+        Progress::Within(parser, rest) => Ok(Pieces {
+            parser,
+            items,
+            numbers,
+            used,
+            rest,
+        }),
+    }
 }
 
 /// Whether the lengths of the pieces together fit `usize`, as the calls on pieces demand.
@@ -129,6 +148,7 @@ pub fn pieces_fit(pieces: &[&[u8]]) -> bool
 // Puts a piece behind what is held, and asks the parser once no byte is missing. Tells how many are missing then.
 fn feed_piece<P: PieceParser>(
     alloc: Global,
+    setting: P::Setting,
     piece: &[u8],
     missing: usize,
     progress: &mut Progress<P>,
@@ -136,9 +156,9 @@ fn feed_piece<P: PieceParser>(
     items: &mut Vec<P::Item>,
 ) -> ResultParsing<usize>
     requires lawful { IsLawful P.format }
-    requires opening { IsOpening P.opens }
-    ensures waiting { IfOk result (λ due. (s : List ℕ) → IsWaiting P.opens P.format P.part P.state s (progress_with progress.old missing) held.old.items (map P.view items.old.items)
-        → IsWaiting P.opens P.format P.part P.state (s ++ piece.now) (progress_with progress.new due) held.new.items (map P.view items.new.items)) }
+    requires opening { IsOpening (P.opens setting) }
+    ensures waiting { IfOk result (λ due. (s : List ℕ) → IsWaiting (P.opens setting) P.format P.part P.state s (progress_with progress.old missing) held.old.items (map P.view items.old.items)
+        → IsWaiting (P.opens setting) P.format P.part P.state (s ++ piece.now) (progress_with progress.new due) held.new.items (map P.view items.new.items)) }
     ensures owned { IfOk result (λ _. All P.owned items.old.items → All P.owned items.new.items) }
     ensures memory { IfErr result IsMemory }
 {
@@ -146,7 +166,7 @@ fn feed_piece<P: PieceParser>(
     if piece.len() < missing {
         return Ok(missing - piece.len());
     }
-    asked(alloc, progress, held, items)?;
+    asked(alloc, setting, progress, held, items)?;
     Ok(due(progress))
 }
 
@@ -283,19 +303,20 @@ fn rest_of(rest: Rest, missing: usize, held: usize) -> Rest
 // Asks the parser for what stands at the front of what is held.
 fn asked<P: PieceParser>(
     alloc: Global,
+    setting: P::Setting,
     progress: &mut Progress<P>,
     held: &mut Vec<u8>,
     items: &mut Vec<P::Item>,
 ) -> ResultParsing<()>
     requires lawful { IsLawful P.format }
-    requires opening { IsOpening P.opens }
-    ensures waiting { IfOk result (λ _. (s : List ℕ) → Came P.opens P.format P.part P.state s progress.old held.old.items (map P.view items.old.items)
-        → IsWaiting P.opens P.format P.part P.state s progress.new held.new.items (map P.view items.new.items)) }
+    requires opening { IsOpening (P.opens setting) }
+    ensures waiting { IfOk result (λ _. (s : List ℕ) → Came (P.opens setting) P.format P.part P.state s progress.old held.old.items (map P.view items.old.items)
+        → IsWaiting (P.opens setting) P.format P.part P.state s progress.new held.new.items (map P.view items.new.items)) }
     ensures owned { IfOk result (λ _. All P.owned items.old.items → All P.owned items.new.items) }
     ensures memory { IfErr result IsMemory }
 {
     match progress {
-        Progress::Before(_) => *progress = opened(alloc, held, items)?,
+        Progress::Before(_) => *progress = opened(alloc, setting, held, items)?,
         Progress::Within(parser, _) => {
             let told = take_items(alloc, parser, held, items)?;
             if let Progress::Within(_, rest) = progress {
@@ -309,16 +330,17 @@ fn asked<P: PieceParser>(
 // Opens the capture and takes its items, where it opens.
 fn opened<P: PieceParser>(
     alloc: Global,
+    setting: P::Setting,
     held: &mut Vec<u8>,
     items: &mut Vec<P::Item>,
 ) -> ResultParsing<Progress<P>>
     requires lawful { IsLawful P.format }
-    requires opening { IsOpening P.opens }
-    ensures waiting { IfOk result (λ new. map P.view items.old.items ≡ [] → IsWaiting P.opens P.format P.part P.state held.old.items new held.new.items (map P.view items.new.items)) }
+    requires opening { IsOpening (P.opens setting) }
+    ensures waiting { IfOk result (λ new. map P.view items.old.items ≡ [] → IsWaiting (P.opens setting) P.format P.part P.state held.old.items new held.new.items (map P.view items.new.items)) }
     ensures owned { IfOk result (λ _. All P.owned items.old.items → All P.owned items.new.items) }
     ensures memory { IfErr result IsMemory }
 {
-    match P::open(alloc, held.as_slice())? {
+    match open_front::<P>(alloc, setting, held.as_slice())? {
         Found::Item((mut parser, left)) => {
             let taken = held.len() - left;
             drop_front(held, taken);
@@ -339,14 +361,14 @@ fn take_items<P: PieceParser>(
     items: &mut Vec<P::Item>,
 ) -> ResultParsing<Rest>
     requires lawful { IsLawful P.format }
-    ensures waiting { IfOk result (λ rest. (s : List ℕ) → Reaches P.opens P.format P.part (P.state parser.old) (map P.view items.old.items) s held.old.items
-        → IsWaiting P.opens P.format P.part P.state s (Progress.Within parser.new rest) held.new.items (map P.view items.new.items)) }
+    ensures waiting { IfOk result (λ rest. (setting : P.Setting) (s : List ℕ) → Reaches (P.opens setting) P.format P.part (P.state parser.old) (map P.view items.old.items) s held.old.items
+        → IsWaiting (P.opens setting) P.format P.part P.state s (Progress.Within parser.new rest) held.new.items (map P.view items.new.items)) }
     ensures owned { IfOk result (λ _. All P.owned items.old.items → All P.owned items.new.items) }
     ensures memory { IfErr result IsMemory }
 {
     let mut at = 0;
     loop {
-        match parser.take(alloc, held.as_slice().split_at(at).1)? {
+        match take_front(alloc, parser, held.as_slice().split_at(at).1)? {
             Found::Item((item, left)) => {
                 items.push(item)?;
                 at = held.len() - left;
@@ -360,6 +382,42 @@ fn take_items<P: PieceParser>(
                 return Ok(Rest::Refused(error));
             }
         }
+    }
+}
+
+// What opens a capture at the front of what is held, and how many bytes follow it.
+fn open_front<P: PieceParser>(
+    alloc: Global,
+    setting: P::Setting,
+    held: &[u8],
+) -> ResultParsing<Found<(P, usize), PcapError>>
+    ensures { OpensWith (P.opens setting) P.state held.now result }
+{
+    counted(P::open(alloc, setting, held))
+}
+
+// The item at the front of what is held, and how many bytes follow it.
+fn take_front<P: PieceParser>(
+    alloc: Global,
+    parser: &mut P,
+    held: &[u8],
+) -> ResultParsing<Found<(P::Item, usize), PcapError>>
+    ensures finds { FindsFront P.format P.part P.view (P.state parser.old) (P.state parser.new) held.now result }
+    ensures owned { IfOk result (IfItem (λ x. P.owned x.0)) }
+{
+    counted(parser.take(alloc, held))
+}
+
+// What a parser's answer says of the bytes, with the number of those that follow, so that they can be let go.
+fn counted<T: Drop>(
+    answer: ResultParsing<(&[u8], T)>,
+) -> ResultParsing<Found<(T, usize), PcapError>>
+    ensures { result ≡ behind_of answer.entry }
+{
+    match found_in(answer)? {
+        Found::Item((after, item)) => Ok(Found::Item((item, after.len()))),
+        Found::Needs(n) => Ok(Found::Needs(n)),
+        Found::Refused(error) => Ok(Found::Refused(error)),
     }
 }
 

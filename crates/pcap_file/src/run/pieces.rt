@@ -14,13 +14,14 @@ ghost use Rattle.pcap_file.specs.State.{State as BlockState};
 
 use crate::pcapng::{Block, PcapNgParser};
 use crate::run::NgRun;
-use crate::run::find::find_first;
-use pcap_core::run::{Found, Items, PieceParser, Pieces, Progress, feed_pieces};
-use pcap_core::{PcapError, ResultParsing};
+use pcap_core::ResultParsing;
+use pcap_core::run::{PieceParser, feed_pieces};
 use std::alloc::Global;
 
 impl PieceParser for PcapNgParser {
     type Item = Block<'static>;
+
+    type Setting = ();
 
     ghost State = { BlockState };
 
@@ -28,7 +29,7 @@ impl PieceParser for PcapNgParser {
 
     ghost Part = { Framed };
 
-    ghost opens = { OpeningSays };
+    ghost opens = { λ _. OpeningSays };
 
     ghost format = { block_format };
 
@@ -40,24 +41,21 @@ impl PieceParser for PcapNgParser {
 
     ghost owned = { λ block. IsOwned block.body };
 
-    fn open(alloc: Global, held: &[u8]) -> ResultParsing<Found<(PcapNgParser, usize), PcapError>> {
-        match find_first(alloc, held)? {
-            Found::Item((after, parser)) => Ok(Found::Item((parser, after.len()))),
-            Found::Needs(n) => Ok(Found::Needs(n)),
-            Found::Refused(e) => Ok(Found::Refused(e)),
-        }
+    fn open<'a>(
+        alloc: Global,
+        _setting: (),
+        held: &'a [u8],
+    ) -> ResultParsing<(&'a [u8], PcapNgParser)> {
+        PcapNgParser::new(alloc, held)
     }
 
-    fn take(
+    fn take<'a>(
         &mut self,
         alloc: Global,
-        held: &[u8],
-    ) -> ResultParsing<Found<(Block<'static>, usize), PcapError>> {
-        match self.next_item(held)? {
-            Found::Item((after, block)) => Ok(Found::Item((block.into_owned(alloc)?, after.len()))),
-            Found::Needs(n) => Ok(Found::Needs(n)),
-            Found::Refused(e) => Ok(Found::Refused(e)),
-        }
+        held: &'a [u8],
+    ) -> ResultParsing<(&'a [u8], Block<'static>)> {
+        let (after, block) = self.next_block(held)?;
+        Ok((after, block.into_owned(alloc)?))
     }
 }
 
@@ -76,22 +74,12 @@ pub fn pieces_pcapng(alloc: Global, pieces: &[&[u8]]) -> ResultParsing<(NgRun<'s
     ensures owned { IfOk result (λ x. All (λ block. IsOwned block.body) x.0.blocks.items) }
     ensures refused { IfErr result (Refuses ⊤ (λ n. OpeningSays (joined_pieces pieces.now) (lacks n)) (λ fault. OpeningSays (joined_pieces pieces.now) (faulty fault))) }
 {
-    let Pieces {
-        progress,
-        items,
-        numbers,
-        used,
-    } = feed_pieces::<PcapNgParser>(alloc, pieces)?;
-    match progress {
-        Progress::Before(error) => Err(error),
-        Progress::Within(parser, rest) => {
-            let run = NgRun {
-                blocks: items,
-                parser,
-                used,
-                rest,
-            };
-            Ok((run, numbers))
-        }
-    }
+    let fed = feed_pieces::<PcapNgParser>(alloc, (), pieces)?;
+    let run = NgRun {
+        blocks: fed.items,
+        parser: fed.parser,
+        used: fed.used,
+        rest: fed.rest,
+    };
+    Ok((run, fed.numbers))
 }

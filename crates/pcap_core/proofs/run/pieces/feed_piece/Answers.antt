@@ -9,7 +9,7 @@ returns-then-piece-missing-clause-waiting g c = λ s waiting.
     let held = c.args.held.now.items in
     let more = c.args.piece.now in
     let longer : c.hold.new.held.items ≡ held ++ more = c.in_ok-hold.ensures.held in
-    rw longer (waits p.opens c.requires.opening p.format c.requires.lawful p.part p.state s more c.args.progress.now c.args.missing held (map p.view c.args.items.now.items) c.if-piece-missing.true waiting)
+    rw longer (waits (p.opens c.args.setting) c.requires.opening p.format c.requires.lawful p.part p.state s more c.args.progress.now c.args.missing held (map p.view c.args.items.now.items) c.if-piece-missing.true waiting)
 
 pub returns-clause-waiting : goal.returns-clause-waiting
 returns-clause-waiting g c = λ s waiting.
@@ -18,6 +18,6 @@ returns-clause-waiting g c = λ s waiting.
     let more = c.args.piece.now in
     let ws = map p.view c.args.items.now.items in
     let longer : c.hold.new.held.items ≡ held ++ more = c.in_ok-hold.ensures.held in
-    let known : Came p.opens p.format p.part p.state (s ++ more) c.args.progress.now (held ++ more) ws =
-    waiting_came p.opens c.requires.opening p.format c.requires.lawful p.part p.state s more c.args.progress.now c.args.missing held ws waiting in
+    let known : Came (p.opens c.args.setting) p.format p.part p.state (s ++ more) c.args.progress.now (held ++ more) ws =
+    waiting_came (p.opens c.args.setting) c.requires.opening p.format c.requires.lawful p.part p.state s more c.args.progress.now c.args.missing held ws waiting in
     rw c.due.ensures (c.in_ok-asked.ensures.waiting (s ++ more) (rw longer known))

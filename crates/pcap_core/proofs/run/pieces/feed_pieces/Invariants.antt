@@ -9,8 +9,8 @@ invariant-loop-alloc g l =
     let p = g.P.PieceParser in
     let fed = take (length l.numbers.items) l.pieces in
     record {
-      waiting : IsWaiting p.opens p.format p.part p.state (joined_pieces fed) (progress_with l.progress l.missing) l.held.items (map p.view l.items.items);
-      numbers : AfterEach (HoldsItems p.opens p.format) [] fed l.numbers.items;
+      waiting : IsWaiting (p.opens l.setting) p.format p.part p.state (joined_pieces fed) (progress_with l.progress l.missing) l.held.items (map p.view l.items.items);
+      numbers : AfterEach (HoldsItems (p.opens l.setting) p.format) [] fed l.numbers.items;
       within : length l.numbers.items ≤ length l.pieces;
       places : length l.pieces ≤ vec_capacity l.numbers;
       total : l.total ≡ length (joined_pieces fed);

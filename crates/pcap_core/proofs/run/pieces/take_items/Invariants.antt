@@ -1,5 +1,5 @@
-use Rattle.std.proofs.Common.{◌≤◌, ◌-◌, ℕ, List, length, drop, map, All}
-use Rattle.pcap_core.specs.Pieces.{Reaches}
+use Rattle.std.proofs.Common.{◌≤◌, ◌-◌, length, drop, map, All}
+use Rattle.pcap_core.proofs.Pieces.{ReachesOn}
 use Rattle.pcap_core.proofs.run.pieces.take_items.Given as goal
 
 abbrev pub invariant-loop-item : goal.invariant-loop-item
@@ -7,8 +7,7 @@ invariant-loop-item g l =
     let p = g.P.PieceParser in
     record {
       within : l.at ≤ length l.held.items;
-      reached : (s : List ℕ) → Reaches p.opens p.format p.part (p.state l.fn.parser) (map p.view l.fn.items.items) s l.fn.held.items
-          → Reaches p.opens p.format p.part (p.state l.parser) (map p.view l.items.items) s (drop l.at l.held.items);
+      reached : ReachesOn p.opens p.format p.part (p.state l.fn.parser) (map p.view l.fn.items.items) l.fn.held.items (p.state l.parser) (map p.view l.items.items) (drop l.at l.held.items);
       owned : All p.owned l.fn.items.items → All p.owned l.items.items;
     }
 

@@ -1,6 +1,7 @@
 use Rattle.std.proofs.Common.{[]}
 use Rattle.pcap_core.specs.Pieces.{HoldsItems, joined_pieces}
 use Rattle.pcap_core.proofs.Pieces.{after_each_more}
+use Rattle.pcap_file.specs.declared.run.NgRun.{NgRun}
 use Rattle.pcap_file.specs.Blocks.{block_format}
 use Rattle.pcap_file.specs.Opening.{OpeningSays}
 use Rattle.pcap_file.specs.Pieces.{HoldsBlocks}
@@ -15,7 +16,10 @@ pub feed_pieces-requires-clause-opening : goal.feed_pieces-requires-clause-openi
 feed_pieces-requires-clause-opening c = first_opening
 
 pub returns-clause-run : goal.returns-clause-run
-returns-clause-run c = fed_run (joined_pieces c.args.pieces.now) _ (rw c.in-Within.is at c.in_ok-progress.ensures.fed)
+returns-clause-run c =
+    let fed = c.in_ok-fed.fed in
+    let run : NgRun = record { blocks = fed.items; parser = fed.parser; used = fed.used; rest = fed.rest } in
+    fed_run (joined_pieces c.args.pieces.now) run c.in_ok-fed.ensures.fed
 
 pub returns-clause-numbers : goal.returns-clause-numbers
-returns-clause-numbers c = after_each_more (HoldsItems OpeningSays block_format) HoldsBlocks holds_blocks [] c.args.pieces.now _ c.in_ok-progress.ensures.numbers
+returns-clause-numbers c = after_each_more (HoldsItems OpeningSays block_format) HoldsBlocks holds_blocks [] c.args.pieces.now _ c.in_ok-fed.ensures.numbers

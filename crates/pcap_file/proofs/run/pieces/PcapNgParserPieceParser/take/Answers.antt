@@ -1,15 +1,21 @@
-use Rattle.std.proofs.Common.{◌∙◌, refl}
-use Rattle.pcap_core.proofs.Items.{said_shows}
-use Rattle.pcap_file.specs.Blocks.{block_format}
+use Rattle.std.proofs.Common.{refl}
+use Rattle.std.proofs.lemmas.Result.{err_from_is_err_and}
+use Rattle.pcap_core.proofs.Pieces.{front_memory, front_refused}
+use Rattle.pcap_file.specs.Blocks.{Item, MayGrow, block_format, item_of}
+use Rattle.pcap_file.specs.Frames.{framed_of}
 use Rattle.pcap_file.specs.Parser.{state_of}
 use Rattle.pcap_file.proofs.run.pieces.PcapNgParserPieceParser.take.Goals as goal
 
-pub returns-in_ok-into_owned-in-Item-clause-takes : goal.returns-in_ok-into_owned-in-Item-clause-takes
-returns-in_ok-into_owned-in-Item-clause-takes c =
-    let found = rw c.in-Item.is at c.in_ok-after.ensures.finds in
-    (c.in-Item.after.now, record { value = found.value; text = found.text; goes = found.goes; part_is = c.in_ok-into_owned-in-Item.ensures.same ∙ found.part_is }, refl)
+pub returns-in_err-after-clause-takes : goal.returns-in_err-after-clause-takes
+unfolding block_format
+returns-in_err-after-clause-takes c =
+    let q = state_of c.args.self.now in
+    let next = state_of c.next_block.new.self in
+    let held = c.args.held.now in
+    let e = err_from_is_err_and c.from_residual.result c.from_residual.ensures.1 in
+    rw (e.1, e.2) (front_refused block_format (λ (item : Item). item.block) framed_of q next held (MayGrow q held) c.in_err-after.ensures.unchanged c.in_err-after.field-0.0 c.in_err-after.ensures.tells)
 
-pub returns-in-Refused-clause-takes : goal.returns-in-Refused-clause-takes
-returns-in-Refused-clause-takes c =
-    let found = rw c.in-Refused.is at c.in_ok-after.ensures.finds in
-    (found.0, said_shows (block_format.says (state_of c.args.self.now) c.args.held.now) c.in-Refused.e found.1)
+pub returns-clause-takes : goal.returns-clause-takes
+unfolding block_format
+returns-clause-takes c =
+    record { value = item_of (state_of c.next_block.new.self) c.in_ok-after.block; text = c.in_ok-after.ensures.tells; goes = refl; part_is = c.in_ok-into_owned.ensures.same }
