@@ -12,7 +12,8 @@ use std::alloc::{AllocError, Global};
 pub enum Broken {
     /// It breaks this rule.
     Rule(Rule),
-    /// It is the value of a custom option, and has fewer than 4 bytes, or a number or time of statistics, and has fewer than 8.
+    /// It is the value of a custom option, and has fewer than 4 bytes, or a number or time of statistics, and has fewer than 8; or
+    /// it is a record of names, for whose type and length fewer than 4 bytes are left.
     TooShort,
     /// It is a string, and no UTF-8.
     NotUtf8,
