@@ -1,13 +1,13 @@
 -- Packets as they stand behind a header, which is the state of their format with the limit.
 use Rattle.std.proofs.Common.{◌≡◌, ℕ, List, [], ◌∷◌, refl, sym, subst, ◌∙◌, arith}
 use Rattle.std.proofs.lemmas.List.{map-id}
-use Rattle.pcap_core.specs.declared.errors.PcapError.{PcapError}
-use Rattle.pcap_core.specs.declared.run.items.Ended.{Ended}
+use Rattle.pcap_core.specs.declared.rest.Rest.{Rest}
 use Rattle.pcap_core.specs.Answer.{whole}
 use Rattle.pcap_core.specs.Format.{Front, IsLawful, Texts, state_after}
-use Rattle.pcap_core.specs.Items.{EndsWith, GrowsIn, LeadsTo, ShowsFault, rest_of}
+use Rattle.pcap_core.specs.Items.{GrowsIn, LeadsTo}
 use Rattle.pcap_core.specs.Run.{IsRest}
-use Rattle.pcap_core.proofs.Items.{ended_rest, grows_some, leads_front}
+use Rattle.pcap_core.proofs.Items.{grows_some}
+use Rattle.pcap_core.proofs.Showing.{rest_no_text}
 use Rattle.pcap_classic.specs.HeaderText.{HeaderText}
 use Rattle.pcap_tolerant.specs.AsIs.{AsIs, as_is_format}
 use Rattle.pcap_tolerant.specs.Run.{as_is_under, Setting, any_as_is, HasPacketAsIs}
@@ -34,28 +34,31 @@ texts_under q [] s rest texts = texts
 texts_under q (packet ∷ packets) s rest texts = (texts.0, texts.1, texts_under q packets texts.0 rest texts.2)
 
 -- the front of a capture, by its header and the limit as a state
-front_under : (q : Setting) (packets : List AsIs) (s rest : List ℕ) → Front any_as_is q packets s rest → Front (as_is_under q.limit q.header) tt packets s rest
+pub front_under : (q : Setting) (packets : List AsIs) (s rest : List ℕ) → Front any_as_is q packets s rest → Front (as_is_under q.limit q.header) tt packets s rest
 front_under q packets s rest front = record {
   texts = texts_under q packets s rest front.texts;
   longest = λ packet after x. front.longest packet after (subst (λ (p : Setting). any_as_is.says p rest (whole packet after)) (sym (state_stays q packets)) x);
 }
 
 -- the packets of a run, and what is said of its rest
-pub record RunUnder (q next : Setting) (packets : List AsIs) (s left : List ℕ) (ended : Ended PcapError) : Type 0 where
+pub record RunUnder (q next : Setting) (packets : List AsIs) (s left : List ℕ) (rest : Rest) : Type 0 where
   pub same : q ≡ next
   pub front : Front (as_is_under q.limit q.header) tt packets s left
-  pub rest : IsRest ((as_is_under q.limit q.header).says tt) left (rest_of ended)
+  pub rest_is : IsRest ((as_is_under q.limit q.header).says tt) left rest
 
-pub run_under : (q next : Setting) (packets : List AsIs) (s left : List ℕ) (ended : Ended PcapError) → LeadsTo any_as_is (λ packet. packet) q next packets s left
-    → EndsWith ShowsFault (any_as_is.says next) left ended → RunUnder q next packets s left ended
-run_under q next packets s left ended leads ends =
+pub run_under : (q next : Setting) (packets : List AsIs) (s left : List ℕ) (rest : Rest) → LeadsTo any_as_is (λ packet. packet) q next packets s left
+    → IsRest (any_as_is.says next) left rest → RunUnder q next packets s left rest
+run_under q next packets s left rest leads is =
     let same : q ≡ next = sym (state_stays q leads.values) ∙ leads.state_is in
     let all : leads.values ≡ packets = sym (map-id leads.values) ∙ leads.parts in
-    let front = leads_front any_as_is any_lawful (λ packet. packet) ShowsFault q next packets s left ended leads ends in
+    let said : IsRest ((as_is_under q.limit q.header).says tt) left rest = rw same is in
     record {
       same = same;
-      front = subst (λ (l : List AsIs). Front (as_is_under q.limit q.header) tt l s left) all (front_under q leads.values s left front);
-      rest = rw same (ended_rest (any_as_is.says next) left ended ends);
+      front = record {
+        texts = rw (← all) (texts_under q leads.values s left leads.texts);
+        longest = rest_no_text (as_is_under q.limit q.header) (under_lawful q.limit q.header) tt left rest said;
+      };
+      rest_is = said;
     }
 
 pub has_packet : (q : Setting) (bytes rest : List ℕ) → HeaderText q.header bytes rest → GrowsIn any_as_is (λ _ _. ⊥) q rest → HasPacketAsIs q.limit bytes

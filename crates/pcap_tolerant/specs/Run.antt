@@ -1,5 +1,6 @@
 -- What a run over a whole slice tells, with packets as they stand.
 use Rattle.std.specs.Prelude.{◌≡◌, ◌+◌, ℕ, List, ◌∷◌, length, map, Bool}
+use Rattle.pcap_core.specs.declared.rest.Rest.{Rest}
 use Rattle.pcap_core.specs.Answer.{number_in}
 use Rattle.pcap_core.specs.Format.{Format, Front}
 use Rattle.pcap_core.specs.Run.{IsRest}
@@ -39,12 +40,16 @@ pub record FrontAsIs (limit : ℕ) (header : PcapHeader) (packets : List AsIs) (
   pub header_text : HeaderText header s after
   pub front : Front (as_is_under limit header) tt packets after rest
 
--- The run is the front of s: its header and packets as they stand, its length, and what is said of its rest.
-pub record IsRunAsIs (limit : ℕ) (run : PcapRunAsIs) (s : List ℕ) : Type 0 where
+-- s begins with this header and these packets as they stand and no more, which take so many bytes, and this is said of the rest
+pub record RunsAsIs (limit : ℕ) (header : PcapHeader) (packets : List AsIs) (count : ℕ) (said : Rest) (s : List ℕ) : Type 0 where
   pub left : List ℕ
-  pub front : FrontAsIs limit run.header (map as_it_is run.packets.items) s left
-  pub used : run.used + length left ≡ length s
-  pub rest : IsRest ((as_is_under limit run.header).says tt) left run.rest
+  pub front : FrontAsIs limit header packets s left
+  pub used : count + length left ≡ length s
+  pub rest : IsRest ((as_is_under limit header).says tt) left said
+
+-- The run is the front of s: its header and packets as they stand, its length, and what is said of its rest.
+abbrev pub IsRunAsIs : ℕ → PcapRunAsIs → List ℕ → Type 0
+IsRunAsIs limit run = RunsAsIs limit run.header (map as_it_is run.packets.items) run.used run.rest
 
 -- a header and at least one packet as it stands are in front of s
 abbrev pub HasPacketAsIs : ℕ → List ℕ → Type 0

@@ -8,6 +8,7 @@ ghost use Rattle.pcap_classic.specs.declared.common.TsResolution.{TsResolution};
 ghost use Rattle.pcap_core.specs.Requested.{RequestsAt};
 ghost use Rattle.pcap_classic.specs.PacketText.{packet_limit, Captured, PacketSays};
 ghost use Rattle.pcap_tolerant.specs.AsIs.{AsIs, raised, AsIsText, AsIsSays, as_is_format};
+ghost use Rattle.pcap_tolerant.specs.Pieces.{HoldsAsIs};
 ghost use Rattle.pcap_tolerant.specs.Strict.{StrictIs};
 
 /// Packets as they stand are a format: of all bytes one thing is said, more bytes change nothing, a text is its own, and a
@@ -37,6 +38,11 @@ pub fn packet_as_it_stands_is_stable()
 pub fn packets_as_they_stand_have_one_front()
     ensures { (limit : ℕ) (order : Order) (r : TsResolution) (s : List ℕ) →
         ExactlyOne (λ (p : List AsIs × List ℕ). Front (as_is_format limit order r) tt p.0 s p.1) }
+{}
+
+/// The number of packets as they stand, of at most so many bytes, that bytes hold is one.
+pub fn packets_held_as_they_stand_are_one()
+    ensures { (limit : ℕ) (s : List ℕ) (n m : ℕ) → HoldsAsIs limit s n → HoldsAsIs limit s m → n ≡ m }
 {}
 
 /// Who adds exactly what is asked for is asked twice at most, and has nothing behind the packet that comes.

@@ -6,6 +6,8 @@
 pub mod as_is;
 mod copy;
 pub mod laws;
+mod owned;
+mod pieces;
 mod reader;
 pub mod resync;
 mod run;
@@ -13,5 +15,7 @@ mod stated;
 
 pub use as_is::{Flaws, HeadAsIs, PacketAsIs, next_packet_as_is};
 pub use copy::{copy_pcap_as_is, copy_pcap_as_is_buffered};
+pub use owned::OwnedAsIs;
+pub use pieces::{OwnedRunAsIs, pieces_pcap_as_is};
 pub use reader::ReaderAsIs;
 pub use run::{PcapRunAsIs, parse_pcap_as_is};

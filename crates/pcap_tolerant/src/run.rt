@@ -48,9 +48,9 @@ impl PcapRunAsIs<'_> {
 
 // A parser that gives packets as they stand, of at most so many bytes.
 #[derive(Drop)]
-struct ParserAsIs {
-    parser: PcapParser,
-    limit: u32,
+pub(crate) struct ParserAsIs {
+    pub(crate) parser: PcapParser,
+    pub(crate) limit: u32,
 }
 
 impl<'a> Items<'a> for ParserAsIs {

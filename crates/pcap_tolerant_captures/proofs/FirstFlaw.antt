@@ -88,13 +88,18 @@ all_used q blocks s left after used front used_is less = within (sum_by size_of 
 
 -- ---- the front of a capture
 
--- where a first block is behind which blocks lead to what no block begins, they are the front
-pub run_front : (first : BlockAsIs) (start last : State) (blocks : List BlockAsIs) (s after left : List ℕ) → AsIsSays opening s (whole (item_of start first) after)
-    → LeadsTo as_is_format seen_in start last (map seen_of blocks) after left → ((item : Item) (t : List ℕ) → as_is_format.says last left (whole item t) → ⊥) → NgFrontAsIs last (map seen_of (first ∷ blocks)) s left
+-- where a first item is behind which blocks lead to what no block begins, they are the front
+pub item_front : (item : Item) (last : State) (blocks : List Seen) (s after left : List ℕ) → AsIsSays opening s (whole item after)
+    → LeadsTo as_is_format seen_in item.led.after last blocks after left → ((next : Item) (t : List ℕ) → as_is_format.says last left (whole next t) → ⊥) → NgFrontAsIs last (seen_in item ∷ blocks) s left
 unfolding as_is_format
-run_front first start last blocks s after left text leads longest = record {
-  items = item_of start first ∷ leads.values;
-  front = record { texts = (after, text, leads.texts); longest = subst (λ (q : State). (item : Item) (t : List ℕ) → as_is_format.says q left (whole item t) → ⊥) (sym leads.state_is) longest };
-  blocks_are = ap (λ (l : List Seen). seen_of first ∷ l) leads.parts;
+item_front item last blocks s after left text leads longest = record {
+  items = item ∷ leads.values;
+  front = record { texts = (after, text, leads.texts); longest = subst (λ (q : State). (next : Item) (t : List ℕ) → as_is_format.says q left (whole next t) → ⊥) (sym leads.state_is) longest };
+  blocks_are = ap (λ (l : List Seen). seen_in item ∷ l) leads.parts;
   in_force = leads.state_is;
 }
+
+-- the same of blocks of the code
+pub run_front : (first : BlockAsIs) (start last : State) (blocks : List BlockAsIs) (s after left : List ℕ) → AsIsSays opening s (whole (item_of start first) after)
+    → LeadsTo as_is_format seen_in start last (map seen_of blocks) after left → ((item : Item) (t : List ℕ) → as_is_format.says last left (whole item t) → ⊥) → NgFrontAsIs last (map seen_of (first ∷ blocks)) s left
+run_front first start last blocks s after left text leads longest = item_front (item_of start first) last (map seen_of blocks) s after left text leads longest

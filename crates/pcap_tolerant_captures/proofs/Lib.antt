@@ -7,3 +7,4 @@ mod HeldBlocks
 mod Copied
 mod StrictRuns
 pub mod FirstFlaw
+mod FedBlocks

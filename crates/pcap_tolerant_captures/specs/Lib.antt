@@ -5,5 +5,6 @@ pub mod Resync
 pub mod HeldAsIs
 pub mod ReaderAsIs
 pub mod Run
+pub mod Pieces
 pub mod Copies
 pub mod StrictRun

@@ -13,7 +13,7 @@ ghost use Rattle.pcap_tolerant_captures.specs.Blocks.{IsPacketIn, IsSimpleIn, Is
 
 use byteorder::{BigEndian, LittleEndian};
 use pcap_blocks::BlockType;
-use pcap_core::Endianness;
+use pcap_core::{Endianness, ResultParsing};
 use pcap_file::pcapng::Block;
 use pcap_tolerant_blocks::{
     EnhancedAsIs, Flaw, NamesAsIs, PacketBlockAsIs, SimpleAsIs, StatisticsAsIs,
@@ -30,13 +30,32 @@ pub struct BlockAsIs<'a> {
 }
 
 impl<'a> BlockAsIs<'a> {
-    ghost use Rattle.pcap_tolerant_captures.specs.Run.{is_flawed};
+    ghost use Rattle.std.specs.Prelude.{IfErr, IsOk};
+    ghost use Rattle.pcap_core.specs.Bytes.{IsOwned};
+    ghost use Rattle.pcap_core.specs.Errors.{IsMemory};
+    ghost use Rattle.pcap_tolerant_captures.specs.Run.{is_flawed, seen_of};
 
     /// Whether something is wrong with the body, where that is a section's or an interface's.
     pub fn is_flawed(&self) -> bool
         ensures { result ≡ is_flawed self.now }
     {
         !self.flaws.is_empty()
+    }
+
+    /// The same block, with a body of its own: a borrowed one is copied, an owned one kept.
+    ///
+    /// `OutOfMemory` where the copy can't be made; the block is then dropped.
+    pub fn into_owned(self, alloc: Global) -> ResultParsing<BlockAsIs<'static>>
+        ensures same { IfOk result (λ kept. seen_of kept ≡ seen_of self.entry) }
+        ensures owned { IfOk result (λ kept. IsOwned kept.block.body) }
+        ensures memory { IfErr result IsMemory }
+        ensures kept { IsOwned self.entry.block.body → IsOk result }
+    {
+        let BlockAsIs { block, flaws } = self;
+        Ok(BlockAsIs {
+            block: block.into_owned(alloc)?,
+            flaws,
+        })
     }
 
     /// The enhanced packet that the body is as it stands, with what is wrong with it. None where the block is of another type.

@@ -12,6 +12,7 @@ ghost use Rattle.pcap_file.specs.State as strict;
 ghost use Rattle.pcap_tolerant_captures.specs.Blocks.{Item, AsIsText, AsIsSays, as_is_format};
 ghost use Rattle.pcap_tolerant_blocks.specs.Flaws.{Said};
 ghost use Rattle.pcap_tolerant_captures.specs.State.{State, opening, within, order_at};
+ghost use Rattle.pcap_tolerant_captures.specs.Pieces.{HoldsBlocksAsIs};
 ghost use Rattle.pcap_tolerant_captures.specs.Resync.{BlocksStand, HeaderStands, IsGiven};
 ghost use Rattle.pcap_tolerant_captures.specs.Strict.{StrictIs, as_it_stands};
 ghost use Rattle.pcap_tolerant_captures.specs.StrictRun.{IsSound, StrictFrontIs, StrictEndsAt};
@@ -35,6 +36,11 @@ pub fn block_as_it_stands_is_stable()
 /// All bytes have one front of blocks as they stand and no other.
 pub fn blocks_as_they_stand_have_one_front()
     ensures { (q : State) (s : List ℕ) → ExactlyOne (λ (p : List Item × List ℕ). Front as_is_format q p.0 s p.1) }
+{}
+
+/// The number of blocks as they stand after the first that bytes hold is one.
+pub fn blocks_held_as_they_stand_are_one()
+    ensures { (s : List ℕ) (n m : ℕ) → HoldsBlocksAsIs s n → HoldsBlocksAsIs s m → n ≡ m }
 {}
 
 /// Who adds exactly what is asked for is asked twice at most, and has nothing behind the block that comes.

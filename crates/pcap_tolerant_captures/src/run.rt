@@ -111,7 +111,7 @@ fn place_of_flawed(blocks: &[BlockAsIs]) -> Option<usize>
 }
 
 // Where the first block with a flaw stands, of blocks that take at most so many bytes.
-fn first_flawed(first: &BlockAsIs, blocks: &[BlockAsIs], used: usize) -> Option<FlawedAt>
+pub(crate) fn first_flawed(first: &BlockAsIs, blocks: &[BlockAsIs], used: usize) -> Option<FlawedAt>
     requires { sum_by size_of (first.now ∷ blocks.now) ≤ used }
     ensures { IsFirstFlawed (first.now ∷ blocks.now) result }
 {

@@ -31,6 +31,8 @@ mod options;
 #[cfg(test)]
 mod packets;
 #[cfg(test)]
+mod pieces;
+#[cfg(test)]
 mod run_rows;
 #[cfg(test)]
 mod runs;

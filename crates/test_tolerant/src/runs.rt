@@ -8,7 +8,7 @@ use test_support::captures::BIG_HEAD;
 use test_support::rows::bytes;
 
 // The big-endian header, and these packets behind it.
-fn behind_header(alloc: Global, packets: &str) -> Result<Vec<u8>, Fail> {
+pub(crate) fn behind_header(alloc: Global, packets: &str) -> Result<Vec<u8>, Fail> {
     let mut capture = Vec::from_slice(alloc, &BIG_HEAD[..24])?;
     capture.extend_from_slice(bytes(alloc, packets)?.as_slice())?;
     Ok(capture)

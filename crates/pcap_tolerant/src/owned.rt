@@ -1,0 +1,46 @@
+//! Packets as they stand that own their bytes.
+
+ghost use Rattle.std.specs.Prelude.{◌≡◌, IfOk, IfErr};
+ghost use Rattle.pcap_core.specs.Errors.{IsMemory};
+ghost use Rattle.pcap_tolerant.specs.AsIs.{as_it_is};
+ghost use Rattle.pcap_tolerant.specs.Pieces.{owned_as_is};
+
+use crate::as_is::{HeadAsIs, PacketAsIs};
+use pcap_core::ResultParsing;
+use std::alloc::Global;
+
+/// A packet as it stands that owns its bytes.
+#[derive(Debug, Drop)]
+pub struct OwnedAsIs {
+    /// Its head: the four numbers as they were written, and which rules they break.
+    pub head: HeadAsIs,
+    /// The bytes that are stored, as many as the head says.
+    pub data: Vec<u8>,
+}
+
+impl OwnedAsIs {
+    /// The same packet, with its bytes lent.
+    pub fn packet(&self) -> PacketAsIs<'_>
+        ensures { as_it_is result ≡ owned_as_is self.now }
+    {
+        self.head.packet(self.data.as_slice())
+    }
+}
+
+impl PacketAsIs<'_> {
+    /// The same packet with a copy of its bytes. `OutOfMemory` where they can't be copied.
+    pub fn to_owned(&self, alloc: Global) -> ResultParsing<OwnedAsIs>
+        ensures packet { IfOk result (λ own. owned_as_is own ≡ as_it_is self.now) }
+        ensures memory { IfErr result IsMemory }
+    {
+        let head = HeadAsIs {
+            ts_sec: self.ts_sec,
+            fraction: self.fraction,
+            incl_len: self.incl_len,
+            orig_len: self.orig_len,
+            flaws: self.flaws,
+        };
+        let data = Vec::from_slice(alloc, self.data)?;
+        Ok(OwnedAsIs { head, data })
+    }
+}

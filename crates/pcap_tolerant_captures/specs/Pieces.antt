@@ -1,0 +1,36 @@
+-- What a run tells over a capture that comes in pieces, with blocks as they stand.
+use Rattle.std.specs.Prelude.{◌≡◌, ◌⊎◌, ℕ, List, ◌∷◌, length}
+use Rattle.pcap_core.specs.Answer.{Verdict, Made}
+use Rattle.pcap_core.specs.Format.{Format}
+use Rattle.pcap_core.specs.Pieces.{OpensNone}
+use Rattle.pcap_tolerant_captures.specs.declared.parser.OpenedAsIs.{OpenedAsIs}
+use Rattle.pcap_tolerant_captures.specs.Blocks.{Item, AsIsSays, as_is_format}
+use Rattle.pcap_tolerant_captures.specs.Run.{Seen, seen_in, seen_of, NgFrontAsIs}
+use Rattle.pcap_tolerant_captures.specs.State.{State, opening, state_of}
+
+-- the section and interfaces in force, and the first block of the capture
+pub record Kept : Type 0 where
+  pub state : State
+  pub first : Seen
+
+-- those behind a first block
+abbrev pub kept_by : Item → Kept
+kept_by item = record { state = item.led.after; first = seen_in item }
+
+-- those of the code
+abbrev pub kept_of : OpenedAsIs → Kept
+kept_of x = record { state = state_of x.parser; first = seen_of x.first }
+
+-- what is said of bytes where the first block is asked for, which is kept
+abbrev pub FirstSays : List ℕ → Verdict Kept → Type 0
+FirstSays s = Made kept_by (AsIsSays opening s)
+
+-- blocks as they stand behind a first one, which is kept
+abbrev pub kept_format : Format Kept Item
+kept_format = record { says = λ q. as_is_format.says q.state; goes = λ q item. record { state = as_is_format.goes q.state item; first = q.first }; head = as_is_format.head }
+
+-- the front of s has n blocks as they stand after the first, or no section header begins s, and n is 0
+abbrev pub HoldsBlocksAsIs : List ℕ → ℕ → Type 0
+HoldsBlocksAsIs s n =
+    ((q : State) × (first : Seen) × (blocks : List Seen) × (rest : List ℕ) × NgFrontAsIs q (first ∷ blocks) s rest × (n ≡ length blocks))
+    ⊎ (OpensNone (AsIsSays opening) s × (n ≡ 0))
