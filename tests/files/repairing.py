@@ -1,5 +1,5 @@
-"""What `pcapfile repair` makes of captures of blocks. What becomes of a block is said here once more, over `as_is`, which takes blocks by
-struct alone."""
+"""What `pcapfile repair` makes of captures of blocks, and that `--as-is` of other words reads what it makes of captures of either format.
+What becomes of a block is said here once more, over `as_is`, which takes blocks by struct alone."""
 import random
 import shutil
 import struct
@@ -10,6 +10,7 @@ import as_is
 from as_is import AT_FAULT, DONE, ENHANCED, INTERFACE, MESSAGES, MOST, OBSOLETE, SECTION, SIMPLE, framed, option_flaw, options_flaws
 
 MAGIC, UNSTATED = b"\x0a\x0d\x0d\x0a", b"\xff" * 8
+USAGE = 2
 LEFT = "options that break rules are left out"
 
 
@@ -297,6 +298,68 @@ def shown_by_tshark(capture):
     return None if ran.returncode else ran.stdout.splitlines()
 
 
+WORDS = (
+    ("info", "in"),
+    ("info", "--json", "in"),
+    ("convert", "in", "-o", "out"),
+    ("convert", "--to", "pcapng", "in", "-o", "out"),
+    ("convert", "in", "-o", "-"),
+    ("cut", "in", "-o", "out"),
+    ("cut", "in", "--packets", "2-3", "-o", "out"),
+    ("cut", "in", "--from", "1700000000", "-o", "out"),
+    ("cut", "in", "--every", "2", "-o", "out"),
+    ("cut", "in", "--bytes", "300", "-o", "out"),
+    ("merge", "in", "-o", "out"),
+    ("merge", "in", "sound", "in", "-o", "out"),
+)
+
+
+def as_repaired(tally, help, words, capture, out, said, status):
+    """What is wrong with a word that reads a capture as it stands, where `repair` makes this of it, and the word without reads that."""
+    sound = as_is.capture_of("<", 0xA1B2C3D4, [((1700000001, 2, 3, 3), b"abc")])
+    with tempfile.TemporaryDirectory() as folder:
+        help.put(folder, "in", capture)
+        help.put(folder, "sound", sound)
+        ended = as_is.ran(tally, folder, *words, "--as-is")
+        left = help.files(folder)
+    if out is None:
+        is_wrong = ended[0] != status or said not in ended[2] or not set(left) <= {"in", "sound", "out"}
+        return (is_wrong and f"it ended with {ended} and left {sorted(left)}",)
+    with tempfile.TemporaryDirectory() as folder:
+        help.put(folder, "in", out)
+        help.put(folder, "sound", sound)
+        wanted = as_is.ran(tally, folder, *words)
+        wanted_left = {**help.files(folder), "in": capture}
+    lines, told = sorted(ended[2].splitlines()), sorted(said.splitlines() * words.count("in") + wanted[2].splitlines())
+    is_whole = "--packets" not in words
+    return (
+        ended[:2] != wanted[:2] and f"it gave {str(ended)[-300:]}, and not {str(wanted)[-300:]}",
+        left != wanted_left and f"it left {sorted(left)}, and of {sorted(wanted_left)} others",
+        (lines != told if is_whole else not set(lines) <= set(told)) and f"it said {ended[2][-300:]!r}, and not {told[-3:]}",
+    )
+
+
+def try_words(tally, help):
+    """Each word that reads a capture as it stands, over broken captures of both formats."""
+    draw = random.Random(35)
+    classic = [it for it in (*as_is.captures(), *as_is.gaps()) if len(it[1]) < 100000 and (len(it[1]) > 300 or draw.randrange(20) == 0)]
+    blocks = [it for it in captures(help) if len(it[1]) < 100000 and (" blocks " in it[0] or draw.randrange(8) == 0)]
+    for name, capture in (*classic, *blocks):
+        out, said, status = repaired("in", capture)
+        for words in WORDS:
+            tally.note(f"{' '.join(words)} --as-is of {name}", *as_repaired(tally, help, words, capture, out, said, status))
+
+
+def try_parts(tally, help):
+    """Parts of equal length want to know how long the capture is, which isn't known of a repaired one."""
+    with tempfile.TemporaryDirectory() as folder:
+        help.put(folder, "in", section("<"))
+        ended = as_is.ran(tally, folder, "cut", "in", "--parts", "2", "--as-is", "-o", "out")
+        left = help.files(folder)
+    is_refused = ended[0] == USAGE and ended[2].startswith("error: ") and sorted(left) == ["in"]
+    tally.note("cut --parts --as-is", not is_refused and f"it gave {ended} and left {sorted(left)}")
+
+
 def try_all(tally, help):
-    for tries in (try_blocks, try_by_hand):
+    for tries in (try_blocks, try_by_hand, try_words, try_parts):
         tries(tally, help)

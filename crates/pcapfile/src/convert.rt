@@ -1,7 +1,8 @@
 //! The word `convert`.
 
+use crate::captured::Captured;
 use crate::console::Console;
-use crate::input::{STANDARD, buffered, open_watched};
+use crate::input::{STANDARD, buffered};
 use crate::output::{OUTPUT, Unfinished, tell_read};
 use crate::tell::{tell_error, tell_io};
 use capcopy_run::Uninterrupted;
@@ -31,6 +32,8 @@ pub(crate) struct Conversion<'a> {
     pub(crate) to: Option<Format>,
     /// The name of the other one.
     pub(crate) out: &'a str,
+    /// Whether the capture is read as it stands.
+    pub(crate) as_is: bool,
 }
 
 /// The blocks before the first interface.
@@ -116,8 +119,10 @@ fn open_and_convert<W: Write + Drop>(
     asked: &Conversion,
     output: W,
 ) -> io::Result<Ended> {
-    let stream = open_watched(console, asked.from)?;
-    convert_stream(console, stream, asked.to, output)
+    match Captured::open(console, asked.from, asked.as_is) {
+        Ok(capture) => convert_stream(console, capture, asked.to, output),
+        Err(error) => Ok(Ended::whole(Some(error), false)),
+    }
 }
 
 fn convert_stream<R: Read + Drop, W: Write + Drop>(

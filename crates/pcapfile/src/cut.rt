@@ -2,8 +2,9 @@
 
 use crate::USAGE;
 use crate::blocks::Blocks;
+use crate::captured::Captured;
 use crate::console::Console;
-use crate::input::{STANDARD, buffered, open_watched};
+use crate::input::{STANDARD, buffered};
 use crate::output::{OUTPUT, Unfinished, tell_read};
 use crate::source::{Packets, Source, flushed};
 use crate::tell::{tell_error, tell_io, tell_outcome};
@@ -24,6 +25,8 @@ pub(crate) struct Cutting<'a> {
     pub(crate) out: &'a str,
     /// How it is cut.
     pub(crate) way: Way,
+    /// Whether it is read as it stands.
+    pub(crate) as_is: bool,
 }
 
 /// How a capture is cut.
@@ -85,12 +88,12 @@ pub(crate) fn cut_file(console: &Console, asked: &Cutting) -> io::Result<u8> {
             return Ok(USAGE);
         }
     }
-    match open_watched(console, asked.from) {
-        Ok(stream) => {
-            let length = stream.length().unwrap_or_default();
-            cut_stream(console, asked, stream, length)
+    match Captured::open(console, asked.from, asked.as_is) {
+        Ok(capture) => {
+            let length = capture.length().unwrap_or_default();
+            cut_stream(console, asked, capture, length)
         }
-        Err(error) => tell_io(console, asked.from, &error),
+        Err(error) => tell_error(console, asked.from, &error),
     }
 }
 

@@ -3,6 +3,7 @@
 
 mod as_is;
 mod blocks;
+mod captured;
 mod check;
 mod check_as_is;
 mod console;
@@ -32,6 +33,7 @@ use clap::{ArgMatches, Error};
 use console::Console;
 use convert::Conversion;
 use cut::{Cutting, Way};
+use info::Informing;
 use join::Joining;
 use merge::Merge;
 use pcapfile_cut::Wanted;
@@ -72,6 +74,7 @@ fn conversion<'a>(words: &ArgMatches<'a>) -> Conversion<'a> {
         from: words.get_str(words::IN).unwrap_or_default(),
         to,
         out: words.get_str(words::OUT).unwrap_or_default(),
+        as_is: words.get_flag(words::AS_IS),
     }
 }
 
@@ -115,6 +118,7 @@ fn cut_out(console: &Console, words: &ArgMatches) -> io::Result<u8> {
         from: words.get_str(words::CAPTURE).unwrap_or_default(),
         out: words.get_str(words::OUT).unwrap_or_default(),
         way,
+        as_is: words.get_flag(words::AS_IS),
     };
     cut::cut_file(console, &asked)
 }
@@ -146,6 +150,16 @@ fn merging<'a>(words: &'a ArgMatches<'_>) -> Merge<'a> {
     Merge {
         names: words.get_strs(words::FILES).unwrap_or_default(),
         out: words.get_str(words::OUT).unwrap_or_default(),
+        as_is: words.get_flag(words::AS_IS),
+    }
+}
+
+// What the word `info` is asked for.
+fn informing<'a>(words: &'a ArgMatches<'_>) -> Informing<'a> {
+    Informing {
+        names: words.get_strs(words::FILES).unwrap_or_default(),
+        as_json: words.get_flag(words::JSON),
+        as_is: words.get_flag(words::AS_IS),
     }
 }
 
@@ -212,7 +226,7 @@ fn do_word(rt: &HostRuntime, matches: &ArgMatches) -> io::Result<u8> {
 fn tell_files(console: &Console, word: &str, words: &ArgMatches) -> io::Result<u8> {
     let names = words.get_strs(words::FILES).unwrap_or_default();
     match word {
-        "info" => info::inform_files(console, names, words.get_flag(words::JSON)),
+        "info" => info::inform_files(console, &informing(words)),
         "check" if words.get_flag(words::AS_IS) => check_as_is::check_files_as_is(console, names),
         "check" => check::check_files(console, names),
         "list" if words.get_flag(words::AS_IS) => list_as_is::list_files_as_is(console, names),

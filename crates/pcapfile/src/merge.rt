@@ -3,6 +3,7 @@
 ghost use Rattle.std.specs.Prelude.{IfOk};
 ghost use Rattle.pcapfile_merge.specs.Holding.{IsReady};
 
+use crate::captured::Captured;
 use crate::console::Console;
 use crate::input::{STANDARD, Watched, buffered, open_further};
 use crate::opening::{interfaces_of, put_opening};
@@ -17,7 +18,7 @@ use std::io;
 use std::io::{BufReader, BufWriter, Write};
 
 /// A capture that is merged, off a buffer.
-type Input = BufReader<Uninterrupted<Watched>>;
+type Input = BufReader<Uninterrupted<Captured>>;
 
 /// What the word is asked for.
 #[derive(Drop)]
@@ -26,6 +27,8 @@ pub(crate) struct Merge<'a> {
     pub(crate) names: &'a [&'a str],
     /// The name of the other one.
     pub(crate) out: &'a str,
+    /// Whether the captures are read as they stand.
+    pub(crate) as_is: bool,
 }
 
 /// How a merge ended.
@@ -86,7 +89,7 @@ fn merge_to<W: Write + Drop>(console: &Console, asked: &Merge, output: W) -> io:
             Ok(stream) => stream,
             Err(error) => return Ok(Ended::given_up(tell_io(console, name, &error)?)),
         };
-        match open_reader(console.alloc(), stream) {
+        match open_reader(console, name, stream, asked.as_is) {
             Ok(reader) => {
                 let source = Source::new(console.alloc(), reader, interfaces);
                 interfaces = interfaces.saturating_add(interfaces_of(source.reader()));
@@ -122,10 +125,16 @@ fn tell_faults(console: &Console, names: &[&str], sources: &[Source<Input>]) -> 
 }
 
 // A reader of a capture of either format.
-fn open_reader(alloc: Global, stream: Watched) -> ResultParsing<Reader<Input>>
+fn open_reader(
+    console: &Console,
+    name: &str,
+    stream: Watched,
+    as_is: bool,
+) -> ResultParsing<Reader<Input>>
     ensures { IfOk result (λ reader. IsReady reader) }
 {
-    let mut input = buffered(alloc, stream)?;
+    let alloc = console.alloc();
+    let mut input = buffered(alloc, Captured::new(console, name, stream, as_is)?)?;
     match format_of(&mut input)? {
         Format::Pcap => Ok(Reader::Packets(PcapReader::new(alloc, input)?)),
         Format::PcapNg => Ok(Reader::Blocks(PcapNgReader::new(alloc, input)?)),

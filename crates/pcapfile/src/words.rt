@@ -113,6 +113,9 @@ const QUIET_HELP: &str =
 
 const AS_IS_HELP: &str = "Goes on behind what breaks a rule, and tells which";
 
+const AS_REPAIRED_HELP: &str =
+    "Reads what 'pcapfile repair' makes of it, and says what that changes";
+
 const CONVERT: &str = "Writes a capture in the other format, or as it is where it has that format.
 
 A classic capture becomes one little-endian section with one interface and times in nanoseconds. A
@@ -133,15 +136,15 @@ A time is in seconds since 1970, as 1700000000.25, or as 2023-11-14T22:13:20.25Z
 
 const RANGE_HELP: &str = "Those of these numbers as list has them: 10-20, 10-, -20 or 10";
 
-const PARTS_HELP: &str = "So many parts of nearly equal length, of a file";
+const PARTS_HELP: &str = "So many parts of nearly equal length, of a file, and not with --as-is";
 
 const BYTES_HELP: &str = "Parts that end with the packet at which they have so many bytes";
 
 const JOIN: &str =
     "Writes the parts of a capture as one: the first as it is, and the packets of each other.
 
-The headers of all parts are the same bytes. The file is written as OUT.part, and is named OUT once
-all of it is there.";
+The headers of all parts are the same bytes. Parts are read byte for byte, so there is no --as-is.
+The file is written as OUT.part, and is named OUT once all of it is there.";
 
 const MERGE: &str = "Writes the packets of several captures by time into one PcapNg capture.
 
@@ -211,7 +214,8 @@ fn info<'a>(alloc: Global) -> Result<Command<'a>, AllocError> {
         .about(INFO)
         .after_help(STATUSES)
         .arg(files(alloc))?
-        .arg(json(alloc))
+        .arg(json(alloc))?
+        .arg(as_repaired(alloc))
 }
 
 fn list<'a>(alloc: Global) -> Result<Command<'a>, AllocError> {
@@ -255,6 +259,7 @@ fn convert<'a>(alloc: Global) -> Result<Command<'a>, AllocError> {
         .after_help(STATUSES)
         .arg(from)?
         .arg(to)?
+        .arg(as_repaired(alloc))?
         .arg(out)
 }
 
@@ -272,6 +277,7 @@ fn cut<'a>(alloc: Global) -> Result<Command<'a>, AllocError> {
         .arg(every(alloc, EVERY, "Parts of so many packets")?)?
         .arg(parts(alloc, PARTS, PARTS_HELP)?)?
         .arg(bytes(alloc, BYTES, BYTES_HELP)?)?
+        .arg(as_repaired(alloc))?
         .arg(output(alloc, "Where it goes; - is standard output, of one part"))
 }
 
@@ -298,7 +304,7 @@ fn every<'a>(alloc: Global, name: &'a str, help: &'a str) -> Result<Arg<'a>, All
 
 fn parts<'a>(alloc: Global, name: &'a str, help: &'a str) -> Result<Arg<'a>, AllocError> {
     let parts = number(alloc, name).help(help);
-    parts.conflicts_with_all(&[EVERY, BYTES])
+    parts.conflicts_with_all(&[EVERY, BYTES, AS_IS])
 }
 
 fn bytes<'a>(alloc: Global, name: &'a str, help: &'a str) -> Result<Arg<'a>, AllocError> {
@@ -340,6 +346,7 @@ fn merge<'a>(alloc: Global) -> Result<Command<'a>, AllocError> {
         .about(MERGE)
         .after_help(STATUSES)
         .arg(files(alloc))?
+        .arg(as_repaired(alloc))?
         .arg(output(alloc, "Where it goes; - is standard output"))
 }
 
@@ -356,6 +363,10 @@ fn repair<'a>(alloc: Global) -> Result<Command<'a>, AllocError> {
 
 fn as_is<'a>(alloc: Global) -> Arg<'a> {
     flag(alloc, AS_IS).help(AS_IS_HELP)
+}
+
+fn as_repaired<'a>(alloc: Global) -> Arg<'a> {
+    flag(alloc, AS_IS).help(AS_REPAIRED_HELP)
 }
 
 fn json<'a>(alloc: Global) -> Arg<'a> {
