@@ -381,8 +381,6 @@ def by_time(rows):
 
 
 def repair(capture):
-    if capture.is_pcapng:
-        return
     ran = capture.run("repair", capture.path, "-o", "-")
     found, wanted = unplaced(capture.kept("repaired", ran)), unplaced(capture.packets)
     if not wanted:
