@@ -32,15 +32,22 @@ impl TimeUnit {
     }
 
     /// The whole seconds and the whole nanoseconds after them in so many units; what is less than a nanosecond is
-    /// dropped.
+    /// dropped. Microseconds and nanoseconds take no division of 128 bits.
+    #[inline]
     pub fn split(self, ticks: u64) -> (u64, u32)
         ensures { IsSplit self ticks result.0 result.1 }
     {
-        let nanoseconds = self.nanoseconds(ticks);
-        (
-            (nanoseconds / BILLION) as u64,
-            (nanoseconds % BILLION) as u32,
-        )
+        match self {
+            TimeUnit::Decimal(6) => (ticks / 1_000_000, (ticks % 1_000_000) as u32 * 1000),
+            TimeUnit::Decimal(9) => (ticks / 1_000_000_000, (ticks % 1_000_000_000) as u32),
+            TimeUnit::Decimal(_) | TimeUnit::Binary(_) => {
+                let nanoseconds = self.nanoseconds(ticks);
+                (
+                    (nanoseconds / BILLION) as u64,
+                    (nanoseconds % BILLION) as u32,
+                )
+            }
+        }
     }
 
     // The whole nanoseconds in so many units.
