@@ -11,6 +11,7 @@ pub mod Parser
 pub mod Front
 pub mod Run
 pub mod Reader
+pub mod LentStreams
 pub mod Reads
 pub mod StatedFrames
 pub mod Exact

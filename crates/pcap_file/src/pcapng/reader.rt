@@ -1,6 +1,7 @@
 //! A reader of the blocks of a stream.
 
 ghost use Rattle.std.specs.Prelude.{◌≡◌, false, [], IfOk, IfSome, map, option_map, slice_get};
+ghost use Rattle.std.specs.Borrow.{sem, Lends};
 ghost use Rattle.pcap_core.specs.Bytes.{IsOwned};
 ghost use Rattle.pcap_core.specs.Held.{held_bytes};
 ghost use Rattle.pcap_core.specs.Reading.{NextGives};
@@ -107,6 +108,8 @@ impl<T: Read + Drop> PcapNgReader<T> {
 
 impl<T> PcapNgReader<T> {
     ghost use Rattle.pcap_core.specs.Bytes.{IsBorrowed};
+    ghost use Rattle.pcap_file.specs.contracts.pcapng.reader.PcapNgReader.{the_row as reader-row};
+    ghost use Rattle.pcap_file.specs.LentStreams.{reader_with};
     ghost use Rattle.pcap_file.specs.Reader.{stream_of, has_failed, text_of, body_of, section_in_force, interfaces_in_force};
 
     /// The text of the block whose header `next_header` gave last: all of its bytes, from its type to the length behind its body,
@@ -182,6 +185,14 @@ impl<T> PcapNgReader<T> {
         ensures { result.now ≡ stream_of self.now }
     {
         &self.inner
+    }
+
+    /// The wrapped stream. What is taken of it directly is no block of this reader's, and leaves what is in force as it is.
+    pub fn get_mut(&mut self) -> &mut T
+        ensures value { result.now ≡ stream_of self.old }
+        ensures* writes_back { sem 𝓛 (Lends (reader-row T.row) T.row self.entry result (reader_with self.old)) }
+    {
+        &mut self.inner
     }
 
     /// Whether a read of the wrapped stream failed.
