@@ -1,17 +1,22 @@
 -- Where a list grows when bodies are read as they stand.
 use Rattle.std.proofs.Common.{◌≡◌, ◌≢◌, ℕ, List, [], ◌∷◌, map, Option, Some, None, refl, sym, ap, subst, ◌∙◌}
-use Rattle.pcap_core.specs.Answer.{Order, Verdict, whole, lacks, faulty, Says}
+use Rattle.byteorder.specs.Endian.{big_number}
+use Rattle.pcap_core.specs.declared.common.Endianness.{Endianness}
+use Rattle.pcap_core.specs.Answer.{Order, Number, number_in, Verdict, whole, lacks, faulty, Says}
 use Rattle.pcap_core.specs.Faults.{Fault}
 use Rattle.pcap_core.specs.Laws.{ExactlyOne}
 use Rattle.pcap_core.specs.Padded.{Chain}
 use Rattle.pcap_core.specs.declared.rules.Rule.{Rule}
+use Rattle.pcap_core.proofs.Texts.{number_same}
 use Rattle.pcap_core.proofs.Verdicts.{same_whole}
 use Rattle.pcap_blocks.specs.Values.{Entry, Kind}
 use Rattle.pcap_blocks.specs.Options.{may_end_with_body, OptionFault}
+use Rattle.pcap_blocks.specs.SectionHeader.{Section, VersionText, section_header, magic_order}
 use Rattle.pcap_blocks.proofs.OneList.{Ends, mark_no_fault, mark_no_item}
 use Rattle.pcap_raw_options.specs.UpTo.{StopsAt, no_kind}
 use Rattle.pcap_tolerant_blocks.specs.Flaws.{Said, Flawed, alone, KeepsSome}
 use Rattle.pcap_tolerant_blocks.specs.OptionsAsIs.{Judged, JudgedText, entry_in, cut_by, flaws_in, OptionsAsIs, OptionsAsIsSay, OptionsGrow}
+use Rattle.pcap_tolerant_blocks.specs.SectionAsIs.{AfterMagic, SectionGrows, VersionGrows}
 use Rattle.pcap_tolerant_blocks.proofs.Lists.{ReadSoFar}
 use Rattle.pcap_tolerant_blocks.proofs.OneAsIs.{raw_text, list_one}
 
@@ -81,3 +86,23 @@ module _ {V : Type 0} (IsBody : Option V → List Said → List ℕ → List ℕ
         let list = list_one order kind after in
         let t = bare_options list.value list.holds value rest text bare in
         grows [] t.0 t.1 refl
+
+-- ---- sections
+
+-- a list grows behind a version
+pub grows_behind_version : (order : Order) (section : Section) (s after : List ℕ) → VersionText order section s after → OptionsGrow order section_header after → VersionGrows order s
+grows_behind_version order section s after version grows = λ value rest text bare.
+    let v = text.version in
+    let major = number_same order 2 _ _ s v.after_major version.after_major v.major version.major in
+    let minor = number_same order 2 _ _ version.after_major v.after_minor version.after_minor (subst (λ (t : List ℕ). Number order 2 value.minor_version t v.after_minor) major.1 v.minor) version.minor in
+    let length = number_same order 8 _ _ version.after_minor text.after_version after (subst (λ (t : List ℕ). Number order 8 v.length_bits t text.after_version) minor.1 v.length_number) version.length_number in
+    grows value.options rest (subst (λ (t : List ℕ). OptionsAsIs order section_header value.options [] t rest) length.1 text.options_are) bare
+
+-- a list grows behind a magic number
+pub grows_behind_magic : (magic : ℕ) (s after : List ℕ) (e : Endianness) → Number big_number 4 magic s after → magic_order magic ≡ Some e → VersionGrows (number_in e) after → SectionGrows s
+grows_behind_magic magic s after e number names grows = λ value rest text bare.
+    let same = number_same big_number 4 _ _ s text.after_magic after text.magic_is number in
+    let named : Some text.endianness ≡ Some e = sym text.names ∙ ap magic_order same.0 ∙ names in
+    let order : text.endianness ≡ e = cc in
+    let behind : AfterMagic (number_in e) value [] after rest = subst (λ (t : List ℕ). AfterMagic (number_in e) value [] t rest) same.1 (subst (λ (d : Endianness). AfterMagic (number_in d) value [] text.after_magic rest) order text.after) in
+    grows value rest behind bare

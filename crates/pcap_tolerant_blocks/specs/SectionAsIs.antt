@@ -1,12 +1,12 @@
 -- Sections as they stand ('Section Header Block').
-use Rattle.std.specs.Prelude.{◌≡◌, ◌≤◌, ◌<◌, ℕ, List, length, Some, None}
+use Rattle.std.specs.Prelude.{◌≡◌, ◌≤◌, ◌<◌, ℕ, List, [], length, Some, None}
 use Rattle.byteorder.specs.Endian.{big_number}
 use Rattle.pcap_core.specs.declared.common.Endianness.{Endianness}
 use Rattle.pcap_core.specs.declared.rules.Rule.TheVariants.{SectionTooShort, SectionMagic}
 use Rattle.pcap_core.specs.Answer.{Order, Number, number_in, Verdict, Says}
 use Rattle.pcap_core.specs.Faults.{Fault, Invalid}
 use Rattle.pcap_blocks.specs.SectionHeader.{Section, VersionText, section_header, magic_order}
-use Rattle.pcap_tolerant_blocks.specs.Flaws.{Said, Flawed}
+use Rattle.pcap_tolerant_blocks.specs.Flaws.{Said, Flawed, KeepsSome}
 use Rattle.pcap_tolerant_blocks.specs.OptionsAsIs.{OptionsAsIs}
 
 -- s is what follows the magic number of a section as it stands, with these flaws, and then rest
@@ -23,6 +23,14 @@ pub record SectionText (section : Section) (flaws : List Said) (s rest : List �
   pub magic_is : Number big_number 4 section.magic s after_magic
   pub names : magic_order section.magic ≡ Some endianness
   pub after : AfterMagic (number_in endianness) section flaws after_magic rest
+
+-- what follows the magic number is no section without flaws and options, so that a list grows
+abbrev pub VersionGrows : Order → List ℕ → Type 0
+VersionGrows order = KeepsSome (AfterMagic order) (λ x. x.options ≡ [])
+
+-- s is no section without flaws and options, so that a list grows
+abbrev pub SectionGrows : List ℕ → Type 0
+SectionGrows = KeepsSome SectionText (λ x. x.options ≡ [])
 
 -- why no order of bytes is known
 pub data NoSection (s : List ℕ) : Fault → Type 0 where

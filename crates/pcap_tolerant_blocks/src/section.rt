@@ -1,10 +1,10 @@
 //! Sections as they stand.
 
-ghost use Rattle.std.specs.Prelude.{◌≡◌, ◌≤◌, ⊤, length, map, Some, IfOk, IfErr};
+ghost use Rattle.std.specs.Prelude.{◌≡◌, ◌≤◌, length, map, Some, IfOk, IfErr};
 ghost use Rattle.pcap_core.specs.Answer.{Refuses};
 ghost use Rattle.pcap_blocks.specs.SectionHeader.{section_header, section_entry, section_of, magic_order};
 ghost use Rattle.pcap_tolerant_blocks.specs.Flaws.{said_of};
-ghost use Rattle.pcap_tolerant_blocks.specs.SectionAsIs.{AfterMagic, SectionText, NoSection};
+ghost use Rattle.pcap_tolerant_blocks.specs.SectionAsIs.{AfterMagic, SectionText, NoSection, VersionGrows, SectionGrows};
 
 use crate::flaws::{Broken, Flaw};
 use crate::list::{ReadsValue, list_as_is};
@@ -30,10 +30,10 @@ impl<'a> SectionAsIs<'a> {
     /// where no next one can be found. Strings and bytes are borrowed from the slice.
     ///
     /// `InvalidField` under 16 bytes, and then where the magic number is neither of the two, so that no order of bytes is known.
-    /// `OutOfMemory` where a list can't grow.
+    /// `OutOfMemory` where a list can't grow, and only where there is a flaw or an option.
     pub fn from_slice(alloc: Global, slice: &'a [u8]) -> ResultParsing<(&'a [u8], Self)>
         ensures read { IfOk result (λ x. SectionText (section_of x.1.section) (map said_of x.1.flaws.items) slice.now x.0.now) }
-        ensures refused { IfErr result (Refuses ⊤ (λ _. ⊥) (NoSection slice.now)) }
+        ensures refused { IfErr result (Refuses (SectionGrows slice.now) (λ _. ⊥) (NoSection slice.now)) }
     {
         if slice.len() < 16 {
             return Err(PcapError::from(Rule::SectionTooShort));
@@ -56,6 +56,7 @@ fn behind_magic<'a, B: ByteOrder>(
     requires { 12 ≤ length slice.now }
     ensures magic { IfOk result (λ x. x.1.section.magic ≡ magic) }
     ensures read { IfOk result (λ x. AfterMagic B.number_of (section_of x.1.section) (map said_of x.1.flaws.items) slice.now x.0.now) }
+    ensures memory { IfErr result (λ _. VersionGrows B.number_of slice.now) }
 {
     let (major_version, rest) = split_u16::<B>(slice);
     let (minor_version, rest) = split_u16::<B>(rest);
