@@ -1,7 +1,7 @@
 -- Blocks as they stand, as structs show them.
 use Rattle.std.proofs.Common.{◌≡◌, ◌<◌, ◌+◌, ◌-◌, ◌^◌, ℕ, suc, List, [], ◌∷◌, ◌++◌, length, map, take, min, get_or, Option, Some, None, Ok, Err, refl, sym, ap, subst, ◌∙◌, arith, inl, inr, length-append}
 use Rattle.std.specs.Global.{Vec}
-use Rattle.std.specs.Prelude.{slice_set, ⊤}
+use Rattle.std.specs.Prelude.{slice_set}
 use Rattle.std.proofs.lemmas.Grind.{take-set_at}
 use Rattle.std.proofs.lemmas.List.{map_push, get_or-map, length-map}
 use Rattle.std.proofs.Math.Seq.{take-suc}
@@ -23,7 +23,7 @@ use Rattle.pcap_tolerant_blocks.specs.declared.flaws.Flaw.{Flaw}
 use Rattle.pcap_tolerant_blocks.specs.EnhancedAsIs.{EnhancedText}
 use Rattle.pcap_tolerant_blocks.specs.Flaws.{Said, said_of}
 use Rattle.pcap_tolerant_blocks.specs.InterfaceAsIs.{InterfaceText}
-use Rattle.pcap_tolerant_blocks.specs.SectionAsIs.{SectionText, NoSection}
+use Rattle.pcap_tolerant_blocks.specs.SectionAsIs.{SectionText, SectionGrows, NoSection}
 use Rattle.pcap_tolerant_captures.specs.Blocks.{AsIsSays}
 use Rattle.pcap_tolerant_captures.specs.State.{State, opening, within, order_at, Role, leaves_all, role_of, Led, MeansFor, Means}
 use Rattle.pcap_tolerant_captures.proofs.Refusing.{refuses_more, first_missing}
@@ -111,7 +111,7 @@ section_refused q b body e is same told =
     let grows : CanGrow q b = section_grows q b is in
     let means : (fault : Fault) → NoSection body fault → Means q b (bad fault) = λ fault none.
     subst (λ (t : BlockType). MeansFor (role_of t) q b (bad fault)) (sym is) (subst (λ (s : List ℕ). NoSection s fault) same none) in
-    refuses_wider ⊤ (CanGrow q b) (NoSection body) (λ fault. Means q b (bad fault)) (λ any. grows) means e told
+    refuses_wider (SectionGrows body) (CanGrow q b) (NoSection body) (λ fault. Means q b (bad fault)) (λ any. grows) means e told
 
 -- a first block that is no section header
 pub missing_stands : (shown : PcapfileSection) (q : State) (b : Framed) (e : PcapError) → ShowsStanding shown q → shown.magic_number ≡ 0 → (b.type_ ≡ types.SectionHeader → ⊥) → Names SectionMissing e

@@ -20,7 +20,7 @@ use Rattle.pcap_tolerant_blocks.specs.declared.flaws.Flaw.{Flaw}
 use Rattle.pcap_tolerant_blocks.specs.EnhancedAsIs.{EnhancedText}
 use Rattle.pcap_tolerant_blocks.specs.Flaws.{Said, said_of}
 use Rattle.pcap_tolerant_blocks.specs.InterfaceAsIs.{InterfaceText}
-use Rattle.pcap_tolerant_blocks.specs.SectionAsIs.{SectionText, NoSection}
+use Rattle.pcap_tolerant_blocks.specs.SectionAsIs.{SectionText, SectionGrows, NoSection}
 use Rattle.pcap_tolerant_captures.specs.Blocks.{Item, AsIsSays}
 use Rattle.pcap_tolerant_captures.specs.State.{State, opening, within, order_at, Led, Means}
 use Rattle.pcapfile_c.specs.declared.blocks.PcapfileBlock.{PcapfileBlock}
@@ -162,7 +162,7 @@ IsOf lent shown = (shown.type_ ≡ lent.type_) × (shown.body.now ≡ lent.body.
 -- the section that a body puts in force as it stands, and what is wrong with it; or why it names no order
 abbrev pub TellsSection : List ℕ → Result (PcapfileSection × Vec Flaw) PcapError → Type 0
 TellsSection body (Ok x) = (section : Section) × (rest : List ℕ) × SectionText section (said_in x.1) body rest × ShowsSection x.0 section × (x.0.interfaces ≡ 0)
-TellsSection body (Err e) = Refuses ⊤ (λ n. ⊥) (NoSection body) e
+TellsSection body (Err e) = Refuses (SectionGrows body) (λ n. ⊥) (NoSection body) e
 
 -- what is found where nothing is read of a block, and these flaws are known
 abbrev pub FindsNothing : PcapfileBlock → List Said → FoundAsIs → Type 0

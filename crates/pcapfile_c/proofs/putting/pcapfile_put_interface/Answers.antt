@@ -1,4 +1,4 @@
-use Rattle.std.proofs.Common.{◌≡◌, ◌+◌, ◌-◌, length, arith, inl, inr, refl, sym, ap, ◌∙◌, rules}
+use Rattle.std.proofs.Common.{◌≡◌, ◌+◌, length, arith, inl, inr, refl, sym, ap, ◌∙◌, rules}
 use Rattle.pcap_core.specs.declared.rules.Rule.TheVariants.{SectionMagic, InterfaceResolutionLength}
 use Rattle.pcap_core.specs.Codec.{number_bytes}
 use Rattle.pcap_core.proofs.Codec.{codec}

@@ -1,4 +1,4 @@
-use Rattle.std.proofs.Common.{◌≡◌, ◌≤◌, ◌-◌, List, Option, length, take, drop}
+use Rattle.std.proofs.Common.{◌≡◌, ◌≤◌, List, Option, length, take, drop}
 use Rattle.pcap_core.specs.Format.{Texts}
 use Rattle.pcapfile_c.specs.declared.rows.PcapfileNgRow.{PcapfileNgRow}
 use Rattle.pcapfile_c.specs.Batches.{somes, EndsWithPacket}
