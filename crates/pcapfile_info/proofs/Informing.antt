@@ -1,6 +1,6 @@
 -- Captures of which it is told what they hold.
 use Rattle.std.proofs.Common.{◌≡◌, ◌<◌, ◌≤◌, ◌+◌, ◌^◌, ℕ, List, [], ◌++◌, length, Bool, true, Option, Some, None, Err, inl, inr, refl, sym, ap, ◌∙◌, subst, arith, length-append, append_assoc}
-use Rattle.std.specs.Prelude.{⊤, ◌⊎◌, IfSome, String}
+use Rattle.std.specs.Prelude.{⊤, IfSome, String}
 use Rattle.std.specs.Global.{Global}
 use Rattle.pcap_core.specs.declared.errors.PcapError.{PcapError}
 use Rattle.pcap_core.specs.Answer.{number_in, whole}
@@ -24,7 +24,6 @@ use Rattle.pcap_file.specs.State.{State}
 use Rattle.pcap_file.proofs.BlockFormat.{blocks_lawful}
 use Rattle.pcapfile_run.specs.declared.checked.Checked.{Checked}
 use Rattle.pcapfile_run.specs.declared.checked.End.{End}
-use Rattle.pcapfile_run.specs.declared.checked.End.TheVariants.{Memory}
 use Rattle.pcapfile_run.specs.declared.checked.Format.{Format as CaptureFormat}
 use Rattle.pcapfile_run.specs.declared.checked.Format.TheVariants.{Pcap, PcapNg}
 use Rattle.pcapfile_run.specs.Checks.{FaultIs, EndIs, most_passed}
@@ -37,29 +36,31 @@ use Rattle.pcapfile_info.specs.declared.described.Opened.{Opened}
 use Rattle.pcapfile_info.specs.declared.progress.Progress.{Progress}
 use Rattle.pcapfile_info.specs.declared.seen.Sight.{Sight}
 use Rattle.pcapfile_info.specs.declared.totals.Totals.{Totals}
-use Rattle.pcapfile_info.specs.Describing.{DescribesBlocks, LacksMemory, opened_at}
+use Rattle.pcapfile_info.specs.Describing.{DescribesBlocks, opened_at}
 use Rattle.pcapfile_info.specs.Information.{InformsItems, InformsPackets, InformsBlocks}
+use Rattle.pcapfile_info.specs.KeptBlocks.{EndsBlocks}
 use Rattle.pcapfile_info.specs.Sights.{IsPacketSight, IsBlockSight}
-use Rattle.pcapfile_info.specs.Telling.{AreSights, TellsItems}
+use Rattle.pcapfile_info.specs.Telling.{AreSights, KeepsTotals, TellsItems}
 use Rattle.pcapfile_info.specs.Totals.{TotalsAre}
 use Rattle.pcapfile_info.proofs.Describing.{described_to_end}
+use Rattle.pcapfile_info.proofs.Telling.{tells_as}
 
 -- what a check finds
 abbrev pub checked_of : CaptureFormat → ℕ → ℕ → End → Checked
 checked_of format items bytes end = record { format = format; items = items; bytes = bytes; end = end }
 
--- items that were passed behind what was counted, as they are told
-module _ {S V : Type 0} (f : Format S V) (laws : IsLawful f) (q : S) (IsSight : ℕ → V → Sight → Type 0) (first : ℕ) (s opening after : List ℕ) (joined : s ≡ opening ++ after) (now : Option (List ℕ)) (failed : Bool) (old new : Progress) (fault : Option PcapError) (checked : Checked) where
+-- items that were passed behind so many, as they are told
+module _ {S V : Type 0} (f : Format S V) (laws : IsLawful f) (q : S) (IsSight : ℕ → V → Sight → Type 0) (first : ℕ) (s opening after : List ℕ) (joined : s ≡ opening ++ after) (now : Option (List ℕ)) (failed : Bool) (old new : Progress) (fault : Option PcapError) (checked : Checked) (n : ℕ) where
   informed_left : (vs : List V) (left : Option (List ℕ)) (took : TakesTexts f q vs (Some after) left) → length vs ≤ most_passed → Stops (f.says (state_after f q vs)) left now failed (length vs) most_passed fault
       → (sights : List Sight) → AreSights IsSight first vs sights → TotalsAre first sights new.totals
-      → old.bytes ≡ counted (length opening) → checked.items ≡ old.items + length vs → checked.bytes ≡ counted (old.bytes + length took.bytes) → EndIs fault failed checked.items (old.items + most_passed) checked.end
-      → (informs : InformsItems f q IsSight first s after old.items checked new.totals) × (informs.checks.items ≡ vs)
+      → old.bytes ≡ counted (length opening) → checked.items ≡ n + length vs → checked.bytes ≡ counted (old.bytes + length took.bytes) → EndIs fault failed checked.items (n + most_passed) checked.end
+      → (informs : InformsItems f q IsSight first s after n checked new.totals) × (informs.checks.items ≡ vs)
   informed_left vs None took within stops sights are totals before items bytes end = absurd took.took
   informed_left vs (Some left) took within stops sights are totals before items bytes end =
       let run : TakesItems f q (Some after) now failed most_passed vs fault = record { left = Some left; took = took; within = within; stops = stops } in
       let reads = run_reads f laws q after now failed most_passed vs fault run in
       let all : Texts f q vs (took.bytes ++ left) left = texts_more f laws q vs took.bytes [] left took.texts in
-      let informs : InformsItems f q IsSight first s after old.items checked new.totals = record {
+      let informs : InformsItems f q IsSight first s after n checked new.totals = record {
         checks = record {
           items = vs;
           more = reads.more;
@@ -71,7 +72,7 @@ module _ {S V : Type 0} (f : Format S V) (laws : IsLawful f) (q : S) (IsSight : 
           place = joined ∙ ap (λ (l : List ℕ). opening ++ l) took.took ∙ sym (append_assoc opening took.bytes left);
           bytes = counted_behind old.bytes checked.bytes (length opening) (length took.bytes) before bytes ∙ ap counted (sym (length-append opening took.bytes));
           count = items;
-          stops = stops_at (f.says (state_after f q vs)) reads.rest reads.more checked.items (length vs) old.items most_passed items within fault failed checked.end reads.ends end;
+          stops = stops_at (f.says (state_after f q vs)) reads.rest reads.more checked.items (length vs) n most_passed items within fault failed checked.end reads.ends end;
         };
         sights = sights;
         are_sights = are;
@@ -79,10 +80,10 @@ module _ {S V : Type 0} (f : Format S V) (laws : IsLawful f) (q : S) (IsSight : 
       } in
       (informs, refl)
 
-  pub items_informed : (tells : TellsItems f q IsSight first (TotalsAre first) (Some after) now failed most_passed old new fault) → old.bytes ≡ counted (length opening) → checked.items ≡ new.items → checked.bytes ≡ new.bytes
-      → EndIs fault failed checked.items (old.items + most_passed) checked.end → (informs : InformsItems f q IsSight first s after old.items checked new.totals) × (informs.checks.items ≡ tells.items)
-  items_informed tells before items bytes end =
-      informed_left tells.items tells.run.left tells.run.took tells.run.within tells.run.stops tells.sights tells.are_sights tells.totals before (items ∙ tells.number) (bytes ∙ tells.bytes) end
+  pub items_informed : (tells : TellsItems f q IsSight first (KeepsTotals (TotalsAre first)) (Some after) now failed most_passed old new fault) → old.items ≡ 0 → old.bytes ≡ counted (length opening) → checked.items ≡ n + new.items
+      → checked.bytes ≡ new.bytes → EndIs fault failed checked.items (n + most_passed) checked.end → (informs : InformsItems f q IsSight first s after n checked new.totals) × (informs.checks.items ≡ tells.items)
+  items_informed tells none before items bytes end =
+      informed_left tells.items tells.run.left tells.run.took tells.run.within tells.run.stops tells.sights tells.are_sights tells.kept before (omega (arith, items, tells.number, none)) (bytes ∙ tells.bytes) end
 
 -- the header is refused
 pub packets_refused : (known now : Option (List ℕ)) (failed : Bool) (e : PcapError) (end : End) (totals : Totals) → TotalsAre 1 [] totals → ReadsTold HeaderSays (λ (header : PcapHeader). header) known now failed (Err e) → FaultIs e failed end
@@ -103,7 +104,7 @@ packets_refused (Some s) now failed e end totals nothing reads is = (
 
 -- the header is read, and then packets under it
 pub packets_informed : (header : PcapHeader) (known after now : Option (List ℕ)) (failed : Bool) (old new : Progress) (fault : Option PcapError) (end : End) → old.items ≡ 0 → old.bytes ≡ 24
-    → Takes HeaderSays known after header → TellsItems (format_under packet_limit header) tt IsPacketSight 1 (TotalsAre 1) after now failed most_passed old new fault → EndIs fault failed new.items most_passed end
+    → Takes HeaderSays known after header → TellsItems (format_under packet_limit header) tt IsPacketSight 1 (KeepsTotals (TotalsAre 1)) after now failed most_passed old new fault → EndIs fault failed new.items most_passed end
     → IfSome known (λ s. InformsPackets s (checked_of Pcap new.items new.bytes end) (Some header) new.totals)
 packets_informed header None after now failed old new fault end items bytes took tells is = tt
 packets_informed header (Some s) None now failed old new fault end items bytes took tells is = absurd took.2
@@ -111,9 +112,8 @@ packets_informed header (Some s) (Some after) now failed old new fault end items
     let text : HeaderText header s after = subst (λ (l : List ℕ). HeaderText header l after) (sym took.2) (header_stable.text took.0 after [] header took.1) in
     let long : old.bytes ≡ counted (length took.0) = omega (arith, bytes, header_length header took.0 [] took.1) in
     let checked : Checked = record { format = Pcap; items = new.items; bytes = new.bytes; end = end } in
-    let ends = subst (λ (n : ℕ). EndIs fault failed new.items (n + most_passed) end) (sym items) is in
-    let informs = items_informed (format_under packet_limit header) (packets_lawful packet_limit (number_in (order_of header.magic_number)) (resolution_of header.magic_number)) tt IsPacketSight 1 s took.0 after took.2 now failed old new fault checked tells long refl refl ends in
-    (refl, inr (header, after, text, refl, subst (λ (n : ℕ). InformsItems (format_under packet_limit header) tt IsPacketSight 1 s after n checked new.totals) items informs.0))
+    let informs = items_informed (format_under packet_limit header) (packets_lawful packet_limit (number_in (order_of header.magic_number)) (resolution_of header.magic_number)) tt IsPacketSight 1 s took.0 after took.2 now failed old new fault checked 0 tells items long (omega arith) refl is in
+    (refl, inr (header, after, text, refl, informs.0))
 
 -- the first block is refused
 pub blocks_refused : (described : List Described) (comments : List (String Global)) → described ≡ [] → comments ≡ [] → (known : Option (List ℕ)) (e : PcapError) (end : End) (totals : Totals) → TotalsAre 0 [] totals
@@ -136,22 +136,18 @@ blocks_refused described comments no_described no_comments (Some s) e end totals
 )
 
 -- the first block is read, and then blocks
-pub blocks_informed : (told : Option Opened) (described : List Described) (comments : List (String Global)) (known after now : Option (List ℕ)) (text : List ℕ) (first : State) (n : ℕ) → n ≡ length text → n < 2 ^ 64 → (failed : Bool) (old new : Progress) (fault : Option PcapError) (end : End) → old.items ≡ 1 → old.bytes ≡ n
-    → TakesText OpeningSays known after text first → (tells : TellsItems block_format first IsBlockSight 0 (TotalsAre 0) after now failed most_passed old new fault) → LacksMemory fault ⊎ DescribesBlocks first tells.items described comments
-    → EndIs fault failed new.items 18446744073709551615 end → told ≡ opened_at first
-    → IfSome known (λ s. InformsBlocks s (checked_of PcapNg new.items new.bytes end) None new.totals told described comments)
-blocks_informed told described comments None after now text first n long room failed old new fault end items bytes took tells kept is opens_as = tt
-blocks_informed told described comments (Some s) None now text first n long room failed old new fault end items bytes took tells kept is opens_as = absurd took.1
-blocks_informed told described comments (Some s) (Some after) now text first n long room failed old new fault end items bytes took tells kept is opens_as =
+pub blocks_informed : (told : Option Opened) (known after now : Option (List ℕ)) (text : List ℕ) (first : State) (n : ℕ) → n ≡ length text → n < 2 ^ 64 → (failed : Bool) (old new : Progress) (fault : Option PcapError) (end : End) → old.items ≡ 0 → old.bytes ≡ n
+    → TakesText OpeningSays known after text first → TellsItems block_format first IsBlockSight 0 (EndsBlocks fault) after now failed most_passed old new fault → EndIs fault failed (new.items + 1) 18446744073709551615 end → told ≡ opened_at first
+    → IfSome known (λ s. InformsBlocks s (checked_of PcapNg (new.items + 1) new.bytes end) None new.totals told new.described.items new.comments.items)
+blocks_informed told None after now text first n long room failed old new fault end items bytes took tells is opens_as = tt
+blocks_informed told (Some s) None now text first n long room failed old new fault end items bytes took tells is opens_as = absurd took.1
+blocks_informed told (Some s) (Some after) now text first n long room failed old new fault end items bytes took tells is opens_as =
     let opens = subst (λ (l : List ℕ). OpeningSays l (whole first after)) (sym took.1) (opened_more text after first took.0) in
     let start : old.bytes ≡ counted (length text) = omega (arith, bytes, long, room) in
-    let checked : Checked = record { format = PcapNg; items = new.items; bytes = new.bytes; end = end } in
-    let ends = subst (λ (m : ℕ). EndIs fault failed new.items (m + most_passed) end) (sym items) is in
-    let informs = items_informed block_format blocks_lawful first IsBlockSight 0 s text after took.1 now failed old new fault checked tells start refl refl ends in
-    let I : ℕ → Type 0 = λ m. (i : InformsItems block_format first IsBlockSight 0 s after m checked new.totals) × ((end ≡ Memory) ⊎ DescribesBlocks first i.checks.items described comments) in
-    let same : DescribesBlocks first tells.items described comments → DescribesBlocks first informs.0.checks.items described comments =
-    λ d. subst (λ (items : List Item). DescribesBlocks first items described comments) (sym informs.1) d in
-    let ended = described_to_end fault failed new.items 18446744073709551615 end (DescribesBlocks first tells.items described comments) kept is in
-    let both : I old.items = (informs.0, elim ended [ inl memory ↦ inl memory | inr d ↦ inr (same d) ]) in
-    let moved : I 1 = subst I items both in
-    (refl, refl, inr (first, after, opens, opens_as, moved.0, moved.1))
+    let checked : Checked = record { format = PcapNg; items = new.items + 1; bytes = new.bytes; end = end } in
+    let counts = tells_as block_format first IsBlockSight 0 (EndsBlocks fault) (KeepsTotals (TotalsAre 0)) (Some after) now failed most_passed old new fault tells (λ kept. kept.totals) in
+    let informs = items_informed block_format blocks_lawful first IsBlockSight 0 s text after took.1 now failed old new fault checked 1 counts items start (omega arith) refl is in
+    let same : DescribesBlocks first tells.items new.described.items new.comments.items → DescribesBlocks first informs.0.checks.items new.described.items new.comments.items =
+    λ d. subst (λ (items : List Item). DescribesBlocks first items new.described.items new.comments.items) (sym informs.1) d in
+    let ended = described_to_end fault failed (new.items + 1) 18446744073709551615 end (DescribesBlocks first tells.items new.described.items new.comments.items) tells.kept.described is in
+    (refl, refl, inr (first, after, opens, opens_as, informs.0, elim ended [ inl memory ↦ inl memory | inr d ↦ inr (same d) ]))

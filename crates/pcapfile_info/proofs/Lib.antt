@@ -1,7 +1,10 @@
 mod Alone
 mod Bodies
 mod Describing
+mod EnhancedPackets
+mod InForce
 mod Informing
+mod KeptBlocks
 mod Spans
 mod Tallying
 mod Telling

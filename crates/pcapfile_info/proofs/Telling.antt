@@ -48,9 +48,9 @@ item_behind sight k old mid new same adds = (
   λ first sights before. adds.2 first sights (subst (λ (t : Totals). TotalsAre first sights t) (sym same.2) before),
 )
 
-module _ {S V : Type 0} (f : Format S V) (q : S) (IsSight : ℕ → V → Sight → Type 0) (first : ℕ) (Kept : List Sight → Totals → Type 0) where
+module _ {S V : Type 0} (f : Format S V) (q : S) (IsSight : ℕ → V → Sight → Type 0) (first : ℕ) (Kept : S → List V → List Sight → Progress → Type 0) where
   -- nothing is passed yet
-  abbrev pub telling_none : (before : Option (List ℕ)) (old : Progress) → old.bytes < 2 ^ 64 → Kept [] old.totals → Telling f q IsSight first Kept q before before old old 0
+  abbrev pub telling_none : (before : Option (List ℕ)) (old : Progress) → old.bytes < 2 ^ 64 → Kept q [] [] old → Telling f q IsSight first Kept q before before old old 0
   telling_none before old room nothing = record {
     items = [];
     count = refl;
@@ -60,13 +60,13 @@ module _ {S V : Type 0} (f : Format S V) (q : S) (IsSight : ℕ → V → Sight 
     bytes = bytes_same old.bytes room;
     sights = [];
     are_sights = tt;
-    totals = nothing;
+    kept = nothing;
   }
 
   -- one item more, of so many bytes, of which this is seen
   abbrev pub telling_more : IsLawful f → (here there : S) (before left now : Option (List ℕ)) (old mid new : Progress) (n k : ℕ) (item : V) (sight : Sight) → (so_far : Telling f q IsSight first Kept here before left old mid n)
       → (took : Takes (f.says here) left now item) → f.goes here item ≡ there → length took.0 ≡ k → IsSight (first + sum_by interfaces_in so_far.sights) item sight
-      → new.items ≡ mid.items + 1 → new.bytes ≡ counted (mid.bytes + k) → ((sights : List Sight) → Kept sights mid.totals → Kept (sights ++ sight ∷ []) new.totals)
+      → new.items ≡ mid.items + 1 → new.bytes ≡ counted (mid.bytes + k) → ((items : List V) (sights : List Sight) → Kept q items sights mid → Kept q (items ++ item ∷ []) (sights ++ sight ∷ []) new)
       → Telling f q IsSight first Kept there before now old new (n + 1)
   telling_more laws here there before left now old mid new n k item sight so_far took goes long is number bytes adds =
       let both = subst (λ (s : S). (t : Takes (f.says s) left now item) × (length t.0 ≡ k)) (sym so_far.leads) (took, long) in
@@ -83,13 +83,14 @@ module _ {S V : Type 0} (f : Format S V) (q : S) (IsSight : ℕ → V → Sight 
         bytes = bytes_more old.bytes mid.bytes new.bytes (length so_far.took.bytes) k so_far.bytes bytes ∙ ap (λ (m : ℕ). counted (old.bytes + m)) (sym (length-append so_far.took.bytes both.0.0 ∙ ap (λ (m : ℕ). length so_far.took.bytes + m) both.1));
         sights = so_far.sights ++ sight ∷ [];
         are_sights = sights_push IsSight first so_far.items so_far.sights item sight so_far.are_sights is;
-        totals = adds so_far.sights so_far.totals;
+        kept = adds so_far.items so_far.sights so_far.kept;
       }
 
-  -- it stops
-  abbrev pub telling_stops : (here : S) (before left now : Option (List ℕ)) (failed : Bool) (most : ℕ) (old new : Progress) (n : ℕ) (fault : Option PcapError) → Telling f q IsSight first Kept here before left old new n
-      → n ≤ most → Stops (f.says here) left now failed n most fault → TellsItems f q IsSight first Kept before now failed most old new fault
-  telling_stops here before left now failed most old new n fault so_far within stops = record {
+  -- it stops, once nothing more was counted
+  pub telling_ends : (To : S → List V → List Sight → Progress → Type 0) (here : S) (before left now : Option (List ℕ)) (failed : Bool) (most : ℕ) (old mid new : Progress) (n : ℕ) (fault : Option PcapError)
+      → Telling f q IsSight first Kept here before left old mid n → n ≤ most → Stops (f.says here) left now failed n most fault → new.items ≡ mid.items → new.bytes ≡ mid.bytes
+      → ((items : List V) (sights : List Sight) → Kept q items sights mid → To q items sights new) → TellsItems f q IsSight first To before now failed most old new fault
+  telling_ends To here before left now failed most old mid new n fault so_far within stops number bytes tells = record {
     items = so_far.items;
     run = record {
       left = left;
@@ -97,29 +98,36 @@ module _ {S V : Type 0} (f : Format S V) (q : S) (IsSight : ℕ → V → Sight 
       within = omega (arith, so_far.count);
       stops = subst (λ (s : S). Stops (f.says s) left now failed (length so_far.items) most fault) (sym so_far.leads) (subst (λ (k : ℕ). Stops (f.says here) left now failed k most fault) (sym so_far.count) stops);
     };
-    number = omega (arith, so_far.number, so_far.count);
-    bytes = so_far.bytes;
+    number = omega (arith, number, so_far.number, so_far.count);
+    bytes = bytes ∙ so_far.bytes;
     sights = so_far.sights;
     are_sights = so_far.are_sights;
-    totals = so_far.totals;
+    kept = tells so_far.items so_far.sights so_far.kept;
   }
 
-module _ {S V : Type 0} (f : Format S V) (q : S) (IsSight : ℕ → V → Sight → Type 0) (first : ℕ) where
+  -- it stops where it came to
+  pub telling_stops : (here : S) (before left now : Option (List ℕ)) (failed : Bool) (most : ℕ) (old new : Progress) (n : ℕ) (fault : Option PcapError) → Telling f q IsSight first Kept here before left old new n
+      → n ≤ most → Stops (f.says here) left now failed n most fault → TellsItems f q IsSight first Kept before now failed most old new fault
+  telling_stops here before left now failed most old new n fault so_far within stops =
+      telling_ends Kept here before left now failed most old new new n fault so_far within stops refl refl (λ items sights kept. kept)
+
   -- it stops for want of memory, once an item was taken that is not counted
-  pub telling_lacks : IsLawful f → (here : S) (before left now : Option (List ℕ)) (failed : Bool) (most : ℕ) (old mid new : Progress) (n : ℕ) (item : V) (e : PcapError)
-      → Telling f q IsSight first (TotalsAre first) here before left old mid n → n < most → Takes (f.says here) left now item → failed ≡ false → IsMemory e → AddsNothing mid new
-      → TellsItems f q IsSight first (TotalsAre first) before now failed most old new (Some e)
-  telling_lacks laws here before left now failed most old mid new n item e so_far fewer took unfailed memory nothing =
+  pub telling_lacks : IsLawful f → (To : S → List V → List Sight → Progress → Type 0) (here : S) (before left now : Option (List ℕ)) (failed : Bool) (most : ℕ) (old mid new : Progress) (n : ℕ) (item : V) (e : PcapError)
+      → Telling f q IsSight first Kept here before left old mid n → n < most → Takes (f.says here) left now item → failed ≡ false → IsMemory e → AddsNothing mid new
+      → ((items : List V) (sights : List Sight) → Kept q items sights mid → To q items sights new) → TellsItems f q IsSight first To before now failed most old new (Some e)
+  telling_lacks laws To here before left now failed most old mid new n item e so_far fewer took unfailed memory nothing tells =
       let asked : TakesAsked (f.says here) left now = record { taken = took.0; from_stream = took.2; asked = λ k less. asked_text f laws here item took.0 took.1 k less } in
-      let stays : Telling f q IsSight first (TotalsAre first) here before left old new n = record {
-        items = so_far.items;
-        count = so_far.count;
-        leads = so_far.leads;
-        took = so_far.took;
-        number = nothing.0 ∙ so_far.number;
-        bytes = nothing.1 ∙ so_far.bytes;
-        sights = so_far.sights;
-        are_sights = so_far.are_sights;
-        totals = nothing.2 first so_far.sights so_far.totals;
-      } in
-      telling_stops f q IsSight first (TotalsAre first) here before left now failed most old new n (Some e) stays (omega (arith, fewer)) (fewer, no_memory memory unfailed, asked)
+      telling_ends To here before left now failed most old mid new n (Some e) so_far (omega (arith, fewer)) (fewer, no_memory memory unfailed, asked) nothing.0 nothing.1 tells
+
+  -- what is kept in the end is told otherwise
+  abbrev pub tells_as : (To : S → List V → List Sight → Progress → Type 0) (before now : Option (List ℕ)) (failed : Bool) (most : ℕ) (old new : Progress) (fault : Option PcapError) → (tells : TellsItems f q IsSight first Kept before now failed most old new fault)
+      → (Kept q tells.items tells.sights new → To q tells.items tells.sights new) → TellsItems f q IsSight first To before now failed most old new fault
+  tells_as To before now failed most old new fault tells moves = record {
+    items = tells.items;
+    run = tells.run;
+    number = tells.number;
+    bytes = tells.bytes;
+    sights = tells.sights;
+    are_sights = tells.are_sights;
+    kept = moves tells.kept;
+  }

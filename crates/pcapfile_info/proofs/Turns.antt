@@ -13,12 +13,11 @@ use Rattle.capcopy_run.proofs.Turns.{behind_shown, shown_split, shown_used, take
 use Rattle.pcapfile_run.specs.Passing.{counted}
 use Rattle.pcapfile_info.specs.declared.progress.Progress.{Progress}
 use Rattle.pcapfile_info.specs.declared.seen.Sight.{Sight}
-use Rattle.pcapfile_info.specs.declared.totals.Totals.{Totals}
 use Rattle.pcapfile_info.specs.Telling.{Ends, GoesOn, Telling}
 use Rattle.pcapfile_info.specs.Totals.{interfaces_in}
-use Rattle.pcapfile_info.proofs.Telling.{telling_more, telling_stops}
+use Rattle.pcapfile_info.proofs.Telling.{telling_ends, telling_more}
 
-module _ {S V : Type 0} (f : Format S V) (IsSight : ℕ → V → Sight → Type 0) (first : ℕ) (Kept : List Sight → Totals → Type 0) where
+module _ {S V : Type 0} (f : Format S V) (IsSight : ℕ → V → Sight → Type 0) (first : ℕ) (Kept : S → List V → List Sight → Progress → Type 0) where
   -- what is kept stays told
   pub goes_kept : (here : S) (left now : Option (List ℕ)) (mid : Progress) → Keeps left now → GoesOn f IsSight first Kept here here left now mid mid
   goes_kept here left now mid kept = λ q before old so_far. record {
@@ -30,21 +29,22 @@ module _ {S V : Type 0} (f : Format S V) (IsSight : ℕ → V → Sight → Type
     bytes = so_far.bytes;
     sights = so_far.sights;
     are_sights = so_far.are_sights;
-    totals = so_far.totals;
+    kept = so_far.kept;
   }
 
-  -- one item more was taken, of so many bytes, of which this is seen wherever it stands
+  -- one item more was taken, of so many bytes, of which this is seen behind what is kept
   pub goes_more : IsLawful f → (here there : S) (left now : Option (List ℕ)) (mid new : Progress) (k : ℕ) (item : V) (sight : Sight) → (took : Takes (f.says here) left now item) → f.goes here item ≡ there → length took.0 ≡ k
-      → ((n : ℕ) → IsSight n item sight) → new.items ≡ mid.items + 1 → new.bytes ≡ counted (mid.bytes + k) → ((sights : List Sight) → Kept sights mid.totals → Kept (sights ++ sight ∷ []) new.totals)
+      → ((q : S) (items : List V) (sights : List Sight) → Kept q items sights mid → IsSight (first + sum_by interfaces_in sights) item sight × Kept q (items ++ item ∷ []) (sights ++ sight ∷ []) new) → new.items ≡ mid.items + 1 → new.bytes ≡ counted (mid.bytes + k)
       → GoesOn f IsSight first Kept here there left now mid new
-  goes_more laws here there left now mid new k item sight took goes long is number bytes adds = λ q before old so_far.
+  goes_more laws here there left now mid new k item sight took goes long adds number bytes = λ q before old so_far.
       subst (λ (n : ℕ). Telling f q IsSight first Kept there before now old new n) (sym number)
-      (telling_more f q IsSight first Kept laws here there before left now old mid new mid.items k item sight so_far took goes long (is (first + sum_by interfaces_in so_far.sights)) number bytes adds)
+      (telling_more f q IsSight first Kept laws here there before left now old mid new mid.items k item sight so_far took goes long (adds q so_far.items so_far.sights so_far.kept).0 number bytes (λ items sights kept. (adds q items sights kept).1))
 
   -- the run ends where it came to
-  pub ends_here : (here : S) (left now : Option (List ℕ)) (failed : Bool) (most : ℕ) (mid : Progress) (fault : Option PcapError) → mid.items ≤ most → Stops (f.says here) left now failed mid.items most fault
-      → Ends f IsSight first Kept here left now failed most mid mid fault
-  ends_here here left now failed most mid fault within stops = λ q before old so_far. telling_stops f q IsSight first Kept here before left now failed most old mid mid.items fault so_far within stops
+  pub ends_here : (To : Option PcapError → S → List V → List Sight → Progress → Type 0) (here : S) (left now : Option (List ℕ)) (failed : Bool) (most : ℕ) (mid : Progress) (fault : Option PcapError) → mid.items ≤ most
+      → Stops (f.says here) left now failed mid.items most fault → ((q : S) (items : List V) (sights : List Sight) → Kept q items sights mid → To fault q items sights mid) → Ends f IsSight first Kept To here left now failed most mid mid fault
+  ends_here To here left now failed most mid fault within stops tells = λ q before old so_far.
+      telling_ends f q IsSight first Kept (To fault) here before left now failed most old mid mid mid.items fault so_far within stops refl refl (tells q)
 
   -- a walk over shown bytes, that came to this rest of them
   pub record Walked (from here : S) (shown rest : List ℕ) (mid new : Progress) : Type 0 where
@@ -58,14 +58,14 @@ module _ {S V : Type 0} (f : Format S V) (IsSight : ℕ → V → Sight → Type
 
   -- it goes on with the item at the front of the rest
   pub walked_more : IsLawful f → (from here there : S) (shown rest after : List ℕ) (mid new next : Progress) (k : ℕ) (item : V) (sight : Sight) → Walked from here shown rest mid new → f.says here rest (whole item after)
-      → f.goes here item ≡ there → ((t : List ℕ) → f.says here t (whole item []) → length t ≡ k) → ((n : ℕ) → IsSight n item sight) → next.items ≡ new.items + 1 → next.bytes ≡ counted (new.bytes + k)
-      → ((sights : List Sight) → Kept sights new.totals → Kept (sights ++ sight ∷ []) next.totals) → Walked from there shown after mid next
-  walked_more laws from here there shown rest after mid new next k item sight walked stands goes long is number bytes adds =
+      → f.goes here item ≡ there → ((t : List ℕ) → f.says here t (whole item []) → length t ≡ k) → next.items ≡ new.items + 1 → next.bytes ≡ counted (new.bytes + k)
+      → ((q : S) (items : List V) (sights : List Sight) → Kept q items sights new → IsSight (first + sum_by interfaces_in sights) item sight × Kept q (items ++ item ∷ []) (sights ++ sight ∷ []) next) → Walked from there shown after mid next
+  walked_more laws from here there shown rest after mid new next k item sight walked stands goes long number bytes adds =
       let own = laws.own here rest after item stands in
       record {
         front = walked.front ++ own.0;
         split = walked.split ∙ ap (λ l. walked.front ++ l) own.1 ∙ sym (append_assoc walked.front own.0 after);
-        on = λ behind q before old so_far. goes_more laws here there (prepend_known rest behind) (prepend_known after behind) new next k item sight (takes_shown f laws here rest after item stands behind) goes (long _ (takes_shown f laws here rest after item stands behind).1) is number bytes adds q before old (walked.on behind q before old so_far);
+        on = λ behind q before old so_far. goes_more laws here there (prepend_known rest behind) (prepend_known after behind) new next k item sight (takes_shown f laws here rest after item stands behind) goes (long _ (takes_shown f laws here rest after item stands behind).1) adds number bytes q before old (walked.on behind q before old so_far);
       }
 
   -- it ends before the rest

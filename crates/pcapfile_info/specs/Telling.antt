@@ -33,9 +33,13 @@ AreSights IsSight n [] (sight ∷ sights) = ⊥
 AreSights IsSight n (v ∷ vs) [] = ⊥
 AreSights IsSight n (v ∷ vs) (sight ∷ sights) = IsSight n v sight × AreSights IsSight (n + interfaces_in sight) vs sights
 
--- Kept is what is counted of items of which these are seen
-module _ {S V : Type 0} (f : Format S V) (q : S) (IsSight : ℕ → V → Sight → Type 0) (first : ℕ) (Kept : List Sight → Totals → Type 0) where
-  -- items that lead to this state were taken, and no more, and what is seen of them is counted
+-- these are the totals of items of which these are seen
+abbrev pub KeepsTotals : {S V : Type 0} → (List Sight → Totals → Type 0) → S → List V → List Sight → Progress → Type 0
+KeepsTotals Are q items sights progress = Are sights progress.totals
+
+-- Kept is what is kept of items behind a state, of which these are seen
+module _ {S V : Type 0} (f : Format S V) (q : S) (IsSight : ℕ → V → Sight → Type 0) (first : ℕ) (Kept : S → List V → List Sight → Progress → Type 0) where
+  -- items that lead to this state were taken, and no more, and what is seen of them is kept
   pub record Telling (here : S) (before left : Option (List ℕ)) (old new : Progress) (n : ℕ) : Type 0 where
     pub items : List V
     pub count : length items ≡ n
@@ -45,9 +49,9 @@ module _ {S V : Type 0} (f : Format S V) (q : S) (IsSight : ℕ → V → Sight 
     pub bytes : new.bytes ≡ counted (old.bytes + length took.bytes)
     pub sights : List Sight
     pub are_sights : AreSights IsSight first items sights
-    pub totals : Kept sights new.totals
+    pub kept : Kept q items sights new
 
-  -- items were taken up to a cause to stop, at most so many, and what is seen of them is counted
+  -- items were taken up to a cause to stop, at most so many, and what is seen of them is kept
   pub record TellsItems (before now : Option (List ℕ)) (failed : Bool) (most : ℕ) (old new : Progress) (fault : Option PcapError) : Type 0 where
     pub items : List V
     pub run : TakesItems f q before now failed most items fault
@@ -55,21 +59,23 @@ module _ {S V : Type 0} (f : Format S V) (q : S) (IsSight : ℕ → V → Sight 
     pub bytes : new.bytes ≡ counted (old.bytes + length run.took.bytes)
     pub sights : List Sight
     pub are_sights : AreSights IsSight first items sights
-    pub totals : Kept sights new.totals
+    pub kept : Kept q items sights new
 
-module _ {S V : Type 0} (f : Format S V) (IsSight : ℕ → V → Sight → Type 0) (first : ℕ) (Kept : List Sight → Totals → Type 0) where
+module _ {S V : Type 0} (f : Format S V) (IsSight : ℕ → V → Sight → Type 0) (first : ℕ) (Kept : S → List V → List Sight → Progress → Type 0) where
   -- whatever items were told of that lead here, others that lead there are told of too
   abbrev pub GoesOn : S → S → Option (List ℕ) → Option (List ℕ) → Progress → Progress → Type 0
   GoesOn here there left now mid new =
       (q : S) (before : Option (List ℕ)) (old : Progress) → Telling f q IsSight first Kept here before left old mid mid.items → Telling f q IsSight first Kept there before now old new new.items
 
-  -- whatever items were told of that lead here, the run ends so
-  abbrev pub Ends : S → Option (List ℕ) → Option (List ℕ) → Bool → ℕ → Progress → Progress → Option PcapError → Type 0
-  Ends here left now failed most mid new fault =
-      (q : S) (before : Option (List ℕ)) (old : Progress) → Telling f q IsSight first Kept here before left old mid mid.items → TellsItems f q IsSight first Kept before now failed most old new fault
+  -- To is what is kept where a run ends with a fault, or none
+  module _ (To : Option PcapError → S → List V → List Sight → Progress → Type 0) where
+    -- whatever items were told of that lead here, the run ends so
+    abbrev pub Ends : S → Option (List ℕ) → Option (List ℕ) → Bool → ℕ → Progress → Progress → Option PcapError → Type 0
+    Ends here left now failed most mid new fault =
+        (q : S) (before : Option (List ℕ)) (old : Progress) → Telling f q IsSight first Kept here before left old mid mid.items → TellsItems f q IsSight first (To fault) before now failed most old new fault
 
-  -- a turn over a stream: it says whether the run goes on, where no read failed
-  abbrev pub TurnGives : S → S → Option (List ℕ) → Option (List ℕ) → Bool → ℕ → Progress → Progress → Result Bool PcapError → Type 0
-  TurnGives here there left now failed most mid new (Ok true) = (failed ≡ false) × GoesOn here there left now mid new
-  TurnGives here there left now failed most mid new (Ok false) = Ends here left now failed most mid new None
-  TurnGives here there left now failed most mid new (Err e) = Ends here left now failed most mid new (Some e)
+    -- a turn over a stream: it says whether the run goes on, where no read failed
+    abbrev pub TurnGives : S → S → Option (List ℕ) → Option (List ℕ) → Bool → ℕ → Progress → Progress → Result Bool PcapError → Type 0
+    TurnGives here there left now failed most mid new (Ok true) = (failed ≡ false) × GoesOn here there left now mid new
+    TurnGives here there left now failed most mid new (Ok false) = Ends here left now failed most mid new None
+    TurnGives here there left now failed most mid new (Err e) = Ends here left now failed most mid new (Some e)

@@ -14,8 +14,8 @@ use pcap_file::pcapng::{Block, BlockType, InterfaceDescriptionBlock, ParsedBlock
 use pcap_file::{PcapError, ResultParsing};
 use std::alloc::{AllocError, Global};
 
-// The place of the interface of this number among all that are described, of which the last so many are those of its section.
-fn place_at(described: usize, own: usize, number: u32) -> Option<usize>
+/// The place of the interface of this number among all that are described, of which the last so many are those of its section.
+pub(crate) fn place_at(described: usize, own: usize, number: u32) -> Option<usize>
     ensures place { result ≡ place_of described own number }
     ensures below { IsBelow described result }
 {

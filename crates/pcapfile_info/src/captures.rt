@@ -11,7 +11,7 @@ use pcap_file::PcapNgReader;
 use pcap_file::pcap::{PcapHeader, read_header};
 use pcapfile_run::{Checked, Format, end_of};
 use std::alloc::{AllocError, Global};
-use std::io::{BufRead, Read};
+use std::io::BufRead;
 
 /// What is told of a capture.
 #[derive(Debug, Drop)]
@@ -96,7 +96,7 @@ pub fn inform_packets<R: BufRead + Drop>(
 
 /// Tells what a capture of blocks that comes off a stream holds. No more than one block is held in memory, with the section and
 /// interfaces in force, and what is counted of each interface. `AllocError` where there is no room for comments on the section.
-pub fn inform_blocks<R: Read + Drop>(alloc: Global, input: R) -> Result<Information, AllocError>
+pub fn inform_blocks<R: BufRead + Drop>(alloc: Global, input: R) -> Result<Information, AllocError>
     ensures { IfOk result (λ told. IfSome (R.remaining input) (λ s. InformsBlocks s told.checked told.header told.totals told.opened told.described.items told.comments.items)) }
 {
     let format = Format::PcapNg;
@@ -123,24 +123,26 @@ pub fn inform_blocks<R: Read + Drop>(alloc: Global, input: R) -> Result<Informat
     let opened = opened_by(reader.section());
     let mut comments = Vec::new(alloc);
     push_comments(alloc, &mut comments, reader.section())?;
+    let mut read_failed = false;
     let mut progress = Progress {
-        items: 1,
+        items: 0,
         bytes: reader.text().len() as u64,
         totals,
         section: 1,
         described: Vec::new(alloc),
         comments,
     };
-    let fault = tell_blocks(alloc, &mut reader, &mut progress);
+    let fault = tell_blocks(alloc, &mut reader, &mut read_failed, &mut progress);
     let Progress {
-        items,
+        items: passed,
         bytes,
         totals,
         section: _,
         described,
         comments,
     } = progress;
-    let end = end_of(fault, reader.failed(), items, MOST + 1);
+    let items = passed + 1;
+    let end = end_of(fault, read_failed, items, MOST + 1);
     Ok(Information {
         checked: Checked {
             format,

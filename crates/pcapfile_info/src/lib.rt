@@ -3,11 +3,14 @@
 
 mod blocks;
 mod captures;
+mod clocks;
 mod described;
 mod packets;
 mod passing;
+mod plain;
 mod progress;
 mod seen;
+mod shown;
 mod spread;
 mod spreading;
 mod tally;

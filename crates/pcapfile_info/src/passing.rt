@@ -1,6 +1,6 @@
 //! Packets of classic captures that are passed: where they lie whole in the input's buffer, and held where they end outside of it.
 
-ghost use Rattle.std.specs.Prelude.{◌≡◌, ◌+◌, ◌^◌, ◌<◌, ◌≤◌, ℕ, List, Option, [], true, false, drop, length, IsTrue, IfOk, OnOk};
+ghost use Rattle.std.specs.Prelude.{⊤, ◌≡◌, ◌+◌, ◌^◌, ◌<◌, ◌≤◌, ℕ, List, Option, [], true, false, drop, length, IsTrue, IfOk, OnOk};
 ghost use Rattle.std.specs.Io.KnownBytes.{prepend_known};
 ghost use Rattle.std.specs.Result.{result_err};
 ghost use Rattle.pcap_core.specs.Answer.{whole};
@@ -12,10 +12,11 @@ ghost use Rattle.pcap_classic.specs.StatedPackets.{KnowsHeader};
 ghost use Rattle.pcap_classic.specs.PacketText.{Captured, packet_limit};
 ghost use Rattle.pcapfile_info.specs.Describing.{SameDescribed};
 ghost use Rattle.pcapfile_info.specs.Sights.{IsPacketSight, captured_seen};
-ghost use Rattle.pcapfile_info.specs.Telling.{AddsPacketAlone, GoesOn, TellsItems, TurnGives};
+ghost use Rattle.pcapfile_info.specs.Telling.{AddsPacketAlone, GoesOn, KeepsTotals, TellsItems, TurnGives};
 ghost use Rattle.pcapfile_info.specs.Totals.{AllAre, TotalsAre};
 
 use crate::progress::{MOST, Progress};
+use crate::shown::{Passes, pass_shown};
 use byteorder::{BigEndian, ByteOrder, LittleEndian};
 use pcap_core::stream::{Held, fill_item};
 use pcap_file::pcap::{Packet, PacketHeader, PacketsUnder, PcapHeader, packet_of};
@@ -33,7 +34,7 @@ fn pass_whole<B: ByteOrder>(
     ensures within { result ≤ length shown.now }
     ensures few { (progress.old.items ≤ progress.new.items) × (progress.new.items ≤ 18446744073709551614) }
     ensures same { SameDescribed progress.old progress.new }
-    ensures walks { (behind : Option (List ℕ)) → GoesOn (packet_format packet_limit B.number_of ts_resolution) IsPacketSight 1 AllAre tt tt (prepend_known shown.now behind) (prepend_known (drop result shown.now) behind) progress.old progress.new }
+    ensures walks { (behind : Option (List ℕ)) → GoesOn (packet_format packet_limit B.number_of ts_resolution) IsPacketSight 1 (KeepsTotals AllAre) tt tt (prepend_known shown.now behind) (prepend_known (drop result shown.now) behind) progress.old progress.new }
 {
     let mut rest = shown;
     while progress.items < MOST {
@@ -46,49 +47,30 @@ fn pass_whole<B: ByteOrder>(
     shown.len() - rest.len()
 }
 
-// The same of packets under this header.
-fn pass_under(header: &PcapHeader, shown: &[u8], progress: &mut Progress) -> usize
-    requires valid { IsTrue (is_magic header.now.magic_number) }
-    requires fewer { progress.old.items ≤ 18446744073709551614 }
-    ensures within { result ≤ length shown.now }
-    ensures few { (progress.old.items ≤ progress.new.items) × (progress.new.items ≤ 18446744073709551614) }
-    ensures same { SameDescribed progress.old progress.new }
-    ensures walks { (behind : Option (List ℕ)) → GoesOn (format_under packet_limit header.now) IsPacketSight 1 AllAre tt tt (prepend_known shown.now behind) (prepend_known (drop result shown.now) behind) progress.old progress.new }
-{
-    let ts_resolution = header.ts_resolution();
-    match header.endianness() {
-        Endianness::Big => pass_whole::<BigEndian>(ts_resolution, shown, progress),
-        Endianness::Little => pass_whole::<LittleEndian>(ts_resolution, shown, progress),
-    }
-}
+impl Passes for PcapHeader {
+    ghost State = { Unit {0} };
 
-// Passes the packets that lie whole in the input's buffer, and says whether anything lies there.
-fn pass_shown<R: BufRead>(
-    header: &PcapHeader,
-    input: &mut R,
-    read_failed: &mut bool,
-    progress: &mut Progress,
-) -> ResultParsing<bool>
-    requires valid { IsTrue (is_magic header.now.magic_number) }
-    requires unfailed { read_failed.old ≡ false }
-    requires fewer { progress.old.items < 18446744073709551614 }
-    ensures few { (progress.old.items ≤ progress.new.items) × (progress.new.items ≤ 18446744073709551614) }
-    ensures same { SameDescribed progress.old progress.new }
-    ensures turn { TurnGives (format_under packet_limit header.now) IsPacketSight 1 AllAre tt tt (R.remaining input.old) (R.remaining input.new) read_failed.new 18446744073709551614 progress.old progress.new result }
-{
-    let shown = match input.fill_buf() {
-        Ok(shown) => shown,
-        Err(error) => {
-            *read_failed = true;
-            return Err(PcapError::IoError(error));
+    ghost Value = { Captured };
+
+    ghost format = { λ header. format_under packet_limit header };
+
+    ghost is_valid = { λ header. IsTrue (is_magic header.magic_number) };
+
+    ghost stands_for = { λ header q. ⊤ };
+
+    ghost is_sight = { IsPacketSight };
+
+    ghost first = { 1 };
+
+    ghost kept = { KeepsTotals AllAre };
+
+    fn pass(&self, shown: &[u8], progress: &mut Progress) -> usize {
+        let ts_resolution = self.ts_resolution();
+        match self.endianness() {
+            Endianness::Big => pass_whole::<BigEndian>(ts_resolution, shown, progress),
+            Endianness::Little => pass_whole::<LittleEndian>(ts_resolution, shown, progress),
         }
-    };
-    if shown.is_empty() {
-        return Ok(false);
     }
-    let used = pass_under(header, shown, progress);
-    input.consume(used);
-    Ok(true)
 }
 
 // One packet more, which the bytes are.
@@ -117,7 +99,7 @@ fn pass_held<R: Read>(
     ensures between { OnOk result (held_bytes held.new ≡ []) }
     ensures counts { IfOk result (λ more. more ≡ true → progress.new.items ≡ progress.old.items + 1) }
     ensures same { SameDescribed progress.old progress.new }
-    ensures turn { TurnGives (format_under packet_limit header.now) IsPacketSight 1 AllAre tt tt (R.remaining input.old) (R.remaining input.new) read_failed.new 18446744073709551614 progress.old progress.new result }
+    ensures turn { TurnGives (format_under packet_limit header.now) IsPacketSight 1 (KeepsTotals AllAre) (λ fault. KeepsTotals AllAre) tt tt (R.remaining input.old) (R.remaining input.new) read_failed.new 18446744073709551614 progress.old progress.new result }
 {
     let Some(head) = fill_item(&PacketsUnder { header }, input, read_failed, held)? else {
         return Ok(false);
@@ -141,7 +123,7 @@ fn pass_packets<R: BufRead>(
     requires room { progress.old.bytes < 2 ^ 64 }
     requires nothing { AllAre [] progress.old.totals }
     ensures same { SameDescribed progress.old progress.new }
-    ensures tells { TellsItems (format_under packet_limit header.now) tt IsPacketSight 1 AllAre (R.remaining input.old) (R.remaining input.new) read_failed.new 18446744073709551614 progress.old progress.new (result_err result) }
+    ensures tells { TellsItems (format_under packet_limit header.now) tt IsPacketSight 1 (KeepsTotals AllAre) (R.remaining input.old) (R.remaining input.new) read_failed.new 18446744073709551614 progress.old progress.new (result_err result) }
 {
     let mut held = Held::new(alloc);
     while progress.items < MOST {
@@ -172,7 +154,7 @@ pub(crate) fn tell_packets<R: BufRead>(
     requires room { progress.old.bytes < 2 ^ 64 }
     requires nothing { TotalsAre 1 [] progress.old.totals }
     ensures same { SameDescribed progress.old progress.new }
-    ensures tells { TellsItems (format_under packet_limit header.now) tt IsPacketSight 1 (TotalsAre 1) (R.remaining input.old) (R.remaining input.new) read_failed.new 18446744073709551614 progress.old progress.new result }
+    ensures tells { TellsItems (format_under packet_limit header.now) tt IsPacketSight 1 (KeepsTotals (TotalsAre 1)) (R.remaining input.old) (R.remaining input.new) read_failed.new 18446744073709551614 progress.old progress.new result }
 {
     let fault = pass_packets(alloc, header, input, read_failed, progress).err();
     progress.totals.give_to_the_interface();

@@ -1,33 +1,40 @@
 //! Items that are passed, and what is counted of them.
 
-ghost use Rattle.std.specs.Prelude.{◌≡◌, ◌+◌, ◌^◌, ◌<◌, ◌⊎◌, ◌++◌, [], false, length, map, IfOk, MatchResult};
+ghost use Rattle.std.specs.Prelude.{◌≡◌, ◌+◌, ◌^◌, ◌<◌, ◌++◌, [], true, false, length, map, IfOk, OnOk, MatchResult};
 ghost use Rattle.std.specs.Option.{option_to_list};
+ghost use Rattle.std.specs.Result.{result_err};
 ghost use Rattle.pcap_core.specs.Errors.{IsMemory};
 ghost use Rattle.pcap_blocks.specs.InterfaceDescription.{interface_of};
 ghost use Rattle.pcap_blocks.specs.SectionHeader.{section_of};
 ghost use Rattle.pcap_file.specs.Blocks.{block_format};
 ghost use Rattle.pcap_file.specs.Reader as ng;
 ghost use Rattle.pcapfile_run.specs.Passing.{counted};
-ghost use Rattle.pcapfile_info.specs.Describing.{AddsDescribed, DescribesBlocks, LacksMemory, SameDescribed, last_description, told_of};
+ghost use Rattle.pcapfile_info.specs.declared.seen.Sight.TheVariants.{Packet};
+ghost use Rattle.pcapfile_info.specs.Describing.{AddsDescribed, SameDescribed, last_description, told_of};
+ghost use Rattle.pcapfile_info.specs.KeptBlocks.{EndsBlocks, KeepsBlocks};
+ghost use Rattle.pcapfile_info.specs.Plain.{AreInForce};
 ghost use Rattle.pcapfile_info.specs.Sights.{IsBlockSight, captured_as, captured_seen};
-ghost use Rattle.pcapfile_info.specs.Telling.{AddsItem, AddsNothing, AddsPacketAlone, SameCounts, TellsItems};
-ghost use Rattle.pcapfile_info.specs.Totals.{IsWithin, TotalsAre};
+ghost use Rattle.pcapfile_info.specs.Telling.{AddsItem, AddsNothing, AddsPacketAlone, SameCounts, TellsItems, TurnGives};
+ghost use Rattle.pcapfile_info.specs.Totals.{IsBelow, IsWithin};
 
 use crate::blocks::sight_of_block;
+use crate::clocks::Clocks;
 use crate::described::{Described, describe_last, push_comments};
 use crate::packets::seen_of;
-use crate::seen::Sight;
+use crate::plain::packet_at;
+use crate::seen::{Seen, Sight};
+use crate::shown::{Passes, pass_shown};
 use crate::totals::Totals;
 use pcap_file::pcap::PacketHeader;
 use pcap_file::pcapng::{BlockHeader, BlockType, InterfaceDescriptionBlock, SectionHeaderBlock};
 use pcap_file::{PcapError, PcapNgReader, ResultParsing};
 use std::alloc::{AllocError, Global};
-use std::io::Read;
+use std::io::{BufRead, Read};
 
 /// The most items that are passed.
 pub(crate) const MOST: u64 = 18_446_744_073_709_551_614;
 
-/// How many items were passed, how many bytes they take with what stands before them, what is counted of them, the number of the
+/// How many items were passed behind the capture's head, how many bytes they take with it, what is counted of them, the number of the
 /// section in force, from 1, and how sections and interfaces are described.
 #[derive(Drop)]
 pub(crate) struct Progress {
@@ -50,6 +57,19 @@ impl Progress {
         self.totals.all.add(seen_of(header, bytes));
         self.items += 1;
         self.bytes = self.bytes.saturating_add(16 + u64::from(header.incl_len));
+    }
+
+    /// One enhanced packet more, whose block has so many bytes.
+    #[inline(always)]
+    pub(crate) fn add_packet(&mut self, seen: Seen, bytes: usize)
+        requires few { self.old.items + 1 < 2 ^ 64 }
+        requires below { IsBelow (length self.old.totals.interfaces.items) seen.interface }
+        ensures adds { AddsItem (Packet seen) bytes self.old self.new }
+        ensures same { SameDescribed self.old self.new }
+    {
+        self.totals.add_packet(seen);
+        self.items += 1;
+        self.bytes = self.bytes.saturating_add(bytes as u64);
     }
 
     // Keeps how the last of the section's interfaces is described.
@@ -129,30 +149,116 @@ fn tell_block<T: Read + Drop>(
     Ok(())
 }
 
-/// Passes the blocks of a reader, and gives what refuses the next one.
-pub(crate) fn tell_blocks<T: Read + Drop>(
+impl Passes for Clocks {
+    ghost use Rattle.std.specs.Prelude.{⊤};
+    ghost use Rattle.pcap_file.specs.Blocks.{Item as BlockItem};
+    ghost use Rattle.pcap_file.specs.State.{State as BlockState};
+
+    ghost State = { BlockState };
+
+    ghost Value = { BlockItem };
+
+    ghost format = { λ clocks. block_format };
+
+    ghost is_valid = { λ clocks. ⊤ };
+
+    ghost stands_for = { AreInForce };
+
+    ghost is_sight = { IsBlockSight };
+
+    ghost first = { 0 };
+
+    ghost kept = { KeepsBlocks };
+
+    fn pass(&self, shown: &[u8], progress: &mut Progress) -> usize {
+        let mut rest = shown;
+        while progress.items < MOST {
+            let Some((after, packet)) = packet_at(self.alloc, self.order, rest) else {
+                break;
+            };
+            let described = progress.totals.interfaces.as_slice().len();
+            let seen = self.seen(described, packet);
+            progress.add_packet(seen, rest.len() - after.len());
+            rest = after;
+        }
+        shown.len() - rest.len()
+    }
+}
+
+// Passes the next block, which the reader holds meanwhile, and says whether there was one.
+fn pass_next<T: Read + Drop>(
     alloc: Global,
     reader: &mut PcapNgReader<T>,
+    clocks: &mut Clocks,
+    read_failed: &mut bool,
+    progress: &mut Progress,
+) -> ResultParsing<bool>
+    requires ready { ng.is_done reader.old ≡ false }
+    requires fewer { progress.old.items < 18446744073709551614 }
+    requires clocks { AreInForce clocks.old (ng.state_of reader.old) }
+    ensures ready { OnOk result (ng.is_done reader.new ≡ false) }
+    ensures clocks { OnOk result (AreInForce clocks.new (ng.state_of reader.new)) }
+    ensures counts { IfOk result (λ more. more ≡ true → progress.new.items ≡ progress.old.items + 1) }
+    ensures turn { TurnGives block_format IsBlockSight 0 KeepsBlocks EndsBlocks (ng.state_of reader.old) (ng.state_of reader.new) (T.remaining (ng.stream_of reader.old)) (T.remaining (ng.stream_of reader.new)) read_failed.new 18446744073709551614 progress.old progress.new result }
+{
+    let next = reader.next_header();
+    *read_failed = reader.failed();
+    match next {
+        None => Ok(false),
+        Some(Ok(header)) => {
+            clocks.follow(header.type_, reader.section(), reader.interfaces())?;
+            tell_block(alloc, reader, header, progress)?;
+            Ok(true)
+        }
+        Some(Err(error)) => Err(error),
+    }
+}
+
+// Passes the blocks of a reader.
+fn pass_blocks<T: BufRead + Drop>(
+    alloc: Global,
+    reader: &mut PcapNgReader<T>,
+    clocks: &mut Clocks,
+    read_failed: &mut bool,
+    progress: &mut Progress,
+) -> ResultParsing<()>
+    requires ready { ng.is_done reader.old ≡ false }
+    requires unfailed { read_failed.old ≡ false }
+    requires clocks { AreInForce clocks.old (ng.state_of reader.old) }
+    requires none_yet { progress.old.items ≡ 0 }
+    requires room { progress.old.bytes < 2 ^ 64 }
+    requires nothing { KeepsBlocks (ng.state_of reader.old) [] [] progress.old }
+    ensures { TellsItems block_format (ng.state_of reader.old) IsBlockSight 0 (EndsBlocks (result_err result)) (T.remaining (ng.stream_of reader.old)) (T.remaining (ng.stream_of reader.new)) read_failed.new 18446744073709551614 progress.old progress.new (result_err result) }
+{
+    while progress.items < MOST {
+        if !pass_shown(clocks, reader.get_mut(), read_failed, progress)? {
+            return Ok(());
+        }
+        if progress.items == MOST {
+            return Ok(());
+        }
+        if !pass_next(alloc, reader, clocks, read_failed, progress)? {
+            return Ok(());
+        }
+    }
+    Ok(())
+}
+
+/// Passes the blocks of a reader, and gives what refuses the next one.
+pub(crate) fn tell_blocks<T: BufRead + Drop>(
+    alloc: Global,
+    reader: &mut PcapNgReader<T>,
+    read_failed: &mut bool,
     progress: &mut Progress,
 ) -> Option<PcapError>
     requires ready { ng.is_done reader.old ≡ false }
-    requires unfailed { ng.has_failed reader.old ≡ false }
-    requires few { progress.old.items < 2 }
+    requires unfailed { read_failed.old ≡ false }
+    requires no_interface { ng.interfaces_in_force reader.old ≡ [] }
+    requires none_yet { progress.old.items ≡ 0 }
     requires room { progress.old.bytes < 2 ^ 64 }
-    requires nothing { TotalsAre 0 [] progress.old.totals }
-    requires first { progress.old.section ≡ 1 }
-    requires described { DescribesBlocks (ng.state_of reader.old) [] progress.old.described.items progress.old.comments.items }
-    ensures { (told : TellsItems block_format (ng.state_of reader.old) IsBlockSight 0 (TotalsAre 0) (T.remaining (ng.stream_of reader.old)) (T.remaining (ng.stream_of reader.new)) (ng.has_failed reader.new) 18446744073709551614 progress.old progress.new result) × (LacksMemory result ⊎ DescribesBlocks (ng.state_of reader.old) told.items progress.new.described.items progress.new.comments.items) }
+    requires nothing { KeepsBlocks (ng.state_of reader.old) [] [] progress.old }
+    ensures { TellsItems block_format (ng.state_of reader.old) IsBlockSight 0 (EndsBlocks result) (T.remaining (ng.stream_of reader.old)) (T.remaining (ng.stream_of reader.new)) read_failed.new 18446744073709551614 progress.old progress.new result }
 {
-    for turn in 0..MOST {
-        match reader.next_header() {
-            None => return None,
-            Some(Ok(header)) => match tell_block(alloc, reader, header, progress) {
-                Ok(()) => {}
-                Err(error) => return Some(error),
-            },
-            Some(Err(error)) => return Some(error),
-        }
-    }
-    None
+    let mut clocks = Clocks::new(alloc, reader.section());
+    pass_blocks(alloc, reader, &mut clocks, read_failed, progress).err()
 }

@@ -1,16 +1,21 @@
 use Rattle.std.proofs.Common.{◌∙◌, ap, length, refl, rules}
-use Rattle.pcap_file.specs.Reader.{state_of, stream_of, has_failed, text_of}
+use Rattle.pcap_file.specs.Reader.{state_of, stream_of, text_of, section_in_force, interfaces_in_force}
 use Rattle.pcapfile_info.specs.Describing.{opened_of}
+use Rattle.pcapfile_info.proofs.InForce.{opens_bare}
 use Rattle.pcapfile_info.proofs.Informing.{blocks_refused, blocks_informed}
 use Rattle.pcapfile_info.proofs.captures.inform_blocks.Goals as goal
 
 pub returns-in-Err : goal.returns-in-Err
 returns-in-Err g c = blocks_refused c.new-in-Err.result.items c.new-in-Err-2.result.items (search rules) (search rules) (g.R.Read.remaining c.args.input) c.in-Err.error c.end_of-end.result c.new-totals.result c.new-totals.ensures c.in-Err.ensures c.end_of-end.ensures
 
+pub tell_blocks-fault-requires-clause-no_interface : goal.tell_blocks-fault-requires-clause-no_interface
+tell_blocks-fault-requires-clause-no_interface g c =
+    let opened = c.in-Ok.reader in
+    opens_bare (section_in_force opened) (interfaces_in_force opened) (text_of opened) _ c.in-Ok.ensures.2.0
+
 pub returns : goal.returns
 returns g c =
     let opened = c.in-Ok.reader in
     let reader = c.tell_blocks-fault.new.reader in
-    let told = c.tell_blocks-fault.new.progress in
-    blocks_informed c.opened_by-opened.result told.described.items told.comments.items (g.R.Read.remaining c.args.input) (g.R.Read.remaining (stream_of opened)) (g.R.Read.remaining (stream_of reader)) (text_of opened) (state_of opened) (length c.text.result.now) (ap length c.text.ensures)
-    (search rules) (has_failed reader) _ c.tell_blocks-fault.new.progress c.tell_blocks-fault.result c.end_of-end-2.result refl refl c.in-Ok.ensures.2 c.tell_blocks-fault.ensures.0 c.tell_blocks-fault.ensures.1 (rw c.failed.ensures at c.end_of-end-2.ensures) (c.opened_by-opened.ensures ∙ ap opened_of c.section.ensures)
+    blocks_informed c.opened_by-opened.result (g.R.Read.remaining c.args.input) (g.R.Read.remaining (stream_of opened)) (g.R.Read.remaining (stream_of reader)) (text_of opened) (state_of opened) (length c.text.result.now) (ap length c.text.ensures)
+    (search rules) c.tell_blocks-fault.new.read_failed _ c.tell_blocks-fault.new.progress c.tell_blocks-fault.result c.end_of-end-2.result refl refl c.in-Ok.ensures.2 c.tell_blocks-fault.ensures c.end_of-end-2.ensures (c.opened_by-opened.ensures ∙ ap opened_of c.section.ensures)

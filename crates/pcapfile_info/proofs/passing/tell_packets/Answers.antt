@@ -5,7 +5,7 @@ pub pass_packets-requires-clause-nothing : goal.pass_packets-requires-clause-not
 pass_packets-requires-clause-nothing g c = alone_none c.args.progress.now.totals c.requires.nothing
 
 pub give_to_the_interface-requires : goal.give_to_the_interface-requires
-give_to_the_interface-requires g c = c.pass_packets.ensures.tells.totals.described
+give_to_the_interface-requires g c = c.pass_packets.ensures.tells.kept.described
 
 pub returns-clause-tells : goal.returns-clause-tells
 returns-clause-tells g c =
@@ -17,5 +17,5 @@ returns-clause-tells g c =
       bytes = tells.bytes;
       sights = tells.sights;
       are_sights = tells.are_sights;
-      totals = c.give_to_the_interface.ensures tells.items tells.sights tells.are_sights tells.totals;
+      kept = c.give_to_the_interface.ensures tells.items tells.sights tells.are_sights tells.kept;
     })
