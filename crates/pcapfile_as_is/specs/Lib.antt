@@ -1,7 +1,9 @@
 pub mod BlockLines
 pub mod BlockLists
+pub mod CheckedAsIs
 pub mod Counts
 pub mod FlawLines
+pub mod Gaps
 pub mod Lists
 pub mod MendedBlocks
 pub mod Repaired

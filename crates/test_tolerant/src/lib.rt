@@ -23,6 +23,8 @@ mod bodies;
 #[cfg(test)]
 mod copies;
 #[cfg(test)]
+mod gaps;
+#[cfg(test)]
 mod interfaces;
 #[cfg(test)]
 mod names;

@@ -1,8 +1,8 @@
-use Rattle.std.proofs.Common.{◌≡◌, Err, refl, subst}
+use Rattle.std.proofs.Common.{Err, refl, subst}
 use Rattle.std.proofs.lemmas.Result.{err_from_is_err_and}
 use Rattle.pcap_file.specs.RawBlocks.{raw_in}
 use Rattle.pcap_tolerant_captures.specs.ReaderAsIs.{lent_item}
-use Rattle.pcap_written.specs.Raw.{Raw, raw_of}
+use Rattle.pcap_written.specs.Raw.{Raw}
 use Rattle.pcapfile_mended.specs.Mended.{IsMended}
 use Rattle.pcapfile_as_is.specs.MendedBlocks.{WritesMended, TellsMended, is_another}
 use Rattle.pcapfile_as_is.specs.Texts.{numbered}
