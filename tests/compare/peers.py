@@ -10,6 +10,7 @@ Of each capture these have to say the same:
 - `join` of such parts: the capture's bytes; and by mergecap, which puts them behind each other, the same packets
 - `merge` and mergecap: the packets of the capture and of the next one, as tshark reads them
 - `repair`: the packets that tshark reads of the capture, with the changes that a repair makes
+- `list --as-is` and `repair`: the same packets, also behind garbage, where the peers end
 
 Where pcapfile refuses a capture, what it tells before has to be a beginning. MEANT has the differences that are meant besides, each
 with its reason, and docs/DIFFERENCES.md has them too. written.py holds `convert` beside editcap.
@@ -254,21 +255,44 @@ def listing(capture):
     found = capture.run("list", "--utc", capture.path).stdout.decode().splitlines()
     is_carried = any(it.is_carried for it in capture.packets[: len(found)])
     yield "list --utc", capture.means("carried") if is_carried else capture.beside(found, lines(capture, date))
-    if not capture.is_pcapng:
-        yield "list --as-is", as_is_verdict(capture)
+    rows = as_is_rows(capture)
+    yield "list --as-is", as_is_verdict(capture, rows)
+    yield "list --as-is, and repair", repaired_lines_verdict(capture, rows)
 
 
-def as_is_verdict(capture):
-    """Whether `list --as-is` has each packet that tshark has, with its time but for nanoseconds that wrap there."""
+def as_is_rows(capture):
+    """The words of the lines of `list --as-is`, but for packets for which their blocks have no room."""
     rows = [it.split(" ") for it in capture.run("list", "--as-is", capture.path).stdout.decode().splitlines()]
+    return [it for it in rows if it[1] != "refused"]
+
+
+def as_is_verdict(capture, rows):
+    """Whether `list --as-is` has each packet that tshark has, with its time but for nanoseconds that wrap there."""
     if not capture.packets:
         return capture.means("unread") if rows else SAME
     if [it[2] for it in rows] != [f"{it.stored}/{it.wire}" for it in capture.packets]:
         return DIFFERENT
-    times = [(Decimal(row[1]), it.time) for row, it in zip(rows, capture.packets)]
+    if capture.is_pcapng and [it[3] for it in rows] != [it.interface for it in capture.packets]:
+        return DIFFERENT
+    times = [(time_in(row), it.time) for row, it in zip(rows, capture.packets)]
     if all(ours == theirs for ours, theirs in times):
         return SAME
     return capture.means("wraps") if all(is_wrapped(*pair) for pair in times) else DIFFERENT
+
+
+def time_in(row):
+    """The time in the words of a line, exactly, also where its fraction isn't carried."""
+    return None if row[1] == "-" else seconds(row[1])
+
+
+def repaired_lines_verdict(capture, rows):
+    """Whether the capture that `repair` writes has the packets of these lines, as they stand where nothing is wrong with them."""
+    capture.kept("repaired", capture.run("repair", capture.path, "-o", "-"))
+    found = [it.split(" ") for it in capture.run("list", capture.at("repaired")).stdout.decode().splitlines()]
+    if len(found) != len(rows):
+        return DIFFERENT
+    pairs = [it for it in zip(rows, found) if "!" not in "".join(it[0])]
+    return SAME if all((time_in(row), row[2:]) == (time_in(it), it[2:]) for row, it in pairs) else DIFFERENT
 
 
 def is_wrapped(ours, theirs):

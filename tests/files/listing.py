@@ -235,7 +235,7 @@ def memory_of(lists, form, capture):
 def try_memory(lists):
     few, _ = lists.lib.classic("<", 0xA1B23C4D, 1, lists.lib.RAW, [(k, 9, b"") for k in range(1000)])
     many = few + few[24:] * 199
-    for form in ("--utc", "--csv", "--json"):
+    for form in ("--utc", "--csv", "--json", "--as-is"):
         little, much = memory_of(lists, form, few), memory_of(lists, form, many)
         lists.tally.note(f"list {form}, memory", much > little + 1024 and f"{much} KiB of 200000 packets, and {little} of 1000")
 

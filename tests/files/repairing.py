@@ -7,9 +7,9 @@ import subprocess
 import tempfile
 
 import as_is
-from as_is import AT_FAULT, DONE, ENHANCED, INTERFACE, MESSAGES, MOST, OBSOLETE, SECTION, SIMPLE, framed, option_flaw, options_flaws
+from as_is import DONE, ENHANCED, INTERFACE, MOST, OBSOLETE, SECTION, SIMPLE, option_flaw, options_flaws
 
-MAGIC, UNSTATED = b"\x0a\x0d\x0d\x0a", b"\xff" * 8
+UNSTATED = b"\xff" * 8
 USAGE = 2
 LEFT = "options that break rules are left out"
 
@@ -58,67 +58,20 @@ def block(order, number, body):
     return struct.pack(order + "II", number, len(body) + 12) + body + struct.pack(order + "I", len(body) + 12)
 
 
-def is_section(capture, at):
-    found = framed(capture, at, ">") if capture.startswith(MAGIC, at) else None
-    return isinstance(found, tuple)
-
-
-def stand(capture, at, order):
-    """Whether a section header stands there, or two blocks in a row, or one to the end."""
-    if is_section(capture, at):
-        return True
-    for _ in range(2):
-        found = framed(capture, at, order)
-        if not isinstance(found, tuple):
-            return False
-        order, at = found[0], at + len(found[2]) + 12
-        if at == len(capture):
-            return True
-    return True
-
-
-def is_torn(capture, at, order):
-    """Whether the block that is cut short there states no length that is too large."""
-    if len(capture) - at < 12:
-        return True
-    if capture[at : at + 4] == MAGIC:
-        order = ">" if capture[at + 8 : at + 12] == b"\x1a\x2b\x3c\x4d" else "<"
-    return struct.unpack_from(order + "I", capture, at + 4)[0] <= MOST
-
-
-def unopened(name, capture):
-    """What is said of a capture in which no section header stands."""
-    if capture[:1] != b"\n":
-        return as_is.repaired(name, capture)
-    found = framed(capture, 0, ">") if capture[:4] == MAGIC[: len(capture)] else 10
-    said = found if found == "cut short" else f"Invalid field value: {MESSAGES[found]}"
-    return None, f"pcapfile: {name}: {said}\n", AT_FAULT
-
-
 def repaired(name, capture):
     """The capture that is written, or None; what is said, and the status."""
-    if len(capture) >= 24 and as_is.opened(capture):
+    kind, items, refused = as_is.stands_in(capture)
+    if kind == "pcap" or refused:
         return as_is.repaired(name, capture)
-    at = next((it for it in range(len(capture)) if is_section(capture, it)), None)
-    if at is None:
-        return unopened(name, capture)
-    said = [f"{at} bytes at byte 0 are no blocks, and are left out"] * (at > 0)
-    out, order, count, changed = b"", ">", 0, 0
-    while at < len(capture):
-        found, left = framed(capture, at, order), len(capture) - at
-        if isinstance(found, tuple):
-            order, number, body = found
-            made, change = mended(order, number, body)
-            count, changed = count + 1, changed + bool(change)
-            said += [f"block {count} at byte {at}: {change}"] * bool(change)
-            out, at = out + (b"" if made is None else block(order, number, made)), at + len(body) + 12
-        elif found == "cut short" and is_torn(capture, at, order):
-            said.append(f"{left} bytes at byte {at} are of a block that is cut short, and are left out")
-            break
-        else:
-            behind = next((it for it in range(at, len(capture)) if stand(capture, it, order)), len(capture))
-            said.append(f"{behind - at} bytes at byte {at} are no blocks, and are left out")
-            at = behind
+    out, said, count, changed = b"", [], 0, 0
+    for it in items:
+        if isinstance(it, as_is.Gap):
+            said.append(as_is.left_out(it))
+            continue
+        made, change = mended(it.order, it.type, it.body)
+        count, changed = count + 1, changed + bool(change)
+        said += [f"block {it.number} at byte {it.place}: {change}"] * bool(change)
+        out += b"" if made is None else block(it.order, it.type, made)
     said += [f"{changed} of {count} blocks are changed or left out"] * (changed > 0)
     return out, "".join(f"pcapfile: {name}: {it}\n" for it in said), DONE
 
@@ -248,13 +201,15 @@ def repair(tally, help, capture):
 
 
 def try_blocks(tally, help):
-    """Each capture of blocks, repaired into a file and through pipes; the strict reading takes the other one, and lists its packets."""
+    """Each capture of blocks, told as it stands, and repaired into a file and through pipes; the strict reading takes the other one, and
+    lists its packets."""
     for name, capture in captures(help):
+        as_is.tell(tally, help, name, capture)
         out, said, status = repaired("in", capture)
         ended, left, check, list_ = repair(tally, help, capture)
         with tempfile.TemporaryDirectory() as folder:
             piped = as_is.ran(tally, folder, "repair", "-", "-o", "-", given=capture)
-        lines = as_is.listed_blocks("out", out)[0].encode() if out else b""
+        lines = as_is.listed("out", out)[0].encode() if out else b""
         tally.note(
             f"repair of {name}",
             ended != (status, b"", said) and f"it gave {str(ended)[-300:]}, and not {str((status, said))[-300:]}",

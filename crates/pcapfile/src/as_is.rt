@@ -1,130 +1,144 @@
-//! Captures that are read as they stand.
-
-ghost use Rattle.std.specs.Prelude.{◌<◌, ◌^◌};
+//! Captures that are told as they stand.
 
 use crate::console::Console;
-use crate::input::{Watched, buffered, open_watched};
-use capcopy_run::{Exit, Uninterrupted};
-use pcap_file::{PcapError, PcapParser};
-use pcap_tolerant::ReaderAsIs;
-use pcap_tolerant_captures::PcapNgReaderAsIs;
-use pcapfile_as_is::{BlockTeller, Counted, Teller, tell_blocks, tell_packets};
-use pcapfile_cut::Opening;
-use pcapfile_run::{Format, format_of};
+use crate::input::open_watched;
+use crate::rows::Rows;
+use crate::standing::{HEADER, Standing, Stop};
+use capcopy_run::Exit;
+use pcap_file::{PcapError, ResultParsing};
+use pcapfile_as_is::{BlockTeller, Counted, Gap, LeftOut, Place, Scrap, Teller};
+use pcapfile_run::Format;
 use std::alloc::Global;
-use std::io;
-use std::io::{BufReader, Read, Write};
-
-/// The longest packet that is read as it stands, in bytes.
-pub(crate) const LIMIT: u32 = 16_777_216;
+use std::io::Write;
 
 /// The most packets or blocks that are told.
 pub(crate) const MOST: u64 = 18_446_744_073_709_551_614;
 
-/// How many bytes the header of a capture has.
-const HEADER: u64 = 24;
-
-/// A capture, off a buffer.
-pub(crate) type Input = BufReader<Uninterrupted<Watched>>;
-
-/// What was told of a capture.
+/// A capture that is told as it stands, row by row.
 #[derive(Drop)]
-pub(crate) struct Told {
-    /// How many packets or blocks, and how many bytes with the header.
-    pub(crate) counted: Counted,
-    /// What refuses the next packet or block.
+pub(crate) struct Telling {
+    /// What is told next. None behind the end.
+    standing: Option<Standing>,
+    /// The capture's format.
+    pub(crate) format: Format,
+    /// How far it is told.
+    pub(crate) place: Place,
+    /// What ended it before its end: `IncompleteBuffer` where it is cut short there.
     pub(crate) fault: Option<PcapError>,
-    /// Whether that was a read that failed.
-    pub(crate) read_failed: bool,
 }
 
-impl Told {
-    /// A capture of which nothing was told.
-    pub(crate) fn nothing() -> Told {
-        Told {
-            counted: Counted {
-                items: 0,
-                flawed: 0,
-                bytes: 0,
-            },
+impl Standing {
+    // The format of the capture, and how many bytes open it.
+    fn opening(&self) -> (Format, u64) {
+        match self {
+            Standing::Packets(..) => (Format::Pcap, HEADER as u64),
+            Standing::Blocks(_) => (Format::PcapNg, 0),
+            Standing::Neither(format, _) => (*format, 0),
+        }
+    }
+
+    // The rows of which it is.
+    fn rows(&self) -> Option<&Rows> {
+        match self {
+            Standing::Packets(_, rows) => Some(rows.rows()),
+            Standing::Blocks(rows) => Some(rows.rows()),
+            Standing::Neither(..) => None,
+        }
+    }
+
+    // Tells what stands in the next row.
+    fn tell<P: Teller, B: BlockTeller, W: Write>(
+        self,
+        alloc: Global,
+        packets: &mut P,
+        blocks: &mut B,
+        output: &mut W,
+        counted: &mut Counted,
+    ) -> Result<Standing, Stop> {
+        match self {
+            Standing::Packets(opening, rows) => {
+                let rows = rows.tell(alloc, packets, output, MOST, counted)?;
+                Ok(Standing::Packets(opening, rows))
+            }
+            Standing::Blocks(rows) => {
+                let rows = rows.tell(alloc, blocks, output, MOST, counted)?;
+                Ok(Standing::Blocks(rows))
+            }
+            Standing::Neither(_, error) => Err(Stop::Unread(error)),
+        }
+    }
+}
+
+impl Telling {
+    /// The capture of a name, of which nothing is told yet. The errors are those of reads and of memory.
+    pub(crate) fn open(console: &Console, name: &str) -> ResultParsing<Telling> {
+        let standing = Standing::open(console.alloc(), open_watched(console, name)?)?;
+        let (format, bytes) = standing.opening();
+        Ok(Telling {
+            standing: Some(standing),
+            format,
+            place: Place::new(bytes),
             fault: None,
-            read_failed: false,
+        })
+    }
+
+    /// Tells the packets or blocks before the next gap, and gives that. None behind the end. The errors are those of the teller.
+    pub(crate) fn tell_row<P: Teller, B: BlockTeller, W: Write>(
+        &mut self,
+        alloc: Global,
+        packets: &mut P,
+        blocks: &mut B,
+        output: &mut W,
+    ) -> Result<Option<Gap>, Exit> {
+        for _ in 0..u64::MAX {
+            let Some(standing) = self.standing.take() else {
+                break;
+            };
+            let (gap, is_at_end) = match standing.rows() {
+                Some(rows) => (self.pass(rows.left_out()), rows.is_at_end()),
+                None => (None, false),
+            };
+            if is_at_end {
+                return Ok(gap);
+            }
+            if gap.is_some() {
+                self.standing = Some(standing);
+                return Ok(gap);
+            }
+            self.standing = self.tell_on(alloc, standing, packets, blocks, output)?;
+        }
+        Ok(None)
+    }
+
+    // What more is left out. A packet or block that is cut short is none, but ends the capture.
+    fn pass(&mut self, left_out: LeftOut) -> Option<Gap> {
+        let before = self.place;
+        let gap = self.place.pass(left_out)?;
+        if let Scrap::PacketFront | Scrap::BlockFront = gap.scrap {
+            self.place = before;
+            self.fault = Some(PcapError::IncompleteBuffer(1));
+            return None;
+        }
+        Some(gap)
+    }
+
+    // Tells a row, and gives what is told next. None where that can't be read.
+    fn tell_on<P: Teller, B: BlockTeller, W: Write>(
+        &mut self,
+        alloc: Global,
+        standing: Standing,
+        packets: &mut P,
+        blocks: &mut B,
+        output: &mut W,
+    ) -> Result<Option<Standing>, Exit> {
+        let counted = &mut self.place.counted;
+        match standing.tell(alloc, packets, blocks, output, counted) {
+            Ok(standing) => Ok(Some(standing)),
+            Err(Stop::Untold(exit)) => Err(exit),
+            Err(Stop::Unread(error)) => {
+                self.fault = Some(error);
+                Ok(None)
+            }
         }
     }
-}
-
-/// A copy of what was counted.
-pub(crate) fn counts(counted: &Counted) -> Counted
-    ensures items { result.items < 2 ^ 64 }
-    ensures flawed { result.flawed < 2 ^ 64 }
-    ensures bytes { result.bytes < 2 ^ 64 }
-{
-    Counted {
-        items: counted.items.min(u64::MAX),
-        flawed: counted.flawed.min(u64::MAX),
-        bytes: counted.bytes.min(u64::MAX),
-    }
-}
-
-/// Opens the capture of a name, and finds its format.
-pub(crate) fn open_capture(console: &Console, name: &str) -> io::Result<(Format, Input)> {
-    let mut input = buffered(console.alloc(), open_watched(console, name)?)?;
-    let format = format_of(&mut input)?;
-    Ok((format, input))
-}
-
-/// Reads the header of a capture. A refusal is told.
-pub(crate) fn open_header<R: Read>(input: &mut R, told: &mut Told) -> Option<Opening> {
-    let mut read_failed = false;
-    match Opening::read(input, &mut read_failed) {
-        Ok(opening) => {
-            told.counted.bytes = HEADER;
-            Some(opening)
-        }
-        Err(error) => {
-            told.fault = Some(error);
-            told.read_failed = read_failed;
-            None
-        }
-    }
-}
-
-/// Tells each packet of a capture, and what refuses the next one. The errors are those of the teller.
-pub(crate) fn tell_capture<P: Teller, R: Read + Drop, W: Write>(
-    alloc: Global,
-    teller: &mut P,
-    mut input: R,
-    output: &mut W,
-) -> Result<Told, Exit> {
-    let mut told = Told::nothing();
-    let Some(opening) = open_header(&mut input, &mut told) else {
-        return Ok(told);
-    };
-    let parser = PcapParser::with_header(*opening.header())?;
-    let mut reader = ReaderAsIs::with_parser(alloc, parser, input, LIMIT);
-    let mut counted = Counted {
-        items: 0,
-        flawed: 0,
-        bytes: HEADER,
-    };
-    told.fault = tell_packets(alloc, teller, &mut reader, output, MOST, &mut counted)?;
-    told.counted = counted;
-    told.read_failed = reader.failed();
-    Ok(told)
-}
-
-/// Tells each block of a capture, and what refuses the next one. The errors are those of the teller.
-pub(crate) fn tell_blocks_of<P: BlockTeller, R: Read + Drop, W: Write>(
-    alloc: Global,
-    teller: &mut P,
-    input: R,
-    output: &mut W,
-) -> Result<Told, Exit> {
-    let mut told = Told::nothing();
-    let mut reader = PcapNgReaderAsIs::new(alloc, input);
-    let mut counted = counts(&told.counted);
-    told.fault = tell_blocks(alloc, teller, &mut reader, output, MOST, &mut counted)?;
-    told.counted = counted;
-    told.read_failed = reader.failed();
-    Ok(told)
 }

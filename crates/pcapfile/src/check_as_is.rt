@@ -1,17 +1,19 @@
 //! The word `check` of captures as they stand.
 
-use crate::as_is::{Input, MOST, Told, open_capture, tell_blocks_of, tell_capture};
+use crate::as_is::{MOST, Telling};
 use crate::console::Console;
 use crate::output::OUTPUT;
-use crate::tell::{AT_FAULT, tell_io, tell_unwritten};
+use crate::tell::{tell_error, tell_unwritten};
 use capcopy_run::{Exit, Uninterrupted};
-use pcapfile_as_is::{BlockFlawLines, FlawLines};
-use pcapfile_run::{Checked, End, Format, end_of};
+use pcap_file::PcapError;
+use pcapfile_as_is::{BlockFlawLines, CheckedAsIs, FlawLines, put_gap};
+use pcapfile_run::{Checked, End, end_of};
 use std::alloc::Global;
 use std::io;
-use std::io::{BufWriter, Write};
+use std::io::{BufWriter, ErrorKind, Write};
 
-/// Writes a line for each flaw of a packet or block and one for each capture, and gives the status: that of the worst of them.
+/// Writes a line for each flaw of a packet or block, one for bytes that are left out and one for each capture, and gives the status:
+/// that of the worst of them.
 pub(crate) fn check_files_as_is(console: &Console, names: &[&str]) -> io::Result<u8> {
     let stdout = Uninterrupted::new(console.rt().stdout());
     let mut output = BufWriter::with_capacity(console.alloc(), OUTPUT, stdout)?;
@@ -23,64 +25,83 @@ pub(crate) fn check_files_as_is(console: &Console, names: &[&str]) -> io::Result
 }
 
 fn check_file<W: Write>(console: &Console, name: &str, output: &mut W) -> io::Result<u8> {
-    let (format, input) = match open_capture(console, name) {
-        Ok(opened) => opened,
-        Err(error) => return tell_io(console, name, &error),
+    let mut telling = match Telling::open(console, name) {
+        Ok(telling) => telling,
+        Err(error) => return tell_error(console, name, &error),
     };
     let prefix = format!(in console.alloc(); "{name}: ")?;
-    let told = tell_flaws(console.alloc(), format, prefix.as_str(), input, output);
-    tell_checked(console, name, format, told, output)
+    match tell_flaws(console.alloc(), prefix.as_str(), &mut telling, output) {
+        Ok(()) => tell_checked(console, name, telling, output),
+        Err(exit) => {
+            output.flush()?;
+            tell_unwritten(console, name, exit)
+        }
+    }
 }
 
-// Writes the lines of the flaws of a capture of this format.
+// Writes the lines of the flaws of a capture and of what is left out.
 fn tell_flaws<W: Write>(
     alloc: Global,
-    format: Format,
     prefix: &str,
-    input: Input,
+    telling: &mut Telling,
     output: &mut W,
-) -> Result<Told, Exit> {
-    match format {
-        Format::Pcap => tell_capture(alloc, &mut FlawLines { prefix }, input, output),
-        Format::PcapNg => tell_blocks_of(alloc, &mut BlockFlawLines { prefix }, input, output),
+) -> Result<(), Exit> {
+    let mut packets = FlawLines { prefix };
+    let mut blocks = BlockFlawLines { prefix };
+    for _ in 0..u64::MAX {
+        let gap = telling.tell_row(alloc, &mut packets, &mut blocks, output)?;
+        let Some(gap) = gap else {
+            break;
+        };
+        put_gap(alloc, output, prefix, &gap)?;
     }
+    Ok(())
 }
 
 // Writes the line of a capture, and gives its status. One that can't be read, or not be held, has it on standard error.
 fn tell_checked<W: Write>(
     console: &Console,
     name: &str,
-    format: Format,
-    told: Result<Told, Exit>,
+    telling: Telling,
     output: &mut W,
 ) -> io::Result<u8> {
-    let told = match told {
-        Ok(told) => told,
-        Err(exit) => {
-            output.flush()?;
-            return tell_unwritten(console, name, exit);
-        }
-    };
-    let flawed = told.counted.flawed;
-    let checked = checked_of(format, told);
-    let is_told = !matches!(&checked.end, End::Unread(_) | End::Memory);
+    let checked = checked_of(telling);
+    let is_told = !matches!(&checked.checked.end, End::Unread(_) | End::Memory);
     if is_told {
-        writeln!(output, "{name}: {checked}; {flawed} with flaws")?;
+        writeln!(output, "{name}: {checked}")?;
     }
     output.flush()?;
     if !is_told {
-        eprintln!(console.for_line(); "pcapfile: {name}: {checked}; {flawed} with flaws")?;
+        eprintln!(console.for_line(); "pcapfile: {name}: {checked}")?;
     }
-    let status = if flawed > 0 { AT_FAULT } else { 0 };
-    Ok(checked.status().max(status))
+    Ok(checked.status())
 }
 
-fn checked_of(format: Format, told: Told) -> Checked {
-    let (items, bytes) = (told.counted.items, told.counted.bytes);
-    Checked {
+fn checked_of(telling: Telling) -> CheckedAsIs {
+    let Telling {
         format,
-        items,
-        bytes,
-        end: end_of(told.fault, told.read_failed, items, MOST),
+        place,
+        fault,
+        ..
+    } = telling;
+    let items = place.counted.items;
+    CheckedAsIs {
+        checked: Checked {
+            format,
+            items,
+            bytes: place.counted.bytes,
+            end: end_behind(fault, items),
+        },
+        flawed: place.counted.flawed,
+        left_out: place.left_out,
+    }
+}
+
+// What ends a capture of so many packets or blocks.
+fn end_behind(fault: Option<PcapError>, items: u64) -> End {
+    match fault {
+        Some(PcapError::IncompleteBuffer(_)) => End::Short,
+        Some(PcapError::IoError(error)) if error.kind() == ErrorKind::OutOfMemory => End::Memory,
+        fault => end_of(fault, true, items, MOST),
     }
 }

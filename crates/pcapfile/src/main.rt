@@ -23,6 +23,7 @@ mod repair;
 mod repaired;
 mod rows;
 mod source;
+mod standing;
 mod tell;
 mod walk;
 mod window;

@@ -1,33 +1,21 @@
 //! Captures without flaws that are made of others, as these are read.
 
-ghost use Rattle.std.specs.Prelude.{◌≡◌, None, false};
-ghost use Rattle.pcap_tolerant.specs.ReaderAsIs.{is_done, has_failed};
-ghost use Rattle.pcap_tolerant_captures.specs.ReaderAsIs.{is_done as is_done_with_blocks, has_failed as has_failed_in_blocks};
+ghost use Rattle.std.specs.Prelude.{None};
 
-use crate::as_is::{LIMIT, counts};
 use crate::console::{Console, Notes};
-use crate::input::{Watched, buffered};
+use crate::input::Watched;
 use crate::output::OUTPUT;
-use crate::rows::{LeftOut, Rows};
-use crate::window::Window;
+use crate::rows::Rows;
+use crate::standing::{BlockRows, HEADER, PacketRows, Standing, Stop};
 use capcopy_run::Exit;
-use pcap_file::pcap::PcapHeader;
-use pcap_file::{PcapError, PcapParser, ResultParsing};
-use pcap_tolerant::ReaderAsIs;
-use pcap_tolerant_captures::PcapNgReaderAsIs;
-use pcapfile_as_is::{BlockRepairs, Counted, Repairs, tell_blocks, tell_packets};
+use pcap_file::{PcapError, ResultParsing};
+use pcapfile_as_is::{BlockRepairs, Counted, Gap, Place, Repairs};
 use std::alloc::{AllocError, Global};
 use std::io;
 use std::io::{BufWriter, ErrorKind, Read, Write};
 
-/// How many bytes the header of a classic capture has.
-const HEADER: usize = 24;
-
 /// How many bytes are made at once, and those of a packet or a block more.
 const ENOUGH: usize = 65_536;
-
-/// The first byte of a capture of blocks.
-const FIRST_OF_BLOCKS: u8 = 10;
 
 /// Standard error for lines that are said while a capture is read.
 type Lines = BufWriter<Notes>;
@@ -35,19 +23,15 @@ type Lines = BufWriter<Notes>;
 /// Packets that are repaired.
 #[derive(Drop)]
 struct Packets {
-    reader: ReaderAsIs<Rows>,
+    rows: PacketRows,
     repairs: Repairs<Lines>,
-    ghost ready: { is_done reader ≡ false },
-    ghost unfailed: { has_failed reader ≡ false },
 }
 
 /// Blocks that are mended.
 #[derive(Drop)]
 struct Blocks {
-    reader: PcapNgReaderAsIs<Rows>,
+    rows: BlockRows,
     repairs: BlockRepairs<Lines>,
-    ghost ready: { is_done_with_blocks reader ≡ false },
-    ghost unfailed: { has_failed_in_blocks reader ≡ false },
 }
 
 /// What is repaired.
@@ -67,10 +51,8 @@ pub(crate) struct Repaired {
     made: Vec<u8>,
     /// How many of them were read.
     given: usize,
-    /// How many packets or blocks of the other one are read.
-    counted: Counted,
-    /// How many bytes of it it was said of that they are left out.
-    said: u64,
+    /// How far the other one is read, and of how many bytes it was said that they are left out.
+    place: Place,
 }
 
 impl Packets {
@@ -81,17 +63,10 @@ impl Packets {
         made: &mut Vec<u8>,
         counted: &mut Counted,
     ) -> Result<Packets, Exit> {
-        let Packets {
-            mut reader,
-            mut repairs,
-        } = self;
-        let mut now = counts(counted);
-        let told = tell_packets(alloc, &mut repairs, &mut reader, made, 1, &mut now);
-        *counted = now;
-        match told {
-            Ok(None) => Ok(Packets { reader, repairs }),
-            Ok(Some(error)) => Err(given_up(&mut repairs.notes, Exit::from(error))),
-            Err(exit) => Err(given_up(&mut repairs.notes, exit)),
+        let Packets { rows, mut repairs } = self;
+        match rows.tell(alloc, &mut repairs, made, 1, counted) {
+            Ok(rows) => Ok(Packets { rows, repairs }),
+            Err(stop) => Err(given_up(&mut repairs.notes, stop)),
         }
     }
 }
@@ -104,17 +79,10 @@ impl Blocks {
         made: &mut Vec<u8>,
         counted: &mut Counted,
     ) -> Result<Blocks, Exit> {
-        let Blocks {
-            mut reader,
-            mut repairs,
-        } = self;
-        let mut now = counts(counted);
-        let told = tell_blocks(alloc, &mut repairs, &mut reader, made, 1, &mut now);
-        *counted = now;
-        match told {
-            Ok(None) => Ok(Blocks { reader, repairs }),
-            Ok(Some(error)) => Err(given_up(&mut repairs.notes, Exit::from(error))),
-            Err(exit) => Err(given_up(&mut repairs.notes, exit)),
+        let Blocks { rows, mut repairs } = self;
+        match rows.tell(alloc, &mut repairs, made, 1, counted) {
+            Ok(rows) => Ok(Blocks { rows, repairs }),
+            Err(stop) => Err(given_up(&mut repairs.notes, stop)),
         }
     }
 }
@@ -133,26 +101,27 @@ impl Making {
         }
     }
 
-    // What is left out so far.
-    fn left_out(&self) -> LeftOut {
+    // The rows of which it is made.
+    fn rows(&self) -> &Rows {
         match self {
-            Making::Packets(packets) => packets.reader.get_ref().left_out(),
-            Making::Blocks(blocks) => blocks.reader.get_ref().left_out(),
+            Making::Packets(packets) => packets.rows.rows(),
+            Making::Blocks(blocks) => blocks.rows.rows(),
         }
     }
 
-    // Says that so many bytes from this place on are left out.
-    fn say_left_out(&mut self, place: u64, bytes: u64, what: &str) {
-        match self {
+    // Says what is left out.
+    fn say_left_out(&mut self, gap: &Gap) {
+        // That something can't be said stops nothing.
+        let _ = match self {
             Making::Packets(packets) => {
                 let prefix = packets.repairs.prefix.as_str();
-                put_left_out(&mut packets.repairs.notes, prefix, place, bytes, what);
+                writeln!(packets.repairs.notes, "{prefix}{gap}")
             }
             Making::Blocks(blocks) => {
                 let prefix = blocks.repairs.prefix.as_str();
-                put_left_out(&mut blocks.repairs.notes, prefix, place, bytes, what);
+                writeln!(blocks.repairs.notes, "{prefix}{gap}")
             }
-        }
+        };
     }
 
     // Says how many packets or blocks are changed.
@@ -194,66 +163,30 @@ impl Repaired {
         let alloc = console.alloc();
         let prefix = format!(in alloc; "pcapfile: {name}: ")?;
         let notes = BufWriter::with_capacity(alloc, OUTPUT, console.notes()?)?;
-        let mut window = Window::new(alloc, buffered(alloc, stream)?);
-        window.show(HEADER)?;
-        match header_in(window.shown()) {
-            Ok(header) => Repaired::of_packets(alloc, header, prefix, notes, window),
-            Err(error) => Repaired::of_blocks(alloc, error, prefix, notes, window),
-        }
-    }
-
-    // That of packets under this header.
-    fn of_packets(
-        alloc: Global,
-        header: PcapHeader,
-        prefix: String,
-        notes: Lines,
-        mut window: Window,
-    ) -> ResultParsing<Repaired> {
-        let bytes = window.shown().get(..HEADER).unwrap_or_default();
-        let made = Vec::from_slice(alloc, bytes)?;
-        window.pass(HEADER);
-        let rows = Rows::of_packets(PcapParser::with_header(header)?, window);
-        let parser = PcapParser::with_header(header)?;
-        let packets = Packets {
-            reader: ReaderAsIs::with_parser(alloc, parser, rows, LIMIT),
-            repairs: Repairs {
-                order: header.endianness(),
-                prefix,
-                notes,
-                room: Vec::new(alloc),
-            },
-        };
-        Ok(Repaired::with(alloc, Making::Packets(packets), made, HEADER as u64))
-    }
-
-    // That of blocks. The error is that of what is shown first as a header: it is given where no section header stands in the
-    // capture, and it doesn't begin as one of blocks.
-    fn of_blocks(
-        alloc: Global,
-        error: PcapError,
-        prefix: String,
-        notes: Lines,
-        window: Window,
-    ) -> ResultParsing<Repaired> {
-        let is_of_blocks = window.shown().first() == Some(&FIRST_OF_BLOCKS);
-        let rows = match Rows::of_blocks(alloc, window) {
-            Ok(rows) => rows,
-            Err(PcapError::InvalidField(_) | PcapError::IncompleteBuffer(_)) if !is_of_blocks => {
-                return Err(error);
+        let standing = Standing::open(alloc, stream)?;
+        match standing {
+            Standing::Packets(opening, rows) => {
+                let repairs = Repairs {
+                    order: rows.endianness(),
+                    prefix,
+                    notes,
+                    room: Vec::new(alloc),
+                };
+                let making = Making::Packets(Packets { rows, repairs });
+                Ok(Repaired::with(alloc, making, opening, HEADER as u64))
             }
-            Err(error) => return Err(error),
-        };
-        let blocks = Blocks {
-            reader: PcapNgReaderAsIs::new(alloc, rows),
-            repairs: BlockRepairs {
-                prefix,
-                notes,
-                body: Vec::new(alloc),
-                text: Vec::new(alloc),
-            },
-        };
-        Ok(Repaired::with(alloc, Making::Blocks(blocks), Vec::new(alloc), 0))
+            Standing::Blocks(rows) => {
+                let repairs = BlockRepairs {
+                    prefix,
+                    notes,
+                    body: Vec::new(alloc),
+                    text: Vec::new(alloc),
+                };
+                let making = Making::Blocks(Blocks { rows, repairs });
+                Ok(Repaired::with(alloc, making, Vec::new(alloc), 0))
+            }
+            Standing::Neither(_, error) => Err(error),
+        }
     }
 
     // The capture whose first bytes are made, of so many of the other one.
@@ -263,12 +196,7 @@ impl Repaired {
             making: Some(making),
             made,
             given: 0,
-            counted: Counted {
-                items: 0,
-                flawed: 0,
-                bytes,
-            },
-            said: 0,
+            place: Place::new(bytes),
         }
     }
 
@@ -293,12 +221,16 @@ impl Repaired {
             let Some(mut making) = self.making.take() else {
                 break;
             };
-            if self.tell_left_out(&mut making) {
-                making.say_changed(&self.counted);
+            if let Some(gap) = self.place.pass(making.rows().left_out()) {
+                making.say_left_out(&gap);
+            }
+            if making.rows().is_at_end() {
+                making.say_changed(&self.place.counted);
                 making.flush();
                 break;
             }
-            let mut making = match making.make(self.alloc, &mut self.made, &mut self.counted) {
+            let counted = &mut self.place.counted;
+            let mut making = match making.make(self.alloc, &mut self.made, counted) {
                 Ok(making) => making,
                 Err(exit) => return Err(io_error(exit)),
             };
@@ -312,18 +244,6 @@ impl Repaired {
             }
         }
         Ok(())
-    }
-
-    // Says what more of the other capture is left out, and tells whether that is at its end.
-    fn tell_left_out(&mut self, making: &mut Making) -> bool {
-        let left_out = making.left_out();
-        if left_out.bytes > self.said {
-            let bytes = left_out.bytes.saturating_sub(self.said);
-            making.say_left_out(self.counted.bytes, bytes, left_out.what);
-            self.counted.bytes = self.counted.bytes.saturating_add(bytes);
-            self.said = left_out.bytes;
-        }
-        left_out.is_at_end
     }
 }
 
@@ -339,24 +259,14 @@ impl Read for Repaired {
     }
 }
 
-fn header_in(bytes: &[u8]) -> ResultParsing<PcapHeader> {
-    let (_rest, header) = PcapHeader::from_slice(bytes)?;
-    Ok(header)
-}
-
-fn put_left_out(notes: &mut Lines, prefix: &str, place: u64, bytes: u64, what: &str) {
-    // That something can't be said stops nothing.
-    let _ = writeln!(
-        notes,
-        "{prefix}{bytes} bytes at byte {place} are {what}, and are left out"
-    );
-}
-
-// This exit, behind all that there is to say.
-fn given_up(notes: &mut Lines, exit: Exit) -> Exit {
+// What ended it, behind all that there is to say.
+fn given_up(notes: &mut Lines, stop: Stop) -> Exit {
     // That something can't be said stops nothing.
     let _ = notes.flush();
-    exit
+    match stop {
+        Stop::Unread(error) => Exit::from(error),
+        Stop::Untold(exit) => exit,
+    }
 }
 
 fn io_error(exit: Exit) -> io::Error {

@@ -2,14 +2,17 @@
 
 ghost use Rattle.std.specs.Prelude.{None};
 
-use crate::as_is::LIMIT;
 use crate::window::{Sought, Window};
 use pcap_file::{PcapError, PcapParser, ResultParsing, Rule};
 use pcap_tolerant::next_packet_as_is;
 use pcap_tolerant_captures::{OpenedAsIs, PcapNgParserAsIs};
+use pcapfile_as_is::{LeftOut, Scrap};
 use std::alloc::{AllocError, Global};
 use std::io;
 use std::io::Read;
+
+/// The longest packet that is read as it stands, in bytes.
+pub(crate) const LIMIT: u32 = 16_777_216;
 
 /// The first bytes of a section header.
 const SECTION: [u8; 4] = [0x0A, 0x0D, 0x0D, 0x0A];
@@ -30,19 +33,8 @@ enum Front {
     Item(usize),
     /// The beginning of one that may be one: so many bytes are missing, at least.
     Missing(usize),
-    /// What can't be trusted to be one.
-    Garbage,
-}
-
-/// What was left out of a capture so far.
-#[derive(Clone, Copy)]
-pub(crate) struct LeftOut {
-    /// How many bytes.
-    pub(crate) bytes: u64,
-    /// What the last of them are.
-    pub(crate) what: &'static str,
-    /// Whether nothing follows.
-    pub(crate) is_at_end: bool,
+    /// What can't be trusted to be one, and the rule that it breaks, if it breaks one.
+    Garbage(Option<Rule>),
 }
 
 /// The packets or blocks that stand in a row. A read gives no byte where the row ends, which it does at garbage and at the end of the
@@ -54,6 +46,8 @@ pub(crate) struct Rows {
     /// How many of the bytes that are shown belong to a packet or a block.
     ready: usize,
     left_out: LeftOut,
+    /// Whether nothing follows.
+    is_at_end: bool,
 }
 
 impl Kind {
@@ -73,18 +67,23 @@ impl Kind {
             Ok(left) => Ok(Front::Item(bytes.len().saturating_sub(left))),
             Err(PcapError::IncompleteBuffer(n)) => Ok(Front::Missing(n)),
             Err(PcapError::OutOfMemory(error)) => Err(error),
-            Err(_) => Ok(Front::Garbage),
+            Err(error) => Ok(Front::Garbage(error.rule())),
         }
     }
 
-    // Whether these bytes can be trusted to be one that is cut short, so many bytes before it goes on at least.
-    fn is_torn(&self, bytes: &[u8], missing: usize) -> bool {
+    // What the last bytes are, to which so many are missing, at least.
+    fn last(&self, bytes: &[u8], missing: usize) -> Front {
         match self {
-            Kind::Packets(parser) => match parser.next_packet(bytes) {
-                Ok(_) => true,
-                Err(error) => error.rule().is_none(),
+            Kind::Packets(parser) => match broken_by(parser, bytes) {
+                Some(rule) => Front::Garbage(Some(rule)),
+                None => Front::Missing(missing),
             },
-            Kind::Blocks(_) => bytes.len().saturating_add(missing) <= LIMIT as usize,
+            Kind::Blocks(_) => {
+                if bytes.len().saturating_add(missing) > LIMIT as usize {
+                    return Front::Garbage(None);
+                }
+                Front::Missing(missing)
+            }
         }
     }
 
@@ -96,19 +95,19 @@ impl Kind {
         }
     }
 
-    // What garbage is not.
-    fn garbage(&self) -> &'static str {
+    // What garbage is.
+    fn garbage(&self) -> Scrap {
         match self {
-            Kind::Packets(_) => "no packets",
-            Kind::Blocks(_) => "no blocks",
+            Kind::Packets(_) => Scrap::NoPackets,
+            Kind::Blocks(_) => Scrap::NoBlocks,
         }
     }
 
-    // Of what the last bytes are.
-    fn torn(&self) -> &'static str {
+    // What the last bytes are where one is cut short.
+    fn torn(&self) -> Scrap {
         match self {
-            Kind::Packets(_) => "of a packet that is cut short",
-            Kind::Blocks(_) => "of a block that is cut short",
+            Kind::Packets(_) => Scrap::PacketFront,
+            Kind::Blocks(_) => Scrap::BlockFront,
         }
     }
 }
@@ -116,14 +115,14 @@ impl Kind {
 impl Rows {
     /// The packets that are shown next, under the header of a parser.
     pub(crate) fn of_packets(parser: PcapParser, window: Window) -> Rows {
-        Rows::new(Kind::Packets(parser), window, 0, 0)
+        Rows::new(Kind::Packets(parser), window, 0)
     }
 
     /// The blocks from the first section header on that stands in what is shown next. What is before it is left out. The errors are
     /// those of what is shown first, where there is none.
     pub(crate) fn of_blocks(alloc: Global, mut window: Window) -> ResultParsing<Rows> {
         let refusal = match open(alloc, &mut window) {
-            Ok((parser, len)) => return Ok(Rows::new(Kind::Blocks(parser), window, len, 0)),
+            Ok((parser, len)) => return Ok(Rows::new(Kind::Blocks(parser), window, len)),
             Err(error) => error,
         };
         if let PcapError::OutOfMemory(_) | PcapError::IoError(_) = &refusal {
@@ -134,26 +133,34 @@ impl Rows {
             return Err(refusal);
         }
         let (parser, len) = first_section(alloc, window.shown())?;
-        Ok(Rows::new(Kind::Blocks(parser), window, len, passed.bytes))
+        let mut rows = Rows::new(Kind::Blocks(parser), window, len);
+        rows.leave_out(passed.bytes, Scrap::NoBlocks, refusal.rule());
+        Ok(rows)
     }
 
-    fn new(kind: Kind, window: Window, ready: usize, left_out: u64) -> Rows {
+    fn new(kind: Kind, window: Window, ready: usize) -> Rows {
         let left_out = LeftOut {
-            bytes: left_out,
-            what: kind.garbage(),
-            is_at_end: false,
+            bytes: 0,
+            scrap: kind.garbage(),
+            rule: None,
         };
         Rows {
             kind,
             window,
             ready,
             left_out,
+            is_at_end: false,
         }
     }
 
-    /// What was left out so far, and whether the capture is at its end.
+    /// What was left out so far.
     pub(crate) fn left_out(&self) -> LeftOut {
         self.left_out
+    }
+
+    /// Whether the capture is at its end.
+    pub(crate) fn is_at_end(&self) -> bool {
+        self.is_at_end
     }
 
     // Finds the next packet or block. Where the row ends none is ready.
@@ -164,7 +171,7 @@ impl Rows {
                     self.ready = len;
                     break;
                 }
-                Front::Garbage => return self.pass_garbage(),
+                Front::Garbage(rule) => return self.pass_garbage(rule),
                 Front::Missing(n) => {
                     if !self.window.show(n)? {
                         return self.pass_end(n);
@@ -175,32 +182,34 @@ impl Rows {
         Ok(())
     }
 
-    // Passes what is no packet or block.
-    fn pass_garbage(&mut self) -> io::Result<()> {
+    // Passes what is no packet or block, since it breaks this rule, if it breaks one.
+    fn pass_garbage(&mut self, rule: Option<Rule>) -> io::Result<()> {
         let passed = self.window.pass_to(self.kind.sought())?;
-        let what = self.kind.garbage();
-        self.leave_out(passed.bytes, what, !passed.is_found);
+        let scrap = self.kind.garbage();
+        self.leave_out(passed.bytes, scrap, rule);
+        self.is_at_end = !passed.is_found;
         Ok(())
     }
 
     // Passes the last bytes of the capture, if any are left: so many are missing to a packet or a block, at least.
     fn pass_end(&mut self, missing: usize) -> io::Result<()> {
         let last = self.window.shown();
-        if !last.is_empty() && !self.kind.is_torn(last, missing) {
-            return self.pass_garbage();
+        if let Front::Garbage(rule) = self.kind.last(last, missing) {
+            return self.pass_garbage(rule);
         }
         let len = last.len();
         self.window.pass(len);
-        let what = self.kind.torn();
-        self.leave_out(len as u64, what, true);
+        let scrap = self.kind.torn();
+        self.leave_out(len as u64, scrap, None);
+        self.is_at_end = true;
         Ok(())
     }
 
-    fn leave_out(&mut self, bytes: u64, what: &'static str, is_at_end: bool) {
+    fn leave_out(&mut self, bytes: u64, scrap: Scrap, rule: Option<Rule>) {
         self.left_out = LeftOut {
             bytes: self.left_out.bytes.saturating_add(bytes),
-            what,
-            is_at_end,
+            scrap,
+            rule,
         };
     }
 }
@@ -218,6 +227,14 @@ impl Read for Rows {
         self.window.pass(len);
         self.ready = self.ready.saturating_sub(len);
         Ok(len)
+    }
+}
+
+// The rule that the packet at the front of these bytes breaks, if it breaks one.
+fn broken_by(parser: &PcapParser, bytes: &[u8]) -> Option<Rule> {
+    match parser.next_packet(bytes) {
+        Ok(_) => None,
+        Err(error) => error.rule(),
     }
 }
 

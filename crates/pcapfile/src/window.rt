@@ -1,13 +1,14 @@
 //! Bytes of a capture that are looked at before they are read.
 
-use crate::as_is::Input;
+use crate::input::Watched;
+use capcopy_run::Uninterrupted;
 use pcap_file::PcapParser;
 use pcap_tolerant::resync::resync as first_packets;
 use pcap_tolerant_captures::PcapNgParserAsIs;
 use pcap_tolerant_captures::resync::{resync as first_blocks, resync_section};
 use std::alloc::Global;
 use std::io;
-use std::io::BufRead;
+use std::io::{BufRead, BufReader};
 
 /// How many packets or blocks without a fault have to stand in a row, so that they count for found again.
 const IN_A_ROW: usize = 2;
@@ -17,6 +18,9 @@ const ROW: usize = 524_320;
 
 /// How many bytes are looked at at once.
 const WINDOW: usize = 2_097_152;
+
+/// A capture, off a buffer.
+type Input = BufReader<Uninterrupted<Watched>>;
 
 /// What is looked for behind garbage.
 #[derive(Clone, Copy)]

@@ -74,9 +74,9 @@ const CHECK: &str =
     "Tells of each capture how many packets or blocks it has, or which rule is broken at which byte.
 
 With --as-is each flaw of a packet, or of a section or an interface of PcapNg, has a line, with the
-index of the packet or block and the byte where it stands, and the check goes on behind it. A packet
-of more than 16777216 bytes ends it, since where such a packet ends can't be trusted, and so does a
-block whose frame breaks a rule.";
+index of the packet or block and the byte where it stands, and the check goes on behind it. Bytes that
+are left out have a line as well, since they can't be trusted to be packets or blocks: one would have
+more than 16777216 bytes, or the frame of a block breaks a rule. It goes on where 'pcapfile repair' does.";
 
 const INFO: &str =
     "Tells of each capture what it holds: packets, bytes, times, rates, sizes, and how packets are spread over time.
@@ -106,7 +106,8 @@ isn't known is empty, or null. No names of captures stand there, and the index b
 
 With --as-is a packet that breaks rules has a line as well, with ! and the number of each behind
 it, of PcapNg also !utf8 or !short for a value that is no UTF-8 or too short, and a fraction of a
-second that is too large is carried into the seconds.";
+second that is too large is carried into the seconds. The list goes on where 'pcapfile repair' does, and
+says on standard error what is left out before.";
 
 const QUIET_HELP: &str =
     "Doesn't say how far captures are read, which each word says on a terminal";
