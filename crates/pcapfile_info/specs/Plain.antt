@@ -47,6 +47,7 @@ abbrev pub OrderAndClocks : Endianness → List Clock → State → Type 0
 OrderAndClocks order clocks opening = ⊥
 OrderAndClocks order clocks (within section interfaces) = (order ≡ order_at (within section interfaces)) × AllZip IsClockOf interfaces clocks
 
+-- these clocks have the order that is in force, and a clock of each interface
 abbrev pub AreInForce : Clocks → State → Type 0
 AreInForce clocks q = OrderAndClocks clocks.order clocks.clocks.items q
 
