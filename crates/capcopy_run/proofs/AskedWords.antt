@@ -121,11 +121,6 @@ pub no_word : (known : Option (List (List ℕ))) → IfSome known (λ words. Sta
 no_word None none = tt
 no_word (Some words) none = none_asks words none
 
--- four words are there
-pub four_words : (known : Option (List (List ℕ))) → IfSome known (λ words. slice_get words 3 ≡ None → ⊥) → IfSome known AskForNothing
-four_words None more = tt
-four_words (Some words) more = four_ask words more
-
 -- one word is there, and no more
 pub one_word : (known : Option (List (List ℕ))) (first : Bor (List ℕ)) → IfSome known (λ words. StandsAt (slice_get words 0) (Text first))
     → IfSome known (λ words. StandsAt (slice_get words 1) Empty) → IfSome known (λ words. first.now ∷ [] ≡ words)

@@ -1,15 +1,14 @@
 -- Blocks that are listed.
-use Rattle.std.proofs.Common.{◌≡◌, ◌≤◌, refl, IfSome, ℕ, List, [], ◌∷◌, ◌++◌, length, Option, Result, Ok, Err, inl, inr, sym, subst, ◌∙◌, arith}
+use Rattle.std.proofs.Common.{◌≡◌, refl, IfSome, ℕ, List, [], ◌∷◌, ◌++◌, Option, Result, Ok, Err, sym, subst, ◌∙◌}
 use Rattle.std.specs.Fmt.{decimal}
 use Rattle.std.specs.Io.KnownBytes.{Appends}
-use Rattle.pcap_core.specs.Answer.{whole}
 use Rattle.pcap_core.specs.Reading.{Takes}
 use Rattle.pcap_blocks.specs.SectionHeader.{Section}
-use Rattle.pcap_file.specs.Blocks.{Item, BlockSays, block_format}
+use Rattle.pcap_file.specs.Blocks.{block_format}
 use Rattle.pcap_file.specs.Frames.{Framed}
 use Rattle.pcap_file.specs.Opening.{OpeningSays}
 use Rattle.pcap_file.specs.State.{State}
-use Rattle.pcap_file.proofs.BlockFormat.{blocks_lawful, block_said}
+use Rattle.pcap_file.proofs.BlockFormat.{blocks_lawful}
 use Rattle.pcap_file.proofs.FirstBlock.{opening_stable}
 use Rattle.capcopy_run.specs.declared.exit.Exit.{Exit}
 use Rattle.capcopy_run.specs.Exits.{exit_of}
@@ -17,11 +16,6 @@ use Rattle.capcopy_run.specs.Lines.{WritesLine}
 use Rattle.capcopy_run.specs.Listing.{ListsItems, ListsUntil}
 use Rattle.capcopy_run.specs.BlockLines.{IsBodyWord, IsBlockLine, IsItemLine, kind_name, block_lines, section_line, heading_of}
 use Rattle.capcopy_run.proofs.Listing.{lists_heading, lists_known}
-
--- where a block leads
-pub goes_after : (q : State) (item : Item) → block_format.goes q item ≡ item.after
-unfolding block_format
-goes_after q item = refl
 
 -- a capture whose first block was taken
 module _ (q : State) (section : Section) (names : heading_of q ≡ section_line section) (bytes known before mid : Option (List ℕ)) (took : Takes OpeningSays bytes known q) where
@@ -36,18 +30,9 @@ module _ (q : State) (section : Section) (names : heading_of q ≡ section_line 
       let headed = subst (λ (l : List ℕ). Appends before mid l) (written.1 ∙ sym names) written.2 in
       lists_known block_lines opening_stable q blocks_lawful bytes known before mid took headed most now after result run
 
--- the word for a body is short
-pub word_short : (block : Framed) (word : List ℕ) → IsBodyWord block word → length word ≤ 7
-word_short block word (inl ok) = rw ok.0 (omega arith)
-word_short block word (inr refused) = rw refused.0 (omega arith)
-
 -- what is put before a text, from a line's end to its beginning, is the line
 pub block_line_made : (index len : ℕ) (block : Framed) (word l7 l6 l5 l4 l3 l2 l1 l0 all : List ℕ) → IsBodyWord block word → len ≡ block.initial_len
     → l0 ≡ [] → l1 ≡ 10 ∷ l0 → l2 ≡ word ++ l1 → l3 ≡ 32 ∷ l2 → l4 ≡ decimal len ++ l3 → l5 ≡ 32 ∷ l4 → l6 ≡ kind_name block.type_ ++ l5 → l7 ≡ 32 ∷ l6 → all ≡ decimal index ++ l7
     → IsBlockLine index block all
 block_line_made index len block word l7 l6 l5 l4 l3 l2 l1 l0 all is same e0 e1 e2 e3 e4 e5 e6 e7 e =
     (word, is, rw (e, e7, e6, e5, e4, e3, e2, e1, e0, same) refl)
-
--- a block at the front of bytes, in the format of blocks
-pub said_block : (q : State) (item : Item) (s rest : List ℕ) → BlockSays q s (whole item rest) → block_format.says q s (whole item rest)
-said_block q item s rest text = block_said q item s rest text

@@ -1,7 +1,7 @@
 -- Items that are listed, one after another, over any lawful format.
 use Rattle.std.proofs.Common.{◌≡◌, ◌<◌, ◌≤◌, ◌+◌, IfSome, ◌⊎◌, ℕ, suc, List, [], ◌∷◌, ◌++◌, length, Bool, false, Option, Some, None, Result, Ok, Err, inl, inr, refl, sym, ap, ◌∙◌, subst, arith, length-append, append_assoc}
 use Rattle.std.specs.Io.KnownBytes.{Appends, Keeps, IsAtEnd}
-use Rattle.std.proofs.KnownBytes.{Appends-nil, Appends-trans, Consumes-nil, Consumes-kept, Keeps-refl}
+use Rattle.std.proofs.KnownBytes.{Appends-trans, Consumes-kept, Keeps-refl}
 use Rattle.pcap_core.specs.declared.errors.PcapError.{PcapError}
 use Rattle.pcap_core.specs.declared.errors.PcapError.TheVariants as errors
 use Rattle.pcap_core.specs.Answer.{Verdict, whole}
@@ -49,20 +49,13 @@ module _ {V : Type 0} (IsLine : ℕ → V → List ℕ → Type 0) (IsSaid : Lis
   asked_refused now (errors.FromUtf8Error x) exit asked ends = rw ends asked
   asked_refused now errors.WriterFailed exit asked ends = rw ends asked
   asked_refused now (errors.IncompleteBuffer k) (exits.Io e) asked ends = tt
-  asked_refused now (errors.IncompleteBuffer k) exits.Memory asked ends = absurd ends
-  asked_refused now (errors.IncompleteBuffer k) exits.Done asked ends = absurd ends
-  asked_refused now (errors.IncompleteBuffer k) (exits.Refused e) asked ends = absurd ends
-  asked_refused now (errors.IncompleteBuffer k) exits.Most asked ends = absurd ends
-  asked_refused now (errors.IncompleteBuffer k) exits.Usage asked ends = absurd ends
+  asked_refused now (errors.IncompleteBuffer k) _ asked ends = absurd ends
 
   -- whatever is left where a line was not written
   pub any_torn : (now out_now : Option (List ℕ)) (item : V) (exit : Exit) → WritesLine (IsLine (n + 1) item) mid out_now (Err exit) → InputEnd IsSaid left now (Err exit)
   any_torn now out_now item (exits.Io e) part = tt
   any_torn now out_now item exits.Memory part = tt
-  any_torn now out_now item exits.Done part = absurd part
-  any_torn now out_now item (exits.Refused e) part = absurd part
-  any_torn now out_now item exits.Most part = absurd part
-  any_torn now out_now item exits.Usage part = absurd part
+  any_torn now out_now item _ part = absurd part
 
   -- a line that was not written ends them
   pub ends_torn : (now out_now : Option (List ℕ)) (item : V) (exit : Exit) → Takes IsSaid left now item
@@ -70,31 +63,10 @@ module _ {V : Type 0} (IsLine : ℕ → V → List ℕ → Type 0) (IsSaid : Lis
   ends_torn now out_now item (exits.Io (errors.IoError x)) took part =
       let next : n + 1 ≡ suc n = omega arith in
       (fewer, inr (record { item = item; now = now; took = took; line = part.0; is_line = subst (λ k. IsLine k item part.0) next part.1; out = part.2 }))
-  ends_torn now out_now item (exits.Io (errors.IncompleteBuffer k)) took part = absurd part
-  ends_torn now out_now item (exits.Io (errors.InvalidField t)) took part = absurd part
-  ends_torn now out_now item (exits.Io (errors.Utf8Error x)) took part = absurd part
-  ends_torn now out_now item (exits.Io (errors.FromUtf8Error x)) took part = absurd part
-  ends_torn now out_now item (exits.Io (errors.OutOfMemory x)) took part = absurd part
-  ends_torn now out_now item (exits.Io errors.WriterFailed) took part = absurd part
   ends_torn now out_now item exits.Memory took part = (fewer, part)
-  ends_torn now out_now item exits.Done took part = absurd part
-  ends_torn now out_now item (exits.Refused e) took part = absurd part
-  ends_torn now out_now item exits.Most took part = absurd part
-  ends_torn now out_now item exits.Usage took part = absurd part
+  ends_torn now out_now item _ took part = absurd part
 
 module _ {S V : Type 0} (IsLine : ℕ → V → List ℕ → Type 0) (f : Format S V) (q : S) where
-  -- nothing is listed yet
-  pub listing_none : (before out : Option (List ℕ)) → Listing IsLine f q q before before out out 0
-  listing_none before out = record {
-    items = [];
-    count = refl;
-    leads = refl;
-    took = record { bytes = []; texts = refl; took = Consumes-nil before };
-    lines = [];
-    are_lines = refl;
-    out = Appends-nil out;
-  }
-
   -- one item more, which leads there
   pub listing_more : IsLawful f → (here there : S) (a b c p r t : Option (List ℕ)) (n : ℕ) (item : V) → Listing IsLine f q here a b p r n
       → Takes (f.says here) b c item → f.goes here item ≡ there → WritesLine (IsLine (n + 1) item) r t (Ok tt) → Listing IsLine f q there a c p t (n + 1)
@@ -117,28 +89,15 @@ module _ {O S V : Type 0} (kind : Kind O S V) (most : ℕ) (s : List ℕ) (now b
   opening_shown (errors.IoError x) stands exit ends = rw ends (inl kept)
   opening_shown (errors.InvalidField t) stands exit ends = rw ends (inl (stands, asked, kept))
   opening_shown (errors.Utf8Error x) stands exit ends = rw ends (inl (stands, asked, kept))
-  opening_shown (errors.IncompleteBuffer k) stands exit ends = absurd stands
-  opening_shown (errors.FromUtf8Error x) stands exit ends = absurd stands
-  opening_shown (errors.OutOfMemory x) stands exit ends = absurd stands
-  opening_shown errors.WriterFailed stands exit ends = absurd stands
+  opening_shown _ stands exit ends = absurd stands
 
   opening_io : (e : PcapError) → IsIo e → (exit : Exit) → EndsAt e exit → ListsUntil kind most s now before after exit
   opening_io (errors.IoError x) io exit ends = rw ends (inl kept)
-  opening_io (errors.InvalidField t) io exit ends = absurd io
-  opening_io (errors.Utf8Error x) io exit ends = absurd io
-  opening_io (errors.IncompleteBuffer k) io exit ends = absurd io
-  opening_io (errors.FromUtf8Error x) io exit ends = absurd io
-  opening_io (errors.OutOfMemory x) io exit ends = absurd io
-  opening_io errors.WriterFailed io exit ends = absurd io
+  opening_io _ io exit ends = absurd io
 
   opening_memory : (e : PcapError) → kind.grows → IsMemory e → (exit : Exit) → EndsAt e exit → ListsUntil kind most s now before after exit
-  opening_memory (errors.IoError x) grows memory exit ends = absurd memory
-  opening_memory (errors.InvalidField t) grows memory exit ends = absurd memory
-  opening_memory (errors.Utf8Error x) grows memory exit ends = absurd memory
-  opening_memory (errors.IncompleteBuffer k) grows memory exit ends = absurd memory
-  opening_memory (errors.FromUtf8Error x) grows memory exit ends = absurd memory
   opening_memory (errors.OutOfMemory x) grows memory exit ends = rw ends (inl (grows, kept))
-  opening_memory errors.WriterFailed grows memory exit ends = absurd memory
+  opening_memory _ grows memory exit ends = absurd memory
 
 -- a capture whose opening is refused
 pub lists_none : {O S V : Type 0} (kind : Kind O S V) (most : ℕ) (known now before after : Option (List ℕ)) → Keeps before after → TakesAsked kind.opens known now → (e : PcapError)
@@ -155,17 +114,8 @@ lists_none kind most (Some s) now before after kept asked e grows cause exit end
 module _ {O S V : Type 0} (kind : Kind O S V) (grows : kind.grows) (most : ℕ) (s : List ℕ) (now before after : Option (List ℕ)) (opening : O) (rest : List ℕ) (opens : kind.opens s (whole opening rest)) where
   heading_torn : (exit : Exit) → WritesLine (λ line. line ≡ kind.heading opening) before after (Err exit) → ListsUntil kind most s now before after exit
   heading_torn (exits.Io (errors.IoError x)) part = inr (inl (record { opening = opening; rest = rest; opens = opens; out = subst (λ line. AppendsPart before after line) part.1 part.2 }))
-  heading_torn (exits.Io (errors.IncompleteBuffer k)) part = absurd part
-  heading_torn (exits.Io (errors.InvalidField t)) part = absurd part
-  heading_torn (exits.Io (errors.Utf8Error x)) part = absurd part
-  heading_torn (exits.Io (errors.FromUtf8Error x)) part = absurd part
-  heading_torn (exits.Io (errors.OutOfMemory x)) part = absurd part
-  heading_torn (exits.Io errors.WriterFailed) part = absurd part
   heading_torn exits.Memory part = inl (grows, part)
-  heading_torn exits.Done part = absurd part
-  heading_torn (exits.Refused e) part = absurd part
-  heading_torn exits.Most part = absurd part
-  heading_torn exits.Usage part = absurd part
+  heading_torn _ part = absurd part
 
 -- an opening whose line went out, and the run over the items after it
 module _ {O S V : Type 0} (kind : Kind O S V) (opening : O) (laws : IsLawful (kind.format opening)) (s rest : List ℕ) (opens : kind.opens s (whole opening rest))
@@ -306,15 +256,8 @@ module _ {O S V : Type 0} (kind : Kind O S V) (opening : O) (laws : IsLawful (ki
         | inl kept ↦ let some = lists_some most run.n run.here run.mid run.left run.so_far run.ends.0 in inr (inr (some.0, some.1, inl (rw some.2 kept)))
         | inr part ↦ inr (inr (lists_torn most run.n run.here run.mid after run.left run.so_far run.ends.0 part))
       ]
-  lists_from most now after (Err (exits.Io (errors.IncompleteBuffer k))) run = absurd run.ends
-  lists_from most now after (Err (exits.Io (errors.InvalidField t))) run = absurd run.ends
-  lists_from most now after (Err (exits.Io (errors.Utf8Error x))) run = absurd run.ends
-  lists_from most now after (Err (exits.Io (errors.FromUtf8Error x))) run = absurd run.ends
-  lists_from most now after (Err (exits.Io (errors.OutOfMemory x))) run = absurd run.ends
-  lists_from most now after (Err (exits.Io errors.WriterFailed)) run = absurd run.ends
   lists_from most now after (Err exits.Memory) run = let some = lists_some most run.n run.here run.mid run.left run.so_far run.ends.0 in inr (some.0, some.1, rw some.2 run.ends.1)
-  lists_from most now after (Err exits.Done) run = absurd run.ends
-  lists_from most now after (Err exits.Usage) run = absurd run.ends
+  lists_from most now after _ run = absurd run.ends
 
 -- a capture whose opening was taken
 module _ {O S V : Type 0} (kind : Kind O S V) (stable : IsStable kind.opens) (opening : O) where

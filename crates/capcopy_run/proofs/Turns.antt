@@ -1,7 +1,7 @@
 -- Turns of a list, over any lawful format.
 use Rattle.std.proofs.Common.{◌≡◌, ◌∙◌, ◌<◌, ◌+◌, ◌-◌, ℕ, List, [], ◌++◌, length, take, drop, Bool, true, false, Option, Some, None, Result, Ok, Err, IfSome, refl, sym, ap, subst, arith, length-append, append_assoc, take-append-drop, drop_at}
 use Rattle.std.specs.Io.{StartsWith}
-use Rattle.std.specs.Io.KnownBytes.{Keeps, Consumes, IsAtEnd, prepend_known}
+use Rattle.std.specs.Io.KnownBytes.{Keeps, Consumes, prepend_known}
 use Rattle.std.proofs.KnownBytes.{Consumes-kept, Appends-kept, Keeps-refl, starts_with_rest}
 use Rattle.std.specs.Prelude.{option_map}
 use Rattle.pcap_core.specs.Answer.{whole}
@@ -119,11 +119,6 @@ shown_used shown used (Some xs) (Some ys) front came =
     let all : xs ≡ take used shown ++ (drop used shown ++ behind) =
     starts_with_rest xs shown front ∙ ap (λ l. l ++ behind) (sym (take-append-drop used shown)) ∙ append_assoc (take used shown) (drop used shown) behind in
     sym (drop_at (take used shown) ys (length (take used shown)) refl) ∙ ap (drop (length (take used shown))) (sym came ∙ all) ∙ drop_at (take used shown) (drop used shown ++ behind) (length (take used shown)) refl
-
--- nothing is left where nothing is shown
-pub shown_none : (shown : List ℕ) (left : Option (List ℕ)) → IfSome left (λ xs. length shown ≡ 0 → xs ≡ []) → length shown ≡ 0 → IsAtEnd left
-shown_none shown None end none = tt
-shown_none shown (Some xs) end none = end none
 
 module _ {S V : Type 0} (IsLine : ℕ → V → List ℕ → Type 0) (f : Format S V) (here : S) (left mid kept : Option (List ℕ)) (still : Keeps mid kept) (shown : List ℕ) (front : IfSome left (λ xs. StartsWith xs shown)) (n : ℕ) where
   -- what was listed, with the bytes that are shown and those behind them

@@ -1,5 +1,5 @@
 -- Of a body that begins with numbers exactly one thing is said, where it is of what follows them.
-use Rattle.std.proofs.Common.{◌≡◌, ℕ, ◌<◌, List, length, refl, sym, subst, inl, inr}
+use Rattle.std.proofs.Common.{◌≡◌, ℕ, ◌<◌, List, length, sym, subst, inl, inr}
 use Rattle.std.specs.Prelude.{◌⊎◌}
 use Rattle.pcap_core.specs.Answer.{Order, Verdict, whole, lacks, faulty, Says, Made}
 use Rattle.pcap_core.specs.Faults.{Fault}

@@ -1,5 +1,5 @@
 -- Of all bytes exactly one thing is said as the body of an enhanced packet.
-use Rattle.std.proofs.Common.{ℕ, ◌<◌, List, [], ◌∷◌, length, refl, subst, arith, inl, inr}
+use Rattle.std.proofs.Common.{ℕ, List, [], ◌∷◌, refl, subst, arith, inr}
 use Rattle.pcap_core.specs.Answer.{Order, Number}
 use Rattle.pcap_core.specs.Faults.{Fault, Invalid}
 use Rattle.pcap_core.specs.Laws.{ExactlyOne}

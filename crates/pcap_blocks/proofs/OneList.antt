@@ -8,9 +8,10 @@ use Rattle.pcap_core.proofs.Texts.{number_length}
 use Rattle.pcap_core.specs.Padded.{Chain}
 use Rattle.pcap_blocks.specs.Values.{Kind, Entry}
 use Rattle.pcap_blocks.specs.Options.{CodeLengthText, OptionText, EndMark, OptionFault, OptionSays, Ending, wants_end, may_end_with_body, IsOver, OptionList, marked, with_body, ListSays}
-use Rattle.pcap_core.proofs.Verdicts.{one_moved, Stopped, IsMany, one_stopped, same_whole, whole_no_fault}
+use Rattle.pcap_core.proofs.Verdicts.{one_moved, Stopped, IsMany, one_stopped, whole_no_fault}
 use Rattle.pcap_blocks.proofs.OneOption.{option_one, option_same}
 use Rattle.pcap_core.proofs.OnePadded.{padded_length}
+use Rattle.pcap_core.proofs.Formats.{whole_same}
 
 pub head_length : (order : Order) (code len : ℕ) (s rest : List ℕ) → CodeLengthText order code len s rest → length s ≡ 4 + length rest
 head_length order code len s rest h = omega (arith, number_length order 2 code s h.after_code h.code_is, number_length order 2 len h.after_code rest h.length_is)
@@ -27,7 +28,7 @@ ListStop ending order kind good s (faulty f) = (IsOver ending good → s ≢ [])
 
 pub item_same : (order : Order) (kind : Kind) (o p : Entry) (s a b : List ℕ) → OptionText order kind o s a → OptionText order kind p s b → (o ≡ p) × (a ≡ b)
 item_same order kind o p s a b h k =
-    let same = same_whole (Some p) (Some o) b a (option_same order kind s (whole (Some o) a) (whole (Some p) b) h k) in
+    let same = whole_same (Some p) (Some o) b a (option_same order kind s (whole (Some o) a) (whole (Some p) b) h k) in
     let some = same.0 in
     (cc, sym same.1)
 
@@ -39,7 +40,7 @@ piece_some order kind s a None h z = omega (arith, head_length order 0 h.ignored
 piece_some order kind s a (Some o) h z = omega (arith, item_shorter order kind o s a h, ap length z)
 
 pub marks_same : (ending : Ending) (order : Order) (kind : Kind) (good : List Entry) (s a b : List ℕ) → Ends ending order good s a → Ends ending order good s b → b ≡ a
-marks_same ending order kind good s a b (inl x) (inl y) = (same_whole None None b a (option_same order kind s (whole None a) (whole None b) x y)).1
+marks_same ending order kind good s a b (inl x) (inl y) = (whole_same None None b a (option_same order kind s (whole None a) (whole None b) x y)).1
 marks_same ending order kind good s a b (inl x) (inr y) = absurd (piece_some order kind s a None x y.0)
 marks_same ending order kind good s a b (inr x) (inl y) = absurd (piece_some order kind s b None y x.0)
 marks_same ending order kind good s a b (inr x) (inr y) = y.2 ∙ sym x.2
@@ -59,7 +60,7 @@ stop_same ending order kind good s (faulty f) (whole ps b) h k = absurd (mark_no
 stop_same ending order kind good s (faulty f) (faulty g) h k = let both = option_same order kind s (faulty f) (faulty g) h.1 k.1 in let same : g ≡ f = cc in rw same refl
 
 pub mark_no_item : (ending : Ending) (order : Order) (kind : Kind) (good : List Entry) (s a : List ℕ) (o : Entry) (b : List ℕ) → Ends ending order good s a → OptionText order kind o s b → ⊥
-mark_no_item ending order kind good s a o b (inl x) k = let same = same_whole (Some o) None b a (option_same order kind s (whole None a) (whole (Some o) b) x k) in let none = same.0 in absurd cc
+mark_no_item ending order kind good s a o b (inl x) k = let same = whole_same (Some o) None b a (option_same order kind s (whole None a) (whole (Some o) b) x k) in let none = same.0 in absurd cc
 mark_no_item ending order kind good s a o b (inr x) k = piece_some order kind s b (Some o) k x.0
 
 stop_no_item : (ending : Ending) (order : Order) (kind : Kind) (good : List Entry) (s : List ℕ) (w : Verdict (List Entry)) (o : Entry) (a : List ℕ) → ListStop ending order kind good s w → OptionText order kind o s a → ⊥
@@ -122,4 +123,4 @@ list_kept order kind options s rest (with_body are over none) = with_body are tt
 pub no_others : (order : Order) (kind : Kind) (options others : List Entry) (s rest more : List ℕ) → OptionList wants_end order kind options s rest → OptionList may_end_with_body order kind others s more → (others ≡ options) × (more ≡ rest)
 no_others order kind options others s rest more old new =
     let one = list_one may_end_with_body order kind s in
-    same_whole others options more rest (one.only (whole others more) new ∙ sym (one.only (whole options rest) (list_kept order kind options s rest old)))
+    whole_same others options more rest (one.only (whole others more) new ∙ sym (one.only (whole options rest) (list_kept order kind options s rest old)))

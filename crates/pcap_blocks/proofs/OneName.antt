@@ -11,7 +11,8 @@ use Rattle.pcap_core.specs.Padded.{Chain}
 use Rattle.pcap_blocks.specs.Values.{string_at}
 use Rattle.pcap_blocks.specs.Names.{HasNoZero, NameText, NameFault, unended, no_string, NameSays, NamesSay}
 use Rattle.pcap_blocks.proofs.Naming.{name_shorter}
-use Rattle.pcap_core.proofs.Verdicts.{one_moved, Then, one_then, Stopped, IsMany, one_stopped, same_whole, whole_no_fault}
+use Rattle.pcap_core.proofs.Verdicts.{one_moved, Then, one_then, Stopped, IsMany, one_stopped, whole_no_fault}
+use Rattle.pcap_core.proofs.Formats.{whole_same}
 
 no_zero_head : (b : ℕ) (s : List ℕ) → HasNoZero (b ∷ s) → b ≢ 0
 no_zero_head b s all = all 0 0 (omega arith)
@@ -134,7 +135,7 @@ NamesStop good s (lacks m) = ⊥
 NamesStop good s (faulty f) = (s ≢ []) × NameFault s f
 
 name_same : (n m s a b : List ℕ) → NameText n s a → NameText m s b → (n ≡ m) × (a ≡ b)
-name_same n m s a b h k = same_whole n m a b ((name_one s).only (whole n a) h ∙ sym ((name_one s).only (whole m b) k))
+name_same n m s a b h k = whole_same n m a b ((name_one s).only (whole n a) h ∙ sym ((name_one s).only (whole m b) k))
 
 name_some : (n s a : List ℕ) → NameText n s a → s ≢ []
 name_some n s a h e = omega (arith, name_shorter n s a h, ap length e)

@@ -8,9 +8,10 @@ use Rattle.pcap_core.specs.Padded.{Padded, up_to_4}
 use Rattle.pcap_blocks.specs.Values.{Kind, Entry, Value, Shape, shape_at, value_of, EntrySays}
 use Rattle.pcap_blocks.specs.Options.{CodeLengthText, OptionText, OptionFault, short, cut, wrong, OptionSays}
 use Rattle.pcap_blocks.proofs.ReadOptions.{head_with}
-use Rattle.pcap_core.proofs.Verdicts.{one_moved, Then, one_then, same_whole}
+use Rattle.pcap_core.proofs.Verdicts.{one_moved, Then, one_then}
 use Rattle.pcap_core.proofs.Numbers.{Values, Numbers, NumbersSay, numbers_one}
 use Rattle.pcap_core.proofs.OnePadded.{PaddedSays, padded_one}
+use Rattle.pcap_core.proofs.Formats.{whole_same}
 
 entry : ℕ → Value → Entry
 entry c v = record { code = c; value = v }
@@ -118,7 +119,7 @@ option_to order kind s (faulty f) (wrong _ code v after rest h ne p is) = inr ((
 from_whole : (order : Order) (kind : Kind) (s : List ℕ) (code len : ℕ) (after : List ℕ) → CodeLengthText order code len s after → (p : Option Entry) (rest : List ℕ) → AfterHead order kind code len after (whole p rest) → OptionSays order kind s (whole p rest)
 unfolding AfterHead PieceSays entry
 from_whole order kind s zero len after h p rest k =
-    let same = same_whole p None rest after k in
+    let same = whole_same p None rest after k in
     subst (λ (q : Option Entry). OptionSays order kind s (whole q rest)) (sym same.0) (record { ignored = len; head = subst (λ (x : List ℕ). CodeLengthText order 0 len s x) (sym same.1) h })
 from_whole order kind s (suc c) len after h p rest k =
     let pad : Padded k.0 after rest = subst (λ (x : List ℕ). Padded k.0 after x) (sym k.3.3) k.2.0 in

@@ -9,8 +9,9 @@ use Rattle.pcap_blocks.specs.Values.{Entry}
 use Rattle.pcap_blocks.specs.Options.{may_end_with_body, ListSays}
 use Rattle.pcap_blocks.specs.Record.{NameRecord, End, Ipv4, Ipv6, Other, RecordText, RecordFault, RecordSays}
 use Rattle.pcap_blocks.specs.NameResolution.{name_resolution, Resolution, KeptText, RecordsSay, ResolutionText, in_records, in_options, ResolutionSays}
-use Rattle.pcap_core.proofs.Verdicts.{one_moved, Then, one_then, one_made, Stopped, IsMany, one_stopped, same_whole, whole_no_fault}
+use Rattle.pcap_core.proofs.Verdicts.{one_moved, Then, one_then, one_made, Stopped, IsMany, one_stopped, whole_no_fault}
 use Rattle.pcap_core.proofs.OnePadded.{padded_length}
+use Rattle.pcap_core.proofs.Formats.{whole_same}
 use Rattle.pcap_blocks.proofs.OneRecord.{record_one}
 use Rattle.pcap_blocks.proofs.OneList.{list_one, head_length}
 
@@ -24,7 +25,7 @@ RecordStop order good s (lacks n) = ⊥
 RecordStop order good s (faulty f) = RecordFault order s f
 
 item_same : (order : Order) (r q : NameRecord) (s a b : List ℕ) → KeptText order r s a → KeptText order q s b → (r ≡ q) × (a ≡ b)
-item_same order r q s a b h k = same_whole r q a b (record_same order s (whole q b) (whole r a) k.record_is h.record_is)
+item_same order r q s a b h k = whole_same r q a b (record_same order s (whole q b) (whole r a) k.record_is h.record_is)
 
 item_shorter : (order : Order) (r : NameRecord) (s a : List ℕ) → KeptText order r s a → length a < length s
 item_shorter order r s a h =
@@ -36,7 +37,7 @@ fault_same order s f g h k = let both = record_same order s (faulty f) (faulty g
 
 stop_same : (order : Order) (good : List NameRecord) (s : List ℕ) (v w : Verdict (List NameRecord)) → RecordStop order good s v → RecordStop order good s w → w ≡ v
 unfolding RecordStop
-stop_same order good s (whole rs a) (whole qs b) h k = let same = same_whole End End b a (record_same order s (whole End a) (whole End b) h.1 k.1) in rw (h.0, k.0, same.1) refl
+stop_same order good s (whole rs a) (whole qs b) h k = let same = whole_same End End b a (record_same order s (whole End a) (whole End b) h.1 k.1) in rw (h.0, k.0, same.1) refl
 stop_same order good s (whole rs a) (lacks n) h k = absurd k
 stop_same order good s (whole rs a) (faulty g) h k = absurd (whole_no_fault End a g (record_same order s (faulty g) (whole End a) k h.1))
 stop_same order good s (lacks n) w h k = absurd h
@@ -46,7 +47,7 @@ stop_same order good s (faulty f) (faulty g) h k = rw (fault_same order s f g h 
 
 stop_no_item : (order : Order) (good : List NameRecord) (s : List ℕ) (w : Verdict (List NameRecord)) (r : NameRecord) (a : List ℕ) → RecordStop order good s w → KeptText order r s a → ⊥
 unfolding RecordStop
-stop_no_item order good s (whole rs b) r a h k = k.no_end (same_whole r End a b (record_same order s (whole End b) (whole r a) h.1 k.record_is)).0
+stop_no_item order good s (whole rs b) r a h k = k.no_end (whole_same r End a b (record_same order s (whole End b) (whole r a) h.1 k.record_is)).0
 stop_no_item order good s (lacks n) r a h k = h
 stop_no_item order good s (faulty f) r a h k = whole_no_fault r a f (record_same order s (faulty f) (whole r a) h k.record_is)
 

@@ -22,29 +22,17 @@ entry_held o = record { code = o.code; value = value_held o.value }
 -- the string that a value is, where it is one
 abbrev pub string_in : Value → Option (List ℕ)
 string_in (Str t) = Some t
-string_in (Bytes b) = None
-string_in (Integer n) = None
-string_in (CustomStr pen t) = None
-string_in (CustomBytes pen b) = None
-string_in (Unknown len b) = None
+string_in _ = None
 
 -- the number that a value is, where it is one
 abbrev pub number_in : Value → Option ℕ
-number_in (Str t) = None
-number_in (Bytes b) = None
 number_in (Integer n) = Some n
-number_in (CustomStr pen t) = None
-number_in (CustomBytes pen b) = None
-number_in (Unknown len b) = None
+number_in _ = None
 
 -- the bytes of a value of an unknown option
 abbrev pub unknown_in : Value → Option (List ℕ)
-unknown_in (Str t) = None
-unknown_in (Bytes b) = None
-unknown_in (Integer n) = None
-unknown_in (CustomStr pen t) = None
-unknown_in (CustomBytes pen b) = None
 unknown_in (Unknown len b) = Some b
+unknown_in _ = None
 
 -- what an option of this code holds, where it holds such a value
 abbrev pub under : {X : Type 0} → ℕ → (Value → Option X) → Entry → Option X

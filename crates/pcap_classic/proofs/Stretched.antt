@@ -1,8 +1,6 @@
 -- Packets that lie one behind the other in a buffer, and go out from there.
 use Rattle.std.proofs.Common.{◌≡◌, ◌≤◌, ◌<◌, ℕ, ◌+◌, ◌-◌, List, [], ◌∷◌, ◌++◌, length, take, drop, refl, ap, sym, ◌∙◌, subst, arith, append_assoc, append-nil, length-append, take-append-drop, length-drop, Bool, Some, None, ◌⊎◌, inl, inr}
 use Rattle.std.specs.Prelude.{Option}
-use lib.Seq.{take-append_seam}
-use Rattle.std.proofs.Math.Seq.{drop-append_seam}
 use Rattle.std.proofs.lemmas.Bool.{cases_lt}
 use Rattle.std.proofs.lemmas.List.{append_cancel_right, length-take}
 use Rattle.std.proofs.lemmas.List.Elements.{All-take}
@@ -17,9 +15,10 @@ use Rattle.pcap_core.specs.Bytes.{IsBytes}
 use Rattle.pcap_core.specs.Codec.{number_bytes}
 use Rattle.pcap_core.specs.Format.{Texts}
 use Rattle.pcap_core.specs.Copying as core
+use Rattle.pcap_core.specs.Copying.{each_written}
 use Rattle.pcap_core.specs.Writing.{AppendsPart}
 use Rattle.pcap_core.proofs.Copying.{appends_apart}
-use Rattle.pcap_classic.specs.Copies.{PacketIsSaid, packets_under}
+use Rattle.pcap_classic.specs.Copies.{PacketIsSaid}
 use Rattle.pcap_classic.specs.Magic.{order_of, resolution_of}
 use Rattle.pcap_classic.specs.Packets.{format_under, packet_format, reader_format}
 use Rattle.pcap_classic.specs.PacketText.{Captured, PacketSays, packet_limit}
@@ -27,21 +26,10 @@ use Rattle.pcap_classic.specs.Stretches.{TakesWhole, SendsWhole, SendsTorn, Send
 use Rattle.pcap_classic.specs.Written.{record_bytes, written_under}
 use Rattle.pcap_core.proofs.Formats.{beginning, nil_of_length, text_same, nothing_no_text, texts_more, texts_own, texts_push}
 use Rattle.pcap_core.proofs.Fronts.{stops}
+use Rattle.pcap_core.proofs.Texts.{front_of, rest_of}
 use Rattle.pcap_classic.proofs.Concrete.{back_bytes, packet_written, packets_written}
 use Rattle.pcap_classic.proofs.Copied.{lawful_under}
 use Rattle.pcap_classic.proofs.Packets.{packets_refuse, reader_whole}
-
--- the front of bytes that are it and a rest
-front_of : (bytes front rest : List ℕ) (n : ℕ) → bytes ≡ front ++ rest → n + length rest ≡ length bytes → take n bytes ≡ front
-front_of bytes front rest n split count =
-    let long : n ≡ length front = omega (arith, count, ap length split, length-append front rest) in
-    rw (long, split) (take-append_seam front rest)
-
--- the rest behind a front
-rest_of : (bytes front rest : List ℕ) (n : ℕ) → bytes ≡ front ++ rest → n + length rest ≡ length bytes → drop n bytes ≡ rest
-rest_of bytes front rest n split count =
-    let long : n ≡ length front = omega (arith, count, ap length split, length-append front rest) in
-    rw (long, split) (drop-append_seam front rest)
 
 some_left : (all gone left : List ℕ) → all ≡ gone ++ left → length gone < length all → 0 < length left
 some_left all gone left split longer = omega (arith, longer, ap length {x = all} {y = gone ++ left} split, length-append gone left)
@@ -199,7 +187,7 @@ module _ (header : PcapHeader) where
 
   module _ (out : PcapHeader) (shown rest : List ℕ) (p q : Option (List ℕ)) (n used : ℕ) (count : used + length rest ≡ length shown) where
     -- what went out whole, as the front of the buffer
-    whole_shown : SendsWhole header (written_under out) shown rest p q n → core.SendsWhole (format_under packet_limit header) (packets_under out) tt (take used shown) p q n
+    whole_shown : SendsWhole header (written_under out) shown rest p q n → core.SendsWhole (format_under packet_limit header) (each_written (written_under out)) tt (take used shown) p q n
     whole_shown sent =
         let f = format_under packet_limit header in
         let own = texts_own f (lawful_under header) tt sent.packets shown rest sent.texts in
@@ -212,7 +200,7 @@ module _ (header : PcapHeader) where
         }
 
     -- and so the packet that was torn
-    torn_shown : SendsTorn header (written_under out) shown rest p q n → core.SendsTorn (format_under packet_limit header) (packets_under out) tt (take used shown) p q n
+    torn_shown : SendsTorn header (written_under out) shown rest p q n → core.SendsTorn (format_under packet_limit header) (each_written (written_under out)) tt (take used shown) p q n
     torn_shown sent =
         let f = format_under packet_limit header in
         let laws = lawful_under header in
@@ -231,6 +219,6 @@ module _ (header : PcapHeader) where
         }
 
     pub sends_shown : (most : ℕ) (old new : Bool) (fault : Option PcapError) → Sends header (written_under out) shown rest p q most n old new fault
-        → core.Sends (format_under packet_limit header) (packets_under out) tt (take used shown) p q most n old new fault
+        → core.Sends (format_under packet_limit header) (each_written (written_under out)) tt (take used shown) p q most n old new fault
     sends_shown most old new None sends = (whole_shown sends.0, sends.1, sends.2)
     sends_shown most old new (Some e) sends = (torn_shown sends.0, sends.1, sends.2, sends.3)

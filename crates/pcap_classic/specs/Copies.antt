@@ -1,9 +1,7 @@
 -- What a copy takes and writes.
-use Rattle.std.specs.Prelude.{◌≡◌, ◌<◌, ◌≤◌, ◌⊎◌, ℕ, List, [], ◌∷◌, ◌++◌, length, IsTrue, Bool, true, false, Option, None, Some, IfSome, Result, Ok, Err}
+use Rattle.std.specs.Prelude.{◌≡◌, ◌≤◌, ◌⊎◌, ℕ, List, [], ◌∷◌, ◌++◌, length, IsTrue, true, false, Option, None, Some, IfSome, Result, Ok, Err}
 use Rattle.std.specs.Option.{IsSomeAnd}
-use Rattle.std.specs.Result.{result_err}
-use Rattle.std.specs.List.{flat_map}
-use Rattle.std.specs.Io.KnownBytes.{Appends, Keeps, IsAtEnd}
+use Rattle.std.specs.Io.KnownBytes.{Appends, Keeps}
 use Rattle.pcap_core.specs.declared.errors.PcapError.{PcapError}
 use Rattle.pcap_classic.specs.declared.pcap.header.PcapHeader.{PcapHeader}
 use Rattle.pcap_core.specs.declared.rules.Rule.TheVariants.{CaptureMagic}
@@ -12,7 +10,8 @@ use Rattle.pcap_classic.specs.declared.run.copy.Under.{Under}
 use Rattle.pcap_classic.specs.declared.run.copy.Under.TheVariants.{Same, Header, Order}
 use Rattle.pcap_core.specs.declared.stream.copying.Tally.{Tally}
 use Rattle.pcap_core.specs.Answer.{Verdict, whole}
-use Rattle.pcap_core.specs.Copying.{NothingCopied}
+use Rattle.pcap_core.specs.Copying as core
+use Rattle.pcap_core.specs.Copying.{NothingCopied, each_written}
 use Rattle.pcap_core.specs.Errors.{IsMemory, IsIo}
 use Rattle.pcap_core.specs.Faults.{Names}
 use Rattle.pcap_core.specs.Format.{Texts}
@@ -21,8 +20,8 @@ use Rattle.pcap_classic.specs.HeaderText.{HeaderText, HeaderSays}
 use Rattle.pcap_classic.specs.Magic.{magic_for, is_magic}
 use Rattle.pcap_classic.specs.Packets.{format_under}
 use Rattle.pcap_classic.specs.PacketText.{Captured, packet_limit}
-use Rattle.pcap_core.specs.Reading.{Takes, TakesAsked, HasCause, ReadsTold}
-use Rattle.pcap_core.specs.Takes.{TakesTexts}
+use Rattle.pcap_core.specs.Reading.{Takes, ReadsTold}
+use Rattle.pcap_core.specs.Takes.{EndsFront}
 use Rattle.pcap_classic.specs.Writing.{IsWritable}
 use Rattle.pcap_core.specs.Writing.{AppendsPart, WritesAll}
 use Rattle.pcap_classic.specs.Written.{written_header, written_under, capture}
@@ -43,23 +42,9 @@ CanBeUnder (Order e r) = Unit {0}
 abbrev pub PacketIsSaid : PcapHeader → List ℕ → Verdict Captured → Type 0
 PacketIsSaid header = (format_under packet_limit header).says tt
 
--- nothing was copied yet, and nothing failed
-pub record IsNew (copied : Copied) : Type 0 where
-  pub none : copied.packets ≡ 0
-  pub no_read_failed : copied.read_failed ≡ false
-  pub no_write_failed : copied.write_failed ≡ false
-
--- a copy that ended with this result
-abbrev pub outcome_of : Copied → Result (Unit {0}) PcapError → Copied
-outcome_of copied result = record copied { fault = result_err result }
-
 -- a copy that came so far, and ended with this fault, or none
 abbrev pub copied_of : Tally → Option PcapError → Copied
 copied_of tally fault = record { packets = tally.items; fault = fault; read_failed = tally.read_failed; write_failed = tally.write_failed }
-
--- what is written of packets under a header, whatever their bytes were
-abbrev pub packets_under : PcapHeader → List Captured → List ℕ → List ℕ
-packets_under out packets bytes = flat_map (written_under out) packets
 
 -- the item that the held bytes are was written, or a write failed
 abbrev pub WritesHeld : {V : Type 0} → (List ℕ → Verdict V → Type 0) → (V → List ℕ) → List ℕ → Option (List ℕ) → Option (List ℕ) → Result (Unit {0}) PcapError → Type 0
@@ -94,53 +79,15 @@ pub record TearsHeader (under : Under) (before now out_before out_now : Option (
   pub write_failed : copied.write_failed ≡ true
   pub out : AppendsPart out_before out_now (written_header (header_under under header))
 
--- Behind so many packets the copy ended without a refusal: at an end, or at the most packets.
-pub record EndsWhole (IsEnd : Type 0) (left now mid out_now : Option (List ℕ)) (most : ℕ) (copied : Copied) : Type 0 where
-  pub fine : copied.fault ≡ None
-  pub within : copied.packets ≤ most
-  pub no_read_failed : copied.read_failed ≡ false
-  pub no_write_failed : copied.write_failed ≡ false
-  pub taken : Keeps left now
-  pub out : Keeps mid out_now
-  pub why : IsEnd ⊎ (copied.packets ≡ most)
+-- why a copy of packets behind a header ended, of each of which such a text is written
+abbrev pub Ends : (Captured → List ℕ) → PcapHeader → Option (List ℕ) → Option (List ℕ) → Option (List ℕ) → Option (List ℕ) → ℕ → Copied → Type 0
+Ends text header left now mid out_now most copied =
+    core.Ends (each_written text) (PacketIsSaid header) left now mid out_now most copied.packets copied.fault copied.read_failed copied.write_failed
 
--- Behind them a write failed in the text of the next packet.
-pub record EndsTorn (IsNext : Captured → Type 0) (under : PcapHeader) (mid out_now : Option (List ℕ)) (most : ℕ) (copied : Copied) : Type 0 where
-  pub packet : Captured
-  pub next : IsNext packet
-  pub fewer : copied.packets < most
-  pub refused : IsSomeAnd copied.fault IsIo
-  pub no_read_failed : copied.read_failed ≡ false
-  pub write_failed : copied.write_failed ≡ true
-  pub out : AppendsPart mid out_now (written_under under packet)
-
--- Behind them the reader refused what is left, took a part of it, and nothing more went out.
-pub record CopyEndsRefused (IsCause : PcapError → Type 0) (IsPart : Type 0) (mid out_now : Option (List ℕ)) (most : ℕ) (copied : Copied) : Type 0 where
-  pub fewer : copied.packets < most
-  pub refused : IsSomeAnd copied.fault IsCause
-  pub part : IsPart
-  pub no_write_failed : copied.write_failed ≡ false
-  pub out : Keeps mid out_now
-
--- why a copy ended behind so many packets
-abbrev pub Ends : Type 0 → (Captured → Type 0) → (PcapError → Type 0) → Type 0 → PcapHeader → Option (List ℕ) → Option (List ℕ) → Option (List ℕ) → Option (List ℕ) → ℕ → Copied → Type 0
-Ends IsEnd IsNext IsCause IsPart under left now mid out_now most copied =
-    EndsWhole IsEnd left now mid out_now most copied ⊎ EndsTorn IsNext under mid out_now most copied ⊎ CopyEndsRefused IsCause IsPart mid out_now most copied
-
--- So many packets behind a header were taken, and went out under another.
-pub record Copying (header under : PcapHeader) (before now out_before out_now : Option (List ℕ)) (n : ℕ) : Type 0 where
-  pub packets : List Captured
-  pub count : length packets ≡ n
-  pub took : TakesTexts (format_under packet_limit header) tt packets before now
-  pub out : Appends out_before out_now (flat_map (written_under under) packets)
-
--- Packets behind a header were copied to behind another, until the copy ended.
-pub record CopiesBehind (header under : PcapHeader) (before now out_before out_now : Option (List ℕ)) (most : ℕ) (copied : Copied) : Type 0 where
-  pub left : Option (List ℕ)
-  pub mid : Option (List ℕ)
-  pub so_far : Copying header under before left out_before mid copied.packets
-  pub ends : Ends (IsAtEnd left) (Takes (PacketIsSaid header) left now) (HasCause (PacketIsSaid header) left copied.read_failed)
-      (TakesAsked (PacketIsSaid header) left now) under left now mid out_now most copied
+-- such packets were copied, until the copy ended
+abbrev pub CopiesBehind : (Captured → List ℕ) → PcapHeader → Option (List ℕ) → Option (List ℕ) → Option (List ℕ) → Option (List ℕ) → ℕ → Copied → Type 0
+CopiesBehind text header before now out_before out_now most copied =
+    core.CopiesBehind (format_under packet_limit header) (each_written text) tt before now out_before out_now most copied.packets copied.fault copied.read_failed copied.write_failed
 
 -- The header was taken and went out, and then packets.
 pub record CopiesPackets (under : Under) (before now out_before out_now : Option (List ℕ)) (most : ℕ) (copied : Copied) : Type 0 where
@@ -150,7 +97,7 @@ pub record CopiesPackets (under : Under) (before now out_before out_now : Option
   pub valid : CanBeUnder under
   pub read : Takes HeaderSays before behind header
   pub out : Appends out_before out_behind (written_header (header_under under header))
-  pub packets : CopiesBehind header (header_under under header) behind now out_behind out_now most copied
+  pub packets : CopiesBehind (written_under (header_under under header)) header behind now out_behind out_now most copied
 
 -- One copy: the header that is given is refused, or the reader's, or a write failed in the header's text, or packets were copied.
 abbrev pub Copies : Type 0 → Under → Option (List ℕ) → Option (List ℕ) → Option (List ℕ) → Option (List ℕ) → Copied → Type 0
@@ -183,15 +130,6 @@ CopyRun under before now out_before out_now most copied = Copies (CopiesPackets 
 abbrev pub CaptureTexts : PcapHeader → List Captured → List ℕ → List ℕ → Type 0
 CaptureTexts header packets s left = (after : List ℕ) × HeaderText header s after × Texts (format_under packet_limit header) tt packets after left
 
--- why packets behind some of the front's were refused: a read failed, or memory, or they are all and the rest is refused
-abbrev pub StopsFront : PcapHeader → List Captured → List ℕ → Bool → PcapError → Type 0
-StopsFront header more rest failed e =
-    (IsIo e × (failed ≡ true)) ⊎ (IsMemory e × (failed ≡ false)) ⊎ ((more ≡ []) × HasCause (PacketIsSaid header) (Some rest) failed e)
-
--- this packet is the next of the front, and exactly its text was taken
-abbrev pub TakesNext : PcapHeader → List Captured → List ℕ → Option (List ℕ) → Captured → Type 0
-TakesNext header more left now packet = ((others : List Captured) × (more ≡ packet ∷ others)) × Takes (PacketIsSaid header) (Some left) now packet
-
 -- The packets that went out are a beginning of the front's. Without a refusal exactly the header and these were taken, and
 -- they are all, with nothing behind them, or the first `most`. A failed write tore the next packet of the front, which was
 -- taken. A refusal of the reader's is that of the rest, behind all packets of the front, and no more was taken than was
@@ -207,9 +145,11 @@ pub record CopiesFront (under : Under) (bytes : List ℕ) (now out_before out_no
   pub front : CaptureFront packet_limit header (packets ++ more) bytes rest
   pub texts : CaptureTexts header packets bytes left
   pub count : length packets ≡ copied.packets
+  pub within : copied.packets ≤ most
   pub out : Appends out_before mid (capture (header_under under header) packets)
-  pub ends : Ends ((more ≡ []) × (rest ≡ [])) (TakesNext header more left now) (StopsFront header more rest copied.read_failed)
-      (TakesAsked (PacketIsSaid header) (Some left) now) (header_under under header) (Some left) now mid out_now most copied
+  pub ends : Ends (written_under (header_under under header)) header (Some left) now mid out_now most copied
+  pub wrote : copied.write_failed ≡ false → EndsFront (PacketIsSaid header) rest more copied.read_failed copied.packets most copied.fault
+  pub tore : copied.write_failed ≡ true → (packet : Captured) × (others : List Captured) × (more ≡ packet ∷ others) × Takes (PacketIsSaid header) (Some left) now packet
 
 -- What holds where the reader tells its bytes.
 abbrev pub CopyFront : Under → List ℕ → Option (List ℕ) → Option (List ℕ) → Option (List ℕ) → ℕ → Copied → Type 0

@@ -23,7 +23,7 @@ ghost use Rattle.pcap_classic.specs.Run.{IsRun, HasPacket};
 
 use crate::pcap::{Packet, PcapHeader, PcapParser, PcapReader};
 pub use buffered::copy_buffered;
-pub use copy::{Copied, Under, copy_pcap};
+pub use copy::{Copied, PacketsAhead, PutsPacket, Under, copy_pcap, end_copy};
 pub use exact::exact_pcap;
 pub use pcap_core::Rest;
 use pcap_core::run::parse_items;

@@ -1,27 +1,25 @@
 -- Items that are copied, one after another, over any format.
-use Rattle.std.proofs.Common.{◌≡◌, ◌<◌, ◌≤◌, ◌+◌, ℕ, List, [], ◌∷◌, ◌++◌, Bool, refl, ap, sym, ◌∙◌, subst, arith, length-append, append_assoc, ◌⊎◌, inl, inr, Ok, Err, Some, None, true, false}
+use Rattle.std.proofs.Common.{◌≡◌, ◌<◌, ◌≤◌, ◌+◌, ℕ, List, [], ◌∷◌, ◌++◌, Bool, refl, ap, sym, ◌∙◌, subst, arith, length-append, append_assoc, ◌⊎◌, inl, inr, Err, Some, None, true, false}
 use Rattle.std.specs.Prelude.{Option, IfSome}
-use Rattle.std.specs.Io.KnownBytes.{Consumes, Appends, IsAtEnd}
-use Rattle.std.proofs.KnownBytes.{Consumes-nil, Consumes-trans, Appends-nil, Appends-trans}
+use Rattle.std.specs.Io.KnownBytes.{Consumes, Appends, Keeps, IsAtEnd}
+use Rattle.std.proofs.KnownBytes.{Consumes-nil, Consumes-trans, Appends-nil, Appends-trans, Appends-kept}
+use Rattle.std.proofs.lemmas.Bool.{true≢false}
+use Rattle.std.proofs.lemmas.Grind.{flat_map-append}
 use Rattle.pcap_core.specs.declared.errors.PcapError.{PcapError}
 use Rattle.pcap_core.specs.declared.errors.PcapError.TheVariants as errors
 use Rattle.pcap_core.specs.declared.stream.copying.Tally.{Tally}
-use Rattle.pcap_core.specs.Answer.{whole}
-use Rattle.pcap_core.specs.Copying.{IsWriting, EndsWhole, Fails, CopiesTexts, CopiesTo, FailsBehind, CopiesBehind, SendsWhole, SendsTorn}
+use Rattle.pcap_core.specs.Answer.{Verdict, whole}
+use Rattle.pcap_core.specs.Copying.{IsWriting, each_written, EndsWhole, Fails, CopiesTexts, CopiesTo, FailsBehind, CopiesBehind, Ends, SendsWhole, SendsTorn}
 use Rattle.pcap_core.specs.Errors.{IsIo}
 use Rattle.pcap_core.specs.Format.{Format, state_after, IsLawful}
+use Rattle.pcap_core.specs.Takes.{Stops, TakesItems}
 use Rattle.pcap_core.specs.Writing.{AppendsPart, WritesAll}
 use Rattle.pcap_core.proofs.Formats.{texts_more, texts_all}
 
 -- a write is refused only where it failed
 pub torn_write : (bytes : List ℕ) (mid out : Option (List ℕ)) (e : PcapError) → WritesAll mid out bytes (Err e) → IsIo e × AppendsPart mid out bytes
 torn_write bytes mid out (errors.IoError x) part = (tt, part)
-torn_write bytes mid out (errors.IncompleteBuffer n) part = absurd part
-torn_write bytes mid out (errors.InvalidField t) part = absurd part
-torn_write bytes mid out (errors.Utf8Error x) part = absurd part
-torn_write bytes mid out (errors.FromUtf8Error x) part = absurd part
-torn_write bytes mid out (errors.OutOfMemory x) part = absurd part
-torn_write bytes mid out errors.WriterFailed part = absurd part
+torn_write bytes mid out _ part = absurd part
 
 -- a reader that shows nothing is at its end
 pub shows_nothing : (a : Option (List ℕ)) (n : ℕ) → n ≡ 0 → IfSome a (λ xs. n ≡ 0 → xs ≡ []) → IsAtEnd a
@@ -43,6 +41,19 @@ consumes_apart (Some x) (Some z) first second took = (Some (second ++ z), took �
 pub state_all : {S V : Type 0} (f : Format S V) (q : S) (vs ws : List V) → state_after f q (vs ++ ws) ≡ state_after f (state_after f q vs) ws
 state_all f q [] ws = refl
 state_all f q (v ∷ vs) ws = state_all f (f.goes q v) vs ws
+
+pub each_writing : {V : Type 0} (text : V → List ℕ) → IsWriting (each_written text)
+each_writing text = record { nothing = refl; joined = λ vs ws s t. flat_map-append text vs ws }
+
+-- why a copy ended in which no write failed
+pub ends_stops : {V : Type 0} (written : List V → List ℕ → List ℕ) (IsSaid : List ℕ → Verdict V → Type 0) (left now mid out : Option (List ℕ)) (most n : ℕ) (fault : Option PcapError)
+    (read_failed write_failed : Bool) → write_failed ≡ false → Ends written IsSaid left now mid out most n fault read_failed write_failed
+    → Stops IsSaid left now read_failed n most fault × Keeps mid out
+ends_stops written IsSaid left now mid out most n None read_failed write_failed unfailed (inl whole_ones) = ((whole_ones.0.no_read_failed, whole_ones.0.taken, whole_ones.1), whole_ones.0.out)
+ends_stops written IsSaid left now mid out most n (Some e) read_failed write_failed unfailed (inl whole_ones) = absurd (let none : Some e ≡ None = whole_ones.0.fine in cc)
+ends_stops written IsSaid left now mid out most n fault read_failed write_failed unfailed (inr (few, inl tear)) = absurd (true≢false (sym tear.write_failed ∙ unfailed))
+ends_stops written IsSaid left now mid out most n None read_failed write_failed unfailed (inr (few, inr bad)) = absurd bad.refused
+ends_stops written IsSaid left now mid out most n (Some e) read_failed write_failed unfailed (inr (few, inr bad)) = ((few, bad.refused, bad.part), bad.out)
 
 module _ {S V : Type 0} (f : Format S V) (written : List V → List ℕ → List ℕ) (writing : IsWriting written) where
   pub copies_none : (q : S) (before out : Option (List ℕ)) → CopiesTexts f written q [] before before out out
@@ -108,7 +119,8 @@ module _ {S V : Type 0} (f : Format S V) (written : List V → List ℕ → List
 
     -- a fault behind items
     pub to_fails : (q p : S) (a b now s r out : Option (List ℕ)) (n most few : ℕ) (tally : Tally) (e : PcapError) → CopiesTo f written q p a b s r 0 n
-        → FailsBehind f written p b now r out n few tally.items (Some e) tally.read_failed tally.write_failed → few ≤ most → CopiesBehind f written q a now s out most tally (Err e)
+        → FailsBehind f written p b now r out n few tally.items (Some e) tally.read_failed tally.write_failed → few ≤ most
+        → CopiesBehind f written q a now s out most tally.items (Some e) tally.read_failed tally.write_failed
     to_fails q p a b now s r out n most few tally e so_far fails within =
         let all = to_all q p p a b fails.left s r fails.mid 0 n tally.items so_far fails.so_far in
         record {
@@ -126,7 +138,8 @@ module _ {S V : Type 0} (f : Format S V) (written : List V → List ℕ → List
 
   -- the end behind items
   pub to_ends : (q p : S) (a b now s r out : Option (List ℕ)) (n most : ℕ) (tally : Tally) → CopiesTo f written q p a b s r 0 n → tally.items ≡ n → n ≤ most
-      → EndsWhole b now r out None tally.read_failed tally.write_failed → IsAtEnd b ⊎ (tally.items ≡ most) → CopiesBehind f written q a now s out most tally (Ok tt)
+      → EndsWhole b now r out None tally.read_failed tally.write_failed → IsAtEnd b ⊎ (tally.items ≡ most)
+      → CopiesBehind f written q a now s out most tally.items None tally.read_failed tally.write_failed
   to_ends q p a b now s r out n most tally so_far same few ends why = record {
     items = so_far.items;
     left = b;
@@ -136,3 +149,19 @@ module _ {S V : Type 0} (f : Format S V) (written : List V → List ℕ → List
     within = omega (arith, same, few);
     ends = inl (ends, why);
   }
+
+  -- what a copy took in which no write failed, and what went out
+  pub copies_take : (q : S) (before now out out_now : Option (List ℕ)) (most n : ℕ) (fault : Option PcapError) (read_failed write_failed : Bool) → write_failed ≡ false
+      → (c : CopiesBehind f written q before now out out_now most n fault read_failed write_failed)
+      → TakesItems f q before now read_failed most c.items fault × Appends out out_now (written c.items c.texts.bytes)
+  copies_take q before now out out_now most n fault read_failed write_failed unfailed c =
+      let IsSaid = f.says (state_after f q c.items) in
+      let ended = ends_stops written IsSaid c.left now c.mid out_now most n fault read_failed write_failed unfailed c.ends in (
+        record {
+          left = c.left;
+          took = record { bytes = c.texts.bytes; texts = c.texts.texts; took = c.texts.took };
+          within = omega (arith, c.count, c.within);
+          stops = subst (λ (k : ℕ). Stops IsSaid c.left now read_failed k most fault) c.count ended.0;
+        },
+        Appends-kept out c.mid out_now (written c.items c.texts.bytes) c.texts.went ended.1,
+      )

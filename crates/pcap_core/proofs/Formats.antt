@@ -1,5 +1,5 @@
 -- What follows from the laws of a format.
-use Rattle.std.proofs.Common.{◌≡◌, ℕ, zero, suc, ◌+◌, ◌-◌, ◌<◌, ◌≤◌, List, [], ◌∷◌, ◌++◌, length, refl, sym, ap, subst, ◌∙◌, arith, append_assoc, append-nil, length-append, ◌⊎◌, inl, inr}
+use Rattle.std.proofs.Common.{◌≡◌, ℕ, zero, suc, ◌+◌, ◌-◌, ◌<◌, ◌≤◌, List, [], ◌∷◌, ◌++◌, length, refl, sym, ap, subst, ◌∙◌, arith, append_assoc, append-nil, length-append, inl, inr}
 use Rattle.std.proofs.Common.{take, drop}
 use Rattle.std.proofs.lemmas.List.{length-take, take-append-drop}
 use Rattle.std.specs.Prelude.{nat_lt, if◌then◌else◌}
@@ -14,7 +14,7 @@ pub nil_of_length : (l : List ℕ) → length l ≡ 0 → l ≡ []
 nil_of_length [] e = refl
 nil_of_length (x ∷ xs) e = absurd (omega (arith, e))
 
-cons_same : {A : Type 0} (x y : A) (xs ys : List A) → x ≡ y → xs ≡ ys → x ∷ xs ≡ y ∷ ys
+pub cons_same : {A : Type 0} (x y : A) (xs ys : List A) → x ≡ y → xs ≡ ys → x ∷ xs ≡ y ∷ ys
 cons_same x y xs ys a b = rw (a, b) refl
 
 -- of two beginnings of one list the shorter begins the longer
@@ -28,7 +28,7 @@ beginning (c ∷ a) x (d ∷ b) y e le =
     let r = beginning a x b y tails less in
     (r.0, cons_same d c b (a ++ r.0) (sym first) r.1, r.2)
 
-whole_same : {V : Type 0} (v w : V) (a b : List ℕ) → whole v a ≡ whole w b → (v ≡ w) × (a ≡ b)
+pub whole_same : {V : Type 0} (v w : V) (a b : List ℕ) → whole v a ≡ whole w b → (v ≡ w) × (a ≡ b)
 whole_same v w a b e = (cc, cc)
 
 pair_same : {A B : Type 0} (a b : A) (x y : B) → (a ≡ b) × (x ≡ y) → Path (A × B) (a, x) (b, y)
@@ -170,10 +170,6 @@ module _ {S V : Type 0} (f : Format S V) (laws : IsLawful f) where
         (more.0, (laws.stable q).text one.0 more.0 [] v one.2, more.2),
       )
 
-  pub front_grows : (q : S) (vs ws : List V) (s more a b : List ℕ) → Front f q vs s a → Front f q ws (s ++ more) b
-      → (new : List V) × (ws ≡ vs ++ new) × Front f (state_after f q vs) new (a ++ more) b
-  front_grows q vs ws s more a b x y = front_goes_on q vs ws (s ++ more) (a ++ more) b (texts_more q vs s a more x.texts) y
-
   -- where no text begins what is left behind some items, they are all
   pub nothing_more : (q : S) (more : List V) (mid rest : List ℕ) → Front f q more mid rest → ((v : V) (after : List ℕ) → f.says q mid (whole v after) → ⊥) → (more ≡ []) × (rest ≡ mid)
   nothing_more q [] mid rest front none = (refl, sym front.texts)
@@ -254,24 +250,6 @@ module _ {S V : Type 0} (f : Format S V) (laws : IsLawful f) where
       said (whole w after) x =
           let same = text_same q w v (s ++ more) (after ++ more) rest ((laws.stable q).text s more after w x) text in
           absurd (omega (arith, lt, ap length same.1, length-append after more))
-
-  asks_sum : (q : S) (n : ℕ) (s t : List ℕ) → Asks f q (n ∷ []) s t → length s + n ≡ length t
-  asks_sum q n s t asked = omega (arith, asked.2, ap length asked.3, length-append s asked.0)
-
-  -- The requests of an item, from nothing: a head, and where the text is longer, what is missing to it.
-  pub requests_are : (q : S) (v : V) (t : List ℕ) (ns : List ℕ) → f.says q t (whole v []) → Asks f q ns [] t
-      → ((ns ≡ f.head ∷ []) × (length t ≡ f.head)) ⊎ ((k : ℕ) × (ns ≡ f.head ∷ k ∷ []) × (f.head + k ≡ length t))
-  requests_are q v t [] text asked = absurd (nothing_no_text q v [] (subst (λ (u : List ℕ). f.says q u (whole v [])) (sym asked) text))
-  requests_are q v t (n ∷ []) text asked =
-      let sum : length {A = ℕ} [] + n ≡ f.head = short_asks q [] n laws.some asked.1 in
-      let is : n ≡ f.head = omega (arith, sum) in
-      let all : length {A = ℕ} [] + n ≡ length t = asks_sum q n [] t asked in
-      inl (cons_same n f.head [] [] is refl, omega (arith, is, all))
-  requests_are q v t (n ∷ k ∷ []) text asked =
-      let sum : length {A = ℕ} [] + n ≡ f.head = short_asks q [] n laws.some asked.1 in
-      let is : n ≡ f.head = omega (arith, sum) in
-      inr (k, cons_same n f.head (k ∷ []) (k ∷ []) is refl, omega (arith, is, asked.2, asks_sum q k ([] ++ asked.0) t asked.3))
-  requests_are q v t (n ∷ k ∷ m ∷ ns) text asked = absurd (omega (arith, asks_twice q (n ∷ k ∷ m ∷ ns) [] t asked))
 
   -- behind a head the request is for all the rest of the text
   pub second_is_all : (q : S) (v : V) (h b : List ℕ) (k : ℕ) → f.head ≤ length h → f.says q (h ++ b) (whole v []) → f.says q h (lacks k) → k ≡ length b

@@ -1,13 +1,13 @@
 -- Where a run over a slice stops.
-use Rattle.std.proofs.Common.{◌≡◌, [], ◌∷◌, ◌++◌, subst, ◌<◌, ◌∙◌, sym, length, ℕ, List}
+use Rattle.std.proofs.Common.{◌≡◌, ◌<◌, ◌∙◌, sym, length, ℕ, List}
 use Rattle.pcap_core.specs.Faults.{Invalid, Io, Utf8}
 use Rattle.pcap_core.specs.declared.errors.PcapError.{PcapError}
 use Rattle.pcap_core.specs.declared.errors.PcapError.TheVariants as errors
 use Rattle.pcap_core.specs.Answer.{Verdict, whole, lacks, faulty, Refuses}
-use Rattle.pcap_core.specs.Format.{Format, Texts, state_after, Front, IsLawful}
+use Rattle.pcap_core.specs.Format.{Format, IsLawful}
 use Rattle.pcap_core.specs.Laws.{ExactlyOne}
 use Rattle.pcap_core.specs.Run.{IsRest, rest_after}
-use Rattle.pcap_core.proofs.Formats.{lacks_no_text, fault_no_text, has_front, front_goes_on, texts_push}
+use Rattle.pcap_core.proofs.Formats.{lacks_no_text, fault_no_text}
 
 -- where an item is refused, that is what is said of the rest, and no item begins it
 pub record StopsAt {S V : Type 0} (f : Format S V) (q : S) (left : List ℕ) (e : PcapError) : Type 0 where
@@ -34,27 +34,3 @@ said_not_refused IsSaid one v rest text (errors.Utf8Error e) h = let no : faulty
 said_not_refused IsSaid one v rest text (errors.FromUtf8Error e) h = h
 said_not_refused IsSaid one v rest text (errors.OutOfMemory e) h = h
 said_not_refused IsSaid one v rest text errors.WriterFailed h = h
-
--- bytes that an item's text begins are not refused
-pub whole_not_refused : {S V : Type 0} (f : Format S V) → IsLawful f → (q : S) (s : List ℕ) (v : V) (rest : List ℕ) → f.says q s (whole v rest)
-    → (e : PcapError) → Refuses ⊥ (λ n. f.says q s (lacks n)) (λ fault. f.says q s (faulty fault)) e → ⊥
-whole_not_refused f laws q s v rest text (errors.IncompleteBuffer n) h = lacks_no_text f laws q n s h v rest text
-whole_not_refused f laws q s v rest text (errors.InvalidField t) h = fault_no_text f laws q (Invalid h.0) s h.2 v rest text
-whole_not_refused f laws q s v rest text (errors.IoError e) h = fault_no_text f laws q Io s h v rest text
-whole_not_refused f laws q s v rest text (errors.Utf8Error e) h = fault_no_text f laws q Utf8 s h v rest text
-whole_not_refused f laws q s v rest text (errors.FromUtf8Error e) h = h
-whole_not_refused f laws q s v rest text (errors.OutOfMemory e) h = h
-whole_not_refused f laws q s v rest text errors.WriterFailed h = h
-
-first_of : {V : Type 0} (vs more all : List V) (v : V) → all ≡ (vs ++ v ∷ []) ++ more → (first : V) × (others : List V) × (all ≡ first ∷ others)
-first_of [] more all v e = (v, more, e)
-first_of (w ∷ ws) more all v e = (w, (ws ++ v ∷ []) ++ more, e)
-
--- where an item was found, the front has a first one
-pub front_some : {S V : Type 0} (f : Format S V) → IsLawful f → (q : S) (vs : List V) (v : V) (s left rest : List ℕ) → Texts f q vs s left → f.says (state_after f q vs) left (whole v rest)
-    → (first : V) × (others : List V) × (end : List ℕ) × Front f q (first ∷ others) s end
-front_some {V = V} f laws q vs v s left rest texts text =
-    let front = has_front f laws q s in
-    let on = front_goes_on f laws q (vs ++ v ∷ []) front.0 s rest front.1 (texts_push f q vs v s left rest texts text) front.2 in
-    let first = first_of vs on.0 front.0 v on.1 in
-    (first.0, first.1, front.1, subst (λ (l : List V). Front f q l s front.1) first.2 front.2)

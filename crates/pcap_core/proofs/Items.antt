@@ -22,10 +22,7 @@ pub shows_said : {V : Type 0} (IsSaid : Verdict V → Type 0) (e : PcapError) �
 shows_said IsSaid (errors.InvalidField text) shown = (Invalid shown.0, (shown.0, shown.1, refl), shown.2)
 shows_said IsSaid (errors.IoError e) shown = (Io, refl, shown)
 shows_said IsSaid (errors.Utf8Error e) shown = (Utf8, refl, shown)
-shows_said IsSaid (errors.IncompleteBuffer n) shown = absurd shown
-shows_said IsSaid (errors.FromUtf8Error e) shown = absurd shown
-shows_said IsSaid (errors.OutOfMemory e) shown = absurd shown
-shows_said IsSaid errors.WriterFailed shown = absurd shown
+shows_said IsSaid _ shown = absurd shown
 
 pub said_shows : {V : Type 0} (IsSaid : Verdict V → Type 0) (e : PcapError) → ShowsSaid ShowsFault IsSaid e → Shows (λ fault. IsSaid (faulty fault)) e
 said_shows IsSaid e said = shows_more {P = λ fault. fault ≡ said.0} {Q = λ fault. IsSaid (faulty fault)} (λ fault same. rw same said.2) e said.1

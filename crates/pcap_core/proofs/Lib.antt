@@ -11,6 +11,7 @@ pub mod Pulling
 pub mod Asked
 pub mod Taking
 pub mod Copying
+pub mod Accepted
 pub mod AsTheyCame
 pub mod Filled
 pub mod Padded

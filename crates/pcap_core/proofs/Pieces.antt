@@ -1,6 +1,6 @@
 -- Bytes that come in pieces, over any format.
 use Rattle.std.proofs.Common.{◌≡◌, ◌<◌, ◌≤◌, ◌+◌, ◌-◌, ℕ, List, [], ◌∷◌, ◌++◌, suc, length, take, drop, false, Result, Ok, Err, refl, sym, ap, subst, ◌∙◌, arith, append_assoc, append-nil, length-append, length-drop, inl, inr}
-use Rattle.std.specs.Prelude.{⊤, All, IfOk, replicate, ◌==◌}
+use Rattle.std.specs.Prelude.{⊤, All, replicate, ◌==◌}
 use Rattle.std.specs.Borrow.{Bor}
 use Rattle.std.proofs.lemmas.Bool.Decides.{nat_tests}
 use Rattle.std.proofs.lemmas.Grind.{flat_map-append}
@@ -15,13 +15,12 @@ use Rattle.pcap_core.specs.declared.rest.Rest.TheVariants.{Clean, Needs, Refused
 use Rattle.pcap_core.specs.declared.run.pieces.Progress.{Progress}
 use Rattle.pcap_core.specs.declared.run.pieces.Progress.TheVariants.{Before, Within}
 use Rattle.pcap_core.specs.Answer.{Verdict, whole, lacks, faulty, Made, Refuses, TellsWhere}
-use Rattle.pcap_core.specs.Errors.{IsMemory}
 use Rattle.pcap_core.specs.Faults.{Invalid, Io, Utf8}
 use Rattle.pcap_core.specs.Format.{Format, Front, IsLawful}
 use Rattle.pcap_core.specs.Laws.{IsStable}
 use Rattle.pcap_core.specs.Pieces.{AfterEach, Came, HoldsItems, IsFed, IsOpening, Reaches, TakesFront, TakesPart, joined_pieces}
 use Rattle.pcap_core.specs.Waiting.{IsAsked, IsWaiting, error_with, progress_shown, progress_with, rest_with}
-use Rattle.pcap_core.proofs.Formats.{front_same, lacks_no_text, texts_more}
+use Rattle.pcap_core.proofs.Formats.{lacks_no_text, texts_more}
 use Rattle.pcap_core.proofs.Fronts.{said_not_refused}
 use Rattle.pcap_core.proofs.Items.{leads_more, leads_none, leads_shorter}
 use Rattle.pcap_core.proofs.Refusals.{shows_more}
@@ -155,14 +154,8 @@ module _ {V : Type 0} (Of : List ℕ → Verdict V → Type 0) (stable : IsStabl
 module _ {X S : Type 0} (IsSaid : Verdict S → Type 0) (view : X → S) where
   -- a call that may always grow something
   pub tells_grown : (M : Type 0) (answer : Result (Bor (List ℕ) × X) PcapError) → TellsWhere M IsSaid view answer → TellsWhere ⊤ IsSaid view answer
-  tells_grown M (Ok x) tells = tells
-  tells_grown M (Err (errors.IncompleteBuffer n)) tells = tells
-  tells_grown M (Err (errors.InvalidField text)) tells = tells
-  tells_grown M (Err (errors.IoError io)) tells = tells
-  tells_grown M (Err (errors.Utf8Error utf)) tells = tells
-  tells_grown M (Err (errors.FromUtf8Error utf)) tells = tells
   tells_grown M (Err (errors.OutOfMemory memory)) tells = tt
-  tells_grown M (Err errors.WriterFailed) tells = tells
+  tells_grown M _ tells = tells
 
 module _ {X S V W : Type 0} (f : Format S V) (part : V → W) (view : X → W) (q next : S) (s : List ℕ) where
   -- a refusal that leaves the state
@@ -174,16 +167,6 @@ module _ {X S V W : Type 0} (f : Format S V) (part : V → W) (view : X → W) (
   front_refused M stays (errors.FromUtf8Error utf) refuses = absurd refuses
   front_refused M stays (errors.OutOfMemory memory) refuses = tt
   front_refused M stays errors.WriterFailed refuses = absurd refuses
-
-  -- want of memory, wherever it comes
-  pub front_memory : (error : PcapError) → IsMemory error → TakesFront f part view q next s (Err error)
-  front_memory (errors.OutOfMemory memory) is = tt
-  front_memory (errors.IncompleteBuffer n) is = absurd is
-  front_memory (errors.InvalidField text) is = absurd is
-  front_memory (errors.IoError io) is = absurd is
-  front_memory (errors.Utf8Error utf) is = absurd is
-  front_memory (errors.FromUtf8Error utf) is = absurd is
-  front_memory errors.WriterFailed is = absurd is
 
 -- what opens a capture, with its value made into another
 pub made_opening : {V W : Type 0} (make : V → W) (opens : List ℕ → Verdict V → Type 0) → IsOpening opens → IsOpening (λ s. Made make (opens s))
@@ -200,7 +183,7 @@ made_opening make opens opening = record {
 -- ---- items one after the other
 
 -- what follows the first bytes of a list is the list without them
-after_is_drop : (s t after : List ℕ) → s ≡ t ++ after → drop (length s - length after) s ≡ after
+pub after_is_drop : (s t after : List ℕ) → s ≡ t ++ after → drop (length s - length after) s ≡ after
 after_is_drop s t after e =
     let count : length s - length after ≡ length t = omega (arith, ap length e, length-append t after) in
     ap (λ (n : ℕ). drop n s) count ∙ ap (λ (l : List ℕ). drop (length t) l) e ∙ drop-append_seam t after
@@ -307,21 +290,3 @@ module _ {P S V W : Type 0} (opens : List ℕ → Verdict S → Type 0) (opening
       let some : (length (b ∷ held) == 0) ≡ false = grind (arith, nat_tests) in
       rw some (waiting.0, (waiting.1, omega arith))
   waiting_shown s (Within parser (Refused error)) missing held ws waiting = waiting
-
--- the number of items of a front is one
-pub holds_same : {S V : Type 0} (opens : List ℕ → Verdict S → Type 0) → IsOpening opens → (f : Format S V) → IsLawful f → (s : List ℕ) (n m : ℕ) → HoldsItems opens f s n → HoldsItems opens f s m → n ≡ m
-holds_same {S = S} opens opening f laws s n m (inl x) (inl y) =
-    let o = opening.one s in
-    let e : whole x.0 x.1 ≡ whole y.0 y.1 = o.only (whole x.0 x.1) x.4 ∙ sym (o.only (whole y.0 y.1) y.4) in
-    let first : x.0 ≡ y.0 = cc in
-    let after : x.1 ≡ y.1 = cc in
-    let here : Front f y.0 x.2 y.1 x.3 = subst (λ (q : S). Front f q x.2 y.1 x.3) first (subst (λ (t : List ℕ). Front f x.0 x.2 t x.3) after x.5) in
-    let same = front_same f laws y.0 x.2 y.2 y.1 x.3 y.3 here y.5 in
-    x.6 ∙ ap length same.0 ∙ sym y.6
-holds_same opens opening f laws s n m (inl x) (inr y) = absurd (y.0 x.0 x.1 x.4)
-holds_same opens opening f laws s n m (inr x) (inl y) = absurd (x.0 y.0 y.1 y.4)
-holds_same opens opening f laws s n m (inr x) (inr y) = x.1 ∙ sym y.1
-
-pub if_ok_more : {X E : Type 0} (P Q : X → Type 0) → ((x : X) → P x → Q x) → (r : Result X E) → IfOk r P → IfOk r Q
-if_ok_more P Q step (Ok x) p = step x p
-if_ok_more P Q step (Err e) p = p

@@ -14,12 +14,7 @@ use Rattle.pcap_core.specs.Faults.{Fault, Invalid, Io, Utf8, Names, Shows}
 
 pub named_refuses : (M : Type 0) (L : ℕ → Type 0) (F : Fault → Type 0) (rule : Rule) (e : PcapError) → F (Invalid rule) → Names rule e → Refuses M L F e
 named_refuses M L F rule (errors.InvalidField text) stands named = (rule, named, stands)
-named_refuses M L F rule (errors.IncompleteBuffer n) stands named = absurd named
-named_refuses M L F rule (errors.IoError e) stands named = absurd named
-named_refuses M L F rule (errors.Utf8Error e) stands named = absurd named
-named_refuses M L F rule (errors.FromUtf8Error e) stands named = absurd named
-named_refuses M L F rule (errors.OutOfMemory e) stands named = absurd named
-named_refuses M L F rule errors.WriterFailed stands named = absurd named
+named_refuses M L F rule _ stands named = absurd named
 
 -- the same of a result that `?` gives
 pub named_tells : {X V : Type 0} (M : Type 0) (IsSaid : Verdict V → Type 0) (view : X → V) (rule : Rule) (result : Result (Bor (List ℕ) × X) PcapError)
@@ -32,19 +27,11 @@ pub shows_more : {P Q : Fault → Type 0} → ((fault : Fault) → P fault → Q
 shows_more step (errors.InvalidField text) shown = (shown.0, shown.1, step (Invalid shown.0) shown.2)
 shows_more step (errors.IoError e) shown = step Io shown
 shows_more step (errors.Utf8Error e) shown = step Utf8 shown
-shows_more step (errors.IncompleteBuffer n) shown = absurd shown
-shows_more step (errors.FromUtf8Error e) shown = absurd shown
-shows_more step (errors.OutOfMemory e) shown = absurd shown
-shows_more step errors.WriterFailed shown = absurd shown
+shows_more step _ shown = absurd shown
 
 pub named_shows : (Stands : Fault → Type 0) (rule : Rule) (e : PcapError) → Stands (Invalid rule) → Names rule e → Shows Stands e
 named_shows Stands rule (errors.InvalidField text) stands named = (rule, named, stands)
-named_shows Stands rule (errors.IncompleteBuffer n) stands named = absurd named
-named_shows Stands rule (errors.IoError e) stands named = absurd named
-named_shows Stands rule (errors.Utf8Error e) stands named = absurd named
-named_shows Stands rule (errors.FromUtf8Error e) stands named = absurd named
-named_shows Stands rule (errors.OutOfMemory e) stands named = absurd named
-named_shows Stands rule errors.WriterFailed stands named = absurd named
+named_shows Stands rule _ stands named = absurd named
 
 -- a head that `?` refuses by its rule
 pub named_states : {H V : Type 0} (IsSaid : List ℕ → Verdict V → Type 0) (Knows : H → ℕ → List ℕ → Type 0) (s : List ℕ) (rule : Rule) (result : Result (H × ℕ) PcapError)
@@ -59,50 +46,22 @@ named_settles IsSaid view rule (Ok x) stands named = absurd named
 
 -- where no bytes can lack, a refusal shows a fault
 pub refuses_shows : (L : ℕ → Type 0) (F : Fault → Type 0) (e : PcapError) → ((n : ℕ) → L n → ⊥) → Refuses ⊥ L F e → Shows F e
-refuses_shows L F (errors.InvalidField text) none refuses = refuses
-refuses_shows L F (errors.IoError e) none refuses = refuses
-refuses_shows L F (errors.Utf8Error e) none refuses = refuses
 refuses_shows L F (errors.IncompleteBuffer n) none refuses = absurd (none n refuses)
-refuses_shows L F (errors.FromUtf8Error e) none refuses = refuses
-refuses_shows L F (errors.OutOfMemory e) none refuses = refuses
-refuses_shows L F errors.WriterFailed none refuses = refuses
+refuses_shows L F _ none refuses = refuses
 
 -- an error that shows a fault shows one that stands
 pub shown_fault : (Stands : Fault → Type 0) (e : PcapError) → Shows Stands e → (fault : Fault) × Stands fault
 shown_fault Stands (errors.InvalidField text) shown = (Invalid shown.0, shown.2)
 shown_fault Stands (errors.IoError e) shown = (Io, shown)
 shown_fault Stands (errors.Utf8Error e) shown = (Utf8, shown)
-shown_fault Stands (errors.IncompleteBuffer n) shown = absurd shown
-shown_fault Stands (errors.FromUtf8Error e) shown = absurd shown
-shown_fault Stands (errors.OutOfMemory e) shown = absurd shown
-shown_fault Stands errors.WriterFailed shown = absurd shown
+shown_fault Stands _ shown = absurd shown
 
 -- what a parser tells, and what is found in its answer
 pub found_tells : {X V : Type 0} (M : Type 0) (IsSaid : Verdict V → Type 0) (view : X → V) (answer : Result (Bor (List ℕ) × X) PcapError) → TellsWhere M IsSaid view answer → FindsWhere M IsSaid view (found_of answer)
 found_tells M IsSaid view (Ok x) tells = tells
 found_tells M IsSaid view (Err (errors.IncompleteBuffer n)) tells = tells
-found_tells M IsSaid view (Err (errors.InvalidField text)) tells = tells
-found_tells M IsSaid view (Err (errors.IoError e)) tells = tells
-found_tells M IsSaid view (Err (errors.Utf8Error e)) tells = tells
-found_tells M IsSaid view (Err (errors.FromUtf8Error e)) tells = tells
-found_tells M IsSaid view (Err (errors.OutOfMemory e)) tells = tells
-found_tells M IsSaid view (Err errors.WriterFailed) tells = tells
-
--- a refusal without memory is one with it, and want of memory is one too
-pub refuses_grown : (L : ℕ → Type 0) (F : Fault → Type 0) (e : PcapError) → Refuses ⊥ L F e → Refuses ⊤ L F e
-refuses_grown L F (errors.IncompleteBuffer n) x = x
-refuses_grown L F (errors.InvalidField text) x = x
-refuses_grown L F (errors.IoError io) x = x
-refuses_grown L F (errors.Utf8Error utf) x = x
-refuses_grown L F (errors.FromUtf8Error utf) x = x
-refuses_grown L F (errors.OutOfMemory memory) x = absurd x
-refuses_grown L F errors.WriterFailed x = x
+found_tells M IsSaid view _ tells = tells
 
 pub refuses_memory : (L : ℕ → Type 0) (F : Fault → Type 0) (e : PcapError) → IsMemory e → Refuses ⊤ L F e
 refuses_memory L F (errors.OutOfMemory memory) x = tt
-refuses_memory L F (errors.IncompleteBuffer n) x = absurd x
-refuses_memory L F (errors.InvalidField text) x = absurd x
-refuses_memory L F (errors.IoError io) x = absurd x
-refuses_memory L F (errors.Utf8Error utf) x = absurd x
-refuses_memory L F (errors.FromUtf8Error utf) x = absurd x
-refuses_memory L F errors.WriterFailed x = absurd x
+refuses_memory L F _ x = absurd x

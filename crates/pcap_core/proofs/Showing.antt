@@ -198,21 +198,6 @@ module _ {S V W : Type 0} {f : Format S V} {part : V → W} {q p : S} {ws : List
         counted = omega (arith, here.counted, a.counted, length-append a.ns here.requests);
       }
 
-  -- nothing is left after them
-  pub exacting_end : {E : Type 0} {ShowsIt : E → Fault → Type 0} {start used : ℕ} {bytes : List ℕ} → s ≡ drop start bytes → mid ≡ drop used bytes → used ≤ length bytes → mid ≡ []
-      → ExactItems f part ShowsIt q p ws bytes start used ends.Clean earlier now first count
-  exacting_end from to within none = record {
-    values = a.values;
-    requests = a.ns;
-    asked = record { for_items = a.ns; at_rest = []; items = rw (← from, ← to) a.items; last = inl (sym to ∙ none, refl); all = sym (append-nil a.ns) };
-    parts = a.parts;
-    state_is = a.state_is;
-    within = within;
-    ends = sym to ∙ none;
-    grown = a.grown;
-    counted = a.counted;
-  }
-
   -- how many they are
   pub exacting_few : count ≤ first + 2 * length ws
   exacting_few = omega (arith, a.counted, items_few f q a.values s mid a.ns a.items, length-map a.values part, ap length a.parts)

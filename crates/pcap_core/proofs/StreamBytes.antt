@@ -1,10 +1,10 @@
 -- Bytes that come from a stream, behind those that are held.
-use Rattle.std.proofs.Common.{◌≡◌, ℕ, List, [], ◌++◌, ◌+◌, ◌≤◌, length, take, drop, refl, ap, sym, ◌∙◌, subst, arith, append_assoc, append-nil, length-append, length-drop}
+use Rattle.std.proofs.Common.{◌≡◌, ℕ, List, ◌++◌, ◌+◌, ◌≤◌, length, take, drop, ap, sym, ◌∙◌, subst, arith, append_assoc, length-append, length-drop}
 use Rattle.std.specs.Prelude.{Option}
 use Rattle.std.proofs.lemmas.List.{length-take-le}
 use Rattle.std.proofs.Math.Seq.{take-add, take-append_seam}
 use Rattle.std.specs.Io.KnownBytes.{Consumes, Keeps}
-use Rattle.std.proofs.KnownBytes.{Consumes-nil, Consumes-trans, Consumes-kept}
+use Rattle.std.proofs.KnownBytes.{Consumes-trans, Consumes-kept}
 use Rattle.pcap_core.specs.Streams.{Adds}
 
 -- a read into room behind the held bytes
@@ -23,9 +23,6 @@ pub adds_lent : (old room tail : List ℕ) (before after : Option (List ℕ)) (a
 adds_lent old room tail before after at all n whole front fits came =
     let back : take all (room ++ tail) ≡ room = ap (λ k. take k (room ++ tail)) whole ∙ take-append_seam room tail in
     subst (λ (l : List ℕ). Adds old (take (at + n) l) before after n) (sym back) (adds_read old room before after at n front fits came)
-
-pub adds_none : (held : List ℕ) (known : Option (List ℕ)) → Adds held held known known 0
-adds_none held known = record { taken = []; count = refl; added = sym (append-nil held); from_stream = Consumes-nil known }
 
 pub adds_more : (a b c : List ℕ) (r s t : Option (List ℕ)) (m k n : ℕ) → n ≡ m + k → Adds a b r s m → Adds b c s t k → Adds a c r t n
 adds_more a b c r s t m k n sum first second = record {

@@ -1,6 +1,7 @@
 -- A run over a stream gives a beginning of the front, of any lawful format.
 use Rattle.std.proofs.Common.{◌≡◌, ◌≤◌, ℕ, List, [], ◌∷◌, ◌++◌, length, Bool, refl, sym, ◌∙◌, subst, Some, None, ◌⊎◌, inl, inr}
 use Rattle.std.specs.Prelude.{Option}
+use Rattle.std.specs.Io.KnownBytes.{Consumes}
 use Rattle.std.proofs.KnownBytes.{Consumes-nil, Consumes-trans}
 use Rattle.pcap_core.specs.declared.errors.PcapError.{PcapError}
 use Rattle.pcap_core.specs.Answer.{whole, faulty}
@@ -11,6 +12,11 @@ use Rattle.pcap_core.specs.Reading.{HasCause, read_failed, no_memory, torn, refu
 use Rattle.pcap_core.specs.Takes.{Stops, EndsFront, TakesTexts, TakesItems, ReadsFront}
 use Rattle.pcap_core.proofs.Formats.{lacks_no_text, fault_no_text, nothing_no_text, has_front, front_goes_on, texts_more, texts_push, texts_all, nothing_more}
 use Rattle.pcap_core.proofs.Refusals.{shown_fault}
+
+-- known bytes from which some were taken
+pub taken_known : (bytes taken : List ℕ) (left : Option (List ℕ)) → Consumes (Some bytes) left taken → (after : List ℕ) × (left ≡ Some after) × (bytes ≡ taken ++ after)
+taken_known bytes taken None took = absurd took
+taken_known bytes taken (Some after) took = (after, refl, took)
 
 pub takes_none : {S V : Type 0} (f : Format S V) (q : S) (known : Option (List ℕ)) → TakesTexts f q [] known known
 takes_none f q known = record { bytes = []; texts = refl; took = Consumes-nil known }

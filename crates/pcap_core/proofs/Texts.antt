@@ -1,6 +1,9 @@
 -- Two ways to split bytes are one, and a number is read once.
-use Rattle.std.proofs.Common.{◌≡◌, ℕ, ◌+◌, List, [], ◌∷◌, ◌++◌, length, refl, sym, ap, ◌∙◌, arith, append_assoc}
+use Rattle.std.proofs.Common.{◌≡◌, ℕ, ◌+◌, List, [], ◌∷◌, ◌++◌, length, take, drop, refl, sym, ap, ◌∙◌, arith, append_assoc}
+use Rattle.std.specs.Prelude.{All}
 use Rattle.std.proofs.lemmas.List.{length-append}
+use Rattle.std.proofs.lemmas.List.Elements.{All-nil, All-cons, All-head, All-tail}
+use Rattle.std.proofs.Math.Seq.{take-append_seam, drop-append_seam}
 use Rattle.pcap_core.specs.Answer.{Number}
 
 -- two ways to split a list at one place are one
@@ -14,6 +17,22 @@ split_same (c ∷ a) x (d ∷ b) y len e =
     let shorter : length a ≡ length b = omega (arith, len) in
     let r = split_same a x b y shorter tails in
     (cc, r.1)
+
+-- the bytes of a front, and those behind it
+pub front_of : (bytes front rest : List ℕ) (n : ℕ) → bytes ≡ front ++ rest → n + length rest ≡ length bytes → take n bytes ≡ front
+front_of bytes front rest n split count =
+    let long : n ≡ length front = omega (arith, count, ap length split, length-append front rest) in
+    rw (long, split) (take-append_seam front rest)
+
+pub rest_of : (bytes front rest : List ℕ) (n : ℕ) → bytes ≡ front ++ rest → n + length rest ≡ length bytes → drop n bytes ≡ rest
+rest_of bytes front rest n split count =
+    let long : n ≡ length front = omega (arith, count, ap length split, length-append front rest) in
+    rw (long, split) (drop-append_seam front rest)
+
+-- what holds of all holds of the first of them
+pub front_all : {X : Type 0} (P : X → Type 0) (xs ys : List X) → All P (xs ++ ys) → All P xs
+front_all P [] ys all = All-nil P
+front_all P (x ∷ xs) ys all = All-cons P x xs (All-head P x (xs ++ ys) all) (front_all P xs ys (All-tail P x (xs ++ ys) all))
 
 module _ (order : ℕ → List ℕ → ℕ) where
   pub number_same : (w n m : ℕ) (s a b : List ℕ) → Number order w n s a → Number order w m s b → (n ≡ m) × (a ≡ b)

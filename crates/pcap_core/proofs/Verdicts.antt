@@ -6,6 +6,7 @@ use Rattle.pcap_core.specs.Faults.{Fault}
 use Rattle.pcap_core.specs.Laws.{ExactlyOne}
 use Rattle.pcap_core.specs.Padded.{Chain}
 use Rattle.pcap_core.proofs.Padded.{chain_more}
+use Rattle.pcap_core.proofs.Formats.{whole_same}
 
 -- what says the same has the same law
 pub one_moved : {X : Type 0} (P Q : X → Type 0) → ((x : X) → P x → Q x) → ((x : X) → Q x → P x) → ExactlyOne Q → ExactlyOne P
@@ -21,9 +22,6 @@ abbrev made : {V W : Type 0} → (V → W) → Verdict V → Verdict W
 made make (whole v rest) = whole (make v) rest
 made make (lacks n) = lacks n
 made make (faulty f) = faulty f
-
-pub same_whole : {V : Type 0} (v w : V) (a b : List ℕ) → whole v a ≡ whole w b → (v ≡ w) × (a ≡ b)
-same_whole v w a b e = (cc, cc)
 
 pub whole_no_fault : {V : Type 0} (v : V) (a : List ℕ) (f : Fault) → whole v a ≡ faulty f → ⊥
 whole_no_fault v a f e = absurd cc
@@ -54,9 +52,6 @@ made_there make P (whole v rest) h = (v, refl, h)
 made_there make P (lacks n) h = h
 made_there make P (faulty f) h = h
 
-made_same : {V W : Type 0} (make : V → W) (f g : Verdict V) → f ≡ g → made make f ≡ made make g
-made_same make f g e = ap (made make) e
-
 made_only : {V W : Type 0} (make : V → W) (P : Verdict V → Type 0) (one : ExactlyOne P) (w : Verdict W) → Made make P w → w ≡ made make one.value
 made_only {W = W} make P one (whole w rest) h = ap (λ (x : W). whole x rest) h.1 ∙ ap (made make) (one.only (whole h.0 rest) h.2)
 made_only make P one (lacks n) h = ap (made make) (one.only (lacks n) h)
@@ -84,15 +79,15 @@ then_lack First Next n h only (faulty g) (inr t) = absurd (whole_no_lack t.0 t.1
 -- where it is known to be whole
 then_whole : {V W : Type 0} (First : Verdict V → Type 0) (Next : V → List ℕ → Verdict W → Type 0) (v : V) (after : List ℕ) → ((other : Verdict V) → First other → other ≡ whole v after) → (w : Verdict W) → Then First Next w → Next v after w
 then_whole {V = V} First Next v after only (whole w rest) t =
-    let e = same_whole t.0 v t.1 after (only (whole t.0 t.1) t.2) in
+    let e = whole_same t.0 v t.1 after (only (whole t.0 t.1) t.2) in
     subst (λ (x : V). Next x after (whole w rest)) e.0 (subst (λ (a : List ℕ). Next t.0 a (whole w rest)) e.1 t.3)
 then_whole First Next v after only (lacks n) (inl t) = absurd (lack_no_whole v after n (only (lacks n) t))
 then_whole {V = V} First Next v after only (lacks n) (inr t) =
-    let e = same_whole t.0 v t.1 after (only (whole t.0 t.1) t.2) in
+    let e = whole_same t.0 v t.1 after (only (whole t.0 t.1) t.2) in
     subst (λ (x : V). Next x after (lacks n)) e.0 (subst (λ (a : List ℕ). Next t.0 a (lacks n)) e.1 t.3)
 then_whole First Next v after only (faulty f) (inl t) = absurd (fault_no_whole v after f (only (faulty f) t))
 then_whole {V = V} First Next v after only (faulty f) (inr t) =
-    let e = same_whole t.0 v t.1 after (only (whole t.0 t.1) t.2) in
+    let e = whole_same t.0 v t.1 after (only (whole t.0 t.1) t.2) in
     subst (λ (x : V). Next x after (faulty f)) e.0 (subst (λ (a : List ℕ). Next t.0 a (faulty f)) e.1 t.3)
 
 to_then : {V W : Type 0} (First : Verdict V → Type 0) (Next : V → List ℕ → Verdict W → Type 0) (v : V) (after : List ℕ) → First (whole v after) → (w : Verdict W) → Next v after w → Then First Next w

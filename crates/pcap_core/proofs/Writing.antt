@@ -1,10 +1,9 @@
 -- Bytes that go out in several writes.
-use Rattle.std.proofs.Common.{◌≡◌, ℕ, ◌+◌, ◌<◌, List, ◌++◌, length, take, drop, ap, sym, ◌∙◌, append_assoc, length-append, length-drop, arith, Ok, Err}
+use Rattle.std.proofs.Common.{ℕ, ◌+◌, List, ◌++◌, take, drop, ap, sym, ◌∙◌, append_assoc, length-append, length-drop, arith, Ok, Err}
 use Rattle.std.specs.Prelude.{Option, Result}
 use Rattle.std.proofs.lemmas.List.{take-append-drop}
-use lib.Seq.{take-append_seam}
-use Rattle.std.specs.Io.KnownBytes.{Appends, Keeps}
-use Rattle.std.proofs.KnownBytes.{Appends-trans, Appends-kept}
+use Rattle.std.specs.Io.KnownBytes.{Appends}
+use Rattle.std.proofs.KnownBytes.{Appends-trans}
 use Rattle.pcap_core.specs.declared.errors.PcapError.{PcapError}
 use Rattle.pcap_core.specs.declared.errors.PcapError.TheVariants as errors
 use Rattle.pcap_core.specs.declared.stream.writing.Torn.{Torn}
@@ -17,14 +16,6 @@ writes_more bytes left a b c n so_far out = record {
   split = so_far.split ∙ ap (λ (l : List ℕ). so_far.gone ++ l) (sym (take-append-drop n left)) ∙ sym (append_assoc so_far.gone (take n left) (drop n left));
   out = Appends-trans a b c so_far.gone (take n left) so_far.out out;
 }
-
--- a write failed where some bytes are left
-pub tears_at : (bytes left : List ℕ) (a b c : Option (List ℕ)) (n : ℕ) → Writes bytes left a b → 0 < length left → n + length left ≡ length bytes → Keeps b c
-    → (n < length bytes) × Appends a c (take n bytes)
-tears_at bytes left a b c n so_far some count kept =
-    let front : n ≡ length so_far.gone = omega (arith, count, ap length so_far.split, length-append so_far.gone left) in
-    let gone : take n bytes ≡ so_far.gone = rw (front, so_far.split) (take-append_seam so_far.gone left) in
-    (omega (arith, some, count), rw gone (Appends-kept a b c so_far.gone so_far.out kept))
 
 -- what a torn write says where nobody asks how many bytes went out
 pub tears_all : (bytes : List ℕ) (a b : Option (List ℕ)) (torn : Torn) → WritesOrTears a b bytes (Err torn) → WritesAll a b bytes (Err torn.error)
@@ -39,12 +30,7 @@ tears_all bytes a b torn out = torn_as torn.error out.0
 
     torn_as : (e : PcapError) → IsIo e → WritesAll a b bytes (Err e)
     torn_as (errors.IoError x) io = part
-    torn_as (errors.IncompleteBuffer n) io = absurd io
-    torn_as (errors.InvalidField t) io = absurd io
-    torn_as (errors.Utf8Error x) io = absurd io
-    torn_as (errors.FromUtf8Error x) io = absurd io
-    torn_as (errors.OutOfMemory x) io = absurd io
-    torn_as errors.WriterFailed io = absurd io
+    torn_as _ io = absurd io
 
 -- a beginning of the first of two pieces, and a beginning of the second behind the first
 pub part_of_first : (first second : List ℕ) (a b : Option (List ℕ)) → AppendsPart a b first → AppendsPart a b (first ++ second)
@@ -72,19 +58,9 @@ part_of_second first second a b c whole part = (
 -- two writes, one behind the other: the first fails, or the second ends it
 pub first_fails : (first second : List ℕ) (a b : Option (List ℕ)) (e : PcapError) → WritesAll a b first (Err e) → WritesAll a b (first ++ second) (Err e)
 first_fails first second a b (errors.IoError x) out = part_of_first first second a b out
-first_fails first second a b (errors.IncompleteBuffer n) out = absurd out
-first_fails first second a b (errors.InvalidField t) out = absurd out
-first_fails first second a b (errors.Utf8Error x) out = absurd out
-first_fails first second a b (errors.FromUtf8Error x) out = absurd out
-first_fails first second a b (errors.OutOfMemory x) out = absurd out
-first_fails first second a b errors.WriterFailed out = absurd out
+first_fails first second a b _ out = absurd out
 
 pub second_ends : (first second : List ℕ) (a b c : Option (List ℕ)) (r : Result (Unit {0}) PcapError) → Appends a b first → WritesAll b c second r → WritesAll a c (first ++ second) r
 second_ends first second a b c (Ok u) whole out = Appends-trans a b c first second whole out
 second_ends first second a b c (Err (errors.IoError x)) whole out = part_of_second first second a b c whole out
-second_ends first second a b c (Err (errors.IncompleteBuffer n)) whole out = absurd out
-second_ends first second a b c (Err (errors.InvalidField t)) whole out = absurd out
-second_ends first second a b c (Err (errors.Utf8Error x)) whole out = absurd out
-second_ends first second a b c (Err (errors.FromUtf8Error x)) whole out = absurd out
-second_ends first second a b c (Err (errors.OutOfMemory x)) whole out = absurd out
-second_ends first second a b c (Err errors.WriterFailed) whole out = absurd out
+second_ends first second a b c _ whole out = absurd out

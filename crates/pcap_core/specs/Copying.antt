@@ -1,7 +1,7 @@
 -- What a copy of items takes and writes, over any format.
 use Rattle.std.specs.Prelude.{◌≡◌, ◌<◌, ◌≤◌, ◌+◌, ◌⊎◌, ℕ, List, [], ◌∷◌, ◌++◌, length, Bool, true, false, Option, None, Some, Result, Ok, Err}
+use Rattle.std.specs.List.{flat_map}
 use Rattle.std.specs.Option.{IsSomeAnd}
-use Rattle.std.specs.Result.{result_err}
 use Rattle.std.specs.Io.KnownBytes.{Consumes, Appends, Keeps, IsAtEnd}
 use Rattle.pcap_core.specs.declared.errors.PcapError.{PcapError}
 use Rattle.pcap_core.specs.declared.stream.copying.Tally.{Tally}
@@ -15,6 +15,10 @@ use Rattle.pcap_core.specs.Writing.{AppendsPart}
 pub record IsWriting {V : Type 0} (written : List V → List ℕ → List ℕ) : Type 0 where
   pub nothing : written [] [] ≡ []
   pub joined : (vs ws : List V) (s t : List ℕ) → written (vs ++ ws) (s ++ t) ≡ written vs s ++ written ws t
+
+-- what is written of each item, whatever its bytes were
+abbrev pub each_written : {V : Type 0} → (V → List ℕ) → List V → List ℕ → List ℕ
+each_written text items bytes = flat_map text items
 
 -- nothing was copied yet, and nothing failed
 pub record NothingCopied (tally : Tally) : Type 0 where
@@ -91,15 +95,15 @@ module _ {S V : Type 0} (f : Format S V) (written : List V → List ℕ → List
       (tally.items ≡ n) × IsAtEnd before × EndsWhole before now out out_now None tally.read_failed tally.write_failed
   Steps q next before now out out_now n most tally (Err e) = FailsBehind q before now out out_now n most tally.items (Some e) tally.read_failed tally.write_failed
 
-  -- items were copied under a state, until the copy ended with this result
-  pub record CopiesBehind (q : S) (before now out out_now : Option (List ℕ)) (most : ℕ) (tally : Tally) (result : Result (Unit {0}) PcapError) : Type 0 where
+  -- so many items were copied under a state, until the copy ended with this fault, or none
+  pub record CopiesBehind (q : S) (before now out out_now : Option (List ℕ)) (most n : ℕ) (fault : Option PcapError) (read_failed write_failed : Bool) : Type 0 where
     pub items : List V
     pub left : Option (List ℕ)
     pub mid : Option (List ℕ)
     pub texts : CopiesTexts q items before left out mid
-    pub count : tally.items ≡ length items
-    pub within : tally.items ≤ most
-    pub ends : Ends written (f.says (state_after f q items)) left now mid out_now most tally.items (result_err result) tally.read_failed tally.write_failed
+    pub count : n ≡ length items
+    pub within : n ≤ most
+    pub ends : Ends written (f.says (state_after f q items)) left now mid out_now most n fault read_failed write_failed
 
   -- these bytes are so many items that leave the state, and what is written of them went out
   pub record SendsWhole (q : S) (bytes : List ℕ) (before after : Option (List ℕ)) (n : ℕ) : Type 0 where

@@ -10,7 +10,7 @@ mod told;
 mod writing;
 
 pub use as_they_came::{AsTheyCame, Holding};
-pub use copying::{Ahead, Sent, Tally, copy_buffers, copy_items};
+pub use copying::{Ahead, AheadShown, Sent, Tally, copy_buffers, copy_items};
 pub use fill::Fill;
 pub use filling::{HasHead, fill_item, take_item};
 pub use held::Held;

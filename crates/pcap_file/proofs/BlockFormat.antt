@@ -18,14 +18,15 @@ use Rattle.pcap_file.proofs.HeadedFrames.{frames_lawful}
 -- a body never lacks bytes
 body_no_lack : (order : ℕ → List ℕ → ℕ) (type : BlockType) (s : List ℕ) (n : ℕ) → BodySays order type s (lacks n) → ⊥
 body_no_lack order types.SectionHeader s n x = x
-body_no_lack order types.InterfaceDescription s n x = x
-body_no_lack order types.Packet s n x = x
-body_no_lack order types.SimplePacket s n x = x
-body_no_lack order types.NameResolution s n x = x
-body_no_lack order types.InterfaceStatistics s n x = x
-body_no_lack order types.EnhancedPacket s n x = x
-body_no_lack order types.SystemdJournalExport s n x = x
-body_no_lack order (types.Unknown k) s n x = x
+body_no_lack order _ s n x = x
+
+-- an item leads to the state behind it
+pub goes_after : (q : State) (item : Item) → block_format.goes q item ≡ item.after
+unfolding block_format
+goes_after q item = refl
+
+pub good_in : (a c : State) → good a ≡ good c → a ≡ c
+good_in a c e = cc
 
 module _ (q : State) (b : Framed) where
   said : Verdict Body → Type 0
@@ -130,9 +131,6 @@ module _ (q : State) (s : List ℕ) where
   frame_faults : (f g : Fault) → FrameSays (order_at q) s (faulty f) → FrameSays (order_at q) s (faulty g) → f ≡ g
   unfolding frame_format
   frame_faults f g x y = let e : ◌≡◌ {A = Verdict Framed} (faulty f) (faulty g) = only frame_format frames_lawful (order_at q) s (faulty f) (faulty g) x y in cc
-
-  good_in : (a c : State) → good a ≡ good c → a ≡ c
-  good_in a c e = cc
 
   bad_in : (f g : Fault) → ◌≡◌ {A = HeadReading State} (bad f) (bad g) → f ≡ g
   bad_in f g e = cc

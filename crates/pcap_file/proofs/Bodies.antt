@@ -25,15 +25,8 @@ bodies_same b x y r t p q =
 
 -- a body is read of a block of its own type
 pub type_is : (order : Order) (type : BlockType) (s : List ℕ) (body : Body) (rest : List ℕ) → BodySays order type s (whole body rest) → type_of body ≡ type
-type_is order types.SectionHeader s body rest says = rw says.1 refl
-type_is order types.InterfaceDescription s body rest says = rw says.1 refl
-type_is order types.Packet s body rest says = rw says.1 refl
-type_is order types.SimplePacket s body rest says = rw says.1 refl
-type_is order types.NameResolution s body rest says = rw says.1 refl
-type_is order types.InterfaceStatistics s body rest says = rw says.1 refl
-type_is order types.EnhancedPacket s body rest says = rw says.1 refl
-type_is order types.SystemdJournalExport s body rest says = rw says.1 refl
 type_is order (types.Unknown n) s body rest says = rw says.1 (ap (λ (u : UnknownBody). u.type_) says.2.0)
+type_is order _ s body rest says = rw says.1 refl
 
 -- a block holds a packet where its body is a packet's
 pub packet_as_body : (b : Framed) (body : Body) (rest : List ℕ) → SaysOfBody b (whole body rest) → is_packet b.type_ ≡ is_packet (type_of body)

@@ -10,6 +10,7 @@ use Rattle.pcap_file.specs.Front.{NgFront}
 use Rattle.pcap_file.specs.Opening.{OpeningSays}
 use Rattle.pcap_file.specs.State.{State, opening}
 use Rattle.pcap_file.proofs.BlockFormat.{blocks_lawful, block_said}
+use Rattle.pcap_classic.proofs.OneFront.{triple_same}
 
 tail_same : (first other : Item) (items others : List Item) → first ∷ items ≡ other ∷ others → items ≡ others
 tail_same first other items others e = cc
@@ -22,9 +23,6 @@ front_same_ng q p bs cs s a b x y =
       sym x.blocks_are ∙ ap (map (λ (item : Item). item.block)) tails ∙ y.blocks_are,
       d.1,
     )
-
-triple_same : {A B C : Type 0} (x y : A × B × C) → (x.0 ≡ y.0) × (x.1 ≡ y.1) × (x.2 ≡ y.2) → x ≡ y
-triple_same {A} {B} {C} x y e = let t : Path (A × B × C) (x.0, x.1, x.2) (y.0, y.1, y.2) = rw (e.0, e.1, e.2) refl in t
 
 pub capture_one : (q : State) (s after : List ℕ) → OpeningSays s (whole q after) → ExactlyOne (λ (p : State × List Framed × List ℕ). NgFront p.0 p.1 s p.2)
 capture_one q s after text =

@@ -57,12 +57,8 @@ module _ (q : State) where
 -- a refusal is for want of memory, or shows a fault
 memory_or_shows : (M : Type 0) (F : Fault → Type 0) (e : PcapError) → Refuses M (λ n. ⊥) F e → IsMemory e ⊎ Shows F e
 memory_or_shows M F (errors.IncompleteBuffer n) x = absurd x
-memory_or_shows M F (errors.InvalidField text) x = inr x
-memory_or_shows M F (errors.IoError a) x = inr x
-memory_or_shows M F (errors.Utf8Error a) x = inr x
-memory_or_shows M F (errors.FromUtf8Error a) x = inr x
 memory_or_shows M F (errors.OutOfMemory a) x = inl tt
-memory_or_shows M F errors.WriterFailed x = inr x
+memory_or_shows M F _ x = inr x
 
 -- a frame that was refused, in the order of a state
 pub pull_frame : (q : State) (order : Endianness) → order ≡ order_at q → (before after : Option (List ℕ)) (failed : Bool) (e : PcapError) → HasCause (frame_format.says order) before failed e × TakesAsked (frame_format.says order) before after

@@ -1,17 +1,17 @@
 -- A capture that was converted is read again.
-use Rattle.std.proofs.Common.{◌≡◌, ◌+◌, ◌/◌, ◌^◌, ℕ, List, [], ◌∷◌, ◌++◌, refl, ap, sym, ◌∙◌, subst, arith, map, Bool, Ok, Some, inl, inr, false, true}
+use Rattle.std.proofs.Common.{◌≡◌, ◌+◌, ◌/◌, ◌^◌, ℕ, List, [], ◌∷◌, ◌++◌, refl, ap, sym, subst, arith, map, Bool, Ok, Some, false}
 use Rattle.std.specs.Prelude.{All, Option, pos}
 use Rattle.std.specs.List.{AllZip}
-use Rattle.std.specs.Io.KnownBytes.{Appends}
-use Rattle.std.proofs.KnownBytes.{Appends-trans}
 use Rattle.std.proofs.lemmas.Int.{ints}
-use Rattle.std.proofs.lemmas.Grind.{flat_map-append}
 use Rattle.std.proofs.lemmas.List.Concat.{flat_map-cons}
-use Rattle.std.proofs.lemmas.List.Elements.{All-nil, All-cons, All-head, All-tail}
+use Rattle.std.proofs.lemmas.List.Elements.{All-head, All-tail}
 use Rattle.pcap_core.specs.declared.common.Endianness.TheVariants.{Little}
 use Rattle.pcap_core.specs.declared.errors.PcapError.{PcapError}
 use Rattle.pcap_core.specs.Bytes.{IsBytes}
+use Rattle.pcap_core.specs.Copying.{each_written}
 use Rattle.pcap_core.specs.Takes.{ReadsFront}
+use Rattle.pcap_core.proofs.Copying.{copies_take, each_writing}
+use Rattle.pcap_core.proofs.Texts.{front_all}
 use Rattle.pcap_classic.specs.declared.pcap.header.PcapHeader.{PcapHeader}
 use Rattle.pcap_classic.specs.declared.run.copy.Copied.{Copied}
 use Rattle.pcap_classic.specs.HeaderText.{HeaderText}
@@ -35,9 +35,10 @@ use Rattle.pcap_written.specs.Plain.{plain_section}
 use Rattle.pcap_written.specs.Writing.{IsFitIn, TellsPlace, opening_place}
 use Rattle.pcap_written.proofs.Packets.{packet_fit, packet_placed}
 use Rattle.pcap_file.specs.Conversion.{AreBlocksOf, IsConversion, exact_time}
-use Rattle.pcap_file.specs.Converted.{converted, interface_for, little_text, little_texts, opening_blocks, packet_block, time_of}
+use Rattle.pcap_file.specs.Converted.{converted, converted_text, interface_for, little_text, little_texts, opening_blocks, packet_block, time_of}
 use Rattle.pcap_file.specs.Converts.{ConvertsPackets}
 use Rattle.pcap_file.specs.Written.{IsBodyOf}
+use Rattle.pcap_file.proofs.Converting.{blocks_out}
 use Rattle.pcap_file.proofs.WrittenAgain.{capture_again}
 
 -- behind so many interfaces, little-endian
@@ -111,17 +112,13 @@ exactly_timed header packet =
       time_is = record { counted = packet.header.ts_sec + packet.header.ts_nsec / 10 ^ 9; split = record { together = omega arith; no_second_more = omega arith }; moved = omega (arith, ints) };
     }
 
-first_of : {X : Type 0} (P : X → Type 0) (xs ys : List X) → All P (xs ++ ys) → All P xs
-first_of P [] ys all = All-nil P
-first_of P (x ∷ xs) ys all = All-cons P x xs (All-head P x (xs ++ ys) all) (first_of P xs ys (All-tail P x (xs ++ ys) all))
-
 -- the packets that a conversion read have room in a capture
 wholes : (bytes after : List ℕ) (header : PcapHeader) (most : ℕ) (packets : List Captured) (fault : Option PcapError) (failed : Bool) → IsBytes bytes → HeaderText header bytes after
     → ReadsFront (format_under packet_limit header) tt after most packets fault failed → All IsWhole packets
 wholes bytes after header most packets fault failed fits text reads =
     let behind = header_written header bytes after fits text in
     let all = packets_whole (order_of header.magic_number) (resolution_of header.magic_number) (packets ++ reads.more) after reads.rest behind.1 reads.front.texts in
-    first_of IsWhole packets reads.more all
+    front_all IsWhole packets reads.more all
 
 pub conversion_wholes : (bytes : List ℕ) (out_before out_now : Option (List ℕ)) (most : ℕ) (copied : Copied) → IsBytes bytes → (c : IsConversion bytes out_before out_now most copied) → All IsWhole c.packets
 conversion_wholes bytes out_before out_now most copied fits c = wholes bytes c.after c.header most c.packets copied.fault copied.read_failed fits c.header_text c.reads
@@ -130,22 +127,18 @@ conversion_wholes bytes out_before out_now most copied fits c = wholes bytes c.a
 pub conversion_again : (bytes : List ℕ) (now out_before out_now : Option (List ℕ)) (most : ℕ) (copied : Copied) → IsBytes bytes → copied.write_failed ≡ false
     → ConvertsPackets (Some bytes) now out_before out_now most copied → IsConversion bytes out_before out_now most copied
 conversion_again bytes now out_before out_now most copied fits wrote run =
-    elim run.packets [
-      | inl all ↦
-          let header = run.header in
-          let packets = all.packets in
-          let read = packets_read packet_limit header now copied.read_failed most packets copied.fault (Some bytes) run.behind run.opened.read all.items in
-          let blocks = map packet_block packets in
-          record {
-            header = header;
-            after = read.0;
-            packets = packets;
-            header_text = read.1;
-            reads = read.2;
-            count = all.count;
-            out = subst (λ (t : List ℕ). Appends out_before out_now t) (sym (flat_map-append little_text (opening_blocks header) blocks))
-                (Appends-trans out_before run.out_behind out_now (little_texts (opening_blocks header)) (little_texts blocks) run.opened.out all.out);
-            blocks = converted_again header packets run.opened.fit (wholes bytes read.0 header most packets copied.fault copied.read_failed fits read.1 read.2);
-          }
-      | inr tear ↦ absurd (let x : true ≡ false = sym tear.write_failed ∙ wrote in cc)
-    ]
+    let header = run.header in
+    let packets = run.packets.items in
+    let all = copies_take (format_under packet_limit header) (each_written converted_text) (each_writing converted_text) tt run.behind now run.out_behind out_now most
+    copied.packets copied.fault copied.read_failed copied.write_failed wrote run.packets in
+    let read = packets_read packet_limit header now copied.read_failed most packets copied.fault (Some bytes) run.behind run.opened.read all.0 in
+    record {
+      header = header;
+      after = read.0;
+      packets = packets;
+      header_text = read.1;
+      reads = read.2;
+      count = sym run.packets.count;
+      out = blocks_out header packets out_before run.out_behind out_now run.opened.out all.1;
+      blocks = converted_again header packets run.opened.fit (wholes bytes read.0 header most packets copied.fault copied.read_failed fits read.1 read.2);
+    }

@@ -1,14 +1,18 @@
 -- What a conversion has written is a beginning of the whole.
-use Rattle.std.proofs.Common.{◌≡◌, ℕ, List, [], ◌∷◌, ◌++◌, map, refl, ap, sym, ◌∙◌, subst, append_assoc, append-nil, Some, ◌⊎◌, inl, inr}
+use Rattle.std.proofs.Common.{◌≡◌, ℕ, List, [], ◌++◌, map, refl, ap, sym, ◌∙◌, subst, append_assoc, Some, ◌⊎◌, inl, inr}
 use Rattle.std.specs.Prelude.{Option}
 use Rattle.std.specs.Io.KnownBytes.{Appends, Keeps}
 use Rattle.std.proofs.KnownBytes.{Appends-kept, Appends-nil, Appends-trans}
 use Rattle.std.proofs.lemmas.Grind.{flat_map-append}
 use Rattle.std.proofs.lemmas.List.{map-append}
+use Rattle.std.proofs.lemmas.List.Folds.{flat_map-map}
+use Rattle.pcap_core.specs.Copying.{each_written}
 use Rattle.pcap_core.specs.Format.{Texts}
 use Rattle.pcap_core.specs.Takes.{TakesTexts}
 use Rattle.pcap_core.proofs.Formats.{front_goes_on, has_front, texts_more}
-use Rattle.pcap_core.proofs.Taking.{takes_more}
+use Rattle.pcap_core.proofs.Accepted.{copies_begin}
+use Rattle.pcap_core.proofs.Copying.{each_writing}
+use Rattle.pcap_core.proofs.Taking.{taken_known}
 use Rattle.pcap_core.specs.Reading.{Takes}
 use Rattle.pcap_classic.specs.declared.pcap.header.PcapHeader.{PcapHeader}
 use Rattle.pcap_classic.specs.declared.run.copy.Copied.{Copied}
@@ -18,9 +22,8 @@ use Rattle.pcap_classic.specs.PacketText.{Captured, packet_limit}
 use Rattle.pcap_classic.proofs.Copied.{lawful_under}
 use Rattle.pcap_classic.proofs.Stable.{header_stable}
 use Rattle.pcap_file.specs.Conversion.{BeginsConverted}
-use Rattle.pcap_file.specs.Converted.{converted, little_text, little_texts, opening_blocks, packet_block}
-use Rattle.pcap_file.specs.Converts.{ConvertRun, ConvertsAll, ConvertsPackets, ConvertsTorn}
-use Rattle.pcap_file.proofs.AcceptedBlocks.{taken_known}
+use Rattle.pcap_file.specs.Converted.{converted, converted_text, little_text, little_texts, opening_blocks, packet_block}
+use Rattle.pcap_file.specs.Converts.{ConvertRun}
 
 -- the blocks of some packets, and of more behind them
 more_texts : (header : PcapHeader) (packets more : List Captured)
@@ -70,47 +73,24 @@ module _ (bytes : List ℕ) (now out out_now : Option (List ℕ)) (most : ℕ) (
   nothing : Keeps out out_now → Begins
   nothing kept = ([], Appends-kept out out out_now [] (Appends-nil out) kept, inl refl)
 
-  all_begin : (run : ConvertsPackets (Some bytes) now out out_now most copied) → ConvertsAll run.header run.behind now run.out_behind out_now most copied
-      → Begins
-  all_begin run all =
-      let header = run.header in
-      let known = header_known bytes run.behind header run.opened.read in
-      let f = format_under packet_limit header in
-      let took = subst (λ (o : Option (List ℕ)). TakesTexts f tt all.packets o all.items.left) known.1 all.items.took in
-      let gone = little_texts (converted header all.packets) in
-      let went = subst (λ (t : List ℕ). Appends out out_now t) (sym (flat_map-append little_text (opening_blocks header) (map packet_block all.packets)))
-      (Appends-trans out run.out_behind out_now (little_texts (opening_blocks header)) (little_texts (map packet_block all.packets)) run.opened.out all.out) in
-      (gone, went, inr (begins bytes known.0 all.items.left header all.packets gone [] known.2 took (sym (append-nil gone))))
-
-  torn_begin : (run : ConvertsPackets (Some bytes) now out out_now most copied)
-      → ConvertsTorn run.header run.behind now run.out_behind out_now most copied → Begins
-  torn_begin run tear =
-      let header = run.header in
-      let known = header_known bytes run.behind header run.opened.read in
-      let f = format_under packet_limit header in
-      let packets = tear.so_far.packets in
-      let packet = tear.packet in
-      let both = takes_more f (lawful_under header) tt packets packet run.behind tear.left now tear.so_far.took tear.next in
-      let took = subst (λ (o : Option (List ℕ)). TakesTexts f tt (packets ++ packet ∷ []) o now) known.1 both in
-      let part = tear.out in
-      let before = little_texts (converted header packets) in
-      let gone = before ++ part.2.gone in
-      let first = subst (λ (t : List ℕ). Appends out tear.mid t) (sym (flat_map-append little_text (opening_blocks header) (map packet_block packets)))
-      (Appends-trans out run.out_behind tear.mid (little_texts (opening_blocks header)) (little_texts (map packet_block packets)) run.opened.out tear.so_far.out) in
-      let split = more_texts header packets (packet ∷ []) ∙ ap (λ (t : List ℕ). before ++ t) (append-nil (little_text (packet_block packet)) ∙ part.2.split) ∙ sym (append_assoc before part.2.gone part.0) in
-      (gone, Appends-trans out tear.mid out_now before part.2.gone first part.2.out, inr (begins bytes known.0 now header (packets ++ packet ∷ []) gone part.0 known.2 took split))
-
-  begun : ConvertRun (Some bytes) now out out_now most copied → Begins
-  begun (inl (inl bad)) = nothing bad.out
-  begun (inl (inr (inl bad))) = nothing bad.out
-  begun (inl (inr (inr tear))) =
+  pub conversion_begins : ConvertRun (Some bytes) now out out_now most copied → Begins
+  conversion_begins (inl (inl bad)) = nothing bad.out
+  conversion_begins (inl (inr (inl bad))) = nothing bad.out
+  conversion_begins (inl (inr (inr tear))) =
       let known = header_known bytes now tear.header tear.read in
       let part = tear.out in
       let took : TakesTexts (format_under packet_limit tear.header) tt [] (Some known.0) (Some known.0) = record { bytes = []; texts = refl; took = refl } in
       (part.2.gone, part.2.out, inr (begins bytes known.0 (Some known.0) tear.header [] part.2.gone part.0 known.2 took part.2.split))
-  begun (inr run) = elim run.packets [ inl all ↦ all_begin run all | inr tear ↦ torn_begin run tear ]
-
-pub conversion_begins : (bytes : List ℕ) (now out out_now : Option (List ℕ)) (most : ℕ) (copied : Copied)
-    → ConvertRun (Some bytes) now out out_now most copied
-    → (gone : List ℕ) × Appends out out_now gone × ((gone ≡ []) ⊎ BeginsConverted bytes gone)
-conversion_begins = begun
+  conversion_begins (inr run) =
+      let header = run.header in
+      let known = header_known bytes run.behind header run.opened.read in
+      let them = run.packets in
+      let went = copies_begin (format_under packet_limit header) (lawful_under header) (each_written converted_text) copied.read_failed copied.write_failed copied.fault tt them.items
+      run.behind them.left now run.out_behind them.mid out_now most copied.packets (each_writing converted_text) them.texts them.ends in
+      let packets = went.0 in
+      let opening = little_texts (opening_blocks header) in
+      let gone = went.3 in
+      let took = subst (λ (o : Option (List ℕ)). TakesTexts (format_under packet_limit header) tt packets o went.1) known.1 went.2 in
+      let split = flat_map-append little_text (opening_blocks header) (map packet_block packets) ∙ ap (λ (t : List ℕ). opening ++ t) (flat_map-map little_text packet_block packets ∙ went.5)
+      ∙ sym (append_assoc opening gone went.4) in
+      (opening ++ gone, Appends-trans out run.out_behind out_now opening gone run.opened.out went.6, inr (begins bytes known.0 went.1 header packets (opening ++ gone) went.4 known.2 took split))

@@ -1,11 +1,9 @@
 -- A classic capture that is accepted whole is converted whole.
-use Rattle.std.proofs.Common.{◌≡◌, ◌≤◌, ◌<◌, ◌^◌, ℕ, zero, suc, List, [], ◌∷◌, ◌++◌, length, map, refl, ap, sym, ◌∙◌, subst, arith, length-append, append-nil, Bool, false, Some, None, ◌⊎◌, inl, inr}
+use Rattle.std.proofs.Common.{◌≡◌, ◌≤◌, ◌<◌, ◌^◌, ℕ, zero, suc, List, [], ◌∷◌, length, refl, ap, sym, ◌∙◌, subst, arith, Some, None, ◌⊎◌, inl, inr}
 use Rattle.std.specs.Prelude.{Any, Option, IfSome}
 use Rattle.std.specs.Option.{IsSomeAnd}
 use Rattle.std.specs.Io.KnownBytes.{Appends}
-use Rattle.std.proofs.KnownBytes.{Appends-trans}
 use Rattle.std.proofs.lemmas.Bool.{true≢false}
-use Rattle.std.proofs.lemmas.Grind.{flat_map-append}
 use Rattle.pcap_core.specs.declared.common.Endianness.TheVariants.{Little}
 use Rattle.pcap_core.specs.declared.errors.PcapError.{PcapError}
 use Rattle.pcap_core.specs.declared.errors.PcapError.TheVariants as errors
@@ -14,18 +12,21 @@ use Rattle.pcap_core.specs.Codec.{number_bytes}
 use Rattle.pcap_core.specs.Errors.{IsMemory}
 use Rattle.pcap_core.specs.Link.{IsPlain, link_number}
 use Rattle.pcap_core.specs.Reading.{Takes}
-use Rattle.pcap_core.specs.Takes.{EndsFront}
+use Rattle.pcap_core.specs.Copying.{each_written}
+use Rattle.pcap_core.proofs.Accepted.{copies_accepted}
+use Rattle.pcap_core.proofs.Formats.{whole_same}
+use Rattle.pcap_core.proofs.Taking.{taken_known}
 use Rattle.pcap_classic.specs.declared.pcap.header.PcapHeader.{PcapHeader}
 use Rattle.pcap_classic.specs.declared.run.copy.Copied.{Copied}
-use Rattle.pcap_classic.specs.Copies.{NothingFailed, PacketIsSaid}
+use Rattle.pcap_classic.specs.Copies.{CopiesBehind, NothingFailed}
 use Rattle.pcap_classic.specs.Front.{CaptureFront}
 use Rattle.pcap_classic.specs.HeaderText.{HeaderSays, HeaderText}
+use Rattle.pcap_classic.specs.Packets.{format_under}
 use Rattle.pcap_classic.specs.PacketText.{Captured, packet_limit}
 use Rattle.pcap_classic.specs.Written.{IsWholeHeader}
-use Rattle.pcap_classic.proofs.Accepted.{no_cause, no_header_refusal}
-use Rattle.pcap_classic.proofs.Captures.{packets_read}
+use Rattle.pcap_classic.proofs.Accepted.{no_header_refusal}
+use Rattle.pcap_classic.proofs.Copied.{lawful_under}
 use Rattle.pcap_classic.proofs.One.{header_one}
-use Rattle.pcap_classic.proofs.OneFront.{front_one}
 use Rattle.pcap_classic.proofs.Stable.{header_stable}
 use Rattle.pcap_blocks.specs.InterfaceDescription.{interface_description}
 use Rattle.pcap_blocks.specs.ParsedBlock.{SectionBody, InterfaceBody}
@@ -36,9 +37,9 @@ use Rattle.pcap_written.specs.Flaws.{OptionFlaw}
 use Rattle.pcap_written.specs.Plain.{plain_section}
 use Rattle.pcap_written.specs.Writing.{FlawIn}
 use Rattle.pcap_file.specs.Conversion.{ConvertsEach}
-use Rattle.pcap_file.specs.Converted.{converted, in_nanoseconds, interface_for, little_text, little_texts, opening_blocks, packet_block}
-use Rattle.pcap_file.specs.Converts.{ConvertRun, ConvertsAll, ConvertsPackets, RefusesBlocks}
-use Rattle.pcap_file.proofs.AcceptedBlocks.{taken_known}
+use Rattle.pcap_file.specs.Converted.{converted_text, in_nanoseconds, interface_for, little_texts, opening_blocks}
+use Rattle.pcap_file.specs.Converts.{ConvertRun, ConvertsPackets, RefusesBlocks}
+use Rattle.pcap_file.proofs.Converting.{blocks_out}
 
 any_none : {X : Type 0} (P : X → Type 0) → Any P [] → ⊥
 any_none P x = absurd (omega (arith, x.2))
@@ -88,64 +89,38 @@ module _ (header : PcapHeader) (plain : IsPlain header.datalink) (link : link_nu
   no_refusal (Some (errors.InvalidField text)) memory refused = no_flaw refused.0 refused.2
   no_refusal (Some _) memory refused = absurd refused
 
--- where all packets of a capture were read, and nothing failed, there is no fault
-no_fault_left : (header : PcapHeader) (more : List Captured) (failed : Bool) (count most : ℕ) (fault : Option PcapError) → failed ≡ false
-    → IfSome fault (λ e. IsMemory e → ⊥)
-    → EndsFront (PacketIsSaid header) [] more failed count most fault → (fault ≡ None) × ((more ≡ []) ⊎ (count ≡ most))
-no_fault_left header more failed count most None unfailed memory ends = (refl, elim ends.1 [ inl end ↦ inl end.0 | inr full ↦ inr full ])
-no_fault_left header more failed count most (Some e) unfailed memory ends =
-    elim ends.1 [
-      | inl io ↦ absurd (true≢false (sym io.1 ∙ unfailed))
-      | inr (inl out) ↦ absurd (memory out.0)
-      | inr (inr rest) ↦ absurd (no_cause header failed e unfailed memory rest.1)
-    ]
-
--- a header that was taken of a capture is its header
+-- a header that was taken of a capture is its header, and the same bytes are behind it
 same_header : (bytes after : List ℕ) (now : Option (List ℕ)) (taken header : PcapHeader) → HeaderText header bytes after
-    → Takes HeaderSays (Some bytes) now taken → taken ≡ header
+    → Takes HeaderSays (Some bytes) now taken → (taken ≡ header) × (now ≡ Some after)
 same_header bytes after now taken header text took =
     let l = taken_known bytes took.0 now took.2 in
     let there : HeaderText taken bytes l.0 = subst (λ (s : List ℕ). HeaderText taken s l.0) (sym l.2) (header_stable.text took.0 l.0 [] taken took.1) in
     let o = header_one bytes in
-    let e : whole taken l.0 ≡ whole header after = o.only (whole taken l.0) there ∙ sym (o.only (whole header after) text) in
-    cc
-
-nil_of : (l : List Captured) → length l ≡ 0 → l ≡ []
-nil_of [] e = refl
-nil_of (x ∷ xs) e = absurd (omega (arith, e))
+    let e = whole_same taken header l.0 after (o.only (whole taken l.0) there ∙ sym (o.only (whole header after) text)) in
+    (e.0, l.1 ∙ ap Some e.1)
 
 module _ (header : PcapHeader) (packets : List Captured) (bytes : List ℕ) (now out out_now : Option (List ℕ)) (most : ℕ) (copied : Copied)
     (front : CaptureFront packet_limit header packets bytes []) (few : length packets ≤ most) (fine : NothingFailed copied) where
-  all_converted : (run : ConvertsPackets (Some bytes) now out out_now most copied)
-      → ConvertsAll run.header run.behind now run.out_behind out_now most copied → ConvertsEach header packets out out_now copied
-  all_converted run all =
-      let read = packets_read packet_limit run.header now copied.read_failed most all.packets copied.fault (Some bytes) run.behind run.opened.read all.items in
-      let reads = read.2 in
-      let mine : CaptureFront packet_limit run.header (all.packets ++ reads.more) bytes reads.rest = record { after = read.0; header_text = read.1; front = reads.front } in
-      let one = front_one packet_limit header run.header packets (all.packets ++ reads.more) bytes [] reads.rest front mine in
-      let ends : EndsFront (PacketIsSaid run.header) [] reads.more copied.read_failed (length all.packets) most copied.fault =
-      subst (λ (l : List ℕ). EndsFront (PacketIsSaid run.header) l reads.more copied.read_failed (length all.packets) most copied.fault) (sym one.2) reads.ends in
-      let left = no_fault_left run.header reads.more copied.read_failed (length all.packets) most copied.fault fine.no_read_failed fine.memory ends in
-      let last : reads.more ≡ [] = elim left.1 [
-        | inl none ↦ none
-        | inr full ↦ nil_of reads.more (omega (arith, full, few, ap length one.1, length-append all.packets reads.more))
-      ] in
-      let same : packets ≡ all.packets = one.1 ∙ ap (λ (l : List Captured). all.packets ++ l) last ∙ append-nil all.packets in
-      let blocks = map packet_block all.packets in
-      let went : Appends out out_now (little_texts (converted run.header all.packets)) =
-      subst (λ (t : List ℕ). Appends out out_now t) (sym (flat_map-append little_text (opening_blocks run.header) blocks))
-      (Appends-trans out run.out_behind out_now (little_texts (opening_blocks run.header)) (little_texts blocks) run.opened.out all.out) in
-      record { fine = left.0; count = sym all.count ∙ ap length (sym same); out = rw (one.0, same) went }
+  all_converted : ConvertsPackets (Some bytes) now out out_now most copied → ConvertsEach header packets out out_now copied
+  all_converted run =
+      let same = same_header bytes front.after run.behind run.header header front.header_text run.opened.read in
+      let Behind : PcapHeader → Option (List ℕ) → Type 0 = λ h o. CopiesBehind converted_text h o now run.out_behind out_now most copied in
+      let them : Behind header (Some front.after) = subst (λ (h : PcapHeader). Behind h (Some front.after)) same.0 (subst (Behind run.header) same.1 run.packets) in
+      let room : copied.packets ≡ most → length packets ≤ length them.items = λ full. omega (arith, few, full, them.count) in
+      let all = copies_accepted (format_under packet_limit header) (lawful_under header) (each_written converted_text) copied.read_failed copied.write_failed copied.fault tt them.items
+      (Some front.after) them.left now run.out_behind them.mid out_now most copied.packets packets front.after fine.no_read_failed fine.no_write_failed fine.memory front.front room them.texts them.ends in
+      let opened = subst (λ (h : PcapHeader). Appends out run.out_behind (little_texts (opening_blocks h))) same.0 run.opened.out in
+      record { fine = all.0; count = them.count ∙ ap length (sym all.1); out = blocks_out header packets out run.out_behind out_now opened all.2 }
 
   pub converted_each : IsWholeHeader header → link_number header.datalink < 2 ^ 16 → ConvertRun (Some bytes) now out out_now most copied
       → ConvertsEach header packets out out_now copied
   converted_each fits link (inl (inl bad)) =
       absurd (no_header_refusal header bytes front.after now copied.read_failed copied.fault fine.no_read_failed front.header_text bad.refused)
   converted_each fits link (inl (inr (inl bad))) =
-      let is : bad.header ≡ header = same_header bytes front.after now bad.header header front.header_text bad.read in
+      let is : bad.header ≡ header = (same_header bytes front.after now bad.header header front.header_text bad.read).0 in
       absurd (no_refusal header fits.plain link copied.fault fine.memory (subst (λ (h : PcapHeader). IsSomeAnd copied.fault (RefusesBlocks (opening_blocks h))) is bad.refused))
   converted_each fits link (inl (inr (inr tear))) = absurd (true≢false (sym tear.write_failed ∙ fine.no_write_failed))
-  converted_each fits link (inr run) = elim run.packets [ inl all ↦ all_converted run all | inr tear ↦ absurd (true≢false (sym tear.write_failed ∙ fine.no_write_failed)) ]
+  converted_each fits link (inr run) = all_converted run
 
 pub accepted_converted : (header : PcapHeader) (packets : List Captured) (bytes : List ℕ) (now out out_now : Option (List ℕ)) (most : ℕ) (copied : Copied)
     → IsWholeHeader header → link_number header.datalink < 2 ^ 16 → CaptureFront packet_limit header packets bytes [] → length packets ≤ most

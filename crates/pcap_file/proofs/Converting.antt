@@ -1,24 +1,21 @@
 -- Packets that are converted, one after another.
-use Rattle.std.proofs.Common.{◌≡◌, ◌≤◌, ◌<◌, ◌+◌, ℕ, List, [], ◌∷◌, ◌++◌, refl, ap, sym, ◌∙◌, subst, arith, length, length-append, append-nil, map, Ok, Err, ◌⊎◌, inl, inr, false}
+use Rattle.std.proofs.Common.{◌≡◌, ◌≤◌, ℕ, List, [], sym, subst, arith, length, map, inl, inr}
 use Rattle.std.specs.Prelude.{Any, Option, Result}
 use Rattle.std.specs.Io.KnownBytes.{Appends}
-use Rattle.std.proofs.KnownBytes.{Appends-nil, Appends-trans, Appends-kept, Keeps-refl}
+use Rattle.std.proofs.KnownBytes.{Appends-trans}
 use Rattle.std.proofs.lemmas.Grind.{flat_map-append}
-use Rattle.std.proofs.lemmas.List.{map-append}
+use Rattle.std.specs.List.{flat_map}
+use Rattle.std.proofs.lemmas.List.Folds.{flat_map-map}
 use Rattle.pcap_core.specs.declared.common.Endianness.TheVariants.{Little}
 use Rattle.pcap_core.specs.declared.errors.PcapError.{PcapError}
 use Rattle.pcap_core.specs.declared.errors.PcapError.TheVariants as errors
 use Rattle.pcap_core.specs.Answer.{whole}
 use Rattle.pcap_core.specs.Codec.{number_bytes}
-use Rattle.pcap_core.specs.Reading.{Takes}
 use Rattle.pcap_core.specs.Writing.{WritesAll}
-use Rattle.pcap_core.proofs.Taking.{takes_none, takes_more}
 use Rattle.pcap_classic.specs.declared.pcap.header.PcapHeader.{PcapHeader}
 use Rattle.pcap_classic.specs.declared.run.copy.Copied.{Copied}
-use Rattle.pcap_classic.specs.Copies.{PacketIsSaid, outcome_of}
-use Rattle.pcap_classic.specs.Packets.{format_under, packet_format, reader_format}
+use Rattle.pcap_classic.specs.Packets.{packet_format, reader_format}
 use Rattle.pcap_classic.specs.PacketText.{Captured, packet_limit}
-use Rattle.pcap_classic.proofs.Copied.{lawful_under}
 use Rattle.pcap_classic.proofs.Packets.{reader_whole}
 use Rattle.pcap_blocks.specs.ParsedBlock.{Body, EnhancedBody}
 use Rattle.pcap_written.specs.declared.unwritable.Unwritable.{Unwritable}
@@ -28,8 +25,8 @@ use Rattle.pcap_written.specs.Bodies.{text_of}
 use Rattle.pcap_written.specs.Plain.{plain_packet}
 use Rattle.pcap_written.specs.Puts.{IsShownAs, RefusesPut}
 use Rattle.pcap_written.specs.Writing.{FlawIn}
-use Rattle.pcap_file.specs.Converted.{little_text, little_texts, packet_block}
-use Rattle.pcap_file.specs.Converts.{Converting, ConvertsBehind, ConvertsNone, ConvertRun, RefusesBlocks, RefusesNext, TearsNext}
+use Rattle.pcap_file.specs.Converted.{converted, converted_text, little_text, little_texts, opening_blocks, packet_block}
+use Rattle.pcap_file.specs.Converts.{ConvertRun, RefusesBlocks}
 
 -- what stands against one of some blocks
 pub block_refused : (blocks : List Body) (block : Body) → ((flaw : Unwritable) → FlawIn Little block flaw → Any (λ b. FlawIn Little b flaw) blocks)
@@ -56,88 +53,14 @@ packet_put a b result time units original bytes others t d out =
     subst (λ (n : ℕ). WritesAll a b (text_of (number_bytes Little) (EnhancedBody (plain_packet 0 n original bytes))) result) t out in
     subst (λ (l : List ℕ). WritesAll a b (text_of (number_bytes Little) (EnhancedBody (plain_packet 0 units original l))) result) d first
 
-module _ (header : PcapHeader) where
-  pub converting_none : (before out : Option (List ℕ)) → Converting header before before out out 0
-  converting_none before out = record { packets = []; count = refl; took = takes_none (format_under packet_limit header) tt before; out = Appends-nil out }
-
-  pub converting_more : (a b c p q r : Option (List ℕ)) (n : ℕ) (packet : Captured) → Converting header a b p q n → Takes (PacketIsSaid header) b c packet
-      → Appends q r (little_text (packet_block packet)) → Converting header a c p r (n + 1)
-  converting_more a b c p q r n packet so_far taken out =
-      let blocks = map packet_block so_far.packets in
-      let goes : little_texts (map packet_block (so_far.packets ++ packet ∷ [])) ≡ little_texts blocks ++ little_text (packet_block packet) =
-      ap little_texts (map-append packet_block so_far.packets (packet ∷ [])) ∙ flat_map-append little_text blocks (packet_block packet ∷ [])
-      ∙ ap (λ (l : List ℕ). little_texts blocks ++ l) (append-nil (little_text (packet_block packet))) in
-      record {
-        packets = so_far.packets ++ packet ∷ [];
-        count = length-append so_far.packets (packet ∷ []) ∙ omega (arith, so_far.count);
-        took = takes_more (format_under packet_limit header) (lawful_under header) tt so_far.packets packet a b c so_far.took taken;
-        out = subst (λ (l : List ℕ). Appends p r l) (sym goes) (Appends-trans p q r (little_texts blocks) (little_text (packet_block packet)) so_far.out out);
-      }
-
-  -- the most packets are converted
-  pub ends_full : (before now out_before out_now : Option (List ℕ)) (most : ℕ) (copied : Copied) → Converting header before now out_before out_now copied.packets → copied.packets ≡ most → copied.read_failed ≡ false → copied.write_failed ≡ false
-      → ConvertsBehind header before now out_before out_now most (outcome_of copied (Ok tt))
-  ends_full before now out_before out_now most copied so_far full read wrote = inl (record {
-    packets = so_far.packets;
-    count = so_far.count;
-    items = record {
-      left = now;
-      took = so_far.took;
-      within = omega (arith, so_far.count, full);
-      stops = (read, Keeps-refl now, inr (so_far.count ∙ full));
-    };
-    no_write_failed = wrote;
-    out = so_far.out;
-  })
-
-  module _ (before left now out_before mid out_now : Option (List ℕ)) (most : ℕ) (copied : Copied) where
-    -- no packet is left
-    pub ends_none : (n : ℕ) → n < most → copied.packets ≡ n → Converting header before left out_before mid n → ConvertsNone left now mid out_now copied
-        → ConvertsBehind header before now out_before out_now most (outcome_of copied (Ok tt))
-    ends_none n fewer counts so_far none = inl (record {
-      packets = so_far.packets;
-      count = so_far.count ∙ sym counts;
-      items = record {
-        left = left;
-        took = so_far.took;
-        within = omega (arith, so_far.count, fewer);
-        stops = (none.no_read_failed, none.taken, inl none.at_end);
-      };
-      no_write_failed = none.no_write_failed;
-      out = Appends-kept out_before mid out_now (little_texts (map packet_block so_far.packets)) so_far.out none.out;
-    })
-
-    -- the next packet is refused, or a write fails in its block
-    pub ends_refused : (n : ℕ) (e : PcapError) → n < most → copied.packets ≡ n → Converting header before left out_before mid n
-        → RefusesNext header left now mid out_now copied e ⊎ TearsNext header left now mid out_now copied e
-        → ConvertsBehind header before now out_before out_now most (outcome_of copied (Err e))
-    ends_refused n e fewer counts so_far why =
-        elim why [
-          | inl refused ↦ inl (record {
-            packets = so_far.packets;
-            count = so_far.count ∙ sym counts;
-            items = record {
-              left = left;
-              took = so_far.took;
-              within = omega (arith, so_far.count, fewer);
-              stops = (omega (arith, so_far.count, fewer), refused.cause, refused.part);
-            };
-            no_write_failed = refused.no_write_failed;
-            out = Appends-kept out_before mid out_now (little_texts (map packet_block so_far.packets)) so_far.out refused.out;
-          })
-          | inr tear ↦ inr (record {
-            left = left;
-            mid = mid;
-            so_far = subst (λ (k : ℕ). Converting header before left out_before mid k) (sym counts) so_far;
-            packet = tear.packet;
-            next = tear.next;
-            fewer = omega (arith, fewer, counts);
-            refused = tear.refused;
-            no_read_failed = tear.no_read_failed;
-            write_failed = tear.write_failed;
-            out = tear.out;
-          })
-        ]
+-- the blocks of packets went out behind those before them
+pub blocks_out : (header : PcapHeader) (packets : List Captured) (a b c : Option (List ℕ)) → Appends a b (little_texts (opening_blocks header)) → Appends b c (flat_map converted_text packets)
+    → Appends a c (little_texts (converted header packets))
+blocks_out header packets a b c opening out =
+    let opens = opening_blocks header in
+    let blocks = map packet_block packets in
+    let went = subst (λ (t : List ℕ). Appends b c t) (sym (flat_map-map little_text packet_block packets)) out in
+    subst (λ (t : List ℕ). Appends a c t) (sym (flat_map-append little_text opens blocks)) (Appends-trans a b c (little_texts opens) (little_texts blocks) opening went)
 
 -- a conversion goes no further than it is told
 pub converts_within : (before now out_before out_now : Option (List ℕ)) (most : ℕ) (copied : Copied) → ConvertRun before now out_before out_now most copied → copied.packets ≤ most
@@ -147,5 +70,5 @@ converts_within before now out_before out_now most copied run =
         | inl header ↦ omega (arith, header.none)
         | inr opened ↦ elim opened [ inl refused ↦ omega (arith, refused.none) | inr tear ↦ omega (arith, tear.none) ]
       ]
-      | inr them ↦ elim them.packets [ inl all ↦ omega (arith, all.count, all.items.within) | inr tear ↦ omega (arith, tear.fewer) ]
+      | inr them ↦ them.packets.within
     ]

@@ -1,41 +1,33 @@
 -- Items that are copied, one after another.
 use Rattle.std.proofs.Common.{◌≡◌, ℕ, List, [], ◌∷◌, refl, sym, subst, inl, Err}
 use Rattle.std.specs.Prelude.{Option, Result, Ok, ⊤}
-use Rattle.std.specs.Result.{result_err}
 use Rattle.std.specs.Io.KnownBytes.{Consumes, Appends}
 use Rattle.pcap_core.specs.declared.errors.PcapError.{PcapError}
 use Rattle.pcap_core.specs.declared.common.Endianness.{Endianness}
 use Rattle.pcap_core.specs.declared.stream.copying.Tally.{Tally}
 use Rattle.pcap_core.specs.Faults.{Fault, Shows}
 use Rattle.pcap_core.specs.Answer.{whole, faulty, Refuses}
+use Rattle.pcap_core.specs.AsTheyCame.{as_they_came}
 use Rattle.pcap_core.specs.Copying as core
-use Rattle.pcap_core.specs.Copying.{IsWriting}
+use Rattle.pcap_core.proofs.AsTheyCame.{bytes_writing}
 use Rattle.pcap_core.proofs.Copying.{copies_all}
 use Rattle.pcap_core.proofs.Refusals.{shows_more}
 use Rattle.pcap_file.specs.Blocks.{Item, BlockSays, block_format}
 use Rattle.pcap_file.specs.Frames.{Framed, FrameSays, frame_format}
 use Rattle.pcap_file.specs.Opening.{OpeningSays}
-use Rattle.pcap_file.specs.Copies.{CopiesTexts, CopiesNg, FollowsHeld, as_they_came, copied_of}
+use Rattle.pcap_file.specs.Copies.{CopiesTexts, CopiesNg, FollowsHeld, copied_of}
 use Rattle.pcap_file.specs.State.{State, opening, order_at, CanGrow, FollowTells}
 use Rattle.pcap_file.proofs.Causes.{body_refused, pull_item}
 use Rattle.pcap_file.proofs.Refusing.{refuses_wider, shows_refuses}
 use Rattle.pcap_file.proofs.BlockFormat.{blocks_lawful}
 
-pub bytes_writing : {V : Type 0} → IsWriting {V = V} as_they_came
-bytes_writing = record { nothing = refl; joined = λ vs ws s t. refl }
-
--- where an item leads
-pub leads_to : (q next : State) (item : Item) → item.after ≡ next → block_format.goes q item ≡ next
-unfolding block_format
-leads_to q next item leads = leads
-
 -- what was copied behind a first block
-pub first_copies : (first : Item) (q : State) (a b now s r out : Option (List ℕ)) (most : ℕ) (tally : Tally) (result : Result (Unit {0}) PcapError) → first.after ≡ q → CopiesTexts block_format opening (first ∷ []) a b s r
-    → core.CopiesBehind block_format as_they_came q b now r out most tally result → CopiesNg a now s out most (copied_of tally (result_err result))
+pub first_copies : (first : Item) (q : State) (a b now s r out : Option (List ℕ)) (most : ℕ) (tally : Tally) (fault : Option PcapError) → first.after ≡ q → CopiesTexts block_format opening (first ∷ []) a b s r
+    → core.CopiesBehind block_format as_they_came q b now r out most tally.items fault tally.read_failed tally.write_failed → CopiesNg a now s out most (copied_of tally fault)
 unfolding block_format
-first_copies first q a b now s r out most tally result leads one more =
-    let behind : core.CopiesBehind block_format as_they_came first.after b now r out most tally result =
-    subst (λ (x : State). core.CopiesBehind block_format as_they_came x b now r out most tally result) (sym leads) more in
+first_copies first q a b now s r out most tally fault leads one more =
+    let behind : core.CopiesBehind block_format as_they_came first.after b now r out most tally.items fault tally.read_failed tally.write_failed =
+    subst (λ (x : State). core.CopiesBehind block_format as_they_came x b now r out most tally.items fault tally.read_failed tally.write_failed) (sym leads) more in
     record {
       first = first;
       items = behind.items;

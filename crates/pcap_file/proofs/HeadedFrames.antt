@@ -11,9 +11,8 @@ use Rattle.pcap_core.specs.Faults.{Fault, Invalid}
 use Rattle.pcap_core.specs.Laws.{ExactlyOne}
 use Rattle.pcap_core.specs.Format.{IsLawful}
 use Rattle.pcap_core.specs.Headed.{Piece, HeadReading, good, bad, Headed, HeadedSays, headed, IsHeaded}
-use Rattle.pcap_core.proofs.Formats.{lawful_moved}
+use Rattle.pcap_core.proofs.Formats.{lawful_moved, beginning}
 use Rattle.pcap_core.proofs.Headed.{headed_lawful}
-use Rattle.pcap_core.proofs.Texts.{split_same}
 use Rattle.pcap_blocks.specs.declared.block_type.BlockType.{BlockType}
 use Rattle.pcap_blocks.specs.BlockType.{block_type}
 use Rattle.pcap_file.specs.Frames.{Framed, own_order, FrameHeadText, NoOrder, no_order, unaligned, too_short, FrameTail, FrameText, LengthsDiffer, FrameFault, in_head, unequal, FrameSays, frame_format}
@@ -249,16 +248,6 @@ breaks_again e f s more p =
           ]
     ]
 
--- of two beginnings of one list the shorter begins the longer
-cut_front : (a x b y : List ℕ) → a ++ x ≡ b ++ y → length a ≤ length b → (w : List ℕ) × (b ≡ a ++ w) × (x ≡ w ++ y)
-cut_front a x b y e le =
-    let n = length a in
-    let parts : take n b ++ drop n b ≡ b = take-append-drop n b in
-    let long : a ++ x ≡ take n b ++ (drop n b ++ y) = e ∙ ap (λ (t : List ℕ). t ++ y) (sym parts) ∙ append_assoc (take n b) (drop n b) y in
-    let count : length a ≡ length (take n b) = sym (length-take n b ∙ omega (arith, le)) in
-    let same = split_same a x (take n b) (drop n b ++ y) count long in
-    (drop n b, sym parts ∙ ap (λ (t : List ℕ). t ++ drop n b) (sym same.0), same.1)
-
 make_framed : BlockType → ℕ → List ℕ → ℕ → Endianness → Framed
 make_framed type len body trailer own = record { type_ = type; initial_len = len; body = body; trailer_len = trailer; endianness = own }
 
@@ -277,7 +266,7 @@ record Cut (third more body tail rest : List ℕ) : Type 0 where
 cut_there : (third more after body after_body tail rest : List ℕ) → length third ≡ 4 → length tail ≡ 4 → after ≡ third ++ more → after ≡ body ++ after_body → after_body ≡ tail ++ rest → Cut third more body tail rest
 cut_there third more after body after_body tail rest wide four x y z =
     let joined : third ++ more ≡ (body ++ tail) ++ rest = sym x ∙ y ∙ ap (λ (t : List ℕ). body ++ t) z ∙ sym (append_assoc body tail rest) in
-    let c = cut_front third more (body ++ tail) rest joined (omega (arith, length-append body tail, wide, four)) in
+    let c = beginning third more (body ++ tail) rest joined (omega (arith, length-append body tail, wide, four)) in
     record {
       m = c.0;
       text = c.2;

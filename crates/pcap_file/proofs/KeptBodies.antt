@@ -1,8 +1,8 @@
 -- What a block puts in force, and what is kept of it, leads on as its body does.
-use Rattle.std.proofs.Common.{◌≡◌, ℕ, List, [], ◌∷◌, ◌++◌, true, false, Bool, refl, sym, ap, subst, inl, Result, Ok, Err}
+use Rattle.std.proofs.Common.{◌≡◌, ℕ, List, [], ◌∷◌, ◌++◌, true, Bool, refl, sym, ap, subst, inl, Result, Ok, Err}
 use Rattle.std.specs.Prelude.{⊤}
 use Rattle.pcap_core.specs.declared.errors.PcapError.{PcapError}
-use Rattle.pcap_core.specs.Answer.{number_in, whole, faulty, Refuses}
+use Rattle.pcap_core.specs.Answer.{number_in, whole, Refuses}
 use Rattle.pcap_core.specs.Errors.{IsMemory}
 use Rattle.pcap_core.specs.Faults.{Fault}
 use Rattle.pcap_core.specs.Headed.{HeadReading, good, bad}
@@ -16,7 +16,7 @@ use Rattle.pcap_blocks.specs.InterfaceDescription.{Interface, InterfaceSays, int
 use Rattle.pcap_blocks.specs.ParsedBlock.{SectionBody, InterfaceBody, BodySays}
 use Rattle.pcap_file.specs.declared.pcapng.change.Change.{Change}
 use Rattle.pcap_file.specs.declared.pcapng.change.Change.TheVariants as changes
-use Rattle.pcap_file.specs.Bodies.{GrowsInBody, SaysOfBody}
+use Rattle.pcap_file.specs.Bodies.{SaysOfBody}
 use Rattle.pcap_file.specs.Changes.{ChangeTells}
 use Rattle.pcap_file.specs.Frames.{Framed}
 use Rattle.pcap_file.specs.State.{State, opening, within, is_kept, is_read, leads, MeansIf, Means, AreKept, IsHeader, CanGrow, FollowTells, Keeps}
@@ -29,15 +29,15 @@ memory_refuses : (M : Type 0) (P : Fault → Type 0) → M → (e : PcapError) �
 memory_refuses M P may e memory = refuses_wider ⊤ M P P (λ grows. may) (λ fault shown. shown) e (refuses_memory (λ n. ⊥) P e memory)
 
 module _ (b : Framed) (is : b.type_ ≡ types.SectionHeader) where
-  read_section : (q : State) → is_read q b.type_ ≡ true
+  pub read_section : (q : State) → is_read q b.type_ ≡ true
   read_section opening = refl
   read_section (within section interfaces) = ap is_kept is
 
-  grows_section : (q : State) → CanGrow q b
+  pub grows_section : (q : State) → CanGrow q b
   grows_section opening = inl (subst IsHeader (sym is) tt)
   grows_section (within section interfaces) = subst AreKept (sym is) tt
 
-  leads_section : (q : State) (section : Section) → leads q (SectionBody section) ≡ good (within section [])
+  pub leads_section : (q : State) (section : Section) → leads q (SectionBody section) ≡ good (within section [])
   leads_section opening section = refl
   leads_section (within s interfaces) section = refl
 
@@ -64,22 +64,6 @@ module _ (section : Section) (interfaces : List Interface) (b : Framed) where
   pub interface_unkept : (e : PcapError) → b.type_ ≡ types.InterfaceDescription → IsMemory e → Refuses (CanGrow (within section interfaces) b) (λ n. ⊥) (λ fault. Means (within section interfaces) b (bad fault)) e
   interface_unkept e is memory =
       memory_refuses (CanGrow (within section interfaces) b) (λ fault. Means (within section interfaces) b (bad fault)) (subst AreKept (sym is) tt) e memory
-
-  -- any other block leaves what is in force
-  pub other_means : is_kept b.type_ ≡ false → Means (within section interfaces) b (good (within section interfaces))
-  other_means is = subst (λ (kept : Bool). MeansIf kept (within section interfaces) b (good (within section interfaces))) (sym is) refl
-
-  -- what refuses a body that is kept refuses its block
-  pub kept_refuses : (e : PcapError) → is_kept b.type_ ≡ true → Refuses (GrowsInBody b) (λ n. ⊥) (λ fault. SaysOfBody b (faulty fault)) e
-      → Refuses (CanGrow (within section interfaces) b) (λ n. ⊥) (λ fault. Means (within section interfaces) b (bad fault)) e
-  kept_refuses e is x =
-      refuses_wider (GrowsInBody b) (CanGrow (within section interfaces) b) (λ fault. SaysOfBody b (faulty fault)) (λ fault. Means (within section interfaces) b (bad fault))
-      (λ grows. are_kept b.type_ is) (λ fault says. read_means (within section interfaces) b (bad fault) is (inl says)) e x
-    where
-      are_kept : (t : BlockType) → is_kept t ≡ true → AreKept t
-      are_kept types.SectionHeader is = tt
-      are_kept types.InterfaceDescription is = tt
-      are_kept _ is = absurd cc
 
   pub section_follows : (new : State) (change : Change) (next : SectionHeaderBlock) (r : Result (Unit {0}) PcapError) → ChangeTells b (Ok change) → change ≡ changes.Section next
       → Keeps (within section interfaces) new (within (section_of next) []) r → FollowTells (within section interfaces) new b r

@@ -1,5 +1,5 @@
 -- A block whose list of options has its mark is a block.
-use Rattle.std.proofs.Common.{◌≡◌, ℕ, List, [], ◌++◌, true, refl, sym, ap, subst, ◌∙◌}
+use Rattle.std.proofs.Common.{◌≡◌, ℕ, List, ◌++◌, refl, sym, ap, subst, ◌∙◌}
 use Rattle.pcap_core.specs.Answer.{number_in, whole}
 use Rattle.pcap_core.specs.Format.{Extends, Front}
 use Rattle.pcap_core.specs.Headed.{good}
@@ -13,9 +13,9 @@ use Rattle.pcap_blocks.proofs.OneList.{list_kept}
 use Rattle.pcap_file.specs.Blocks.{Item, BlockText, block_format}
 use Rattle.pcap_file.specs.Frames.{Framed}
 use Rattle.pcap_file.specs.MarkedLists.{MarkedSection, MarkedInterface, MarkedLeads, to_section, to_interface, nowhere, MarkedText, marked_format}
-use Rattle.pcap_file.specs.State.{State, opening, within, is_kept, is_read, leads, Means}
+use Rattle.pcap_file.specs.State.{State, within, is_kept, Means}
 use Rattle.pcap_file.proofs.BlockFormat.{blocks_lawful}
-use Rattle.pcap_file.proofs.KeptBodies.{read_means}
+use Rattle.pcap_file.proofs.KeptBodies.{read_means, read_section, leads_section}
 
 section_unmarked : (section : Section) (s rest : List ℕ) → MarkedSection section s rest → SectionText section s rest
 section_unmarked section s rest x = record {
@@ -29,20 +29,11 @@ section_unmarked section s rest x = record {
 interface_unmarked : (order : ℕ → List ℕ → ℕ) (interface : Interface) (s rest : List ℕ) → MarkedInterface order interface s rest → InterfaceText order interface s rest
 interface_unmarked order interface s rest x = record { after_head = x.after_head; head = x.head; options_are = list_kept order interface_description interface.options x.after_head rest x.options_are }
 
--- a section header is read under each state
-section_read : (q : State) (b : Framed) → b.type_ ≡ types.SectionHeader → is_read q b.type_ ≡ true
-section_read opening b is = refl
-section_read (within section interfaces) b is = ap is_kept is
-
-section_leads : (q : State) (section : Section) → leads q (SectionBody section) ≡ good (within section [])
-section_leads opening section = refl
-section_leads (within before interfaces) section = refl
-
 marked_means : (q : State) (b : Framed) (next : State) → MarkedLeads b next q → Means q b (good next)
 marked_means _ b next (to_section q section rest is text there) =
     let said : BodySays (number_in b.endianness) types.SectionHeader b.body (whole (SectionBody section) rest) = (section, refl, section_unmarked section b.body rest text) in
     let here : BodySays (number_in b.endianness) b.type_ b.body (whole (SectionBody section) rest) = subst (λ (t : BlockType). BodySays (number_in b.endianness) t b.body (whole (SectionBody section) rest)) (sym is) said in
-    read_means q b (good next) (section_read q b is) (SectionBody section, rest, here, section_leads q section ∙ ap good (sym there))
+    read_means q b (good next) (read_section b is q) (SectionBody section, rest, here, leads_section b is q section ∙ ap good (sym there))
 marked_means _ b next (to_interface section interfaces interface rest is text there) =
     let q = within section interfaces in
     let said : BodySays (number_in b.endianness) types.InterfaceDescription b.body (whole (InterfaceBody interface) rest) = (interface, refl, interface_unmarked (number_in b.endianness) interface b.body rest text) in

@@ -187,13 +187,7 @@ first_here at behind (of_bytes raw) text rest is readable one = raw_first at beh
         let led = section_led opening behind e body place.0.named place.1 (λ section rest says. (SectionBody section, rest, says, refl)) readable in
         raw_here opening behind (header_raw e body) text rest is_text led (section_again (order_at opening) e body rest fit named)
     raw_first at behind types.InterfaceDescription e body text rest is readable one = absurd cc
-    raw_first at behind types.Packet e body text rest is readable one = absurd cc
-    raw_first at behind types.SimplePacket e body text rest is readable one = absurd cc
-    raw_first at behind types.NameResolution e body text rest is readable one = absurd cc
-    raw_first at behind types.InterfaceStatistics e body text rest is readable one = absurd cc
-    raw_first at behind types.EnhancedPacket e body text rest is readable one = absurd cc
-    raw_first at behind types.SystemdJournalExport e body text rest is readable one = absurd cc
-    raw_first at behind (types.Unknown n) e body text rest is readable one = absurd cc
+    raw_first at behind _ e body text rest is readable one = absurd cc
 
 -- what is read of blocks that go out
 record AreReadHere (q : State) (end : Place) (blocks : List Written) (bytes : List ℕ) : Type 0 where

@@ -83,24 +83,12 @@ module _ (interfaces : List Interface) (link : DataLink) where
   body_places_same : (body : Body) (p q : Captured) → PlacesBody interfaces link body p → PlacesBody interfaces link body q → p ≡ q
   body_places_same (EnhancedBody b) p q x y = places_same (slice_get interfaces b.interface_id) link b.packet.timestamp b.packet.original_len b.packet.bytes p x q y
   body_places_same (OldPacketBody b) p q x y = places_same (slice_get interfaces b.interface_id) link b.packet.timestamp b.packet.original_len b.packet.bytes p x q y
-  body_places_same (SectionBody b) p q x y = absurd x
-  body_places_same (InterfaceBody b) p q x y = absurd x
-  body_places_same (SimpleBody b) p q x y = absurd x
-  body_places_same (NamesBody b) p q x y = absurd x
-  body_places_same (StatisticsBody b) p q x y = absurd x
-  body_places_same (JournalBody b) p q x y = absurd x
-  body_places_same (OtherBody b) p q x y = absurd x
+  body_places_same _ p q x y = absurd x
 
   body_no_reason : (body : Body) (p : Captured) → PlacesBody interfaces link body p → (reason : Unplaced) → HasNoPlaceBody interfaces link body reason → ⊥
   body_no_reason (EnhancedBody b) p x = no_reason (slice_get interfaces b.interface_id) link b.packet.timestamp b.packet.original_len b.packet.bytes p x
   body_no_reason (OldPacketBody b) p x = no_reason (slice_get interfaces b.interface_id) link b.packet.timestamp b.packet.original_len b.packet.bytes p x
-  body_no_reason (SectionBody b) p x = absurd x
-  body_no_reason (InterfaceBody b) p x = absurd x
-  body_no_reason (SimpleBody b) p x = absurd x
-  body_no_reason (NamesBody b) p x = absurd x
-  body_no_reason (StatisticsBody b) p x = absurd x
-  body_no_reason (JournalBody b) p x = absurd x
-  body_no_reason (OtherBody b) p x = absurd x
+  body_no_reason _ p x = absurd x
 
   module _ (b : Framed) where
     -- a block becomes one packet, or has no place for some reason, or holds none

@@ -14,14 +14,7 @@ use Rattle.pcap_file.specs.State.{opening, leads, Means}
 
 leads_nowhere : (p : ParsedBlock) → ((section : SectionHeaderBlock) → p ≡ block_of.SectionHeader section → ⊥) → leads opening (body_of p) ≡ bad (Invalid SectionMissing)
 leads_nowhere (block_of.SectionHeader b) none = absurd (none b refl)
-leads_nowhere (block_of.InterfaceDescription b) none = refl
-leads_nowhere (block_of.Packet b) none = refl
-leads_nowhere (block_of.SimplePacket b) none = refl
-leads_nowhere (block_of.NameResolution b) none = refl
-leads_nowhere (block_of.InterfaceStatistics b) none = refl
-leads_nowhere (block_of.EnhancedPacket b) none = refl
-leads_nowhere (block_of.SystemdJournalExport b) none = refl
-leads_nowhere (block_of.Unknown b) none = refl
+leads_nowhere _ none = refl
 
 pub no_section : (b : Framed) (p : ParsedBlock) → ((section : SectionHeaderBlock) → p ≡ block_of.SectionHeader section → ⊥) → (rest : List ℕ) × SaysOfBody b (whole (body_of p) rest) → Means opening b (bad (Invalid SectionMissing))
 no_section b p none said = inr (body_of p, said.0, said.1, leads_nowhere p none)

@@ -22,13 +22,7 @@ pub record IsPlaced (packet : Captured) : Type 0 where
 pub body_placed : (interfaces : List Interface) (link : DataLink) (body : Body) (packet : Captured) → PlacesBody interfaces link body packet → IsPlaced packet
 body_placed interfaces link (EnhancedBody b) packet x = record { whole = x.whole; no_second_more = x.time.time_is.split.no_second_more }
 body_placed interfaces link (OldPacketBody b) packet x = record { whole = x.whole; no_second_more = x.time.time_is.split.no_second_more }
-body_placed interfaces link (SectionBody b) packet x = absurd x
-body_placed interfaces link (InterfaceBody b) packet x = absurd x
-body_placed interfaces link (SimpleBody b) packet x = absurd x
-body_placed interfaces link (NamesBody b) packet x = absurd x
-body_placed interfaces link (StatisticsBody b) packet x = absurd x
-body_placed interfaces link (JournalBody b) packet x = absurd x
-body_placed interfaces link (OtherBody b) packet x = absurd x
+body_placed interfaces link _ packet x = absurd x
 
 -- packets of blocks have room in a classic capture
 pub packets_whole : (link : DataLink) (items : List Item) (turns : List Turn) → AllZip (Becomes link) items turns → All IsWhole (packets_of turns)

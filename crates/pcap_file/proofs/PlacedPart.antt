@@ -23,7 +23,7 @@ use Rattle.pcap_file.specs.Placed.{Becomes, Turn, interfaces_at, packet_of_turn,
 use Rattle.pcap_file.specs.Placing.{EndsPlacing, FailsBlock, PlacesAll, PlacesRun, Sink, Source, TakesNext}
 use Rattle.pcap_file.specs.RoundTrip.{BeginsPlaced, GoesNoFurther, PlacesRow}
 use Rattle.pcap_file.specs.State.{State}
-use Rattle.pcap_file.proofs.AcceptedBlocks.{taken_known}
+use Rattle.pcap_core.proofs.Taking.{taken_known}
 use Rattle.pcap_file.proofs.BlockFormat.{blocks_lawful}
 use Rattle.pcap_file.proofs.OneTurn.{turn_same}
 

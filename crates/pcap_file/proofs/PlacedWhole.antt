@@ -34,7 +34,8 @@ use Rattle.pcap_file.specs.declared.pcapng.reader.PcapNgReader.{PcapNgReader}
 use Rattle.pcap_file.specs.Reader.{OpensReader, state_of, stream_of, text_of}
 use Rattle.pcap_file.specs.RoundTrip.{AreReady, BlocksBecome, CanPlace, ComeBack, IsOpened, NothingFailed, PlacesEach}
 use Rattle.pcap_file.specs.State.{State, leads, opening}
-use Rattle.pcap_file.proofs.AcceptedBlocks.{no_cause, taken_known}
+use Rattle.pcap_core.proofs.Accepted.{no_stop}
+use Rattle.pcap_core.proofs.Taking.{taken_known}
 use Rattle.pcap_file.proofs.BlockFormat.{blocks_lawful}
 use Rattle.pcap_file.proofs.Bodies.{packet_as_body, refused_for_memory}
 use Rattle.pcap_file.proofs.FirstBlock.{opening_stable}
@@ -185,7 +186,7 @@ module _ (header : PcapHeader) (choice : IfUnplaced) (turns : List Turn) (a b : 
           let says = block_format.says mid.state in
           let cause : HasCause says (Some l.after) b.failed e = subst (λ (o : Option (List ℕ)). HasCause says o b.failed e) l.left why.0.cause in
           let part : TakesAsked says (Some l.after) b.left = subst (λ (o : Option (List ℕ)). TakesAsked says o b.left) l.left why.0.part in
-          no_cause block_format blocks_lawful mid.state l.more l.after b.left b.failed e l.front fine.no_read_failed memory cause part
+          no_stop block_format blocks_lawful b.failed (Some e) mid.state l.more l.after b.left fine.no_read_failed memory l.front cause part
       no_fail e memory (inr why) = next_fails e why.0 l.more l.others refl refl why.1 memory why.2
 
       -- the stream is at its end
@@ -218,14 +219,7 @@ module _ (header : PcapHeader) (choice : IfUnplaced) (turns : List Turn) (a b : 
 -- a first block is no packet's
 opened : (body : Body) (q : State) → leads opening body ≡ good q → is_packet (type_of body) ≡ false
 opened (SectionBody x) q e = refl
-opened (InterfaceBody x) q e = absurd cc
-opened (OldPacketBody x) q e = absurd cc
-opened (SimpleBody x) q e = absurd cc
-opened (NamesBody x) q e = absurd cc
-opened (StatisticsBody x) q e = absurd cc
-opened (EnhancedBody x) q e = absurd cc
-opened (JournalBody x) q e = absurd cc
-opened (OtherBody x) q e = absurd cc
+opened _ q e = absurd cc
 
 none_of_first : (interfaces : List Interface) (link : DataLink) (b : Framed) (t : Turn) → is_packet b.type_ ≡ false → BecomesIn interfaces link b t
     → t ≡ no_packet

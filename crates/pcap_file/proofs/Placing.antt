@@ -3,7 +3,7 @@ use Rattle.std.proofs.Common.{◌≡◌, ◌≤◌, ◌<◌, ◌+◌, ℕ, List,
 use Rattle.std.specs.Prelude.{Result}
 use Rattle.std.specs.List.{flat_map}
 use Rattle.std.specs.Io.KnownBytes.{Appends}
-use Rattle.std.proofs.KnownBytes.{Appends-nil, Appends-trans, Appends-kept, Keeps-refl}
+use Rattle.std.proofs.KnownBytes.{Appends-nil, Appends-trans, Appends-kept}
 use Rattle.std.proofs.lemmas.Bool.{true≢false}
 use Rattle.std.proofs.lemmas.Grind.{flat_map-append}
 use Rattle.std.proofs.lemmas.Slice.Zip.{all_zipped_more}
@@ -75,9 +75,6 @@ refused_by view a b e false same gives = record { cause = gives.1; part = gives.
 pub gives_refused : {X : Type 0} (view : X → Item) (a b : Source) (e : PcapError) → b.state ≡ a.state
     → NextGives (block_format.says a.state) view a.left b.left a.done b.done a.failed b.failed (Some (Err e)) → RefusesNext a b e
 gives_refused view a b e = refused_by view a b e a.done
-
-pub quiet : (c : Sink) → IsQuiet c c
-quiet c = record { out = Keeps-refl c.out; failed = refl }
 
 left_not_refused : (choice : IfUnplaced) → choice ≡ LeaveOut → choice ≡ Refuse → ⊥
 left_not_refused LeaveOut is other = absurd cc

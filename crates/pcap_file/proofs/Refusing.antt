@@ -22,13 +22,8 @@ refuses_wider M N P Q grow step errors.WriterFailed x = x
 
 -- an error that shows a fault refuses for it
 pub shows_refuses : (M : Type 0) (F : Fault → Type 0) (e : PcapError) → Shows F e → Refuses M (λ n. ⊥) F e
-shows_refuses M F (errors.IncompleteBuffer n) x = x
-shows_refuses M F (errors.InvalidField text) x = x
-shows_refuses M F (errors.IoError a) x = x
-shows_refuses M F (errors.Utf8Error a) x = x
-shows_refuses M F (errors.FromUtf8Error a) x = x
 shows_refuses M F (errors.OutOfMemory a) x = absurd x
-shows_refuses M F errors.WriterFailed x = x
+shows_refuses M F _ x = x
 
 module _ (q : State) (s : List ℕ) where
   pub frame_refuses : (M : Type 0) (e : PcapError) → Refuses ⊥ (λ n. FrameSays (order_at q) s (lacks n)) (λ f. FrameSays (order_at q) s (faulty f)) e

@@ -37,6 +37,7 @@ use Rattle.pcap_file.specs.Written.{IsBodyOf}
 use Rattle.pcap_file.proofs.Bodies.{bodies_same, packet_as_body}
 use Rattle.pcap_file.proofs.ConvertedAgain.{converted_again}
 use Rattle.pcap_file.proofs.PlacedAgain.{IsPlaced, body_placed, packet_back}
+use Rattle.pcap_file.proofs.BlockFormat.{good_in}
 
 -- a body of a type that isn't kept leaves what is in force
 unkept_stays : (section : Section) (interfaces : List Interface) (order : Order) (type : BlockType) (s : List ℕ) (body : Body) (rest : List ℕ)
@@ -44,13 +45,7 @@ unkept_stays : (section : Section) (interfaces : List Interface) (order : Order)
     → BodySays order type s (whole body rest) → leads (within section interfaces) body ≡ good (within section interfaces)
 unkept_stays section interfaces order types.SectionHeader s body rest kept says = absurd cc
 unkept_stays section interfaces order types.InterfaceDescription s body rest kept says = absurd cc
-unkept_stays section interfaces order types.Packet s body rest kept says = rw says.1 refl
-unkept_stays section interfaces order types.SimplePacket s body rest kept says = rw says.1 refl
-unkept_stays section interfaces order types.NameResolution s body rest kept says = rw says.1 refl
-unkept_stays section interfaces order types.InterfaceStatistics s body rest kept says = rw says.1 refl
-unkept_stays section interfaces order types.EnhancedPacket s body rest kept says = rw says.1 refl
-unkept_stays section interfaces order types.SystemdJournalExport s body rest kept says = rw says.1 refl
-unkept_stays section interfaces order (types.Unknown n) s body rest kept says = rw says.1 refl
+unkept_stays section interfaces order _ s body rest kept says = rw says.1 refl
 
 -- where a block leads whose body is read, or is not
 led : (q : State) (b : Framed) (body : Body) (rest : List ℕ) (next : State) (read : Bool) → SaysOfBody b (whole body rest) → is_read q b.type_ ≡ read
@@ -63,9 +58,6 @@ led (within section interfaces) b body rest next false says is means =
 -- a block leads where its body does
 pub leads_by_body : (q : State) (item : Item) (body : Body) (s rest : List ℕ) → BlockText q item s rest → IsBodyOf item body → leads q body ≡ good item.after
 leads_by_body q item body s rest text is = led q item.block body is.0 item.after (is_read q item.block.type_) is.1 refl text.means
-
-good_in : (a c : State) → good a ≡ good c → a ≡ c
-good_in a c e = cc
 
 -- what the packets' blocks become
 abbrev turns_of : List Captured → List Turn

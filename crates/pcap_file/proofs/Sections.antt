@@ -17,11 +17,9 @@ use Rattle.pcap_file.specs.Blocks.{Item, block_format}
 use Rattle.pcap_file.specs.Frames.{Framed}
 use Rattle.pcap_file.specs.Sections.{is_section, is_interface, IsInterfaceIn, LeavesInForce, Leaves}
 use Rattle.pcap_file.specs.State.{State, opening, within, is_kept, leads, MeansIf, Means}
+use Rattle.pcap_file.proofs.BlockFormat.{good_in}
 
-good_in : (a c : State) → good a ≡ good c → a ≡ c
-good_in a c e = cc
-
-bad_no_good : (f : Fault) (a : State) → bad f ≡ good a → ⊥
+pub bad_no_good : (f : Fault) (a : State) → bad f ≡ good a → ⊥
 bad_no_good f a e = absurd cc
 
 -- a body of a block of this type, read as such
@@ -136,12 +134,7 @@ module _ (blocks : List Framed) (section : Section) (interfaces : List Interface
       let there : SaysOfBody b (whole (InterfaceBody y.0) m.1) = subst (λ (z : Body). SaysOfBody b (whole z m.1)) y.1 m.2 in
       interface_leaves next y.0 m.1 is there (leads_as (within section interfaces) next m.0 (InterfaceBody y.0) y.1 m.3)
   block_leaves types.Packet next is m = other_leaves next (ap is_section is) (ap is_interface is) m
-  block_leaves types.SimplePacket next is m = other_leaves next (ap is_section is) (ap is_interface is) m
-  block_leaves types.NameResolution next is m = other_leaves next (ap is_section is) (ap is_interface is) m
-  block_leaves types.InterfaceStatistics next is m = other_leaves next (ap is_section is) (ap is_interface is) m
-  block_leaves types.EnhancedPacket next is m = other_leaves next (ap is_section is) (ap is_interface is) m
-  block_leaves types.SystemdJournalExport next is m = other_leaves next (ap is_section is) (ap is_interface is) m
-  block_leaves (types.Unknown n) next is m = other_leaves next (ap is_section is) (ap is_interface is) m
+  block_leaves _ next is m = other_leaves next (ap is_section is) (ap is_interface is) m
 
 -- one block more
 leaves_more : (blocks : List Framed) (q : State) (item : Item) → Leaves blocks q → Means q item.block (good item.after) → Leaves (blocks ++ item.block ∷ []) item.after

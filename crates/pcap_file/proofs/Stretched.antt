@@ -1,22 +1,21 @@
 -- Blocks that lie one behind the other in a buffer, and go out from there.
 use Rattle.std.proofs.Common.{◌≡◌, ◌≤◌, ◌<◌, ℕ, ◌+◌, ◌-◌, List, [], ◌∷◌, ◌++◌, length, take, drop, refl, ap, sym, ◌∙◌, subst, arith, append_assoc, length-append, take-append-drop, Bool, Some, None}
 use Rattle.std.specs.Prelude.{Option, All}
-use lib.Seq.{take-append_seam}
 use Rattle.std.proofs.lemmas.List.{length-take, take-take}
 use Rattle.std.proofs.lemmas.List.Elements.{All-head, All-nil, All-push, All-tail}
 use Rattle.std.specs.Io.KnownBytes.{Appends}
 use Rattle.pcap_core.specs.declared.errors.PcapError.{PcapError}
 use Rattle.pcap_core.specs.declared.common.Endianness.{Endianness}
-use Rattle.pcap_core.specs.Answer.{whole}
 use Rattle.pcap_core.specs.Copying as core
 use Rattle.pcap_core.specs.Format.{Texts, state_after}
 use Rattle.pcap_core.specs.Headed.{good}
 use Rattle.pcap_core.proofs.Copying.{appends_apart}
 use Rattle.pcap_core.proofs.Formats.{beginning, nothing_no_text, shorter, text_same, texts_more, texts_push}
+use Rattle.pcap_core.proofs.Texts.{front_of}
 use Rattle.pcap_blocks.specs.InterfaceDescription.{Interface}
 use Rattle.pcap_blocks.specs.SectionHeader.{Section}
 use Rattle.pcap_file.specs.Blocks.{Item, BlockText, block_format}
-use Rattle.pcap_file.specs.Copies.{as_they_came}
+use Rattle.pcap_core.specs.AsTheyCame.{as_they_came}
 use Rattle.pcap_file.specs.Frames.{Framed, FrameText, frame_format}
 use Rattle.pcap_file.specs.State.{within, order_at, Means, MeansIf}
 use Rattle.pcap_file.specs.Stretches.{LeavesInForce, IsStretch, Passes, TearsBlock, SendsWhole, SendsTorn, Sends}
@@ -48,9 +47,6 @@ one_more e s t n b so_far text leaves =
       leave = All-push LeavesInForce so_far.blocks b so_far.leave leaves;
     }
 
-pub none_taken : (e : Endianness) (bytes : List ℕ) → Passes e bytes bytes 0
-none_taken e bytes = record { front = []; split = refl; stretch = no_blocks e }
-
 pub more_taken : (e : Endianness) (bytes rest after : List ℕ) (n : ℕ) (b : Framed) → Passes e bytes rest n → FrameText e b rest after → LeavesInForce b → Passes e bytes after (n + 1)
 more_taken e bytes rest after n b so_far text leaves =
     let own = own_text e b rest after text in
@@ -73,12 +69,6 @@ fewer_blocks e (b ∷ blocks) s (after, one, others) = omega (arith, text_within
 
 pub rest_within : (e : Endianness) (bytes rest : List ℕ) (n : ℕ) → Passes e bytes rest n → length rest ≤ length bytes
 rest_within e bytes rest n so_far = omega (arith, ap length so_far.split, length-append so_far.front rest)
-
--- the bytes of a row that is taken
-pub taken_bytes : (bytes front rest : List ℕ) (used : ℕ) → bytes ≡ front ++ rest → used + length rest ≡ length bytes → take used bytes ≡ front
-taken_bytes bytes front rest used split count =
-    let long : used ≡ length front = omega (arith, count, ap length split, length-append front rest) in
-    rw (long, split) (take-append_seam front rest)
 
 -- Of a stretch in which a write failed so many blocks are whole, and others follow.
 pub record Tearing (e : Endianness) (stretch rest : List ℕ) (gone n : ℕ) : Type 0 where
@@ -191,13 +181,8 @@ torn_fewer e stretch gone used k n torn row =
 -- the row at the front of a buffer
 pub row_of : (e : Endianness) (shown rest : List ℕ) (n : ℕ) → Passes e shown rest n → IsStretch e (take (length shown - length rest) shown) n
 row_of e shown rest n taken =
-    let is = taken_bytes shown taken.front rest (length shown - length rest) taken.split (omega (arith, rest_within e shown rest n taken)) in
+    let is = front_of shown taken.front rest (length shown - length rest) taken.split (omega (arith, rest_within e shown rest n taken)) in
     subst (λ (l : List ℕ). IsStretch e l n) (sym is) taken.stretch
-
--- a row of a buffer that went out whole
-pub all_sent : (e : Endianness) (shown rest : List ℕ) (a b : Option (List ℕ)) (n : ℕ) → Passes e shown rest n → Appends a b (take (length shown - length rest) shown)
-    → SendsWhole e (take (length shown - length rest) shown) a b n
-all_sent e shown rest a b n taken out = record { stretch = row_of e shown rest n taken; out = out }
 
 -- a row of a buffer in which a write failed
 pub torn_sent : (e : Endianness) (stretch : List ℕ) (a b : Option (List ℕ)) (gone used n : ℕ) → TearsBlock e stretch gone used n → gone < length stretch → Appends a b (take gone stretch)
@@ -205,7 +190,7 @@ pub torn_sent : (e : Endianness) (stretch : List ℕ) (a b : Option (List ℕ)) 
 torn_sent e stretch a b gone used n torn less out =
     let both = torn.front ++ torn.text in
     let count : used + length torn.back ≡ length stretch = omega (arith, ap length torn.split, length-append both torn.back, length-append torn.front torn.text, torn.used_is) in
-    let bytes : take used stretch ≡ both = taken_bytes stretch both torn.back used torn.split count in
+    let bytes : take used stretch ≡ both = front_of stretch both torn.back used torn.split count in
     let parts : take gone stretch ++ drop gone stretch ≡ torn.front ++ (torn.text ++ torn.back) = take-append-drop gone stretch ∙ torn.split ∙ append_assoc torn.front torn.text torn.back in
     let gone_length : length (take gone stretch) ≡ gone = omega (arith, less, length-take gone stretch) in
     let begun = beginning torn.front (torn.text ++ torn.back) (take gone stretch) (drop gone stretch) (sym parts) (omega (arith, gone_length, torn.begun)) in
@@ -233,11 +218,6 @@ left_text : (s : Section) (is : List Interface) (b : Framed) (bytes rest : List 
 left_text s is b bytes rest text leaves =
     let means : Means (within s is) b (good (within s is)) = subst (λ (kept : Bool). MeansIf kept (within s is) b (good (within s is))) (sym leaves) refl in
     record { frame = text; means = means }
-
-left_says : (s : Section) (is : List Interface) (b : Framed) (bytes rest : List ℕ) → FrameText (order_at (within s is)) b bytes rest → LeavesInForce b
-    → block_format.says (within s is) bytes (whole (item_left s is b) rest)
-unfolding block_format
-left_says s is b bytes rest text leaves = left_text s is b bytes rest text leaves
 
 -- a part of a buffer's row went out
 pub torn_shown : (e : Endianness) (shown rest : List ℕ) (a b : Option (List ℕ)) (gone used k n : ℕ) → Passes e shown rest n → TearsBlock e (take (length shown - length rest) shown) gone used k
@@ -268,6 +248,7 @@ module _ (s : Section) (is : List Interface) (order : Endianness) (same : order 
   -- what of a buffer went out, as items
   pub sends_left : (bytes : List ℕ) (a b : Option (List ℕ)) (most n : ℕ) (old new : Bool) (fault : Option PcapError) → Sends order bytes a b most n old new fault
       → core.Sends block_format as_they_came (within s is) bytes a b most n old new fault
+  unfolding block_format
   sends_left bytes a b most n old new None sends = (whole_left bytes a b n sends.0, sends.1, sends.2)
   sends_left bytes a b most n old new (Some e) sends =
       let torn = sends.0 in (
@@ -278,7 +259,7 @@ module _ (s : Section) (is : List Interface) (order : Endianness) (same : order 
           mid = torn.mid;
           whole_ones = whole_left torn.front a torn.mid n torn.whole_ones;
           item = item_left s is torn.block;
-          is_text = left_says s is torn.block torn.text [] (subst (λ (o : Endianness). FrameText o torn.block torn.text []) same torn.next) torn.leaves;
+          is_text = left_text s is torn.block torn.text [] (subst (λ (o : Endianness). FrameText o torn.block torn.text []) same torn.next) torn.leaves;
           out = torn.out;
         },
         sends.1,

@@ -51,13 +51,7 @@ other_plain (types.Unknown n) len bytes fit =
     let differ : n ≢ 0x0A0D0D0A = λ is. let wrong : block_type 0x0A0D0D0A ≡ types.Unknown n = subst (λ (k : ℕ). block_type k ≡ types.Unknown n) is fit.unnamed in absurd cc in
     record { fits = fit.number; other = ne_eqb n 0x0A0D0D0A differ; named = sym fit.unnamed }
 other_plain types.SectionHeader len bytes fit = absurd cc
-other_plain types.InterfaceDescription len bytes fit = absurd cc
-other_plain types.Packet len bytes fit = absurd cc
-other_plain types.SimplePacket len bytes fit = absurd cc
-other_plain types.NameResolution len bytes fit = absurd cc
-other_plain types.InterfaceStatistics len bytes fit = absurd cc
-other_plain types.EnhancedPacket len bytes fit = absurd cc
-other_plain types.SystemdJournalExport len bytes fit = absurd cc
+other_plain _ len bytes fit = absurd cc
 
 length_good : (e : Endianness) (body : Body) → length (body_text (number_bytes e) body) % 4 ≡ 0
 length_good e body = omega (arith, body_aligned (number_bytes e) (codec e).wide body)
@@ -174,15 +168,9 @@ numbered body fits other named = record { fits = fits; other = other; named = na
 
 -- an unknown block describes no interface
 never_counted : (n : ℕ) (type : BlockType) → is_kept type ≡ false → n ≡ interfaces_after n type
-never_counted n (types.Unknown k) fit = refl
 never_counted n types.SectionHeader fit = absurd cc
 never_counted n types.InterfaceDescription fit = absurd cc
-never_counted n types.Packet fit = refl
-never_counted n types.SimplePacket fit = refl
-never_counted n types.NameResolution fit = refl
-never_counted n types.InterfaceStatistics fit = refl
-never_counted n types.EnhancedPacket fit = refl
-never_counted n types.SystemdJournalExport fit = refl
+never_counted n _ fit = refl
 
 pub one_again : (s : Section) (is : List Interface) (there e : Endianness) (body : Body) (rest : List ℕ) → magic_order s.magic ≡ Some there
     → order_under there (magic_in body) ≡ Some e → IsFitIn e body → IsReadUnder (within s is) e body (length is) rest

@@ -42,3 +42,7 @@ little_text = text_of (number_bytes Little)
 -- blocks, little-endian, one behind the other
 abbrev pub little_texts : List Body → List ℕ
 little_texts = flat_map little_text
+
+-- the text of the block of a packet
+abbrev pub converted_text : Captured → List ℕ
+converted_text packet = little_text (packet_block packet)

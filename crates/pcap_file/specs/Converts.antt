@@ -1,26 +1,25 @@
 -- What a conversion takes and writes.
-use Rattle.std.specs.Prelude.{◌≡◌, ◌<◌, ◌⊎◌, ℕ, List, length, map, Any, All, Bool, true, false, Option, Result, Ok, Err}
+use Rattle.std.specs.Prelude.{◌≡◌, ◌⊎◌, ℕ, List, Any, All, true, false, Option, Some, Result, Ok, Err}
 use Rattle.std.specs.Option.{IsSomeAnd}
-use Rattle.std.specs.Io.KnownBytes.{Appends, Keeps, IsAtEnd}
+use Rattle.std.specs.Io.KnownBytes.{Appends, Keeps}
 use Rattle.pcap_core.specs.declared.common.Endianness.TheVariants.{Little}
 use Rattle.pcap_core.specs.declared.errors.PcapError.{PcapError}
 use Rattle.pcap_core.specs.declared.errors.PcapError.TheVariants as errors
+use Rattle.pcap_core.specs.declared.stream.copying.Tally.{Tally}
+use Rattle.pcap_core.specs.Copying.{NothingCopied}
 use Rattle.pcap_core.specs.Errors.{IsIo}
-use Rattle.pcap_core.specs.Reading.{Takes, TakesAsked, HasCause}
-use Rattle.pcap_core.specs.Takes.{TakesTexts, TakesItems}
+use Rattle.pcap_core.specs.Reading.{Takes}
 use Rattle.pcap_core.specs.Writing.{AppendsPart}
 use Rattle.pcap_classic.specs.declared.pcap.header.PcapHeader.{PcapHeader}
 use Rattle.pcap_classic.specs.declared.run.copy.Copied.{Copied}
 use Rattle.pcap_classic.specs.declared.run.copy.Under.TheVariants.{Same}
-use Rattle.pcap_classic.specs.Copies.{IsNew, PacketIsSaid, RefusesHeader, outcome_of}
+use Rattle.pcap_classic.specs.Copies.{CopiesBehind, RefusesHeader, copied_of}
 use Rattle.pcap_classic.specs.HeaderText.{HeaderSays}
-use Rattle.pcap_classic.specs.Packets.{format_under}
-use Rattle.pcap_classic.specs.PacketText.{Captured, packet_limit}
 use Rattle.pcap_written.specs.declared.unwritable.Unwritable.{Unwritable}
 use Rattle.pcap_blocks.specs.ParsedBlock.{Body}
 use Rattle.pcap_written.specs.Flaws.{flaw_message}
 use Rattle.pcap_written.specs.Writing.{IsFitIn, FlawIn}
-use Rattle.pcap_file.specs.Converted.{little_text, little_texts, opening_blocks, packet_block}
+use Rattle.pcap_file.specs.Converted.{converted_text, little_texts, opening_blocks}
 
 -- why the blocks before the packets were not written: memory ran out, or something stands against one of them
 abbrev pub RefusesBlocks : List Body → PcapError → Type 0
@@ -59,46 +58,13 @@ pub record OpensConversion (before now out_before out_now : Option (List ℕ)) (
   pub fit : All (IsFitIn Little) (opening_blocks header)
   pub out : Appends out_before out_now (little_texts (opening_blocks header))
 
--- So many packets behind a header were taken, and exactly their blocks went out.
-pub record Converting (header : PcapHeader) (before now out_before out_now : Option (List ℕ)) (n : ℕ) : Type 0 where
-  pub packets : List Captured
-  pub count : length packets ≡ n
-  pub took : TakesTexts (format_under packet_limit header) tt packets before now
-  pub out : Appends out_before out_now (little_texts (map packet_block packets))
-
--- No write failed: packets were taken, at most so many, up to a cause to stop, and exactly their blocks went out.
-pub record ConvertsAll (header : PcapHeader) (before now out_before out_now : Option (List ℕ)) (most : ℕ) (copied : Copied) : Type 0 where
-  pub packets : List Captured
-  pub count : length packets ≡ copied.packets
-  pub items : TakesItems (format_under packet_limit header) tt before now copied.read_failed most packets copied.fault
-  pub no_write_failed : copied.write_failed ≡ false
-  pub out : Appends out_before out_now (little_texts (map packet_block packets))
-
--- A write failed in the block of the next packet, which was taken.
-pub record ConvertsTorn (header : PcapHeader) (before now out_before out_now : Option (List ℕ)) (most : ℕ) (copied : Copied) : Type 0 where
-  pub left : Option (List ℕ)
-  pub mid : Option (List ℕ)
-  pub so_far : Converting header before left out_before mid copied.packets
-  pub packet : Captured
-  pub next : Takes (PacketIsSaid header) left now packet
-  pub fewer : copied.packets < most
-  pub refused : IsSomeAnd copied.fault IsIo
-  pub no_read_failed : copied.read_failed ≡ false
-  pub write_failed : copied.write_failed ≡ true
-  pub out : AppendsPart mid out_now (little_text (packet_block packet))
-
--- Packets behind a header were converted, until the conversion ended.
-abbrev pub ConvertsBehind : PcapHeader → Option (List ℕ) → Option (List ℕ) → Option (List ℕ) → Option (List ℕ) → ℕ → Copied → Type 0
-ConvertsBehind header before now out_before out_now most copied =
-    ConvertsAll header before now out_before out_now most copied ⊎ ConvertsTorn header before now out_before out_now most copied
-
 -- The header was taken, its blocks went out, and then packets.
 pub record ConvertsPackets (before now out_before out_now : Option (List ℕ)) (most : ℕ) (copied : Copied) : Type 0 where
   pub header : PcapHeader
   pub behind : Option (List ℕ)
   pub out_behind : Option (List ℕ)
   pub opened : OpensConversion before behind out_before out_behind header
-  pub packets : ConvertsBehind header behind now out_behind out_now most copied
+  pub packets : CopiesBehind converted_text header behind now out_behind out_now most copied
 
 -- a conversion that did not come to the packets
 abbrev pub EndsBefore : Option (List ℕ) → Option (List ℕ) → Option (List ℕ) → Option (List ℕ) → Copied → Type 0
@@ -114,44 +80,6 @@ ConvertRun before now out_before out_now most copied =
     EndsBefore before now out_before out_now copied ⊎ ConvertsPackets before now out_before out_now most copied
 
 -- The beginning of a conversion: the header, behind which its blocks went out, or why it ends there.
-abbrev pub BeginsConversion : Option (List ℕ) → Option (List ℕ) → Option (List ℕ) → Option (List ℕ) → Copied → Result PcapHeader PcapError → Type 0
-BeginsConversion before now out_before out_now copied (Ok header) = OpensConversion before now out_before out_now header × IsNew copied
-BeginsConversion before now out_before out_now copied (Err e) = EndsBefore before now out_before out_now (outcome_of copied (Err e))
-
--- The next packet was taken, and its block went out.
-pub record ConvertsNext (header : PcapHeader) (before now out_before out_now : Option (List ℕ)) (copied : Copied) : Type 0 where
-  pub packet : Captured
-  pub next : Takes (PacketIsSaid header) before now packet
-  pub no_read_failed : copied.read_failed ≡ false
-  pub no_write_failed : copied.write_failed ≡ false
-  pub out : Appends out_before out_now (little_text (packet_block packet))
-
--- There was no packet: nothing was taken, and nothing went out.
-pub record ConvertsNone (before now out_before out_now : Option (List ℕ)) (copied : Copied) : Type 0 where
-  pub at_end : IsAtEnd before
-  pub no_read_failed : copied.read_failed ≡ false
-  pub no_write_failed : copied.write_failed ≡ false
-  pub taken : Keeps before now
-  pub out : Keeps out_before out_now
-
--- The next packet was refused: a part of it was taken, and nothing went out.
-pub record RefusesNext (header : PcapHeader) (before now out_before out_now : Option (List ℕ)) (copied : Copied) (e : PcapError) : Type 0 where
-  pub cause : HasCause (PacketIsSaid header) before copied.read_failed e
-  pub part : TakesAsked (PacketIsSaid header) before now
-  pub no_write_failed : copied.write_failed ≡ false
-  pub out : Keeps out_before out_now
-
--- The next packet was taken, and a write failed in its block.
-pub record TearsNext (header : PcapHeader) (before now out_before out_now : Option (List ℕ)) (copied : Copied) (e : PcapError) : Type 0 where
-  pub packet : Captured
-  pub next : Takes (PacketIsSaid header) before now packet
-  pub refused : IsIo e
-  pub no_read_failed : copied.read_failed ≡ false
-  pub write_failed : copied.write_failed ≡ true
-  pub out : AppendsPart out_before out_now (little_text (packet_block packet))
-
--- One step of a conversion: a packet, or none at the end of the stream, or a refusal.
-abbrev pub StepsConversion : PcapHeader → Option (List ℕ) → Option (List ℕ) → Option (List ℕ) → Option (List ℕ) → Copied → Result Bool PcapError → Type 0
-StepsConversion header before now out_before out_now copied (Ok true) = ConvertsNext header before now out_before out_now copied
-StepsConversion header before now out_before out_now copied (Ok false) = ConvertsNone before now out_before out_now copied
-StepsConversion header before now out_before out_now copied (Err e) = RefusesNext header before now out_before out_now copied e ⊎ TearsNext header before now out_before out_now copied e
+abbrev pub BeginsConversion : Option (List ℕ) → Option (List ℕ) → Option (List ℕ) → Option (List ℕ) → Tally → Result PcapHeader PcapError → Type 0
+BeginsConversion before now out_before out_now tally (Ok header) = OpensConversion before now out_before out_now header × NothingCopied tally
+BeginsConversion before now out_before out_now tally (Err e) = EndsBefore before now out_before out_now (copied_of tally (Some e))

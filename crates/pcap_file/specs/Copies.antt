@@ -4,6 +4,7 @@ use Rattle.std.specs.Option.{IsSomeAnd}
 use Rattle.std.specs.Io.KnownBytes.{Appends, Keeps, IsAtEnd}
 use Rattle.pcap_core.specs.declared.errors.PcapError.{PcapError}
 use Rattle.pcap_core.specs.declared.stream.copying.Tally.{Tally}
+use Rattle.pcap_core.specs.AsTheyCame.{as_they_came}
 use Rattle.pcap_core.specs.Copying as core
 use Rattle.pcap_core.specs.Copying.{NothingCopied}
 use Rattle.pcap_core.specs.Answer.{Verdict, whole, faulty, Refuses}
@@ -13,10 +14,6 @@ use Rattle.pcap_file.specs.declared.pcapng.copying.NgCopied.{NgCopied}
 use Rattle.pcap_file.specs.declared.pcapng.state.InForce.{InForce}
 use Rattle.pcap_file.specs.Blocks.{Item, block_format}
 use Rattle.pcap_file.specs.State.{State, opening, state_in}
-
--- the bytes of items go out as they came
-abbrev pub as_they_came : {V : Type 0} → List V → List ℕ → List ℕ
-as_they_came items bytes = bytes
 
 -- the texts of these items were taken and no more, and exactly their bytes went out
 abbrev pub CopiesTexts : {S V : Type 0} → Format S V → S → List V → Option (List ℕ) → Option (List ℕ) → Option (List ℕ) → Option (List ℕ) → Type 0

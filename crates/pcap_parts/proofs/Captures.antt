@@ -2,7 +2,6 @@
 use Rattle.std.proofs.Common.{◌≡◌, ◌-◌, ℕ, List, ◌++◌, length, map, sym, ap, subst, arith, length-append}
 use Rattle.pcap_classic.specs.declared.pcap.header.PcapHeader.{PcapHeader}
 use Rattle.pcap_classic.specs.declared.run.PcapRun.{PcapRun}
-use Rattle.pcap_classic.specs.HeaderText.{HeaderText}
 use Rattle.pcap_classic.specs.PacketText.{packet_limit, content_of}
 use Rattle.pcap_classic.specs.Packets.{format_under}
 use Rattle.pcap_classic.specs.Run.{IsRun}
@@ -55,10 +54,3 @@ run_parts run header cuts bytes x y =
     let ps = map content_of run.packets.items in
     let parts : InParts f tt ps r.left (r.opening ++ r.after) cuts = in_parts f (under_lawful packet_limit header) tt r.opening r.after r.left ps cuts r.front r.cuts_are in
     record { same = r.same; left = r.left; rest = r.rest; parts = subst (λ (t : List ℕ). InParts f tt ps r.left t cuts) (sym r.split) parts }
-
--- the place behind the header is known
-pub front_known : (header : PcapHeader) (bytes after : List ℕ) (cuts : List Cut) → HeaderText header bytes after
-    → AreCuts (format_under packet_limit header) tt after (length bytes - length after) (length bytes) cuts → IsCut header cuts bytes
-front_known header bytes after cuts text are =
-    let front : length bytes - length after ≡ 24 = omega (arith, header_length header bytes after text) in
-    record { after = after; header_text = text; cuts_are = subst (λ (n : ℕ). AreCuts (format_under packet_limit header) tt after n (length bytes) cuts) front are }

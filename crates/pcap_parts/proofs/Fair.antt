@@ -11,10 +11,11 @@ use Rattle.pcap_core.specs.Format.{Format, Texts, state_after, IsLawful}
 use Rattle.pcap_core.proofs.Formats.{text_same, texts_all}
 use Rattle.pcap_core.proofs.Requested.{texts_long}
 use Rattle.pcap_core.proofs.Showing.{rest_no_text}
+use Rattle.pcap_core.proofs.Copying.{state_all}
 use Rattle.pcap_parts.specs.declared.cut.Cut.{Cut}
 use Rattle.pcap_parts.specs.Parts.{LastIsNeeded, Passes, Bound, FirstBound, EndsShares, AreFair, share_of}
 use Rattle.pcap_parts.proofs.Cutting.{each_push}
-use Rattle.pcap_parts.proofs.InParts.{beyond, state_all}
+use Rattle.pcap_parts.proofs.InParts.{beyond}
 
 abbrev cut_at : ℕ → ℕ → Cut
 cut_at offset before = record { offset = offset; before = before }

@@ -1,38 +1,14 @@
 -- The front of bytes that are cut at bounds.
 use Rattle.std.proofs.Common.{◌≡◌, ◌<◌, ◌≤◌, ◌+◌, ◌-◌, ℕ, List, [], ◌∷◌, ◌++◌, length, take, drop, refl, sym, ap, subst, ◌∙◌, arith, length-append, append_assoc, append-nil}
 use Rattle.std.proofs.lemmas.List.{nil_from_length}
-use lib.Seq.{take-append_seam}
-use Rattle.std.proofs.Math.Seq.{drop-append_seam}
 use Rattle.pcap_core.specs.Format.{Format, Texts, state_after, Front, IsLawful}
-use Rattle.pcap_core.proofs.Formats.{text_same, texts_own, front_goes_on, nothing_no_text}
+use Rattle.pcap_core.proofs.Formats.{text_same, texts_own, front_goes_on, nothing_no_text, cons_same}
 use Rattle.pcap_core.proofs.Requested.{texts_long}
+use Rattle.pcap_core.proofs.Texts.{front_of, rest_of}
+use Rattle.pcap_core.proofs.Copying.{state_all}
 use Rattle.std.specs.List.{AllByRecursion}
 use Rattle.pcap_parts.specs.declared.cut.Cut.{Cut}
 use Rattle.pcap_parts.specs.Parts.{Bound, Rising, AreCuts, PartFronts, InParts, part_bytes, joined, CountsBefore}
-
-pub texts_apart : {S V : Type 0} (f : Format S V) (q : S) (vs ws : List V) (s rest : List ℕ) → Texts f q (vs ++ ws) s rest
-    → (mid : List ℕ) × Texts f q vs s mid × Texts f (state_after f q vs) ws mid rest
-texts_apart f q [] ws s rest texts = (s, refl, texts)
-texts_apart f q (v ∷ vs) ws s rest texts =
-    let more = texts_apart f (f.goes q v) vs ws texts.0 rest texts.2 in
-    (more.0, (texts.0, texts.1, more.1), more.2)
-
-cons_same : {A : Type 0} (x y : A) (xs ys : List A) → x ≡ y → xs ≡ ys → x ∷ xs ≡ y ∷ ys
-cons_same x y xs ys a b = rw (a, b) refl
-
-pub state_all : {S V : Type 0} (f : Format S V) (q : S) (vs ws : List V) → state_after f q (vs ++ ws) ≡ state_after f (state_after f q vs) ws
-state_all f q [] ws = refl
-state_all f q (v ∷ vs) ws = state_all f (f.goes q v) vs ws
-
-pub drop_front : (bytes front rest : List ℕ) (n : ℕ) → bytes ≡ front ++ rest → n + length rest ≡ length bytes → drop n bytes ≡ rest
-drop_front bytes front rest n split count =
-    let long : n ≡ length front = omega (arith, count, ap length split, length-append front rest) in
-    rw (long, split) (drop-append_seam front rest)
-
-pub take_front : (bytes front rest : List ℕ) (n : ℕ) → bytes ≡ front ++ rest → n + length rest ≡ length bytes → take n bytes ≡ front
-take_front bytes front rest n split count =
-    let long : n ≡ length front = omega (arith, count, ap length split, length-append front rest) in
-    rw (long, split) (take-append_seam front rest)
 
 module _ {S V : Type 0} (f : Format S V) (laws : IsLawful f) where
   -- of two rows of items at the front of the same bytes, that which leaves no more goes on from the other
@@ -73,7 +49,7 @@ module _ {S V : Type 0} (f : Format S V) (laws : IsLawful f) where
     behind c b =
         let own = texts_own f laws q b.items s b.rest b.texts in
         let split : h ++ s ≡ (h ++ own.0) ++ b.rest = ap (λ (t : List ℕ). h ++ t) own.1 ∙ sym (append_assoc h own.0 b.rest) in
-        drop_front (h ++ s) (h ++ own.0) b.rest c.offset split b.place
+        rest_of (h ++ s) (h ++ own.0) b.rest c.offset split b.place
 
     -- from a bound on
     record From (c : Cut) (b : Bound f q s (length (h ++ s)) c) (cs : List Cut) (vs : List V) (rest : List ℕ) : Type 0 where
@@ -102,7 +78,7 @@ module _ {S V : Type 0} (f : Format S V) (laws : IsLawful f) where
         let on = beyond q b.items e.items s b.rest e.rest b.texts e.texts (omega (arith, less, b.place, e.place)) in
         let own = texts_own f laws p on.0 b.rest e.rest on.2 in
         let room : d.offset - c.offset + length e.rest ≡ length b.rest = omega (arith, less, b.place, e.place) in
-        let part : take (d.offset - c.offset) (drop c.offset (h ++ s)) ≡ own.0 = rw (behind c b) (take_front b.rest own.0 e.rest (d.offset - c.offset) own.1 room) in
+        let part : take (d.offset - c.offset) (drop c.offset (h ++ s)) ≡ own.0 = rw (behind c b) (front_of b.rest own.0 e.rest (d.offset - c.offset) own.1 room) in
         let state : state_after f q e.items ≡ state_after f p on.0 = ap (λ (l : List V). state_after f q l) on.1 ∙ state_all f q b.items on.0 in
         let here : PartFronts f (state_after f p on.0) deeper.parts (part_bytes (h ++ s) (d ∷ cs)) rest = subst (λ (z : S). PartFronts f z deeper.parts (part_bytes (h ++ s) (d ∷ cs)) rest) state deeper.fronts in
         record {

@@ -10,10 +10,12 @@ use Rattle.pcap_core.specs.Format.{Format, Front, IsLawful, state_after}
 use Rattle.pcap_core.specs.Run.{IsRest}
 use Rattle.pcap_core.proofs.Formats.{fault_some, front_goes_on, front_same, texts_own}
 use Rattle.pcap_core.proofs.Refusals.{shown_fault}
+use Rattle.pcap_core.proofs.Texts.{front_of}
+use Rattle.pcap_core.proofs.Copying.{state_all}
 use Rattle.pcap_parts.specs.declared.cut.Cut.{Cut}
 use Rattle.pcap_parts.specs.PartRuns.{RunsOver, TakeParts}
 use Rattle.pcap_parts.specs.Parts.{AreCuts, Bound, Rising, joined, part_bytes}
-use Rattle.pcap_parts.proofs.InParts.{behind, beyond, state_all, take_front, texts_front}
+use Rattle.pcap_parts.proofs.InParts.{behind, beyond, texts_front}
 
 -- where nothing is left, that is said
 nothing_left : {S V : Type 0} (f : Format S V) → IsLawful f → (q : S) (left : List ℕ) (said : Rest) → left ≡ [] → IsRest (f.says q) left said → said ≡ Clean
@@ -98,7 +100,7 @@ module _ {S V X : Type 0} (f : Format S V) (laws : IsLawful f) (used_of : X → 
         let on = beyond f laws q b.items e.items s b.rest e.rest b.texts e.texts (omega (arith, less, b.place, e.place)) in
         let own = texts_own f laws p on.0 b.rest e.rest on.2 in
         let room : d.offset - c.offset + length e.rest ≡ length b.rest = omega (arith, less, b.place, e.place) in
-        let part_is : part ≡ own.0 = is ∙ ap (λ (t : List ℕ). take (d.offset - c.offset) t) (behind f laws q h s c b) ∙ take_front b.rest own.0 e.rest (d.offset - c.offset) own.1 room in
+        let part_is : part ≡ own.0 = is ∙ ap (λ (t : List ℕ). take (d.offset - c.offset) t) (behind f laws q h s c b) ∙ front_of b.rest own.0 e.rest (d.offset - c.offset) own.1 room in
         let here : Front f p on.0 part [] = subst (λ (t : List ℕ). Front f p on.0 t []) (sym part_is) (texts_front f laws p on.0 own.0 own.2) in
         let same = front_same f laws p r.items on.0 part r.over.left [] r.over.front here in
         let used : used_of run ≡ length part = omega (arith, r.over.used_is, ap length same.1) in

@@ -4,7 +4,6 @@ mod InParts
 mod Captures
 mod Resumed
 mod Anywhere
-mod Places
 mod Fair
 pub mod CutSteps
 pub mod Stepping

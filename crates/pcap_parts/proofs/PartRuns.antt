@@ -15,6 +15,7 @@ use Rattle.pcap_parts.specs.PartRuns.{IsPartRun, PartRunsJoin, TakeParts, packet
 use Rattle.pcap_parts.specs.Parts.{Bound, joined, part_bytes}
 use Rattle.pcap_parts.proofs.Captures.{cut_run}
 use Rattle.pcap_parts.proofs.Joining.{AreRuns, EndsAs, last_is, runs_join}
+use Rattle.pcap_core.proofs.Formats.{cons_same}
 
 HasPackets : Unit {0} → PcapRun → List Captured → Type 0
 HasPackets q run packets = packets ≡ packets_of run
@@ -24,9 +25,6 @@ used run = run.used
 
 abbrev said : PcapRun → Rest
 said run = run.rest
-
-cons_same : {A : Type 0} (x y : A) (xs ys : List A) → x ≡ y → xs ≡ ys → x ∷ xs ≡ y ∷ ys
-cons_same x y xs ys a b = rw (a, b) refl
 
 packets_are : (found : List (List Captured)) (runs : List PcapRun) → AllZip (λ packets run. (p : Unit {0}) × HasPackets p run packets) found runs → found ≡ map packets_of runs
 unfolding HasPackets

@@ -81,9 +81,6 @@ ok_same a b e = cc
 no_ok : (x : AllocError) (a : Rest) → not_told x ≡ told a → ⊥
 no_ok x a e = absurd cc
 
-no_err : (x : AllocError) (a : Rest) → told a ≡ not_told x → ⊥
-no_err x a e = absurd cc
-
 module _ {S V : Type 0} (f : Format S V) (q : S) (left : List ℕ) (Grows : Type 0) where
   -- an error that isn't want of memory tells the rest
   pub rest_is : (e : PcapError) (said : Rest) → 0 < length left → Refuses Grows (λ n. f.says q left (lacks n)) (λ fault. f.says q left (faulty fault)) e → rest_or_memory_of e ≡ Ok said
@@ -95,13 +92,3 @@ module _ {S V : Type 0} (f : Format S V) (q : S) (left : List ℕ) (Grows : Type
   rest_is (errors.Utf8Error x) said some refuses e = subst (λ (r : Rest). IsRest (f.says q) left r) (ok_same (Refused (errors.Utf8Error x)) said e) refuses
   rest_is (errors.FromUtf8Error x) said some refuses e = subst (λ (r : Rest). IsRest (f.says q) left r) (ok_same (Refused (errors.FromUtf8Error x)) said e) refuses
   rest_is errors.WriterFailed said some refuses e = subst (λ (r : Rest). IsRest (f.says q) left r) (ok_same (Refused errors.WriterFailed) said e) refuses
-
-  -- an error that is want of memory comes where something grows
-  pub memory_grows : (e : PcapError) (x : AllocError) → Refuses Grows (λ n. f.says q left (lacks n)) (λ fault. f.says q left (faulty fault)) e → rest_or_memory_of e ≡ Err x → Grows
-  memory_grows (errors.IncompleteBuffer n) x refuses e = absurd (no_err x (Needs n) e)
-  memory_grows (errors.OutOfMemory y) x refuses e = refuses
-  memory_grows (errors.InvalidField text) x refuses e = absurd (no_err x (Refused (errors.InvalidField text)) e)
-  memory_grows (errors.IoError y) x refuses e = absurd (no_err x (Refused (errors.IoError y)) e)
-  memory_grows (errors.Utf8Error y) x refuses e = absurd (no_err x (Refused (errors.Utf8Error y)) e)
-  memory_grows (errors.FromUtf8Error y) x refuses e = absurd (no_err x (Refused (errors.FromUtf8Error y)) e)
-  memory_grows errors.WriterFailed x refuses e = absurd (no_err x (Refused errors.WriterFailed) e)

@@ -3,21 +3,21 @@ use Rattle.std.proofs.Common.{◌≡◌, ℕ, suc, List, [], ◌∷◌, ◌++◌
 use Rattle.std.specs.Prelude.{All, filter}
 use Rattle.std.specs.List.{AllZip}
 use Rattle.std.proofs.lemmas.List.Elements.{All-filter}
-use Rattle.pcap_core.specs.Answer.{whole, number_in}
+use Rattle.pcap_core.specs.Answer.{whole}
 use Rattle.pcap_core.specs.Format.{Format, Texts, state_after, IsLawful}
-use Rattle.pcap_core.proofs.Formats.{state_push}
+use Rattle.pcap_core.proofs.Formats.{state_push, cons_same}
 use Rattle.pcap_blocks.specs.SectionHeader.{Section}
 use Rattle.pcap_blocks.specs.InterfaceDescription.{Interface}
-use Rattle.pcap_blocks.specs.ParsedBlock.{Body, SectionBody, InterfaceBody}
-use Rattle.pcap_blocks.proofs.OneBody.{body_one}
+use Rattle.pcap_blocks.specs.ParsedBlock.{SectionBody, InterfaceBody}
 use Rattle.pcap_file.specs.Bodies.{SaysOfBody}
 use Rattle.pcap_file.specs.Blocks.{Item, BlockSays, block_format}
 use Rattle.pcap_file.specs.Frames.{Framed}
 use Rattle.pcap_file.specs.Sections.{is_section, is_interface, IsInterfaceIn, LeavesInForce, Leaves}
 use Rattle.pcap_file.specs.State.{State, opening, within}
 use Rattle.pcap_file.specs.Opening.{OpeningSays}
-use Rattle.pcap_file.proofs.BlockFormat.{blocks_lawful}
+use Rattle.pcap_file.proofs.BlockFormat.{blocks_lawful, goes_after}
 use Rattle.pcap_file.proofs.Sections.{texts_leave}
+use Rattle.pcap_file.proofs.Bodies.{bodies_same}
 use Rattle.pcap_parts.specs.Resume.{Fed, IsFed, blocks_in_force}
 
 abbrev NoSection : Framed → Type 0
@@ -53,20 +53,11 @@ last_same (c ∷ cs) (d ∷ ds) h k xs ys e hs ks nx ny =
     let tails : cs ++ h ∷ xs ≡ ds ++ k ∷ ys = cc in
     last_same cs ds h k xs ys tails hs ks nx ny
 
-bodies_same : (b : Framed) (x y : Body) (r t : List ℕ) → SaysOfBody b (whole x r) → SaysOfBody b (whole y t) → x ≡ y
-bodies_same b x y r t p q =
-    let o = body_one (number_in b.endianness) b.type_ b.body in
-    let e : whole x r ≡ whole y t = o.only (whole x r) p ∙ sym (o.only (whole y t) q) in
-    cc
-
 sections_same : (x y : Section) → SectionBody x ≡ SectionBody y → x ≡ y
 sections_same x y e = cc
 
 interface_same : (x y : Interface) → InterfaceBody x ≡ InterfaceBody y → x ≡ y
 interface_same x y e = cc
-
-cons_same : {A : Type 0} (x y : A) (xs ys : List A) → x ≡ y → xs ≡ ys → x ∷ xs ≡ y ∷ ys
-cons_same x y xs ys a b = rw (a, b) refl
 
 interfaces_same : (bs : List Framed) (is js : List Interface) → AllZip IsInterfaceIn bs is → AllZip IsInterfaceIn bs js → is ≡ js
 interfaces_same [] [] [] x y = refl
@@ -161,10 +152,6 @@ block_says : (p : State) (t rest : List ℕ) (item : Item) → BlockSays p t (wh
 unfolding block_format
 block_says p t rest item x = x
 
-item_goes : (p : State) (item : Item) → block_format.goes p item ≡ item.after
-unfolding block_format
-item_goes p item = refl
-
 pub fed_more : (s t rest : List ℕ) (slices : List (List ℕ)) (p : State) (item : Item) → IsFed s slices p → BlockSays p t (whole item rest) → IsFed s (slices ++ t ∷ []) item.after
 fed_more s t rest slices p item x text =
     let says : block_format.says p t (whole item rest) = block_says p t rest item text in
@@ -173,5 +160,5 @@ fed_more s t rest slices p item x text =
       header = x.header;
       others = x.others ++ item ∷ [];
       fed = fed_push block_format opening (x.header ∷ x.others) (s ∷ slices) item t rest x.fed there;
-      state_is = state_push block_format opening (x.header ∷ x.others) item ∙ item_goes (state_after block_format opening (x.header ∷ x.others)) item;
+      state_is = state_push block_format opening (x.header ∷ x.others) item ∙ goes_after (state_after block_format opening (x.header ∷ x.others)) item;
     }

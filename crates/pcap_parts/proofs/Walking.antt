@@ -9,6 +9,8 @@ use Rattle.pcap_core.specs.Bytes.{IsBytes}
 use Rattle.pcap_core.specs.Format.{Texts, state_after}
 use Rattle.pcap_core.specs.Headed.{good}
 use Rattle.pcap_core.proofs.Formats.{state_push, texts_all, texts_own, texts_push}
+use Rattle.pcap_core.proofs.Texts.{rest_of}
+use Rattle.pcap_core.proofs.Copying.{state_all}
 use Rattle.pcap_blocks.specs.declared.block_type.BlockType.{BlockType}
 use Rattle.pcap_blocks.specs.declared.block_type.BlockType.TheVariants as types
 use Rattle.pcap_blocks.specs.SectionHeader.{Section}
@@ -21,7 +23,7 @@ use Rattle.pcap_parts.specs.declared.cut_ng.NgCut.{NgCut}
 use Rattle.pcap_parts.specs.NgParts.{GoesOn, IsWalked, ResumesAt, places_at}
 use Rattle.pcap_parts.specs.Resume.{IsFed, from_places}
 use Rattle.pcap_parts.proofs.Anywhere.{header_anywhere}
-use Rattle.pcap_parts.proofs.InParts.{drop_front, state_all, texts_one}
+use Rattle.pcap_parts.proofs.InParts.{texts_one}
 use Rattle.pcap_parts.proofs.Resumed.{fed_first, fed_more}
 
 -- what is left of bytes behind whole blocks stands behind the rest of them
@@ -29,7 +31,7 @@ pub place_of : (bytes left : List ℕ) (items : List Item) → Texts block_forma
 place_of bytes left items texts =
     let own = texts_own block_format blocks_lawful opening items bytes left texts in
     let long : length bytes ≡ length own.0 + length left = ap length {x = bytes} {y = own.0 ++ left} own.1 ∙ length-append own.0 left in
-    (drop_front bytes own.0 left (length bytes - length left) own.1 (omega (arith, long)), omega (arith, long))
+    (rest_of bytes own.0 left (length bytes - length left) own.1 (omega (arith, long)), omega (arith, long))
 
 pub drop_all : (xs : List ℕ) → drop (length xs) xs ≡ []
 drop_all [] = refl
@@ -88,13 +90,7 @@ other_stays section interfaces item s rest is text =
 pub not_kept : (type : BlockType) → (type ≡ types.SectionHeader → ⊥) → (type ≡ types.InterfaceDescription → ⊥) → is_kept type ≡ false
 not_kept types.SectionHeader no_section no_interface = absurd (no_section refl)
 not_kept types.InterfaceDescription no_section no_interface = absurd (no_interface refl)
-not_kept types.Packet no_section no_interface = refl
-not_kept types.SimplePacket no_section no_interface = refl
-not_kept types.NameResolution no_section no_interface = refl
-not_kept types.InterfaceStatistics no_section no_interface = refl
-not_kept types.EnhancedPacket no_section no_interface = refl
-not_kept types.SystemdJournalExport no_section no_interface = refl
-not_kept (types.Unknown n) no_section no_interface = refl
+not_kept _ no_section no_interface = refl
 
 -- bytes of a slice fit
 pub slice_bytes : (s : List ℕ) → ((i : ℕ) → get_or s i 0 < 256) → IsBytes s

@@ -4,8 +4,7 @@ use Rattle.pcap_core.specs.declared.errors.PcapError.{PcapError}
 use Rattle.pcap_core.specs.Answer.{whole, lacks, faulty, Refuses}
 use Rattle.pcap_core.specs.Format.{Format, state_after}
 use Rattle.pcap_file.specs.Blocks.{Item, block_format, BlockSays, MayGrow}
-use Rattle.pcap_core.specs.declared.common.Endianness.{Endianness}
-use Rattle.pcap_file.specs.Frames.{Framed, FrameText}
+use Rattle.pcap_file.specs.Frames.{Framed}
 use Rattle.pcap_file.specs.Sections.{is_interface, LeavesInForce}
 use Rattle.pcap_file.specs.State.{State, opening}
 use Rattle.pcap_file.specs.Opening.{OpeningSays}
@@ -32,12 +31,6 @@ pub record IsFed (s : List ℕ) (slices : List (List ℕ)) (q : State) : Type 0 
 -- the bytes from each place on
 abbrev pub from_places : List ℕ → List ℕ → List (List ℕ)
 from_places bytes places = map (λ (place : ℕ). drop place bytes) places
-
--- each of these slices begins with this block in its frame, in this order
-abbrev pub AllFrames : Endianness → List Framed → List (List ℕ) → Type 0
-AllFrames e [] [] = ⊤
-AllFrames e (b ∷ bs) (s ∷ ss) = (rest : List ℕ) × FrameText e b s rest × AllFrames e bs ss
-AllFrames e _ _ = ⊥
 
 -- this slice is refused as the first block of a capture
 abbrev pub RefusesHeader : List ℕ → PcapError → Type 0

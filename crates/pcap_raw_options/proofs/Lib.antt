@@ -1,2 +1,2 @@
 pub mod OneUpTo
-mod RawRead
+pub mod RawRead

@@ -7,7 +7,8 @@ use Rattle.pcap_core.specs.Laws.{ExactlyOne}
 use Rattle.pcap_core.specs.declared.rules.Rule.TheVariants.{OptionTooShort, OptionCut}
 use Rattle.pcap_blocks.specs.Values.{Kind, Entry}
 use Rattle.pcap_blocks.specs.Options.{OptionText, OptionFault, short, cut, wrong, OptionSays, Ending, IsOver, OptionList, ListFault}
-use Rattle.pcap_core.proofs.Verdicts.{Stopped, IsMany, one_stopped, same_whole, whole_no_fault}
+use Rattle.pcap_core.proofs.Verdicts.{Stopped, IsMany, one_stopped, whole_no_fault}
+use Rattle.pcap_core.proofs.Formats.{whole_same}
 use Rattle.pcap_blocks.proofs.OneOption.{option_one, option_same}
 use Rattle.pcap_blocks.proofs.OneList.{item_same, item_shorter, marks_same, mark_no_fault, mark_no_item, over_or_not, list_from_stop}
 use Rattle.pcap_raw_options.specs.UpTo.{UpTo, StopsAt, ReadUpTo, no_kind}
@@ -95,7 +96,7 @@ unfolding make_up_to
 up_to_same x y e =
     let rx : Reading = (x.options, x.flaw) in
     let ry : Reading = (y.options, y.flaw) in
-    let p = same_whole rx ry x.left y.left e in
+    let p = whole_same rx ry x.left y.left e in
     let a : x.options ≡ y.options = ap (λ (z : Reading). z.0) p.0 in
     let b : x.flaw ≡ y.flaw = ap (λ (z : Reading). z.1) p.0 in
     let t : make_up_to x.options x.flaw x.left ≡ make_up_to y.options y.flaw y.left = rw (a, b, p.1) refl in

@@ -4,7 +4,7 @@ use Rattle.std.proofs.lemmas.Bool.{cases_lt}
 use Rattle.std.proofs.lemmas.List.{nil_from_length}
 use Rattle.pcap_classic.specs.declared.common.TsResolution.{TsResolution}
 use Rattle.pcap_core.specs.declared.rules.Rule.TheVariants.{IncludedTooLong}
-use Rattle.pcap_core.specs.Answer.{Order, Number, Verdict, whole, lacks, faulty}
+use Rattle.pcap_core.specs.Answer.{Order, Verdict, whole, lacks, faulty}
 use Rattle.pcap_core.specs.Faults.{Fault, Invalid}
 use Rattle.pcap_core.specs.Laws.{ExactlyOne, IsStable}
 use Rattle.pcap_core.specs.Format.{IsLawful}
@@ -16,6 +16,7 @@ use Rattle.pcap_core.proofs.Headed.{headed_lawful}
 use Rattle.pcap_classic.specs.PacketText.{Head, RecordHeadText}
 use Rattle.pcap_classic.proofs.FieldNumbers.{head_widths, head_with, head_from, head_same, head_length}
 use Rattle.pcap_classic.proofs.Stable.{head_more}
+use Rattle.pcap_classic.proofs.HeadedPackets.{number_put}
 use Rattle.pcap_tolerant.specs.declared.as_is.Flaws.{Flaws}
 use Rattle.pcap_tolerant.specs.AsIs.{flaws_of, AsIs, HasLongHead, AsIsSays, as_is_format, HeadReads, DataReads, headed_as_is}
 
@@ -81,9 +82,6 @@ headed_as_is_lawful limit order r =
     headed_lawful (headed_as_is limit order r) is
 
 -- ---- the readable words say the same as a head and a body
-
-number_put : (order : Order) (w n : ℕ) (s a b : List ℕ) (p : Number order w n s a) → Number order w n (p.bytes ++ b) b
-number_put order w n s a b p = record { bytes = p.bytes; text = refl; length_is = p.length_is; value = p.value }
 
 record HeadPiece (order : Order) (head : Head) (s after : List ℕ) : Type 0 where
   bytes : List ℕ

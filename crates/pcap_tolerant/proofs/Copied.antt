@@ -1,25 +1,18 @@
 -- Captures of packets as they stand that are copied.
-use Rattle.std.proofs.Common.{◌≡◌, ◌≤◌, ℕ, List, [], ◌++◌, length, subst, arith, inl, inr, refl, Ok, Some, None, Bool}
-use Rattle.std.specs.Prelude.{Option, Result}
+use Rattle.std.proofs.Common.{◌≡◌, ◌≤◌, ℕ, List, [], length, subst, arith, inl, inr, refl, Ok, Some, None, Bool}
+use Rattle.std.specs.Prelude.{Option}
 use Rattle.std.specs.Option.{is_some}
-use Rattle.std.specs.Result.{result_err}
 use Rattle.std.proofs.lemmas.List.{nil_from_length}
-use Rattle.std.proofs.KnownBytes.{Consumes-trans, Appends-trans}
-use Rattle.pcap_core.specs.declared.errors.PcapError.{PcapError}
-use Rattle.pcap_core.specs.declared.stream.copying.Tally.{Tally}
-use Rattle.pcap_core.specs.AsTheyCame.{as_they_came, HoldsNext}
-use Rattle.pcap_core.specs.Copying.{CopiesBehind}
+use Rattle.pcap_core.specs.AsTheyCame.{HoldsNext}
 use Rattle.pcap_core.specs.Filling.{FillsHeaded}
 use Rattle.pcap_classic.specs.declared.pcap.header.PcapHeader.{PcapHeader}
 use Rattle.pcap_classic.specs.declared.pcap.parser.PcapParser.{PcapParser}
 use Rattle.pcap_classic.specs.declared.run.copy.Copied.{Copied}
-use Rattle.pcap_classic.specs.Copies.{copied_of}
 use Rattle.pcap_classic.specs.HeaderText.{HeaderText}
 use Rattle.pcap_classic.specs.Parser.{header_of}
-use Rattle.pcap_classic.proofs.Stable.{header_stable}
 use Rattle.pcap_classic.proofs.Texts.{header_length}
 use Rattle.pcap_tolerant.specs.declared.as_is.HeadAsIs.{HeadAsIs}
-use Rattle.pcap_tolerant.specs.Copies.{CopiesHeader, CopyRunAsIs}
+use Rattle.pcap_tolerant.specs.Copies.{CopyRunAsIs}
 use Rattle.pcap_tolerant.specs.AsIs.{as_is_format}
 use Rattle.pcap_tolerant.specs.KnownHeads.{KnowsAsIs, held_as_is}
 use Rattle.pcap_tolerant.specs.Run.{as_is_under}
@@ -31,29 +24,9 @@ held_header parser bytes rest long text =
     let none : rest ≡ [] = nil_from_length rest (omega (arith, long, header_length (header_of parser) bytes rest text)) in
     subst (λ (l : List ℕ). HeaderText (header_of parser) bytes l) none text
 
--- a copy of a header and packets
-pub copies_run : (limit : ℕ) (header : PcapHeader) (before behind now out out_behind out_now : Option (List ℕ)) (most : ℕ) (tally : Tally) (result : Result (Unit {0}) PcapError)
-    → CopiesHeader header before behind out out_behind → CopiesBehind (as_is_under limit header) as_they_came tt behind now out_behind out_now most tally result
-    → CopyRunAsIs limit before now out out_now most (copied_of tally (result_err result))
-copies_run limit header before behind now out out_behind out_now most tally result opens run =
-    let bytes = run.texts.bytes in
-    inr (record {
-      header = header;
-      packets = run.items;
-      bytes = opens.bytes ++ bytes;
-      text = record { after = bytes; header_text = header_stable.text opens.bytes bytes [] header opens.text; texts = run.texts.texts };
-      left = run.left;
-      mid = run.mid;
-      took = Consumes-trans before behind run.left opens.bytes bytes opens.took run.texts.took;
-      went = Appends-trans out out_behind run.mid opens.bytes bytes opens.went run.texts.went;
-      count = run.count;
-      within = run.within;
-      ends = run.ends;
-    })
-
 -- a copy went no further than it was told
 pub run_within : (limit : ℕ) (before now out out_now : Option (List ℕ)) (most : ℕ) (copied : Copied) → CopyRunAsIs limit before now out out_now most copied → copied.packets ≤ most
-run_within limit before now out out_now most copied run = elim run [ inl failed ↦ omega (arith, failed.0) | inr packets ↦ packets.within ]
+run_within limit before now out out_now most copied run = elim run [ inl failed ↦ omega (arith, failed.0) | inr copy ↦ copy.packets.within ]
 
 -- what was filled with is the next packet, or there is none
 pub packet_held : (limit : ℕ) (header : PcapHeader) (before after : Option (List ℕ)) (held : List ℕ) (failed : Bool) (found : Option HeadAsIs)

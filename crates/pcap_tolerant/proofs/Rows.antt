@@ -6,8 +6,8 @@ use Rattle.pcap_core.specs.declared.errors.PcapError.TheVariants as errors
 use Rattle.pcap_core.specs.Answer.{Order, number_in, Verdict, whole, lacks, faulty, Refuses}
 use Rattle.pcap_core.specs.Faults.{Fault, Invalid, Io, Utf8}
 use Rattle.pcap_core.specs.Format.{Format, IsLawful}
-use Rattle.pcap_core.proofs.Verdicts.{same_whole, whole_no_fault}
-use Rattle.pcap_core.proofs.Formats.{nil_of_length}
+use Rattle.pcap_core.proofs.Verdicts.{whole_no_fault}
+use Rattle.pcap_core.proofs.Formats.{nil_of_length, whole_same}
 use Rattle.pcap_classic.specs.declared.common.TsResolution.{TsResolution}
 use Rattle.pcap_classic.specs.declared.pcap.header.PcapHeader.{PcapHeader}
 use Rattle.pcap_classic.specs.Magic.{order_of, resolution_of}
@@ -22,14 +22,14 @@ module _ {S V : Type 0} (f : Format S V) (P : V → Type 0) (laws : IsLawful f) 
   pub row_down : (q : S) (k : ℕ) (s after : List ℕ) (v : V) → f.says q s (whole v after) → Row f P q (suc k) s → (after ≡ []) ⊎ Row f P (f.goes q v) k after
   row_down q k s after v x row =
       let one = laws.one q s in
-      let e = same_whole row.0 v row.1 after (one.only (whole row.0 row.1) row.2 ∙ sym (one.only (whole v after) x)) in
+      let e = whole_same row.0 v row.1 after (one.only (whole row.0 row.1) row.2 ∙ sym (one.only (whole v after) x)) in
       let here : (row.1 ≡ []) ⊎ Row f P (f.goes q v) k row.1 = subst (λ (w : V). (row.1 ≡ []) ⊎ Row f P (f.goes q w) k row.1) e.0 row.4 in
       subst (λ (a : List ℕ). (a ≡ []) ⊎ Row f P (f.goes q v) k a) e.1 here
 
   pub row_sound : (q : S) (k : ℕ) (s after : List ℕ) (v : V) → f.says q s (whole v after) → Row f P q (suc k) s → P v
   row_sound q k s after v x row =
       let one = laws.one q s in
-      let e = same_whole row.0 v row.1 after (one.only (whole row.0 row.1) row.2 ∙ sym (one.only (whole v after) x)) in
+      let e = whole_same row.0 v row.1 after (one.only (whole row.0 row.1) row.2 ∙ sym (one.only (whole v after) x)) in
       subst P e.0 row.3
 
   other_verdict : (v : V) (a : List ℕ) (n : ℕ) → whole v a ≡ lacks n → ⊥

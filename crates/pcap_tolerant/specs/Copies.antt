@@ -1,11 +1,10 @@
 -- What a copy of packets as they stand takes and writes.
-use Rattle.std.specs.Prelude.{◌≡◌, ◌≤◌, ◌⊎◌, ℕ, List, [], length, Option, Some, Result, Ok, Err}
+use Rattle.std.specs.Prelude.{◌≡◌, ◌⊎◌, ℕ, List, [], Option, Some, Result, Ok, Err}
 use Rattle.std.specs.Io.KnownBytes.{Consumes, Appends}
 use Rattle.pcap_core.specs.declared.errors.PcapError.{PcapError}
 use Rattle.pcap_core.specs.declared.stream.copying.Tally.{Tally}
 use Rattle.pcap_core.specs.AsTheyCame.{as_they_came}
-use Rattle.pcap_core.specs.Copying.{NothingCopied, EndsTorn, Ends}
-use Rattle.pcap_core.specs.Format.{Texts}
+use Rattle.pcap_core.specs.Copying.{NothingCopied, EndsTorn, CopiesBehind}
 use Rattle.pcap_classic.specs.declared.pcap.header.PcapHeader.{PcapHeader}
 use Rattle.pcap_classic.specs.declared.pcap.parser.PcapParser.{PcapParser}
 use Rattle.pcap_classic.specs.declared.run.copy.Copied.{Copied}
@@ -13,7 +12,6 @@ use Rattle.pcap_classic.specs.declared.run.copy.Under.TheVariants.{Same}
 use Rattle.pcap_classic.specs.Copies.{RefusesHeader, copied_of}
 use Rattle.pcap_classic.specs.HeaderText.{HeaderText, HeaderSays}
 use Rattle.pcap_classic.specs.Parser.{header_of}
-use Rattle.pcap_tolerant.specs.AsIs.{AsIs}
 use Rattle.pcap_tolerant.specs.Run.{as_is_under}
 
 -- no packet was copied: the header was refused, and nothing went out; or it was taken, and a write failed in its bytes
@@ -34,26 +32,13 @@ abbrev pub BeginsAsIs : Option (List ℕ) → Option (List ℕ) → Option (List
 BeginsAsIs before now out out_now tally (Ok parser) = NothingCopied tally × CopiesHeader (header_of parser) before now out out_now
 BeginsAsIs before now out out_now tally (Err e) = FailsHeader before now out out_now (copied_of tally (Some e))
 
--- s is a header's text and the texts of packets as they stand, and no more
-pub record CaptureText (limit : ℕ) (header : PcapHeader) (packets : List AsIs) (s : List ℕ) : Type 0 where
-  pub after : List ℕ
-  pub header_text : HeaderText header s after
-  pub texts : Texts (as_is_under limit header) tt packets after []
-
--- the bytes of a header and of packets as they stand were taken and exactly they went out, until the copy ended: at the stream's
--- end, or at the most packets, or with a fault before these, which is what is said of the bytes behind them
+-- the header's bytes went out, and then those of packets as they stand, until the copy ended
 pub record CopiesAsIs (limit : ℕ) (before now out out_now : Option (List ℕ)) (most : ℕ) (copied : Copied) : Type 0 where
   pub header : PcapHeader
-  pub packets : List AsIs
-  pub bytes : List ℕ
-  pub text : CaptureText limit header packets bytes
-  pub left : Option (List ℕ)
-  pub mid : Option (List ℕ)
-  pub took : Consumes before left bytes
-  pub went : Appends out mid bytes
-  pub count : copied.packets ≡ length packets
-  pub within : copied.packets ≤ most
-  pub ends : Ends as_they_came ((as_is_under limit header).says tt) left now mid out_now most copied.packets copied.fault copied.read_failed copied.write_failed
+  pub behind : Option (List ℕ)
+  pub out_behind : Option (List ℕ)
+  pub opened : CopiesHeader header before behind out out_behind
+  pub packets : CopiesBehind (as_is_under limit header) as_they_came tt behind now out_behind out_now most copied.packets copied.fault copied.read_failed copied.write_failed
 
 -- one copy: the header is refused or torn, or packets were copied
 abbrev pub CopyRunAsIs : ℕ → Option (List ℕ) → Option (List ℕ) → Option (List ℕ) → Option (List ℕ) → ℕ → Copied → Type 0

@@ -10,11 +10,11 @@ ghost use Rattle.pcap_tolerant.specs.Copies.{BeginsAsIs, CopyRunAsIs};
 use crate::as_is::next_packet_as_is;
 use crate::stated::PacketsAsIs;
 use pcap_classic::pcap::PcapParser;
-use pcap_classic::run::Copied;
+use pcap_classic::run::{Copied, end_copy};
+use pcap_core::ResultParsing;
 use pcap_core::stream::{
     AsTheyCame, Held, Holding, Tally, copy_buffers, copy_items, fill_array, fill_item, put,
 };
-use pcap_core::{PcapError, ResultParsing};
 use std::alloc::Global;
 use std::io::{BufRead, Read, Write};
 
@@ -78,7 +78,7 @@ pub fn copy_pcap_as_is<R: Read, W: Write>(
 {
     let mut tally = Tally::none();
     let fault = copy_all(alloc, reader, writer, limit, most, &mut tally).err();
-    copied(&tally, fault)
+    end_copy(&tally, fault)
 }
 
 /// Copies a capture as `copy_pcap_as_is` does, from a reader that shows its buffer: packets that lie whole in it are written from
@@ -98,19 +98,7 @@ pub fn copy_pcap_as_is_buffered<R: BufRead, W: Write>(
 {
     let mut tally = Tally::none();
     let fault = copy_all_shown(alloc, reader, writer, limit, most, &mut tally).err();
-    copied(&tally, fault)
-}
-
-// A copy that came so far, and ended with this fault, or none.
-fn copied(tally: &Tally, fault: Option<PcapError>) -> Copied
-    ensures { result ≡ copied_of tally.now fault }
-{
-    Copied {
-        packets: tally.items,
-        fault,
-        read_failed: tally.read_failed,
-        write_failed: tally.write_failed,
-    }
+    end_copy(&tally, fault)
 }
 
 // Copies the header and the packets, and counts these.

@@ -8,7 +8,6 @@ use Rattle.pcap_core.specs.Laws.{ExactlyOne}
 use Rattle.pcap_core.specs.Padded.{Chain}
 use Rattle.pcap_core.specs.declared.rules.Rule.{Rule}
 use Rattle.pcap_core.proofs.Texts.{number_same}
-use Rattle.pcap_core.proofs.Verdicts.{same_whole}
 use Rattle.pcap_blocks.specs.Values.{Entry, Kind}
 use Rattle.pcap_blocks.specs.Options.{may_end_with_body, OptionFault}
 use Rattle.pcap_blocks.specs.SectionHeader.{Section, VersionText, section_header, magic_order}
@@ -19,6 +18,7 @@ use Rattle.pcap_tolerant_blocks.specs.OptionsAsIs.{Judged, JudgedText, entry_in,
 use Rattle.pcap_tolerant_blocks.specs.SectionAsIs.{AfterMagic, SectionGrows, VersionGrows}
 use Rattle.pcap_tolerant_blocks.proofs.Lists.{ReadSoFar}
 use Rattle.pcap_tolerant_blocks.proofs.OneAsIs.{raw_text, list_one}
+use Rattle.pcap_core.proofs.Formats.{whole_same}
 
 -- ---- lists
 
@@ -57,7 +57,7 @@ BodySays IsBody s = Says (λ x rest. IsBody x.value x.flaws s rest) (λ n. ⊥) 
 
 module _ {V : Type 0} (IsBody : Option V → List Said → List ℕ → List ℕ → Type 0) (s : List ℕ) (one : ExactlyOne (BodySays IsBody s)) where
   body_same : (x y : Flawed (Option V)) (a b : List ℕ) → IsBody x.value x.flaws s a → IsBody y.value y.flaws s b → x ≡ y
-  body_same x y a b h k = (same_whole x y a b (one.only (whole x a) h ∙ sym (one.only (whole y b) k))).0
+  body_same x y a b h k = (whole_same x y a b (one.only (whole x a) h ∙ sym (one.only (whole y b) k))).0
 
   body : Option V → List Said → Flawed (Option V)
   body value flaws = record { value = value; flaws = flaws }

@@ -1,5 +1,5 @@
 -- Options that are read one behind the other, as they stand.
-use Rattle.std.proofs.Common.{◌≡◌, ◌≢◌, ℕ, List, [], ◌∷◌, ◌++◌, map, Option, Some, None, Result, Ok, Err, IfErr, refl, sym, ap, subst, ◌∙◌, append_assoc}
+use Rattle.std.proofs.Common.{◌≡◌, ◌≢◌, ℕ, List, [], ◌∷◌, ◌++◌, map, Option, Some, None, refl, sym, ap, subst, ◌∙◌, append_assoc}
 use Rattle.std.proofs.lemmas.List.{append-nil, map-append}
 use Rattle.pcap_core.specs.Answer.{Order}
 use Rattle.pcap_core.specs.Faults.{Fault}
@@ -11,11 +11,6 @@ use Rattle.pcap_raw_options.specs.UpTo.{StopsAt, no_kind}
 use Rattle.pcap_tolerant_blocks.specs.declared.flaws.Flaw.{Flaw}
 use Rattle.pcap_tolerant_blocks.specs.Flaws.{Said, said_of}
 use Rattle.pcap_tolerant_blocks.specs.OptionsAsIs.{Judged, JudgedText, entry_in, cut_by, flaws_in, OptionsAsIs}
-
--- what holds anyway holds where a call fails
-pub holds_on_err : {A E : Type 0} (P : Type 0) → P → (r : Result A E) → IfErr r (λ e. P)
-holds_on_err P p (Ok x) = tt
-holds_on_err P p (Err e) = p
 
 flaws_push : (each : List Judged) (option : Judged) → flaws_in (each ++ option ∷ []) [] ≡ flaws_in each [] ++ option.flaws
 flaws_push [] option = append-nil option.flaws

@@ -8,7 +8,8 @@ use Rattle.pcap_core.specs.Laws.{ExactlyOne}
 use Rattle.pcap_core.specs.Padded.{Chain}
 use Rattle.pcap_core.proofs.Numbers.{Values, NumbersSay, numbers_one}
 use Rattle.pcap_core.proofs.OnePadded.{PaddedSays, padded_one, padded_length}
-use Rattle.pcap_core.proofs.Verdicts.{Stopped, IsMany, one_stopped, same_whole}
+use Rattle.pcap_core.proofs.Verdicts.{Stopped, IsMany, one_stopped}
+use Rattle.pcap_core.proofs.Formats.{whole_same}
 use Rattle.pcap_blocks.specs.Values.{Entry}
 use Rattle.pcap_blocks.specs.Options.{CodeLengthText}
 use Rattle.pcap_blocks.specs.Record.{NameRecord, RecordFault, RecordSays}
@@ -54,7 +55,7 @@ module _ (order : Order) where
       let same = typed_same order 0 0 e d s m n typed other in
       let here : OptionsAsIs order name_resolution p g m b = subst (λ (l : List ℕ). OptionsAsIs order name_resolution p g l b) (sym same.2) behind in
       let one = list_one order name_resolution m in
-      let both = same_whole (flawed o f) (flawed p g) a b (one.only (whole (flawed o f) a) list ∙ sym (one.only (whole (flawed p g) b) here)) in
+      let both = whole_same (flawed o f) (flawed p g) a b (one.only (whole (flawed o f) a) list ∙ sym (one.only (whole (flawed p g) b) here)) in
       let options : o ≡ p = ap (λ (x : Flawed (List Entry)). x.value) both.0 in
       let flaws : f ≡ g = ap (λ (x : Flawed (List Entry)). x.flaws) both.0 in
       let whole_same : flawed o (e.flaws ++ f) ≡ flawed p (d.flaws ++ g) = rw (options, flaws, ap flaws_of same.1) refl in
@@ -245,5 +246,5 @@ module _ (order : Order) where
   unfolding flawed
   flaws_grow options flaws s rest list some value left text bare =
       let one = list_one order name_resolution s in
-      let same = (same_whole (flawed options flaws) (flawed value []) rest left (one.only (whole (flawed options flaws) rest) list ∙ sym (one.only (whole (flawed value []) left) text))).0 in
+      let same = (whole_same (flawed options flaws) (flawed value []) rest left (one.only (whole (flawed options flaws) rest) list ∙ sym (one.only (whole (flawed value []) left) text))).0 in
       some (ap (λ (x : Flawed (List Entry)). x.flaws) same)

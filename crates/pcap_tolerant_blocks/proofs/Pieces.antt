@@ -1,10 +1,10 @@
 -- Options whose values break no rule, as their bytes stand.
-use Rattle.std.proofs.Common.{◌≡◌, ◌<◌, ◌≤◌, ◌-◌, ℕ, List, [], ◌∷◌, ◌++◌, length, take, Bool, true, false, Option, refl, sym, ap, subst, ◌∙◌, arith, append_assoc, append-nil, length-append}
+use Rattle.std.proofs.Common.{◌≡◌, ◌<◌, ◌-◌, ℕ, List, [], ◌∷◌, ◌++◌, length, take, Bool, true, false, Option, refl, sym, ap, subst, ◌∙◌, arith, append_assoc, append-nil, length-append}
 use Rattle.std.specs.Prelude.{All, filter}
 use Rattle.std.specs.List.{flat_map}
 use Rattle.std.proofs.Math.Seq.{take-append_seam}
 use Rattle.std.proofs.lemmas.List.Concat.{flat_map-append}
-use Rattle.std.proofs.lemmas.List.Elements.{All-nil, All-push, filter-append}
+use Rattle.std.proofs.lemmas.List.Elements.{All-push, filter-append}
 use Rattle.std.proofs.lemmas.List.{length-take}
 use Rattle.pcap_core.specs.Answer.{Order, Number, Verdict, whole, lacks, faulty}
 use Rattle.pcap_core.specs.Faults.{Fault}
@@ -53,9 +53,6 @@ module _ (order : Order) (kind : Kind) where
     pub text : s ≡ flat_map text_in pieces ++ left
     pub kept_are : kept ≡ flat_map text_in (filter is_sound pieces)
 
-  pub pieces_none : (s : List ℕ) → PiecesSoFar s s []
-  pieces_none s = record { pieces = []; are = All-nil (IsPiece order kind); text = refl; kept_are = refl }
-
   one_kept : (piece : Piece) (sound : Bool) → are_none piece.option.flaws ≡ sound → flat_map text_in (filter is_sound (piece ∷ [])) ≡ text_if sound piece.text
   one_kept piece true e = rw e (append-nil piece.text)
   one_kept piece false e = rw e refl
@@ -93,10 +90,6 @@ module _ (order : Order) (kind : Kind) where
 
   pub pieces_end : (s left rest kept : List ℕ) (cut : Option Fault) → PiecesSoFar s left kept → StopsAt may_end_with_body order no_kind [] cut left rest → SoundOptions order kind s kept
   pieces_end s left rest kept cut so_far stops = record { pieces = so_far.pieces; stop = left; cut = cut; rest = rest; are = so_far.are; text = so_far.text; stops = stops; kept_are = so_far.kept_are }
-
-  -- an option leaves no more than there was
-  pub leaves_less : (option : Judged) (left after : List ℕ) → JudgedText order kind option left after → length after ≤ length left
-  leaves_less option left after is = let t = piece_there option left after is in omega (arith, ap length t.3, length-append t.0.text after)
 
   -- the options that stand in what is left
   pieces_on : (each : List Judged) (s left stop kept : List ℕ) → PiecesSoFar s left kept → Chain (JudgedText order kind) each left stop → (more : List ℕ) × PiecesSoFar s stop (kept ++ more)

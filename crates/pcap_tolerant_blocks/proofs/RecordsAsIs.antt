@@ -16,7 +16,8 @@ use Rattle.pcap_core.specs.declared.rules.Rule.TheVariants.{Ipv4RecordTooShort, 
 use Rattle.pcap_core.proofs.OnePadded.{padded_same, no_short_padded}
 use Rattle.pcap_core.proofs.Padded.{chain_more}
 use Rattle.pcap_core.proofs.Texts.{number_same}
-use Rattle.pcap_core.proofs.Verdicts.{same_whole, whole_no_fault}
+use Rattle.pcap_core.proofs.Verdicts.{whole_no_fault}
+use Rattle.pcap_core.proofs.Formats.{whole_same}
 use Rattle.pcap_blocks.specs.Options.{CodeLengthText}
 use Rattle.pcap_blocks.specs.Record.{NameRecord, End, Ipv4, Ipv6, Other, no_value, address, any_value, form_of, RecordValueSays, RecordText, RecordFault, short, cut, wrong, unpadded, RecordMayGrow, RecordValueMayGrow, other_of}
 use Rattle.pcap_blocks.specs.declared.record.UnknownRecord.{UnknownRecord}
@@ -73,7 +74,7 @@ module _ (order : Order) where
   value_same type v x y h k = let one = value_one (form_of type) v in one.only x h ∙ sym (one.only y k)
 
   pub judged_same : (type : ℕ) (v : List ℕ) (r q : Flawed NameRecord) → IsJudged type v r → IsJudged type v q → r ≡ q
-  judged_same type v r q (sound a x) (sound b y) = ap as_it_is (same_whole a b [] [] (value_same type v (whole a []) (whole b []) x y)).0
+  judged_same type v r q (sound a x) (sound b y) = ap as_it_is (whole_same a b [] [] (value_same type v (whole a []) (whole b []) x y)).0
   judged_same type v r q (sound a x) (broken g y) = absurd (whole_no_fault a [] g (value_same type v (whole a []) (faulty g) x y))
   judged_same type v r q (broken f x) (sound b y) = absurd (whole_no_fault b [] f (value_same type v (whole b []) (faulty f) y x))
   judged_same type v r q (broken f x) (broken g y) = let both = value_same type v (faulty f) (faulty g) x y in let same : f ≡ g = cc in ap (as_bytes type v) same
@@ -150,9 +151,6 @@ module _ (order : Order) where
     pub are : Chain (KeptAsIs order) each s left
     pub records_are : records ≡ map record_in each
     pub flaws_are : flaws ≡ flat_map flaws_of each
-
-  pub records_none : (s : List ℕ) → RecordsSoFar [] [] s s
-  records_none s = record { each = []; are = refl; records_are = refl; flaws_are = refl }
 
   pub record_more : (records : List NameRecord) (flaws : List Said) (s left after : List ℕ) (r : Flawed NameRecord) → RecordsSoFar records flaws s left → KeptAsIs order r left after
       → RecordsSoFar (records ++ r.value ∷ []) (flaws ++ r.flaws) s after

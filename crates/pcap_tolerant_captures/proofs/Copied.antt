@@ -1,14 +1,11 @@
 -- Blocks as they stand that are copied, or passed over.
 use Rattle.std.proofs.Common.{◌≡◌, ℕ, List, [], Bool, refl, sym, subst, inr, Ok, Some, None}
-use Rattle.std.specs.Prelude.{Option, Result, ⊤}
+use Rattle.std.specs.Prelude.{Option, ⊤}
 use Rattle.std.specs.Option.{is_some}
-use Rattle.std.specs.Result.{result_err}
 use Rattle.pcap_core.specs.declared.common.Endianness.{Endianness}
 use Rattle.pcap_core.specs.declared.errors.PcapError.{PcapError}
-use Rattle.pcap_core.specs.declared.stream.copying.Tally.{Tally}
 use Rattle.pcap_core.specs.Answer.{whole, lacks, faulty, Refuses}
-use Rattle.pcap_core.specs.AsTheyCame.{as_they_came, HoldsNext, PassesBytes}
-use Rattle.pcap_core.specs.Copying.{CopiesBehind}
+use Rattle.pcap_core.specs.AsTheyCame.{HoldsNext, PassesBytes}
 use Rattle.pcap_core.specs.Headed.{good}
 use Rattle.pcap_core.specs.Reading.{Pulls}
 use Rattle.pcap_core.proofs.Formats.{text_same}
@@ -21,7 +18,7 @@ use Rattle.pcap_tolerant.proofs.Rows.{row_refused}
 use Rattle.pcap_tolerant_captures.specs.declared.parser.PcapNgParserAsIs.{PcapNgParserAsIs}
 use Rattle.pcap_tolerant_captures.specs.declared.reader.LentAsIs.{LentAsIs}
 use Rattle.pcap_tolerant_captures.specs.Blocks.{Item, as_is_format}
-use Rattle.pcap_tolerant_captures.specs.Copies.{CopiesAsIs, LeavesInForce, copied_of}
+use Rattle.pcap_tolerant_captures.specs.Copies.{LeavesInForce}
 use Rattle.pcap_tolerant_captures.specs.HeldAsIs.{held_item, state_in}
 use Rattle.pcap_tolerant_captures.specs.State.{State, opening, within, order_at, Led, Role, leaves_all, role_of, MeansFor}
 
@@ -32,22 +29,6 @@ pub block_held : (q next : State) (before after : Option (List ℕ)) (held : Lis
 unfolding as_is_format
 block_held q next before after held failed (Some lent) pulls text = (pulls.0, record { item = held_item next held lent; text = text.0; leads = refl }, text.1)
 block_held q next before after held failed None pulls text = (pulls.0, text, pulls.1, pulls.2)
-
--- a copy of blocks
-pub copies_as_is : (before now out out_now : Option (List ℕ)) (most : ℕ) (tally : Tally) (result : Result (Unit {0}) PcapError)
-    → CopiesBehind as_is_format as_they_came opening before now out out_now most tally result → CopiesAsIs before now out out_now most (copied_of tally (result_err result))
-copies_as_is before now out out_now most tally result run = record {
-  blocks = run.items;
-  bytes = run.texts.bytes;
-  texts = run.texts.texts;
-  left = run.left;
-  mid = run.mid;
-  took = run.texts.took;
-  went = run.texts.went;
-  count = run.count;
-  within = run.within;
-  ends = run.ends;
-}
 
 -- ---- a block that leaves what is in force
 

@@ -6,12 +6,12 @@ use Rattle.pcap_core.specs.declared.common.Endianness.{Endianness}
 use Rattle.pcap_core.specs.declared.errors.PcapError.{PcapError}
 use Rattle.pcap_core.specs.Answer.{whole, lacks, faulty, Refuses}
 use Rattle.pcap_core.specs.Format.{IsLawful}
-use Rattle.pcap_core.proofs.Verdicts.{same_whole}
 use Rattle.pcap_blocks.specs.declared.block_type.BlockType.TheVariants as types
 use Rattle.pcap_file.specs.Frames.{Framed, FrameText, FrameSays, frame_format}
 use Rattle.pcap_file.proofs.HeadedFrames.{frames_lawful, frame_one}
 use Rattle.pcap_tolerant.proofs.Rows.{goes_down, goes_up, goes_to_the_end, goes_no_further, goes_not_over}
 use Rattle.pcap_tolerant_captures.specs.Resync.{frames_in_a_row, FrameRow, HasRoom, HeaderStands}
+use Rattle.pcap_core.proofs.Formats.{whole_same}
 
 laws : IsLawful frames_in_a_row
 unfolding frames_in_a_row frame_format
@@ -35,7 +35,7 @@ module _ (e : Endianness) (s : List ℕ) where
   pub header_is : (b : Framed) (rest : List ℕ) → FrameText e b s rest → HeaderStands e s → (b.type_ ≡ types.SectionHeader) × (16 ≤ length b.body)
   header_is b rest text header =
       let one = frame_one e s in
-      let same = same_whole header.block b header.rest rest (one.only (whole header.block header.rest) header.frame ∙ sym (one.only (whole b rest) text)) in
+      let same = whole_same header.block b header.rest rest (one.only (whole header.block header.rest) header.frame ∙ sym (one.only (whole b rest) text)) in
       subst (λ (x : Framed). (x.type_ ≡ types.SectionHeader) × (16 ≤ length x.body)) same.0 (header.is_header, header.room)
 
   pub no_header : (error : PcapError) → Refuses ⊥ (λ n. FrameSays e s (lacks n)) (λ fault. FrameSays e s (faulty fault)) error → HeaderStands e s → ⊥

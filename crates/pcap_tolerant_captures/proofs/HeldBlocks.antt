@@ -10,7 +10,8 @@ use Rattle.pcap_core.specs.Filling.{IsSettled, IsAskedFor}
 use Rattle.pcap_core.specs.Headed.{HeadReading, good, bad}
 use Rattle.pcap_core.specs.Reading.{HasCause, no_memory, TakesAsked}
 use Rattle.pcap_core.proofs.Filled.{held_refused}
-use Rattle.pcap_core.proofs.Verdicts.{same_whole, fault_no_whole}
+use Rattle.pcap_core.proofs.Verdicts.{fault_no_whole}
+use Rattle.pcap_core.proofs.Formats.{whole_same}
 use Rattle.pcap_file.specs.Frames.{Framed, FrameText, FrameSays, frame_format}
 use Rattle.pcap_file.specs.Lent.{header_of, framed_around, body_in}
 use Rattle.pcap_file.specs.declared.pcapng.block_header.BlockHeader.{BlockHeader}
@@ -60,7 +61,7 @@ module _ (q : State) (s : List ℕ) where
   settled_lacks (inr x) n lack = lacks_no_fault n x.0 (same_said (lacks n) (faulty x.0) lack x.1)
 
   settled_rest : IsSettled (AsIsSays q s) → (item : Item) (rest : List ℕ) → AsIsSays q s (whole item rest) → rest ≡ []
-  settled_rest (inl x) item rest text = (same_whole item x.0 rest [] (same_said (whole item rest) (whole x.0 []) text x.1)).1
+  settled_rest (inl x) item rest text = (whole_same item x.0 rest [] (same_said (whole item rest) (whole x.0 []) text x.1)).1
   settled_rest (inr x) item rest text = absurd (fault_no_whole item rest x.0 (same_said (faulty x.0) (whole item rest) x.1 text))
 
   -- why what is held is no block

@@ -37,11 +37,4 @@ module _ (q : State) (s : List ℕ) where
 -- a first block of another type is refused
 pub first_missing : (t : BlockType) → (t ≡ types.SectionHeader → ⊥) → (b : Framed) → MeansFor (role_of t) opening b (bad (Invalid SectionMissing))
 first_missing types.SectionHeader none b = absurd (none refl)
-first_missing types.InterfaceDescription none b = refl
-first_missing types.Packet none b = refl
-first_missing types.SimplePacket none b = refl
-first_missing types.NameResolution none b = refl
-first_missing types.InterfaceStatistics none b = refl
-first_missing types.EnhancedPacket none b = refl
-first_missing types.SystemdJournalExport none b = refl
-first_missing (types.Unknown n) none b = refl
+first_missing _ none b = refl

@@ -120,25 +120,12 @@ data KindOf (t : BlockType) : Type 0 where
 kind_of : (t : BlockType) → KindOf t
 kind_of types.SectionHeader = is_section refl
 kind_of types.InterfaceDescription = is_interface refl
-kind_of types.Packet = is_other refl refl
-kind_of types.SimplePacket = is_other refl refl
-kind_of types.NameResolution = is_other refl refl
-kind_of types.InterfaceStatistics = is_other refl refl
-kind_of types.EnhancedPacket = is_other refl refl
-kind_of types.SystemdJournalExport = is_other refl refl
-kind_of (types.Unknown n) = is_other refl refl
+kind_of _ = is_other refl refl
 
 -- a body of another type is no section's
 leads_nowhere : (order : ℕ → List ℕ → ℕ) (t : BlockType) (s rest : List ℕ) (body : Body) → t ≢ types.SectionHeader → BodySays order t s (whole body rest) → strict.leads strict.opening body ≡ bad (Invalid SectionMissing)
 leads_nowhere order types.SectionHeader s rest body differs h = absurd (differs refl)
-leads_nowhere order types.InterfaceDescription s rest body differs h = ap (strict.leads strict.opening) h.1
-leads_nowhere order types.Packet s rest body differs h = ap (strict.leads strict.opening) h.1
-leads_nowhere order types.SimplePacket s rest body differs h = ap (strict.leads strict.opening) h.1
-leads_nowhere order types.NameResolution s rest body differs h = ap (strict.leads strict.opening) h.1
-leads_nowhere order types.InterfaceStatistics s rest body differs h = ap (strict.leads strict.opening) h.1
-leads_nowhere order types.EnhancedPacket s rest body differs h = ap (strict.leads strict.opening) h.1
-leads_nowhere order types.SystemdJournalExport s rest body differs h = ap (strict.leads strict.opening) h.1
-leads_nowhere order (types.Unknown n) s rest body differs h = ap (strict.leads strict.opening) h.1
+leads_nowhere order _ s rest body differs h = ap (strict.leads strict.opening) h.1
 
 good_no_bad : (a : strict.State) (f : Fault) → bad f ≡ good a → ⊥
 good_no_bad a f e = absurd cc

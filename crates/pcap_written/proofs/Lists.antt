@@ -1,5 +1,5 @@
 -- Lists of options, one behind the other.
-use Rattle.std.proofs.Common.{◌≡◌, ℕ, ◌<◌, ◌≤◌, ◌+◌, List, [], ◌∷◌, ◌++◌, length, take, refl, sym, ap, subst, ◌∙◌, append_assoc, append-nil, arith, map, get_or}
+use Rattle.std.proofs.Common.{◌≡◌, ℕ, ◌<◌, ◌≤◌, ◌+◌, List, [], ◌∷◌, ◌++◌, length, take, sym, ap, subst, ◌∙◌, append_assoc, append-nil, arith, map, get_or}
 use Rattle.std.specs.Prelude.{All, Any}
 use Rattle.std.specs.List.{flat_map}
 use Rattle.std.proofs.lemmas.Grind.{flat_map-append}
@@ -7,9 +7,6 @@ use Rattle.std.proofs.lemmas.List.{map_more, length-map, get_or-map, take-map}
 use Rattle.std.proofs.lemmas.List.Elements.{All-push}
 use Rattle.std.proofs.lemmas.List.Concat.{flat_map-cons}
 use Rattle.std.proofs.lemmas.List.Folds.{length-flat_map-take}
-use Rattle.pcap_blocks.specs.Values.{Entry, Kind}
-use Rattle.pcap_core.specs.Codec.{Encoder}
-use Rattle.pcap_written.specs.Text.{option_text, end_mark, list_text}
 
 -- what holds of one of them
 pub any_at : {O E : Type 0} (view : O → E) (P : E → Type 0) (items : List O) (i : ℕ) (o : O) → i < length items → o ≡ get_or items i o → P (view o) → Any P (map view items)
@@ -38,8 +35,3 @@ pub fits_more : {O E : Type 0} (view : O → E) (P : E → Type 0) (items : List
 fits_more view P items i o lt is all one =
     let more : map view (take (i + 1) items) ≡ map view (take i items) ++ view o ∷ [] = map_more view items i o lt ∙ ap (λ y. map view (take i items) ++ view y ∷ []) (sym is) in
     subst (All P) (sym more) (All-push P (map view (take i items)) (view o) all one)
-
--- all of them were put, and the mark
-pub puts_all : {O : Type 0} (view : O → Entry) (kind : Kind) (write : Encoder) (items : List O) → (items ≡ [] → ⊥) → flat_map (option_text write kind) (map view items) ++ end_mark write ≡ list_text write kind (map view items)
-puts_all view kind write [] some = absurd (some refl)
-puts_all view kind write (x ∷ xs) some = refl

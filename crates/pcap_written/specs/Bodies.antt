@@ -105,26 +105,14 @@ type_of (OtherBody u) = u.type_
 -- the magic number of a block that is a section
 abbrev pub magic_in : Body → Option ℕ
 magic_in (SectionBody s) = Some s.magic
-magic_in (InterfaceBody i) = None
-magic_in (OldPacketBody p) = None
-magic_in (SimpleBody p) = None
-magic_in (NamesBody b) = None
-magic_in (StatisticsBody s) = None
-magic_in (EnhancedBody x) = None
-magic_in (JournalBody entry) = None
-magic_in (OtherBody u) = None
+magic_in _ = None
 
 -- the interface that a block speaks of, by its number in the section
 abbrev pub interface_in : Body → Option ℕ
-interface_in (SectionBody s) = None
-interface_in (InterfaceBody i) = None
 interface_in (OldPacketBody p) = Some p.interface_id
-interface_in (SimpleBody p) = None
-interface_in (NamesBody b) = None
 interface_in (StatisticsBody s) = Some s.interface_id
 interface_in (EnhancedBody x) = Some x.interface_id
-interface_in (JournalBody entry) = None
-interface_in (OtherBody u) = None
+interface_in _ = None
 
 -- what is known of a block before its body is written
 abbrev pub head_of : Body → BlockHead

@@ -12,13 +12,13 @@ use Rattle.pcap_blocks.proofs.OneBody.{body_one}
 use Rattle.pcap_file.specs.Blocks.{Item, BlockText, block_format}
 use Rattle.pcap_file.specs.Frames.{Framed, frame_format}
 use Rattle.pcap_file.specs.State.{State, order_at}
+use Rattle.pcap_file.specs.Placed.{is_packet}
 use Rattle.pcap_file.proofs.BlockFormat.{blocks_lawful}
 use Rattle.pcap_file.proofs.HeadedFrames.{frames_lawful}
 use Rattle.pcapfile_c.specs.declared.any_packets.PcapfileAnyPacket.{PcapfileAnyPacket}
 use Rattle.pcapfile_c.specs.declared.blocks.PcapfileSection.{PcapfileSection}
 use Rattle.pcapfile_c.specs.declared.bodies.PcapfileInterface.{PcapfileInterface}
 use Rattle.pcapfile_c.specs.declared.errors.PcapfileError.{PcapfileError}
-use Rattle.pcapfile_c.specs.Batches.{is_packet}
 use Rattle.pcapfile_c.specs.PushNgBatches.{PacketIsLast}
 use Rattle.pcapfile_c.specs.PushPackets.{EndsWalk, GivesPacket, ReadMayGrow, ReadSays, ReadText, ShowsInForce, Stops, TakesFrontPacket, is_packet_block}
 use Rattle.pcapfile_c.specs.Pushes.{under_status}

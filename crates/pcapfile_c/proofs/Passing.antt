@@ -13,7 +13,7 @@ use Rattle.pcap_core.specs.declared.errors.PcapError.{PcapError}
 use Rattle.pcap_core.specs.Answer.{Order, Verdict, number_in, whole, lacks, faulty, Refuses}
 use Rattle.pcap_core.specs.Faults.{Fault, Invalid, Io, Utf8}
 use Rattle.pcap_core.specs.Format.{Texts, state_after}
-use Rattle.pcap_core.specs.Headed.{good, bad}
+use Rattle.pcap_core.specs.Headed.{good}
 use Rattle.pcap_core.proofs.Formats.{texts_own, texts_push}
 use Rattle.pcap_core.proofs.Kept.{zip_push}
 use Rattle.pcap_blocks.specs.declared.block_type.BlockType.{BlockType}
@@ -26,9 +26,11 @@ use Rattle.pcap_file.specs.Blocks.{Item, BlockSays, BlockText, MayGrow, block_fo
 use Rattle.pcap_file.specs.Bodies.{GrowsInBody, SaysOfBody}
 use Rattle.pcap_file.specs.Frames.{Framed, FrameText, own_order}
 use Rattle.pcap_file.specs.State.{State, opening, within, or_big, order_at, is_kept, leads, Means, MeansIf}
-use Rattle.pcap_file.proofs.BlockFormat.{block_said, blocks_lawful}
+use Rattle.pcap_file.specs.Placed.{is_packet}
+use Rattle.pcap_file.proofs.BlockFormat.{block_said, blocks_lawful, good_in}
 use Rattle.pcap_file.proofs.KeptBodies.{read_means}
 use Rattle.pcap_file.proofs.Refusing.{body_refuses}
+use Rattle.pcap_file.proofs.Sections.{bad_no_good}
 use Rattle.pcapfile_c.specs.declared.any_packets.PcapfileAnyPacket.{PcapfileAnyPacket}
 use Rattle.pcapfile_c.specs.declared.blocks.PcapfileSection.{PcapfileSection}
 use Rattle.pcapfile_c.specs.declared.bodies.PcapfileInterface.{PcapfileInterface}
@@ -36,14 +38,14 @@ use Rattle.pcapfile_c.specs.declared.bodies.PcapfileNgPacket.{PcapfileNgPacket}
 use Rattle.pcapfile_c.specs.declared.errors.PcapfileError.{PcapfileError}
 use Rattle.pcapfile_c.specs.declared.push.PcapfilePush.{PcapfilePush}
 use Rattle.pcapfile_c.specs.AnyPackets.{ShowsAny}
-use Rattle.pcapfile_c.specs.Batches.{is_packet, LeadingText, OtherText, PacketText, PacketFault, PacketMayGrow, PassageSays}
-use Rattle.pcapfile_c.specs.Blocks.{ShowsState, TellsSection, order_shown}
+use Rattle.pcapfile_c.specs.Batches.{LeadingText, OtherText, PacketText, PacketFault, PacketMayGrow, PassageSays}
+use Rattle.pcapfile_c.specs.Blocks.{ShowsState, TellsSection}
 use Rattle.pcapfile_c.specs.Bodies.{BodyTells, ShowsInterface, ShowsInterfaceOf, IsInterface}
 use Rattle.pcapfile_c.specs.PushPackets.{ShowsInForce, ShowsFound, GivesPacket, PutsBlock, PutsTells, StepTells, EndsWalk, TakesFrontPacket, TakesNextPacket, is_packet_block, ReadSays, ReadMayGrow, LacksPlace, Stops}
 use Rattle.pcapfile_c.specs.Push.{LiesWithin, held_in}
 use Rattle.pcapfile_c.specs.Refusals.{ShowsError, TellsRefusalWhere}
 use Rattle.pcapfile_c.proofs.BlockLaws.{behind_push}
-use Rattle.pcapfile_c.proofs.Leading.{interface_refuses, not_named, none_some, section_leads, section_puts, shows_none}
+use Rattle.pcapfile_c.proofs.Leading.{interface_refuses, not_named, none_some, section_leads, section_puts}
 use Rattle.pcapfile_c.proofs.Pushed.{held_rest, with_rest}
 use Rattle.pcapfile_c.proofs.PushedBlocks.{block_ends}
 use Rattle.pcapfile_c.proofs.Refused.{tells_refusal_where}
@@ -118,13 +120,7 @@ zip_found (i ∷ is) (y ∷ ys) (suc k) x = zip_found is ys k x.1
 packet_unkept : (t : BlockType) → is_packet t ≡ true → is_kept t ≡ false
 packet_unkept types.SectionHeader is = absurd cc
 packet_unkept types.InterfaceDescription is = absurd cc
-packet_unkept types.Packet is = refl
-packet_unkept types.SimplePacket is = refl
-packet_unkept types.NameResolution is = refl
-packet_unkept types.InterfaceStatistics is = refl
-packet_unkept types.EnhancedPacket is = refl
-packet_unkept types.SystemdJournalExport is = refl
-packet_unkept (types.Unknown n) is = refl
+packet_unkept _ is = refl
 
 -- a packet
 pub packet_gives : (q : State) (section : PcapfileSection) (places : List PcapfileInterface) (e : Endianness) (s rest : List ℕ) (packet : PcapfileNgPacket) (shown : PcapfileAnyPacket)
@@ -159,24 +155,11 @@ fresh_section next places d x =
     let none : next.interfaces ≡ 0 = omega (arith, x.1) in
     (x, subst (λ (n : ℕ). AllZip ShowsInterfaceOf [] (take n places)) (sym none) tt)
 
-no_good : (fault : Fault) (after : State) → bad fault ≡ good after → ⊥
-no_good fault after e = absurd cc
-
-good_same : (a b : State) → good a ≡ good b → a ≡ b
-good_same a b e = cc
-
 -- a first block that leads anywhere is a section header
 first_leads : (order : Order) (t : BlockType) (s rest : List ℕ) (body : Body) (after : State) → BodySays order t s (whole body rest) → leads opening body ≡ good after
     → (t ≡ types.SectionHeader) × (d : Section) × (after ≡ within d [])
-first_leads order types.SectionHeader s rest body after x e = (refl, x.0, good_same after (within x.0 []) (sym e ∙ ap (leads opening) x.1))
-first_leads order types.InterfaceDescription s rest body after x e = absurd (no_good _ after (sym (ap (leads opening) x.1) ∙ e))
-first_leads order types.Packet s rest body after x e = absurd (no_good _ after (sym (ap (leads opening) x.1) ∙ e))
-first_leads order types.SimplePacket s rest body after x e = absurd (no_good _ after (sym (ap (leads opening) x.1) ∙ e))
-first_leads order types.NameResolution s rest body after x e = absurd (no_good _ after (sym (ap (leads opening) x.1) ∙ e))
-first_leads order types.InterfaceStatistics s rest body after x e = absurd (no_good _ after (sym (ap (leads opening) x.1) ∙ e))
-first_leads order types.EnhancedPacket s rest body after x e = absurd (no_good _ after (sym (ap (leads opening) x.1) ∙ e))
-first_leads order types.SystemdJournalExport s rest body after x e = absurd (no_good _ after (sym (ap (leads opening) x.1) ∙ e))
-first_leads order (types.Unknown m) s rest body after x e = absurd (no_good _ after (sym (ap (leads opening) x.1) ∙ e))
+first_leads order types.SectionHeader s rest body after x e = (refl, x.0, good_in after (within x.0 []) (sym e ∙ ap (leads opening) x.1))
+first_leads order _ s rest body after x e = absurd (bad_no_good _ after (sym (ap (leads opening) x.1) ∙ e))
 
 -- the first block
 pub first_puts : (q : State) (section next : PcapfileSection) (places : List PcapfileInterface) (s rest : List ℕ) (item : Item) → ShowsInForce section places q → magic_order section.magic_number ≡ None
@@ -333,18 +316,9 @@ packet_takes before q section next places now room s rest old packet error told 
     let there = subst (λ (l : List ℕ). TakesFrontPacket q next now (held_in before room) l old packet error told z) (sym same) here in
     inl ((lies, (omega arith, lies.1), refl, refl), there)
 
--- what no state has is no section's magic number
-pub in_force_named : (q : State) (section : PcapfileSection) (places : List PcapfileInterface) → ShowsInForce section places q → order_shown section.magic_number ≡ None → ⊥
-in_force_named opening section places shows none = shows_none section opening shows none
-in_force_named (within d interfaces) section places shows none = shows_none section (within d interfaces) shows.0 none
-
 pub shows_state : (q : State) (section : PcapfileSection) (places : List PcapfileInterface) → ShowsInForce section places q → ShowsState section q
 shows_state opening section places shows = shows
 shows_state (within d interfaces) section places shows = shows.0
-
--- the body of an interface is one
-pub is_interface_body : (e : Endianness) (body : List ℕ) → BodyTells ShowsInterface IsInterface e types.InterfaceDescription body (Ok None) → ⊥
-is_interface_body e body told = told.2 (subst IsInterface (sym told.3.1) tt)
 
 -- a walk ends behind blocks that are no packets
 pub walk_done : (q : State) (section next : PcapfileSection) (places now : List PcapfileInterface) (s mid rest : List ℕ) (old before packet : PcapfileAnyPacket) (error known told : PcapfileError) (z : ℤ)

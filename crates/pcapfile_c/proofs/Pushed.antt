@@ -1,8 +1,8 @@
 -- What is held of a capture that comes in pieces.
-use Rattle.std.proofs.Common.{◌≡◌, ◌≤◌, ◌+◌, ◌-◌, ℕ, ℤ, List, [], ◌++◌, length, take, drop, sym, ap, subst, ◌∙◌, arith, append_assoc, length-append, length-drop, inl, inr, refl}
+use Rattle.std.proofs.Common.{◌≡◌, ◌≤◌, ◌+◌, ◌-◌, ℕ, ℤ, List, [], ◌++◌, length, take, drop, sym, ap, subst, ◌∙◌, arith, append_assoc, length-drop, inl, inr, refl}
 use Rattle.std.proofs.lemmas.List.{drop-take, drop-append-le, length-take-le, take-append-drop}
 use Rattle.std.proofs.lemmas.List.Edits.{drop-paste, take-paste}
-use Rattle.std.proofs.Math.Seq.{drop-append_seam, take-add}
+use Rattle.std.proofs.Math.Seq.{take-add}
 use Rattle.std.specs.List.{copy_within}
 use Rattle.pcap_core.specs.Answer.{whole, number_in}
 use Rattle.pcap_classic.specs.Magic.{order_of, resolution_of}
@@ -17,6 +17,7 @@ use Rattle.pcapfile_c.specs.declared.shown.PcapfilePacket.{PcapfilePacket}
 use Rattle.pcapfile_c.specs.Calls.{PacketsSaid}
 use Rattle.pcapfile_c.specs.Push.{LiesWithin, Opened, TakesFront, TakesNext, held_in}
 use Rattle.pcapfile_c.specs.Shown.{captured}
+use Rattle.pcap_core.proofs.Pieces.{after_is_drop}
 
 -- what lies between two places of a room
 pub between_same : (b e : ℕ) (room : List ℕ) → b ≤ e → take (e - b) (drop b room) ≡ drop b (take e room)
@@ -41,12 +42,6 @@ pub moved_behind : (b e : ℕ) (room : List ℕ) → b ≤ e → e ≤ length ro
 moved_behind b e room within fits =
     let zero : 0 + (e - b) ≡ e - b = omega arith in
     subst (λ (k : ℕ). drop k (copy_within room b e 0) ≡ drop k room) zero (drop-paste room 0 (drop b room) (e - b) (omega arith) (omega (arith, fits, within, length-drop b room)))
-
--- what follows the first bytes of a list is the list without them
-after_is_drop : (s t after : List ℕ) → s ≡ t ++ after → drop (length s - length after) s ≡ after
-after_is_drop s t after e =
-    let count : length s - length after ≡ length t = omega (arith, ap length e, length-append t after) in
-    ap (λ (n : ℕ). drop n s) count ∙ ap (λ (l : List ℕ). drop (length t) l) e ∙ drop-append_seam t after
 
 -- what follows a text that is held ends where the text's room ended
 rest_held : (b e : ℕ) (room t rest : List ℕ) → b ≤ e → e ≤ length room → drop b (take e room) ≡ t ++ rest → drop (e - length rest) (take e room) ≡ rest

@@ -1,5 +1,5 @@
 -- Blocks as they stand, as structs show them.
-use Rattle.std.proofs.Common.{◌≡◌, ◌<◌, ◌+◌, ◌-◌, ◌^◌, ℕ, suc, List, [], ◌∷◌, ◌++◌, length, map, take, min, get_or, Option, Some, None, Ok, Err, refl, sym, ap, subst, ◌∙◌, arith, inl, inr, length-append}
+use Rattle.std.proofs.Common.{◌≡◌, ◌<◌, ◌+◌, ◌-◌, ◌^◌, ℕ, suc, List, [], ◌∷◌, ◌++◌, length, map, take, min, get_or, Option, Some, None, Ok, refl, sym, ap, subst, ◌∙◌, arith, inl, inr, length-append}
 use Rattle.std.specs.Global.{Vec}
 use Rattle.std.specs.Prelude.{slice_set}
 use Rattle.std.proofs.lemmas.Grind.{take-set_at}
@@ -9,7 +9,7 @@ use Rattle.pcap_core.specs.declared.common.Endianness.{Endianness}
 use Rattle.pcap_core.specs.declared.errors.PcapError.{PcapError}
 use Rattle.pcap_core.specs.declared.rules.Rule.TheVariants.{SectionMissing}
 use Rattle.pcap_core.specs.Answer.{Order, number_in, lacks, faulty, Refuses}
-use Rattle.pcap_core.specs.Faults.{Fault, Names}
+use Rattle.pcap_core.specs.Faults.{Names}
 use Rattle.pcap_core.specs.Headed.{good, bad}
 use Rattle.pcap_core.proofs.Refusals.{named_refuses}
 use Rattle.pcap_blocks.specs.declared.block_type.BlockType.{BlockType}
@@ -18,12 +18,11 @@ use Rattle.pcap_blocks.specs.InterfaceDescription.{Interface}
 use Rattle.pcap_blocks.specs.SectionHeader.{Section, magic_order}
 use Rattle.pcap_file.specs.Frames.{Framed, FrameText, FrameSays}
 use Rattle.pcap_file.specs.State as strict
-use Rattle.pcap_file.proofs.Refusing.{refuses_wider}
 use Rattle.pcap_tolerant_blocks.specs.declared.flaws.Flaw.{Flaw}
 use Rattle.pcap_tolerant_blocks.specs.EnhancedAsIs.{EnhancedText}
 use Rattle.pcap_tolerant_blocks.specs.Flaws.{Said, said_of}
 use Rattle.pcap_tolerant_blocks.specs.InterfaceAsIs.{InterfaceText}
-use Rattle.pcap_tolerant_blocks.specs.SectionAsIs.{SectionText, SectionGrows, NoSection}
+use Rattle.pcap_tolerant_blocks.specs.SectionAsIs.{SectionText}
 use Rattle.pcap_tolerant_captures.specs.Blocks.{AsIsSays}
 use Rattle.pcap_tolerant_captures.specs.State.{State, opening, within, order_at, Role, leaves_all, role_of, Led, MeansFor, Means}
 use Rattle.pcap_tolerant_captures.proofs.Refusing.{refuses_more, first_missing}
@@ -32,7 +31,7 @@ use Rattle.pcapfile_c.specs.declared.blocks.PcapfileSection.{PcapfileSection}
 use Rattle.pcapfile_c.specs.declared.blocks_as_is.FoundAsIs.{FoundAsIs}
 use Rattle.pcapfile_c.specs.declared.blocks_as_is.PcapfileBlockFlaw.{PcapfileBlockFlaw}
 use Rattle.pcapfile_c.specs.Blocks.{ShowsBlock, ShowsSection, order_shown}
-use Rattle.pcapfile_c.specs.BlocksAsIs.{ShowsStanding, shown_flaw, Reading, ReadsAs, Stands, ShowsStandingBlock, IsRead, CanGrow, MayGrow, said_in, IsOf, TellsSection, FindsNothing, FindsInterface, FindsPacket, LeadsStanding}
+use Rattle.pcapfile_c.specs.BlocksAsIs.{ShowsStanding, shown_flaw, Reading, ReadsAs, Stands, ShowsStandingBlock, CanGrow, MayGrow, said_in, IsOf, TellsSection, FindsNothing, FindsInterface, FindsPacket, LeadsStanding}
 use Rattle.pcapfile_c.proofs.Leading.{or_some, order_of_section, zero_opens}
 
 -- ---- flaws in places
@@ -81,13 +80,7 @@ section_stands q b lent x next flaws is shows found told =
 other_leaves : (t : BlockType) → (t ≡ types.SectionHeader → ⊥) → (t ≡ types.InterfaceDescription → ⊥) → role_of t ≡ leaves_all
 other_leaves types.SectionHeader no_section no_interface = absurd (no_section refl)
 other_leaves types.InterfaceDescription no_section no_interface = absurd (no_interface refl)
-other_leaves types.Packet no_section no_interface = refl
-other_leaves types.SimplePacket no_section no_interface = refl
-other_leaves types.NameResolution no_section no_interface = refl
-other_leaves types.InterfaceStatistics no_section no_interface = refl
-other_leaves types.EnhancedPacket no_section no_interface = refl
-other_leaves types.SystemdJournalExport no_section no_interface = refl
-other_leaves (types.Unknown n) no_section no_interface = refl
+other_leaves _ no_section no_interface = refl
 
 -- the body of a block that is neither an interface nor an enhanced packet is not read
 other_reads : (t : BlockType) (order : Order) (body : List ℕ) → (t ≡ types.InterfaceDescription → ⊥) → (t ≡ types.EnhancedPacket → ⊥) → ReadsAs t order body [] (record { interface = None; packet = None; flaws = [] })
@@ -100,18 +93,6 @@ other_reads types.InterfaceStatistics order body no_interface no_packet = (refl,
 other_reads types.EnhancedPacket order body no_interface no_packet = absurd (no_packet refl)
 other_reads types.SystemdJournalExport order body no_interface no_packet = (refl, refl, refl)
 other_reads (types.Unknown n) order body no_interface no_packet = (refl, refl, refl)
-
-section_grows : (q : State) (b : Framed) → b.type_ ≡ types.SectionHeader → CanGrow q b
-section_grows opening b is = subst strict.IsHeader (sym is) tt
-section_grows (within section interfaces) b is = subst IsRead (sym is) tt
-
--- a section header that names no order
-pub section_refused : (q : State) (b : Framed) (body : List ℕ) (e : PcapError) → b.type_ ≡ types.SectionHeader → body ≡ b.body → TellsSection body (Err e) → Refuses (CanGrow q b) (λ n. ⊥) (λ fault. Means q b (bad fault)) e
-section_refused q b body e is same told =
-    let grows : CanGrow q b = section_grows q b is in
-    let means : (fault : Fault) → NoSection body fault → Means q b (bad fault) = λ fault none.
-    subst (λ (t : BlockType). MeansFor (role_of t) q b (bad fault)) (sym is) (subst (λ (s : List ℕ). NoSection s fault) same none) in
-    refuses_wider (SectionGrows body) (CanGrow q b) (NoSection body) (λ fault. Means q b (bad fault)) (λ any. grows) means e told
 
 -- a first block that is no section header
 pub missing_stands : (shown : PcapfileSection) (q : State) (b : Framed) (e : PcapError) → ShowsStanding shown q → shown.magic_number ≡ 0 → (b.type_ ≡ types.SectionHeader → ⊥) → Names SectionMissing e
@@ -189,11 +170,6 @@ pub other_stands : (shown : PcapfileSection) (q : State) (b : Framed) (lent : Pc
 other_stands shown opening b lent x shows some no_section no_interface no_packet of found = absurd (some shows)
 other_stands shown (within section interfaces) b lent x shows some no_section no_interface no_packet of found =
     other_within shown shown section interfaces b lent x shows no_section no_interface no_packet of found
-
--- what asks for memory behind the first block
-pub memory_stands : (shown : PcapfileSection) (q : State) (b : Framed) → ShowsStanding shown q → (shown.magic_number ≡ 0 → ⊥) → IsRead b.type_ → CanGrow q b
-memory_stands shown opening b shows some read = absurd (some shows)
-memory_stands shown (within section interfaces) b shows some read = read
 
 -- ---- refusals
 

@@ -20,13 +20,10 @@ use Rattle.pcapfile_c.proofs.Refused.{tells_refusal}
 
 -- an error that shows a fault refuses for it
 shown_refuses : (L : ℕ → Type 0) (F : Fault → Type 0) (e : PcapError) → Shows F e → Refuses ⊥ L F e
-shown_refuses L F (errors.IncompleteBuffer n) shown = absurd shown
 shown_refuses L F (errors.InvalidField text) shown = shown
 shown_refuses L F (errors.IoError io) shown = shown
 shown_refuses L F (errors.Utf8Error utf) shown = shown
-shown_refuses L F (errors.FromUtf8Error utf) shown = absurd shown
-shown_refuses L F (errors.OutOfMemory memory) shown = absurd shown
-shown_refuses L F errors.WriterFailed shown = absurd shown
+shown_refuses L F _ shown = absurd shown
 
 -- a fault that an error shows is told
 pub tells_shown : {V : Type 0} (IsSaid : Verdict V → Type 0) (e : PcapError) (told : PcapfileError) (z : ℤ)

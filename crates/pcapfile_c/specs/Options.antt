@@ -75,15 +75,10 @@ NamesSay order s = Says (λ nothing rest. (records : List NameRecord) × Records
 
 -- bodies of this type have options
 abbrev pub has_options : BlockType → Bool
-has_options types.SectionHeader = true
-has_options types.InterfaceDescription = true
-has_options types.Packet = true
 has_options types.SimplePacket = false
-has_options types.NameResolution = true
-has_options types.InterfaceStatistics = true
-has_options types.EnhancedPacket = true
 has_options types.SystemdJournalExport = false
 has_options (types.Unknown n) = false
+has_options _ = true
 
 -- what is said of the body of a block of this type where its options are asked for: they begin at rest, or a fault stands before
 abbrev pub OptionsSay : Order → BlockType → List ℕ → Verdict (Unit {0}) → Type 0

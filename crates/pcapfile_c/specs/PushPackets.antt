@@ -10,6 +10,7 @@ use Rattle.pcap_blocks.specs.ParsedBlock.{Body, BodySays}
 use Rattle.pcap_file.specs.Blocks.{Item, BlockSays, BlockText, MayGrow, block_format}
 use Rattle.pcap_file.specs.Frames.{FrameLacks}
 use Rattle.pcap_file.specs.State.{State, opening, within, order_at}
+use Rattle.pcap_file.specs.Placed.{is_packet, interfaces_at}
 use Rattle.pcapfile_c.specs.declared.any_packets.PcapfileAnyPacket.{PcapfileAnyPacket}
 use Rattle.pcapfile_c.specs.declared.blocks.PcapfileSection.{PcapfileSection}
 use Rattle.pcapfile_c.specs.declared.bodies.PcapfileInterface.{PcapfileInterface}
@@ -17,7 +18,7 @@ use Rattle.pcapfile_c.specs.declared.bodies.PcapfileNgPacket.{PcapfileNgPacket}
 use Rattle.pcapfile_c.specs.declared.errors.PcapfileError.{PcapfileError}
 use Rattle.pcapfile_c.specs.declared.push.PcapfilePush.{PcapfilePush}
 use Rattle.pcapfile_c.specs.AnyPackets.{ShowsAny}
-use Rattle.pcapfile_c.specs.Batches.{is_packet, PacketFault, PacketMayGrow}
+use Rattle.pcapfile_c.specs.Batches.{PacketFault, PacketMayGrow}
 use Rattle.pcapfile_c.specs.Blocks.{ShowsState}
 use Rattle.pcapfile_c.specs.Bodies.{ShowsInterfaceOf, ShowsPacket}
 use Rattle.pcapfile_c.specs.Push.{LiesWithin, LiesOutside, held_in}
@@ -28,11 +29,6 @@ use Rattle.pcapfile_c.specs.Refusals.{ShowsRule, TellsRefusalWhere}
 abbrev pub ShowsInForce : PcapfileSection → List PcapfileInterface → State → Type 0
 ShowsInForce section places opening = section.magic_number ≡ 0
 ShowsInForce section places (within s interfaces) = ShowsState section (within s interfaces) × AllZip ShowsInterfaceOf interfaces (take section.interfaces places)
-
--- the interfaces in force
-abbrev pub interfaces_in : State → List Interface
-interfaces_in opening = []
-interfaces_in (within section interfaces) = interfaces
 
 -- a struct that shows this interface, where there is one
 abbrev pub ShowsFound : Option Interface → Option PcapfileInterface → Type 0
@@ -52,7 +48,7 @@ pub record ShowsItem (q : State) (item : Item) (shown : PcapfileAnyPacket) : Typ
   pub packet : PcapfileNgPacket
   pub reads : ShowsPacket body packet
   pub interface : Option PcapfileInterface
-  pub found : ShowsFound (slice_get (interfaces_in q) packet.interface_id) interface
+  pub found : ShowsFound (slice_get (interfaces_at q) packet.interface_id) interface
   pub shows : ShowsAny interface packet shown
 
 -- s is a packet under this state, which a struct shows, and then rest

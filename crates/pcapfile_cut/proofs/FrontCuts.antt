@@ -12,14 +12,13 @@ use Rattle.pcap_core.specs.Format.{Front, IsLawful, Texts}
 use Rattle.pcap_core.proofs.Formats.{front_goes_on, has_front, nothing_more, nothing_no_text}
 use Rattle.pcap_core.proofs.Taking.{ends_front}
 use Rattle.pcap_classic.specs.declared.pcap.header.PcapHeader.{PcapHeader}
-use Rattle.pcap_classic.specs.Copies.{StopsFront}
 use Rattle.pcap_classic.specs.PacketText.{Captured, packet_limit}
 use Rattle.pcap_classic.proofs.CaptureFormat.{under_lawful}
 use Rattle.pcapfile_cut.specs.declared.cutting.Outcome.{Outcome}
 use Rattle.pcapfile_cut.specs.declared.wanted.Wanted.{Wanted}
 use Rattle.pcapfile_cut.specs.Choice.{Stored, chosen, takes, text_of}
 use Rattle.pcapfile_cut.specs.Cuts.{CutsBehind, Ends, IsStored, PacketIsSaid, Passes, packets_under}
-use Rattle.pcapfile_cut.specs.Fronts.{CutsFront, packets_of}
+use Rattle.pcapfile_cut.specs.Fronts.{CutsFront, StopsFront, packets_of}
 use Rattle.pcapfile_cut.proofs.Chosen.{chosen_push, one_if}
 
 lawful : (header : PcapHeader) → IsLawful (packets_under header)

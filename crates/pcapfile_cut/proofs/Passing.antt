@@ -1,5 +1,5 @@
 -- Packets that are passed, one after another.
-use Rattle.std.proofs.Common.{◌≡◌, Ok, Err, ◌+◌, ℕ, List, [], ◌∷◌, ◌++◌, length, Bool, true, false, Option, refl, sym, ap, ◌∙◌, subst, arith, append-nil, length-append, inl, inr}
+use Rattle.std.proofs.Common.{◌≡◌, Err, ◌+◌, ℕ, List, [], ◌∷◌, ◌++◌, length, Bool, true, false, Option, refl, sym, ap, ◌∙◌, subst, arith, append-nil, length-append, inl, inr}
 use Rattle.std.specs.Prelude.{if◌then◌else◌}
 use Rattle.std.specs.Io.KnownBytes.{Appends, Consumes}
 use Rattle.std.proofs.KnownBytes.{Appends-nil, Appends-trans, Consumes-nil, Consumes-trans}
@@ -83,24 +83,6 @@ module _ (header : PcapHeader) (wanted : Wanted) where
 
   wants_same : (p q a b : ℕ) → q ≡ p → b ≡ a → WantsMore wanted p a → WantsMore wanted q b
   wants_same p q a b packets bytes wants = subst (λ (k : ℕ). WantsMore wanted q k) (sym bytes) (subst (λ (n : ℕ). WantsMore wanted n a) (sym packets) wants)
-
-  -- the stream is at its end
-  pub ends_found : (xs : List Stored) (before left now out mid out_now : Option (List ℕ)) (old new : Outcome) → Passes header wanted xs before left out mid old
-      → StepsCut header wanted left now mid out_now old new (Ok false) → CutsBehind header wanted before now out out_now (outcome_of new (Ok tt))
-  ends_found xs before left now out mid out_now old new so_far found = record {
-    packets = xs;
-    left = left;
-    mid = mid;
-    passes = passes_same xs before left out mid old (outcome_of new (Ok tt)) found.0 found.1 so_far;
-    ends = inl (record {
-      fine = refl;
-      no_read_failed = found.2.no_read_failed;
-      no_write_failed = found.2.no_write_failed;
-      taken = found.2.taken;
-      went = found.2.went;
-      why = inl found.2.at_end;
-    });
-  }
 
   -- the next packet is refused, or a write failed in it
   pub ends_refused : (xs : List Stored) (before left now out mid out_now : Option (List ℕ)) (old new : Outcome) (e : PcapError) → Passes header wanted xs before left out mid old

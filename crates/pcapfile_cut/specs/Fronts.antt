@@ -1,12 +1,13 @@
 -- What a cut says of the front of the bytes behind a header, and what is said of parts that are cut and joined.
-use Rattle.std.specs.Prelude.{⊤, ◌≡◌, ◌++◌, ◌⊎◌, ℕ, List, [], ◌∷◌, length, map, Option, None, Some}
+use Rattle.std.specs.Prelude.{⊤, ◌≡◌, ◌++◌, ◌⊎◌, ℕ, List, [], ◌∷◌, length, map, Option, None, Some, Bool, true, false}
 use Rattle.std.specs.List.{AllZip, flat_map}
 use Rattle.std.specs.Option.{IsSomeAnd}
 use Rattle.std.specs.Io.KnownBytes.{Appends, Keeps}
 use Rattle.pcap_core.specs.Format.{Front, Texts}
-use Rattle.pcap_core.specs.Reading.{TakesAsked}
+use Rattle.pcap_core.specs.declared.errors.PcapError.{PcapError}
+use Rattle.pcap_core.specs.Errors.{IsMemory, IsIo}
+use Rattle.pcap_core.specs.Reading.{HasCause, TakesAsked}
 use Rattle.pcap_classic.specs.declared.pcap.header.PcapHeader.{PcapHeader}
-use Rattle.pcap_classic.specs.Copies.{StopsFront}
 use Rattle.pcap_classic.specs.PacketText.{Captured}
 use Rattle.pcapfile_cut.specs.declared.cutting.Outcome.{Outcome}
 use Rattle.pcapfile_cut.specs.declared.joining.Joined.{Joined}
@@ -35,6 +36,11 @@ pub record TearsNext (header : PcapHeader) (wanted : Wanted) (packets more : Lis
   pub ends : EndsTorn header wanted packets (Some left) now mid out_now outcome
   pub others : List Captured
   pub next : packets_of more ≡ ends.torn.packet ∷ others
+
+-- why packets behind some of the front's were refused: a read failed, or memory, or they are all and the rest is refused
+abbrev pub StopsFront : PcapHeader → List Captured → List ℕ → Bool → PcapError → Type 0
+StopsFront header more rest failed e =
+    (IsIo e × (failed ≡ true)) ⊎ (IsMemory e × (failed ≡ false)) ⊎ ((more ≡ []) × HasCause (PacketIsSaid header) (Some rest) failed e)
 
 -- what is behind the packets was refused: a read failed, or memory, or they are all of the front and the rest is refused
 pub record RefusesRest (header : PcapHeader) (more : List Stored) (rest left : List ℕ) (now mid out_now : Option (List ℕ)) (outcome : Outcome) : Type 0 where

@@ -66,9 +66,6 @@ kept_no_longer order kind s kept x =
 
 -- ---- the length of a section
 
-no_length : List ℕ
-no_length = replicate 8 255
-
 parted : (s : List ℕ) → take 8 s ++ (take 8 (drop 8 s) ++ drop 16 s) ≡ s
 parted s =
     let behind : take 8 (drop 8 s) ++ drop 16 s ≡ drop 8 s = ap (λ (t : List ℕ). take 8 (drop 8 s) ++ t) (sym (drop-drop 8 8 s)) ∙ take-append-drop 8 (drop 8 s) in

@@ -22,12 +22,9 @@ items_name PcapNg = codes "blocks"
 -- the status of a process that found this end
 abbrev pub status_of : End → ℕ
 status_of Whole = 0
-status_of Most = 1
-status_of Short = 1
-status_of (Breaks rule) = 1
-status_of NotUtf8 = 1
 status_of (Unread error) = 3
 status_of Memory = 4
+status_of _ = 1
 
 -- what a line says of an end at this byte; what the system says of a failed read isn't known
 abbrev pub ending_text : End → ℕ → Option (List ℕ)

@@ -1,5 +1,5 @@
 -- What is told of captures, as JSON.
-use Rattle.std.specs.Prelude.{◌≡◌, ◌+◌, ◌-◌, ◌++◌, ℕ, List, String, map, codes, count_by, string_bytes, zip, if◌then◌else◌, Option, None, Some, IfSome, option_and_then, option_map}
+use Rattle.std.specs.Prelude.{◌≡◌, ◌+◌, ◌-◌, ◌++◌, ℕ, List, String, map, codes, count_by, string_bytes, zip, if◌then◌else◌, Option, None, Some, IfSome, option_and_then}
 use Rattle.std.specs.List.{AllZip, range_with_len}
 use Rattle.std.specs.Fmt.{decimal}
 use Rattle.std.specs.Global.{Global}

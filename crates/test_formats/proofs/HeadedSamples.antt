@@ -1,10 +1,10 @@
 -- Samples are a lawful format.
-use Rattle.std.proofs.Common.{◌≡◌, ℕ, ◌<◌, List, [], ◌∷◌, length, refl, sym, ap, subst, ◌∙◌, append-nil, arith}
+use Rattle.std.proofs.Common.{◌≡◌, ℕ, List, [], ◌∷◌, length, refl, sym, ap, subst, ◌∙◌, append-nil, arith}
 use Rattle.byteorder.specs.Endian.{big_number}
 use Rattle.pcap_core.specs.Answer.{Number}
 use Rattle.pcap_core.specs.Laws.{ExactlyOne}
 use Rattle.pcap_core.specs.Format.{IsLawful}
-use Rattle.pcap_core.specs.Headed.{HeadReading, good, bad, headed}
+use Rattle.pcap_core.specs.Headed.{HeadReading, good, bad}
 use Rattle.pcap_core.specs.Padded.{Behind}
 use Rattle.pcap_core.proofs.Headed.{headed_lawful}
 use Rattle.pcap_core.proofs.Numbers.{numbers_at}

@@ -1,5 +1,5 @@
 -- What stands at the front of a slice, by its first four bytes.
-use Rattle.std.proofs.Common.{◌≡◌, ℕ, ◌<◌, ◌≤◌, ◌-◌, List, ◌++◌, length, refl, arith, inl, inr}
+use Rattle.std.proofs.Common.{◌≡◌, ℕ, ◌<◌, ◌-◌, List, ◌++◌, length, refl, arith, inl, inr}
 use Rattle.pcap_core.specs.Answer.{whole, lacks, faulty}
 use Rattle.pcap_core.specs.Faults.{Fault}
 use Rattle.pcap_core.specs.Headed.{bad}

@@ -1,15 +1,15 @@
 -- What the head of an item states.
-use Rattle.std.proofs.Common.{◌≡◌, ℕ, ◌<◌, ◌+◌, List, [], ◌∷◌, ◌++◌, length, drop, refl, sym, ap, subst, ◌∙◌, append-nil, length-append, arith, inl, inr, Bool, Option, Some, None, Result, Ok, Err}
+use Rattle.std.proofs.Common.{◌≡◌, ℕ, ◌<◌, ◌+◌, List, [], ◌++◌, length, drop, refl, sym, ap, subst, ◌∙◌, append-nil, arith, inl, inr, Bool, Option, Some, None, Result, Ok, Err}
 use Rattle.std.proofs.lemmas.List.{drop_at, nil_from_length}
 use Rattle.pcap_core.specs.declared.errors.PcapError.{PcapError}
 use Rattle.byteorder.specs.Endian.{big_number}
 use Rattle.pcap_core.specs.Answer.{Number, whole, lacks, faulty}
 use Rattle.pcap_core.specs.Faults.{Fault}
-use Rattle.pcap_core.specs.Headed.{HeadReading, good, bad}
-use Rattle.pcap_core.specs.Filling.{IsSettled, Stated, StatesRest, FillsHeaded, TakesStated, TakesHeaded}
+use Rattle.pcap_core.specs.Headed.{HeadReading, bad}
+use Rattle.pcap_core.specs.Filling.{Stated, StatesRest, FillsHeaded, TakesStated, TakesHeaded}
 use Rattle.pcap_core.specs.Reading.{Takes, Pulls}
 use Rattle.test_formats.specs.declared.samples.Head.{Head}
-use Rattle.test_formats.specs.Samples.{Item, Announced, meaning, HeadReads, KnowsHead, item_with, held_item, sample_format}
+use Rattle.test_formats.specs.Samples.{Announced, meaning, HeadReads, KnowsHead, item_with, held_item, sample_format}
 
 pub sample_head : sample_format.head ≡ 4
 unfolding sample_format

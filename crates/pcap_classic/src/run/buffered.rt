@@ -5,7 +5,7 @@ ghost use Rattle.std.specs.Result.{result_err};
 ghost use Rattle.pcap_core.specs.Copying.{NothingCopied};
 ghost use Rattle.pcap_classic.specs.Copies.{copied_of, CopyRun, CopyFront};
 
-use crate::run::copy::{Headers, begin_copy};
+use crate::run::copy::{PacketsAhead, UnderHeader, begin_copy, end_copy};
 use crate::run::{Copied, Under};
 use pcap_core::ResultParsing;
 use pcap_core::stream::{Held, Tally, copy_buffers};
@@ -31,7 +31,7 @@ pub fn copy_buffered<R: BufRead, W: Write>(
 {
     let mut tally = Tally::none();
     let fault = copy_shown_under(alloc, reader, writer, under, most, &mut tally).err();
-    Copied::of(&tally, fault)
+    end_copy(&tally, fault)
 }
 
 // Copies the header and the packets, and counts these.
@@ -47,11 +47,14 @@ fn copy_shown_under<R: BufRead, W: Write>(
     ensures { CopyRun under (R.remaining reader.old) (R.remaining reader.new) (W.contents writer.old) (W.contents writer.new) most (copied_of tally.new (result_err result)) }
 {
     let (header, out) = begin_copy(reader, writer, under, tally)?;
-    let headers = Headers { header, out };
+    let packets = PacketsAhead {
+        header,
+        puts: UnderHeader { out },
+    };
     let mut held = Held::new(alloc);
     copy_buffers(
         alloc,
-        &headers,
+        &packets,
         &mut (),
         reader,
         writer,

@@ -1,6 +1,6 @@
 //! Copies of captures, from a reader to a writer.
 
-ghost use Rattle.std.specs.Prelude.{◌≡◌, ◌≤◌, ◌<◌, ◌+◌, ◌^◌, ◌↔◌, ℕ, [], true, false, IsTrue, IfSome, IfOk, OnOk, MatchResult};
+ghost use Rattle.std.specs.Prelude.{◌≡◌, ◌≤◌, ◌<◌, ◌+◌, ◌^◌, ◌↔◌, ℕ, List, [], true, false, IsTrue, IfSome, IfOk, OnOk, MatchResult};
 ghost use Rattle.pcap_core.specs.Filling.{Stated};
 ghost use Rattle.pcap_core.specs.Copying.{NothingCopied};
 ghost use Rattle.std.specs.Result.{result_err};
@@ -8,7 +8,7 @@ ghost use Rattle.pcap_classic.specs.StatedPackets.{KnowsHeader};
 ghost use Rattle.pcap_classic.specs.Copies.{BeginsCopy, CanBeUnder, copied_of, CopyRun, CopyFront, WritesHeld, header_under};
 ghost use Rattle.pcap_classic.specs.Magic.{is_magic};
 ghost use Rattle.pcap_classic.specs.Packets.{reader_format};
-ghost use Rattle.pcap_classic.specs.PacketText.{packet_limit};
+ghost use Rattle.pcap_classic.specs.PacketText.{Captured, packet_limit};
 ghost use Rattle.pcap_classic.specs.Written.{written_under};
 
 use crate::common::TsResolution;
@@ -17,7 +17,7 @@ use crate::pcap::{
 };
 use crate::run::stretch::{Went, put_front};
 use pcap_core::rules::Rule;
-use pcap_core::stream::{Ahead, Held, Sent, Tally, copy_items, fill_item, put};
+use pcap_core::stream::{Ahead, AheadShown, Held, Sent, Tally, copy_items, fill_item, put};
 use pcap_core::{Endianness, PcapError, ResultParsing};
 use std::alloc::Global;
 use std::io::{Read, Write};
@@ -46,17 +46,15 @@ pub struct Copied {
     pub write_failed: bool,
 }
 
-impl Copied {
-    // A copy that came so far, and ended with this fault, or none.
-    pub(crate) fn of(tally: &Tally, fault: Option<PcapError>) -> Copied
-        ensures { result ≡ copied_of tally.now fault }
-    {
-        Copied {
-            packets: tally.items,
-            fault,
-            read_failed: tally.read_failed,
-            write_failed: tally.write_failed,
-        }
+/// A copy that came so far, and ended with this fault, or none.
+pub fn end_copy(tally: &Tally, fault: Option<PcapError>) -> Copied
+    ensures { result ≡ copied_of tally.now fault }
+{
+    Copied {
+        packets: tally.items,
+        fault,
+        read_failed: tally.read_failed,
+        write_failed: tally.write_failed,
     }
 }
 
@@ -113,7 +111,7 @@ pub fn copy_pcap<R: Read, W: Write>(
 {
     let mut tally = Tally::none();
     let fault = copy_under(alloc, reader, writer, under, most, &mut tally).err();
-    Copied::of(&tally, fault)
+    end_copy(&tally, fault)
 }
 
 // Copies the header and the packets, and counts these.
@@ -129,11 +127,14 @@ fn copy_under<R: Read, W: Write>(
     ensures { CopyRun under (R.remaining reader.old) (R.remaining reader.new) (W.contents writer.old) (W.contents writer.new) most (copied_of tally.new (result_err result)) }
 {
     let (header, out) = begin_copy(reader, writer, under, tally)?;
-    let headers = Headers { header, out };
+    let packets = PacketsAhead {
+        header,
+        puts: UnderHeader { out },
+    };
     let mut held = Held::new(alloc);
     copy_items(
         alloc,
-        &headers,
+        &packets,
         &mut (),
         reader,
         writer,
@@ -162,15 +163,38 @@ pub(crate) fn begin_copy<R: Read, W: Write>(
     Ok((header, out))
 }
 
-// The header that packets are read under, and the one that they are written under.
-#[derive(Drop)]
-pub(crate) struct Headers {
-    pub(crate) header: PcapHeader,
-    pub(crate) out: PcapHeader,
+/// What writes the packets that bytes hold.
+pub trait PutsPacket {
+    ghost stands: { Self → Type 0 };
+
+    ghost text: { Self → Captured → List ℕ };
+
+    /// Writes the text of the packet of this header that the bytes are.
+    fn put_held<W: Write>(
+        &self,
+        writer: &mut W,
+        has_failed: &mut bool,
+        header: &PcapHeader,
+        head: PacketHeader,
+        held: &[u8],
+    ) -> ResultParsing<()>
+        requires stands { stands self.now }
+        requires stated { Stated (KnowsHeader header.now) (reader_format packet_limit header.now).head head held.now }
+        ensures out { WritesHeld ((reader_format packet_limit header.now).says tt) (text self.now) held.now (W.contents writer.old) (W.contents writer.new) result }
+        ensures told { MatchResult result (λ _. has_failed.new ≡ has_failed.old) (λ _. has_failed.new ≡ true) };
 }
 
-impl Ahead for Headers {
-    ghost use Rattle.pcap_classic.specs.Copies.{packets_under};
+/// Packets ahead of a copy.
+#[derive(Drop)]
+pub struct PacketsAhead<P> {
+    /// The header that they are read under.
+    pub header: PcapHeader,
+    /// What writes them.
+    pub puts: P,
+}
+
+impl<P: PutsPacket> Ahead for PacketsAhead<P> {
+    ghost use Rattle.pcap_core.specs.Copying.{each_written};
     ghost use Rattle.pcap_classic.specs.Packets.{format_under};
     ghost use Rattle.pcap_classic.specs.PacketText.{Captured};
 
@@ -180,11 +204,11 @@ impl Ahead for Headers {
 
     ghost Value = { Captured };
 
-    ghost stands = { λ headers. IsTrue (is_magic headers.header.magic_number) × IsTrue (is_magic headers.out.magic_number) };
+    ghost stands = { λ ahead. IsTrue (is_magic ahead.header.magic_number) × P.stands ahead.puts };
 
-    ghost format = { λ headers. format_under packet_limit headers.header };
+    ghost format = { λ ahead. format_under packet_limit ahead.header };
 
-    ghost written = { λ headers. packets_under headers.out };
+    ghost written = { λ ahead. each_written (P.text ahead.puts) };
 
     ghost state = { λ place. tt };
 
@@ -204,11 +228,10 @@ impl Ahead for Headers {
         let Some(head) = fill_item(&packets, reader, &mut tally.read_failed, held)? else {
             return Ok(false);
         };
-        put_held(
+        self.puts.put_held(
             writer,
             &mut tally.write_failed,
             &self.header,
-            &self.out,
             head,
             held.as_slice(),
         )?;
@@ -216,7 +239,15 @@ impl Ahead for Headers {
         tally.items += 1;
         Ok(true)
     }
+}
 
+// What writes packets under this header.
+#[derive(Drop)]
+pub(crate) struct UnderHeader {
+    pub(crate) out: PcapHeader,
+}
+
+impl AheadShown for PacketsAhead<UnderHeader> {
     fn put_shown<W: Write>(
         &self,
         _place: &(),
@@ -225,11 +256,12 @@ impl Ahead for Headers {
         shown: &[u8],
         most: u64,
     ) -> Sent {
+        let out = &self.puts.out;
         let Went {
             packets,
             rest,
             fault,
-        } = put_front(writer, has_failed, &self.header, &self.out, shown, most);
+        } = put_front(writer, has_failed, &self.header, out, shown, most);
         let used = shown.len() - rest.len();
         Sent {
             items: packets,
@@ -239,24 +271,26 @@ impl Ahead for Headers {
     }
 }
 
-// Writes the packet of this header that the bytes are: as they came where the magic number stays the same, or lent from them.
-#[inline(always)]
-fn put_held<W: Write>(
-    writer: &mut W,
-    has_failed: &mut bool,
-    header: &PcapHeader,
-    out: &PcapHeader,
-    head: PacketHeader,
-    held: &[u8],
-) -> ResultParsing<()>
-    requires stated { Stated (KnowsHeader header.now) (reader_format packet_limit header.now).head head held.now }
-    requires written { IsTrue (is_magic out.now.magic_number) }
-    ensures out { WritesHeld ((reader_format packet_limit header.now).says tt) (written_under out.now) held.now (W.contents writer.old) (W.contents writer.new) result }
-    ensures told { MatchResult result (λ _. has_failed.new ≡ has_failed.old) (λ _. has_failed.new ≡ true) }
-{
-    if header.magic_number == out.magic_number {
-        put(writer, has_failed, held)
-    } else {
-        put_packet(writer, has_failed, out, &packet_of(header, head, held))
+// As it came where the magic number stays the same, or lent from its bytes.
+impl PutsPacket for UnderHeader {
+    ghost stands = { λ under. IsTrue (is_magic under.out.magic_number) };
+
+    ghost text = { λ under. written_under under.out };
+
+    #[inline(always)]
+    fn put_held<W: Write>(
+        &self,
+        writer: &mut W,
+        has_failed: &mut bool,
+        header: &PcapHeader,
+        head: PacketHeader,
+        held: &[u8],
+    ) -> ResultParsing<()> {
+        let out = &self.out;
+        if header.magic_number == out.magic_number {
+            put(writer, has_failed, held)
+        } else {
+            put_packet(writer, has_failed, out, &packet_of(header, head, held))
+        }
     }
 }

@@ -6,7 +6,7 @@ ghost use Rattle.pcap_core.specs.Format.{Format};
 ghost use Rattle.pcap_core.specs.Held.{held_bytes};
 
 use crate::ResultParsing;
-use crate::stream::{Ahead, Held, Sent, Tally, put};
+use crate::stream::{Ahead, AheadShown, Held, Sent, Tally, put};
 use std::alloc::Global;
 use std::io::{Read, Write};
 
@@ -88,7 +88,9 @@ impl<H: Holding> Ahead for AsTheyCame<H> {
         tally.items += 1;
         Ok(true)
     }
+}
 
+impl<H: Holding> AheadShown for AsTheyCame<H> {
     fn put_shown<W: Write>(
         &self,
         place: &H::Place,

@@ -1,6 +1,7 @@
 //! Copies of items from a reader to a writer, over any format: one by one, or out of the reader's own buffer.
 
 ghost use Rattle.std.specs.Prelude.{◌≡◌, ◌≤◌, ◌<◌, ◌+◌, ◌^◌, List, ℕ, [], length, take, false, IsTrue, IfOk, OnOk};
+ghost use Rattle.std.specs.Result.{result_err};
 ghost use Rattle.pcap_core.specs.Copying.{NothingCopied, IsWriting, CopiesBehind, Sends, Steps};
 ghost use Rattle.pcap_core.specs.Format.{Format, IsLawful};
 ghost use Rattle.pcap_core.specs.Held.{held_bytes};
@@ -80,7 +81,10 @@ pub trait Ahead {
         ensures steps { Steps (format self.now) (written self.now) (state place.old) (state place.new) (R.remaining reader.old) (R.remaining reader.new) (W.contents writer.old) (W.contents writer.new) tally.old.items (tally.old.items + 1) tally.new result }
         ensures counts { IfOk result (λ is_copied. IsTrue is_copied → tally.new.items ≡ tally.old.items + 1) }
         ensures between { OnOk result (held_bytes held.new ≡ []) };
+}
 
+/// Items ahead that go out of a buffer, too.
+pub trait AheadShown: Ahead {
     /// Writes whole items at the front of a buffer that leave what is in force, at most so many.
     fn put_shown<W: Write>(
         &self,
@@ -90,9 +94,9 @@ pub trait Ahead {
         shown: &[u8],
         most: u64,
     ) -> Sent
-        requires stands { stands self.now }
+        requires stands { Self.stands self.now }
         ensures within { result.used ≤ length shown.now }
-        ensures sends { Sends (format self.now) (written self.now) (state place.now) (take result.used shown.now) (W.contents writer.old) (W.contents writer.new) most result.items has_failed.old has_failed.new result.fault };
+        ensures sends { Sends (Self.format self.now) (Self.written self.now) (Self.state place.now) (take result.used shown.now) (W.contents writer.old) (W.contents writer.new) most result.items has_failed.old has_failed.new result.fault };
 }
 
 /// Copies items until `most` are copied, each of them before the next one is read.
@@ -113,7 +117,8 @@ pub fn copy_items<A: Ahead, R: Read, W: Write>(
     requires stands { A.stands ahead.now }
     requires new { NothingCopied tally.old }
     requires between { held_bytes held.old ≡ [] }
-    ensures { CopiesBehind (A.format ahead.now) (A.written ahead.now) (A.state place.old) (R.remaining reader.old) (R.remaining reader.new) (W.contents writer.old) (W.contents writer.new) most tally.new result }
+    ensures { CopiesBehind (A.format ahead.now) (A.written ahead.now) (A.state place.old) (R.remaining reader.old) (R.remaining reader.new) (W.contents writer.old) (W.contents writer.new) most
+        tally.new.items (result_err result) tally.new.read_failed tally.new.write_failed }
 {
     while tally.items < most {
         if !ahead.copy_next(alloc, place, reader, writer, tally, held)? {
@@ -126,7 +131,7 @@ pub fn copy_items<A: Ahead, R: Read, W: Write>(
 /// Copies items until `most` are copied: those of a buffer, and then the one that follows them.
 ///
 /// The errors are those of `copy_next`; `IoError` also where the buffer can't be filled.
-pub fn copy_buffers<A: Ahead, R: BufRead, W: Write>(
+pub fn copy_buffers<A: AheadShown, R: BufRead, W: Write>(
     alloc: Global,
     ahead: &A,
     place: &mut A::Place,
@@ -141,7 +146,8 @@ pub fn copy_buffers<A: Ahead, R: BufRead, W: Write>(
     requires stands { A.stands ahead.now }
     requires new { NothingCopied tally.old }
     requires between { held_bytes held.old ≡ [] }
-    ensures { CopiesBehind (A.format ahead.now) (A.written ahead.now) (A.state place.old) (R.remaining reader.old) (R.remaining reader.new) (W.contents writer.old) (W.contents writer.new) most tally.new result }
+    ensures { CopiesBehind (A.format ahead.now) (A.written ahead.now) (A.state place.old) (R.remaining reader.old) (R.remaining reader.new) (W.contents writer.old) (W.contents writer.new) most
+        tally.new.items (result_err result) tally.new.read_failed tally.new.write_failed }
 {
     while tally.items < most {
         if !copy_shown(ahead, place, reader, writer, most, tally)? {
@@ -158,7 +164,7 @@ pub fn copy_buffers<A: Ahead, R: BufRead, W: Write>(
 }
 
 // Copies items that lie whole at the front of the reader's buffer, until `most` are copied, and says whether there was a buffer.
-fn copy_shown<A: Ahead, R: BufRead, W: Write>(
+fn copy_shown<A: AheadShown, R: BufRead, W: Write>(
     ahead: &A,
     place: &A::Place,
     reader: &mut R,

@@ -14,7 +14,7 @@ use crate::pcapng::framing::{FrameHead, FramesIn};
 use crate::pcapng::state::InForce;
 use crate::pcapng::stretch::put_shown;
 use crate::pcapng::taking::{ended_early, opened};
-use pcap_core::stream::{Ahead, Held, Sent, Tally, copy_items, fill_item, put};
+use pcap_core::stream::{Ahead, AheadShown, Held, Sent, Tally, copy_items, fill_item, put};
 use pcap_core::{Endianness, PcapError, ResultParsing};
 use std::alloc::Global;
 use std::io::{Read, Write};
@@ -124,8 +124,8 @@ pub(crate) struct Blocks;
 
 impl Ahead for Blocks {
     ghost use Rattle.std.specs.Prelude.{⊤};
+    ghost use Rattle.pcap_core.specs.AsTheyCame.{as_they_came};
     ghost use Rattle.pcap_file.specs.Blocks.{Item as BlockItem, block_format};
-    ghost use Rattle.pcap_file.specs.Copies.{as_they_came};
     ghost use Rattle.pcap_file.specs.State.{State as BlockState, state_in};
 
     type Place = InForce;
@@ -162,7 +162,9 @@ impl Ahead for Blocks {
         tally.items += 1;
         Ok(true)
     }
+}
 
+impl AheadShown for Blocks {
     fn put_shown<W: Write>(
         &self,
         place: &InForce,

@@ -1,7 +1,6 @@
-use Rattle.std.proofs.Common.{inl}
+use Rattle.std.proofs.Common.{inl, inr}
 use Rattle.std.proofs.lemmas.Result.{err_from_is_err_and}
 use Rattle.pcap_classic.specs.Parser.{header_of}
-use Rattle.pcap_tolerant.proofs.Copied.{copies_run}
 use Rattle.pcap_tolerant.proofs.KnownPackets.{under_lawful}
 use Rattle.pcap_tolerant.proofs.copy.copy_all_shown.Goals as goal
 
@@ -17,4 +16,4 @@ pub copy_buffers-requires-clause-stands : goal.copy_buffers-requires-clause-stan
 copy_buffers-requires-clause-stands g c = under_lawful c.args.limit (header_of c.in_ok-parser.parser)
 
 pub returns : goal.returns
-returns g c = copies_run c.args.limit (header_of c.in_ok-parser.parser) _ _ _ _ _ _ c.args.most _ c.copy_buffers.result c.in_ok-parser.ensures.1 c.copy_buffers.ensures
+returns g c = inr (record { header = header_of c.in_ok-parser.parser; behind = _; out_behind = _; opened = c.in_ok-parser.ensures.1; packets = c.copy_buffers.ensures })

@@ -3,9 +3,10 @@ use Rattle.std.proofs.lemmas.List.{map-append}
 use Rattle.pcap_blocks.proofs.ReadOptions.{not_empty}
 use Rattle.pcap_tolerant_blocks.specs.Flaws.{said_of}
 use Rattle.pcap_tolerant_blocks.specs.OptionsAsIs.{judged_of, OptionsGrow}
-use Rattle.pcap_tolerant_blocks.proofs.Lists.{holds_on_err, read_more, read_cut}
+use Rattle.pcap_tolerant_blocks.proofs.Lists.{read_more, read_cut}
 use Rattle.pcap_tolerant_blocks.proofs.Growth.{grows_by_option, grows_by_fault}
 use Rattle.pcap_tolerant_blocks.proofs.list.list_as_is.Goals as goal
+use Rattle.pcap_raw_options.proofs.RawRead.{holds_on_err}
 
 pub returns-in_err-push-in-Err-clause-memory : goal.returns-in_err-push-in-Err-clause-memory
 returns-in_err-push-in-Err-clause-memory g c =

@@ -3,9 +3,9 @@ use Rattle.std.proofs.lemmas.List.{map-append}
 use Rattle.pcap_blocks.specs.Record.{name_record_of}
 use Rattle.pcap_tolerant_blocks.specs.Flaws.{said_of}
 use Rattle.pcap_tolerant_blocks.specs.NamesAsIs.{judged_record, RecordsGrow}
-use Rattle.pcap_tolerant_blocks.proofs.Lists.{holds_on_err}
 use Rattle.pcap_tolerant_blocks.proofs.RecordsAsIs.{record_more, records_end, records_cut, grows_at, grows_by_name, grows_by_record, grows_by_end, grows_by_cut}
 use Rattle.pcap_tolerant_blocks.proofs.names.records_as_is.Goals as goal
+use Rattle.pcap_raw_options.proofs.RawRead.{holds_on_err}
 
 pub returns-in_err-record-clause-memory : goal.returns-in_err-record-clause-memory
 returns-in_err-record-clause-memory g c =

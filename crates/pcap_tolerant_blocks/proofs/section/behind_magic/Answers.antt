@@ -3,7 +3,7 @@ use Rattle.std.specs.Int.{w64, cast_signed}
 use Rattle.pcap_blocks.specs.SectionHeader.{Section, VersionText}
 use Rattle.pcap_tolerant_blocks.specs.SectionAsIs.{VersionGrows}
 use Rattle.pcap_tolerant_blocks.proofs.Growth.{grows_behind_version}
-use Rattle.pcap_tolerant_blocks.proofs.Lists.{holds_on_err}
+use Rattle.pcap_raw_options.proofs.RawRead.{holds_on_err}
 use Rattle.pcap_tolerant_blocks.proofs.section.behind_magic.Goals as goal
 
 pub returns-in_err-list-clause-memory : goal.returns-in_err-list-clause-memory

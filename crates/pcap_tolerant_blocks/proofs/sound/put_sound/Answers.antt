@@ -4,8 +4,8 @@ use Rattle.pcap_blocks.proofs.ReadOptions.{not_empty}
 use Rattle.pcap_tolerant_blocks.specs.OptionsAsIs.{flaws_or_none, judged_of}
 use Rattle.pcap_tolerant_blocks.specs.SoundOptions.{PutsSome, are_none, text_if}
 use Rattle.pcap_tolerant_blocks.proofs.Pieces.{option_more, pieces_end, puts_some}
-use Rattle.pcap_tolerant_blocks.proofs.Lists.{holds_on_err}
 use Rattle.pcap_tolerant_blocks.proofs.sound.put_sound.Goals as goal
+use Rattle.pcap_raw_options.proofs.RawRead.{holds_on_err}
 
 pub returns-in-Err-clause-put : goal.returns-in-Err-clause-put
 returns-in-Err-clause-put g c =

@@ -1,4 +1,3 @@
-use Rattle.pcap_tolerant_captures.proofs.Copied.{copies_as_is}
 use Rattle.pcap_tolerant_captures.proofs.Format.{as_is_lawful}
 use Rattle.pcap_tolerant_captures.proofs.copy.copy_pcapng_as_is_buffered.Goals as goal
 
@@ -9,4 +8,4 @@ pub copy_buffers-requires-clause-stands : goal.copy_buffers-requires-clause-stan
 copy_buffers-requires-clause-stands g c = as_is_lawful
 
 pub returns : goal.returns
-returns g c = rw (c.copied.ensures, c.err-fault.ensures.value) (copies_as_is _ _ _ _ c.args.most _ c.copy_buffers.result c.copy_buffers.ensures)
+returns g c = rw (c.copied.ensures, c.err-fault.ensures.value) c.copy_buffers.ensures

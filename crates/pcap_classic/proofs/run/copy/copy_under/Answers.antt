@@ -1,5 +1,8 @@
 use Rattle.std.proofs.lemmas.Result.{err_from_is_err_and}
-use Rattle.pcap_classic.proofs.Copied.{copies_run, lawful_under, not_begun, packets_writing}
+use Rattle.std.specs.Result.{result_err}
+use Rattle.pcap_core.proofs.Copying.{each_writing}
+use Rattle.pcap_classic.specs.Written.{written_under}
+use Rattle.pcap_classic.proofs.Copied.{copies_run, lawful_under, not_begun}
 use Rattle.pcap_classic.proofs.run.copy.copy_under.Goals as goal
 
 pub returns-in_err-header : goal.returns-in_err-header
@@ -11,7 +14,7 @@ pub copy_items-requires-clause-lawful : goal.copy_items-requires-clause-lawful
 copy_items-requires-clause-lawful g c = lawful_under c.in_ok-header.header
 
 pub copy_items-requires-clause-writing : goal.copy_items-requires-clause-writing
-copy_items-requires-clause-writing g c = packets_writing c.in_ok-header.out
+copy_items-requires-clause-writing g c = each_writing (written_under c.in_ok-header.out)
 
 pub returns : goal.returns
-returns g c = copies_run c.args.under _ _ _ _ _ _ c.in_ok-header.header c.in_ok-header.out c.args.most _ _ c.copy_items.result c.in_ok-header.ensures c.copy_items.ensures
+returns g c = copies_run c.args.under _ _ _ _ _ _ c.in_ok-header.header c.in_ok-header.out c.args.most _ _ (result_err c.copy_items.result) c.in_ok-header.ensures c.copy_items.ensures

@@ -3,9 +3,9 @@ use Rattle.pcap_core.proofs.Links.{link_of}
 use Rattle.pcap_blocks.specs.InterfaceDescription.{interface_description}
 use Rattle.pcap_tolerant_blocks.specs.InterfaceAsIs.{InterfaceText, InterfaceGrows}
 use Rattle.pcap_tolerant_blocks.proofs.Growth.{grows_behind}
-use Rattle.pcap_tolerant_blocks.proofs.Lists.{holds_on_err}
 use Rattle.pcap_tolerant_blocks.proofs.OneAsIs.{interface_one}
 use Rattle.pcap_tolerant_blocks.proofs.interface.InterfaceAsIs.from_slice.Goals as goal
+use Rattle.pcap_raw_options.proofs.RawRead.{holds_on_err}
 
 pub returns-in_err-list-clause-memory : goal.returns-in_err-list-clause-memory
 returns-in_err-list-clause-memory g c =

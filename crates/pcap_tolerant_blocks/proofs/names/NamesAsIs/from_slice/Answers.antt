@@ -3,9 +3,9 @@ use Rattle.pcap_blocks.specs.Record.{name_record_of}
 use Rattle.pcap_blocks.specs.NameResolution.{name_entry}
 use Rattle.pcap_tolerant_blocks.specs.Flaws.{said_of}
 use Rattle.pcap_tolerant_blocks.specs.NamesAsIs.{NamesGrow}
-use Rattle.pcap_tolerant_blocks.proofs.Lists.{holds_on_err}
 use Rattle.pcap_tolerant_blocks.proofs.OneNames.{names_ended, names_cut, names_grow, options_grow, flaws_grow}
 use Rattle.pcap_tolerant_blocks.proofs.names.NamesAsIs.from_slice.Goals as goal
+use Rattle.pcap_raw_options.proofs.RawRead.{holds_on_err}
 
 pub returns-in_err-read-clause-memory : goal.returns-in_err-read-clause-memory
 returns-in_err-read-clause-memory g c =

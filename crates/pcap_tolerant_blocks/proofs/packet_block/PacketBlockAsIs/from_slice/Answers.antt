@@ -6,9 +6,9 @@ use Rattle.pcap_tolerant_blocks.specs.StoredAsIs.{NoPacket, no_head, no_bytes, s
 use Rattle.pcap_tolerant_blocks.specs.PacketBlockAsIs.{WithDrops, PacketBlockText, PacketBlockGrows, packet_in, flaws_said}
 use Rattle.pcap_tolerant_blocks.proofs.Bodies.{none_read, with_options}
 use Rattle.pcap_tolerant_blocks.proofs.Growth.{grows_without_room, grows_behind}
-use Rattle.pcap_tolerant_blocks.proofs.Lists.{holds_on_err}
 use Rattle.pcap_tolerant_blocks.proofs.OneBodies.{packet_one}
 use Rattle.pcap_tolerant_blocks.proofs.packet_block.PacketBlockAsIs.from_slice.Goals as goal
+use Rattle.pcap_raw_options.proofs.RawRead.{holds_on_err}
 
 pub returns-then-slice-lt20-clause-read : goal.returns-then-slice-lt20-clause-read
 returns-then-slice-lt20-clause-read g c =

@@ -2,9 +2,9 @@ use Rattle.std.proofs.Common.{refl}
 use Rattle.pcap_blocks.specs.InterfaceStatistics.{interface_statistics}
 use Rattle.pcap_tolerant_blocks.specs.StatisticsAsIs.{StatisticsAsIsText, StatisticsGrow}
 use Rattle.pcap_tolerant_blocks.proofs.Growth.{grows_behind}
-use Rattle.pcap_tolerant_blocks.proofs.Lists.{holds_on_err}
 use Rattle.pcap_tolerant_blocks.proofs.OneBodies.{statistics_one}
 use Rattle.pcap_tolerant_blocks.proofs.statistics.StatisticsAsIs.from_slice.Goals as goal
+use Rattle.pcap_raw_options.proofs.RawRead.{holds_on_err}
 
 pub returns-in_err-list-clause-memory : goal.returns-in_err-list-clause-memory
 returns-in_err-list-clause-memory g c =

@@ -1,4 +1,4 @@
-use Rattle.std.proofs.Common.{◌≡◌, ◌∙◌, ◌+◌, length, arith}
+use Rattle.std.proofs.Common.{◌≡◌, ◌∙◌, length, arith}
 use Rattle.pcap_core.specs.Faults.{Invalid}
 use Rattle.pcap_core.specs.Headed.{good, bad}
 use Rattle.test_formats.specs.Samples.{Announced, HeadReads, KnowsHead, sample_format}

@@ -7,9 +7,10 @@ use Rattle.pcap_core.specs.Held.{held_bytes}
 use Rattle.pcap_core.specs.Writing.{WritesAll}
 use Rattle.pcap_core.proofs.Copying.{step_fails, step_one, torn_write}
 use Rattle.pcap_file.specs.Blocks.{block_format}
-use Rattle.pcap_file.specs.Copies.{as_they_came}
+use Rattle.pcap_core.specs.AsTheyCame.{as_they_came}
+use Rattle.pcap_core.proofs.AsTheyCame.{bytes_writing}
 use Rattle.pcap_file.specs.State.{state_in}
-use Rattle.pcap_file.proofs.Copied.{bytes_writing, leads_to}
+use Rattle.pcap_file.proofs.BlockFormat.{goes_after}
 use Rattle.pcap_file.proofs.HeadedFrames.{frames_lawful}
 use Rattle.pcap_file.proofs.Causes.{pull_frame, pull_held}
 use Rattle.pcap_file.proofs.pcapng.copying.BlocksAhead.copy_next.Goals as goal
@@ -72,7 +73,7 @@ returns-clause-steps g c =
     let filled = rw c.in-Some.is at c.in_ok-head.ensures.fills in
     let item = rw c.as_slice.ensures at c.in_ok-follow_held.ensures in
     let went = subst (λ (bytes : List ℕ). Appends (g.W.Write.contents c.args.writer.now) (g.W.Write.contents c.put.new.writer) bytes) c.as_slice-2.ensures c.in_ok-put.ensures.out in (
-      step_one block_format as_they_came bytes_writing q next item.0 held _ _ _ _ n _ (leads_to q next item.0 item.1) item.2 filled.4 went refl,
+      step_one block_format as_they_came bytes_writing q next item.0 held _ _ _ _ n _ (goes_after q item.0 ∙ item.1) item.2 filled.4 went refl,
       omega arith,
       filled.0,
       c.in_ok-put.ensures.told ∙ c.requires.no_write_failed,

@@ -1,6 +1,6 @@
 use Rattle.std.proofs.Common.{refl}
 use Rattle.std.proofs.lemmas.Result.{err_from_is_err_and}
-use Rattle.pcap_core.proofs.Pieces.{front_memory, front_refused}
+use Rattle.pcap_core.proofs.Pieces.{front_refused}
 use Rattle.pcap_file.specs.Blocks.{Item, MayGrow, block_format, item_of}
 use Rattle.pcap_file.specs.Frames.{framed_of}
 use Rattle.pcap_file.specs.Parser.{state_of}

@@ -2,7 +2,7 @@ use Rattle.std.specs.Prelude.{map, take}
 use Rattle.pcap_blocks.specs.InterfaceDescription.{interface_of}
 use Rattle.pcap_blocks.specs.SectionHeader.{section_of}
 use Rattle.pcap_file.proofs.Stretched.{sends_left}
-use Rattle.pcap_file.proofs.pcapng.copying.BlocksAhead.put_shown.Goals as goal
+use Rattle.pcap_file.proofs.pcapng.copying.BlocksAheadShown.put_shown.Goals as goal
 
 pub returns-clause-sends : goal.returns-clause-sends
 returns-clause-sends g c =

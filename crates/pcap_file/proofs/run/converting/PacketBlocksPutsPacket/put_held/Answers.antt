@@ -2,7 +2,7 @@ use Rattle.std.proofs.Common.{arith}
 use Rattle.pcap_classic.specs.PacketText.{content_of}
 use Rattle.pcap_file.specs.Converted.{time_of}
 use Rattle.pcap_file.proofs.Converting.{packet_short, packet_put}
-use Rattle.pcap_file.proofs.run.converting.put_held.Goals as goal
+use Rattle.pcap_file.proofs.run.converting.PacketBlocksPutsPacket.put_held.Goals as goal
 
 pub put_packet-requires : goal.put_packet-requires
 put_packet-requires g c = rw c.as_slice.ensures (packet_short c.args.header.now c.args.held.now (content_of c.packet_of-packet.result) c.packet_of-packet.ensures)

@@ -5,7 +5,7 @@ use Rattle.pcap_core.specs.Copying.{SendsWhole}
 use Rattle.pcap_core.specs.Writing.{WritesAll}
 use Rattle.pcap_core.proofs.AsTheyCame.{item_at, one_sent}
 use Rattle.pcap_core.proofs.Copying.{torn_write}
-use Rattle.pcap_core.proofs.stream.as_they_came.AsTheyCameAhead.put_shown.Goals as goal
+use Rattle.pcap_core.proofs.stream.as_they_came.AsTheyCameAheadShown.put_shown.Goals as goal
 
 pub returns-in-Err-clause-sends : goal.returns-in-Err-clause-sends
 returns-in-Err-clause-sends g c =

@@ -2,19 +2,17 @@ use Rattle.std.proofs.Common.{◌∙◌, arith, refl, sym, subst, inl, inr, [], 
 use Rattle.std.proofs.lemmas.Result.{err_from_is_err_and}
 use Rattle.std.specs.Io.KnownBytes.{Appends}
 use Rattle.std.proofs.KnownBytes.{Keeps-refl}
+use Rattle.pcap_core.specs.Copying.{each_written}
 use Rattle.pcap_core.specs.Held.{held_bytes}
 use Rattle.pcap_core.specs.Format.{Format}
 use Rattle.pcap_core.specs.Writing.{AppendsPart}
-use Rattle.pcap_classic.specs.Copies.{packets_under}
 use Rattle.pcap_classic.specs.Packets.{format_under}
 use Rattle.pcap_classic.specs.PacketText.{Captured, packet_limit}
-use Rattle.pcap_classic.specs.Written.{written_under}
 use Rattle.pcap_core.specs.Reading.{HasCause, TakesAsked}
-use Rattle.pcap_core.proofs.Copying.{torn_write, step_fails, step_one}
-use Rattle.pcap_classic.proofs.Copied.{packets_writing}
+use Rattle.pcap_core.proofs.Copying.{each_writing, torn_write, step_fails, step_one}
 use Rattle.pcap_classic.proofs.Captures.{under_valid}
 use Rattle.pcap_classic.proofs.Packets.{reader_lawful, reader_whole}
-use Rattle.pcap_classic.proofs.run.copy.HeadersAhead.copy_next.Goals as goal
+use Rattle.pcap_classic.proofs.run.copy.PacketsAheadAhead.copy_next.Goals as goal
 
 pub fill_item-requires-clause-lawful : goal.fill_item-requires-clause-lawful
 fill_item-requires-clause-lawful g c = reader_lawful packet_limit c.args.self.now.header
@@ -23,10 +21,10 @@ pub returns-in_err-head-clause-steps : goal.returns-in_err-head-clause-steps
 returns-in_err-head-clause-steps g c =
     let p = err_from_is_err_and c.from_residual.result c.from_residual.ensures.1 in
     let header = c.args.self.now.header in
-    let out = c.args.self.now.out in
+    let text = g.P.PutsPacket.text c.args.self.now.puts in
     let magic = c.requires.stands.0 in
     let n = c.args.tally.now.items in
-    rw (p.1, p.2) (step_fails (format_under packet_limit header) (packets_under out) (packets_writing out) tt _ _ _ _ n n c.in_err-head.field-0.0 _ _ refl (inr (record {
+    rw (p.1, p.2) (step_fails (format_under packet_limit header) (each_written text) (each_writing text) tt _ _ _ _ n n c.in_err-head.field-0.0 _ _ refl (inr (record {
       refused = under_valid packet_limit header magic (λ (f : Format (Unit {0}) Captured). HasCause (f.says tt) (g.R.Read.remaining c.args.reader.now) c.fill_item.new.has_failed c.in_err-head.field-0.0) c.in_err-head.ensures.fills.0;
       part = under_valid packet_limit header magic (λ (f : Format (Unit {0}) Captured). TakesAsked (f.says tt) (g.R.Read.remaining c.args.reader.now) (g.R.Read.remaining c.fill_item.new.stream)) c.in_err-head.ensures.fills.1;
       no_write_failed = c.requires.no_write_failed;
@@ -42,12 +40,12 @@ pub returns-in_err-put_held-clause-steps : goal.returns-in_err-put_held-clause-s
 returns-in_err-put_held-clause-steps g c =
     let p = err_from_is_err_and c.from_residual-in_err-put_held.result c.from_residual-in_err-put_held.ensures.1 in
     let header = c.args.self.now.header in
-    let out = c.args.self.now.out in
+    let text = g.P.PutsPacket.text c.args.self.now.puts in
     let n = c.args.tally.now.items in
     let filled = rw c.in-Some.is at c.in_ok-head.ensures.fills in
     let wrote = c.in_err-put_held.ensures.out in
     let part = torn_write _ _ _ _ wrote.2 in
-    rw (p.1, p.2) (step_fails (format_under packet_limit header) (packets_under out) (packets_writing out) tt _ _ _ _ n n c.in_err-put_held.field-0.0 _ _ refl (inl (record {
+    rw (p.1, p.2) (step_fails (format_under packet_limit header) (each_written text) (each_writing text) tt _ _ _ _ n n c.in_err-put_held.field-0.0 _ _ refl (inl (record {
       item = wrote.0;
       text = held_bytes c.fill_item.new.held;
       is_text = (reader_whole packet_limit header _ [] wrote.0 (rw c.as_slice.ensures at wrote.1)).1;
@@ -55,18 +53,18 @@ returns-in_err-put_held-clause-steps g c =
       refused = part.0;
       no_read_failed = filled.0;
       write_failed = c.in_err-put_held.ensures.told;
-      out = subst (λ (l : List ℕ). AppendsPart (g.W.Write.contents c.args.writer.now) (g.W.Write.contents c.put_held.new.writer) l) (sym (append-nil (written_under out wrote.0))) part.1;
+      out = subst (λ (l : List ℕ). AppendsPart (g.W.Write.contents c.args.writer.now) (g.W.Write.contents c.put_held.new.writer) l) (sym (append-nil (text wrote.0))) part.1;
     })))
 
 pub returns-clause-steps : goal.returns-clause-steps
 returns-clause-steps g c =
     let header = c.args.self.now.header in
-    let out = c.args.self.now.out in
+    let text = g.P.PutsPacket.text c.args.self.now.puts in
     let n = c.args.tally.now.items in
     let filled = rw c.in-Some.is at c.in_ok-head.ensures.fills in
     let wrote = c.in_ok-put_held.ensures.out in
-    let went = subst (λ (l : List ℕ). Appends (g.W.Write.contents c.args.writer.now) (g.W.Write.contents c.put_held.new.writer) l) (sym (append-nil (written_under out wrote.0))) wrote.2 in (
-      step_one (format_under packet_limit header) (packets_under out) (packets_writing out) tt tt wrote.0 (held_bytes c.fill_item.new.held) _ _ _ _ n _ refl
+    let went = subst (λ (l : List ℕ). Appends (g.W.Write.contents c.args.writer.now) (g.W.Write.contents c.put_held.new.writer) l) (sym (append-nil (text wrote.0))) wrote.2 in (
+      step_one (format_under packet_limit header) (each_written text) (each_writing text) tt tt wrote.0 (held_bytes c.fill_item.new.held) _ _ _ _ n _ refl
           (reader_whole packet_limit header _ [] wrote.0 (rw c.as_slice.ensures at wrote.1)).1 filled.4 went refl,
       omega arith,
       filled.0,

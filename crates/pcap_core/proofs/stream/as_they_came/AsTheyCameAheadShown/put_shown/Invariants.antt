@@ -1,7 +1,7 @@
 use Rattle.std.proofs.Common.{◌-◌, ◌≡◌, ◌≤◌, length, take}
 use Rattle.pcap_core.specs.AsTheyCame.{as_they_came}
 use Rattle.pcap_core.specs.Copying.{SendsWhole}
-use Rattle.pcap_core.proofs.stream.as_they_came.AsTheyCameAhead.put_shown.Given as goal
+use Rattle.pcap_core.proofs.stream.as_they_came.AsTheyCameAheadShown.put_shown.Given as goal
 
 abbrev pub invariant-loop-items : goal.invariant-loop-items
 invariant-loop-items g l = record {
