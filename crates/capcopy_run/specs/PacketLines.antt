@@ -19,9 +19,13 @@ packet_line index header =
     let lengths = decimal header.incl_len ++ (codes "/" ++ decimal header.orig_len) in
     decimal index ++ (codes " " ++ (time ++ (codes " " ++ (lengths ++ codes "\n"))))
 
+-- the line of a packet is that of its header
+abbrev pub of_header : (ℕ → PacketHeader → List ℕ → Type 0) → ℕ → Captured → List ℕ → Type 0
+of_header IsLine index packet line = IsLine index packet.header line
+
 -- the line of a packet
 abbrev pub IsPacketLine : ℕ → Captured → List ℕ → Type 0
-IsPacketLine index packet line = line ≡ packet_line index packet.header
+IsPacketLine = of_header (λ index header line. line ≡ packet_line index header)
 
 -- classic captures: no line for the header, and such a line for each packet
 abbrev pub packets_in : Type 0 → (ℕ → Captured → List ℕ → Type 0) → Kind PcapHeader (Unit {0}) Captured

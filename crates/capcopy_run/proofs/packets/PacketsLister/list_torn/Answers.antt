@@ -1,4 +1,4 @@
-use Rattle.capcopy_run.proofs.list.PacketsLister.list_torn.Goals as goal
+use Rattle.capcopy_run.proofs.packets.PacketsLister.list_torn.Goals as goal
 
 pub returns-in-Big-clause-turn : goal.returns-in-Big-clause-turn
 returns-in-Big-clause-turn g c = rw c.in-Big.is c.list_torn.ensures.turn

@@ -1,4 +1,4 @@
-use Rattle.pcapfile_run.proofs.formed_packets.FormedPacketsLister.list_shown.Goals as goal
+use Rattle.capcopy_run.proofs.packets.PacketsLister.list_shown.Goals as goal
 
 pub returns-in-Big-clause-walks : goal.returns-in-Big-clause-walks
 returns-in-Big-clause-walks g c = rw c.in-Big.is c.list_shown.ensures.walks
