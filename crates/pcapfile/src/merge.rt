@@ -11,14 +11,14 @@ use crate::output::{OUTPUT, Unfinished, tell_read};
 use crate::tell::{AT_FAULT, tell_error, tell_io};
 use capcopy_run::Uninterrupted;
 use pcap_file::{PcapNgReader, PcapReader, ResultParsing};
-use pcapfile_merge::{Reader, Source, merge_packets};
+use pcapfile_merge::{BufferedBlocks, BufferedPackets, Reader, Source, merge_packets};
 use pcapfile_run::{Format, format_of};
 use std::alloc::Global;
 use std::io;
-use std::io::{BufReader, BufWriter, Write};
+use std::io::{BufWriter, Write};
 
-/// A capture that is merged, off a buffer.
-type Input = BufReader<Uninterrupted<Captured>>;
+/// A capture that is merged.
+type Input = Uninterrupted<Captured>;
 
 /// What the word is asked for.
 #[derive(Drop)]
@@ -136,8 +136,14 @@ fn open_reader(
     let alloc = console.alloc();
     let mut input = buffered(alloc, Captured::new(console, name, stream, as_is)?)?;
     match format_of(&mut input)? {
-        Format::Pcap => Ok(Reader::Packets(PcapReader::new(alloc, input)?)),
-        Format::PcapNg => Ok(Reader::Blocks(PcapNgReader::new(alloc, input)?)),
+        Format::Pcap => {
+            let reader = PcapReader::new(alloc, input)?;
+            Ok(Reader::Packets(BufferedPackets::new(reader)))
+        }
+        Format::PcapNg => {
+            let reader = PcapNgReader::new(alloc, input)?;
+            Ok(Reader::Blocks(BufferedBlocks::new(reader)))
+        }
     }
 }
 

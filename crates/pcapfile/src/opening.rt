@@ -11,7 +11,7 @@ use std::io::Write;
 pub(crate) fn interfaces_of<R>(reader: &Reader<R>) -> u32 {
     match reader {
         Reader::Packets(_) => 1,
-        Reader::Blocks(reader) => u32::try_from(reader.interfaces().len()).unwrap_or(u32::MAX),
+        Reader::Blocks(blocks) => u32::try_from(blocks.interfaces().len()).unwrap_or(u32::MAX),
     }
 }
 
@@ -24,11 +24,11 @@ pub(crate) fn put_opening<R, W: Write + Drop>(
     let mut writer = PcapNgWriter::new(alloc, output)?;
     for source in sources {
         match source.reader() {
-            Reader::Packets(reader) => {
-                writer.write_pcapng_block(&interface_under(alloc, &reader.header)?)?;
+            Reader::Packets(packets) => {
+                writer.write_pcapng_block(&interface_under(alloc, packets.header())?)?;
             }
-            Reader::Blocks(reader) => {
-                for interface in reader.interfaces() {
+            Reader::Blocks(blocks) => {
+                for interface in blocks.interfaces() {
                     writer.write_pcapng_block(interface)?;
                 }
             }

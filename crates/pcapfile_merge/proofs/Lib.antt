@@ -1,10 +1,13 @@
 pub mod Best
 pub mod Bodies
 pub mod Choices
+pub mod Enhanced
 pub mod FrontsGiven
 pub mod Given
+pub mod Lying
 pub mod MergeLaws
 pub mod Merges
+pub mod ShownTaken
 pub mod Steps
 pub mod StoredGiven
 pub mod Times

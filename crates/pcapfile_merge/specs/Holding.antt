@@ -1,22 +1,24 @@
 -- What a reader of either format holds, and what it takes.
 use Rattle.std.specs.Prelude.{◌≡◌, ◌≤◌, ℕ, List, [], ◌∷◌, length, take, drop, Bool, false, Option, None, Some}
-use Rattle.pcap_classic.specs.Reader as classic
-use Rattle.pcap_file.specs.declared.pcapng.reader.PcapNgReader.{PcapNgReader}
-use Rattle.pcap_file.specs.Placing.{source_of}
-use Rattle.pcap_file.specs.Reader as ng
+use Rattle.pcap_core.specs.declared.errors.PcapError.{PcapError}
+use Rattle.pcapfile_merge.specs.declared.buffered.BufferedPackets.{BufferedPackets}
+use Rattle.pcapfile_merge.specs.declared.buffered_blocks.BufferedBlocks.{BufferedBlocks}
 use Rattle.pcapfile_merge.specs.declared.packet.Pending.{Pending}
 use Rattle.pcapfile_merge.specs.declared.reader.Interfaces.{Interfaces}
 use Rattle.pcapfile_merge.specs.declared.reader.Reader.{Reader}
 use Rattle.pcapfile_merge.specs.declared.reader.Reader.TheVariants.{Packets, Blocks}
 use Rattle.pcapfile_merge.specs.declared.reader.Taken.{Taken}
+use Rattle.pcapfile_merge.specs.Buffered as packets
+use Rattle.pcapfile_merge.specs.BufferedBlocks as blocks
+use Rattle.pcapfile_merge.specs.BufferedBlocks.{source_of}
 use Rattle.pcapfile_merge.specs.Packets.{Packet}
 use Rattle.pcapfile_merge.specs.Taking.{TakesPacket, packet_in}
 use Rattle.pcapfile_merge.specs.TakingBlocks.{TakesStored}
 
 -- the bytes of the packet of which this is said
 abbrev pub bytes_in : {R : Type 0} → Reader R → Pending → List ℕ
-bytes_in (Packets reader) pending = classic.data_of reader
-bytes_in (Blocks reader) pending = take pending.len (drop pending.start (ng.body_of reader))
+bytes_in (Packets reader) pending = packets.data_of reader
+bytes_in (Blocks reader) pending = take pending.len (drop pending.start (blocks.body_of reader))
 
 -- the packet that a reader holds, or none
 abbrev pub held_by : {R : Type 0} → Reader R → Option Pending → List Packet
@@ -32,13 +34,13 @@ bytes_held reader (Some pending) = bytes_in reader pending
 abbrev pub HoldsFew : {R : Type 0} → Reader R → Option Pending → Type 0
 HoldsFew reader next = length (bytes_held reader next) ≤ 4294967260
 
-abbrev pub HoldsFewBlocks : {R : Type 0} → PcapNgReader R → Option Pending → Type 0
+abbrev pub HoldsFewBlocks : {R : Type 0} → BufferedBlocks R → Option Pending → Type 0
 HoldsFewBlocks reader next = HoldsFew (Blocks reader) next
 
 -- a reader has refused something
 abbrev pub has_refused : {R : Type 0} → Reader R → Bool
-has_refused (Packets reader) = classic.is_done reader
-has_refused (Blocks reader) = ng.is_done reader
+has_refused (Packets reader) = packets.is_done reader
+has_refused (Blocks reader) = blocks.is_done reader
 
 -- the same of one that holds a packet
 abbrev pub has_refused_if : {R : Type 0} → Reader R → Option Pending → Bool
@@ -53,7 +55,7 @@ IsReady reader = has_refused reader ≡ false
 abbrev pub IsReadyIf : {R : Type 0} → Reader R → Option Pending → Type 0
 IsReadyIf reader next = has_refused_if reader next ≡ false
 
-abbrev pub IsReadyBlocks : {R : Type 0} → PcapNgReader R → Option Pending → Type 0
+abbrev pub IsReadyBlocks : {R : Type 0} → BufferedBlocks R → Option Pending → Type 0
 IsReadyBlocks reader next = IsReadyIf (Blocks reader) next
 
 -- a packet is held
@@ -61,7 +63,7 @@ abbrev pub Holds : Option Pending → Type 0
 Holds next = (pending : Pending) × (next ≡ Some pending)
 
 -- a reader of blocks took the next packet, or none, and why
-abbrev pub TakesBlocks : {R : Type 0} → (R → Option (List ℕ)) → Interfaces → ℕ → PcapNgReader R → PcapNgReader R → Taken → Type 0
+abbrev pub TakesBlocks : {R : Type 0} → (R → Option (List ℕ)) → Interfaces → ℕ → BufferedBlocks R → BufferedBlocks R → Taken → Type 0
 TakesBlocks remaining choice base old new taken = TakesStored choice base (source_of remaining old) (source_of remaining new) (bytes_in (Blocks new)) taken.next taken.fault
 
 -- a reader took the next packet, or none, and why
@@ -69,3 +71,35 @@ abbrev pub TakesNext : {R : Type 0} → (R → Option (List ℕ)) → Interfaces
 TakesNext remaining choice base (Packets old) (Packets new) taken = TakesPacket remaining base old new taken
 TakesNext remaining choice base (Blocks old) (Blocks new) taken = TakesBlocks remaining choice base old new taken
 TakesNext remaining choice base _ _ taken = ⊥
+
+-- a packet was taken, and nothing refused
+abbrev pub alone : Pending → Taken
+alone pending = record { next = Some pending; fault = None }
+
+-- what lies in the buffer of a classic capture was taken; else the packet that was lent is let go, and no other was taken
+abbrev pub PacketThere : {R : Type 0} → (R → Option (List ℕ)) → ℕ → BufferedPackets R → BufferedPackets R → Option Pending → Type 0
+PacketThere remaining number old new None = (packets.header_of new ≡ packets.header_of old) × packets.StaysAt remaining old new
+PacketThere remaining number old new (Some pending) = TakesPacket remaining number old new (alone pending)
+
+-- the same of a capture of blocks
+abbrev pub BlockThere : {R : Type 0} → (R → Option (List ℕ)) → ℕ → BufferedBlocks R → BufferedBlocks R → Option Pending → Type 0
+BlockThere remaining base old new None = blocks.StaysAt remaining old new
+BlockThere remaining base old new (Some pending) = (choice : Interfaces) → TakesBlocks remaining choice base old new (alone pending)
+
+-- the same of a capture of either format
+abbrev pub TakesThere : {R : Type 0} → (R → Option (List ℕ)) → ℕ → Reader R → Reader R → Option Pending → Type 0
+TakesThere remaining base (Packets old) (Packets new) next = PacketThere remaining base old new next
+TakesThere remaining base (Blocks old) (Blocks new) next = BlockThere remaining base old new next
+TakesThere remaining base _ _ next = ⊥
+
+abbrev pub HoldsFewPackets : {R : Type 0} → BufferedPackets R → Option Pending → Type 0
+HoldsFewPackets reader next = HoldsFew (Packets reader) next
+
+-- where a packet was taken, this refused nothing; else anything may
+abbrev pub fault_beside : Option Pending → Option PcapError → Option PcapError
+fault_beside None fault = None
+fault_beside (Some pending) fault = fault
+
+-- where a packet was taken, nothing refused the capture
+abbrev pub IsWhole : Taken → Type 0
+IsWhole taken = fault_beside taken.next taken.fault ≡ None

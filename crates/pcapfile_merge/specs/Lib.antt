@@ -1,3 +1,5 @@
+pub mod Buffered
+pub mod BufferedBlocks
 pub mod Choices
 pub mod Choosing
 pub mod Fronts
@@ -6,6 +8,7 @@ pub mod Merges
 pub mod Merging
 pub mod Packets
 pub mod Passing
+pub mod Plain
 pub mod Sources
 pub mod Taking
 pub mod TakingBlocks

@@ -4,17 +4,16 @@ use Rattle.pcap_core.specs.declared.errors.PcapError.{PcapError}
 use Rattle.pcap_blocks.specs.declared.block_type.BlockType.{BlockType}
 use Rattle.pcap_blocks.specs.InterfaceDescription.{Interface}
 use Rattle.pcap_file.specs.declared.pcapng.block_header.BlockHeader.{BlockHeader}
-use Rattle.pcap_file.specs.declared.pcapng.reader.PcapNgReader.{PcapNgReader}
 use Rattle.pcap_file.specs.Blocks.{Item}
 use Rattle.pcap_file.specs.Frames.{Framed}
 use Rattle.pcap_file.specs.Placed.{is_packet}
-use Rattle.pcap_file.specs.Placing.{HasMessage, RefusesNext, Source, TakesNext, source_of}
-use Rattle.pcap_file.specs.Reader.{body_of}
+use Rattle.pcap_file.specs.Placing.{HasMessage, RefusesNext, Source, TakesNext}
 use Rattle.pcap_file.specs.State.{is_kept}
 use Rattle.pcapfile_run.specs.BlockPackets.{InBlock}
 use Rattle.pcapfile_merge.specs.declared.packet.Pending.{Pending}
 use Rattle.pcapfile_merge.specs.declared.reader.Interfaces.{Interfaces}
 use Rattle.pcapfile_merge.specs.declared.reader.Interfaces.TheVariants.{Closed}
+use Rattle.pcapfile_merge.specs.declared.stored.Said.{Said}
 use Rattle.pcapfile_merge.specs.Taking.{packet_in}
 use Rattle.pcapfile_merge.specs.TakingBlocks.{EndsBlock, EndsWell, GivesOf, IsMerged, IsUnfit, Passes, TakesStored}
 
@@ -45,13 +44,17 @@ bytes_before None = 4
 abbrev pub start_of : InBlock → ℕ
 start_of packet = bytes_before packet.units
 
+-- the packet of which a block says this, with its bytes
+abbrev pub in_said : Said → List ℕ → InBlock
+in_said said bytes = record { interface = said.interface; units = said.units; original_len = said.original_len; bytes = bytes }
+
 -- what is said of a packet in a block, or why it can't be merged
 abbrev pub TellsStored : ℕ → List Interface → InBlock → Result Pending PcapError → Type 0
 TellsStored base interfaces packet (Ok pending) =
     IsMerged base interfaces packet (packet_in packet.bytes pending) × (pending.len ≡ length packet.bytes) × (pending.start ≡ start_of packet) × (pending.len ≤ 4294967260)
 TellsStored base interfaces packet (Err e) = IsUnfit base interfaces packet e
 
--- what was taken of a reader, as the call answers
-abbrev pub TellsTaken : {R : Type 0} → (R → Option (List ℕ)) → Interfaces → ℕ → PcapNgReader R → PcapNgReader R → Result (Option Pending) PcapError → Type 0
-TellsTaken remaining choice base old new (Ok next) = TakesStored choice base (source_of remaining old) (source_of remaining new) (bytes_within (body_of new)) next None
-TellsTaken remaining choice base old new (Err e) = TakesStored choice base (source_of remaining old) (source_of remaining new) (bytes_within (body_of new)) None (Some e)
+-- what was taken of a reader that lends this body then, as the call answers
+abbrev pub TellsTaken : Interfaces → ℕ → Source → Source → List ℕ → Result (Option Pending) PcapError → Type 0
+TellsTaken choice base a b body (Ok next) = TakesStored choice base a b (bytes_within body) next None
+TellsTaken choice base a b body (Err e) = TakesStored choice base a b (bytes_within body) None (Some e)

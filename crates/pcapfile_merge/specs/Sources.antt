@@ -5,11 +5,10 @@ use Rattle.pcap_core.specs.declared.errors.PcapError.{PcapError}
 use Rattle.pcap_core.specs.Answer.{Verdict}
 use Rattle.pcap_core.specs.Format.{state_after}
 use Rattle.pcap_core.specs.Takes.{TakesTexts}
-use Rattle.pcap_classic.specs.declared.pcap.reader.PcapReader.{PcapReader}
 use Rattle.pcap_classic.specs.Packets.{reader_format}
 use Rattle.pcap_classic.specs.PacketText.{Captured, packet_limit}
-use Rattle.pcap_classic.specs.Reader as classic
-use Rattle.pcap_file.specs.declared.pcapng.reader.PcapNgReader.{PcapNgReader}
+use Rattle.pcapfile_merge.specs.declared.buffered.BufferedPackets.{BufferedPackets}
+use Rattle.pcapfile_merge.specs.declared.buffered_blocks.BufferedBlocks.{BufferedBlocks}
 use Rattle.pcap_file.specs.Blocks.{Item, block_format}
 use Rattle.pcap_file.specs.Placed.{is_packet}
 use Rattle.pcap_file.specs.Placing as blocks
@@ -20,6 +19,8 @@ use Rattle.pcapfile_merge.specs.declared.reader.Reader.{Reader}
 use Rattle.pcapfile_merge.specs.declared.reader.Reader.TheVariants.{Packets, Blocks}
 use Rattle.pcapfile_merge.specs.declared.reader.Taken.{Taken}
 use Rattle.pcapfile_merge.specs.declared.source.Source.{Source}
+use Rattle.pcapfile_merge.specs.Buffered.{has_failed, header_of, left_of}
+use Rattle.pcapfile_merge.specs.BufferedBlocks.{source_of}
 use Rattle.pcapfile_merge.specs.Holding.{TakesNext, held_by}
 use Rattle.pcapfile_merge.specs.Packets.{Packet, packet_of}
 use Rattle.pcapfile_merge.specs.Taking.{EndsThere}
@@ -39,13 +40,13 @@ Stands IsSaid left now failed (Some pending) fault = (fault ≡ None) × (now �
 Stands IsSaid left now failed None fault = EndsThere IsSaid left now failed fault
 
 -- From where a reader stood, these packets of a classic capture were taken, and no more, and then its stream stands there.
-pub record GavePackets {R : Type 0} (remaining : R → Option (List ℕ)) (base : ℕ) (from reader : PcapReader R) (given : List Packet) (taken : Taken) : Type 0 where
-  pub same : reader.header ≡ from.header
+pub record GavePackets {R : Type 0} (remaining : R → Option (List ℕ)) (base : ℕ) (from reader : BufferedPackets R) (given : List Packet) (taken : Taken) : Type 0 where
+  pub same : header_of reader ≡ header_of from
   pub captured : List Captured
   pub given_are : given ≡ map (packet_of base) captured
   pub left : Option (List ℕ)
-  pub took : TakesTexts (reader_format packet_limit from.header) tt captured (remaining (classic.stream_of from)) left
-  pub stands : Stands ((reader_format packet_limit from.header).says tt) left (remaining (classic.stream_of reader)) (classic.has_failed reader) taken.next taken.fault
+  pub took : TakesTexts (reader_format packet_limit (header_of from)) tt captured (left_of remaining from) left
+  pub stands : Stands ((reader_format packet_limit (header_of from)).says tt) left (left_of remaining reader) (has_failed reader) taken.next taken.fault
 
 -- behind a block that holds a packet no block describes an interface or begins a section
 abbrev pub IsKeptFirst : List Item → Type 0
@@ -70,10 +71,10 @@ StandsBehind base given n mid now None None = EndsWell mid now n
 StandsBehind base given n mid now None (Some e) = EndsAt (given ≢ []) base mid now e
 
 -- From where a reader stood, these packets of blocks were taken, and then it stands there.
-pub record GaveStored {R : Type 0} (remaining : R → Option (List ℕ)) (base : ℕ) (from reader : PcapNgReader R) (given : List Packet) (taken : Taken) : Type 0 where
+pub record GaveStored {R : Type 0} (remaining : R → Option (List ℕ)) (base : ℕ) (from reader : BufferedBlocks R) (given : List Packet) (taken : Taken) : Type 0 where
   pub mid : blocks.Source
-  pub gave : BlocksGave base (blocks.source_of remaining from) mid given
-  pub stands : StandsBehind base given (length gave.items) mid (blocks.source_of remaining reader) taken.next taken.fault
+  pub gave : BlocksGave base (source_of remaining from) mid given
+  pub stands : StandsBehind base given (length gave.items) mid (source_of remaining reader) taken.next taken.fault
 
 -- a reader gave these packets from where another one stood, the last of which it holds
 abbrev pub GaveBy : {R : Type 0} → (R → Option (List ℕ)) → ℕ → Reader R → Reader R → List Packet → Taken → Type 0

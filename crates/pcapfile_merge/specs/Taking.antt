@@ -4,13 +4,14 @@ use Rattle.std.specs.Io.KnownBytes.{Keeps, IsAtEnd}
 use Rattle.pcap_core.specs.declared.errors.PcapError.{PcapError}
 use Rattle.pcap_core.specs.Answer.{Verdict}
 use Rattle.pcap_core.specs.Reading.{HasCause, Takes, TakesAsked}
+use Rattle.pcap_classic.specs.declared.pcap.header.PcapHeader.{PcapHeader}
 use Rattle.pcap_classic.specs.declared.pcap.packet.PacketHeader.{PacketHeader}
-use Rattle.pcap_classic.specs.declared.pcap.reader.PcapReader.{PcapReader}
 use Rattle.pcap_classic.specs.Packets.{reader_format}
 use Rattle.pcap_classic.specs.PacketText.{Captured, packet_limit}
-use Rattle.pcap_classic.specs.Reader.{stream_of, has_failed, is_done, data_of}
+use Rattle.pcapfile_merge.specs.declared.buffered.BufferedPackets.{BufferedPackets}
 use Rattle.pcapfile_merge.specs.declared.packet.Pending.{Pending}
 use Rattle.pcapfile_merge.specs.declared.reader.Taken.{Taken}
+use Rattle.pcapfile_merge.specs.Buffered.{data_of, has_failed, header_of, is_done, left_of}
 use Rattle.pcapfile_merge.specs.Packets.{Packet, packet_of}
 
 -- the packet of which this is said, with its bytes
@@ -32,14 +33,13 @@ abbrev pub EndsThere : {V : Type 0} → (List ℕ → Verdict V → Type 0) → 
 EndsThere IsSaid left now failed None = (failed ≡ false) × Keeps left now × IsAtEnd left
 EndsThere IsSaid left now failed (Some e) = HasCause IsSaid left failed e × TakesAsked IsSaid left now
 
--- a reader took a packet, and lends its bytes, or took none, and why
-abbrev pub TakesPending : {R : Type 0} → (R → Option (List ℕ)) → ℕ → PcapReader R → PcapReader R → Option Pending → Option PcapError → Type 0
-TakesPending remaining number old new (Some pending) fault =
+-- behind a header and what is left a reader took a packet, and lends its bytes, or took none, and why
+abbrev pub TakesPending : {R : Type 0} → (R → Option (List ℕ)) → ℕ → PcapHeader → Option (List ℕ) → BufferedPackets R → Option Pending → Option PcapError → Type 0
+TakesPending remaining number header left new (Some pending) fault =
     (fault ≡ None) × (is_done new ≡ false) × (length (data_of new) ≤ 4294967260)
-    × (captured : Captured) × (packet_in (data_of new) pending ≡ packet_of number captured) × Takes ((reader_format packet_limit old.header).says tt) (remaining (stream_of old)) (remaining (stream_of new)) captured
-TakesPending remaining number old new None fault =
-    EndsThere ((reader_format packet_limit old.header).says tt) (remaining (stream_of old)) (remaining (stream_of new)) (has_failed new) fault
+    × (captured : Captured) × (packet_in (data_of new) pending ≡ packet_of number captured) × Takes ((reader_format packet_limit header).says tt) left (left_of remaining new) captured
+TakesPending remaining number header left new None fault = EndsThere ((reader_format packet_limit header).says tt) left (left_of remaining new) (has_failed new) fault
 
 -- the same of a call
-abbrev pub TakesPacket : {R : Type 0} → (R → Option (List ℕ)) → ℕ → PcapReader R → PcapReader R → Taken → Type 0
-TakesPacket remaining number old new taken = (new.header ≡ old.header) × TakesPending remaining number old new taken.next taken.fault
+abbrev pub TakesPacket : {R : Type 0} → (R → Option (List ℕ)) → ℕ → BufferedPackets R → BufferedPackets R → Taken → Type 0
+TakesPacket remaining number old new taken = (header_of new ≡ header_of old) × TakesPending remaining number (header_of old) (left_of remaining old) new taken.next taken.fault

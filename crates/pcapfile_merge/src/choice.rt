@@ -14,6 +14,7 @@ pub(crate) struct Best {
 }
 
 // The better one of the best so far and of the source at a place that holds this packet.
+#[inline(always)]
 fn best_with(best: Option<Best>, place: usize, next: Option<Pending>) -> Option<Best>
     ensures { BestWith best place next result }
 {
@@ -31,6 +32,7 @@ fn best_with(best: Option<Best>, place: usize, next: Option<Pending>) -> Option<
 }
 
 /// The place of the first of the sources whose next packet is the earliest. None where no source has a packet.
+#[inline(always)]
 pub(crate) fn earliest<R>(sources: &[Source<R>]) -> Option<usize>
     ensures { Chooses sources.now result }
 {

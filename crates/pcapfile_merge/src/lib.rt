@@ -1,14 +1,20 @@
 //! Captures that are merged by time.
 #![tactic(auto)]
 
+mod buffered;
+mod buffered_blocks;
 mod choice;
 pub mod laws;
 mod merging;
 mod packet;
+mod parts;
+mod plain;
 mod reader;
 mod source;
 mod stored;
 
+pub use buffered::BufferedPackets;
+pub use buffered_blocks::BufferedBlocks;
 pub use merging::{Merged, merge_packets};
 pub use reader::Reader;
 pub use source::Source;

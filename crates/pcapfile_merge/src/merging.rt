@@ -63,6 +63,7 @@ fn merge_sources<R: Read + Drop, W: Write>(
 }
 
 // Writes the packet of the source at the place that was chosen, and takes its next one.
+#[inline(always)]
 fn merge_at<R: Read + Drop, W: Write>(
     sources: &mut [Source<R>],
     place: usize,
@@ -76,6 +77,7 @@ fn merge_at<R: Read + Drop, W: Write>(
 }
 
 // Writes the packet that a source holds, and takes its next one.
+#[inline(always)]
 fn merge_next<R: Read + Drop, W: Write>(source: &mut Source<R>, writer: &mut W) -> ResultParsing<()>
     requires { Holds source.old.taken.next }
     ensures { MergesNext R.remaining source.old source.new (W.contents writer.old) (W.contents writer.new) result }
@@ -86,7 +88,8 @@ fn merge_next<R: Read + Drop, W: Write>(source: &mut Source<R>, writer: &mut W) 
 }
 
 // Writes the packet that a source holds.
-fn put_held<R, W: Write>(source: &Source<R>, writer: &mut W) -> ResultParsing<()>
+#[inline(always)]
+fn put_held<R: Read + Drop, W: Write>(source: &Source<R>, writer: &mut W) -> ResultParsing<()>
     ensures { WritesAll (W.contents writer.old) (W.contents writer.new) (texts (pending_of source.now)) result }
 {
     let Some(pending) = source.taken.next else {

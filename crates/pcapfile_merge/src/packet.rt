@@ -23,6 +23,7 @@ pub(crate) struct Pending {
 }
 
 /// Whether a packet of the first time goes before one of the second. One without a time goes before each that has one.
+#[inline(always)]
 pub(crate) fn is_before(left: Option<Timestamp>, right: Option<Timestamp>) -> bool
     ensures { TellsBefore left right result }
 {

@@ -1,48 +1,45 @@
 //! A reader of packets of either format, and the packets that it holds.
 
-ghost use Rattle.std.specs.Prelude.{◌≡◌, take, drop, false};
-ghost use Rattle.pcap_classic.specs.Reader as classic;
+ghost use Rattle.std.specs.Prelude.{◌≡◌, false};
+ghost use Rattle.pcapfile_merge.specs.Buffered.{is_done};
+ghost use Rattle.pcapfile_merge.specs.Holding.{HoldsFewPackets, PacketThere};
 ghost use Rattle.pcapfile_merge.specs.Taking.{IsOf, TakesPacket};
 
+use crate::buffered::BufferedPackets;
+use crate::buffered_blocks::BufferedBlocks;
 use crate::packet::Pending;
-use crate::stored::take_blocks;
+use crate::parts::{behind, front};
+use crate::stored::{take_blocks, take_there};
+use pcap_file::PcapError;
 use pcap_file::pcap::PacketHeader;
 use pcap_file::pcapng::Timestamp;
-use pcap_file::{PcapError, PcapNgReader, PcapReader};
 use std::alloc::Global;
 use std::io::Read;
 
 const BILLION: u32 = 1_000_000_000;
 
-/// A reader of a capture of either format.
+/// A reader of a capture of either format, behind a buffer.
 #[derive(Drop)]
 pub enum Reader<R> {
     /// That of a classic capture.
-    Packets(PcapReader<R>),
+    Packets(BufferedPackets<R>),
     /// That of a capture of blocks.
-    Blocks(PcapNgReader<R>),
+    Blocks(BufferedBlocks<R>),
 }
 
-impl<R> Reader<R> {
+impl<R: Read + Drop> Reader<R> {
     ghost use Rattle.pcapfile_merge.specs.Holding.{bytes_in};
 
     // The bytes of the packet that it holds.
+    #[inline(always)]
     pub(crate) fn data(&self, pending: Pending) -> &[u8]
         ensures { result.now ≡ bytes_in self.now pending }
     {
         match self {
             Reader::Packets(reader) => reader.data(),
-            Reader::Blocks(reader) => within(reader.body(), pending.start, pending.len),
+            Reader::Blocks(reader) => front(behind(reader.body(), pending.start), pending.len),
         }
     }
-}
-
-// So many bytes behind the first ones, or as many as there are.
-fn within(bytes: &[u8], start: usize, len: usize) -> &[u8]
-    ensures { result.now ≡ take len (drop start bytes.now) }
-{
-    let behind = &bytes[start.min(bytes.len())..];
-    &behind[..len.min(behind.len())]
 }
 
 /// What was taken: a packet, or what refuses it, or nothing at the end.
@@ -53,7 +50,22 @@ pub(crate) struct Taken {
 }
 
 impl<R: Read + Drop> Reader<R> {
-    ghost use Rattle.pcapfile_merge.specs.Holding.{IsReady, IsReadyIf, HoldsFew, TakesNext};
+    ghost use Rattle.pcapfile_merge.specs.Holding.{IsReady, IsReadyIf, IsWhole, HoldsFew, TakesNext, TakesThere};
+
+    // Takes the next packet where it lies whole in the buffer, whose interface has this number, or is of those that have numbers from it on.
+    // Else the packet that was lent is let go.
+    #[inline(always)]
+    pub(crate) fn next_there(&mut self, alloc: Global, base: u32) -> Option<Pending>
+        requires { IsReady self.old }
+        ensures there { TakesThere R.remaining base self.old self.new result }
+        ensures few { HoldsFew self.new result }
+        ensures ready { IsReady self.new }
+    {
+        match self {
+            Reader::Packets(packets) => take_packet_there(packets, base),
+            Reader::Blocks(blocks) => take_there(alloc, blocks, base),
+        }
+    }
 
     // Takes the next packet, whose interface has this number, or is the first of those that have numbers from it on.
     pub(crate) fn take_next(&mut self, alloc: Global, base: u32, interfaces: Interfaces) -> Taken
@@ -61,6 +73,7 @@ impl<R: Read + Drop> Reader<R> {
         ensures takes { TakesNext R.remaining interfaces base self.old self.new result }
         ensures few { HoldsFew self.new result.next }
         ensures ready { IsReadyIf self.new result.next }
+        ensures whole { IsWhole result }
     {
         match self {
             Reader::Packets(reader) => take_packet(reader, base),
@@ -76,9 +89,24 @@ pub(crate) enum Interfaces {
     Closed,
 }
 
+// Takes the next packet of a classic capture whose interface has this number, where it lies whole in the buffer. Else nothing is lent.
+#[inline(always)]
+fn take_packet_there<R: Read + Drop>(
+    reader: &mut BufferedPackets<R>,
+    number: u32,
+) -> Option<Pending>
+    requires { is_done reader.old ≡ false }
+    ensures few { HoldsFewPackets reader.new result }
+    ensures ready { is_done reader.new ≡ false }
+    ensures there { PacketThere R.remaining number reader.old reader.new result }
+{
+    let header = reader.next_there()?;
+    Some(pending_of_header(header, number))
+}
+
 // Takes the next packet of a classic capture whose interface has this number.
-fn take_packet<R: Read + Drop>(reader: &mut PcapReader<R>, number: u32) -> Taken
-    requires { classic.is_done reader.old ≡ false }
+fn take_packet<R: Read + Drop>(reader: &mut BufferedPackets<R>, number: u32) -> Taken
+    requires { is_done reader.old ≡ false }
     ensures { TakesPacket R.remaining number reader.old reader.new result }
 {
     match reader.next_header() {
@@ -98,6 +126,7 @@ fn take_packet<R: Read + Drop>(reader: &mut PcapReader<R>, number: u32) -> Taken
 }
 
 // What is said of the packet of this header.
+#[inline(always)]
 fn pending_of_header(header: PacketHeader, number: u32) -> Pending
     ensures { IsOf number header result }
 {

@@ -1,7 +1,7 @@
 //! A capture that is merged with others.
 
-ghost use Rattle.std.specs.Prelude.{◌≡◌, [], option_map};
-ghost use Rattle.pcapfile_merge.specs.Holding.{Holds, HoldsFew, IsReady, IsReadyIf};
+ghost use Rattle.std.specs.Prelude.{◌≡◌, [], None, option_map};
+ghost use Rattle.pcapfile_merge.specs.Holding.{Holds, HoldsFew, IsReady, IsReadyIf, IsWhole};
 
 use crate::packet::Pending;
 use crate::reader::{Interfaces, Reader, Taken};
@@ -18,6 +18,7 @@ pub struct Source<R> {
     pub(crate) taken: Taken,
     ghost few: { HoldsFew reader taken.next },
     ghost ready: { IsReadyIf reader taken.next },
+    ghost whole: { IsWhole taken },
 }
 
 impl<R: Read + Drop> Source<R> {
@@ -41,14 +42,26 @@ impl<R: Read + Drop> Source<R> {
     }
 
     // Takes the next packet.
+    #[inline(always)]
     pub(crate) fn advance(&mut self)
         requires { Holds self.old.taken.next }
         ensures { Advances R.remaining self.old self.new }
     {
-        self.taken = Taken {
-            next: None,
-            fault: None,
-        };
+        self.taken.next = None;
+        match self.reader.next_there(self.alloc, self.base) {
+            Some(pending) => self.taken.next = Some(pending),
+            None => self.advance_any(),
+        }
+    }
+
+    // Takes the next packet, wherever it lies.
+    #[cold]
+    #[inline(never)]
+    fn advance_any(&mut self)
+        requires nothing { self.old.taken.next ≡ None }
+        requires ready { IsReady self.old.reader }
+        ensures { Advances R.remaining self.old self.new }
+    {
         let taken = self
             .reader
             .take_next(self.alloc, self.base, Interfaces::Closed);
@@ -58,6 +71,7 @@ impl<R: Read + Drop> Source<R> {
 
 impl<R> Source<R> {
     // The packet that it gives next. None where it has no more.
+    #[inline(always)]
     pub(crate) fn next(&self) -> Option<Pending>
         ensures { result ≡ self.now.taken.next }
     {

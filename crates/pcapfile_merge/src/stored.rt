@@ -1,18 +1,21 @@
 //! The packets of a capture of blocks that is merged.
 
-ghost use Rattle.std.specs.Prelude.{◌≡◌, ◌≤◌, false, true, map, IfOk, IfSome, MatchResult};
+ghost use Rattle.std.specs.Prelude.{◌≡◌, ◌≤◌, ℕ, List, length, false, true, map, Some, IfOk, IfSome, MatchResult};
 ghost use Rattle.pcap_blocks.specs.InterfaceDescription.{interface_of};
 ghost use Rattle.pcap_file.specs.Frames.{framed_of};
 ghost use Rattle.pcap_file.specs.Placed.{is_packet};
 ghost use Rattle.pcap_file.specs.Placing.{source_of};
-ghost use Rattle.pcap_file.specs.Reader.{is_done, lent_item};
+ghost use Rattle.pcap_file.specs.Reader.{body_of, is_done, lent_item};
 ghost use Rattle.pcap_file.specs.State.{is_kept};
 ghost use Rattle.pcapfile_run.specs.BlockPackets.{in_block};
-ghost use Rattle.pcapfile_merge.specs.Passing.{BarsType, PassesTo, TellsPending, TellsStored, TellsTaken, bytes_before};
-ghost use Rattle.pcapfile_merge.specs.Holding.{HoldsFewBlocks, IsReadyBlocks, TakesBlocks};
+ghost use Rattle.pcapfile_merge.specs.Passing.{BarsType, PassesTo, TellsPending, TellsStored, TellsTaken, bytes_before, in_said};
+ghost use Rattle.pcapfile_merge.specs.BufferedBlocks as buffered;
+ghost use Rattle.pcapfile_merge.specs.Holding.{BlockThere, HoldsFewBlocks, IsReadyBlocks, IsWhole, TakesBlocks};
 ghost use Rattle.pcapfile_merge.specs.TakingBlocks.{IsTimeBy, MayPass};
 
+use crate::buffered_blocks::BufferedBlocks;
 use crate::packet::Pending;
+use crate::plain::Plain;
 use crate::reader::{Interfaces, Taken};
 use pcap_file::pcapng::{Block, BlockHeader, BlockType, InterfaceDescriptionBlock, Timestamp};
 use pcap_file::run::Unplaced;
@@ -33,16 +36,17 @@ const SIMPLE: usize = 4;
 // Takes the next packet of a capture of blocks whose interfaces have numbers from this one on, or what refuses it.
 pub(crate) fn take_blocks<R: Read + Drop>(
     alloc: Global,
-    reader: &mut PcapNgReader<R>,
+    blocks: &mut BufferedBlocks<R>,
     base: u32,
     interfaces: Interfaces,
 ) -> Taken
-    requires { is_done reader.old ≡ false }
-    ensures takes { TakesBlocks R.remaining interfaces base reader.old reader.new result }
-    ensures few { HoldsFewBlocks reader.new result.next }
-    ensures ready { IsReadyBlocks reader.new result.next }
+    requires { buffered.is_done blocks.old ≡ false }
+    ensures takes { TakesBlocks R.remaining interfaces base blocks.old blocks.new result }
+    ensures few { HoldsFewBlocks blocks.new result.next }
+    ensures ready { IsReadyBlocks blocks.new result.next }
+    ensures whole { IsWhole result }
 {
-    match take_block(alloc, reader, base, interfaces) {
+    match take_shown(alloc, blocks, base, interfaces) {
         Ok(next) => Taken { next, fault: None },
         Err(error) => Taken {
             next: None,
@@ -51,7 +55,49 @@ pub(crate) fn take_blocks<R: Read + Drop>(
     }
 }
 
-// Takes the next packet of a capture of blocks whose interfaces have numbers from this one on.
+// Takes the next packet of a capture of blocks whose interfaces have numbers from this one on: that which lies whole in the buffer,
+// or one that is held.
+fn take_shown<R: Read + Drop>(
+    alloc: Global,
+    blocks: &mut BufferedBlocks<R>,
+    base: u32,
+    interfaces: Interfaces,
+) -> ResultParsing<Option<Pending>>
+    requires { buffered.is_done blocks.old ≡ false }
+    ensures takes { TellsTaken interfaces base (buffered.source_of R.remaining blocks.old) (buffered.source_of R.remaining blocks.new) (buffered.body_of blocks.new) result }
+    ensures few { IfOk result (λ next. IfSome next (λ pending. pending.len ≤ 4294967260)) }
+{
+    match take_there(alloc, blocks, base) {
+        Some(pending) => Ok(Some(pending)),
+        None => take_block(alloc, &mut blocks.reader, base, interfaces),
+    }
+}
+
+// Takes the next packet of a capture of blocks whose interfaces have numbers from this one on, where it lies whole in the buffer and can be
+// merged. Else nothing is lent.
+#[inline(always)]
+pub(crate) fn take_there<R: Read + Drop>(
+    alloc: Global,
+    blocks: &mut BufferedBlocks<R>,
+    base: u32,
+) -> Option<Pending>
+    requires { buffered.is_done blocks.old ≡ false }
+    ensures few { IfSome result (λ pending. pending.len ≤ 4294967260) }
+    ensures ready { buffered.is_done blocks.new ≡ false }
+    ensures there { BlockThere R.remaining base blocks.old blocks.new result }
+{
+    blocks.let_go();
+    let (packet, used) = blocks.packet_there(alloc)?;
+    let Ok(pending) = pending_of(blocks.interfaces(), base, said_there(packet)) else {
+        return None;
+    };
+    blocks.shown = Some(used);
+    Some(pending)
+}
+
+// Takes the next packet of a capture of blocks whose interfaces have numbers from this one on, which is held.
+#[cold]
+#[inline(never)]
 fn take_block<R: Read + Drop>(
     alloc: Global,
     reader: &mut PcapNgReader<R>,
@@ -59,7 +105,7 @@ fn take_block<R: Read + Drop>(
     interfaces: Interfaces,
 ) -> ResultParsing<Option<Pending>>
     requires { is_done reader.old ≡ false }
-    ensures takes { TellsTaken R.remaining interfaces base reader.old reader.new result }
+    ensures takes { TellsTaken interfaces base (source_of R.remaining reader.old) (source_of R.remaining reader.new) (body_of reader.new) result }
     ensures few { IfOk result (λ next. IfSome next (λ pending. pending.len ≤ 4294967260)) }
 {
     let Some(header) = pass_to_packet(reader, interfaces)? else {
@@ -132,41 +178,85 @@ fn pending_in_block(
 {
     let parsed = block.parsed(alloc)?;
     match packet_in_body(interfaces, &parsed) {
-        Some(packet) => pending_of(interfaces, base, packet),
+        Some(packet) => pending_of_packet(interfaces, base, packet),
         None => Err(PcapError::InvalidField("Block: no packet")),
     }
 }
 
-// What is said of this packet.
-fn pending_of(
+/// What a block says of the packet that it holds.
+#[derive(Clone, Copy)]
+struct Said {
+    /// The number of its interface among those of its section.
+    interface: u32,
+    /// Its time in the units of that interface's clock, where it has one.
+    units: Option<u64>,
+    /// Its length on the wire, in bytes.
+    original_len: u32,
+    /// How many bytes of it are stored.
+    len: usize,
+}
+
+// What is said by an enhanced packet that lies in a buffer.
+#[inline(always)]
+fn said_there(packet: Plain) -> Said
+    ensures { result ≡ record { interface = packet.interface; units = Some packet.units; original_len = packet.original; len = packet.stored } }
+{
+    Said {
+        interface: packet.interface,
+        units: Some(packet.units),
+        original_len: packet.original,
+        len: packet.stored,
+    }
+}
+
+// What is said of a packet that a block holds.
+fn pending_of_packet(
     interfaces: &[InterfaceDescriptionBlock<'static>],
     base: u32,
     packet: BlockPacket,
 ) -> ResultParsing<Pending>
     ensures { TellsStored base (map interface_of interfaces.now) (in_block packet.entry) result }
 {
-    let Some(interface) = interface_at(interfaces, packet.interface) else {
+    let said = Said {
+        interface: packet.interface,
+        units: packet.units,
+        original_len: packet.original_len,
+        len: packet.bytes.len(),
+    };
+    pending_of(interfaces, base, said)
+}
+
+// What is said of a packet of which its block says this.
+#[inline(always)]
+fn pending_of(
+    interfaces: &[InterfaceDescriptionBlock<'static>],
+    base: u32,
+    said: Said,
+) -> ResultParsing<Pending>
+    ensures { (bytes : List ℕ) → said.len ≡ length bytes → TellsStored base (map interface_of interfaces.now) (in_said said bytes) result }
+{
+    let Some(interface) = interface_at(interfaces, said.interface) else {
         return Err(PcapError::InvalidField(Unplaced::InterfaceMissing.message()));
     };
-    let Some(number) = base.checked_add(packet.interface) else {
+    let Some(number) = base.checked_add(said.interface) else {
         return Err(PcapError::InvalidField("Block: too many interfaces"));
     };
-    let len = packet.bytes.len();
-    if len > MOST {
+    if said.len > MOST {
         return Err(PcapError::InvalidField("Block: a packet that is too long"));
     }
-    let (time, units) = time_by(interface, packet.units);
+    let (time, units) = time_by(interface, said.units);
     Ok(Pending {
         number,
         time,
         units,
-        original_len: packet.original_len,
-        start: start_behind(packet.units),
-        len,
+        original_len: said.original_len,
+        start: start_behind(said.units),
+        len: said.len,
     })
 }
 
 // The time of a packet that came by this interface, and its units of the interface's clock, which are 0 where it has no time.
+#[inline(always)]
 fn time_by(
     interface: &InterfaceDescriptionBlock<'static>,
     units: Option<u64>,
@@ -180,6 +270,7 @@ fn time_by(
 }
 
 // How many bytes stand before those of a packet in the body of its block.
+#[inline(always)]
 fn start_behind(units: Option<u64>) -> usize
     ensures { result ≡ bytes_before units }
 {

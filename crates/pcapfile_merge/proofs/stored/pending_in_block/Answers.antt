@@ -16,5 +16,5 @@ returns-in_err-parsed-clause-tells c =
 pub returns-in-Some-clause-tells : goal.returns-in-Some-clause-tells
 returns-in-Some-clause-tells c =
     let says = c.in_ok-parsed.ensures.tells in
-    stored_pending c.args.base (map interface_of c.args.interfaces.now) (framed_of c.args.block.now) (in_block c.in-Some.packet) c.pending_of.result c.requires
-    (record { body = body_of c.in_ok-parsed.parsed; rest = says.0; says = says.1; packet_is = sym c.in-Some.ensures }) c.pending_of.ensures
+    stored_pending c.args.base (map interface_of c.args.interfaces.now) (framed_of c.args.block.now) (in_block c.in-Some.packet) c.pending_of_packet.result c.requires
+    (record { body = body_of c.in_ok-parsed.parsed; rest = says.0; says = says.1; packet_is = sym c.in-Some.ensures }) c.pending_of_packet.ensures

@@ -1,0 +1,97 @@
+-- Packets of blocks that are taken where they lie in a buffer.
+use Rattle.std.proofs.Common.{◌≡◌, ℕ, List, [], length, take, false, Option, None, Some, Result, Ok, refl, sym, ap, ◌∙◌, subst}
+use Rattle.std.specs.Prelude.{◌==◌}
+use Rattle.std.specs.Io.Buffered.{reader_buffer, reader_capacity, reader_inner, reader_remaining}
+use Rattle.std.specs.declared.io.buffered.BufReader.{BufReader}
+use Rattle.pcap_core.specs.declared.errors.PcapError.{PcapError}
+use Rattle.pcap_blocks.specs.InterfaceDescription.{Interface}
+use Rattle.pcap_blocks.specs.ParsedBlock.{EnhancedBody}
+use Rattle.pcap_file.specs.declared.pcapng.reader.PcapNgReader.{PcapNgReader}
+use Rattle.pcap_file.specs.Blocks.{Item}
+use Rattle.pcap_file.specs.Lent.{body_in}
+use Rattle.pcap_file.specs.Placing as placing
+use Rattle.pcap_file.specs.Placing.{Source, TakesNext}
+use Rattle.pcap_file.specs.Reader.{body_of, interfaces_in_force, section_in_force, state_of, stream_of}
+use Rattle.pcap_file.specs.State.{order_at}
+use Rattle.pcapfile_run.specs.BlockPackets.{HoldsPacket, InBlock}
+use Rattle.pcapfile_merge.specs.declared.packet.Pending.{Pending}
+use Rattle.pcapfile_merge.specs.declared.plain.Plain.{Plain}
+use Rattle.pcapfile_merge.specs.declared.reader.Interfaces.{Interfaces}
+use Rattle.pcapfile_merge.specs.declared.stored.Said.{Said}
+use Rattle.pcapfile_merge.specs.BufferedBlocks.{source_at, text_in}
+use Rattle.pcapfile_merge.specs.Passing.{TellsPending, TellsStored, TellsTaken, bytes_within, in_said}
+use Rattle.pcapfile_merge.specs.Plain.{PlainText}
+use Rattle.pcapfile_merge.specs.Taking.{packet_in}
+use Rattle.pcapfile_merge.specs.TakingBlocks.{GivesOf, IsGoing}
+use Rattle.pcapfile_merge.proofs.Bodies.{stored_pending}
+use Rattle.pcapfile_merge.proofs.Enhanced.{packet_item, packet_says, plain_body}
+use Rattle.pcapfile_merge.proofs.Lying.{front_taken}
+use Rattle.pcapfile_merge.proofs.Turning.{passed_none}
+
+-- what an enhanced packet that lies in a buffer says
+abbrev pub said_of : Plain → Said
+said_of packet = record { interface = packet.interface; units = Some packet.units; original_len = packet.original; len = packet.stored }
+
+-- what is told of what a block says is told of what lies in the buffer
+pub told_there : (base : ℕ) (lent interfaces : List Interface) (said : Said) (packet : Plain) (result : Result Pending PcapError) → lent ≡ interfaces → said ≡ said_of packet
+    → ((bytes : List ℕ) → said.len ≡ length bytes → TellsStored base lent (in_said said bytes) result) → (bytes : List ℕ) → packet.stored ≡ length bytes → TellsStored base interfaces (in_said (said_of packet) bytes) result
+told_there base lent interfaces said packet result there is tells =
+    let here = subst (λ (l : List Interface). (bytes : List ℕ) → said.len ≡ length bytes → TellsStored base l (in_said said bytes) result) there tells in
+    subst (λ (s : Said). (bytes : List ℕ) → s.len ≡ length bytes → TellsStored base interfaces (in_said s bytes) result) is here
+
+module _ {R A : Type 0} (remaining : R → Option (List ℕ)) (choice : Interfaces) (base : ℕ) (a : Source) where
+  -- what a reader took that holds its block was taken
+  pub held_taken : (shown : Option ℕ) (mid reader : PcapNgReader (BufReader R A)) (result : Result (Option Pending) PcapError) → shown ≡ None → source_at remaining shown mid ≡ a
+      → TellsTaken choice base (placing.source_of (reader_remaining remaining) mid) (placing.source_of (reader_remaining remaining) reader) (body_of reader) result
+      → TellsTaken choice base a (source_at remaining shown reader) (body_in (text_in shown reader)) result
+  held_taken None mid reader result none same tells = subst (λ (s : Source). TellsTaken choice base s (source_at remaining None reader) (body_in (text_in None reader)) result) same tells
+  held_taken (Some n) mid reader result none same tells = absurd (let no : ⊥ = cc in no)
+
+  module _ (shown : Option ℕ) (reader : PcapNgReader (BufReader R A)) (packet : Plain) (n : ℕ) (none : shown ≡ None) (same : source_at remaining shown reader ≡ a) (ready : a.done ≡ false)
+      (text : PlainText (order_at (state_of reader)) packet (take n (reader_buffer (stream_of reader))) []) where
+    item_there : Item
+    item_there = packet_item (order_at (state_of reader)) text.frame.0 text.body (state_of reader)
+
+    starts : source_at remaining None reader ≡ a
+    starts = subst (λ (o : Option ℕ). source_at remaining o reader ≡ a) none same
+
+    going : IsGoing a
+    going =
+        let done : (source_at remaining None reader).done ≡ false = ap (λ (s : Source). s.done) starts ∙ ready in
+        (ready, sym (ap (λ (s : Source). s.failed) starts) ∙ reader.unfailed done)
+
+    next_there : TakesNext a (source_at remaining (Some n) reader) item_there
+    unfolding item_there
+    next_there =
+        let stream = stream_of reader in
+        let s = reader_buffer stream in
+        let done : (source_at remaining None reader).done ≡ false = ap (λ (s : Source). s.done) starts ∙ ready in
+        subst (λ (b : Source). TakesNext b (source_at remaining (Some n) reader) item_there) starts
+        (record {
+          took = (take n s, packet_says (section_in_force reader) (interfaces_in_force reader) packet (take n s) text, front_taken (reader_capacity stream == 0) n s (remaining (reader_inner stream)));
+          leads = refl;
+          no_read_failed = reader.unfailed done;
+          went_on = done;
+          goes_on = done;
+        })
+
+    tells_block : (result : Result Pending PcapError) → ((bytes : List ℕ) → packet.stored ≡ length bytes → TellsStored base (interfaces_in_force reader) (in_said (said_of packet) bytes) result)
+        → TellsPending base (interfaces_in_force reader) item_there.block result
+    unfolding item_there
+    tells_block result tells =
+        let enhanced = text.tells.0 in
+        let says = text.tells.3 in
+        let stored : InBlock = record { interface = enhanced.interface_id; units = Some enhanced.packet.timestamp; original_len = enhanced.packet.original_len; bytes = enhanced.packet.bytes } in
+        let is : in_said (said_of packet) enhanced.packet.bytes ≡ stored = rw (says.interface_is, says.units_are, says.original_is) refl in
+        let holds : HoldsPacket (interfaces_in_force reader) item_there.block stored = record { body = EnhancedBody enhanced; rest = text.tells.1; says = (enhanced, refl, text.tells.2); packet_is = refl } in
+        stored_pending base (interfaces_in_force reader) item_there.block stored result refl holds
+        (subst (λ (p : InBlock). TellsStored base (interfaces_in_force reader) p result) is (tells enhanced.packet.bytes says.stored_is))
+
+    -- a packet that lies whole in the buffer was taken
+    pub shown_taken : (pending : Pending) → ((bytes : List ℕ) → packet.stored ≡ length bytes → TellsStored base (interfaces_in_force reader) (in_said (said_of packet) bytes) (Ok pending))
+        → TellsTaken choice base a (source_at remaining (Some n) reader) (body_in (text_in (Some n) reader)) (Ok (Some pending))
+    unfolding item_there
+    shown_taken pending tells =
+        let body = plain_body (order_at (state_of reader)) packet (take n (reader_buffer (stream_of reader))) text in
+        let gives = subst (λ (s : List ℕ). GivesOf base (interfaces_in_force reader) item_there.block (Some (packet_in (bytes_within s pending) pending))) (sym body) (tells_block (Ok pending) tells) in
+        (a, (passed_none choice a going).passes, item_there, next_there, gives)

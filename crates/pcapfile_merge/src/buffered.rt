@@ -1,0 +1,131 @@
+//! Packets of a classic capture that are lent where they lie in a buffer.
+
+ghost use Rattle.std.specs.Prelude.{◌≡◌, false, None, Some, Ok, IfSome, MatchOption};
+ghost use Rattle.std.specs.Io.Buffered.{reader_buffer, reader_remaining};
+ghost use Rattle.pcap_core.specs.Reading.{NextGives};
+ghost use Rattle.pcap_classic.specs.Packets.{reader_format};
+ghost use Rattle.pcap_classic.specs.PacketText.{packet_limit};
+ghost use Rattle.pcap_classic.specs.Reader as classic;
+ghost use Rattle.pcapfile_merge.specs.Buffered.{LiesWhole, StaysAt, data_of, has_failed, header_of, is_done, left_of, lent_packet};
+
+use crate::parts::{behind, front};
+use pcap_core::stream::HasHead;
+use pcap_file::pcap::{PacketHeader, PacketsUnder, PcapHeader};
+use pcap_file::{PcapReader, ResultParsing};
+use std::io::{BufRead, BufReader, Read};
+
+/// How many bytes the header of a packet has.
+const HEAD: usize = 16;
+
+/// A reader of the packets of a classic capture behind a buffer. A packet that lies whole in the buffer is lent from there and
+/// never copied; the one that ends outside of it is held.
+#[derive(Drop)]
+pub struct BufferedPackets<R> {
+    reader: PcapReader<BufReader<R>>,
+    shown: Option<usize>,
+}
+
+impl<R> BufferedPackets<R> {
+    /// The header of the capture.
+    pub fn header(&self) -> &PcapHeader
+        ensures { result.now ≡ header_of self.now }
+    {
+        &self.reader.header
+    }
+}
+
+impl<R: Read + Drop> BufferedPackets<R> {
+    /// The packets behind those that a reader took.
+    pub fn new(reader: PcapReader<BufReader<R>>) -> BufferedPackets<R>
+        ensures header { header_of result ≡ reader.header }
+        ensures left { left_of R.remaining result ≡ reader_remaining R.remaining (classic.stream_of reader) }
+        ensures done { is_done result ≡ classic.is_done reader }
+    {
+        BufferedPackets {
+            reader,
+            shown: None,
+        }
+    }
+
+    // The header of the next packet, whose data is lent from then on.
+    #[inline(always)]
+    pub(crate) fn next_header(&mut self) -> Option<ResultParsing<PacketHeader>>
+        requires { is_done self.old ≡ false }
+        ensures header { header_of self.new ≡ header_of self.old }
+        ensures next { NextGives ((reader_format packet_limit (header_of self.old)).says tt) (lent_packet self.new) (left_of R.remaining self.old) (left_of R.remaining self.new) (is_done self.old) (is_done self.new) (has_failed self.old) (has_failed self.new) result }
+    {
+        match self.next_there() {
+            Some(header) => Some(Ok(header)),
+            None => self.reader.next_header(),
+        }
+    }
+
+    // The header of the next packet where it lies whole in the buffer, from which its data is lent from then on. Else nothing is lent.
+    #[inline(always)]
+    pub(crate) fn next_there(&mut self) -> Option<PacketHeader>
+        requires { is_done self.old ≡ false }
+        ensures header { header_of self.new ≡ header_of self.old }
+        ensures failed { has_failed self.new ≡ has_failed self.old }
+        ensures there { MatchOption result (StaysAt R.remaining self.old self.new) (λ header. NextGives ((reader_format packet_limit (header_of self.old)).says tt) (lent_packet self.new) (left_of R.remaining self.old) (left_of R.remaining self.new) (is_done self.old) (is_done self.new) (has_failed self.old) (has_failed self.new) (Some (Ok header))) }
+    {
+        self.let_go();
+        let (header, used) = self.packet_there()?;
+        self.shown = Some(used);
+        Some(header)
+    }
+
+    // The header of the packet that lies whole at the front of the buffer, and how many bytes it has.
+    #[inline(always)]
+    fn packet_there(&self) -> Option<(PacketHeader, usize)>
+        ensures { IfSome result (λ found. LiesWhole (header_of self.now) (reader_buffer (classic.stream_of self.now.reader)) found.0 found.1) }
+    {
+        let reader = &self.reader;
+        whole_packet(&reader.header, reader.get_ref().buffer())
+    }
+
+    // Takes the packet that is lent out of the buffer.
+    #[inline(always)]
+    fn let_go(&mut self)
+        ensures header { header_of self.new ≡ header_of self.old }
+        ensures left { left_of R.remaining self.new ≡ left_of R.remaining self.old }
+        ensures done { is_done self.new ≡ is_done self.old }
+        ensures failed { has_failed self.new ≡ has_failed self.old }
+        ensures nothing { self.new.shown ≡ None }
+    {
+        if let Some(used) = self.shown {
+            self.reader.get_mut().consume(used);
+        }
+        self.shown = None;
+    }
+
+    // The data of the packet whose header came last.
+    #[inline(always)]
+    pub(crate) fn data(&self) -> &[u8]
+        ensures { result.now ≡ data_of self.now }
+    {
+        match self.shown {
+            None => self.reader.data(),
+            Some(used) => behind(front(self.reader.get_ref().buffer(), used), HEAD),
+        }
+    }
+}
+
+// The header of the packet that lies whole in front of the bytes, and how many bytes it has.
+#[inline(always)]
+fn whole_packet(header: &PcapHeader, shown: &[u8]) -> Option<(PacketHeader, usize)>
+    ensures { IfSome result (λ found. LiesWhole header.now shown.now found.0 found.1) }
+{
+    let packets = PacketsUnder { header };
+    let head = packets.head();
+    if shown.len() < head {
+        return None;
+    }
+    let (before, after) = shown.split_at(head);
+    let Ok((found, len)) = packets.stated(before) else {
+        return None;
+    };
+    if after.len() < len {
+        return None;
+    }
+    Some((found, head + len))
+}
