@@ -1,6 +1,7 @@
 """What `pcapfile cut` and `pcapfile join` write. Packets are sliced here by struct alone, and found by editcap where it is there."""
 import os
 import shutil
+import stat
 import struct
 import subprocess
 import tempfile
@@ -224,6 +225,38 @@ def try_pipes(tally, help):
         tally.note("parts of a pipe", ended[0] != USAGE and f"it ended with {ended}")
 
 
+def try_special(tally, help):
+    """What stands under the name of an output and is no regular file is written to, and stands there after it."""
+    capture, ends = help.classic("<", 0xA1B2C3D4, 1000, 1, [(k * 1000, 60, bytes(range(k))) for k in (3, 0, 9)])
+    header, texts = pieces(capture, ends)
+    held = {"in": capture, "a": header + texts[0], "b": header + texts[1]}
+    for words in (["convert", "in"], ["merge", "in", "a"], ["cut", "in"], ["join", "a", "b"], ["repair", "in"]):
+        with tempfile.TemporaryDirectory() as folder:
+            for path, content in held.items():
+                help.put(folder, path, content)
+            wanted = ran(tally, folder, *words, "-o", "-")
+            pipe = os.path.join(folder, "pipe")
+            os.mkfifo(pipe)
+            reader = subprocess.Popen(["cat", pipe], stdout=subprocess.PIPE)
+            code, written, told = ran(tally, folder, *words, "-o", "pipe")
+            came = reader.communicate(timeout=SECONDS)[0]
+            is_pipe = stat.S_ISFIFO(os.lstat(pipe).st_mode)
+            os.symlink("/dev/full", os.path.join(folder, "full"))
+            full = ran(tally, folder, *words, "-o", "full")
+            is_link = os.path.islink(os.path.join(folder, "full"))
+            left = sorted(os.listdir(folder))
+        tally.note(
+            f"{words[0]} into a pipe",
+            (code, came, told) != (wanted[0], wanted[1], wanted[2]) and f"it ended with {code}, said {told!r} and wrote {came!r}",
+            not came and "nothing came",
+            written and f"it wrote {written!r}",
+            not is_pipe and "the pipe is replaced",
+            (full[0] != FAILED or "No space left on device" not in full[2]) and f"on a full device it gave {full}",
+            not is_link and "the device is replaced",
+            left != sorted([*held, "pipe", "full"]) and f"it left {left}",
+        )
+
+
 SECTION, INTERFACE, SIMPLE, NAMES, STATISTICS, PACKET = 0x0A0D0D0A, 1, 3, 4, 5, 6
 
 
@@ -312,5 +345,5 @@ def try_block_ranges(tally, help, found):
 
 
 def try_all(tally, help):
-    for tries in (try_parts, try_ranges, try_faults, try_pipes, try_blocks):
+    for tries in (try_parts, try_ranges, try_faults, try_pipes, try_special, try_blocks):
         tries(tally, help)

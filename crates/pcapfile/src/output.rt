@@ -3,48 +3,70 @@
 use crate::FAILED;
 use crate::console::Console;
 use crate::tell::tell_io;
-use std::fs::File;
+use std::fs::{File, OpenOptions};
 use std::{fs, io};
 
 /// The size of the buffer before an output, in bytes.
 pub(crate) const OUTPUT: usize = 65_536;
 
-/// A file that is written as `NAME.part`, and is named NAME once all of it is there.
+/// A file that is written as `NAME.part`, and is named NAME once all of it is there. What stands under NAME and is no regular file,
+/// as a device or a pipe, is written to and not replaced.
 #[derive(Drop)]
 pub(crate) struct Unfinished<'a> {
     name: &'a str,
-    part: String,
+    part: Option<String>,
 }
 
 impl<'a> Unfinished<'a> {
     /// The file that becomes the one of this name.
     pub(crate) fn new(console: &Console, name: &'a str) -> io::Result<Unfinished<'a>> {
-        let part = format!(in console.alloc(); "{name}.part")?;
+        let part = if is_special(console, name) {
+            None
+        } else {
+            Some(format!(in console.alloc(); "{name}.part")?)
+        };
         Ok(Unfinished { name, part })
     }
 
     /// The name that it has meanwhile.
     pub(crate) fn part(&self) -> &str {
-        self.part.as_str()
+        match &self.part {
+            None => self.name,
+            Some(part) => part.as_str(),
+        }
     }
 
-    /// Makes it. A file of that name that is there already is an error.
+    /// Makes it, or opens what is no regular file. A file of the name that it has meanwhile, where that is there already, is an error.
     pub(crate) fn create(&self, console: &Console) -> io::Result<File> {
-        File::create_new(console.rt(), self.part())
+        match &self.part {
+            None => OpenOptions::new().write(true).open(console.rt(), self.name),
+            Some(part) => File::create_new(console.rt(), part.as_str()),
+        }
     }
 
     /// Gives it its name where the status that was told is 0, and takes it away else. Gives the status.
     pub(crate) fn finish(&self, console: &Console, told: io::Result<u8>) -> io::Result<u8> {
+        let Some(part) = &self.part else {
+            return told;
+        };
         let told = match told {
-            Ok(0) => match fs::rename(console.rt(), self.part(), self.name) {
+            Ok(0) => match fs::rename(console.rt(), part.as_str(), self.name) {
                 Ok(()) => return Ok(0),
                 Err(error) => tell_io(console, self.name, &error),
             },
             failed => failed,
         };
         // What made this fail has been told.
-        let _ = fs::remove_file(console.rt(), self.part());
+        let _ = fs::remove_file(console.rt(), part.as_str());
         told
+    }
+}
+
+// Whether what stands under this name is no regular file.
+fn is_special(console: &Console, name: &str) -> bool {
+    match fs::metadata(console.rt(), name) {
+        Ok(found) => !found.is_file(),
+        Err(_) => false,
     }
 }
 
