@@ -3,6 +3,7 @@ pub mod Strings
 pub mod Growth
 pub mod ReadOptions
 pub mod Bodies
+pub mod OneVerdict
 pub mod OneOption
 pub mod OneList
 pub mod NumbersThen

@@ -1,7 +1,7 @@
 -- Of all bytes exactly one thing is said as the body of a block of any type.
-use Rattle.std.proofs.Common.{◌≡◌, ◌^◌, ℕ, List, length, refl, arith, inl, inr}
+use Rattle.std.proofs.Common.{◌^◌, ℕ, List, length, refl, sym, ◌∙◌, arith, inl, inr}
 use Rattle.std.proofs.lemmas.Bool.{cases_lt}
-use Rattle.pcap_core.specs.Answer.{Order, Verdict, whole, lacks, faulty}
+use Rattle.pcap_core.specs.Answer.{Order, whole, faulty}
 use Rattle.pcap_core.specs.Faults.{Invalid}
 use Rattle.pcap_core.specs.Laws.{ExactlyOne}
 use Rattle.pcap_core.specs.declared.rules.Rule.TheVariants.{UnknownTooLong}
@@ -20,6 +20,7 @@ use Rattle.pcap_blocks.specs.ParsedBlock.{SectionBody, InterfaceBody, OldPacketB
 use Rattle.pcap_blocks.specs.UnknownBlock.{UnknownSays}
 use Rattle.pcap_core.proofs.Verdicts.{one_made}
 use Rattle.pcap_blocks.proofs.OneSection.{section_one}
+use Rattle.pcap_blocks.proofs.OneVerdict.{IsDecided, one_said}
 use Rattle.pcap_blocks.proofs.OneInterface.{interface_one}
 use Rattle.pcap_blocks.proofs.OnePacket.{packet_body_one}
 use Rattle.pcap_blocks.proofs.OneWhole.{simple_one, journal_one}
@@ -27,21 +28,18 @@ use Rattle.pcap_blocks.proofs.OneResolution.{resolution_one}
 use Rattle.pcap_blocks.proofs.OneStatistics.{statistics_one}
 use Rattle.pcap_blocks.proofs.OneEnhanced.{enhanced_one}
 
-unknown_only : (type : BlockType) (s : List ℕ) (v w : Verdict UnknownBody) → UnknownSays type s v → UnknownSays type s w → w ≡ v
-unknown_only type s (whole a x) (whole b y) h k = rw (h.0, h.1, k.0, k.1) refl
-unknown_only type s (whole a x) (lacks n) h k = absurd k
-unknown_only type s (whole a x) (faulty g) h k = absurd (omega (arith, h.2, k.1))
-unknown_only type s (lacks n) w h k = absurd h
-unknown_only type s (faulty f) (whole b y) h k = absurd (omega (arith, h.1, k.2))
-unknown_only type s (faulty f) (lacks n) h k = absurd k
-unknown_only type s (faulty f) (faulty g) h k = rw (h.0, k.0) refl
-
 pub unknown_one : (type : BlockType) (s : List ℕ) → ExactlyOne (UnknownSays type s)
 unknown_one type s =
+    let is : IsDecided (UnknownSays type s) = record {
+      wholes = λ x y a b h k. (k.0 ∙ sym h.0, k.1 ∙ sym h.1);
+      faults = λ f g h k. k.0 ∙ sym h.0;
+      not_both = λ x a f h k. absurd (omega (arith, h.2, k.1));
+      no_lack = λ n h. h;
+    } in
     let body : UnknownBody = record { type_ = type; len = length s; bytes = s } in
     elim (cases_lt (length s) (2 ^ 32)) [
-      | inl lt ↦ record { value = whole body s; holds = (refl, refl, lt); only = λ w k. unknown_only type s (whole body s) w (refl, refl, lt) k }
-      | inr long ↦ record { value = faulty (Invalid UnknownTooLong); holds = (refl, long); only = λ w k. unknown_only type s (faulty (Invalid UnknownTooLong)) w (refl, long) k }
+      | inl lt ↦ one_said (UnknownSays type s) is (whole body s) (refl, refl, lt)
+      | inr long ↦ one_said (UnknownSays type s) is (faulty (Invalid UnknownTooLong)) (refl, long)
     ]
 
 pub body_one : (order : Order) (type : BlockType) (s : List ℕ) → ExactlyOne (BodySays order type s)

@@ -10,6 +10,7 @@ use Rattle.pcap_blocks.specs.Values.{Kind, Entry}
 use Rattle.pcap_blocks.specs.Options.{CodeLengthText, OptionText, EndMark, OptionFault, OptionSays, Ending, wants_end, may_end_with_body, IsOver, OptionList, marked, with_body, ListSays}
 use Rattle.pcap_core.proofs.Verdicts.{one_moved, Stopped, IsMany, one_stopped, whole_no_fault}
 use Rattle.pcap_blocks.proofs.OneOption.{option_one, option_same}
+use Rattle.pcap_blocks.proofs.OneVerdict.{IsDecided, same_said}
 use Rattle.pcap_core.proofs.OnePadded.{padded_length}
 use Rattle.pcap_core.proofs.Formats.{whole_same}
 
@@ -49,15 +50,14 @@ pub mark_no_fault : (ending : Ending) (order : Order) (kind : Kind) (good : List
 mark_no_fault ending order kind good s a f (inl x) some fault = whole_no_fault None a f (option_same order kind s (faulty f) (whole None a) fault x)
 mark_no_fault ending order kind good s a f (inr x) some fault = some x.1 x.0
 
-stop_same : (ending : Ending) (order : Order) (kind : Kind) (good : List Entry) (s : List ℕ) (v w : Verdict (List Entry)) → ListStop ending order kind good s v → ListStop ending order kind good s w → w ≡ v
+stop_decided : (ending : Ending) (order : Order) (kind : Kind) (good : List Entry) (s : List ℕ) → IsDecided (ListStop ending order kind good s)
 unfolding ListStop
-stop_same ending order kind good s (whole os a) (whole ps b) h k = rw (h.0, k.0, marks_same ending order kind good s a b h.1 k.1) refl
-stop_same ending order kind good s (whole os a) (faulty g) h k = absurd (mark_no_fault ending order kind good s a g h.1 k.0 k.1)
-stop_same ending order kind good s (whole os a) (lacks n) h k = absurd k
-stop_same ending order kind good s (lacks n) w h k = absurd h
-stop_same ending order kind good s (faulty f) (lacks n) h k = absurd k
-stop_same ending order kind good s (faulty f) (whole ps b) h k = absurd (mark_no_fault ending order kind good s b f k.1 h.0 h.1)
-stop_same ending order kind good s (faulty f) (faulty g) h k = let both = option_same order kind s (faulty f) (faulty g) h.1 k.1 in let same : g ≡ f = cc in rw same refl
+stop_decided ending order kind good s = record {
+  wholes = λ os ps a b h k. (k.0 ∙ sym h.0, marks_same ending order kind good s a b h.1 k.1);
+  faults = λ f g h k. let both = option_same order kind s (faulty f) (faulty g) h.1 k.1 in cc;
+  not_both = λ os a f h k. mark_no_fault ending order kind good s a f h.1 k.0 k.1;
+  no_lack = λ n h. h;
+}
 
 pub mark_no_item : (ending : Ending) (order : Order) (kind : Kind) (good : List Entry) (s a : List ℕ) (o : Entry) (b : List ℕ) → Ends ending order good s a → OptionText order kind o s b → ⊥
 mark_no_item ending order kind good s a o b (inl x) k = let same = whole_same (Some o) None b a (option_same order kind s (whole None a) (whole (Some o) b) x k) in let none = same.0 in absurd cc
@@ -92,7 +92,7 @@ stop_or_option ending order kind good [] =
 stop_or_option ending order kind good (b ∷ s) = piece_stops ending order kind good (b ∷ s) (λ over z. cc) (option_one order kind (b ∷ s)).value (option_one order kind (b ∷ s)).holds
 
 list_many : (ending : Ending) (order : Order) (kind : Kind) → IsMany (OptionText order kind) (ListStop ending order kind)
-list_many ending order kind = record { item_same = item_same order kind; item_shorter = item_shorter order kind; stop_same = stop_same ending order kind; stop_no_item = stop_no_item ending order kind; one_of_both = stop_or_option ending order kind }
+list_many ending order kind = record { item_same = item_same order kind; item_shorter = item_shorter order kind; stop_same = λ good s v w h k. same_said (stop_decided ending order kind good s) v w h k; stop_no_item = stop_no_item ending order kind; one_of_both = stop_or_option ending order kind }
 
 list_to : (ending : Ending) (order : Order) (kind : Kind) (s : List ℕ) (w : Verdict (List Entry)) → ListSays ending order kind s w → Stopped (OptionText order kind) (ListStop ending order kind) s w
 unfolding ListStop

@@ -11,6 +11,7 @@ use Rattle.pcap_core.specs.Padded.{Chain}
 use Rattle.pcap_blocks.specs.Values.{string_at}
 use Rattle.pcap_blocks.specs.Names.{HasNoZero, NameText, NameFault, unended, no_string, NameSays, NamesSay}
 use Rattle.pcap_blocks.proofs.Naming.{name_shorter}
+use Rattle.pcap_blocks.proofs.OneVerdict.{IsDecided, one_said, same_said}
 use Rattle.pcap_core.proofs.Verdicts.{one_moved, Then, one_then, Stopped, IsMany, one_stopped, whole_no_fault}
 use Rattle.pcap_core.proofs.Formats.{whole_same}
 
@@ -62,44 +63,36 @@ StringSays name rest (whole n r) = (string_at name ≡ Ok n) × (n ≡ name) × 
 StringSays name rest (lacks n) = ⊥
 StringSays name rest (faulty f) = string_at name ≡ Err f
 
-zero_only : (s : List ℕ) (v w : Verdict (List ℕ)) → ZeroSays s v → ZeroSays s w → w ≡ v
-unfolding ZeroSays
-zero_only s (whole n r) (whole m q) h k = let e = one_front m n q r k.1 h.1 (sym k.0 ∙ h.0) in rw (e.0, e.1) refl
-zero_only s (whole n r) (lacks m) h k = absurd k
-zero_only s (whole n r) (faulty g) h k = absurd (zero_inside n r (subst HasNoZero h.0 k.1))
-zero_only s (lacks m) w h k = absurd h
-zero_only s (faulty f) (lacks m) h k = absurd k
-zero_only s (faulty f) (whole m q) h k = absurd (zero_inside m q (subst HasNoZero k.0 h.1))
-zero_only s (faulty f) (faulty g) h k = rw (h.0, k.0) refl
-
 zero_one : (s : List ℕ) → ExactlyOne (ZeroSays s)
 unfolding ZeroSays
 zero_one s =
+    let is : IsDecided (ZeroSays s) = record {
+      wholes = λ n m r q h k. one_front m n q r k.1 h.1 (sym k.0 ∙ h.0);
+      faults = λ f g h k. k.0 ∙ sym h.0;
+      not_both = λ n r f h k. zero_inside n r (subst HasNoZero h.0 k.1);
+      no_lack = λ m h. h;
+    } in
     elim (zero_or_not s) [
-      | inl z ↦ record { value = whole z.before z.after; holds = (z.parts, z.no_zero); only = λ w k. zero_only s (whole z.before z.after) w (z.parts, z.no_zero) k }
-      | inr none ↦ record { value = faulty (Invalid NameUnended); holds = (refl, none); only = λ w k. zero_only s (faulty (Invalid NameUnended)) w (refl, none) k }
+      | inl z ↦ one_said (ZeroSays s) is (whole z.before z.after) (z.parts, z.no_zero)
+      | inr none ↦ one_said (ZeroSays s) is (faulty (Invalid NameUnended)) (refl, none)
     ]
 
 string_cases : (name : List ℕ) (b : Bool) → is_utf8 name ≡ b → (string_at name ≡ Ok name) ⊎ (string_at name ≡ Err Utf8)
 string_cases name true e = inl (rw e refl)
 string_cases name false e = inr (rw e refl)
 
-string_only : (name rest : List ℕ) (v w : Verdict (List ℕ)) → StringSays name rest v → StringSays name rest w → w ≡ v
-unfolding StringSays
-string_only name rest (whole n r) (whole m q) h k = rw (h.1, h.2, k.1, k.2) refl
-string_only name rest (whole n r) (lacks m) h k = absurd k
-string_only name rest (whole n r) (faulty g) h k = let e = sym h.0 ∙ k in absurd cc
-string_only name rest (lacks m) w h k = absurd h
-string_only name rest (faulty f) (lacks m) h k = absurd k
-string_only name rest (faulty f) (whole m q) h k = let e = sym h ∙ k.0 in absurd cc
-string_only name rest (faulty f) (faulty g) h k = let e = sym h ∙ k in let same : f ≡ g = cc in rw same refl
-
 string_one : (name rest : List ℕ) → ExactlyOne (StringSays name rest)
 unfolding StringSays
 string_one name rest =
+    let is : IsDecided (StringSays name rest) = record {
+      wholes = λ n m r q h k. (k.1 ∙ sym h.1, k.2 ∙ sym h.2);
+      faults = λ f g h k. let e = sym k ∙ h in cc;
+      not_both = λ n r f h k. let e = sym h.0 ∙ k in absurd cc;
+      no_lack = λ m h. h;
+    } in
     elim (string_cases name (is_utf8 name) refl) [
-      | inl ok ↦ record { value = whole name rest; holds = (ok, refl, refl); only = λ w k. string_only name rest (whole name rest) w (ok, refl, refl) k }
-      | inr err ↦ record { value = faulty Utf8; holds = err; only = λ w k. string_only name rest (faulty Utf8) w err k }
+      | inl ok ↦ one_said (StringSays name rest) is (whole name rest) (ok, refl, refl)
+      | inr err ↦ one_said (StringSays name rest) is (faulty Utf8) err
     ]
 
 NameThen : List ℕ → Verdict (List ℕ) → Type 0
@@ -140,18 +133,12 @@ name_same n m s a b h k = whole_same n m a b ((name_one s).only (whole n a) h �
 name_some : (n s a : List ℕ) → NameText n s a → s ≢ []
 name_some n s a h e = omega (arith, name_shorter n s a h, ap length e)
 
-fault_same : (s : List ℕ) (f g : Fault) → NameFault s f → NameFault s g → ◌≡◌ {A = Verdict (List (List ℕ))} (faulty g) (faulty f)
-fault_same s f g h k = let e = (name_one s).only (faulty g) k ∙ sym ((name_one s).only (faulty f) h) in let same : g ≡ f = cc in rw same refl
+fault_same : (s : List ℕ) (f g : Fault) → NameFault s f → NameFault s g → g ≡ f
+fault_same s f g h k = let e = (name_one s).only (faulty g) k ∙ sym ((name_one s).only (faulty f) h) in cc
 
-stop_same : (good : List (List ℕ)) (s : List ℕ) (v w : Verdict (List (List ℕ))) → NamesStop good s v → NamesStop good s w → w ≡ v
+stop_decided : (good : List (List ℕ)) (s : List ℕ) → IsDecided (NamesStop good s)
 unfolding NamesStop
-stop_same good s (whole n r) (whole m q) h k = rw (h.0, h.2, k.0, k.2) refl
-stop_same good s (whole n r) (lacks m) h k = absurd k
-stop_same good s (whole n r) (faulty g) h k = absurd (k.0 h.1)
-stop_same good s (lacks m) w h k = absurd h
-stop_same good s (faulty f) (lacks m) h k = absurd k
-stop_same good s (faulty f) (whole m q) h k = absurd (h.0 k.1)
-stop_same good s (faulty f) (faulty g) h k = fault_same s f g h.1 k.1
+stop_decided good s = record { wholes = λ n m r q h k. (k.0 ∙ sym h.0, k.2 ∙ sym h.2); faults = λ f g h k. fault_same s f g h.1 k.1; not_both = λ n r f h k. k.0 h.1; no_lack = λ m h. h }
 
 stop_no_item : (good : List (List ℕ)) (s : List ℕ) (w : Verdict (List (List ℕ))) (n a : List ℕ) → NamesStop good s w → NameText n s a → ⊥
 unfolding NamesStop
@@ -174,7 +161,7 @@ stop_or_name good (b ∷ s) =
     ]
 
 names_many : IsMany NameText NamesStop
-names_many = record { item_same = name_same; item_shorter = λ n s a h. name_shorter n s a h; stop_same = stop_same; stop_no_item = stop_no_item; one_of_both = stop_or_name }
+names_many = record { item_same = name_same; item_shorter = λ n s a h. name_shorter n s a h; stop_same = λ good s v w h k. same_said (stop_decided good s) v w h k; stop_no_item = stop_no_item; one_of_both = stop_or_name }
 
 names_to : (s : List ℕ) (w : Verdict (List (List ℕ))) → NamesSay s w → Stopped NameText NamesStop s w
 unfolding NamesStop

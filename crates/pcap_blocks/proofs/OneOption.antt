@@ -8,6 +8,7 @@ use Rattle.pcap_core.specs.Padded.{Padded, up_to_4}
 use Rattle.pcap_blocks.specs.Values.{Kind, Entry, Value, Shape, shape_at, value_of, EntrySays}
 use Rattle.pcap_blocks.specs.Options.{CodeLengthText, OptionText, OptionFault, short, cut, wrong, OptionSays}
 use Rattle.pcap_blocks.proofs.ReadOptions.{head_with}
+use Rattle.pcap_blocks.proofs.OneVerdict.{IsDecided, one_said}
 use Rattle.pcap_core.proofs.Verdicts.{one_moved, Then, one_then}
 use Rattle.pcap_core.proofs.Numbers.{Values, Numbers, NumbersSay, numbers_one}
 use Rattle.pcap_core.proofs.OnePadded.{PaddedSays, padded_one}
@@ -17,25 +18,23 @@ entry : ℕ → Value → Entry
 entry c v = record { code = c; value = v }
 
 -- a value
-entry_only_ok : (order : Order) (shape : Shape) (code : ℕ) (v : List ℕ) (x : Value) → value_of order shape v ≡ Ok x → (w : Verdict Entry) → EntrySays order shape code v w → w ≡ whole (entry code x) []
+entry_decided : (order : Order) (shape : Shape) (code : ℕ) (v : List ℕ) → IsDecided (EntrySays order shape code v)
 unfolding entry
-entry_only_ok order shape code v x is (whole o rest) k =
-    let both : Ok x ≡ Ok o.value = sym is ∙ k.1 in
-    let value : o.value ≡ x = cc in
-    let same : o ≡ entry code x = ap (λ (c : ℕ). entry c o.value) k.0 ∙ ap (entry code) value in
-    rw (same, k.2) refl
-entry_only_ok order shape code v x is (lacks n) k = absurd k
-entry_only_ok order shape code v x is (faulty g) k = let both : Ok x ≡ Err g = sym is ∙ k in absurd cc
-
-entry_only_err : (order : Order) (shape : Shape) (code : ℕ) (v : List ℕ) (f : Fault) → value_of order shape v ≡ Err f → (w : Verdict Entry) → EntrySays order shape code v w → w ≡ faulty f
-entry_only_err order shape code v f is (whole o rest) k = let both : Err f ≡ Ok o.value = sym is ∙ k.1 in absurd cc
-entry_only_err order shape code v f is (lacks n) k = absurd k
-entry_only_err order shape code v f is (faulty g) k = let both : Err f ≡ Err g = sym is ∙ k in let same : f ≡ g = cc in rw same refl
+entry_decided order shape code v = record {
+  wholes = λ o p a b h k.
+      let both = sym h.1 ∙ k.1 in
+      let value : p.value ≡ o.value = cc in
+      let same : entry p.code p.value ≡ entry o.code o.value = rw (h.0, k.0, value) refl in
+      (same, k.2 ∙ sym h.2);
+  faults = λ f g h k. let both = sym h ∙ k in cc;
+  not_both = λ o a f h k. let both = sym h.1 ∙ k in absurd cc;
+  no_lack = λ n h. h;
+}
 
 entry_of : (order : Order) (shape : Shape) (code : ℕ) (v : List ℕ) (r : Result Value Fault) → value_of order shape v ≡ r → ExactlyOne (EntrySays order shape code v)
 unfolding entry
-entry_of order shape code v (Ok x) is = record { value = whole (entry code x) []; holds = (refl, is, refl); only = entry_only_ok order shape code v x is }
-entry_of order shape code v (Err f) is = record { value = faulty f; holds = is; only = entry_only_err order shape code v f is }
+entry_of order shape code v (Ok x) is = one_said (EntrySays order shape code v) (entry_decided order shape code v) (whole (entry code x) []) (refl, is, refl)
+entry_of order shape code v (Err f) is = one_said (EntrySays order shape code v) (entry_decided order shape code v) (faulty f) is
 
 pub entry_one : (order : Order) (shape : Shape) (code : ℕ) (v : List ℕ) → ExactlyOne (EntrySays order shape code v)
 entry_one order shape code v = entry_of order shape code v (value_of order shape v) refl
@@ -46,22 +45,19 @@ PieceSays order kind code v after (whole p rest) = (x : Value) × (value_of orde
 PieceSays order kind code v after (lacks n) = ⊥
 PieceSays order kind code v after (faulty f) = value_of order (shape_at kind code) v ≡ Err f
 
-piece_only_ok : (order : Order) (kind : Kind) (code : ℕ) (v after : List ℕ) (x : Value) → value_of order (shape_at kind code) v ≡ Ok x → (w : Verdict (Option Entry)) → PieceSays order kind code v after w → w ≡ whole (Some (entry code x)) after
+piece_decided : (order : Order) (kind : Kind) (code : ℕ) (v after : List ℕ) → IsDecided (PieceSays order kind code v after)
 unfolding PieceSays
-piece_only_ok order kind code v after x is (whole p rest) k = let both = sym is ∙ k.1 in let same : x ≡ k.0 = cc in rw (k.2, k.3, same) refl
-piece_only_ok order kind code v after x is (lacks n) k = absurd k
-piece_only_ok order kind code v after x is (faulty g) k = let both = sym is ∙ k in absurd cc
-
-piece_only_err : (order : Order) (kind : Kind) (code : ℕ) (v after : List ℕ) (f : Fault) → value_of order (shape_at kind code) v ≡ Err f → (w : Verdict (Option Entry)) → PieceSays order kind code v after w → w ≡ faulty f
-unfolding PieceSays
-piece_only_err order kind code v after f is (whole p rest) k = let both = sym is ∙ k.1 in absurd cc
-piece_only_err order kind code v after f is (lacks n) k = absurd k
-piece_only_err order kind code v after f is (faulty g) k = let both = sym is ∙ k in let same : f ≡ g = cc in rw same refl
+piece_decided order kind code v after = record {
+  wholes = λ p q a b h k. let both = sym h.1 ∙ k.1 in let same : k.0 ≡ h.0 = cc in (k.2 ∙ ap (λ (x : Value). Some (entry code x)) same ∙ sym h.2, k.3 ∙ sym h.3);
+  faults = λ f g h k. let both = sym h ∙ k in cc;
+  not_both = λ p a f h k. let both = sym h.1 ∙ k in absurd cc;
+  no_lack = λ n h. h;
+}
 
 piece_of : (order : Order) (kind : Kind) (code : ℕ) (v after : List ℕ) (r : Result Value Fault) → value_of order (shape_at kind code) v ≡ r → ExactlyOne (PieceSays order kind code v after)
 unfolding PieceSays
-piece_of order kind code v after (Ok x) is = record { value = whole (Some (entry code x)) after; holds = (x, is, refl, refl); only = piece_only_ok order kind code v after x is }
-piece_of order kind code v after (Err f) is = record { value = faulty f; holds = is; only = piece_only_err order kind code v after f is }
+piece_of order kind code v after (Ok x) is = one_said (PieceSays order kind code v after) (piece_decided order kind code v after) (whole (Some (entry code x)) after) (x, is, refl, refl)
+piece_of order kind code v after (Err f) is = one_said (PieceSays order kind code v after) (piece_decided order kind code v after) (faulty f) is
 
 -- what follows a head
 AfterHead : Order → Kind → ℕ → ℕ → List ℕ → Verdict (Option Entry) → Type 0

@@ -1,5 +1,5 @@
 -- Of all bytes exactly one thing is said as a record.
-use Rattle.std.proofs.Common.{◌≡◌, ◌≢◌, ℕ, ◌+◌, ◌<◌, ◌≤◌, List, [], ◌∷◌, ◌++◌, length, take, drop, refl, sym, ap, subst, ◌∙◌, arith, append_assoc, inl, inr}
+use Rattle.std.proofs.Common.{◌≡◌, ℕ, ◌+◌, ◌<◌, ◌≤◌, List, [], ◌∷◌, ◌++◌, length, take, drop, refl, sym, ap, subst, ◌∙◌, arith, append_assoc, inl, inr}
 use Rattle.std.proofs.lemmas.List.{take-append-drop, length-take, length-append}
 use Rattle.std.proofs.lemmas.Bool.{cases_lt}
 use Rattle.pcap_core.specs.Answer.{Order, Verdict, whole, lacks, faulty, Made}
@@ -16,6 +16,7 @@ use Rattle.pcap_blocks.proofs.ReadOptions.{head_with}
 use Rattle.pcap_core.proofs.Verdicts.{one_moved, Then, one_then, one_made}
 use Rattle.pcap_core.proofs.Numbers.{NumbersSay, numbers_one}
 use Rattle.pcap_blocks.proofs.OneName.{names_one}
+use Rattle.pcap_blocks.proofs.OneVerdict.{IsDecided, one_said}
 use Rattle.pcap_blocks.proofs.OneOption.{widths, head_to, head_from}
 use Rattle.pcap_blocks.proofs.NameRecords.{same_padded}
 use Rattle.pcap_core.proofs.OnePadded.{PaddedSays, padded_one, padded_same, no_short_padded}
@@ -26,24 +27,18 @@ BytesSay too_few n s (whole v rest) = (s ≡ v ++ rest) × (length v ≡ n)
 BytesSay too_few n s (lacks m) = ⊥
 BytesSay too_few n s (faulty f) = (f ≡ too_few) × (length s < n)
 
-bytes_only : (too_few : Fault) (n : ℕ) (s : List ℕ) (v w : Verdict (List ℕ)) → BytesSay too_few n s v → BytesSay too_few n s w → w ≡ v
-unfolding BytesSay
-bytes_only too_few n s (whole p a) (whole q b) x y = let one = split_same q b p a (y.1 ∙ sym x.1) (sym y.0 ∙ x.0) in rw (one.0, one.1) refl
-bytes_only too_few n s (whole p a) (lacks m) x y = absurd y
-bytes_only too_few n s (whole p a) (faulty g) x y = absurd (omega (arith, ap length x.0, length-append p a, x.1, y.1))
-bytes_only too_few n s (lacks m) w x y = absurd x
-bytes_only too_few n s (faulty f) (whole q b) x y = absurd (omega (arith, ap length y.0, length-append q b, y.1, x.1))
-bytes_only too_few n s (faulty f) (lacks m) x y = absurd y
-bytes_only too_few n s (faulty f) (faulty g) x y = rw (x.0, y.0) refl
-
 bytes_one : (too_few : Fault) (n : ℕ) (s : List ℕ) → ExactlyOne (BytesSay too_few n s)
 unfolding BytesSay
 bytes_one too_few n s =
+    let is : IsDecided (BytesSay too_few n s) = record {
+      wholes = λ p q a b x y. split_same q b p a (y.1 ∙ sym x.1) (sym y.0 ∙ x.0);
+      faults = λ f g x y. y.0 ∙ sym x.0;
+      not_both = λ p a f x y. absurd (omega (arith, ap length x.0, length-append p a, x.1, y.1));
+      no_lack = λ m x. x;
+    } in
     elim (cases_lt (length s) n) [
-      | inl lt ↦ record { value = faulty too_few; holds = (refl, lt); only = λ w k. bytes_only too_few n s (faulty too_few) w (refl, lt) k }
-      | inr long ↦
-          let h : BytesSay too_few n s (whole (take n s) (drop n s)) = (sym (take-append-drop n s), omega (arith, length-take n s)) in
-          record { value = whole (take n s) (drop n s); holds = h; only = λ w k. bytes_only too_few n s (whole (take n s) (drop n s)) w h k }
+      | inl lt ↦ one_said (BytesSay too_few n s) is (faulty too_few) (refl, lt)
+      | inr long ↦ one_said (BytesSay too_few n s) is (whole (take n s) (drop n s)) (sym (take-append-drop n s), omega (arith, length-take n s))
     ]
 
 -- ---- an address and its names
@@ -53,24 +48,18 @@ WidthSays width too_short s (whole bytes after) = (width + 2 ≤ length s) × (s
 WidthSays width too_short s (lacks n) = ⊥
 WidthSays width too_short s (faulty f) = (f ≡ Invalid too_short) × (length s < width + 2)
 
-width_only : (width : ℕ) (too_short : Rule) (s : List ℕ) (v w : Verdict (List ℕ)) → WidthSays width too_short s v → WidthSays width too_short s w → w ≡ v
-unfolding WidthSays
-width_only width too_short s (whole p a) (whole q b) x y = let one = split_same q b p a (y.2 ∙ sym x.2) (sym y.1 ∙ x.1) in rw (one.0, one.1) refl
-width_only width too_short s (whole p a) (lacks n) x y = absurd y
-width_only width too_short s (whole p a) (faulty g) x y = absurd (omega (arith, x.0, y.1))
-width_only width too_short s (lacks n) w x y = absurd x
-width_only width too_short s (faulty f) (lacks n) x y = absurd y
-width_only width too_short s (faulty f) (whole q b) x y = absurd (omega (arith, y.0, x.1))
-width_only width too_short s (faulty f) (faulty g) x y = rw (x.0, y.0) refl
-
 width_one : (width : ℕ) (too_short : Rule) (s : List ℕ) → ExactlyOne (WidthSays width too_short s)
 unfolding WidthSays
 width_one width too_short s =
+    let is : IsDecided (WidthSays width too_short s) = record {
+      wholes = λ p q a b x y. split_same q b p a (y.2 ∙ sym x.2) (sym y.1 ∙ x.1);
+      faults = λ f g x y. y.0 ∙ sym x.0;
+      not_both = λ p a f x y. absurd (omega (arith, x.0, y.1));
+      no_lack = λ n x. x;
+    } in
     elim (cases_lt (length s) (width + 2)) [
-      | inl lt ↦ record { value = faulty (Invalid too_short); holds = (refl, lt); only = λ w k. width_only width too_short s (faulty (Invalid too_short)) w (refl, lt) k }
-      | inr long ↦
-          let h : WidthSays width too_short s (whole (take width s) (drop width s)) = (long, sym (take-append-drop width s), omega (arith, length-take width s)) in
-          record { value = whole (take width s) (drop width s); holds = h; only = λ w k. width_only width too_short s (whole (take width s) (drop width s)) w h k }
+      | inl lt ↦ one_said (WidthSays width too_short s) is (faulty (Invalid too_short)) (refl, lt)
+      | inr long ↦ one_said (WidthSays width too_short s) is (whole (take width s) (drop width s)) (long, sym (take-append-drop width s), omega (arith, length-take width s))
     ]
 
 address_at : List ℕ → List (List ℕ) → Address
@@ -104,20 +93,12 @@ address_one width too_short s =
 
 -- ---- a value
 
-no_value_only : (v : List ℕ) (x y : Verdict NameRecord) → RecordValueSays no_value v x → RecordValueSays no_value v y → y ≡ x
-no_value_only v (whole r a) (whole q b) h k = rw (h.0, h.2, k.0, k.2) refl
-no_value_only v (whole r a) (lacks n) h k = absurd k
-no_value_only v (whole r a) (faulty g) h k = absurd (k.1 h.1)
-no_value_only v (lacks n) y h k = absurd h
-no_value_only v (faulty f) (lacks n) h k = absurd k
-no_value_only v (faulty f) (whole q b) h k = absurd (h.1 k.1)
-no_value_only v (faulty f) (faulty g) h k = rw (h.0, k.0) refl
+no_value_decided : (v : List ℕ) → IsDecided (RecordValueSays no_value v)
+no_value_decided v = record { wholes = λ x y a b h k. (k.0 ∙ sym h.0, k.2 ∙ sym h.2); faults = λ f g h k. k.0 ∙ sym h.0; not_both = λ x a f h k. k.1 h.1; no_lack = λ n h. h }
 
 no_value_one : (v : List ℕ) → ExactlyOne (RecordValueSays no_value v)
-no_value_one [] = record { value = whole End []; holds = (refl, refl, refl); only = λ w k. no_value_only [] (whole End []) w (refl, refl, refl) k }
-no_value_one (b ∷ v) =
-    let some : b ∷ v ≢ [] = λ e. cc in
-    record { value = faulty (Invalid EndNotEmpty); holds = (refl, some); only = λ w k. no_value_only (b ∷ v) (faulty (Invalid EndNotEmpty)) w (refl, some) k }
+no_value_one [] = one_said (RecordValueSays no_value []) (no_value_decided []) (whole End []) (refl, refl, refl)
+no_value_one (b ∷ v) = one_said (RecordValueSays no_value (b ∷ v)) (no_value_decided (b ∷ v)) (faulty (Invalid EndNotEmpty)) (refl, λ e. cc)
 
 any_value_only : (type : ℕ) (v : List ℕ) (y : Verdict NameRecord) → RecordValueSays (any_value type) v y → y ≡ whole (Other type (length v) v) []
 any_value_only type v (whole q b) k = rw (k.0, k.1) refl
@@ -152,15 +133,14 @@ BytesThen type len after = Then (BytesSay (Invalid RecordCut) len after) (λ v m
 RecordThen : Order → List ℕ → Verdict NameRecord → Type 0
 RecordThen order s = Then (NumbersSay order Io widths s) (λ ns after. BytesThen ns.0 ns.1.0 after)
 
-pad_only : (r : NameRecord) (v s : List ℕ) (x y : Verdict NameRecord) → PadSays r v s x → PadSays r v s y → y ≡ x
+pad_decided : (r : NameRecord) (v s : List ℕ) → IsDecided (PadSays r v s)
 unfolding PadSays
-pad_only r v s (whole p a) (whole q b) h k = let one = padded_same v v s b a refl k.1 h.1 in rw (h.0, k.0, one.1) refl
-pad_only r v s (whole p a) (lacks n) h k = absurd k
-pad_only r v s (whole p a) (faulty g) h k = absurd (no_short_padded v s a (length v) h.1 refl k.1)
-pad_only r v s (lacks n) y h k = absurd h
-pad_only r v s (faulty f) (lacks n) h k = absurd k
-pad_only r v s (faulty f) (whole q b) h k = absurd (no_short_padded v s b (length v) k.1 refl h.1)
-pad_only r v s (faulty f) (faulty g) h k = rw (h.0, k.0) refl
+pad_decided r v s = record {
+  wholes = λ p q a b h k. (k.0 ∙ sym h.0, (padded_same v v s b a refl k.1 h.1).1);
+  faults = λ f g h k. k.0 ∙ sym h.0;
+  not_both = λ p a f h k. absurd (no_short_padded v s a (length v) h.1 refl k.1);
+  no_lack = λ n h. h;
+}
 
 -- from the padding of some bytes of that length, which begin as v does
 pad_there : (r : NameRecord) (v more s : List ℕ) → s ≡ v ++ more → (w : Verdict (List ℕ)) → PaddedSays (Invalid RecordUnpadded) (length v) s w → (x : Verdict NameRecord) × PadSays r v s x
@@ -173,7 +153,7 @@ pad_one : (r : NameRecord) (v more s : List ℕ) → s ≡ v ++ more → Exactly
 pad_one r v more s parts =
     let one = padded_one (Invalid RecordUnpadded) (length v) s in
     let x = pad_there r v more s parts one.value one.holds in
-    record { value = x.0; holds = x.1; only = λ w k. pad_only r v s x.0 w x.1 k }
+    one_said (PadSays r v s) (pad_decided r v s) x.0 x.1
 
 value_then_one : (type : ℕ) (v more after : List ℕ) → after ≡ v ++ more → ExactlyOne (ValueThen type v after)
 unfolding ValueThen

@@ -13,6 +13,7 @@ use Rattle.pcap_core.proofs.Verdicts.{one_moved, Then, one_then, one_made, Stopp
 use Rattle.pcap_core.proofs.OnePadded.{padded_length}
 use Rattle.pcap_core.proofs.Formats.{whole_same}
 use Rattle.pcap_blocks.proofs.OneRecord.{record_one}
+use Rattle.pcap_blocks.proofs.OneVerdict.{IsDecided, same_said}
 use Rattle.pcap_blocks.proofs.OneList.{list_one, head_length}
 
 record_same : (order : Order) (s : List ℕ) (v w : Verdict NameRecord) → RecordSays order s v → RecordSays order s w → w ≡ v
@@ -35,15 +36,14 @@ item_shorter order r s a h =
 fault_same : (order : Order) (s : List ℕ) (f g : Fault) → RecordFault order s f → RecordFault order s g → g ≡ f
 fault_same order s f g h k = let both = record_same order s (faulty f) (faulty g) h k in cc
 
-stop_same : (order : Order) (good : List NameRecord) (s : List ℕ) (v w : Verdict (List NameRecord)) → RecordStop order good s v → RecordStop order good s w → w ≡ v
+stop_decided : (order : Order) (good : List NameRecord) (s : List ℕ) → IsDecided (RecordStop order good s)
 unfolding RecordStop
-stop_same order good s (whole rs a) (whole qs b) h k = let same = whole_same End End b a (record_same order s (whole End a) (whole End b) h.1 k.1) in rw (h.0, k.0, same.1) refl
-stop_same order good s (whole rs a) (lacks n) h k = absurd k
-stop_same order good s (whole rs a) (faulty g) h k = absurd (whole_no_fault End a g (record_same order s (faulty g) (whole End a) k h.1))
-stop_same order good s (lacks n) w h k = absurd h
-stop_same order good s (faulty f) (lacks n) h k = absurd k
-stop_same order good s (faulty f) (whole qs b) h k = absurd (whole_no_fault End b f (record_same order s (faulty f) (whole End b) h k.1))
-stop_same order good s (faulty f) (faulty g) h k = rw (fault_same order s f g h k) refl
+stop_decided order good s = record {
+  wholes = λ rs qs a b h k. (k.0 ∙ sym h.0, (whole_same End End b a (record_same order s (whole End a) (whole End b) h.1 k.1)).1);
+  faults = λ f g h k. fault_same order s f g h k;
+  not_both = λ rs a f h k. whole_no_fault End a f (record_same order s (faulty f) (whole End a) k h.1);
+  no_lack = λ n h. h;
+}
 
 stop_no_item : (order : Order) (good : List NameRecord) (s : List ℕ) (w : Verdict (List NameRecord)) (r : NameRecord) (a : List ℕ) → RecordStop order good s w → KeptText order r s a → ⊥
 unfolding RecordStop
@@ -61,7 +61,7 @@ record_stops order good s (lacks n) h = absurd h
 record_stops order good s (faulty f) h = inl (faulty f, h)
 
 records_many : (order : Order) → IsMany (KeptText order) (RecordStop order)
-records_many order = record { item_same = item_same order; item_shorter = item_shorter order; stop_same = stop_same order; stop_no_item = stop_no_item order; one_of_both = λ good s. record_stops order good s (record_one order s).value (record_one order s).holds }
+records_many order = record { item_same = item_same order; item_shorter = item_shorter order; stop_same = λ good s v w h k. same_said (stop_decided order good s) v w h k; stop_no_item = stop_no_item order; one_of_both = λ good s. record_stops order good s (record_one order s).value (record_one order s).holds }
 
 records_to : (order : Order) (s : List ℕ) (w : Verdict (List NameRecord)) → RecordsSay order s w → Stopped (KeptText order) (RecordStop order) s w
 unfolding RecordStop

@@ -17,6 +17,7 @@ use Rattle.pcap_blocks.specs.SectionHeader.{section_header, magic_order, Section
 use Rattle.pcap_core.proofs.Verdicts.{one_moved, Then, one_then, one_made}
 use Rattle.pcap_core.proofs.Numbers.{Values, Numbers, NumbersSay, numbers_one, numbers_behind, numbers_at}
 use Rattle.pcap_blocks.proofs.OneList.{list_one}
+use Rattle.pcap_blocks.proofs.OneVerdict.{IsDecided, one_said}
 
 abbrev too_short : Fault
 too_short = Invalid SectionTooShort
@@ -38,22 +39,13 @@ LongSays s (whole x rest) = (rest ≡ s) × (16 ≤ length s)
 LongSays s (lacks n) = ⊥
 LongSays s (faulty f) = (f ≡ too_short) × (length s < 16)
 
-long_only : (s : List ℕ) (v w : Verdict ⊤) → LongSays s v → LongSays s w → w ≡ v
-unfolding LongSays
-long_only s (whole x a) (whole y b) h k = rw (h.0, k.0) refl
-long_only s (whole x a) (lacks n) h k = absurd k
-long_only s (whole x a) (faulty g) h k = absurd (omega (arith, h.1, k.1))
-long_only s (lacks n) w h k = absurd h
-long_only s (faulty f) (whole y b) h k = absurd (omega (arith, h.1, k.1))
-long_only s (faulty f) (lacks n) h k = absurd k
-long_only s (faulty f) (faulty g) h k = rw (h.0, k.0) refl
-
 long_one : (s : List ℕ) → ExactlyOne (LongSays s)
 unfolding LongSays
 long_one s =
+    let is : IsDecided (LongSays s) = record { wholes = λ x y a b h k. (refl, k.0 ∙ sym h.0); faults = λ f g h k. k.0 ∙ sym h.0; not_both = λ x a f h k. absurd (omega (arith, h.1, k.1)); no_lack = λ n h. h } in
     elim (cases_lt (length s) 16) [
-      | inl lt ↦ record { value = faulty too_short; holds = (refl, lt); only = λ w k. long_only s (faulty too_short) w (refl, lt) k }
-      | inr long ↦ record { value = whole tt s; holds = (refl, long); only = λ w k. long_only s (whole tt s) w (refl, long) k }
+      | inl lt ↦ one_said (LongSays s) is (faulty too_short) (refl, lt)
+      | inr long ↦ one_said (LongSays s) is (whole tt s) (refl, long)
     ]
 
 AfterThen : ℕ → Option Endianness → List ℕ → Verdict Section → Type 0

@@ -7,10 +7,12 @@ ghost use Rattle.pcap_blocks.specs.Options.{may_end_with_body, ListSays, Options
 ghost use Rattle.pcap_blocks.specs.EnhancedPacket.{enhanced_packet, EnhancedSays, enhanced_entry, EnhancedOptionIsBorrowed, enhanced_of, EnhancedIsBorrowed, EnhancedOptionIsOwned, EnhancedIsOwned, EnhancedNeedsNoMemory, EnhancedMayGrow};
 ghost use Rattle.pcap_core.specs.Errors.{IsMemory};
 
+use crate::enhanced_options;
+use crate::kinds::{kept_option, read_option};
 use crate::options::{
     CustomBinaryOption, CustomUtf8Option, PcapNgOption, UnknownOption, options_from_slice,
 };
-use crate::owned::{IntoStatic, each_into_static};
+use crate::owned::{IntoStatic, kept_fields};
 use crate::refusal::Refusal;
 use crate::stored_packet::stored_from_slice;
 use crate::values::{string_value, u32_value, u64_value};
@@ -151,15 +153,7 @@ impl<'a> PcapNgOption<'a> for EnhancedPacketOption<'a> {
     ghost is_borrowed = { EnhancedOptionIsBorrowed };
 
     fn from_value<B: ByteOrder>(code: u16, len: u16, value: &'a [u8]) -> Result<Self, Refusal> {
-        Ok(match code {
-            1 => Self::Comment(string_value(value)?),
-            2 => Self::Flags(u32_value::<B>(value, Rule::EnhancedFlagsLength)?),
-            3 => Self::Hash(CowBytes::Borrowed(value)),
-            4 => Self::DropCount(u64_value::<B>(value, Rule::EnhancedDropCountLength)?),
-            2988 | 19372 => Self::CustomUtf8(CustomUtf8Option::read::<B>(code, value)?),
-            2989 | 19373 => Self::CustomBinary(CustomBinaryOption::read::<B>(code, value)?),
-            _ => Self::Unknown(UnknownOption::new(code, len, value)),
-        })
+        enhanced_options!(read_option B code len value)
     }
 }
 
@@ -173,25 +167,7 @@ impl<'a> IntoStatic for EnhancedPacketOption<'a> {
     ghost needs_no_memory = { EnhancedOptionIsOwned };
 
     fn into_static(self, alloc: Global) -> Result<EnhancedPacketOption<'static>, AllocError> {
-        Ok(match self {
-            EnhancedPacketOption::Comment(held) => EnhancedPacketOption::Comment(held.into_static(
-                alloc,
-            )?),
-            EnhancedPacketOption::Flags(n) => EnhancedPacketOption::Flags(n),
-            EnhancedPacketOption::Hash(held) => EnhancedPacketOption::Hash(held.into_static(
-                alloc,
-            )?),
-            EnhancedPacketOption::DropCount(n) => EnhancedPacketOption::DropCount(n),
-            EnhancedPacketOption::CustomBinary(held) => EnhancedPacketOption::CustomBinary(
-                held.into_static(alloc)?,
-            ),
-            EnhancedPacketOption::CustomUtf8(held) => EnhancedPacketOption::CustomUtf8(
-                held.into_static(alloc)?,
-            ),
-            EnhancedPacketOption::Unknown(held) => EnhancedPacketOption::Unknown(held.into_static(
-                alloc,
-            )?),
-        })
+        enhanced_options!(kept_option self alloc)
     }
 }
 
@@ -204,22 +180,8 @@ impl<'a> IntoStatic for EnhancedPacketBlock<'a> {
 
     ghost needs_no_memory = { EnhancedNeedsNoMemory };
 
+    #[tactic(auto, using(pcap_core::proofs::Kept::map_kept))]
     fn into_static(self, alloc: Global) -> Result<EnhancedPacketBlock<'static>, AllocError> {
-        let EnhancedPacketBlock {
-            interface_id,
-            timestamp,
-            captured_len,
-            original_len,
-            data_,
-            options,
-        } = self;
-        Ok(EnhancedPacketBlock {
-            interface_id,
-            timestamp,
-            captured_len,
-            original_len,
-            data_: data_.into_static(alloc)?,
-            options: each_into_static(alloc, options)?,
-        })
+        kept_fields!(self alloc EnhancedPacketBlock { interface_id timestamp captured_len original_len } held { data_ } each { options })
     }
 }

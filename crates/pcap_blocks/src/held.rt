@@ -14,9 +14,14 @@ ghost use Rattle.pcap_blocks.specs.InterfaceStatistics.{statistics_entry};
 use crate::enhanced_packet::EnhancedPacketOption;
 use crate::interface_description::InterfaceDescriptionOption;
 use crate::interface_statistics::InterfaceStatisticsOption;
+use crate::kinds::held_option;
 use crate::name_resolution::NameResolutionOption;
 use crate::packet::PacketOption;
 use crate::section_header::SectionHeaderOption;
+use crate::{
+    enhanced_options, interface_options, name_options, packet_options, section_options,
+    statistics_options,
+};
 
 // An option, lent.
 #[derive(Clone, Copy)]
@@ -117,30 +122,7 @@ impl HoldsEntry for InterfaceDescriptionOption<'_> {
     ghost entry = { interface_entry };
 
     fn held(&self) -> Held<'_> {
-        let (code, value) = match self {
-            Self::Comment(held) => (1, HeldValue::Str(held.as_str())),
-            Self::IfName(held) => (2, HeldValue::Str(held.as_str())),
-            Self::IfDescription(held) => (3, HeldValue::Str(held.as_str())),
-            Self::IfIpv4Addr(held) => (4, HeldValue::Bytes(held.as_slice())),
-            Self::IfIpv6Addr(held) => (5, HeldValue::Bytes(held.as_slice())),
-            Self::IfMacAddr(held) => (6, HeldValue::Bytes(held.as_slice())),
-            Self::IfEuIAddr(n) => (7, HeldValue::Integer(*n)),
-            Self::IfSpeed(n) => (8, HeldValue::Integer(*n)),
-            Self::IfTsResol(n) => (9, HeldValue::Integer(u64::from(*n))),
-            Self::IfTzone(n) => (10, HeldValue::Integer(u64::from(*n))),
-            Self::IfFilter(held) => (11, HeldValue::Bytes(held.as_slice())),
-            Self::IfOs(held) => (12, HeldValue::Str(held.as_str())),
-            Self::IfFcsLen(n) => (13, HeldValue::Integer(u64::from(*n))),
-            Self::IfTsOffset(n) => (14, HeldValue::Integer(*n)),
-            Self::IfHardware(held) => (15, HeldValue::Str(held.as_str())),
-            Self::CustomBinary(held) => (
-                held.code(),
-                HeldValue::CustomBytes(held.pen(), held.value()),
-            ),
-            Self::CustomUtf8(held) => (held.code(), HeldValue::CustomStr(held.pen(), held.value())),
-            Self::Unknown(held) => (held.code(), HeldValue::Unknown(held.length(), held.value())),
-        };
-        Held { code, value }
+        interface_options!(held_option self)
     }
 }
 
@@ -148,19 +130,7 @@ impl HoldsEntry for SectionHeaderOption<'_> {
     ghost entry = { section_entry };
 
     fn held(&self) -> Held<'_> {
-        let (code, value) = match self {
-            Self::Comment(held) => (1, HeldValue::Str(held.as_str())),
-            Self::Hardware(held) => (2, HeldValue::Str(held.as_str())),
-            Self::OS(held) => (3, HeldValue::Str(held.as_str())),
-            Self::UserApplication(held) => (4, HeldValue::Str(held.as_str())),
-            Self::CustomBinary(held) => (
-                held.code(),
-                HeldValue::CustomBytes(held.pen(), held.value()),
-            ),
-            Self::CustomUtf8(held) => (held.code(), HeldValue::CustomStr(held.pen(), held.value())),
-            Self::Unknown(held) => (held.code(), HeldValue::Unknown(held.length(), held.value())),
-        };
-        Held { code, value }
+        section_options!(held_option self)
     }
 }
 
@@ -168,19 +138,7 @@ impl HoldsEntry for EnhancedPacketOption<'_> {
     ghost entry = { enhanced_entry };
 
     fn held(&self) -> Held<'_> {
-        let (code, value) = match self {
-            Self::Comment(held) => (1, HeldValue::Str(held.as_str())),
-            Self::Flags(n) => (2, HeldValue::Integer(u64::from(*n))),
-            Self::Hash(held) => (3, HeldValue::Bytes(held.as_slice())),
-            Self::DropCount(n) => (4, HeldValue::Integer(*n)),
-            Self::CustomBinary(held) => (
-                held.code(),
-                HeldValue::CustomBytes(held.pen(), held.value()),
-            ),
-            Self::CustomUtf8(held) => (held.code(), HeldValue::CustomStr(held.pen(), held.value())),
-            Self::Unknown(held) => (held.code(), HeldValue::Unknown(held.length(), held.value())),
-        };
-        Held { code, value }
+        enhanced_options!(held_option self)
     }
 }
 
@@ -188,18 +146,7 @@ impl HoldsEntry for PacketOption<'_> {
     ghost entry = { packet_entry };
 
     fn held(&self) -> Held<'_> {
-        let (code, value) = match self {
-            Self::Comment(held) => (1, HeldValue::Str(held.as_str())),
-            Self::Flags(n) => (2, HeldValue::Integer(u64::from(*n))),
-            Self::Hash(held) => (3, HeldValue::Bytes(held.as_slice())),
-            Self::CustomBinary(held) => (
-                held.code(),
-                HeldValue::CustomBytes(held.pen(), held.value()),
-            ),
-            Self::CustomUtf8(held) => (held.code(), HeldValue::CustomStr(held.pen(), held.value())),
-            Self::Unknown(held) => (held.code(), HeldValue::Unknown(held.length(), held.value())),
-        };
-        Held { code, value }
+        packet_options!(held_option self)
     }
 }
 
@@ -207,19 +154,7 @@ impl HoldsEntry for NameResolutionOption<'_> {
     ghost entry = { name_entry };
 
     fn held(&self) -> Held<'_> {
-        let (code, value) = match self {
-            Self::Comment(held) => (1, HeldValue::Str(held.as_str())),
-            Self::NsDnsName(held) => (2, HeldValue::Str(held.as_str())),
-            Self::NsDnsIpv4Addr(held) => (3, HeldValue::Bytes(held.as_slice())),
-            Self::NsDnsIpv6Addr(held) => (4, HeldValue::Bytes(held.as_slice())),
-            Self::CustomBinary(held) => (
-                held.code(),
-                HeldValue::CustomBytes(held.pen(), held.value()),
-            ),
-            Self::CustomUtf8(held) => (held.code(), HeldValue::CustomStr(held.pen(), held.value())),
-            Self::Unknown(held) => (held.code(), HeldValue::Unknown(held.length(), held.value())),
-        };
-        Held { code, value }
+        name_options!(held_option self)
     }
 }
 
@@ -227,22 +162,6 @@ impl HoldsEntry for InterfaceStatisticsOption<'_> {
     ghost entry = { statistics_entry };
 
     fn held(&self) -> Held<'_> {
-        let (code, value) = match self {
-            Self::Comment(held) => (1, HeldValue::Str(held.as_str())),
-            Self::IsbStartTime(n) => (2, HeldValue::Integer(*n)),
-            Self::IsbEndTime(n) => (3, HeldValue::Integer(*n)),
-            Self::IsbIfRecv(n) => (4, HeldValue::Integer(*n)),
-            Self::IsbIfDrop(n) => (5, HeldValue::Integer(*n)),
-            Self::IsbFilterAccept(n) => (6, HeldValue::Integer(*n)),
-            Self::IsbOsDrop(n) => (7, HeldValue::Integer(*n)),
-            Self::IsbUsrDeliv(n) => (8, HeldValue::Integer(*n)),
-            Self::CustomBinary(held) => (
-                held.code(),
-                HeldValue::CustomBytes(held.pen(), held.value()),
-            ),
-            Self::CustomUtf8(held) => (held.code(), HeldValue::CustomStr(held.pen(), held.value())),
-            Self::Unknown(held) => (held.code(), HeldValue::Unknown(held.length(), held.value())),
-        };
-        Held { code, value }
+        statistics_options!(held_option self)
     }
 }

@@ -6,10 +6,12 @@ ghost use Rattle.pcap_blocks.specs.Refusal.{FindsWhere};
 ghost use Rattle.pcap_blocks.specs.InterfaceDescription.{interface_description, InterfaceSays, interface_entry, InterfaceOptionIsBorrowed, interface_of, InterfaceIsBorrowed, InterfaceOptionIsOwned, InterfaceIsOwned, InterfaceNeedsNoMemory, InterfaceMayGrow};
 ghost use Rattle.pcap_core.specs.Errors.{IsMemory};
 
+use crate::interface_options;
+use crate::kinds::{kept_option, read_option};
 use crate::options::{
     CustomBinaryOption, CustomUtf8Option, PcapNgOption, UnknownOption, options_from_slice,
 };
-use crate::owned::{IntoStatic, each_into_static};
+use crate::owned::{IntoStatic, kept_fields};
 use crate::refusal::Refusal;
 use crate::values::{fixed_value, some_value, string_value, u8_value, u32_value, u64_value};
 use byteorder::ByteOrder;
@@ -135,26 +137,7 @@ impl<'a> PcapNgOption<'a> for InterfaceDescriptionOption<'a> {
     ghost is_borrowed = { InterfaceOptionIsBorrowed };
 
     fn from_value<B: ByteOrder>(code: u16, len: u16, value: &'a [u8]) -> Result<Self, Refusal> {
-        Ok(match code {
-            1 => Self::Comment(string_value(value)?),
-            2 => Self::IfName(string_value(value)?),
-            3 => Self::IfDescription(string_value(value)?),
-            4 => Self::IfIpv4Addr(fixed_value(value, 8, Rule::InterfaceIpv4Length)?),
-            5 => Self::IfIpv6Addr(fixed_value(value, 17, Rule::InterfaceIpv6Length)?),
-            6 => Self::IfMacAddr(fixed_value(value, 6, Rule::InterfaceMacLength)?),
-            7 => Self::IfEuIAddr(u64_value::<B>(value, Rule::InterfaceEuiLength)?),
-            8 => Self::IfSpeed(u64_value::<B>(value, Rule::InterfaceSpeedLength)?),
-            9 => Self::IfTsResol(u8_value(value, Rule::InterfaceResolutionLength)?),
-            10 => Self::IfTzone(u32_value::<B>(value, Rule::InterfaceZoneLength)?),
-            11 => Self::IfFilter(some_value(value, Rule::InterfaceFilterEmpty)?),
-            12 => Self::IfOs(string_value(value)?),
-            13 => Self::IfFcsLen(u8_value(value, Rule::InterfaceFcsLength)?),
-            14 => Self::IfTsOffset(u64_value::<B>(value, Rule::InterfaceOffsetLength)?),
-            15 => Self::IfHardware(string_value(value)?),
-            2988 | 19372 => Self::CustomUtf8(CustomUtf8Option::read::<B>(code, value)?),
-            2989 | 19373 => Self::CustomBinary(CustomBinaryOption::read::<B>(code, value)?),
-            _ => Self::Unknown(UnknownOption::new(code, len, value)),
-        })
+        interface_options!(read_option B code len value)
     }
 }
 
@@ -182,48 +165,7 @@ impl<'a> IntoStatic for InterfaceDescriptionOption<'a> {
     ghost needs_no_memory = { InterfaceOptionIsOwned };
 
     fn into_static(self, alloc: Global) -> Result<InterfaceDescriptionOption<'static>, AllocError> {
-        Ok(match self {
-            InterfaceDescriptionOption::Comment(held) => InterfaceDescriptionOption::Comment(
-                held.into_static(alloc)?,
-            ),
-            InterfaceDescriptionOption::IfName(held) => InterfaceDescriptionOption::IfName(
-                held.into_static(alloc)?,
-            ),
-            InterfaceDescriptionOption::IfDescription(held) =>
-                InterfaceDescriptionOption::IfDescription(held.into_static(alloc)?),
-            InterfaceDescriptionOption::IfIpv4Addr(held) => InterfaceDescriptionOption::IfIpv4Addr(
-                held.into_static(alloc)?,
-            ),
-            InterfaceDescriptionOption::IfIpv6Addr(held) => InterfaceDescriptionOption::IfIpv6Addr(
-                held.into_static(alloc)?,
-            ),
-            InterfaceDescriptionOption::IfMacAddr(held) => InterfaceDescriptionOption::IfMacAddr(
-                held.into_static(alloc)?,
-            ),
-            InterfaceDescriptionOption::IfEuIAddr(n) => InterfaceDescriptionOption::IfEuIAddr(n),
-            InterfaceDescriptionOption::IfSpeed(n) => InterfaceDescriptionOption::IfSpeed(n),
-            InterfaceDescriptionOption::IfTsResol(n) => InterfaceDescriptionOption::IfTsResol(n),
-            InterfaceDescriptionOption::IfTzone(n) => InterfaceDescriptionOption::IfTzone(n),
-            InterfaceDescriptionOption::IfFilter(held) => InterfaceDescriptionOption::IfFilter(
-                held.into_static(alloc)?,
-            ),
-            InterfaceDescriptionOption::IfOs(held) => InterfaceDescriptionOption::IfOs(
-                held.into_static(alloc)?,
-            ),
-            InterfaceDescriptionOption::IfFcsLen(n) => InterfaceDescriptionOption::IfFcsLen(n),
-            InterfaceDescriptionOption::IfTsOffset(n) => InterfaceDescriptionOption::IfTsOffset(n),
-            InterfaceDescriptionOption::IfHardware(held) => InterfaceDescriptionOption::IfHardware(
-                held.into_static(alloc)?,
-            ),
-            InterfaceDescriptionOption::CustomBinary(held) =>
-                InterfaceDescriptionOption::CustomBinary(held.into_static(alloc)?),
-            InterfaceDescriptionOption::CustomUtf8(held) => InterfaceDescriptionOption::CustomUtf8(
-                held.into_static(alloc)?,
-            ),
-            InterfaceDescriptionOption::Unknown(held) => InterfaceDescriptionOption::Unknown(
-                held.into_static(alloc)?,
-            ),
-        })
+        interface_options!(kept_option self alloc)
     }
 }
 
@@ -236,18 +178,8 @@ impl<'a> IntoStatic for InterfaceDescriptionBlock<'a> {
 
     ghost needs_no_memory = { InterfaceNeedsNoMemory };
 
+    #[tactic(auto, using(pcap_core::proofs::Kept::map_kept))]
     fn into_static(self, alloc: Global) -> Result<InterfaceDescriptionBlock<'static>, AllocError> {
-        let InterfaceDescriptionBlock {
-            linktype,
-            reserved,
-            snaplen,
-            options,
-        } = self;
-        Ok(InterfaceDescriptionBlock {
-            linktype,
-            reserved,
-            snaplen,
-            options: each_into_static(alloc, options)?,
-        })
+        kept_fields!(self alloc InterfaceDescriptionBlock { linktype reserved snaplen } each { options })
     }
 }

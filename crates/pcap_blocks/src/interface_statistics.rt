@@ -6,11 +6,13 @@ ghost use Rattle.pcap_blocks.specs.Refusal.{FindsWhere};
 ghost use Rattle.pcap_blocks.specs.InterfaceStatistics.{interface_statistics, StatisticsSays, statistics_entry, StatisticsOptionIsBorrowed, statistics_of, StatisticsIsBorrowed, StatisticsOptionIsOwned, StatisticsIsOwned, StatisticsNeedsNoMemory, StatisticsMayGrow};
 ghost use Rattle.pcap_core.specs.Errors.{IsMemory};
 
+use crate::kinds::{kept_option, read_option};
 use crate::options::{
     CustomBinaryOption, CustomUtf8Option, PcapNgOption, UnknownOption, options_from_slice,
 };
-use crate::owned::{IntoStatic, each_into_static};
+use crate::owned::{IntoStatic, kept_fields};
 use crate::refusal::Refusal;
+use crate::statistics_options;
 use crate::time::split_time;
 use crate::values::{first_number, first_time, string_value};
 use byteorder::ByteOrder;
@@ -118,19 +120,7 @@ impl<'a> PcapNgOption<'a> for InterfaceStatisticsOption<'a> {
     ghost is_borrowed = { StatisticsOptionIsBorrowed };
 
     fn from_value<B: ByteOrder>(code: u16, len: u16, value: &'a [u8]) -> Result<Self, Refusal> {
-        Ok(match code {
-            1 => Self::Comment(string_value(value)?),
-            2 => Self::IsbStartTime(first_time::<B>(value)?),
-            3 => Self::IsbEndTime(first_time::<B>(value)?),
-            4 => Self::IsbIfRecv(first_number::<B>(value)?),
-            5 => Self::IsbIfDrop(first_number::<B>(value)?),
-            6 => Self::IsbFilterAccept(first_number::<B>(value)?),
-            7 => Self::IsbOsDrop(first_number::<B>(value)?),
-            8 => Self::IsbUsrDeliv(first_number::<B>(value)?),
-            2988 | 19372 => Self::CustomUtf8(CustomUtf8Option::read::<B>(code, value)?),
-            2989 | 19373 => Self::CustomBinary(CustomBinaryOption::read::<B>(code, value)?),
-            _ => Self::Unknown(UnknownOption::new(code, len, value)),
-        })
+        statistics_options!(read_option B code len value)
     }
 }
 
@@ -158,29 +148,7 @@ impl<'a> IntoStatic for InterfaceStatisticsOption<'a> {
     ghost needs_no_memory = { StatisticsOptionIsOwned };
 
     fn into_static(self, alloc: Global) -> Result<InterfaceStatisticsOption<'static>, AllocError> {
-        Ok(match self {
-            InterfaceStatisticsOption::Comment(held) => InterfaceStatisticsOption::Comment(
-                held.into_static(alloc)?,
-            ),
-            InterfaceStatisticsOption::IsbStartTime(n) => InterfaceStatisticsOption::IsbStartTime(
-                n,
-            ),
-            InterfaceStatisticsOption::IsbEndTime(n) => InterfaceStatisticsOption::IsbEndTime(n),
-            InterfaceStatisticsOption::IsbIfRecv(n) => InterfaceStatisticsOption::IsbIfRecv(n),
-            InterfaceStatisticsOption::IsbIfDrop(n) => InterfaceStatisticsOption::IsbIfDrop(n),
-            InterfaceStatisticsOption::IsbFilterAccept(n) =>
-                InterfaceStatisticsOption::IsbFilterAccept(n),
-            InterfaceStatisticsOption::IsbOsDrop(n) => InterfaceStatisticsOption::IsbOsDrop(n),
-            InterfaceStatisticsOption::IsbUsrDeliv(n) => InterfaceStatisticsOption::IsbUsrDeliv(n),
-            InterfaceStatisticsOption::CustomBinary(held) =>
-                InterfaceStatisticsOption::CustomBinary(held.into_static(alloc)?),
-            InterfaceStatisticsOption::CustomUtf8(held) => InterfaceStatisticsOption::CustomUtf8(
-                held.into_static(alloc)?,
-            ),
-            InterfaceStatisticsOption::Unknown(held) => InterfaceStatisticsOption::Unknown(
-                held.into_static(alloc)?,
-            ),
-        })
+        statistics_options!(kept_option self alloc)
     }
 }
 
@@ -193,16 +161,8 @@ impl<'a> IntoStatic for InterfaceStatisticsBlock<'a> {
 
     ghost needs_no_memory = { StatisticsNeedsNoMemory };
 
+    #[tactic(auto, using(pcap_core::proofs::Kept::map_kept))]
     fn into_static(self, alloc: Global) -> Result<InterfaceStatisticsBlock<'static>, AllocError> {
-        let InterfaceStatisticsBlock {
-            interface_id,
-            timestamp,
-            options,
-        } = self;
-        Ok(InterfaceStatisticsBlock {
-            interface_id,
-            timestamp,
-            options: each_into_static(alloc, options)?,
-        })
+        kept_fields!(self alloc InterfaceStatisticsBlock { interface_id timestamp } each { options })
     }
 }

@@ -7,10 +7,12 @@ ghost use Rattle.pcap_blocks.specs.Record.{name_record_of, RecordIsBorrowed};
 ghost use Rattle.pcap_blocks.specs.NameResolution.{name_resolution, RecordsSay, ResolutionSays, name_entry, NameOptionIsBorrowed, names_of, ResolutionIsBorrowed, NameOptionIsOwned, ResolutionIsOwned, ResolutionNeedsNoMemory, ResolutionMayGrow, RecordsMayGrow};
 ghost use Rattle.pcap_core.specs.Errors.{IsMemory};
 
+use crate::kinds::{kept_option, read_option};
+use crate::name_options;
 use crate::options::{
     CustomBinaryOption, CustomUtf8Option, PcapNgOption, UnknownOption, options_from_slice,
 };
-use crate::owned::{IntoStatic, each_into_static};
+use crate::owned::{IntoStatic, kept_fields};
 use crate::record::Record;
 use crate::refusal::Refusal;
 use crate::values::{fixed_value, string_value};
@@ -120,15 +122,7 @@ impl<'a> PcapNgOption<'a> for NameResolutionOption<'a> {
     ghost is_borrowed = { NameOptionIsBorrowed };
 
     fn from_value<B: ByteOrder>(code: u16, len: u16, value: &'a [u8]) -> Result<Self, Refusal> {
-        Ok(match code {
-            1 => Self::Comment(string_value(value)?),
-            2 => Self::NsDnsName(string_value(value)?),
-            3 => Self::NsDnsIpv4Addr(fixed_value(value, 4, Rule::NameIpv4Length)?),
-            4 => Self::NsDnsIpv6Addr(fixed_value(value, 16, Rule::NameIpv6Length)?),
-            2988 | 19372 => Self::CustomUtf8(CustomUtf8Option::read::<B>(code, value)?),
-            2989 | 19373 => Self::CustomBinary(CustomBinaryOption::read::<B>(code, value)?),
-            _ => Self::Unknown(UnknownOption::new(code, len, value)),
-        })
+        name_options!(read_option B code len value)
     }
 }
 
@@ -156,29 +150,7 @@ impl<'a> IntoStatic for NameResolutionOption<'a> {
     ghost needs_no_memory = { NameOptionIsOwned };
 
     fn into_static(self, alloc: Global) -> Result<NameResolutionOption<'static>, AllocError> {
-        Ok(match self {
-            NameResolutionOption::Comment(held) => NameResolutionOption::Comment(held.into_static(
-                alloc,
-            )?),
-            NameResolutionOption::NsDnsName(held) => NameResolutionOption::NsDnsName(
-                held.into_static(alloc)?,
-            ),
-            NameResolutionOption::NsDnsIpv4Addr(held) => NameResolutionOption::NsDnsIpv4Addr(
-                held.into_static(alloc)?,
-            ),
-            NameResolutionOption::NsDnsIpv6Addr(held) => NameResolutionOption::NsDnsIpv6Addr(
-                held.into_static(alloc)?,
-            ),
-            NameResolutionOption::CustomBinary(held) => NameResolutionOption::CustomBinary(
-                held.into_static(alloc)?,
-            ),
-            NameResolutionOption::CustomUtf8(held) => NameResolutionOption::CustomUtf8(
-                held.into_static(alloc)?,
-            ),
-            NameResolutionOption::Unknown(held) => NameResolutionOption::Unknown(held.into_static(
-                alloc,
-            )?),
-        })
+        name_options!(kept_option self alloc)
     }
 }
 
@@ -191,11 +163,8 @@ impl<'a> IntoStatic for NameResolutionBlock<'a> {
 
     ghost needs_no_memory = { ResolutionNeedsNoMemory };
 
+    #[tactic(auto, using(pcap_core::proofs::Kept::map_kept))]
     fn into_static(self, alloc: Global) -> Result<NameResolutionBlock<'static>, AllocError> {
-        let NameResolutionBlock { records, options } = self;
-        Ok(NameResolutionBlock {
-            records: each_into_static(alloc, records)?,
-            options: each_into_static(alloc, options)?,
-        })
+        kept_fields!(self alloc NameResolutionBlock {} each { records options })
     }
 }

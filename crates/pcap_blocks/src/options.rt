@@ -9,7 +9,7 @@ ghost use Rattle.pcap_blocks.specs.Options.{may_end_with_body, OptionSays, ListS
 ghost use Rattle.pcap_blocks.specs.CommonOptions.{unknown_entry, custom_bytes_entry, custom_string_entry, UnknownIsBorrowed, CustomBytesIsBorrowed, CustomStringIsBorrowed, UnknownIsOwned, CustomBytesIsOwned, CustomStringIsOwned};
 ghost use Rattle.pcap_core.specs.Errors.{IsMemory};
 
-use crate::owned::IntoStatic;
+use crate::owned::{IntoStatic, kept_fields};
 use crate::refusal::Refusal;
 use crate::values::string_value;
 use byteorder::ByteOrder;
@@ -319,16 +319,7 @@ impl<'a> IntoStatic for UnknownOption<'a> {
     ghost needs_no_memory = { UnknownIsOwned };
 
     fn into_static(self, alloc: Global) -> Result<UnknownOption<'static>, AllocError> {
-        let UnknownOption {
-            code,
-            length,
-            value,
-        } = self;
-        Ok(UnknownOption {
-            code,
-            length,
-            value: value.into_static(alloc)?,
-        })
+        kept_fields!(self alloc UnknownOption { code length } held { value })
     }
 }
 
@@ -342,12 +333,7 @@ impl<'a> IntoStatic for CustomBinaryOption<'a> {
     ghost needs_no_memory = { CustomBytesIsOwned };
 
     fn into_static(self, alloc: Global) -> Result<CustomBinaryOption<'static>, AllocError> {
-        let CustomBinaryOption { code, pen, value } = self;
-        Ok(CustomBinaryOption {
-            code,
-            pen,
-            value: value.into_static(alloc)?,
-        })
+        kept_fields!(self alloc CustomBinaryOption { code pen } held { value })
     }
 }
 
@@ -361,11 +347,6 @@ impl<'a> IntoStatic for CustomUtf8Option<'a> {
     ghost needs_no_memory = { CustomStringIsOwned };
 
     fn into_static(self, alloc: Global) -> Result<CustomUtf8Option<'static>, AllocError> {
-        let CustomUtf8Option { code, pen, value } = self;
-        Ok(CustomUtf8Option {
-            code,
-            pen,
-            value: value.into_static(alloc)?,
-        })
+        kept_fields!(self alloc CustomUtf8Option { code pen } held { value })
     }
 }

@@ -29,6 +29,20 @@ pub(crate) trait IntoStatic: Sized {
         ensures kept { needs_no_memory self → IsOk result };
 }
 
+// A value with all its fields: those that borrow nothing, those that are kept, and lists whose values are.
+macro_rules! kept_fields {
+    ($value:tt $alloc:ident $name:ident { $($plain:ident)* } $(held { $($held:ident)* })? $(each { $($list:ident)* })?) => {{
+        let $name { $($plain,)* $($($held,)*)? $($($list,)*)? } = $value;
+        Ok($name {
+            $($plain,)*
+            $($($held: $held.into_static($alloc)?,)*)?
+            $($($list: $crate::owned::each_into_static($alloc, $list)?,)*)?
+        })
+    }};
+}
+
+pub(crate) use kept_fields;
+
 // Each value of a list, kept.
 pub(crate) fn each_into_static<T: IntoStatic<Owned: Drop> + Drop>(
     alloc: Global,

@@ -7,10 +7,12 @@ ghost use Rattle.pcap_blocks.specs.Options.{may_end_with_body, ListSays, Options
 ghost use Rattle.pcap_blocks.specs.Packet.{packet_kind, PacketBodySays, packet_entry, PacketOptionIsBorrowed, packet_of, PacketIsBorrowed, PacketOptionIsOwned, PacketIsOwned, PacketNeedsNoMemory, PacketBodyMayGrow};
 ghost use Rattle.pcap_core.specs.Errors.{IsMemory};
 
+use crate::kinds::{kept_option, read_option};
 use crate::options::{
     CustomBinaryOption, CustomUtf8Option, PcapNgOption, UnknownOption, options_from_slice,
 };
-use crate::owned::{IntoStatic, each_into_static};
+use crate::owned::{IntoStatic, kept_fields};
+use crate::packet_options;
 use crate::refusal::Refusal;
 use crate::stored_packet::stored_from_slice;
 use crate::values::{string_value, u32_value};
@@ -153,14 +155,7 @@ impl<'a> PcapNgOption<'a> for PacketOption<'a> {
     ghost is_borrowed = { PacketOptionIsBorrowed };
 
     fn from_value<B: ByteOrder>(code: u16, len: u16, value: &'a [u8]) -> Result<Self, Refusal> {
-        Ok(match code {
-            1 => Self::Comment(string_value(value)?),
-            2 => Self::Flags(u32_value::<B>(value, Rule::PacketFlagsLength)?),
-            3 => Self::Hash(CowBytes::Borrowed(value)),
-            2988 | 19372 => Self::CustomUtf8(CustomUtf8Option::read::<B>(code, value)?),
-            2989 | 19373 => Self::CustomBinary(CustomBinaryOption::read::<B>(code, value)?),
-            _ => Self::Unknown(UnknownOption::new(code, len, value)),
-        })
+        packet_options!(read_option B code len value)
     }
 }
 
@@ -174,16 +169,7 @@ impl<'a> IntoStatic for PacketOption<'a> {
     ghost needs_no_memory = { PacketOptionIsOwned };
 
     fn into_static(self, alloc: Global) -> Result<PacketOption<'static>, AllocError> {
-        Ok(match self {
-            PacketOption::Comment(held) => PacketOption::Comment(held.into_static(alloc)?),
-            PacketOption::Flags(n) => PacketOption::Flags(n),
-            PacketOption::Hash(held) => PacketOption::Hash(held.into_static(alloc)?),
-            PacketOption::CustomBinary(held) => PacketOption::CustomBinary(held.into_static(
-                alloc,
-            )?),
-            PacketOption::CustomUtf8(held) => PacketOption::CustomUtf8(held.into_static(alloc)?),
-            PacketOption::Unknown(held) => PacketOption::Unknown(held.into_static(alloc)?),
-        })
+        packet_options!(kept_option self alloc)
     }
 }
 
@@ -196,24 +182,8 @@ impl<'a> IntoStatic for PacketBlock<'a> {
 
     ghost needs_no_memory = { PacketNeedsNoMemory };
 
+    #[tactic(auto, using(pcap_core::proofs::Kept::map_kept))]
     fn into_static(self, alloc: Global) -> Result<PacketBlock<'static>, AllocError> {
-        let PacketBlock {
-            interface_id,
-            drop_count,
-            timestamp,
-            captured_len,
-            original_len,
-            data_,
-            options,
-        } = self;
-        Ok(PacketBlock {
-            interface_id,
-            drop_count,
-            timestamp,
-            captured_len,
-            original_len,
-            data_: data_.into_static(alloc)?,
-            options: each_into_static(alloc, options)?,
-        })
+        kept_fields!(self alloc PacketBlock { interface_id drop_count timestamp captured_len original_len } held { data_ } each { options })
     }
 }

@@ -37,6 +37,23 @@ pub enum ParsedBlock<'a> {
     Unknown(UnknownBlock<'a>),
 }
 
+// What was read as a body of this type, as one of any type.
+macro_rules! made {
+    ($type:ident $read:expr) => {{
+        let (rest, block) = $read;
+        Ok((rest, ParsedBlock::$type(block)))
+    }};
+}
+
+// A body that is kept, of one of these types.
+macro_rules! kept_body {
+    ($body:tt $alloc:ident $($type:ident)*) => {
+        Ok(match $body {
+            $(ParsedBlock::$type(held) => ParsedBlock::$type(held.into_static($alloc)?),)*
+        })
+    };
+}
+
 impl<'a> ParsedBlock<'a> {
     /// The body of a block of this type, and what follows it. Strings and bytes are borrowed from the slice.
     ///
@@ -64,38 +81,20 @@ impl<'a> ParsedBlock<'a> {
         ensures borrowed { IfOk result (λ x. ParsedIsBorrowed x.1) }
     {
         match type_ {
-            BlockType::SectionHeader => {
-                let (rest, block) = SectionHeaderBlock::read(alloc, slice)?;
-                Ok((rest, ParsedBlock::SectionHeader(block)))
-            }
-            BlockType::InterfaceDescription => {
-                let (rest, block) = InterfaceDescriptionBlock::read::<B>(alloc, slice)?;
-                Ok((rest, ParsedBlock::InterfaceDescription(block)))
-            }
-            BlockType::Packet => {
-                let (rest, block) = PacketBlock::read::<B>(alloc, slice)?;
-                Ok((rest, ParsedBlock::Packet(block)))
-            }
-            BlockType::SimplePacket => {
-                let (rest, block) = SimplePacketBlock::read::<B>(slice)?;
-                Ok((rest, ParsedBlock::SimplePacket(block)))
-            }
-            BlockType::NameResolution => {
-                let (rest, block) = NameResolutionBlock::read::<B>(alloc, slice)?;
-                Ok((rest, ParsedBlock::NameResolution(block)))
-            }
-            BlockType::InterfaceStatistics => {
-                let (rest, block) = InterfaceStatisticsBlock::read::<B>(alloc, slice)?;
-                Ok((rest, ParsedBlock::InterfaceStatistics(block)))
-            }
-            BlockType::EnhancedPacket => {
-                let (rest, block) = EnhancedPacketBlock::read::<B>(alloc, slice)?;
-                Ok((rest, ParsedBlock::EnhancedPacket(block)))
-            }
-            BlockType::SystemdJournalExport => {
-                let (rest, block) = SystemdJournalExportBlock::read(slice);
-                Ok((rest, ParsedBlock::SystemdJournalExport(block)))
-            }
+            BlockType::SectionHeader =>
+                made!(SectionHeader SectionHeaderBlock::read(alloc, slice)?),
+            BlockType::InterfaceDescription =>
+                made!(InterfaceDescription InterfaceDescriptionBlock::read::<B>(alloc, slice)?),
+            BlockType::Packet => made!(Packet PacketBlock::read::<B>(alloc, slice)?),
+            BlockType::SimplePacket => made!(SimplePacket SimplePacketBlock::read::<B>(slice)?),
+            BlockType::NameResolution =>
+                made!(NameResolution NameResolutionBlock::read::<B>(alloc, slice)?),
+            BlockType::InterfaceStatistics =>
+                made!(InterfaceStatistics InterfaceStatisticsBlock::read::<B>(alloc, slice)?),
+            BlockType::EnhancedPacket =>
+                made!(EnhancedPacket EnhancedPacketBlock::read::<B>(alloc, slice)?),
+            BlockType::SystemdJournalExport =>
+                made!(SystemdJournalExport SystemdJournalExportBlock::read(slice)),
             BlockType::Unknown(_) => {
                 let Ok(len) = u32::try_from(slice.len()) else {
                     return Err(Refusal::Invalid(Rule::UnknownTooLong));
@@ -151,28 +150,6 @@ impl<'a> IntoStatic for ParsedBlock<'a> {
     ghost needs_no_memory = { ParsedNeedsNoMemory };
 
     fn into_static(self, alloc: Global) -> Result<ParsedBlock<'static>, AllocError> {
-        Ok(match self {
-            ParsedBlock::SectionHeader(held) => ParsedBlock::SectionHeader(held.into_static(
-                alloc,
-            )?),
-            ParsedBlock::InterfaceDescription(held) => ParsedBlock::InterfaceDescription(
-                held.into_static(alloc)?,
-            ),
-            ParsedBlock::Packet(held) => ParsedBlock::Packet(held.into_static(alloc)?),
-            ParsedBlock::SimplePacket(held) => ParsedBlock::SimplePacket(held.into_static(alloc)?),
-            ParsedBlock::NameResolution(held) => ParsedBlock::NameResolution(held.into_static(
-                alloc,
-            )?),
-            ParsedBlock::InterfaceStatistics(held) => ParsedBlock::InterfaceStatistics(
-                held.into_static(alloc)?,
-            ),
-            ParsedBlock::EnhancedPacket(held) => ParsedBlock::EnhancedPacket(held.into_static(
-                alloc,
-            )?),
-            ParsedBlock::SystemdJournalExport(held) => ParsedBlock::SystemdJournalExport(
-                held.into_static(alloc)?,
-            ),
-            ParsedBlock::Unknown(held) => ParsedBlock::Unknown(held.into_static(alloc)?),
-        })
+        kept_body!(self alloc SectionHeader InterfaceDescription Packet SimplePacket NameResolution InterfaceStatistics EnhancedPacket SystemdJournalExport Unknown)
     }
 }

@@ -8,7 +8,7 @@ ghost use Rattle.pcap_blocks.specs.Record.{AddressSays, address_of, AddressIsBor
 ghost use Rattle.pcap_core.specs.Errors.{IsMemory};
 
 use crate::names::names_from_slice;
-use crate::owned::{IntoStatic, each_into_static};
+use crate::owned::{IntoStatic, kept_fields};
 use crate::refusal::Refusal;
 use byteorder::ByteOrder;
 use pcap_core::fields::{split_padded, split_u16};
@@ -228,12 +228,9 @@ impl<'a> IntoStatic for Ipv4Record<'a> {
 
     ghost needs_no_memory = { Ipv4NeedsNoMemory };
 
+    #[tactic(auto, using(pcap_core::proofs::Kept::map_kept))]
     fn into_static(self, alloc: Global) -> Result<Ipv4Record<'static>, AllocError> {
-        let Ipv4Record { ip_addr, names } = self;
-        Ok(Ipv4Record {
-            ip_addr: ip_addr.into_static(alloc)?,
-            names: each_into_static(alloc, names)?,
-        })
+        kept_fields!(self alloc Ipv4Record {} held { ip_addr } each { names })
     }
 }
 
@@ -246,12 +243,9 @@ impl<'a> IntoStatic for Ipv6Record<'a> {
 
     ghost needs_no_memory = { Ipv6NeedsNoMemory };
 
+    #[tactic(auto, using(pcap_core::proofs::Kept::map_kept))]
     fn into_static(self, alloc: Global) -> Result<Ipv6Record<'static>, AllocError> {
-        let Ipv6Record { ip_addr, names } = self;
-        Ok(Ipv6Record {
-            ip_addr: ip_addr.into_static(alloc)?,
-            names: each_into_static(alloc, names)?,
-        })
+        kept_fields!(self alloc Ipv6Record {} held { ip_addr } each { names })
     }
 }
 
@@ -279,16 +273,7 @@ impl<'a> IntoStatic for UnknownRecord<'a> {
     ghost needs_no_memory = { UnknownRecordIsOwned };
 
     fn into_static(self, alloc: Global) -> Result<UnknownRecord<'static>, AllocError> {
-        let UnknownRecord {
-            type_,
-            length,
-            value,
-        } = self;
-        Ok(UnknownRecord {
-            type_,
-            length,
-            value: value.into_static(alloc)?,
-        })
+        kept_fields!(self alloc UnknownRecord { type_ length } held { value })
     }
 }
 

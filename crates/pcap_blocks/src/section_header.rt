@@ -6,11 +6,13 @@ ghost use Rattle.pcap_blocks.specs.Refusal.{FindsWhere};
 ghost use Rattle.pcap_blocks.specs.SectionHeader.{section_header, magic_order, SectionSays, AfterMagicSays, section_entry, SectionOptionIsBorrowed, section_of, SectionIsBorrowed, SectionOptionIsOwned, SectionIsOwned, SectionNeedsNoMemory, SectionMayGrow, AfterMagicMayGrow};
 ghost use Rattle.pcap_core.specs.Errors.{IsMemory};
 
+use crate::kinds::{kept_option, read_option};
 use crate::options::{
     CustomBinaryOption, CustomUtf8Option, PcapNgOption, UnknownOption, options_from_slice,
 };
-use crate::owned::{IntoStatic, each_into_static};
+use crate::owned::{IntoStatic, kept_fields};
 use crate::refusal::Refusal;
+use crate::section_options;
 use crate::values::string_value;
 use byteorder::{BigEndian, ByteOrder, LittleEndian};
 use pcap_core::fields::{split_u16, split_u32, split_u64};
@@ -148,15 +150,7 @@ impl<'a> PcapNgOption<'a> for SectionHeaderOption<'a> {
     ghost is_borrowed = { SectionOptionIsBorrowed };
 
     fn from_value<B: ByteOrder>(code: u16, len: u16, value: &'a [u8]) -> Result<Self, Refusal> {
-        Ok(match code {
-            1 => Self::Comment(string_value(value)?),
-            2 => Self::Hardware(string_value(value)?),
-            3 => Self::OS(string_value(value)?),
-            4 => Self::UserApplication(string_value(value)?),
-            2988 | 19372 => Self::CustomUtf8(CustomUtf8Option::read::<B>(code, value)?),
-            2989 | 19373 => Self::CustomBinary(CustomBinaryOption::read::<B>(code, value)?),
-            _ => Self::Unknown(UnknownOption::new(code, len, value)),
-        })
+        section_options!(read_option B code len value)
     }
 }
 
@@ -184,27 +178,7 @@ impl<'a> IntoStatic for SectionHeaderOption<'a> {
     ghost needs_no_memory = { SectionOptionIsOwned };
 
     fn into_static(self, alloc: Global) -> Result<SectionHeaderOption<'static>, AllocError> {
-        Ok(match self {
-            SectionHeaderOption::Comment(held) => SectionHeaderOption::Comment(held.into_static(
-                alloc,
-            )?),
-            SectionHeaderOption::Hardware(held) => SectionHeaderOption::Hardware(held.into_static(
-                alloc,
-            )?),
-            SectionHeaderOption::OS(held) => SectionHeaderOption::OS(held.into_static(alloc)?),
-            SectionHeaderOption::UserApplication(held) => SectionHeaderOption::UserApplication(
-                held.into_static(alloc)?,
-            ),
-            SectionHeaderOption::CustomBinary(held) => SectionHeaderOption::CustomBinary(
-                held.into_static(alloc)?,
-            ),
-            SectionHeaderOption::CustomUtf8(held) => SectionHeaderOption::CustomUtf8(
-                held.into_static(alloc)?,
-            ),
-            SectionHeaderOption::Unknown(held) => SectionHeaderOption::Unknown(held.into_static(
-                alloc,
-            )?),
-        })
+        section_options!(kept_option self alloc)
     }
 }
 
@@ -217,20 +191,8 @@ impl<'a> IntoStatic for SectionHeaderBlock<'a> {
 
     ghost needs_no_memory = { SectionNeedsNoMemory };
 
+    #[tactic(auto, using(pcap_core::proofs::Kept::map_kept))]
     fn into_static(self, alloc: Global) -> Result<SectionHeaderBlock<'static>, AllocError> {
-        let SectionHeaderBlock {
-            magic,
-            major_version,
-            minor_version,
-            section_length,
-            options,
-        } = self;
-        Ok(SectionHeaderBlock {
-            magic,
-            major_version,
-            minor_version,
-            section_length,
-            options: each_into_static(alloc, options)?,
-        })
+        kept_fields!(self alloc SectionHeaderBlock { magic major_version minor_version section_length } each { options })
     }
 }

@@ -6,7 +6,7 @@ ghost use Rattle.pcap_blocks.specs.Refusal.{Finds};
 ghost use Rattle.pcap_blocks.specs.SimplePacket.{SimpleSays, simple_of, SimpleIsBorrowed, SimpleIsOwned};
 ghost use Rattle.pcap_core.specs.Errors.{IsMemory};
 
-use crate::owned::IntoStatic;
+use crate::owned::{IntoStatic, kept_fields};
 use crate::refusal::Refusal;
 use byteorder::ByteOrder;
 use pcap_core::fields::split_u32;
@@ -72,13 +72,6 @@ impl<'a> IntoStatic for SimplePacketBlock<'a> {
     ghost needs_no_memory = { SimpleIsOwned };
 
     fn into_static(self, alloc: Global) -> Result<SimplePacketBlock<'static>, AllocError> {
-        let SimplePacketBlock {
-            original_len,
-            data_,
-        } = self;
-        Ok(SimplePacketBlock {
-            original_len,
-            data_: data_.into_static(alloc)?,
-        })
+        kept_fields!(self alloc SimplePacketBlock { original_len } held { data_ })
     }
 }

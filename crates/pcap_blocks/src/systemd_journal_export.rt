@@ -5,7 +5,7 @@ ghost use Rattle.pcap_core.specs.Answer.{Tells, whole};
 ghost use Rattle.pcap_blocks.specs.SystemdJournalExport.{JournalSays, journal_of, JournalIsBorrowed, JournalIsOwned};
 ghost use Rattle.pcap_core.specs.Errors.{IsMemory};
 
-use crate::owned::IntoStatic;
+use crate::owned::{IntoStatic, kept_fields};
 use byteorder::ByteOrder;
 use pcap_core::{CowBytes, ResultParsing};
 use std::alloc::{AllocError, Global};
@@ -59,9 +59,6 @@ impl<'a> IntoStatic for SystemdJournalExportBlock<'a> {
     ghost needs_no_memory = { JournalIsOwned };
 
     fn into_static(self, alloc: Global) -> Result<SystemdJournalExportBlock<'static>, AllocError> {
-        let SystemdJournalExportBlock { journal_entry } = self;
-        Ok(SystemdJournalExportBlock {
-            journal_entry: journal_entry.into_static(alloc)?,
-        })
+        kept_fields!(self alloc SystemdJournalExportBlock {} held { journal_entry })
     }
 }

@@ -5,7 +5,7 @@ ghost use Rattle.pcap_blocks.specs.UnknownBlock.{unknown_of, UnknownBlockIsBorro
 ghost use Rattle.pcap_core.specs.Errors.{IsMemory};
 
 use crate::block_type::BlockType;
-use crate::owned::IntoStatic;
+use crate::owned::{IntoStatic, kept_fields};
 use pcap_core::{CowBytes, ResultParsing};
 use std::alloc::{AllocError, Global};
 
@@ -56,15 +56,6 @@ impl<'a> IntoStatic for UnknownBlock<'a> {
     ghost needs_no_memory = { UnknownBlockIsOwned };
 
     fn into_static(self, alloc: Global) -> Result<UnknownBlock<'static>, AllocError> {
-        let UnknownBlock {
-            type_,
-            length,
-            value,
-        } = self;
-        Ok(UnknownBlock {
-            type_,
-            length,
-            value: value.into_static(alloc)?,
-        })
+        kept_fields!(self alloc UnknownBlock { type_ length } held { value })
     }
 }

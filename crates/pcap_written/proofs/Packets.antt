@@ -1,7 +1,7 @@
 -- Packets that are written without memory.
-use Rattle.std.proofs.Common.{◌≡◌, ℕ, ◌<◌, ◌≤◌, ◌+◌, ◌-◌, ◌/◌, ◌%◌, ◌^◌, List, [], ◌∷◌, ◌++◌, length, take, drop, refl, sym, subst, ◌∙◌, append_assoc, append-nil, length-append, arith, zero, suc, Option, Result, Ok, Err}
+use Rattle.std.proofs.Common.{◌≡◌, ℕ, ◌<◌, ◌≤◌, ◌+◌, ◌-◌, ◌/◌, ◌%◌, ◌^◌, List, [], ◌∷◌, ◌++◌, length, take, drop, refl, sym, ap, subst, ◌∙◌, append_assoc, append-nil, length-append, arith, zero, suc, Option, Result, Ok, Err}
 use Rattle.std.specs.Prelude.{false, true, MatchResult}
-use Rattle.std.proofs.lemmas.List.{length-take-le}
+use Rattle.std.proofs.lemmas.List.{length-drop, length-take-le, take_all}
 use Rattle.std.proofs.lemmas.Option.{same_Some}
 use Rattle.pcap_core.specs.declared.common.Endianness.{Endianness}
 use Rattle.pcap_core.specs.declared.errors.PcapError.{PcapError}
@@ -64,16 +64,48 @@ module _ (write : Encoder) (wide : (w n : ℕ) → length (write w n) ≡ w) (id
       let all : len ≡ length (enhanced_text write (plain_packet id time original bytes)) + 12 = omega (arith, is, plain_length) in
       rw (sym all) (simp (append_assoc, append-nil))
 
--- three writes, one behind the other, up to the one that fails
-module _ (first second third text : List ℕ) (is : (first ++ second) ++ third ≡ text) (a b c d : Option (List ℕ)) where
-  pub first_tears : (e : PcapError) → WritesAll a b first (Err e) → WritesAll a b text (Err e)
-  first_tears e out = subst (λ (t : List ℕ). WritesAll a b t (Err e)) (sym (append_assoc first second third) ∙ is) (first_fails first (second ++ third) a b e out)
+-- A packet in three writes, one behind the other, up to the one that fails: what stands before its bytes, these, and what is left
+-- of three zero bytes before the length. Its padding and length are counted as the code does.
+module _ (write : Encoder) (wide : (w n : ℕ) → length (write w n) ≡ w) (id time original : ℕ) (bytes front : List ℕ) (a b c d : Option (List ℕ)) where
+  abbrev missing : ℕ
+  missing = (4 - length bytes % 4) % 4
 
-  pub second_tears : (e : PcapError) → Appends a b first → WritesAll b c second (Err e) → WritesAll a c text (Err e)
-  second_tears e went out = subst (λ (t : List ℕ). WritesAll a c t (Err e)) is (first_fails (first ++ second) third a c e (second_ends first second a b c (Err e) went out))
+  abbrev len : ℕ
+  len = length bytes + missing + 32
 
-  pub third_ends : (result : Result (Unit {0}) PcapError) → Appends a b first → Appends b c second → WritesAll c d third result → WritesAll a d text result
-  third_ends result went there out = subst (λ (t : List ℕ). WritesAll a d t result) is (second_ends (first ++ second) third a c d result (second_ends first second a b c (Ok tt) went there) out)
+  abbrev head : List ℕ
+  head = plain_head write len id (time / 2 ^ 32) (time % 2 ^ 32) (length bytes) original
+
+  abbrev tail : List ℕ
+  tail = padding (length bytes) ++ write 4 len
+
+  abbrev text : List ℕ
+  text = text_of write (EnhancedBody (plain_packet id time original bytes))
+
+  whole_is : (head ++ bytes) ++ tail ≡ text
+  whole_is = plain_text write wide id time original bytes len (omega arith)
+
+  pub first_tears : (e : PcapError) → front ≡ head → WritesAll a b front (Err e) → WritesAll a b text (Err e)
+  first_tears e is out =
+      subst (λ (t : List ℕ). WritesAll a b t (Err e)) (ap (λ (t : List ℕ). t ++ (bytes ++ tail)) is ∙ sym (append_assoc head bytes tail) ∙ whole_is) (first_fails front (bytes ++ tail) a b e out)
+
+  pub second_tears : (e : PcapError) → front ≡ head → Appends a b front → WritesAll b c bytes (Err e) → WritesAll a c text (Err e)
+  second_tears e is went out =
+      subst (λ (t : List ℕ). WritesAll a c t (Err e)) (ap (λ (t : List ℕ). (t ++ bytes) ++ tail) is ∙ whole_is) (first_fails (front ++ bytes) tail a c e (second_ends front bytes a b c (Err e) went out))
+
+  tail_is : (zeros : List ℕ) → zeros ≡ 0 ∷ 0 ∷ 0 ∷ write 4 len → take (7 - (3 - missing)) (drop (3 - missing) zeros) ≡ tail
+  tail_is zeros made =
+      let few : missing ≤ 3 = omega arith in
+      let some : missing ≡ up_to_4 (length bytes) - length bytes = omega arith in
+      let long : length zeros ≡ 7 = omega (arith, ap length made, wide 4 len) in
+      take_all (7 - (3 - missing)) (drop (3 - missing) zeros) (omega (arith, long, length-drop (3 - missing) zeros)) ∙ ap (drop (3 - missing)) made ∙ tail_left missing (write 4 len) few
+      ∙ ap (λ (k : ℕ). take k (0 ∷ 0 ∷ 0 ∷ []) ++ write 4 len) some
+
+  pub third_ends : (result : Result (Unit {0}) PcapError) (zeros : List ℕ) → front ≡ head → zeros ≡ 0 ∷ 0 ∷ 0 ∷ write 4 len → Appends a b front → Appends b c bytes → WritesAll c d (take (7 - (3 - missing)) (drop (3 - missing) zeros)) result → WritesAll a d text result
+  third_ends result zeros is made went there out =
+      let last = take (7 - (3 - missing)) (drop (3 - missing) zeros) in
+      let parts : (front ++ bytes) ++ last ≡ text = ap (λ (t : List ℕ). (front ++ bytes) ++ t) (tail_is zeros made) ∙ ap (λ (t : List ℕ). (t ++ bytes) ++ tail) is ∙ whole_is in
+      subst (λ (t : List ℕ). WritesAll a d t result) parts (second_ends (front ++ bytes) last a c d result (second_ends front bytes a b c (Ok tt) went there) out)
 
 -- what stands against a block here is told, and nothing goes out
 pub refused_here : {W : Type 0} (contents : W → Option (List ℕ)) (w : PcapNgWriter W) (body : Body) (flaw : Unwritable) → has_failed w ≡ false → IsKept contents w w → BlockFlaw (place_of w) body flaw

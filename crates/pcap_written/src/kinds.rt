@@ -11,9 +11,43 @@ use crate::form::Form;
 use crate::options::WrittenOption;
 use pcap_blocks::{
     EnhancedPacketOption, InterfaceDescriptionOption, InterfaceStatisticsOption,
-    NameResolutionOption, PacketOption, SectionHeaderOption,
+    NameResolutionOption, PacketOption, SectionHeaderOption, enhanced_options, interface_options,
+    name_options, packet_options, section_options, statistics_options,
 };
 use pcap_core::rules::Rule;
+
+// The code and the form of an option, over the rows of its kind.
+macro_rules! coded_option {
+    ($option:tt; $kind:ident; $($name:ident $number:literal $shape:ident $(($($of:tt)*))?;)*) => {
+        match $option {
+            $(Self::$name(value) => Some(($number, form!($shape value $($($of)*)?))),)*
+            Self::CustomBinary(option) => match option.code() {
+                code @ (2989 | 19373) => Some((code, Form::Custom(option.pen(), option.value()))),
+                _ => None,
+            },
+            Self::CustomUtf8(option) => match option.code() {
+                code @ (2988 | 19372) => Some((code, Form::Custom(option.pen(), option.value().as_bytes()))),
+                _ => None,
+            },
+            Self::Unknown(option) => match option.code() {
+                0 $(| $number)* | 2988 | 2989 | 19372 | 19373 => None,
+                code => Some((code, Form::Unknown(option.length(), option.value()))),
+            },
+        }
+    };
+}
+
+macro_rules! form {
+    (string $text:ident) => { Form::Bytes($text.as_bytes()) };
+    (bytes $bytes:ident) => { Form::Bytes($bytes.as_slice()) };
+    (some_bytes $bytes:ident $empty:ident) => { Form::Filled(Rule::$empty, $bytes.as_slice()) };
+    (fixed_bytes $bytes:ident $n:literal $wrong:ident) => { Form::Sized($n, Rule::$wrong, $bytes.as_slice()) };
+    (byte $n:ident $wrong:ident) => { Form::Byte(*$n) };
+    (number4 $n:ident $wrong:ident) => { Form::Number32(*$n) };
+    (number8 $n:ident $wrong:ident) => { Form::Number64(*$n) };
+    (first_number $n:ident) => { Form::Number64(*$n) };
+    (first_time $n:ident) => { Form::Time(*$n) };
+}
 
 impl<'a> WrittenOption for SectionHeaderOption<'a> {
     ghost kind = { section_header };
@@ -21,27 +55,7 @@ impl<'a> WrittenOption for SectionHeaderOption<'a> {
     ghost view = { section_entry };
 
     fn coded(&self) -> Option<(u16, Form<'_>)> {
-        match self {
-            Self::Comment(text) => Some((1, Form::Bytes(text.as_bytes()))),
-            Self::Hardware(text) => Some((2, Form::Bytes(text.as_bytes()))),
-            Self::OS(text) => Some((3, Form::Bytes(text.as_bytes()))),
-            Self::UserApplication(text) => Some((4, Form::Bytes(text.as_bytes()))),
-            Self::CustomBinary(option) => match option.code() {
-                code @ (2989 | 19373) => Some((code, Form::Custom(option.pen(), option.value()))),
-                _ => None,
-            },
-            Self::CustomUtf8(option) => match option.code() {
-                code @ (2988 | 19372) => Some((
-                    code,
-                    Form::Custom(option.pen(), option.value().as_bytes()),
-                )),
-                _ => None,
-            },
-            Self::Unknown(option) => match option.code() {
-                0..=4 | 2988 | 2989 | 19372 | 19373 => None,
-                code => Some((code, Form::Unknown(option.length(), option.value()))),
-            },
-        }
+        section_options!(coded_option self)
     }
 }
 
@@ -51,50 +65,7 @@ impl<'a> WrittenOption for InterfaceDescriptionOption<'a> {
     ghost view = { interface_entry };
 
     fn coded(&self) -> Option<(u16, Form<'_>)> {
-        match self {
-            Self::Comment(text) => Some((1, Form::Bytes(text.as_bytes()))),
-            Self::IfName(text) => Some((2, Form::Bytes(text.as_bytes()))),
-            Self::IfDescription(text) => Some((3, Form::Bytes(text.as_bytes()))),
-            Self::IfIpv4Addr(bytes) => Some((
-                4,
-                Form::Sized(8, Rule::InterfaceIpv4Length, bytes.as_slice()),
-            )),
-            Self::IfIpv6Addr(bytes) => Some((
-                5,
-                Form::Sized(17, Rule::InterfaceIpv6Length, bytes.as_slice()),
-            )),
-            Self::IfMacAddr(bytes) => Some((
-                6,
-                Form::Sized(6, Rule::InterfaceMacLength, bytes.as_slice()),
-            )),
-            Self::IfEuIAddr(n) => Some((7, Form::Number64(*n))),
-            Self::IfSpeed(n) => Some((8, Form::Number64(*n))),
-            Self::IfTsResol(n) => Some((9, Form::Byte(*n))),
-            Self::IfTzone(n) => Some((10, Form::Number32(*n))),
-            Self::IfFilter(bytes) => Some((
-                11,
-                Form::Filled(Rule::InterfaceFilterEmpty, bytes.as_slice()),
-            )),
-            Self::IfOs(text) => Some((12, Form::Bytes(text.as_bytes()))),
-            Self::IfFcsLen(n) => Some((13, Form::Byte(*n))),
-            Self::IfTsOffset(n) => Some((14, Form::Number64(*n))),
-            Self::IfHardware(text) => Some((15, Form::Bytes(text.as_bytes()))),
-            Self::CustomBinary(option) => match option.code() {
-                code @ (2989 | 19373) => Some((code, Form::Custom(option.pen(), option.value()))),
-                _ => None,
-            },
-            Self::CustomUtf8(option) => match option.code() {
-                code @ (2988 | 19372) => Some((
-                    code,
-                    Form::Custom(option.pen(), option.value().as_bytes()),
-                )),
-                _ => None,
-            },
-            Self::Unknown(option) => match option.code() {
-                0..=15 | 2988 | 2989 | 19372 | 19373 => None,
-                code => Some((code, Form::Unknown(option.length(), option.value()))),
-            },
-        }
+        interface_options!(coded_option self)
     }
 }
 
@@ -104,26 +75,7 @@ impl<'a> WrittenOption for PacketOption<'a> {
     ghost view = { packet_entry };
 
     fn coded(&self) -> Option<(u16, Form<'_>)> {
-        match self {
-            Self::Comment(text) => Some((1, Form::Bytes(text.as_bytes()))),
-            Self::Flags(n) => Some((2, Form::Number32(*n))),
-            Self::Hash(bytes) => Some((3, Form::Bytes(bytes.as_slice()))),
-            Self::CustomBinary(option) => match option.code() {
-                code @ (2989 | 19373) => Some((code, Form::Custom(option.pen(), option.value()))),
-                _ => None,
-            },
-            Self::CustomUtf8(option) => match option.code() {
-                code @ (2988 | 19372) => Some((
-                    code,
-                    Form::Custom(option.pen(), option.value().as_bytes()),
-                )),
-                _ => None,
-            },
-            Self::Unknown(option) => match option.code() {
-                0..=3 | 2988 | 2989 | 19372 | 19373 => None,
-                code => Some((code, Form::Unknown(option.length(), option.value()))),
-            },
-        }
+        packet_options!(coded_option self)
     }
 }
 
@@ -133,33 +85,7 @@ impl<'a> WrittenOption for NameResolutionOption<'a> {
     ghost view = { name_entry };
 
     fn coded(&self) -> Option<(u16, Form<'_>)> {
-        match self {
-            Self::Comment(text) => Some((1, Form::Bytes(text.as_bytes()))),
-            Self::NsDnsName(text) => Some((2, Form::Bytes(text.as_bytes()))),
-            Self::NsDnsIpv4Addr(bytes) => Some((
-                3,
-                Form::Sized(4, Rule::NameIpv4Length, bytes.as_slice()),
-            )),
-            Self::NsDnsIpv6Addr(bytes) => Some((
-                4,
-                Form::Sized(16, Rule::NameIpv6Length, bytes.as_slice()),
-            )),
-            Self::CustomBinary(option) => match option.code() {
-                code @ (2989 | 19373) => Some((code, Form::Custom(option.pen(), option.value()))),
-                _ => None,
-            },
-            Self::CustomUtf8(option) => match option.code() {
-                code @ (2988 | 19372) => Some((
-                    code,
-                    Form::Custom(option.pen(), option.value().as_bytes()),
-                )),
-                _ => None,
-            },
-            Self::Unknown(option) => match option.code() {
-                0..=4 | 2988 | 2989 | 19372 | 19373 => None,
-                code => Some((code, Form::Unknown(option.length(), option.value()))),
-            },
-        }
+        name_options!(coded_option self)
     }
 }
 
@@ -169,31 +95,7 @@ impl<'a> WrittenOption for InterfaceStatisticsOption<'a> {
     ghost view = { statistics_entry };
 
     fn coded(&self) -> Option<(u16, Form<'_>)> {
-        match self {
-            Self::Comment(text) => Some((1, Form::Bytes(text.as_bytes()))),
-            Self::IsbStartTime(n) => Some((2, Form::Time(*n))),
-            Self::IsbEndTime(n) => Some((3, Form::Time(*n))),
-            Self::IsbIfRecv(n) => Some((4, Form::Number64(*n))),
-            Self::IsbIfDrop(n) => Some((5, Form::Number64(*n))),
-            Self::IsbFilterAccept(n) => Some((6, Form::Number64(*n))),
-            Self::IsbOsDrop(n) => Some((7, Form::Number64(*n))),
-            Self::IsbUsrDeliv(n) => Some((8, Form::Number64(*n))),
-            Self::CustomBinary(option) => match option.code() {
-                code @ (2989 | 19373) => Some((code, Form::Custom(option.pen(), option.value()))),
-                _ => None,
-            },
-            Self::CustomUtf8(option) => match option.code() {
-                code @ (2988 | 19372) => Some((
-                    code,
-                    Form::Custom(option.pen(), option.value().as_bytes()),
-                )),
-                _ => None,
-            },
-            Self::Unknown(option) => match option.code() {
-                0..=8 | 2988 | 2989 | 19372 | 19373 => None,
-                code => Some((code, Form::Unknown(option.length(), option.value()))),
-            },
-        }
+        statistics_options!(coded_option self)
     }
 }
 
@@ -203,26 +105,6 @@ impl<'a> WrittenOption for EnhancedPacketOption<'a> {
     ghost view = { enhanced_entry };
 
     fn coded(&self) -> Option<(u16, Form<'_>)> {
-        match self {
-            Self::Comment(text) => Some((1, Form::Bytes(text.as_bytes()))),
-            Self::Flags(n) => Some((2, Form::Number32(*n))),
-            Self::Hash(bytes) => Some((3, Form::Bytes(bytes.as_slice()))),
-            Self::DropCount(n) => Some((4, Form::Number64(*n))),
-            Self::CustomBinary(option) => match option.code() {
-                code @ (2989 | 19373) => Some((code, Form::Custom(option.pen(), option.value()))),
-                _ => None,
-            },
-            Self::CustomUtf8(option) => match option.code() {
-                code @ (2988 | 19372) => Some((
-                    code,
-                    Form::Custom(option.pen(), option.value().as_bytes()),
-                )),
-                _ => None,
-            },
-            Self::Unknown(option) => match option.code() {
-                0..=4 | 2988 | 2989 | 19372 | 19373 => None,
-                code => Some((code, Form::Unknown(option.length(), option.value()))),
-            },
-        }
+        enhanced_options!(coded_option self)
     }
 }

@@ -14,6 +14,3 @@ pub returns-in_err-rest-clause-tells : goal.returns-in_err-rest-clause-tells
 returns-in_err-rest-clause-tells g c =
     let p = err_from_is_err_and c.from_residual.result c.from_residual.ensures.1 in
     rw (p.1, p.2) (denies_more c.in_err-rest.field-0.0 (holds_after 4 _ _ _ (behind_number c.split_u32-interface_id.ensures.number)) (enhanced_fails _ _ _ (behind_number c.split_u32-interface_id.ensures.number)) c.in_err-rest.ensures.tells)
-
-pub returns-clause-tells : goal.returns-clause-tells
-returns-clause-tells g c = record { after_interface = _; interface_is = c.split_u32-interface_id.ensures.number; packet_is = c.in_ok-rest.ensures.tells }

@@ -15,12 +15,3 @@ returns-in_err-rest-clause-tells g c =
     let p = err_from_is_err_and c.from_residual.result c.from_residual.ensures.1 in
     let head = behind_both (behind_number c.split_u16-interface_id.ensures.number) (behind_number c.split_u16-drop_count.ensures.number) in
     rw (p.1, p.2) (denies_more c.in_err-rest.field-0.0 (holds_after 4 _ _ _ head) (packet_fails _ _ _ head) c.in_err-rest.ensures.tells)
-
-pub returns-clause-tells : goal.returns-clause-tells
-returns-clause-tells g c = record {
-  after_interface = _;
-  after_drops = _;
-  interface_is = c.split_u16-interface_id.ensures.number;
-  drops_are = c.split_u16-drop_count.ensures.number;
-  packet_is = c.in_ok-rest.ensures.tells;
-}

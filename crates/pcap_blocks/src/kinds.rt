@@ -1,0 +1,78 @@
+//! What is done with an option of any kind, over the kind's rows.
+
+// The option of a code whose value is all of a slice.
+macro_rules! read_option {
+    ($order:ident $code:ident $len:ident $value:ident; $kind:ident; $($name:ident $number:literal $shape:ident $(($($of:tt)*))?;)*) => {
+        Ok(match $code {
+            $($number => Self::$name($crate::kinds::read_value!($shape $order $value $($($of)*)?)),)*
+            2988 | 19372 => Self::CustomUtf8(CustomUtf8Option::read::<$order>($code, $value)?),
+            2989 | 19373 => Self::CustomBinary(CustomBinaryOption::read::<$order>($code, $value)?),
+            _ => Self::Unknown(UnknownOption::new($code, $len, $value)),
+        })
+    };
+}
+
+macro_rules! read_value {
+    (string $order:ident $value:ident) => { $crate::values::string_value($value)? };
+    (bytes $order:ident $value:ident) => { CowBytes::Borrowed($value) };
+    (some_bytes $order:ident $value:ident $empty:ident) => { $crate::values::some_value($value, Rule::$empty)? };
+    (fixed_bytes $order:ident $value:ident $n:literal $wrong:ident) => { $crate::values::fixed_value($value, $n, Rule::$wrong)? };
+    (byte $order:ident $value:ident $wrong:ident) => { $crate::values::u8_value($value, Rule::$wrong)? };
+    (number4 $order:ident $value:ident $wrong:ident) => { $crate::values::u32_value::<$order>($value, Rule::$wrong)? };
+    (number8 $order:ident $value:ident $wrong:ident) => { $crate::values::u64_value::<$order>($value, Rule::$wrong)? };
+    (first_number $order:ident $value:ident) => { $crate::values::first_number::<$order>($value)? };
+    (first_time $order:ident $value:ident) => { $crate::values::first_time::<$order>($value)? };
+}
+
+// An option, lent.
+macro_rules! held_option {
+    ($option:tt; $kind:ident; $($name:ident $number:literal $shape:ident $(($($of:tt)*))?;)*) => {{
+        let (code, value) = match $option {
+            $(Self::$name(held) => ($number, $crate::kinds::held_value!($shape held)),)*
+            Self::CustomBinary(held) => (
+                held.code(),
+                HeldValue::CustomBytes(held.pen(), held.value()),
+            ),
+            Self::CustomUtf8(held) => (held.code(), HeldValue::CustomStr(held.pen(), held.value())),
+            Self::Unknown(held) => (held.code(), HeldValue::Unknown(held.length(), held.value())),
+        };
+        Held { code, value }
+    }};
+}
+
+macro_rules! held_value {
+    (string $held:ident) => { HeldValue::Str($held.as_str()) };
+    (byte $held:ident) => { HeldValue::Integer(u64::from(*$held)) };
+    (number4 $held:ident) => { HeldValue::Integer(u64::from(*$held)) };
+    (number8 $held:ident) => { HeldValue::Integer(*$held) };
+    (first_number $held:ident) => { HeldValue::Integer(*$held) };
+    (first_time $held:ident) => { HeldValue::Integer(*$held) };
+    ($bytes:ident $held:ident) => { HeldValue::Bytes($held.as_slice()) };
+}
+
+// An option that owns its string or bytes.
+macro_rules! kept_option {
+    ($option:tt $alloc:ident; $kind:ident; $($name:ident $number:literal $shape:ident $(($($of:tt)*))?;)*) => {
+        Ok(match $option {
+            $($kind::$name(held) => $kind::$name($crate::kinds::kept_value!($shape held $alloc)),)*
+            $kind::CustomBinary(held) => $kind::CustomBinary(held.into_static($alloc)?),
+            $kind::CustomUtf8(held) => $kind::CustomUtf8(held.into_static($alloc)?),
+            $kind::Unknown(held) => $kind::Unknown(held.into_static($alloc)?),
+        })
+    };
+}
+
+macro_rules! kept_value {
+    (string $held:ident $alloc:ident) => { $held.into_static($alloc)? };
+    (bytes $held:ident $alloc:ident) => { $held.into_static($alloc)? };
+    (some_bytes $held:ident $alloc:ident) => { $held.into_static($alloc)? };
+    (fixed_bytes $held:ident $alloc:ident) => { $held.into_static($alloc)? };
+    ($number:ident $held:ident $alloc:ident) => { $held };
+}
+
+pub(crate) use held_option;
+pub(crate) use held_value;
+pub(crate) use kept_option;
+pub(crate) use kept_value;
+pub(crate) use read_option;
+pub(crate) use read_value;
