@@ -19,25 +19,19 @@ use Rattle.pcap_parts.specs.Resume.{Fed, IsFed, RefusesOne}
 memory_alone : {V : Type 0} (IsSaid : Verdict V → Type 0) → ExactlyOne IsSaid → (Grows : Type 0) (v : V) (rest : List ℕ) → IsSaid (whole v rest)
     → (e : PcapError) → Refuses Grows (λ n. IsSaid (lacks n)) (λ fault. IsSaid (faulty fault)) e → IsMemory e
 memory_alone IsSaid one Grows v rest text (errors.OutOfMemory x) h = tt
-memory_alone IsSaid one Grows v rest text (errors.IncompleteBuffer n) h = absurd (said_not_refused IsSaid one v rest text (errors.IncompleteBuffer n) h)
-memory_alone IsSaid one Grows v rest text (errors.InvalidField t) h = absurd (said_not_refused IsSaid one v rest text (errors.InvalidField t) h)
-memory_alone IsSaid one Grows v rest text (errors.IoError e) h = absurd (said_not_refused IsSaid one v rest text (errors.IoError e) h)
-memory_alone IsSaid one Grows v rest text (errors.Utf8Error e) h = absurd (said_not_refused IsSaid one v rest text (errors.Utf8Error e) h)
-memory_alone IsSaid one Grows v rest text (errors.FromUtf8Error e) h = absurd h
-memory_alone IsSaid one Grows v rest text errors.WriterFailed h = absurd h
+memory_alone IsSaid one Grows v rest text e h = absurd (said_not_refused IsSaid one v rest text e h)
 
 -- of slices that were fed up to one, that one begins with an item
 next_fed : {S V : Type 0} (f : Format S V) → IsLawful f → (q : S) (vs ws : List V) (given others : List (List ℕ)) (s : List ℕ) → Fed f q vs (given ++ s ∷ others) → Fed f q ws given
     → (v : V) × (rest : List ℕ) × f.says (state_after f q ws) s (whole v rest)
-next_fed f laws q [] ws [] others s all some = absurd all
 next_fed f laws q (v ∷ vs) [] [] others s all some = (v, all.0, all.1)
-next_fed f laws q (v ∷ vs) (w ∷ ws) [] others s all some = absurd some
-next_fed f laws q [] ws (g ∷ given) others s all some = absurd all
-next_fed f laws q (v ∷ vs) [] (g ∷ given) others s all some = absurd some
 next_fed {V = V} f laws q (v ∷ vs) (w ∷ ws) (g ∷ given) others s all some =
     let one = text_same f laws q v w g all.0 some.0 all.1 some.1 in
     let more : Fed f (f.goes q w) vs (given ++ s ∷ others) = subst (λ (u : V). Fed f (f.goes q u) vs (given ++ s ∷ others)) one.0 all.2 in
     next_fed f laws (f.goes q w) vs ws given others s more some.2
+next_fed f laws q [] ws [] others s all some = absurd all
+next_fed f laws q [] ws (g ∷ given) others s all some = absurd all
+next_fed f laws q (v ∷ vs) _ _ others s all some = absurd some
 
 -- slices from which a parser was fed are refused only for want of memory
 pub fed_not_refused : (s : List ℕ) (slices : List (List ℕ)) (q : State) (e : PcapError) → IsFed s slices q → RefusesOne s slices e → IsMemory e

@@ -1,5 +1,5 @@
 -- A run over a capture, in parts.
-use Rattle.std.proofs.Common.{◌≡◌, ◌-◌, ℕ, List, ◌++◌, length, map, sym, ap, subst, arith, length-append}
+use Rattle.std.proofs.Common.{◌≡◌, ℕ, List, ◌++◌, length, map, sym, ap, subst, arith, length-append}
 use Rattle.pcap_classic.specs.declared.pcap.header.PcapHeader.{PcapHeader}
 use Rattle.pcap_classic.specs.declared.run.PcapRun.{PcapRun}
 use Rattle.pcap_classic.specs.PacketText.{packet_limit, content_of}

@@ -104,6 +104,21 @@ module _ {S V : Type 0} (f : Format S V) (laws : IsLawful f) (q : S) (s : List �
     first = λ other y less. omega (arith, b.place, y.place, same, passed_last us p.items left after at_least other y texts p.texts p.needed some p.stops (omega (arith, less, at, y.place)));
   }
 
+  -- the items end before as many bytes are passed
+  pub none_further : (us : List V) (left after : List ℕ) (n count : ℕ) (said : Rest) → Texts f q us s left → Passes f (state_after f q us) left after n count (Some said)
+      → (cut : Cut) (y : Bound f q s total cut) → length y.rest + n ≤ length left → ⊥
+  none_further us left after n count said texts p cut y there =
+      let state = state_all f q us p.items in
+      none_behind (us ++ p.items) after (texts_all f q us p.items s left after texts p.texts)
+      (λ v more text. rest_no_text f laws (state_after f (state_after f q us) p.items) after said p.stops.1 v more (subst (λ (z : S). f.says z after (whole v more)) state text))
+      cut y (omega (arith, p.stops.0, there))
+
+  -- nothing follows what is passed
+  pub all_passed : (us : List V) (left after : List ℕ) (n count : ℕ) → Texts f q us s left → Passes f (state_after f q us) left after n count None → 0 < n → length after ≡ 0
+      → (cut : Cut) (y : Bound f q s total cut) → length y.rest + n ≤ length left → cut.offset < total → ⊥
+  all_passed us left after n count texts p some empty cut y there less =
+      omega (arith, empty, passed_last us p.items left after n cut y texts p.texts p.needed some p.stops there, y.place, less)
+
   module _ (front parts : ℕ) where
     abbrev share : ℕ
     share = share_of (length s) parts
@@ -186,18 +201,3 @@ module _ {S V : Type 0} (f : Format S V) (laws : IsLawful f) (q : S) (s : List �
         by_cases j cut (inl later) x less =
             absurd (none cut x.bound (omega (arith, further k j (length s - length left) n later e, x.behind, x.bound.place, at, fits)) less)
         by_cases j cut (inr earlier) x less = omega (arith, le, mul-le-mul_right {m = j} {n = k} share earlier)
-
-    -- the items end before as many bytes are passed
-    pub none_further : (us : List V) (left after : List ℕ) (n count : ℕ) (said : Rest) → Texts f q us s left → Passes f (state_after f q us) left after n count (Some said)
-        → (cut : Cut) (y : Bound f q s total cut) → length y.rest + n ≤ length left → ⊥
-    none_further us left after n count said texts p cut y there =
-        let state = state_all f q us p.items in
-        none_behind (us ++ p.items) after (texts_all f q us p.items s left after texts p.texts)
-        (λ v more text. rest_no_text f laws (state_after f (state_after f q us) p.items) after said p.stops.1 v more (subst (λ (z : S). f.says z after (whole v more)) state text))
-        cut y (omega (arith, p.stops.0, there))
-
-    -- nothing follows what is passed
-    pub all_passed : (us : List V) (left after : List ℕ) (n count : ℕ) → Texts f q us s left → Passes f (state_after f q us) left after n count None → 0 < n → length after ≡ 0
-        → (cut : Cut) (y : Bound f q s total cut) → length y.rest + n ≤ length left → cut.offset < total → ⊥
-    all_passed us left after n count texts p some empty cut y there less =
-        omega (arith, empty, passed_last us p.items left after n cut y texts p.texts p.needed some p.stops there, y.place, less)

@@ -28,21 +28,16 @@ nothing_left f laws q left (Refused error) none is =
 -- one part more in front
 takes_next : {X : Type 0} (used_of : X → ℕ) (rest_of : X → Rest) (Last : X → Type 0) (part : List ℕ) (run : X) (parts : List (List ℕ)) (runs : List X) → used_of run ≡ length part → rest_of run ≡ Clean
     → TakeParts used_of rest_of Last parts runs → TakeParts used_of rest_of Last (part ∷ parts) (run ∷ runs)
-takes_next used_of rest_of Last part run [] runs used clean takes = absurd takes
-takes_next used_of rest_of Last part run (b ∷ []) [] used clean takes = absurd takes
-takes_next used_of rest_of Last part run (b ∷ c ∷ bs) [] used clean takes = absurd takes
 takes_next used_of rest_of Last part run (b ∷ bs) (r ∷ rs) used clean takes = (used, clean, takes)
+takes_next used_of rest_of Last part run (b ∷ c ∷ bs) [] used clean takes = absurd takes
+takes_next used_of rest_of Last part run _ _ used clean takes = absurd takes
 
 -- something else of the last one
 pub last_is : {X : Type 0} (used_of : X → ℕ) (rest_of : X → Rest) (Last Now : X → Type 0) (parts : List (List ℕ)) (runs : List X) → TakeParts used_of rest_of Last parts runs
     → ((run : X) → Last run → Now run) → TakeParts used_of rest_of Now parts runs
-last_is used_of rest_of Last Now [] runs takes now = absurd takes
-last_is used_of rest_of Last Now (b ∷ []) [] takes now = absurd takes
 last_is used_of rest_of Last Now (b ∷ []) (r ∷ []) takes now = now r takes
-last_is used_of rest_of Last Now (b ∷ []) (r ∷ k ∷ rs) takes now = absurd takes
-last_is used_of rest_of Last Now (b ∷ c ∷ bs) [] takes now = absurd takes
-last_is used_of rest_of Last Now (b ∷ c ∷ bs) (r ∷ []) takes now = absurd takes
 last_is used_of rest_of Last Now (b ∷ c ∷ bs) (r ∷ k ∷ rs) takes now = (takes.0, takes.1, last_is used_of rest_of Last Now (c ∷ bs) (k ∷ rs) takes.2 now)
+last_is used_of rest_of Last Now _ _ takes now = absurd takes
 
 -- Runs of a format, with what each says of its items.
 module _ {S V X : Type 0} (f : Format S V) (laws : IsLawful f) (used_of : X → ℕ) (rest_of : X → Rest) (Has : S → X → List V → Type 0) where
@@ -115,12 +110,12 @@ module _ {S V X : Type 0} (f : Format S V) (laws : IsLawful f) (used_of : X → 
 
     runs_from : (c : Cut) (b : Bound f q s (length (h ++ s)) c) (cs : List Cut) (bounds : AllByRecursion (Bound f q s (length (h ++ s))) cs) → Rising (c ∷ cs) → (all : List V) (rest : List ℕ) → Front f q all s rest
         → (runs : List X) → AreRuns (c ∷ cs) (b, bounds) (part_bytes (h ++ s) (c ∷ cs)) runs → RunsAre b.items all rest (part_bytes (h ++ s) (c ∷ cs)) runs
-    runs_from c b [] bounds rising all rest front [] are = absurd are
     runs_from c b [] bounds rising all rest front (r ∷ []) are = run_last c b all rest (drop c.offset (h ++ s)) r (behind f laws q h s c b) front are.0
     runs_from c b [] bounds rising all rest front (r ∷ k ∷ rs) are = absurd are.1
-    runs_from c b (d ∷ cs) bounds rising all rest front [] are = absurd are
     runs_from c b (d ∷ cs) bounds rising all rest front (r ∷ rs) are =
         run_next c d b bounds.0 all rest (take (d.offset - c.offset) (drop c.offset (h ++ s))) r (part_bytes (h ++ s) (d ∷ cs)) rs rising.0.0 refl are.0 (runs_from d bounds.0 cs bounds.1 rising.1 all rest front rs are.1)
+    runs_from c b [] bounds rising all rest front [] are = absurd are
+    runs_from c b (d ∷ cs) bounds rising all rest front [] are = absurd are
 
     -- The runs over all parts have all items, and the last one ends as all do.
     pub runs_join : (cuts : List Cut) (are : AreCuts f q s (length h) (length (h ++ s)) cuts) (all : List V) (rest : List ℕ) → Front f q all s rest → (bounds : AllByRecursion (Bound f q s (length (h ++ s))) cuts)

@@ -5,7 +5,6 @@ mod Captures
 mod Resumed
 mod Anywhere
 mod Fair
-pub mod CutSteps
 pub mod Stepping
 pub mod Parted
 mod Walking

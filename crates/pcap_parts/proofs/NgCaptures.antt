@@ -14,7 +14,11 @@ use Rattle.pcap_file.specs.State.{State, opening}
 use Rattle.pcap_file.proofs.BlockFormat.{blocks_lawful}
 use Rattle.pcap_file.proofs.FedBlocks.{first_opening}
 use Rattle.pcap_parts.specs.declared.cut_ng.NgCuts.{NgCuts}
-use Rattle.pcap_parts.specs.NgParts.{IsNgCut, IsNgRunInParts, bounds_of}
+use Rattle.pcap_parts.specs.declared.cut_ng.NgCut.{NgCut}
+use Rattle.pcap_parts.specs.declared.parting.Parting.{Parting}
+use Rattle.pcap_parts.specs.declared.parting.Parting.TheVariants.{Equal, AtLeast}
+use Rattle.pcap_parts.specs.NgParts.{IsNgCut, IsNgCutBy, IsNgRunInParts, bounds_of}
+use Rattle.pcap_parts.specs.Partings.{AreAskedFor}
 use Rattle.pcap_parts.specs.Parts.{AreCuts, InParts}
 use Rattle.pcap_parts.proofs.InParts.{in_parts}
 
@@ -82,3 +86,8 @@ ng_run_parts run cuts bytes x y =
       rest = r.rest;
       parts = subst (λ (t : List ℕ). InParts block_format y.first r.items r.left t bounds) (sym r.split) parts;
     }
+
+-- cuts are as it is asked for
+pub ng_cut_by : (how : Parting) (first : State) (after bytes : List ℕ) (cuts : List NgCut) → OpeningSays bytes (whole first after) → AreAskedFor block_format first after (length bytes) how (bounds_of cuts) → IsNgCutBy how cuts bytes
+ng_cut_by (Equal parts) first after bytes cuts opens asked = record { first = first; after = after; opens = opens; fair = asked }
+ng_cut_by (AtLeast n) first after bytes cuts opens asked = record { first = first; after = after; opens = opens; steps = asked }

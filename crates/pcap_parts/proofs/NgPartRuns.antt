@@ -36,19 +36,13 @@ said run = run.rest
 -- what is fed is one
 fed_same : (q : State) (items others : List Item) (slices : List (List ℕ)) → Fed block_format q items slices → Fed block_format q others slices → state_after block_format q items ≡ state_after block_format q others
 fed_same q [] [] [] x y = refl
-fed_same q [] [] (s ∷ ss) x y = absurd x
-fed_same q [] (k ∷ others) slices x y = no_fed slices x y
-  where
-    no_fed : (slices : List (List ℕ)) → Fed block_format q [] slices → Fed block_format q (k ∷ others) slices → state_after block_format q [] ≡ state_after block_format q (k ∷ others)
-    no_fed [] x y = absurd y
-    no_fed (s ∷ ss) x y = absurd x
-fed_same q (i ∷ items) [] [] x y = absurd x
-fed_same q (i ∷ items) [] (s ∷ ss) x y = absurd y
-fed_same q (i ∷ items) (k ∷ others) [] x y = absurd x
 fed_same q (i ∷ items) (k ∷ others) (s ∷ ss) x y =
     let one = text_same block_format blocks_lawful q i k s x.0 y.0 x.1 y.1 in
     let there : Fed block_format (block_format.goes q k) items ss = subst (λ (z : Item). Fed block_format (block_format.goes q z) items ss) one.0 x.2 in
     ap (λ (z : Item). state_after block_format (block_format.goes q z) items) one.0 ∙ fed_same (block_format.goes q k) items others ss there y.2
+fed_same q [] _ (s ∷ ss) x y = absurd x
+fed_same q (i ∷ items) _ [] x y = absurd x
+fed_same q _ _ _ x y = absurd y
 
 state_fed : (s : List ℕ) (slices : List (List ℕ)) (p q : State) → IsFed s slices p → IsFed s slices q → p ≡ q
 state_fed s slices p q x y = sym x.state_is ∙ fed_same opening (x.header ∷ x.others) (y.header ∷ y.others) (s ∷ slices) x.fed y.fed ∙ y.state_is
@@ -56,10 +50,9 @@ state_fed s slices p q x y = sym x.state_is ∙ fed_same opening (x.header ∷ x
 -- the blocks of all lists are those of the runs
 blocks_are : (found : List (List Item)) (runs : List NgRun) → AllZip (λ items run. (p : State) × HasBlocks p run items) found runs → map (λ (item : Item). item.block) (joined found) ≡ joined (map blocks_of runs)
 blocks_are [] [] have = refl
-blocks_are [] (r ∷ rs) have = absurd have
-blocks_are (is ∷ iss) [] have = absurd have
 blocks_are (is ∷ iss) (r ∷ rs) have =
     map-append (λ (item : Item). item.block) is (joined iss) ∙ ap (λ (l : List Framed). l ++ map (λ (item : Item). item.block) (joined iss)) have.0.1.blocks ∙ ap (λ (l : List Framed). blocks_of r ++ l) (blocks_are iss rs have.1)
+blocks_are _ _ have = absurd have
 
 module _ (bytes places : List ℕ) (q : State) (h s : List ℕ) (split : bytes ≡ h ++ s) where
   -- a bound in the same bytes
@@ -84,13 +77,11 @@ module _ (bytes places : List ℕ) (q : State) (h s : List ℕ) (split : bytes �
   are_runs : (cuts : List NgCut) (all : AllByRecursion (ResumesAt bytes places q s) cuts) (runs : List NgRun) → AreResumedRuns bytes places cuts (part_bytes (h ++ s) (bounds_of cuts)) runs
       → AreRuns block_format blocks_lawful used said HasBlocks q h s (bounds_of cuts) (bounds cuts all) (part_bytes (h ++ s) (bounds_of cuts)) runs
   are_runs [] all [] runs_are = tt
-  are_runs [] all (r ∷ rs) runs_are = absurd runs_are
-  are_runs (c ∷ []) all [] runs_are = absurd runs_are
   are_runs (c ∷ []) all (r ∷ []) runs_are = (run_from c all.0 (drop c.at.offset (h ++ s)) r runs_are.0, tt)
   are_runs (c ∷ []) all (r ∷ k ∷ rs) runs_are = absurd runs_are.1
-  are_runs (c ∷ d ∷ cs) all [] runs_are = absurd runs_are
   are_runs (c ∷ d ∷ cs) all (r ∷ rs) runs_are =
       (run_from c all.0 (take (d.at.offset - c.at.offset) (drop c.at.offset (h ++ s))) r runs_are.0, are_runs (d ∷ cs) all.1 rs runs_are.1)
+  are_runs _ all _ runs_are = absurd runs_are
 
 pub ng_part_runs : (run : NgRun) (cuts : NgCuts) (bytes : List ℕ) (runs : List NgRun) → IsRun run bytes → IsNgCut cuts bytes
     → AreResumedRuns bytes cuts.interfaces.items cuts.cuts.items (part_bytes bytes (bounds_of cuts.cuts.items)) runs → NgPartRunsJoin run (part_bytes bytes (bounds_of cuts.cuts.items)) runs

@@ -29,21 +29,18 @@ said run = run.rest
 packets_are : (found : List (List Captured)) (runs : List PcapRun) → AllZip (λ packets run. (p : Unit {0}) × HasPackets p run packets) found runs → found ≡ map packets_of runs
 unfolding HasPackets
 packets_are [] [] have = refl
-packets_are [] (r ∷ rs) have = absurd have
-packets_are (ps ∷ pss) [] have = absurd have
 packets_are (ps ∷ pss) (r ∷ rs) have = cons_same ps (packets_of r) pss (map packets_of rs) have.0.1 (packets_are pss rs have.1)
+packets_are _ _ have = absurd have
 
 module _ (header : PcapHeader) (h s : List ℕ) where
   are_runs : (cuts : List Cut) (bounds : AllByRecursion (Bound (format_under packet_limit header) tt s (length (h ++ s))) cuts) (bytes : List ℕ) (runs : List PcapRun) → AllZip (IsPartRun header) (part_bytes bytes cuts) runs
       → AreRuns (format_under packet_limit header) (under_lawful packet_limit header) used said HasPackets tt h s cuts bounds (part_bytes bytes cuts) runs
   unfolding HasPackets
   are_runs [] bounds bytes [] all = tt
-  are_runs [] bounds bytes (r ∷ rs) all = absurd all
-  are_runs (c ∷ []) bounds bytes [] all = absurd all
   are_runs (c ∷ []) bounds bytes (r ∷ []) all = (record { items = packets_of r; over = all.0.runs; has = refl }, tt)
   are_runs (c ∷ []) bounds bytes (r ∷ k ∷ rs) all = absurd all.1
-  are_runs (c ∷ d ∷ cs) bounds bytes [] all = absurd all
   are_runs (c ∷ d ∷ cs) bounds bytes (r ∷ rs) all = (record { items = packets_of r; over = all.0.runs; has = refl }, are_runs (d ∷ cs) bounds.1 bytes rs all.1)
+  are_runs _ bounds bytes _ all = absurd all
 
 pub part_runs : (run : PcapRun) (header : PcapHeader) (cuts : List Cut) (bytes : List ℕ) (runs : List PcapRun) → IsRun run bytes → IsCut header cuts bytes
     → AllZip (IsPartRun header) (part_bytes bytes cuts) runs → PartRunsJoin run (part_bytes bytes cuts) runs

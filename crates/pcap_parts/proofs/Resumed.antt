@@ -1,8 +1,8 @@
 -- A parser that is fed with the blocks in force has the same state.
-use Rattle.std.proofs.Common.{◌≡◌, ℕ, suc, List, [], ◌∷◌, ◌++◌, map, refl, sym, ap, subst, ◌∙◌, arith, Bool, true, false}
+use Rattle.std.proofs.Common.{◌≡◌, ℕ, List, [], ◌∷◌, ◌++◌, map, refl, sym, ap, subst, ◌∙◌, Bool, true, false}
 use Rattle.std.specs.Prelude.{All, filter}
 use Rattle.std.specs.List.{AllZip}
-use Rattle.std.proofs.lemmas.List.Elements.{All-filter}
+use Rattle.std.proofs.lemmas.List.Elements.{All-filter, All-head, All-tail}
 use Rattle.pcap_core.specs.Answer.{whole}
 use Rattle.pcap_core.specs.Format.{Format, Texts, state_after, IsLawful}
 use Rattle.pcap_core.proofs.Formats.{state_push, cons_same}
@@ -26,15 +26,9 @@ NoSection b = is_section b.type_ ≡ false
 abbrev interfaces_of : List Framed → List Framed
 interfaces_of bs = filter (λ (x : Framed). is_interface x.type_) bs
 
-head_of : {X : Type 0} (P : X → Type 0) (x : X) (xs : List X) → All P (x ∷ xs) → P x
-head_of P x xs a = a 0 x (omega arith)
-
-tail_of : {X : Type 0} (P : X → Type 0) (x : X) (xs : List X) → All P (x ∷ xs) → All P xs
-tail_of P x xs a = λ k d lt. a (suc k) d (omega (arith, lt))
-
 mid_of : {X : Type 0} (P : X → Type 0) (bs : List X) (h : X) (xs : List X) → All P (bs ++ h ∷ xs) → P h
-mid_of P [] h xs a = head_of P h xs a
-mid_of P (b ∷ bs) h xs a = mid_of P bs h xs (tail_of P b (bs ++ h ∷ xs) a)
+mid_of P [] h xs a = All-head P h xs a
+mid_of P (b ∷ bs) h xs a = mid_of P bs h xs (All-tail P b (bs ++ h ∷ xs) a)
 
 both : (b : Framed) → is_section b.type_ ≡ true → NoSection b → ⊥
 both b is isnt = let e : true ≡ false = sym is ∙ isnt in absurd cc
@@ -61,12 +55,11 @@ interface_same x y e = cc
 
 interfaces_same : (bs : List Framed) (is js : List Interface) → AllZip IsInterfaceIn bs is → AllZip IsInterfaceIn bs js → is ≡ js
 interfaces_same [] [] [] x y = refl
-interfaces_same [] [] (j ∷ js) x y = absurd y
-interfaces_same [] (i ∷ is) js x y = absurd x
-interfaces_same (b ∷ bs) [] js x y = absurd x
-interfaces_same (b ∷ bs) (i ∷ is) [] x y = absurd y
 interfaces_same (b ∷ bs) (i ∷ is) (j ∷ js) x y =
     cons_same i j is js (interface_same i j (bodies_same b (InterfaceBody i) (InterfaceBody j) x.0.0 y.0.0 x.0.1 y.0.1)) (interfaces_same bs is js x.1 y.1)
+interfaces_same [] (i ∷ is) js x y = absurd x
+interfaces_same (b ∷ bs) [] js x y = absurd x
+interfaces_same _ _ _ x y = absurd y
 
 -- blocks with the same last header, and the same interfaces after it, leave the same in force
 pub force_same : (bs cs : List Framed) (s t : Section) (is js : List Interface) (x : LeavesInForce bs s is) (y : LeavesInForce cs t js) → x.header ≡ y.header
@@ -86,9 +79,6 @@ filter_twice : {X : Type 0} (p : X → Bool) (xs : List X) → filter p (filter 
 filter_twice p [] = refl
 filter_twice p (x ∷ xs) = filter_step p x xs (p x) refl (filter_twice p xs)
 
-filter_nil_sections : (bs : List Framed) → All NoSection bs → All NoSection (interfaces_of bs)
-filter_nil_sections bs a = All-filter (λ (x : Framed). is_interface x.type_) NoSection bs a
-
 -- the blocks in force, by themselves, leave the same in force
 pub force_alone : (bs : List Framed) (s : Section) (is : List Interface) (x : LeavesInForce bs s is) → LeavesInForce (blocks_in_force bs s is x) s is
 force_alone bs s is x = record {
@@ -99,7 +89,7 @@ force_alone bs s is x = record {
   split = refl;
   is_header = x.is_header;
   section_is = x.section_is;
-  is_last = filter_nil_sections x.after x.is_last;
+  is_last = All-filter (λ (b : Framed). is_interface b.type_) NoSection x.after x.is_last;
   interfaces_are = subst (λ (l : List Framed). AllZip IsInterfaceIn l is) (sym (filter_twice (λ (b : Framed). is_interface b.type_) x.after)) x.interfaces_are;
 }
 
@@ -114,12 +104,11 @@ leaves_one bs (within s is) (within t js) x y =
 -- slices that are given to a parser one by one are texts one behind the other
 pub fed_texts : {S V : Type 0} (f : Format S V) → IsLawful f → (q : S) (vs : List V) (ss : List (List ℕ)) → Fed f q vs ss → (t : List ℕ) × Texts f q vs t []
 fed_texts f laws q [] [] fed = ([], refl)
-fed_texts f laws q [] (s ∷ ss) fed = absurd fed
-fed_texts f laws q (v ∷ vs) [] fed = absurd fed
 fed_texts f laws q (v ∷ vs) (s ∷ ss) fed =
     let one = laws.own q s fed.0 v fed.1 in
     let more = fed_texts f laws (f.goes q v) vs ss fed.2 in
     (one.0 ++ more.0, (more.0, (laws.stable q).text one.0 more.0 [] v one.2, more.1))
+fed_texts f laws q _ _ fed = absurd fed
 
 -- A parser that is fed with the blocks in force at a bound has the state that the blocks before it lead to.
 pub resumed : (first : Item) (items : List Item) (s rest : List ℕ) → Texts block_format opening (first ∷ items) s rest
@@ -140,9 +129,8 @@ resumed first items s rest texts section interfaces x header others slices fed s
 
 fed_push : {S V : Type 0} (f : Format S V) (q : S) (vs : List V) (ss : List (List ℕ)) (v : V) (s rest : List ℕ) → Fed f q vs ss → f.says (state_after f q vs) s (whole v rest) → Fed f q (vs ++ v ∷ []) (ss ++ s ∷ [])
 fed_push f q [] [] v s rest fed x = (rest, x, tt)
-fed_push f q [] (t ∷ ss) v s rest fed x = absurd fed
-fed_push f q (w ∷ vs) [] v s rest fed x = absurd fed
 fed_push f q (w ∷ vs) (t ∷ ss) v s rest fed x = (fed.0, fed.1, fed_push f (f.goes q w) vs ss v s rest fed.2 x)
+fed_push f q _ _ v s rest fed x = absurd fed
 
 pub fed_first : (s rest : List ℕ) (q : State) → OpeningSays s (whole q rest) → IsFed s [] q
 unfolding block_format

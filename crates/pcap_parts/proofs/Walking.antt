@@ -1,9 +1,10 @@
 -- A walk over blocks that keeps the places of what is in force.
-use Rattle.std.proofs.Common.{◌≡◌, ◌≤◌, ◌+◌, ◌-◌, ℕ, zero, suc, List, [], ◌∷◌, ◌++◌, length, take, drop, ◌<◌, refl, sym, ap, subst, ◌∙◌, arith, length-append, append-nil, append_assoc, length-drop, get_or, Bool, false}
+use Rattle.std.proofs.Common.{◌≡◌, ◌≤◌, ◌+◌, ◌-◌, ℕ, List, [], ◌∷◌, ◌++◌, length, take, drop, ◌<◌, refl, sym, ap, subst, ◌∙◌, arith, length-append, append-nil, append_assoc, length-drop, get_or, Bool, false}
 use Rattle.std.specs.Prelude.{Option, None, Some, IfNone}
 use Rattle.std.specs.List.{AllByRecursion}
-use Rattle.std.proofs.lemmas.List.{map-append}
+use Rattle.std.proofs.lemmas.List.{drop-append-le, map-append, take-append-le, take_all}
 use Rattle.std.proofs.lemmas.List.Elements.{All-from_get_or}
+use Rattle.pcap_core.specs.declared.rest.Rest.{Rest}
 use Rattle.pcap_core.specs.Answer.{whole}
 use Rattle.pcap_core.specs.Bytes.{IsBytes}
 use Rattle.pcap_core.specs.Format.{Texts, state_after}
@@ -21,6 +22,7 @@ use Rattle.pcap_file.specs.State.{State, opening, within, MeansIf, is_kept}
 use Rattle.pcap_file.proofs.BlockFormat.{blocks_lawful}
 use Rattle.pcap_parts.specs.declared.cut_ng.NgCut.{NgCut}
 use Rattle.pcap_parts.specs.NgParts.{GoesOn, IsWalked, ResumesAt, places_at}
+use Rattle.pcap_parts.specs.Parts.{Passes}
 use Rattle.pcap_parts.specs.Resume.{IsFed, from_places}
 use Rattle.pcap_parts.proofs.Anywhere.{header_anywhere}
 use Rattle.pcap_parts.proofs.InParts.{texts_one}
@@ -32,20 +34,6 @@ place_of bytes left items texts =
     let own = texts_own block_format blocks_lawful opening items bytes left texts in
     let long : length bytes ≡ length own.0 + length left = ap length {x = bytes} {y = own.0 ++ left} own.1 ∙ length-append own.0 left in
     (rest_of bytes own.0 left (length bytes - length left) own.1 (omega (arith, long)), omega (arith, long))
-
-pub drop_all : (xs : List ℕ) → drop (length xs) xs ≡ []
-drop_all [] = refl
-drop_all (x ∷ xs) = drop_all xs
-
-pub drop_push : (n : ℕ) (xs ys : List ℕ) → n ≤ length xs → drop n (xs ++ ys) ≡ drop n xs ++ ys
-drop_push zero xs ys le = refl
-drop_push (suc n) [] ys le = absurd (omega (arith, le))
-drop_push (suc n) (x ∷ xs) ys le = drop_push n xs ys (omega (arith, le))
-
-pub take_front_of : (n : ℕ) (xs ys : List ℕ) → n ≤ length xs → take n (xs ++ ys) ≡ take n xs
-take_front_of zero xs ys le = refl
-take_front_of (suc n) [] ys le = absurd (omega (arith, le))
-take_front_of (suc n) (x ∷ xs) ys le = ap (λ (l : List ℕ). x ∷ l) (take_front_of n xs ys (omega (arith, le)))
 
 module _ (bytes left after : List ℕ) (q : State) (header : ℕ) (places : List ℕ) (item : Item) (walked : IsWalked bytes left q header places) (text : BlockSays q left (whole item after)) where
   -- a block more, where a parser that is fed so has the state behind it
@@ -121,11 +109,11 @@ walked_state bytes s left q p first header before places items x texts y =
     let here : state_after block_format q items ≡ state_after block_format (state_after block_format opening x.items) items = ap (λ (z : State). state_after block_format z items) (sym x.leads) in
     here ∙ sym (state_all block_format opening x.items items) ∙ ap (λ (l : List Item). state_after block_format opening l) (sym one) ∙ y.leads
 
-take_whole : (m : ℕ) (xs : List ℕ) → length xs ≤ m → take m xs ≡ xs
-take_whole zero [] le = refl
-take_whole (suc m) [] le = refl
-take_whole zero (x ∷ xs) le = absurd (omega (arith, le))
-take_whole (suc m) (x ∷ xs) le = ap (λ (l : List ℕ). x ∷ l) (take_whole m xs (omega (arith, le)))
+-- what a walk passes is passed behind the blocks that were walked over
+pub passes_behind : (bytes s left after : List ℕ) (q p : State) (first header : ℕ) (before places : List ℕ) (items : List Item) (n count : ℕ) (said : Option Rest) → IsWalked bytes s q first before
+    → Texts block_format q items s left → IsWalked bytes left p header places → Passes block_format p left after n count said → Passes block_format (state_after block_format q items) left after n count said
+passes_behind bytes s left after q p first header before places items n count said x texts y passes =
+    subst (λ (z : State). Passes block_format z left after n count said) (sym (walked_state bytes s left q p first header before places items x texts y)) passes
 
 module _ (bytes : List ℕ) (q : State) (s : List ℕ) where
   -- at a cut where a walk stands a parser can be made again
@@ -134,7 +122,7 @@ module _ (bytes : List ℕ) (q : State) (s : List ℕ) where
       → cut.first ≤ length places → cut.interfaces ≡ length places - cut.first → ResumesAt bytes places q s cut
   resumes_here left p places blocks first before cut begins walked texts count place inside all =
       let state = walked_state bytes s left q p first cut.header before (drop cut.first places) blocks begins texts walked in
-      let these : places_at places cut ≡ drop cut.first places = take_whole cut.interfaces (drop cut.first places) (omega (arith, all, length-drop cut.first places)) in
+      let these : places_at places cut ≡ drop cut.first places = take_all cut.interfaces (drop cut.first places) (omega (arith, all, length-drop cut.first places)) in
       let fed : IsFed (drop cut.header bytes) (from_places bytes (places_at places cut)) p = subst (λ (l : List ℕ). IsFed (drop cut.header bytes) (from_places bytes l) p) (sym these) walked.fed in
       record {
         bound = record { items = blocks; rest = left; texts = texts; count = count; place = place };
@@ -144,8 +132,8 @@ module _ (bytes : List ℕ) (q : State) (s : List ℕ) where
 
   resumes_further : (places now : List ℕ) (cut : NgCut) → GoesOn places now → ResumesAt bytes places q s cut → ResumesAt bytes now q s cut
   resumes_further places now cut on x =
-      let behind : drop cut.first now ≡ drop cut.first places ++ on.0 = ap (λ (l : List ℕ). drop cut.first l) on.1 ∙ drop_push cut.first places on.0 (omega (arith, x.within)) in
-      let these : places_at now cut ≡ places_at places cut = ap (λ (l : List ℕ). take cut.interfaces l) behind ∙ take_front_of cut.interfaces (drop cut.first places) on.0 (omega (arith, x.within, length-drop cut.first places)) in
+      let behind : drop cut.first now ≡ drop cut.first places ++ on.0 = ap (λ (l : List ℕ). drop cut.first l) on.1 ∙ drop-append-le cut.first places on.0 (omega (arith, x.within)) in
+      let these : places_at now cut ≡ places_at places cut = ap (λ (l : List ℕ). take cut.interfaces l) behind ∙ take-append-le cut.interfaces (drop cut.first places) on.0 (omega (arith, x.within, length-drop cut.first places)) in
       record {
         bound = x.bound;
         within = omega (arith, x.within, ap length {x = now} {y = places ++ on.0} on.1, length-append places on.0);

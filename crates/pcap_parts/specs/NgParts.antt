@@ -18,6 +18,8 @@ use Rattle.pcap_file.specs.State.{State, opening}
 use Rattle.pcap_parts.specs.declared.cut.Cut.{Cut}
 use Rattle.pcap_parts.specs.declared.cut_ng.NgCut.{NgCut}
 use Rattle.pcap_parts.specs.declared.cut_ng.NgCuts.{NgCuts}
+use Rattle.pcap_parts.specs.declared.parting.Parting.{Parting}
+use Rattle.pcap_parts.specs.declared.parting.Parting.TheVariants.{Equal, AtLeast}
 use Rattle.pcap_parts.specs.Parts.{Bound, AreCuts, AreFair, HaveAtLeast, InParts}
 use Rattle.pcap_parts.specs.Resume.{IsFed, from_places}
 
@@ -73,6 +75,11 @@ pub record IsNgCutAtLeast (n : ℕ) (cuts : List NgCut) (bytes : List ℕ) : Typ
   pub after : List ℕ
   pub opens : OpeningSays bytes (whole first after)
   pub steps : HaveAtLeast block_format first after (length bytes) n (bounds_of cuts)
+
+-- the blocks behind the first section header are cut as it is asked for
+abbrev pub IsNgCutBy : Parting → List NgCut → List ℕ → Type 0
+IsNgCutBy (Equal parts) cuts bytes = IsNgCutFairly parts cuts bytes
+IsNgCutBy (AtLeast n) cuts bytes = IsNgCutAtLeast n cuts bytes
 
 -- the blocks of a run are those of the parts joined, the last part leads to its state, and what is said of its rest is said of the
 -- last part's

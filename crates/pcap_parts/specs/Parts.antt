@@ -4,6 +4,7 @@ use Rattle.std.specs.Borrow.{Bor}
 use Rattle.std.specs.List.{AllByRecursion, Contains}
 use Rattle.pcap_core.specs.declared.errors.PcapError.{PcapError}
 use Rattle.pcap_core.specs.declared.rest.Rest.{Rest}
+use Rattle.pcap_core.specs.declared.rest.Rest.TheVariants.{Clean}
 use Rattle.pcap_core.specs.Answer.{Verdict, whole, lacks, faulty, Refuses}
 use Rattle.pcap_core.specs.Format.{Format, Texts, state_after, Front}
 use Rattle.pcap_core.specs.Run.{IsRest}
@@ -54,6 +55,11 @@ module _ {S V : Type 0} (f : Format S V) where
     pub texts : Texts f q items s rest
     pub count : length items ≡ cut.before
     pub place : cut.offset + length rest ≡ total
+
+-- what is said where all that was wanted of so many bytes is passed, or all that stands there
+abbrev pub EndsPassing : ℕ → ℕ → Option Rest → Type 0
+EndsPassing bytes at_least None = at_least ≤ bytes
+EndsPassing bytes at_least (Some said) = (bytes < at_least) × (said ≡ Clean)
 
 -- each cut stands behind those before it
 abbrev pub Rising : List Cut → Type 0

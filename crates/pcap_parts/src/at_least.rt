@@ -8,12 +8,10 @@ ghost use Rattle.pcap_parts.specs.NgParts.{IsNgCut, IsNgCutAtLeast};
 ghost use Rattle.std.specs.Prelude.{⊤, max, IfOk, IfErr};
 
 use crate::cut::{Cuts, cut_packets};
-use crate::cut_ng::{NgCuts, cut_blocks};
+use crate::cut_ng::{NgCuts, cut_ng_by};
 use crate::parting::Parting;
-use crate::walk::Walk;
 use pcap_classic::pcap::PcapParser;
 use pcap_core::ResultParsing;
-use pcap_file::PcapNgParser;
 use std::alloc::Global;
 
 /// Where a capture can be cut into parts of at least so many bytes, so that no packet is torn. No byte is asked for as one is.
@@ -55,22 +53,5 @@ pub fn cut_pcapng_at_least(alloc: Global, bytes: &[u8], at_least: usize) -> Resu
     ensures steps { IfOk result (λ cuts. IsNgCutAtLeast (max at_least 1) cuts.cuts.items bytes.now) }
     ensures refused { IfErr result (Refuses ⊤ (λ n. OpeningSays bytes.now (lacks n)) (λ fault. OpeningSays bytes.now (faulty fault))) }
 {
-    let (after, parser) = PcapNgParser::new(alloc, bytes)?;
-    let mut walk = Walk {
-        parser,
-        header: 0,
-        interfaces: Vec::new(alloc),
-        first: 0,
-    };
-    let cuts = cut_blocks(
-        alloc,
-        bytes,
-        &mut walk,
-        after,
-        Parting::AtLeast(at_least.max(1)),
-    )?;
-    Ok(NgCuts {
-        cuts,
-        interfaces: walk.interfaces,
-    })
+    cut_ng_by(alloc, bytes, Parting::AtLeast(at_least.max(1)))
 }

@@ -6,7 +6,7 @@ ghost use Rattle.pcap_parts.specs.NgParts.{rest_or_memory_of};
 ghost use Rattle.pcap_parts.specs.Parts.{KeepsNext, PassesTo};
 ghost use Rattle.std.specs.Prelude.{◌≡◌, ◌≤◌, ◌+◌, length, IfOk, OnErr};
 
-use crate::skip::Passed;
+use crate::skip::{Passed, rest_of_all};
 use pcap_core::{PcapError, Rest};
 use pcap_file::PcapNgParser;
 use std::alloc::AllocError;
@@ -54,10 +54,9 @@ pub fn skip_blocks<'a>(
             }
         }
     }
-    let rest = if at_least > slice.len() {
-        Some(Rest::Clean)
-    } else {
-        None
-    };
-    Ok(Passed { items, after, rest })
+    Ok(Passed {
+        items,
+        after,
+        rest: rest_of_all(slice.len(), at_least),
+    })
 }

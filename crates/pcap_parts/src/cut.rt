@@ -73,20 +73,15 @@ pub(crate) fn cut_packets(
     let mut left = slice;
     while let Some(wanted) = parting.wanted(slice.len() - left.len(), slice.len()) {
         let Passed { items, after, rest } = skip_packets(parser, left, wanted);
-        match rest {
-            Some(_) => return Ok(cuts),
-            None => {
-                if after.is_empty() {
-                    return Ok(cuts);
-                }
-                before += items;
-                left = after;
-                cuts.push(Cut {
-                    offset: total - left.len(),
-                    before,
-                })?;
-            }
+        if rest.is_some() || after.is_empty() {
+            return Ok(cuts);
         }
+        before += items;
+        left = after;
+        cuts.push(Cut {
+            offset: total - left.len(),
+            before,
+        })?;
     }
     Ok(cuts)
 }

@@ -4,7 +4,7 @@ ghost use Rattle.pcap_core.specs.Answer.{Refuses, lacks, faulty};
 ghost use Rattle.pcap_file.specs.Blocks.{block_format};
 ghost use Rattle.pcap_file.specs.Opening.{OpeningSays};
 ghost use Rattle.pcap_file.specs.Parser.{state_of};
-ghost use Rattle.pcap_parts.specs.NgParts.{IsNgCut, IsNgCutFairly, IsWalked, ResumesAt, bounds_of, places_at};
+ghost use Rattle.pcap_parts.specs.NgParts.{IsNgCut, IsNgCutBy, IsNgCutFairly, IsWalked, ResumesAt, bounds_of, places_at};
 ghost use Rattle.pcap_parts.specs.Partings.{AreAskedFor, AsksSome};
 ghost use Rattle.pcap_parts.specs.Parts.{AreCuts};
 ghost use Rattle.std.specs.List.{AllByRecursion};
@@ -89,19 +89,35 @@ pub(crate) fn cut_blocks(
     let mut left = slice;
     while let Some(wanted) = parting.wanted(slice.len() - left.len(), slice.len()) {
         let Passed { items, after, rest } = walk.skip(bytes, left, wanted)?;
-        match rest {
-            Some(_) => return Ok(cuts),
-            None => {
-                if after.is_empty() {
-                    return Ok(cuts);
-                }
-                before += items;
-                left = after;
-                cuts.push(cut_at(walk, bytes.len() - left.len(), before))?;
-            }
+        if rest.is_some() || after.is_empty() {
+            return Ok(cuts);
         }
+        before += items;
+        left = after;
+        cuts.push(cut_at(walk, bytes.len() - left.len(), before))?;
     }
     Ok(cuts)
+}
+
+// Where a PcapNg capture can be cut into parts that are asked for so.
+pub(crate) fn cut_ng_by(alloc: Global, bytes: &[u8], parting: Parting) -> ResultParsing<NgCuts>
+    requires some { AsksSome parting }
+    ensures cut { IfOk result (λ cuts. IsNgCut cuts bytes.now) }
+    ensures asked { IfOk result (λ cuts. IsNgCutBy parting cuts.cuts.items bytes.now) }
+    ensures refused { IfErr result (Refuses ⊤ (λ n. OpeningSays bytes.now (lacks n)) (λ fault. OpeningSays bytes.now (faulty fault))) }
+{
+    let (after, parser) = PcapNgParser::new(alloc, bytes)?;
+    let mut walk = Walk {
+        parser,
+        header: 0,
+        interfaces: Vec::new(alloc),
+        first: 0,
+    };
+    let cuts = cut_blocks(alloc, bytes, &mut walk, after, parting)?;
+    Ok(NgCuts {
+        cuts,
+        interfaces: walk.interfaces,
+    })
 }
 
 /// Where a PcapNg capture can be cut into so many parts of equal length, but for less than a block each, so that no block is
@@ -117,16 +133,5 @@ pub fn cut_pcapng(alloc: Global, bytes: &[u8], parts: usize) -> ResultParsing<Ng
     ensures fair { IfOk result (λ cuts. IsNgCutFairly parts cuts.cuts.items bytes.now) }
     ensures refused { IfErr result (Refuses ⊤ (λ n. OpeningSays bytes.now (lacks n)) (λ fault. OpeningSays bytes.now (faulty fault))) }
 {
-    let (after, parser) = PcapNgParser::new(alloc, bytes)?;
-    let mut walk = Walk {
-        parser,
-        header: 0,
-        interfaces: Vec::new(alloc),
-        first: 0,
-    };
-    let cuts = cut_blocks(alloc, bytes, &mut walk, after, Parting::Equal(parts))?;
-    Ok(NgCuts {
-        cuts,
-        interfaces: walk.interfaces,
-    })
+    cut_ng_by(alloc, bytes, Parting::Equal(parts))
 }

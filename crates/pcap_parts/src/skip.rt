@@ -4,7 +4,7 @@ ghost use Rattle.pcap_classic.specs.PacketText.{packet_limit, PacketSays};
 ghost use Rattle.pcap_classic.specs.Packets.{format_under, packet_format};
 ghost use Rattle.pcap_classic.specs.Parser.{header_of};
 ghost use Rattle.pcap_core.specs.Run.{rest_after};
-ghost use Rattle.pcap_parts.specs.Parts.{PassesOne, Passes};
+ghost use Rattle.pcap_parts.specs.Parts.{EndsPassing, PassesOne, Passes};
 ghost use Rattle.std.specs.Prelude.{◌≡◌, ◌≤◌, ◌+◌, length};
 
 use byteorder::{BigEndian, ByteOrder, LittleEndian};
@@ -30,6 +30,17 @@ fn rest_at(error: PcapError) -> Rest
     match error {
         PcapError::IncompleteBuffer(n) => Rest::Needs(n),
         error => Rest::Refused(error),
+    }
+}
+
+// What is said of what follows, where all that was wanted of so many bytes is passed, or all that stands there.
+pub(crate) fn rest_of_all(bytes: usize, at_least: usize) -> Option<Rest>
+    ensures { EndsPassing bytes at_least result }
+{
+    if at_least > bytes {
+        Some(Rest::Clean)
+    } else {
+        None
     }
 }
 
@@ -70,12 +81,11 @@ fn skip_in<'a, B: ByteOrder>(r: TsResolution, slice: &'a [u8], at_least: usize) 
             }
         }
     }
-    let rest = if at_least > slice.len() {
-        Some(Rest::Clean)
-    } else {
-        None
-    };
-    Passed { items, after, rest }
+    Passed {
+        items,
+        after,
+        rest: rest_of_all(slice.len(), at_least),
+    }
 }
 
 /// Passes over whole packets at the front of a slice, up to the first bound of packets at which at least so many bytes are

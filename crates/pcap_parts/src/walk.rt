@@ -8,9 +8,9 @@ ghost use Rattle.pcap_parts.specs.Parts.{Passes};
 ghost use Rattle.std.specs.Prelude.{◌≡◌, ◌≤◌, ◌+◌, ⊤, length, drop, IfOk, IfErr, IfNone};
 
 use crate::blocks::rest_or_memory;
-use crate::skip::Passed;
+use crate::skip::{Passed, rest_of_all};
 use pcap_blocks::BlockType;
-use pcap_core::{Rest, ResultParsing};
+use pcap_core::ResultParsing;
 use pcap_file::PcapNgParser;
 use std::alloc::AllocError;
 
@@ -86,11 +86,10 @@ impl Walk {
                 }
             }
         }
-        let rest = if at_least > slice.len() {
-            Some(Rest::Clean)
-        } else {
-            None
-        };
-        Ok(Passed { items, after, rest })
+        Ok(Passed {
+            items,
+            after,
+            rest: rest_of_all(slice.len(), at_least),
+        })
     }
 }

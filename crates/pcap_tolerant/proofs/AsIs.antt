@@ -1,5 +1,5 @@
 -- Packets as they stand are a lawful format, and what the strict reading says where they stand.
-use Rattle.std.proofs.Common.{◌≡◌, ◌<◌, ◌≤◌, ℕ, List, [], ◌++◌, length, refl, sym, ap, subst, ◌∙◌, arith, length-append, inl, inr}
+use Rattle.std.proofs.Common.{◌≡◌, ◌<◌, ◌≤◌, ℕ, List, [], ◌++◌, length, refl, sym, ap, subst, ◌∙◌, arith, inl, inr}
 use Rattle.std.proofs.lemmas.Bool.{cases_lt}
 use Rattle.std.proofs.lemmas.List.{nil_from_length}
 use Rattle.pcap_classic.specs.declared.common.TsResolution.{TsResolution}
@@ -9,14 +9,12 @@ use Rattle.pcap_core.specs.Faults.{Fault, Invalid}
 use Rattle.pcap_core.specs.Laws.{ExactlyOne, IsStable}
 use Rattle.pcap_core.specs.Format.{IsLawful}
 use Rattle.pcap_core.specs.Headed.{Piece, HeadReading, good, bad, HeadedSays, headed, IsHeaded}
-use Rattle.pcap_core.proofs.Texts.{joined}
 use Rattle.pcap_core.proofs.Numbers.{numbers_there}
 use Rattle.pcap_core.proofs.Formats.{lawful_moved}
 use Rattle.pcap_core.proofs.Headed.{headed_lawful}
 use Rattle.pcap_classic.specs.PacketText.{Head, RecordHeadText}
 use Rattle.pcap_classic.proofs.FieldNumbers.{head_widths, head_with, head_from, head_same, head_length}
-use Rattle.pcap_classic.proofs.Stable.{head_more}
-use Rattle.pcap_classic.proofs.HeadedPackets.{number_put}
+use Rattle.pcap_classic.proofs.HeadedPackets.{head_again, head_piece}
 use Rattle.pcap_tolerant.specs.declared.as_is.Flaws.{Flaws}
 use Rattle.pcap_tolerant.specs.AsIs.{flaws_of, AsIs, HasLongHead, AsIsSays, as_is_format, HeadReads, DataReads, headed_as_is}
 
@@ -83,38 +81,6 @@ headed_as_is_lawful limit order r =
 
 -- ---- the readable words say the same as a head and a body
 
-record HeadPiece (order : Order) (head : Head) (s after : List ℕ) : Type 0 where
-  bytes : List ℕ
-  text : s ≡ bytes ++ after
-  length_is : length bytes ≡ 16
-  holds : RecordHeadText order head bytes []
-
-head_piece : (order : Order) (head : Head) (s after : List ℕ) → RecordHeadText order head s after → HeadPiece order head s after
-head_piece order head s after t =
-    let b1 = t.seconds.bytes in
-    let b2 = t.fraction.bytes in
-    let b3 = t.included.bytes in
-    let b4 = t.original.bytes in
-    let bytes = b1 ++ (b2 ++ (b3 ++ (b4 ++ []))) in
-    let text : s ≡ bytes ++ after = joined s b1 t.after_seconds b2 t.after_fraction b3 t.after_included b4 after [] after t.seconds.text t.fraction.text t.included.text t.original.text refl in
-    record {
-      bytes = bytes;
-      text = text;
-      length_is = omega (arith, head_length order head s after t, ap length text, length-append bytes after);
-      holds = record {
-        after_seconds = b2 ++ (b3 ++ (b4 ++ []));
-        after_fraction = b3 ++ (b4 ++ []);
-        after_included = b4 ++ [];
-        seconds = number_put order 4 head.seconds s t.after_seconds (b2 ++ (b3 ++ (b4 ++ []))) t.seconds;
-        fraction = number_put order 4 head.fraction t.after_seconds t.after_fraction (b3 ++ (b4 ++ [])) t.fraction;
-        included = number_put order 4 head.included t.after_fraction t.after_included (b4 ++ []) t.included;
-        original = number_put order 4 head.original t.after_included after [] t.original;
-      };
-    }
-
-head_again : (order : Order) (head : Head) (s bytes after : List ℕ) → s ≡ bytes ++ after → RecordHeadText order head bytes [] → RecordHeadText order head s after
-head_again order head s bytes after text t = subst (λ (l : List ℕ). RecordHeadText order head l after) (sym text) (head_more after order head bytes [] t)
-
 module _ (limit : ℕ) (order : Order) (r : TsResolution) where
   good_piece : (h : Head) (s after : List ℕ) → RecordHeadText order h s after → h.included ≤ limit → Piece 16 (λ b. HeadReads limit order b (good h)) s after
   good_piece h s after t below =
@@ -122,7 +88,7 @@ module _ (limit : ℕ) (order : Order) (r : TsResolution) where
       record { bytes = p.bytes; text = p.text; length_is = p.length_is; holds = (p.holds, below) }
 
   good_again : (h : Head) (s after : List ℕ) → Piece 16 (λ b. HeadReads limit order b (good h)) s after → RecordHeadText order h s after
-  good_again h s after p = head_again order h s p.bytes after p.text p.holds.0
+  good_again h s after p = head_again order h s p.bytes [] after p.text p.holds.0
 
   bad_piece : (f : Fault) (s : List ℕ) (t : HasLongHead limit order s f) → Piece 16 (λ b. HeadReads limit order b (bad f)) s t.after
   bad_piece f s t =
@@ -156,7 +122,7 @@ module _ (limit : ℕ) (order : Order) (r : TsResolution) where
   as_is_from s (faulty f) (inl x) = absurd x
   as_is_from s (faulty f) (inr (inl x)) =
       let p = x.1 in
-      record { head = p.holds.0; after = x.0; text = head_again order p.holds.0 s p.bytes x.0 p.text p.holds.1; above = p.holds.2; fault_is = p.holds.3 }
+      record { head = p.holds.0; after = x.0; text = head_again order p.holds.0 s p.bytes [] x.0 p.text p.holds.1; above = p.holds.2; fault_is = p.holds.3 }
   as_is_from s (faulty f) (inr (inr x)) = absurd (x.3.1).holds
 
 pub as_is_lawful : (limit : ℕ) (order : Order) (r : TsResolution) → IsLawful (as_is_format limit order r)

@@ -1,15 +1,14 @@
 -- Packets as they stand of a capture that comes in pieces.
 use Rattle.std.proofs.Common.{◌≡◌, ℕ, List, length, map, refl, sym, ap, subst, ◌∙◌, inl, inr}
-use Rattle.pcap_core.specs.Answer.{whole}
 use Rattle.pcap_core.specs.Format.{Front}
 use Rattle.pcap_core.specs.Pieces.{HoldsItems, IsFedUpTo, IsOpening}
 use Rattle.pcap_core.specs.Run.{IsRest}
-use Rattle.pcap_core.proofs.Formats.{front_same, whole_same}
+use Rattle.pcap_core.proofs.Formats.{front_same}
 use Rattle.pcap_core.proofs.Pieces.{made_opening}
 use Rattle.pcap_classic.specs.declared.pcap.header.PcapHeader.{PcapHeader}
 use Rattle.pcap_classic.specs.HeaderText.{HeaderSays}
 use Rattle.pcap_classic.specs.Parser.{header_of}
-use Rattle.pcap_classic.proofs.One.{header_one}
+use Rattle.pcap_classic.proofs.One.{header_same}
 use Rattle.pcap_classic.proofs.Pieces.{header_opening}
 use Rattle.pcap_tolerant.specs.declared.pieces.OwnedRunAsIs.{OwnedRunAsIs}
 use Rattle.pcap_tolerant.specs.declared.run.ParserAsIs.{ParserAsIs}
@@ -49,9 +48,7 @@ fed_run limit s parser run x same =
 -- the number of packets as they stand that bytes hold is one
 pub held_same : (limit : ℕ) (s : List ℕ) (n m : ℕ) → HoldsAsIs limit s n → HoldsAsIs limit s m → n ≡ m
 held_same limit s n m (inl x) (inl y) =
-    let one = header_one s in
-    let whole_is : whole x.0 x.3.after ≡ whole y.0 y.3.after = one.only (whole x.0 x.3.after) x.3.header_text ∙ sym (one.only (whole y.0 y.3.after) y.3.header_text) in
-    let is = whole_same x.0 y.0 x.3.after y.3.after whole_is in
+    let is = header_same x.0 y.0 s x.3.after y.3.after x.3.header_text y.3.header_text in
     let behind : Front (as_is_under limit x.0) tt x.1 y.3.after x.2 = subst (λ (t : List ℕ). Front (as_is_under limit x.0) tt x.1 t x.2) is.1 x.3.front in
     let here = subst (λ (h : PcapHeader). Front (as_is_under limit h) tt x.1 y.3.after x.2) is.0 behind in
     let same = front_same (as_is_under limit y.0) (under_lawful limit y.0) tt x.1 y.1 y.3.after x.2 y.2 here y.3.front in

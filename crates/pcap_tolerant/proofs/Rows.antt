@@ -1,13 +1,11 @@
 -- Where items stand again.
-use Rattle.std.proofs.Common.{◌≡◌, ◌<◌, ◌-◌, ℕ, zero, suc, List, [], length, sym, ap, subst, ◌∙◌, arith, inl, inr}
+use Rattle.std.proofs.Common.{◌≡◌, ◌<◌, ◌-◌, ℕ, zero, suc, List, [], length, sym, ap, subst, arith, inl, inr}
 use Rattle.std.specs.Prelude.{◌⊎◌}
 use Rattle.pcap_core.specs.declared.errors.PcapError.{PcapError}
-use Rattle.pcap_core.specs.declared.errors.PcapError.TheVariants as errors
 use Rattle.pcap_core.specs.Answer.{Order, number_in, Verdict, whole, lacks, faulty, Refuses}
-use Rattle.pcap_core.specs.Faults.{Fault, Invalid, Io, Utf8}
 use Rattle.pcap_core.specs.Format.{Format, IsLawful}
-use Rattle.pcap_core.proofs.Verdicts.{whole_no_fault}
-use Rattle.pcap_core.proofs.Formats.{nil_of_length, whole_same}
+use Rattle.pcap_core.proofs.Formats.{nil_of_length, text_same}
+use Rattle.pcap_core.proofs.Fronts.{said_not_refused}
 use Rattle.pcap_classic.specs.declared.common.TsResolution.{TsResolution}
 use Rattle.pcap_classic.specs.declared.pcap.header.PcapHeader.{PcapHeader}
 use Rattle.pcap_classic.specs.Magic.{order_of, resolution_of}
@@ -21,35 +19,14 @@ module _ {S V : Type 0} (f : Format S V) (P : V → Type 0) (laws : IsLawful f) 
   -- a row goes on behind the item that stands there
   pub row_down : (q : S) (k : ℕ) (s after : List ℕ) (v : V) → f.says q s (whole v after) → Row f P q (suc k) s → (after ≡ []) ⊎ Row f P (f.goes q v) k after
   row_down q k s after v x row =
-      let one = laws.one q s in
-      let e = whole_same row.0 v row.1 after (one.only (whole row.0 row.1) row.2 ∙ sym (one.only (whole v after) x)) in
+      let e = text_same f laws q row.0 v s row.1 after row.2 x in
       let here : (row.1 ≡ []) ⊎ Row f P (f.goes q v) k row.1 = subst (λ (w : V). (row.1 ≡ []) ⊎ Row f P (f.goes q w) k row.1) e.0 row.4 in
       subst (λ (a : List ℕ). (a ≡ []) ⊎ Row f P (f.goes q v) k a) e.1 here
 
   pub row_sound : (q : S) (k : ℕ) (s after : List ℕ) (v : V) → f.says q s (whole v after) → Row f P q (suc k) s → P v
   row_sound q k s after v x row =
-      let one = laws.one q s in
-      let e = whole_same row.0 v row.1 after (one.only (whole row.0 row.1) row.2 ∙ sym (one.only (whole v after) x)) in
+      let e = text_same f laws q row.0 v s row.1 after row.2 x in
       subst P e.0 row.3
-
-  other_verdict : (v : V) (a : List ℕ) (n : ℕ) → whole v a ≡ lacks n → ⊥
-  other_verdict v a n e = absurd cc
-
-  pub row_lacks : (q : S) (k n : ℕ) (s : List ℕ) → f.says q s (lacks n) → Row f P q (suc k) s → ⊥
-  row_lacks q k n s x row = let one = laws.one q s in other_verdict row.0 row.1 n (one.only (whole row.0 row.1) row.2 ∙ sym (one.only (lacks n) x))
-
-  pub row_fault : (q : S) (k : ℕ) (fault : Fault) (s : List ℕ) → f.says q s (faulty fault) → Row f P q (suc k) s → ⊥
-  row_fault q k fault s x row = let one = laws.one q s in whole_no_fault row.0 row.1 fault (one.only (whole row.0 row.1) row.2 ∙ sym (one.only (faulty fault) x))
-
-  -- where a call refuses, no row stands
-  pub row_refused : (q : S) (k : ℕ) (s : List ℕ) (e : PcapError) → Refuses ⊥ (λ n. f.says q s (lacks n)) (λ fault. f.says q s (faulty fault)) e → Row f P q (suc k) s → ⊥
-  row_refused q k s (errors.IncompleteBuffer n) x row = row_lacks q k n s x row
-  row_refused q k s (errors.InvalidField text) x row = row_fault q k (Invalid x.0) s x.2 row
-  row_refused q k s (errors.IoError io) x row = row_fault q k Io s x row
-  row_refused q k s (errors.Utf8Error utf) x row = row_fault q k Utf8 s x row
-  row_refused q k s (errors.FromUtf8Error utf) x row = x
-  row_refused q k s (errors.OutOfMemory memory) x row = x
-  row_refused q k s errors.WriterFailed x row = x
 
   -- ---- the same of a count that goes down by one an item
 
@@ -72,7 +49,7 @@ module _ {S V : Type 0} (f : Format S V) (P : V → Type 0) (laws : IsLawful f) 
 
   pub goes_no_further : (q : S) (more : ℕ) (s : List ℕ) (e : PcapError) → Refuses ⊥ (λ n. f.says q s (lacks n)) (λ fault. f.says q s (faulty fault)) e → 0 < more → Row f P q more s → ⊥
   goes_no_further q zero s e x some row = omega (arith, some)
-  goes_no_further q (suc k) s e x some row = row_refused q k s e x row
+  goes_no_further q (suc k) s e x some row = said_not_refused (f.says q s) (laws.one q s) row.0 row.1 row.2 e x
 
   pub goes_not_over : (q : S) (more : ℕ) (s rest : List ℕ) (v : V) → f.says q s (whole v rest) → (P v → ⊥) → 0 < more → Row f P q more s → ⊥
   goes_not_over q zero s rest v x unsound some row = omega (arith, some)

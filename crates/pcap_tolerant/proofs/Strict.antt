@@ -34,11 +34,8 @@ head_first r head = first_is (nat_lt 4294967295 (nanoseconds r head.fraction)) (
 -- nothing is broken: each of the four tests fails
 none_broken : (a b d e : Bool) → where_broken a FractionTooLarge (where_broken b IncludedTooLong (where_broken d OriginalTooLong (where_broken e IncludedPastOriginal []))) ≡ []
     → (a ≡ false) × (b ≡ false) × (d ≡ false) × (e ≡ false)
-none_broken true b d e x = absurd cc
-none_broken false true d e x = absurd cc
-none_broken false false true e x = absurd cc
-none_broken false false false true x = absurd cc
 none_broken false false false false x = (refl, refl, refl, refl)
+none_broken _ _ _ _ x = absurd cc
 
 unflawed_good : (r : TsResolution) (head : Head) → rules_of (flaws_of r head) ≡ [] → IsGood packet_limit r head
 unflawed_good r head x =

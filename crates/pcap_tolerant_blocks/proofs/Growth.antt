@@ -2,7 +2,7 @@
 use Rattle.std.proofs.Common.{◌≡◌, ◌≢◌, ℕ, List, [], ◌∷◌, map, Option, Some, None, refl, sym, ap, subst, ◌∙◌}
 use Rattle.byteorder.specs.Endian.{big_number}
 use Rattle.pcap_core.specs.declared.common.Endianness.{Endianness}
-use Rattle.pcap_core.specs.Answer.{Order, Number, number_in, Verdict, whole, lacks, faulty, Says}
+use Rattle.pcap_core.specs.Answer.{Order, Number, number_in, Verdict, whole}
 use Rattle.pcap_core.specs.Faults.{Fault}
 use Rattle.pcap_core.specs.Laws.{ExactlyOne}
 use Rattle.pcap_core.specs.Padded.{Chain}
@@ -17,7 +17,7 @@ use Rattle.pcap_tolerant_blocks.specs.Flaws.{Said, Flawed, alone, KeepsSome}
 use Rattle.pcap_tolerant_blocks.specs.OptionsAsIs.{Judged, JudgedText, entry_in, cut_by, flaws_in, OptionsAsIs, OptionsAsIsSay, OptionsGrow}
 use Rattle.pcap_tolerant_blocks.specs.SectionAsIs.{AfterMagic, SectionGrows, VersionGrows}
 use Rattle.pcap_tolerant_blocks.proofs.Lists.{ReadSoFar}
-use Rattle.pcap_tolerant_blocks.proofs.OneAsIs.{raw_text, list_one}
+use Rattle.pcap_tolerant_blocks.proofs.OneAsIs.{BodySays, raw_text, list_one}
 use Rattle.pcap_core.proofs.Formats.{whole_same}
 
 -- ---- lists
@@ -51,10 +51,6 @@ module _ (order : Order) (kind : Kind) where
 
 -- ---- bodies
 
--- what is said of bytes where a body as it stands is asked for
-abbrev BodySays : {V : Type 0} → (Option V → List Said → List ℕ → List ℕ → Type 0) → List ℕ → Verdict (Flawed (Option V)) → Type 0
-BodySays IsBody s = Says (λ x rest. IsBody x.value x.flaws s rest) (λ n. ⊥) (λ fault. ⊥)
-
 module _ {V : Type 0} (IsBody : Option V → List Said → List ℕ → List ℕ → Type 0) (s : List ℕ) (one : ExactlyOne (BodySays IsBody s)) where
   body_same : (x y : Flawed (Option V)) (a b : List ℕ) → IsBody x.value x.flaws s a → IsBody y.value y.flaws s b → x ≡ y
   body_same x y a b h k = (whole_same x y a b (one.only (whole x a) h ∙ sym (one.only (whole y b) k))).0
@@ -78,8 +74,7 @@ module _ {V : Type 0} (IsBody : Option V → List Said → List ℕ → List ℕ
         let flaws_same : x.flaws ≡ [] = ap (λ (z : Flawed (Option V)). z.flaws) same in
         let none : x.value ≡ [] = sym (made_of x.value) ∙ ap options_in value_same ∙ bare in
         (left, subst (λ (l : List Entry). OptionsAsIs order kind l [] after left) none (subst (λ (l : List Said). OptionsAsIs order kind x.value l after left) flaws_same h))
-    bare_options (lacks n) h value rest text bare = absurd h
-    bare_options (faulty f) h value rest text bare = absurd h
+    bare_options _ h value rest text bare = absurd h
 
     pub grows_behind : OptionsGrow order kind after → KeepsSome (λ x. IsBody (Some x)) (λ x. options_in x ≡ []) s
     grows_behind grows value rest text bare =

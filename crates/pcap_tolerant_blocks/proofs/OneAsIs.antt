@@ -22,7 +22,7 @@ use Rattle.pcap_blocks.proofs.NumbersThen.{IsNumbersThen, numbers_then_one}
 use Rattle.pcap_blocks.proofs.OneSection.{version_length}
 use Rattle.pcap_raw_options.specs.UpTo.{UpTo, StopsAt, ReadUpTo, no_kind}
 use Rattle.pcap_raw_options.proofs.OneUpTo.{up_to_one}
-use Rattle.pcap_tolerant_blocks.specs.Flaws.{Said, Flawed, alone}
+use Rattle.pcap_tolerant_blocks.specs.Flaws.{Said, Flawed}
 use Rattle.pcap_tolerant_blocks.specs.OptionsAsIs.{Judged, judged, JudgedText, entry_in, cut_by, flaws_in, OptionsAsIsSay}
 use Rattle.pcap_tolerant_blocks.specs.InterfaceAsIs.{WithHead, InterfaceText, InterfaceAsIsSays}
 use Rattle.pcap_tolerant_blocks.specs.SectionAsIs.{AfterMagic, SectionText, NoSection, short_section, unnamed, SectionAsIsSays}
@@ -31,6 +31,52 @@ use Rattle.pcap_tolerant_blocks.specs.SectionAsIs.{AfterMagic, SectionText, NoSe
 pub one_image : {X Y : Type 0} (P : X → Type 0) (Q : Y → Type 0) (make : X → Y) → ((x : X) → P x → Q (make x)) → ((y : Y) → Q y → (x : X) × P x × (y ≡ make x)) → ExactlyOne P → ExactlyOne Q
 one_image P Q make to from one =
     record { value = make one.value; holds = to one.value one.holds; only = λ y h. let t = from y h in t.2 ∙ ap make (one.only t.0 t.1) }
+
+-- ---- a body that there may be no room for
+
+abbrev pub said : Fault → List Said
+said fault = record { code = None; fault = fault } ∷ []
+
+placed : {V : Type 0} → List ℕ → Verdict (Flawed V) → Verdict (Flawed (Option V))
+placed s (whole x rest) = whole (record { value = Some x.value; flaws = x.flaws }) rest
+placed s (lacks n) = lacks n
+placed s (faulty fault) = whole (record { value = None; flaws = said fault }) s
+
+-- what is said of bytes where a body as it stands is asked for
+abbrev pub BodySays : {V : Type 0} → (Option V → List Said → List ℕ → List ℕ → Type 0) → List ℕ → Verdict (Flawed (Option V)) → Type 0
+BodySays IsBody s = Says (λ x rest. IsBody x.value x.flaws s rest) (λ n. ⊥) (λ fault. ⊥)
+
+module _ {V : Type 0} (IsBody : Option V → List Said → List ℕ → List ℕ → Type 0) (HasFault : List ℕ → Fault → Type 0) (s : List ℕ) (none_to : (fault : Fault) → HasFault s fault → IsBody None (said fault) s s)
+    (none_from : (flaws : List Said) (rest : List ℕ) → IsBody None flaws s rest → (fault : Fault) × HasFault s fault × (flaws ≡ said fault) × (rest ≡ s)) where
+  abbrev Fitted : Verdict (Flawed V) → Type 0
+  Fitted = Says (λ x rest. IsBody (Some x.value) x.flaws s rest) (λ n. ⊥) (HasFault s)
+
+  placed_to : (v : Verdict (Flawed V)) → Fitted v → BodySays IsBody s (placed s v)
+  unfolding placed
+  placed_to (whole x rest) h = h
+  placed_to (lacks n) h = h
+  placed_to (faulty fault) h = none_to fault h
+
+  none_with : List Said → List ℕ → Verdict (Flawed (Option V))
+  none_with flaws rest = whole (record { value = None; flaws = flaws }) rest
+
+  none_same : (flaws : List Said) (rest : List ℕ) (fault : Fault) → flaws ≡ said fault → rest ≡ s → none_with flaws rest ≡ placed s (faulty fault)
+  unfolding placed none_with
+  none_same flaws rest fault f r = rw (f, r) refl
+
+  placed_text : (value : Option V) (flaws : List Said) (rest : List ℕ) → IsBody value flaws s rest → (v : Verdict (Flawed V)) × Fitted v × (whole (record { value = value; flaws = flaws }) rest ≡ placed s v)
+  unfolding placed none_with
+  placed_text (Some value) flaws rest h = (whole (record { value = value; flaws = flaws }) rest, h, refl)
+  placed_text None flaws rest h =
+      let t = none_from flaws rest h in
+      (faulty t.0, t.1, none_same flaws rest t.0 t.2 t.3)
+
+  placed_from : (v : Verdict (Flawed (Option V))) → BodySays IsBody s v → (w : Verdict (Flawed V)) × Fitted w × (v ≡ placed s w)
+  placed_from (whole x rest) h = placed_text x.value x.flaws rest h
+  placed_from _ h = absurd h
+
+  pub placed_one : ExactlyOne Fitted → ExactlyOne (BodySays IsBody s)
+  placed_one one = one_image Fitted (BodySays IsBody s) (placed s) placed_to placed_from one
 
 -- ---- options: the raw ones up to their fault, each judged by its kind
 
@@ -107,8 +153,7 @@ module _ (order : Order) (kind : Kind) where
       let flaws : x.flaws ≡ flaws_in (map judge_raw raws.0) (cut_by h.cut) = h.flaws_are ∙ ap (λ (l : List Judged). flaws_in l (cut_by h.cut)) raws.2 in
       let same : list_with x.value x.flaws rest ≡ list_with (map entry_in (map judge_raw raws.0)) (flaws_in (map judge_raw raws.0) (cut_by h.cut)) rest = rw (options, flaws) refl in
       (up_to, read, same)
-  list_from s (lacks n) h = absurd h
-  list_from s (faulty f) h = absurd h
+  list_from s _ h = absurd h
 
   pub list_one : (s : List ℕ) → ExactlyOne (OptionsAsIsSay order kind s)
   list_one s = one_image (λ (x : UpTo). ReadUpTo may_end_with_body order no_kind x s) (OptionsAsIsSay order kind s) list_of (list_to s) (list_from s) (up_to_one may_end_with_body order no_kind s)
@@ -160,41 +205,10 @@ interface_then order = record {
   no_lack = λ s n h. h;
 }
 
-placed : Verdict (Flawed Interface) → List ℕ → Verdict (Flawed (Option Interface))
-placed (whole x rest) s = whole (record { value = Some x.value; flaws = x.flaws }) rest
-placed (lacks n) s = lacks n
-placed (faulty f) s = whole (record { value = None; flaws = alone InterfaceTooShort }) s
-
-module _ (order : Order) (s : List ℕ) where
-  abbrev Headed : Verdict (Flawed Interface) → Type 0
-  Headed = Says (λ x rest. HeadedText order x s rest) (λ n. ⊥) (NoHead s)
-
-  placed_to : (v : Verdict (Flawed Interface)) → Headed v → InterfaceAsIsSays order s (placed v s)
-  unfolding placed
-  placed_to (whole x rest) h = h
-  placed_to (lacks n) h = h
-  placed_to (faulty f) h = (h.1, refl, refl)
-
-  none_with : List Said → List ℕ → Verdict (Flawed (Option Interface))
-  none_with flaws rest = whole (record { value = None; flaws = flaws }) rest
-
-  placed_text : (interface : Option Interface) (flaws : List Said) (rest : List ℕ) → InterfaceText order interface flaws s rest
-      → (v : Verdict (Flawed Interface)) × Headed v × (whole (record { value = interface; flaws = flaws }) rest ≡ placed v s)
-  unfolding placed none_with
-  placed_text (Some i) flaws rest h = (whole (record { value = i; flaws = flaws }) rest, h, refl)
-  placed_text None flaws rest h =
-      let same : none_with flaws rest ≡ none_with (alone InterfaceTooShort) s = rw (h.1, h.2) refl in
-      (faulty (Invalid InterfaceTooShort), (refl, h.0), same)
-
-  placed_from : (v : Verdict (Flawed (Option Interface))) → InterfaceAsIsSays order s v → (w : Verdict (Flawed Interface)) × Headed w × (v ≡ placed w s)
-  placed_from (whole x rest) h = placed_text x.value x.flaws rest h
-  placed_from (lacks n) h = absurd h
-  placed_from (faulty f) h = absurd h
-
-  pub interface_one : ExactlyOne (InterfaceAsIsSays order s)
-  interface_one =
-      let one = numbers_then_one order (Invalid InterfaceTooShort) head_widths interface_with (OptionsAsIsSay order interface_description) (HeadedText order) NoHead (interface_then order) (list_one order interface_description) s in
-      one_image Headed (InterfaceAsIsSays order s) (λ v. placed v s) placed_to placed_from one
+pub interface_one : (order : Order) (s : List ℕ) → ExactlyOne (InterfaceAsIsSays order s)
+interface_one order s =
+    let one = numbers_then_one order (Invalid InterfaceTooShort) head_widths interface_with (OptionsAsIsSay order interface_description) (HeadedText order) NoHead (interface_then order) (list_one order interface_description) s in
+    placed_one (InterfaceText order) NoHead s (λ fault h. (h.1, ap said h.0, refl)) (λ flaws rest h. (Invalid InterfaceTooShort, (refl, h.0), h.1, h.2)) one
 
 -- ---- sections: a magic number, a version of three numbers in its order, and options
 
@@ -315,12 +329,11 @@ module _ (s : List ℕ) where
 
   section_only : (v w : Verdict (Flawed Section)) → SectionAsIsSays s v → SectionAsIsSays s w → v ≡ w
   section_only (whole x a) (whole y b) h k = text_only x y a b h k
-  section_only (whole x a) (lacks n) h k = absurd k
   section_only (whole x a) (faulty f) h k = absurd (text_no_fault x a f h k)
   section_only (lacks n) w h k = absurd h
   section_only (faulty f) (whole y b) h k = absurd (text_no_fault y b f k h)
-  section_only (faulty f) (lacks n) h k = absurd k
   section_only (faulty f) (faulty g) h k = rw (fault_only f g h k) refl
+  section_only _ _ h k = absurd k
 
   pub section_one : ExactlyOne (SectionAsIsSays s)
   section_one = let t = section_there in record { value = t.0; holds = t.1; only = λ w k. section_only w t.0 k t.1 }

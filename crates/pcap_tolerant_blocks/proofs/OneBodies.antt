@@ -1,5 +1,5 @@
 -- Of all bytes one thing is said as a packet or as statistics as they stand.
-use Rattle.std.proofs.Common.{◌≡◌, ◌<◌, ℕ, ◌+◌, ◌*◌, ◌^◌, List, [], ◌∷◌, length, take, drop, Option, Some, None, refl, sym, ap, subst, arith, inl, inr}
+use Rattle.std.proofs.Common.{◌≡◌, ◌<◌, ℕ, ◌+◌, ◌*◌, ◌^◌, List, [], ◌∷◌, length, take, drop, refl, sym, ap, subst, arith, inl, inr}
 use Rattle.std.specs.Prelude.{◌⊎◌}
 use Rattle.std.proofs.lemmas.Bool.{cases_lt}
 use Rattle.std.proofs.lemmas.List.{take-append-drop, length-take, length-drop, length-append}
@@ -22,53 +22,22 @@ use Rattle.pcap_blocks.specs.InterfaceStatistics.{interface_statistics, Statisti
 use Rattle.pcap_blocks.proofs.OneWhole.{simple_one}
 use Rattle.pcap_blocks.proofs.StoredPackets.{stored}
 use Rattle.pcap_blocks.proofs.NumbersThen.{IsNumbersThen, numbers_then_one}
-use Rattle.pcap_tolerant_blocks.specs.Flaws.{Said, Flawed, alone, IfRoom, IfRoomSays}
+use Rattle.pcap_tolerant_blocks.specs.Flaws.{Said, Flawed, IfRoom, IfRoomSays}
 use Rattle.pcap_tolerant_blocks.specs.OptionsAsIs.{OptionsAsIsSay}
 use Rattle.pcap_tolerant_blocks.specs.StoredAsIs.{WithBytes, NoBytes, NoPacket, no_head, no_bytes}
 use Rattle.pcap_tolerant_blocks.specs.EnhancedAsIs.{OfInterface, EnhancedAsIsSays}
 use Rattle.pcap_tolerant_blocks.specs.PacketBlockAsIs.{WithDrops, PacketBlockAsIsSays}
 use Rattle.pcap_tolerant_blocks.specs.SimpleAsIs.{Whole, NoLength, SimpleAsIsSays}
 use Rattle.pcap_tolerant_blocks.specs.StatisticsAsIs.{AtTime, NoTime, StatisticsAsIsSay}
-use Rattle.pcap_tolerant_blocks.proofs.OneAsIs.{one_image, list_one}
+use Rattle.pcap_tolerant_blocks.proofs.OneAsIs.{said, one_image, placed_one, list_one}
 
 -- ---- a body that there may be no room for
 
-said : Fault → List Said
-said fault = record { code = None; fault = fault } ∷ []
-
-placed : {V : Type 0} → List ℕ → Verdict (Flawed V) → Verdict (Flawed (Option V))
-placed s (whole x rest) = whole (record { value = Some x.value; flaws = x.flaws }) rest
-placed s (lacks n) = lacks n
-placed s (faulty fault) = whole (record { value = None; flaws = said fault }) s
-
-module _ {V : Type 0} (IsText : V → List Said → List ℕ → List ℕ → Type 0) (NoRoom : List ℕ → Rule → Type 0) (HasFault : List ℕ → Fault → Type 0) (s : List ℕ)
-    (fault_to : (fault : Fault) → HasFault s fault → (rule : Rule) × NoRoom s rule × (fault ≡ Invalid rule)) (fault_from : (rule : Rule) → NoRoom s rule → HasFault s (Invalid rule)) where
-  abbrev Fitted : Verdict (Flawed V) → Type 0
-  Fitted = Says (λ x rest. IsText x.value x.flaws s rest) (λ n. ⊥) (HasFault s)
-
-  placed_to : (v : Verdict (Flawed V)) → Fitted v → IfRoomSays IsText NoRoom s (placed s v)
-  unfolding placed said
-  placed_to (whole x rest) h = h
-  placed_to (lacks n) h = h
-  placed_to (faulty fault) h = let t = fault_to fault h in (t.0, t.1, ap said t.2, refl)
-
-  none_with : List Said → List ℕ → Verdict (Flawed (Option V))
-  none_with flaws rest = whole (record { value = None; flaws = flaws }) rest
-
-  placed_text : (value : Option V) (flaws : List Said) (rest : List ℕ) → IfRoom IsText NoRoom value flaws s rest → (v : Verdict (Flawed V)) × Fitted v × (whole (record { value = value; flaws = flaws }) rest ≡ placed s v)
-  unfolding placed said none_with
-  placed_text (Some value) flaws rest h = (whole (record { value = value; flaws = flaws }) rest, h, refl)
-  placed_text None flaws rest h =
-      let same : none_with flaws rest ≡ none_with (alone h.0) s = rw (h.2, h.3) refl in
-      (faulty (Invalid h.0), fault_from h.0 h.1, same)
-
-  placed_from : (v : Verdict (Flawed (Option V))) → IfRoomSays IsText NoRoom s v → (w : Verdict (Flawed V)) × Fitted w × (v ≡ placed s w)
-  placed_from (whole x rest) h = placed_text x.value x.flaws rest h
-  placed_from (lacks n) h = absurd h
-  placed_from (faulty fault) h = absurd h
-
-  if_room_one : ExactlyOne Fitted → ExactlyOne (IfRoomSays IsText NoRoom s)
-  if_room_one one = one_image Fitted (IfRoomSays IsText NoRoom s) (placed s) placed_to placed_from one
+if_room_one : {V : Type 0} (IsText : V → List Said → List ℕ → List ℕ → Type 0) (NoRoom : List ℕ → Rule → Type 0) (HasFault : List ℕ → Fault → Type 0) (s : List ℕ)
+    → ((fault : Fault) → HasFault s fault → (rule : Rule) × NoRoom s rule × (fault ≡ Invalid rule)) → ((rule : Rule) → NoRoom s rule → HasFault s (Invalid rule))
+    → ExactlyOne (Says (λ (x : Flawed V) rest. IsText x.value x.flaws s rest) (λ n. ⊥) (HasFault s)) → ExactlyOne (IfRoomSays IsText NoRoom s)
+if_room_one IsText NoRoom HasFault s fault_to fault_from one =
+    placed_one (IfRoom IsText NoRoom) HasFault s (λ fault h. let t = fault_to fault h in (t.0, t.1, ap said t.2, refl)) (λ flaws rest h. (Invalid h.0, fault_from h.0 h.1, h.2, h.3)) one
 
 -- ---- packets with a time: the halves of the time, captured and original length, the bytes, and options
 

@@ -70,10 +70,9 @@ module _ (order : Order) where
       let same = behind_same s a b x.1.value y.1.value x.1.flaws y.1.flaws h.1 k.1 in
       let whole_same : made y.0 y.1 b ≡ made x.0 x.1 a = rw (h.0, k.0, same.0, same.1) refl in
       whole_same
-  stop_same good s (whole x a) (lacks n) h k = absurd k
-  stop_same good s (whole x a) (faulty f) h k = absurd k
   stop_same good s (lacks n) w h k = absurd h
   stop_same good s (faulty f) w h k = absurd h
+  stop_same good s _ _ h k = absurd k
 
   behind_no_item : (s a b : List ℕ) (os : List Entry) (fs : List Said) (r : Flawed NameRecord) → BehindRecords order s a os fs → KeptAsIs order r s b → ⊥
   behind_no_item s a b os fs r (ended e m o f typed list) k = end_no_kept order e r s m b typed k
@@ -122,8 +121,7 @@ module _ (order : Order) where
       → (w : Verdict Reading) × Stop good s w
   unfolding Stop flawed
   end_there good s rest end typed (whole x left) h = (whole (good, flawed x.value (end.flaws ++ x.flaws)) left, (refl, ended end rest x.value x.flaws typed h))
-  end_there good s rest end typed (lacks n) h = absurd h
-  end_there good s rest end typed (faulty f) h = absurd h
+  end_there good s rest end typed _ h = absurd h
 
   typed_there : (good : List (Flawed NameRecord)) (s rest : List ℕ) (type : ℕ) (r : Flawed NameRecord) → TypedText order type r s rest
       → ((w : Verdict Reading) × Stop good s w) ⊎ ((r : Flawed NameRecord) × (a : List ℕ) × KeptAsIs order r s a)
@@ -175,8 +173,7 @@ module _ (order : Order) where
   names_from s (whole x rest) h =
       let same : names_with x.value.records x.value.options x.flaws rest ≡ names_with (map record_in h.each) x.value.options (flat_map flaws_of h.each ++ h.last) rest = rw (h.records_are, h.flaws_are) refl in
       (whole (h.each, flawed x.value.options h.last) rest, (h.each, h.stop, h.are, (refl, h.behind)), same)
-  names_from s (lacks n) h = absurd h
-  names_from s (faulty f) h = absurd h
+  names_from s _ h = absurd h
 
   pub names_one : (s : List ℕ) → ExactlyOne (NamesAsIsSay order s)
   names_one s = one_image (Stopped (KeptAsIs order) Stop s) (NamesAsIsSay order s) names_in (names_to s) (names_from s) (one_stopped (KeptAsIs order) Stop many s)

@@ -6,7 +6,7 @@ use Rattle.std.proofs.Math.Seq.{take-append_seam}
 use Rattle.std.proofs.lemmas.List.Concat.{flat_map-append}
 use Rattle.std.proofs.lemmas.List.Elements.{All-push, filter-append}
 use Rattle.std.proofs.lemmas.List.{length-take}
-use Rattle.pcap_core.specs.Answer.{Order, Number, Verdict, whole, lacks, faulty}
+use Rattle.pcap_core.specs.Answer.{Order, Number, Verdict, whole}
 use Rattle.pcap_core.specs.Faults.{Fault}
 use Rattle.pcap_core.specs.Padded.{Padded, Chain}
 use Rattle.pcap_core.proofs.OnePadded.{padded_length}
@@ -103,8 +103,7 @@ module _ (order : Order) (kind : Kind) where
   pieces_all s left kept so_far (whole x rest) h =
       let on = pieces_on h.each s left h.stop kept so_far h.are in
       (on.0, pieces_end s h.stop rest (kept ++ on.0) h.cut on.1 (stops_any order kind x.value [] h.cut h.stop rest h.stops))
-  pieces_all s left kept so_far (lacks n) h = absurd h
-  pieces_all s left kept so_far (faulty f) h = absurd h
+  pieces_all s left kept so_far _ h = absurd h
 
   -- an option without a flaw is put
   pub puts_some : (s left after kept : List ℕ) (option : Judged) → PiecesSoFar s left kept → JudgedText order kind option left after → option.flaws ≡ [] → PutsSome order kind s

@@ -8,7 +8,7 @@ use Rattle.std.proofs.lemmas.List.Concat.{flat_map-append}
 use Rattle.pcap_core.specs.Answer.{Order, Number, Verdict, whole, faulty, Refuses}
 use Rattle.pcap_core.specs.Faults.{Fault, Io, Names}
 use Rattle.pcap_core.specs.declared.errors.PcapError.{PcapError}
-use Rattle.pcap_core.specs.declared.errors.PcapError.TheVariants.{IncompleteBuffer, IoError, InvalidField, Utf8Error, FromUtf8Error, OutOfMemory, WriterFailed}
+use Rattle.pcap_core.specs.declared.errors.PcapError.TheVariants.{IoError, InvalidField, Utf8Error, OutOfMemory}
 use Rattle.pcap_core.specs.declared.rules.Rule.{Rule}
 use Rattle.pcap_core.specs.Padded.{Padded, Chain}
 use Rattle.pcap_core.specs.Bytes.{cow_bytes}
@@ -32,12 +32,10 @@ use Rattle.pcap_tolerant_blocks.specs.NamesAsIs.{only, IsJudged, sound, broken, 
 
 pub io_stands : (MayGrow : Type 0) (HasFault : Fault → Type 0) (error : PcapError) → ((rule : Rule) → Names rule error → ⊥) → ((e : _) → error ≡ Utf8Error e → ⊥) → ((e : _) → error ≡ OutOfMemory e → ⊥) → Refuses MayGrow (λ n. ⊥) HasFault error → HasFault Io
 io_stands MayGrow HasFault (InvalidField message) named utf8 memory t = absurd (named t.0 t.1)
-io_stands MayGrow HasFault (IncompleteBuffer n) named utf8 memory t = absurd t
 io_stands MayGrow HasFault (IoError e) named utf8 memory t = t
 io_stands MayGrow HasFault (Utf8Error e) named utf8 memory t = absurd (utf8 e refl)
-io_stands MayGrow HasFault (FromUtf8Error e) named utf8 memory t = absurd t
 io_stands MayGrow HasFault (OutOfMemory e) named utf8 memory t = absurd (memory e refl)
-io_stands MayGrow HasFault WriterFailed named utf8 memory t = absurd t
+io_stands MayGrow HasFault _ named utf8 memory t = absurd t
 
 -- ---- what stands at the front of bytes is one
 

@@ -1,6 +1,6 @@
 -- Blocks as they stand that are copied, or passed over.
-use Rattle.std.proofs.Common.{◌≡◌, ℕ, List, [], Bool, refl, sym, subst, inr, Ok, Some, None}
-use Rattle.std.specs.Prelude.{Option, ⊤}
+use Rattle.std.proofs.Common.{◌≡◌, ℕ, List, [], Bool, refl, sym, subst, Ok, Some, None}
+use Rattle.std.specs.Prelude.{Option}
 use Rattle.std.specs.Option.{is_some}
 use Rattle.pcap_core.specs.declared.common.Endianness.{Endianness}
 use Rattle.pcap_core.specs.declared.errors.PcapError.{PcapError}
@@ -9,12 +9,12 @@ use Rattle.pcap_core.specs.AsTheyCame.{HoldsNext, PassesBytes}
 use Rattle.pcap_core.specs.Headed.{good}
 use Rattle.pcap_core.specs.Reading.{Pulls}
 use Rattle.pcap_core.proofs.Formats.{text_same}
+use Rattle.pcap_core.proofs.Fronts.{said_not_refused}
 use Rattle.pcap_blocks.specs.InterfaceDescription.{Interface}
 use Rattle.pcap_blocks.specs.SectionHeader.{Section}
 use Rattle.pcap_file.specs.Frames.{Framed, FrameText, FrameSays, frame_format}
 use Rattle.pcap_file.specs.Lent.{HoldsText}
 use Rattle.pcap_file.proofs.HeadedFrames.{frames_lawful}
-use Rattle.pcap_tolerant.proofs.Rows.{row_refused}
 use Rattle.pcap_tolerant_captures.specs.declared.parser.PcapNgParserAsIs.{PcapNgParserAsIs}
 use Rattle.pcap_tolerant_captures.specs.declared.reader.LentAsIs.{LentAsIs}
 use Rattle.pcap_tolerant_captures.specs.Blocks.{Item, as_is_format}
@@ -68,4 +68,4 @@ module _ (section : Section) (interfaces : List (Option Interface)) (e : Endiann
   unfolding as_is_format frame_format
   refused_stands error refuses item after text leaves =
       let there = subst (λ (o : Endianness). FrameText o item.block s after) (sym same) text.frame in
-      row_refused frame_format (λ (b : Framed). ⊤) frames_lawful e 0 s error refuses (item.block, after, there, tt, inr tt)
+      said_not_refused (FrameSays e s) (frames_lawful.one e s) item.block after there error refuses

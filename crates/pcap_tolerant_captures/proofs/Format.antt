@@ -55,8 +55,7 @@ module _ (section : Section) (interfaces : List (Option Interface)) (b : Framed)
   added_to : (v : Verdict (Flawed (Option Interface))) → InterfaceAsIsSays (number_in b.endianness) b.body v → MeansFor adds_interface q b (added v)
   unfolding q added led_with
   added_to (whole x rest) h = (interfaces ++ x.value ∷ [], record { interface = x.value; rest = rest; text = h; one_more = refl }, refl)
-  added_to (lacks n) h = absurd h
-  added_to (faulty f) h = absurd h
+  added_to _ h = absurd h
 
   added_from : (r : HeadReading Led) → MeansFor adds_interface q b r → (v : Verdict (Flawed (Option Interface))) × InterfaceAsIsSays (number_in b.endianness) b.body v × (r ≡ added v)
   unfolding q added led_with

@@ -1,5 +1,5 @@
 -- Blocks in their frames that stand in a row.
-use Rattle.std.proofs.Common.{◌≡◌, ◌<◌, ◌≤◌, ◌+◌, ◌-◌, ℕ, List, length, take, drop, sym, subst, ◌∙◌, arith, inl, inr}
+use Rattle.std.proofs.Common.{◌≡◌, ◌<◌, ◌≤◌, ◌+◌, ◌-◌, ℕ, List, length, take, drop, refl, sym, subst, ◌∙◌, arith, inl, inr}
 use Rattle.std.proofs.lemmas.Bool.{cases_lt}
 use Rattle.std.proofs.lemmas.List.{take_all, length-drop}
 use Rattle.pcap_core.specs.declared.common.Endianness.{Endianness}
@@ -11,19 +11,11 @@ use Rattle.pcap_file.specs.Frames.{Framed, FrameText, FrameSays, frame_format}
 use Rattle.pcap_file.proofs.HeadedFrames.{frames_lawful, frame_one}
 use Rattle.pcap_tolerant.proofs.Rows.{goes_down, goes_up, goes_to_the_end, goes_no_further, goes_not_over}
 use Rattle.pcap_tolerant_captures.specs.Resync.{frames_in_a_row, FrameRow, HasRoom, HeaderStands}
-use Rattle.pcap_core.proofs.Formats.{whole_same}
+use Rattle.pcap_core.proofs.Formats.{lawful_moved, whole_same}
 
 laws : IsLawful frames_in_a_row
 unfolding frames_in_a_row frame_format
-laws = record {
-  one = frames_lawful.one;
-  stable = frames_lawful.stable;
-  own = frames_lawful.own;
-  some = omega arith;
-  asks = frames_lawful.asks;
-  short = frames_lawful.short;
-  last = frames_lawful.last;
-}
+laws = lawful_moved frame_format frames_in_a_row refl (λ e s v x. x) (λ e s v x. x) frames_lawful
 
 -- a row of one frame
 one_row : (e : Endianness) (s : List ℕ) (b : Framed) (rest : List ℕ) → FrameText e b s rest → HasRoom b → FrameRow e 1 s

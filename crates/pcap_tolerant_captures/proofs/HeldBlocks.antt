@@ -10,8 +10,7 @@ use Rattle.pcap_core.specs.Filling.{IsSettled, IsAskedFor}
 use Rattle.pcap_core.specs.Headed.{HeadReading, good, bad}
 use Rattle.pcap_core.specs.Reading.{HasCause, no_memory, TakesAsked}
 use Rattle.pcap_core.proofs.Filled.{held_refused}
-use Rattle.pcap_core.proofs.Verdicts.{fault_no_whole}
-use Rattle.pcap_core.proofs.Formats.{whole_same}
+use Rattle.pcap_core.proofs.Formats.{fault_no_text, lacks_no_text, only, text_same}
 use Rattle.pcap_file.specs.Frames.{Framed, FrameText, FrameSays, frame_format}
 use Rattle.pcap_file.specs.Lent.{header_of, framed_around, body_in}
 use Rattle.pcap_file.specs.declared.pcapng.block_header.BlockHeader.{BlockHeader}
@@ -19,7 +18,7 @@ use Rattle.pcap_file.proofs.Frames.{frame_long}
 use Rattle.pcap_file.proofs.Lent.{held_block}
 use Rattle.pcap_tolerant_captures.specs.State.{State, order_at, Led, Means}
 use Rattle.pcap_tolerant_captures.specs.Blocks.{Item, AsIsSays, MayGrow, as_is_format}
-use Rattle.pcap_tolerant_captures.proofs.Format.{as_is_lawful, as_is_one, means_one}
+use Rattle.pcap_tolerant_captures.proofs.Format.{as_is_lawful, means_one}
 
 module _ (q : State) (s : List ℕ) where
   -- a frame that is all bytes is a block or is refused
@@ -34,14 +33,8 @@ module _ (q : State) (s : List ℕ) where
       let one = means_one q b in
       frame_settled b (subst (λ (l : List ℕ). FrameText (order_at q) b s l) none frame) one.value one.holds
 
-  lacks_no_whole : (n : ℕ) (item : Item) (rest : List ℕ) → ◌≡◌ {A = Verdict Item} (lacks n) (whole item rest) → ⊥
-  lacks_no_whole n item rest e = absurd cc
-
   lacks_no_fault : (n : ℕ) (fault : Fault) → ◌≡◌ {A = Verdict Item} (lacks n) (faulty fault) → ⊥
   lacks_no_fault n fault e = absurd cc
-
-  same_said : (v w : Verdict Item) → AsIsSays q s v → AsIsSays q s w → v ≡ w
-  same_said v w x y = let one = as_is_one q s in one.only v x ∙ sym (one.only w y)
 
   -- a head that is refused
   pub head_refused : (e : PcapError) → ((n : ℕ) → e ≡ errors.IncompleteBuffer n → ⊥) → Refuses ⊥ (λ n. FrameSays (order_at q) s (lacks n)) (λ fault. FrameSays (order_at q) s (faulty fault)) e
@@ -51,18 +44,18 @@ module _ (q : State) (s : List ℕ) where
   head_refused (errors.InvalidField text) other x = (x.0, x.1, inl x.2)
   head_refused (errors.IoError a) other x = inl x
   head_refused (errors.Utf8Error a) other x = inl x
-  head_refused (errors.FromUtf8Error a) other x = absurd x
-  head_refused (errors.OutOfMemory a) other x = absurd x
-  head_refused errors.WriterFailed other x = absurd x
+  head_refused _ other x = absurd x
 
   -- what is settled lacks nothing, and nothing follows its block
   settled_lacks : IsSettled (AsIsSays q s) → (n : ℕ) → AsIsSays q s (lacks n) → ⊥
-  settled_lacks (inl x) n lack = lacks_no_whole n x.0 [] (same_said (lacks n) (whole x.0 []) lack x.1)
-  settled_lacks (inr x) n lack = lacks_no_fault n x.0 (same_said (lacks n) (faulty x.0) lack x.1)
+  unfolding as_is_format
+  settled_lacks (inl x) n lack = lacks_no_text as_is_format as_is_lawful q n s lack x.0 [] x.1
+  settled_lacks (inr x) n lack = lacks_no_fault n x.0 (only as_is_format as_is_lawful q s (lacks n) (faulty x.0) lack x.1)
 
   settled_rest : IsSettled (AsIsSays q s) → (item : Item) (rest : List ℕ) → AsIsSays q s (whole item rest) → rest ≡ []
-  settled_rest (inl x) item rest text = (whole_same item x.0 rest [] (same_said (whole item rest) (whole x.0 []) text x.1)).1
-  settled_rest (inr x) item rest text = absurd (fault_no_whole item rest x.0 (same_said (faulty x.0) (whole item rest) x.1 text))
+  unfolding as_is_format
+  settled_rest (inl x) item rest text = (text_same as_is_format as_is_lawful q item x.0 s rest [] text x.1).1
+  settled_rest (inr x) item rest text = absurd (fault_no_text as_is_format as_is_lawful q x.0 s x.1 item rest text)
 
   -- why what is held is no block
   module _ (before after : Option (List ℕ)) (failed : Bool) (unfailed : failed ≡ false) (came : Consumes before after s) (asked : IsAskedFor (as_is_format.says q) s) (settled : IsSettled (as_is_format.says q s)) where
@@ -76,9 +69,8 @@ module _ (q : State) (s : List ℕ) where
     held_cause (errors.InvalidField text) x = shown_cause (errors.InvalidField text) x
     held_cause (errors.IoError a) x = shown_cause (errors.IoError a) x
     held_cause (errors.Utf8Error a) x = shown_cause (errors.Utf8Error a) x
-    held_cause (errors.FromUtf8Error a) x = absurd x
     held_cause (errors.OutOfMemory a) x = (no_memory tt unfailed, record { taken = s; from_stream = came; asked = asked })
-    held_cause errors.WriterFailed x = absurd x
+    held_cause _ x = absurd x
 
   item_of_led : Led → Framed → Item
   item_of_led led b = record { block = b; led = led }

@@ -18,9 +18,8 @@ refuses_more M N K L P Q grow lack step (errors.IncompleteBuffer n) x = lack n x
 refuses_more M N K L P Q grow lack step (errors.InvalidField text) x = (x.0, x.1, step (Invalid x.0) x.2)
 refuses_more M N K L P Q grow lack step (errors.IoError a) x = step Io x
 refuses_more M N K L P Q grow lack step (errors.Utf8Error a) x = step Utf8 x
-refuses_more M N K L P Q grow lack step (errors.FromUtf8Error a) x = x
 refuses_more M N K L P Q grow lack step (errors.OutOfMemory a) x = grow x
-refuses_more M N K L P Q grow lack step errors.WriterFailed x = x
+refuses_more M N K L P Q grow lack step _ x = absurd x
 
 module _ (q : State) (s : List ℕ) where
   pub frame_refuses : (e : PcapError) → Refuses ⊥ (λ n. FrameSays (order_at q) s (lacks n)) (λ f. FrameSays (order_at q) s (faulty f)) e

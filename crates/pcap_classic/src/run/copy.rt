@@ -5,7 +5,7 @@ ghost use Rattle.pcap_core.specs.Filling.{Stated};
 ghost use Rattle.pcap_core.specs.Copying.{NothingCopied};
 ghost use Rattle.std.specs.Result.{result_err};
 ghost use Rattle.pcap_classic.specs.StatedPackets.{KnowsHeader};
-ghost use Rattle.pcap_classic.specs.Copies.{BeginsCopy, CanBeUnder, copied_of, CopyRun, CopyFront, WritesHeld, header_under};
+ghost use Rattle.pcap_classic.specs.Copies.{BeginsCopy, CanBeUnder, CopiesBehind, copied_of, CopyRun, CopyFront, WritesHeld, header_under};
 ghost use Rattle.pcap_classic.specs.Magic.{is_magic};
 ghost use Rattle.pcap_classic.specs.Packets.{reader_format};
 ghost use Rattle.pcap_classic.specs.PacketText.{Captured, packet_limit};
@@ -127,21 +127,8 @@ fn copy_under<R: Read, W: Write>(
     ensures { CopyRun under (R.remaining reader.old) (R.remaining reader.new) (W.contents writer.old) (W.contents writer.new) most (copied_of tally.new (result_err result)) }
 {
     let (header, out) = begin_copy(reader, writer, under, tally)?;
-    let packets = PacketsAhead {
-        header,
-        puts: UnderHeader { out },
-    };
-    let mut held = Held::new(alloc);
-    copy_items(
-        alloc,
-        &packets,
-        &mut (),
-        reader,
-        writer,
-        most,
-        tally,
-        &mut held,
-    )
+    let puts = UnderHeader { out };
+    PacketsAhead { header, puts }.copy(alloc, reader, writer, most, tally)
 }
 
 // Copies the header: the one that is read, and the one that goes out.
@@ -191,6 +178,29 @@ pub struct PacketsAhead<P> {
     pub header: PcapHeader,
     /// What writes them.
     pub puts: P,
+}
+
+impl<P: PutsPacket> PacketsAhead<P> {
+    /// Copies the packets that follow the header, at most `most` of them, each before the next one is read, and counts them.
+    ///
+    /// A rest that is refused gives what `PcapReader` gives there; `IoError` also where a write failed. `OutOfMemory` where a packet
+    /// can't be held.
+    pub fn copy<R: Read, W: Write>(
+        &self,
+        alloc: Global,
+        reader: &mut R,
+        writer: &mut W,
+        most: u64,
+        tally: &mut Tally,
+    ) -> ResultParsing<()>
+        requires valid { IsTrue (is_magic self.now.header.magic_number) }
+        requires stands { P.stands self.now.puts }
+        requires new { NothingCopied tally.old }
+        ensures { CopiesBehind (P.text self.now.puts) self.now.header (R.remaining reader.old) (R.remaining reader.new) (W.contents writer.old) (W.contents writer.new) most (copied_of tally.new (result_err result)) }
+    {
+        let mut held = Held::new(alloc);
+        copy_items(alloc, self, &mut (), reader, writer, most, tally, &mut held)
+    }
 }
 
 impl<P: PutsPacket> Ahead for PacketsAhead<P> {

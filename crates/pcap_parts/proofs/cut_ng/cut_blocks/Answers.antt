@@ -1,18 +1,14 @@
-use Rattle.std.proofs.Common.{◌≡◌, ◌<◌, ◌≤◌, ◌∷◌, [], length, drop, refl, sym, subst, arith, rules}
-use Rattle.std.specs.Prelude.{Option, None, Some}
+use Rattle.std.proofs.Common.{◌≡◌, ◌<◌, ◌≤◌, ◌∷◌, [], length, drop, refl, sym, arith, rules}
+use Rattle.std.specs.Prelude.{None}
 use Rattle.std.proofs.lemmas.List.{map-append}
-use Rattle.pcap_core.specs.declared.rest.Rest.{Rest}
-use Rattle.pcap_core.specs.Format.{state_after}
 use Rattle.pcap_file.specs.Blocks.{block_format}
 use Rattle.pcap_file.specs.Parser.{state_of}
-use Rattle.pcap_file.specs.State.{State}
 use Rattle.pcap_file.proofs.BlockFormat.{blocks_lawful}
 use Rattle.pcap_parts.specs.declared.cut_ng.NgCut.{NgCut}
 use Rattle.pcap_parts.specs.NgParts.{IsWalked, ResumesAt, bounds_of}
-use Rattle.pcap_parts.specs.Parts.{Passes}
-use Rattle.pcap_parts.proofs.Parted.{parted_begin, parted_end, parted_end_with_bytes, parted_enough, parted_more}
+use Rattle.pcap_parts.proofs.Parted.{parted_begin, parted_enough, parted_more, parted_stops}
 use Rattle.pcap_parts.proofs.Cutting.{each_push}
-use Rattle.pcap_parts.proofs.Walking.{all_resume_further, place_of, resumes_here, walked_state}
+use Rattle.pcap_parts.proofs.Walking.{all_resume_further, passes_behind, place_of, resumes_here}
 use Rattle.pcap_parts.proofs.cut_ng.cut_blocks.Goals as goal
 
 pub overflow_sub-bytes : goal.overflow_sub-bytes
@@ -37,62 +33,25 @@ loop-wanted-init c =
       resume = rw (c.in_ok-push.ensures.items, c.new-cuts.ensures.items) (here, tt);
     }
 
-pub returns-in-Some-rest-clause-asked : goal.returns-in-Some-rest-clause-asked
-returns-in-Some-rest-clause-asked c =
+pub returns-then-is_some-clause-asked : goal.returns-then-is_some-clause-asked
+returns-then-is_some-clause-asked c =
     let bytes = c.args.bytes.now in
     let s = c.args.slice.now in
     let walk = c.args.walk.now in
-    let q = state_of walk.parser in
-    let inv = c.loop-wanted.invariant in
-    let items = inv.so_far.cutting.items in
     let now = c.loop-wanted.walk in
-    let here = state_of now.parser in
+    let inv = c.loop-wanted.invariant in
     let left = c.loop-wanted.left.now in
     let passed = c.in_ok-items.field-0 in
-    let tells = c.in_ok-items.ensures in
-    let after = passed.after.now in
-    let fits = (place_of bytes s c.requires.walked.items c.requires.walked.texts).1 in
-    let state : state_after block_format q items ≡ here =
-    walked_state bytes s left q here walk.header now.header (drop walk.first walk.interfaces.items) (drop now.first now.interfaces.items) items c.requires.walked inv.so_far.cutting.texts inv.walked in
-    let told : Passes block_format (state_after block_format q items) left after c.in-Some.wanted passed.items passed.rest =
-    subst (λ (p : State). Passes block_format p left after c.in-Some.wanted passed.items passed.rest) (sym state) tells.passes in
-    let p : Passes block_format (state_after block_format q items) left after c.in-Some.wanted passed.items (Some c.in-Some-rest.field-0) =
-    subst (λ (r : Option Rest). Passes block_format (state_after block_format q items) left after c.in-Some.wanted passed.items r) c.in-Some-rest.is told in
-    parted_end block_format blocks_lawful q s (length bytes) fits c.args.parting c.requires.some left after c.loop-wanted.before c.in-Some.wanted passed.items (bounds_of c.loop-wanted.cuts.items) c.in-Some-rest.field-0 inv.so_far
-    c.in-Some.ensures p
-
-pub returns-in-Some-rest-clause-resume : goal.returns-in-Some-rest-clause-resume
-returns-in-Some-rest-clause-resume c =
-    all_resume_further c.args.bytes.now (state_of c.args.walk.now.parser) c.args.slice.now c.loop-wanted.walk.interfaces.items c.skip.new.self.interfaces.items c.loop-wanted.cuts.items c.skip.ensures.goes_on
-    c.loop-wanted.invariant.resume
-
-pub returns-then-is_empty-clause-asked : goal.returns-then-is_empty-clause-asked
-returns-then-is_empty-clause-asked c =
-    let bytes = c.args.bytes.now in
-    let s = c.args.slice.now in
-    let walk = c.args.walk.now in
     let q = state_of walk.parser in
-    let inv = c.loop-wanted.invariant in
-    let items = inv.so_far.cutting.items in
-    let now = c.loop-wanted.walk in
-    let here = state_of now.parser in
-    let left = c.loop-wanted.left.now in
-    let passed = c.in_ok-items.field-0 in
-    let tells = c.in_ok-items.ensures in
-    let after = passed.after.now in
     let fits = (place_of bytes s c.requires.walked.items c.requires.walked.texts).1 in
-    let state : state_after block_format q items ≡ here =
-    walked_state bytes s left q here walk.header now.header (drop walk.first walk.interfaces.items) (drop now.first now.interfaces.items) items c.requires.walked inv.so_far.cutting.texts inv.walked in
-    let told : Passes block_format (state_after block_format q items) left after c.in-Some.wanted passed.items passed.rest =
-    subst (λ (p : State). Passes block_format p left after c.in-Some.wanted passed.items passed.rest) (sym state) tells.passes in
-    let empty : length after ≡ 0 = search rules in
-    let p : Passes block_format (state_after block_format q items) left after c.in-Some.wanted passed.items None =
-    subst (λ (r : Option Rest). Passes block_format (state_after block_format q items) left after c.in-Some.wanted passed.items r) c.in-None.is told in
-    parted_end_with_bytes block_format blocks_lawful q s (length bytes) fits c.args.parting c.requires.some left after c.loop-wanted.before c.in-Some.wanted passed.items (bounds_of c.loop-wanted.cuts.items) inv.so_far
+    let p = passes_behind bytes s left passed.after.now q (state_of now.parser) walk.header now.header (drop walk.first walk.interfaces.items) (drop now.first now.interfaces.items) inv.so_far.cutting.items c.in-Some.wanted passed.items
+    passed.rest c.requires.walked inv.so_far.cutting.texts inv.walked c.in_ok-items.ensures.passes in
+    let empty : passed.rest ≡ None → length passed.after.now ≡ 0 = λ none. search rules in
+    parted_stops block_format blocks_lawful q s (length bytes) fits c.args.parting c.requires.some left passed.after.now c.loop-wanted.before c.in-Some.wanted passed.items (bounds_of c.loop-wanted.cuts.items) passed.rest inv.so_far
     c.in-Some.ensures p empty
 
-pub returns-then-is_empty-clause-resume : goal.returns-then-is_empty-clause-resume
-returns-then-is_empty-clause-resume c =
+pub returns-then-is_some-clause-resume : goal.returns-then-is_some-clause-resume
+returns-then-is_some-clause-resume c =
     all_resume_further c.args.bytes.now (state_of c.args.walk.now.parser) c.args.slice.now c.loop-wanted.walk.interfaces.items c.skip.new.self.interfaces.items c.loop-wanted.cuts.items c.skip.ensures.goes_on
     c.loop-wanted.invariant.resume
 
@@ -101,28 +60,23 @@ loop-wanted-preserved c =
     let bytes = c.args.bytes.now in
     let s = c.args.slice.now in
     let walk = c.args.walk.now in
-    let q = state_of walk.parser in
-    let inv = c.loop-wanted.invariant in
-    let items = inv.so_far.cutting.items in
     let now = c.loop-wanted.walk in
-    let here = state_of now.parser in
+    let inv = c.loop-wanted.invariant in
     let left = c.loop-wanted.left.now in
     let passed = c.in_ok-items.field-0 in
-    let tells = c.in_ok-items.ensures in
+    let q = state_of walk.parser in
     let after = passed.after.now in
-    let fits = (place_of bytes s c.requires.walked.items c.requires.walked.texts).1 in
-    let state : state_after block_format q items ≡ here =
-    walked_state bytes s left q here walk.header now.header (drop walk.first walk.interfaces.items) (drop now.first now.interfaces.items) items c.requires.walked inv.so_far.cutting.texts inv.walked in
-    let told : Passes block_format (state_after block_format q items) left after c.in-Some.wanted passed.items passed.rest =
-    subst (λ (p : State). Passes block_format p left after c.in-Some.wanted passed.items passed.rest) (sym state) tells.passes in
-    let p : Passes block_format (state_after block_format q items) left after c.in-Some.wanted passed.items None =
-    subst (λ (r : Option Rest). Passes block_format (state_after block_format q items) left after c.in-Some.wanted passed.items r) c.in-None.is told in
+    let tells = c.in_ok-items.ensures in
     let cuts = c.loop-wanted.cuts.items in
-    let x = c.cut_at-in-None.result in
-    let at = c.cut_at-in-None.ensures in
+    let x = c.cut_at-in-Some.result in
+    let at = c.cut_at-in-Some.ensures in
     let then = c.skip.new.self in
-    let walked : IsWalked bytes after (state_of then.parser) then.header (drop then.first then.interfaces.items) = rw c.in-None.is at tells.walked in
-    let inside : then.first ≤ length then.interfaces.items = rw c.in-None.is at tells.within in
+    let fits = (place_of bytes s c.requires.walked.items c.requires.walked.texts).1 in
+    let none : passed.rest ≡ None = search rules in
+    let p = passes_behind bytes s left after q (state_of now.parser) walk.header now.header (drop walk.first walk.interfaces.items) (drop now.first now.interfaces.items) inv.so_far.cutting.items c.in-Some.wanted passed.items None
+    c.requires.walked inv.so_far.cutting.texts inv.walked (rw none at tells.passes) in
+    let walked : IsWalked bytes after (state_of then.parser) then.header (drop then.first then.interfaces.items) = rw none at tells.walked in
+    let inside : then.first ≤ length then.interfaces.items = rw none at tells.within in
     let some : 0 < length after = search rules in
     let more = parted_more block_format blocks_lawful q s (length bytes) fits c.args.parting c.requires.some left after c.loop-wanted.before c.in-Some.wanted passed.items (bounds_of cuts) x.at inv.so_far c.in-Some.ensures p some
     tells.few at.at.0 at.at.1 in
@@ -132,10 +86,10 @@ loop-wanted-preserved c =
     (omega (arith, at.at.0, (place_of bytes after walked.items walked.texts).1)) (omega (arith, at.interfaces.0, inside)) (omega (arith, at.interfaces.0, at.interfaces.1)) in
     let before = all_resume_further bytes q s now.interfaces.items then.interfaces.items cuts c.skip.ensures.goes_on inv.resume in
     record {
-      so_far = rw (c.in_ok-push-in-None.ensures.items, map-append (λ (k : NgCut). k.at) cuts (x ∷ [])) more;
+      so_far = rw (c.in_ok-push-2.ensures.items, map-append (λ (k : NgCut). k.at) cuts (x ∷ [])) more;
       walked = walked;
       inside = inside;
-      resume = rw c.in_ok-push-in-None.ensures.items (each_push (ResumesAt bytes then.interfaces.items q s) cuts x before one);
+      resume = rw c.in_ok-push-2.ensures.items (each_push (ResumesAt bytes then.interfaces.items q s) cuts x before one);
     }
 
 pub returns-clause-asked : goal.returns-clause-asked

@@ -9,26 +9,17 @@ use Rattle.pcap_raw_options.proofs.RawRead.{holds_on_err}
 
 pub returns-in_err-record-clause-memory : goal.returns-in_err-record-clause-memory
 returns-in_err-record-clause-memory g c =
-    let order = g.B.ByteOrder.number_of in
-    let s = c.args.slice.now in
-    let left = c.loop-flaws.left.now in
-    holds_on_err (RecordsGrow order s) (grows_at order _ _ s left c.loop-flaws.invariant (grows_by_name order left c.in_err-record.ensures.memory)) c.from_residual.result
+    holds_on_err (RecordsGrow _ _) (grows_at _ _ _ _ _ c.loop-flaws.invariant (grows_by_name _ _ c.in_err-record.ensures.memory)) c.from_residual.result
 
 pub returns-in_err-push-in-Kept-clause-memory : goal.returns-in_err-push-in-Kept-clause-memory
 returns-in_err-push-in-Kept-clause-memory g c =
-    let order = g.B.ByteOrder.number_of in
-    let s = c.args.slice.now in
-    let left = c.loop-flaws.left.now in
     let kept = rw c.in-Kept.is at c.in_ok-record.ensures.read in
-    holds_on_err (RecordsGrow order s) (grows_at order _ _ s left c.loop-flaws.invariant (grows_by_record order _ left _ kept)) c.from_residual-in_err-push-in-Kept.result
+    holds_on_err (RecordsGrow _ _) (grows_at _ _ _ _ _ c.loop-flaws.invariant (grows_by_record _ _ _ _ kept)) c.from_residual-in_err-push-in-Kept.result
 
 pub returns-in_err-note-in-Kept-clause-memory : goal.returns-in_err-note-in-Kept-clause-memory
 returns-in_err-note-in-Kept-clause-memory g c =
-    let order = g.B.ByteOrder.number_of in
-    let s = c.args.slice.now in
-    let left = c.loop-flaws.left.now in
     let kept = rw c.in-Kept.is at c.in_ok-record.ensures.read in
-    holds_on_err (RecordsGrow order s) (grows_at order _ _ s left c.loop-flaws.invariant (grows_by_record order _ left _ kept)) c.from_residual-in_err-note-in-Kept.result
+    holds_on_err (RecordsGrow _ _) (grows_at _ _ _ _ _ c.loop-flaws.invariant (grows_by_record _ _ _ _ kept)) c.from_residual-in_err-note-in-Kept.result
 
 pub loop-flaws-preserved : goal.loop-flaws-preserved
 loop-flaws-preserved g c =
@@ -38,11 +29,8 @@ loop-flaws-preserved g c =
 
 pub returns-in_err-note-in-End-clause-memory : goal.returns-in_err-note-in-End-clause-memory
 returns-in_err-note-in-End-clause-memory g c =
-    let order = g.B.ByteOrder.number_of in
-    let s = c.args.slice.now in
-    let left = c.loop-flaws.left.now in
     let end = rw c.in-End.is at c.in_ok-record.ensures.read in
-    holds_on_err (RecordsGrow order s) (grows_at order _ _ s left c.loop-flaws.invariant (grows_by_end order _ left _ end.1 c.in_err-note-in-End.ensures.memory)) c.from_residual-in_err-note-in-End.result
+    holds_on_err (RecordsGrow _ _) (grows_at _ _ _ _ _ c.loop-flaws.invariant (grows_by_end _ _ _ _ end.1 c.in_err-note-in-End.ensures.memory)) c.from_residual-in_err-note-in-End.result
 
 pub returns-in-End-clause-read : goal.returns-in-End-clause-read
 returns-in-End-clause-read g c =
@@ -52,11 +40,8 @@ returns-in-End-clause-read g c =
 
 pub returns-in_err-push-in-Cut-clause-memory : goal.returns-in_err-push-in-Cut-clause-memory
 returns-in_err-push-in-Cut-clause-memory g c =
-    let order = g.B.ByteOrder.number_of in
-    let s = c.args.slice.now in
-    let left = c.loop-flaws.left.now in
     let cut = rw c.in-Cut.is at c.in_ok-record.ensures.read in
-    holds_on_err (RecordsGrow order s) (grows_at order _ _ s left c.loop-flaws.invariant (grows_by_cut order left cut.1)) c.from_residual-in_err-push-in-Cut.result
+    holds_on_err (RecordsGrow _ _) (grows_at _ _ _ _ _ c.loop-flaws.invariant (grows_by_cut _ _ cut.1)) c.from_residual-in_err-push-in-Cut.result
 
 pub returns-in-Cut-clause-read : goal.returns-in-Cut-clause-read
 returns-in-Cut-clause-read g c =

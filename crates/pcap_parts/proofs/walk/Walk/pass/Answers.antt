@@ -1,9 +1,10 @@
 use Rattle.std.proofs.Common.{◌≡◌, ◌-◌, ◌∷◌, [], ℕ, length, drop, arith, rules, subst, sym}
+use Rattle.std.proofs.lemmas.List.{drop_all, drop-append-le}
 use Rattle.pcap_core.specs.Bytes.{IsBytes}
 use Rattle.pcap_file.specs.Blocks.{item_of}
 use Rattle.pcap_file.specs.Parser.{interfaces_in_force, section_in_force, state_of}
 use Rattle.pcap_parts.specs.NgParts.{IsWalked}
-use Rattle.pcap_parts.proofs.Walking.{drop_all, drop_push, goes_nowhere, not_kept, other_stays, place_of, slice_bytes, walked_interface, walked_other, walked_section}
+use Rattle.pcap_parts.proofs.Walking.{goes_nowhere, not_kept, other_stays, place_of, slice_bytes, walked_interface, walked_other, walked_section}
 use Rattle.pcap_parts.proofs.walk.Walk.pass.Goals as goal
 
 pub overflow_sub-place : goal.overflow_sub-place
@@ -18,7 +19,7 @@ returns-in-SectionHeader-clause-walked c =
     let all : c.len-self.result ≡ length places = search rules in
     let here = length c.args.bytes.now - length c.args.left.now in
     let walked : IsWalked c.args.bytes.now c.in_ok-after.after.now (state_of c.next_block.new.self) here (drop (length places) places) =
-    rw (drop_all places) (walked_section c.args.bytes.now c.args.left.now c.in_ok-after.after.now (state_of self.parser) self.header (drop self.first places) item c.requires.walked c.in_ok-after.ensures.tells fits c.in-SectionHeader.is) in
+    rw (drop_all (length places) places (omega arith)) (walked_section c.args.bytes.now c.args.left.now c.in_ok-after.after.now (state_of self.parser) self.header (drop self.first places) item c.requires.walked c.in_ok-after.ensures.tells fits c.in-SectionHeader.is) in
     subst (λ (n : ℕ). IsWalked c.args.bytes.now c.in_ok-after.after.now (state_of c.next_block.new.self) here (drop n places)) (sym all) walked
 
 pub returns-in-SectionHeader-clause-goes_on : goal.returns-in-SectionHeader-clause-goes_on
@@ -30,7 +31,7 @@ returns-in-InterfaceDescription-clause-walked c =
     let places = self.interfaces.items in
     let item = item_of (state_of c.next_block.new.self) c.in_ok-after.block in
     let place = length c.args.bytes.now - length c.args.left.now in
-    rw (c.in_ok-push-in-InterfaceDescription.ensures.items, drop_push self.first places (place ∷ []) c.requires.within) (walked_interface c.args.bytes.now c.args.left.now c.in_ok-after.after.now (state_of self.parser)
+    rw (c.in_ok-push-in-InterfaceDescription.ensures.items, drop-append-le self.first places (place ∷ []) c.requires.within) (walked_interface c.args.bytes.now c.args.left.now c.in_ok-after.after.now (state_of self.parser)
     self.header (drop self.first places) item c.requires.walked c.in_ok-after.ensures.tells)
 
 pub returns-clause-walked : goal.returns-clause-walked

@@ -1,6 +1,5 @@
-use Rattle.std.proofs.Common.{◌≡◌, ◌≤◌, List, length, drop}
-use Rattle.pcap_core.specs.Format.{state_after}
-use Rattle.pcap_file.specs.Blocks.{Item, block_format}
+use Rattle.std.proofs.Common.{◌≤◌, length, drop}
+use Rattle.pcap_file.specs.Blocks.{block_format}
 use Rattle.pcap_file.specs.Parser.{state_of}
 use Rattle.pcap_parts.specs.NgParts.{GoesOn, IsWalked}
 use Rattle.pcap_parts.proofs.Passing.{Passing}
@@ -8,9 +7,7 @@ use Rattle.pcap_parts.proofs.walk.Walk.skip.Given as goal
 
 abbrev pub invariant-loop-after : goal.invariant-loop-after
 invariant-loop-after l = record {
-  taken : List Item;
-  passing : Passing block_format (state_of l.fn.self.parser) taken l.slice l.after l.at_least l.items;
-  leads : state_after block_format (state_of l.fn.self.parser) taken ≡ state_of l.self.parser;
+  passing : Passing block_format (state_of l.fn.self.parser) (state_of l.self.parser) l.slice l.after l.at_least l.items;
   walked : IsWalked l.bytes l.after (state_of l.self.parser) l.self.header (drop l.self.first l.self.interfaces.items);
   within : l.self.first ≤ length l.self.interfaces.items;
   goes_on : GoesOn l.fn.self.interfaces.items l.self.interfaces.items;

@@ -9,9 +9,7 @@ use Rattle.pcap_raw_options.proofs.RawRead.{holds_on_err}
 
 pub returns-in_err-read-clause-memory : goal.returns-in_err-read-clause-memory
 returns-in_err-read-clause-memory g c =
-    let order = g.B.ByteOrder.number_of in
-    let s = c.args.slice.now in
-    holds_on_err (NamesGrow order s) (names_grow order s c.in_err-read.ensures.memory) c.from_residual.result
+    holds_on_err (NamesGrow _ _) (names_grow _ _ c.in_err-read.ensures.memory) c.from_residual.result
 
 pub returns-then-not-has_end-clause-read : goal.returns-then-not-has_end-clause-read
 returns-then-not-has_end-clause-read g c =
@@ -21,19 +19,14 @@ returns-then-not-has_end-clause-read g c =
 
 pub returns-in_err-list-clause-memory : goal.returns-in_err-list-clause-memory
 returns-in_err-list-clause-memory g c =
-    let order = g.B.ByteOrder.number_of in
-    let s = c.args.slice.now in
     let are = rw c.if-not-has_end.false at c.in_ok-read.ensures.read in
-    holds_on_err (NamesGrow order s) (options_grow order _ _ s c.in_ok-read.read.left.now are c.in_err-list.ensures.memory) c.from_residual-in_err-list.result
+    holds_on_err (NamesGrow _ _) (options_grow _ _ _ _ _ are c.in_err-list.ensures.memory) c.from_residual-in_err-list.result
 
 pub returns-in_err-note_all-clause-memory : goal.returns-in_err-note_all-clause-memory
 returns-in_err-note_all-clause-memory g c =
-    let order = g.B.ByteOrder.number_of in
-    let s = c.args.slice.now in
-    let left = c.in_ok-read.read.left.now in
     let are = rw c.if-not-has_end.false at c.in_ok-read.ensures.read in
-    let grows = flaws_grow order _ _ left _ c.in_ok-list.ensures.read c.in_err-note_all.ensures.memory in
-    holds_on_err (NamesGrow order s) (options_grow order _ _ s left are grows) c.from_residual-in_err-note_all.result
+    let grows = flaws_grow _ _ _ _ _ c.in_ok-list.ensures.read c.in_err-note_all.ensures.memory in
+    holds_on_err (NamesGrow _ _) (options_grow _ _ _ _ _ are grows) c.from_residual-in_err-note_all.result
 
 pub returns-clause-read : goal.returns-clause-read
 returns-clause-read g c =

@@ -1,7 +1,8 @@
 use Rattle.std.proofs.Common.{[], rules, ◌≡◌}
 use Rattle.pcap_file.specs.Parser.{state_of}
+use Rattle.pcap_parts.proofs.NgCaptures.{ng_cut_by}
 use Rattle.pcap_parts.proofs.Walking.{walked_first}
-use Rattle.pcap_parts.proofs.cut_ng.cut_pcapng.Goals as goal
+use Rattle.pcap_parts.proofs.cut_ng.cut_ng_by.Goals as goal
 
 pub cut_blocks-requires-clause-walked : goal.cut_blocks-requires-clause-walked
 cut_blocks-requires-clause-walked c =
@@ -17,10 +18,6 @@ returns-clause-cut c = record {
   resume = c.in_ok-cuts.ensures.resume;
 }
 
-pub returns-clause-fair : goal.returns-clause-fair
-returns-clause-fair c = record {
-  first = state_of c.in_ok-after.parser;
-  after = c.in_ok-after.after.now;
-  opens = c.in_ok-after.ensures.tells;
-  fair = c.in_ok-cuts.ensures.asked;
-}
+pub returns-clause-asked : goal.returns-clause-asked
+returns-clause-asked c =
+    ng_cut_by c.args.parting (state_of c.in_ok-after.parser) c.in_ok-after.after.now c.args.bytes.now c.in_ok-cuts.cuts.items c.in_ok-after.ensures.tells c.in_ok-cuts.ensures.asked
