@@ -1,4 +1,5 @@
 pub mod Frames
+pub mod Enhanced
 pub mod Lent
 pub mod Bodies
 pub mod State

@@ -6,6 +6,7 @@ pub mod blocks;
 pub(crate) mod buffered;
 mod change;
 pub(crate) mod copying;
+pub mod enhanced;
 mod fields;
 mod framing;
 mod parser;

@@ -26,7 +26,7 @@ use Rattle.pcapfile_run.specs.Checks.{EndIs, FaultIs}
 use Rattle.pcapfile_run.specs.Passing.{counted}
 use Rattle.pcapfile_info.specs.declared.described.Described.{Described}
 use Rattle.pcapfile_info.specs.declared.progress.Progress.{Progress}
-use Rattle.pcapfile_info.specs.Describing.{AddsDescribed, Description, DescribesBlocks, LacksMemory, SameDescribed, begins, comments_among, comments_in, commented_by, described_by, descriptions, is_begin, number_behind, section_comments, sections_if, told_of}
+use Rattle.pcapfile_info.specs.Describing.{AddsDescribed, Description, DescribesBlocks, LacksMemory, SameDescribed, begins, comments_in, commented_by, described_by, descriptions, is_begin, number_behind, section_comments, sections_if, told_of}
 use Rattle.pcapfile_info.proofs.Tallying.{count_push}
 
 given_of : {X : Type 0} (x : Option X) → cons_option x [] ≡ option_to_list x
@@ -66,10 +66,6 @@ descriptions_push n (begun ∷ items) item =
 comments_push : (items : List Item) (item : Item) → comments_in (items ++ item ∷ []) ≡ comments_in items ++ commented_by item.block.type_ item.after
 comments_push items item =
     flat_map-append (λ (i : Item). commented_by i.block.type_ i.after) items (item ∷ []) ∙ ap (λ (l : List (List ℕ)). comments_in items ++ l) (append-nil (commented_by item.block.type_ item.after))
-
--- nothing is described behind a first section, but what it says itself
-pub described_none : (section : Section) (comments : List (String Global)) → map string_bytes comments ≡ comments_among section.options → DescribesBlocks (within section []) [] [] comments
-described_none section comments are = record { described_are = refl; comments_are = are ∙ sym (append-nil (comments_among section.options)) }
 
 -- one block more
 pub described_more : (first : State) (items : List Item) (block : Framed) (section : Section) (interfaces : List Interface) (old new : Progress) → DescribesBlocks first items old.described.items old.comments.items

@@ -13,6 +13,7 @@ use Rattle.pcap_core.specs.Faults.{Fault}
 use Rattle.pcap_core.specs.Headed.{good, bad}
 use Rattle.pcap_times.specs.declared.clock.Clock.{Clock}
 use Rattle.pcap_times.specs.declared.clock.Timestamp.{Timestamp}
+use Rattle.pcap_core.proofs.Kept.{zip_push}
 use Rattle.pcap_blocks.specs.declared.block_type.BlockType.{BlockType}
 use Rattle.pcap_blocks.specs.declared.block_type.BlockType.TheVariants as types
 use Rattle.pcap_blocks.specs.declared.interface_description.InterfaceDescriptionBlock.{InterfaceDescriptionBlock}
@@ -25,7 +26,7 @@ use Rattle.pcap_file.specs.Blocks.{Item, block_format}
 use Rattle.pcap_file.specs.Frames.{Framed}
 use Rattle.pcap_file.specs.Opening.{OpeningSays}
 use Rattle.pcap_file.specs.State.{State, opening, within, is_kept, leads, or_big, order_at, MeansIf}
-use Rattle.pcapfile_info.specs.Plain.{IsClocked, LeadsOn, OrderAndClocks}
+use Rattle.pcapfile_info.specs.InForce.{IsClocked, LeadsOn, OrderAndClocks}
 use Rattle.pcapfile_info.specs.Sights.{IsTimeSeen}
 
 good_in : (a c : State) → good a ≡ good c → a ≡ c
@@ -44,12 +45,6 @@ interfaces_in s t is js e = cc
 pub order_within : (section : Section) (interfaces : List Interface) → order_at (within section interfaces) ≡ or_big (magic_order section.magic)
 unfolding order_at
 order_within section interfaces = refl
-
-clocks_push : (interfaces : List Interface) (clocks : List Clock) (interface : Interface) (clock : Clock) → AllZip IsClockOf interfaces clocks → IsClockOf interface clock → AllZip IsClockOf (interfaces ++ interface ∷ []) (clocks ++ clock ∷ [])
-clocks_push [] [] interface clock all one = (one, tt)
-clocks_push (i ∷ interfaces) (c ∷ clocks) interface clock all one = (all.0, clocks_push interfaces clocks interface clock all.1 one)
-clocks_push [] (c ∷ clocks) interface clock all one = absurd all
-clocks_push (i ∷ interfaces) [] interface clock all one = absurd all
 
 -- behind a section header there are none
 pub section_followed : (order : Endianness) (clocks : List Clock) (section : Section) (interfaces : List Interface) → order ≡ or_big (magic_order section.magic) → clocks ≡ [] → (before : State)
@@ -86,7 +81,7 @@ interface_followed order old new section interfaces last clock more at is (withi
     let its = subst (λ (i : Interface). IsClockOf i clock) (sym (last_is before interfaces one last split at)) is in
     let magic : or_big (magic_order s.magic) ≡ or_big (magic_order section.magic) = ap (λ (x : Section). or_big (magic_order x.magic)) (sym same) in (
       known.0 ∙ order_within s before ∙ magic ∙ sym (order_within section interfaces),
-      rw (split, more) (clocks_push before old one clock known.1 its),
+      rw (split, more) (zip_push IsClockOf before old one clock known.1 its),
     )
 
 -- a body of a block of this type, read as such

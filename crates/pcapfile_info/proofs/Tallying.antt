@@ -10,7 +10,7 @@ use Rattle.pcapfile_run.specs.Passing.{counted}
 use Rattle.pcapfile_info.specs.declared.seen.Seen.{Seen}
 use Rattle.pcapfile_info.specs.declared.spread.Spread.{Spread}
 use Rattle.pcapfile_info.specs.declared.tally.Tally.{Tally}
-use Rattle.pcapfile_info.specs.Tallies.{instant_of, instants_of, IsBefore, IsEarlierOf, IsEarliestWith, IsLaterOf, IsLatestWith, IsEarliest, IsLatest, IsSpread, IsSpreadWith, Tallies, times_of, size_class, is_of_class}
+use Rattle.pcapfile_info.specs.Tallies.{instant_of, instants_of, IsAfter, IsBefore, IsFirst, IsFirstOf, IsFirstWith, IsSpread, IsSpreadWith, Tallies, times_of, size_class, is_of_class}
 
 -- counting goes on where it stopped
 pub counted_push : (a n k : ℕ) → a ≡ counted n → counted (a + k) ≡ counted (n + k)
@@ -26,54 +26,33 @@ before_both s t one other = grind (arith, one, other)
 before_later : (s t u : Timestamp) → IsBefore s t → (IsBefore u t → ⊥) → IsBefore s u
 before_later s t u one none = grind (arith, one, none)
 
-later_than : (s t u : Timestamp) → (IsBefore t s → ⊥) → IsBefore t u → IsBefore s u
-later_than s t u none one = grind (arith, none, one)
+after_later : (s t u : Timestamp) → IsAfter s t → (IsAfter u t → ⊥) → IsAfter s u
+after_later s t u one none = grind (arith, one, none)
 
-earliest_push : (times : List Timestamp) (known : Option Timestamp) (time earliest : Timestamp) → IsEarliest times known → IsEarlierOf known time earliest → IsEarliest (times ++ time ∷ []) (Some earliest)
-earliest_push times None time earliest none is =
-    subst (λ (t : Timestamp). Contains (times ++ time ∷ []) t × All (λ s. IsBefore s t → ⊥) (times ++ time ∷ [])) (sym is)
-    (Contains-push times time, All-push (λ s. IsBefore s time → ⊥) times time (subst (λ (l : List Timestamp). All (λ s. IsBefore s time → ⊥) l) (sym none) (All-nil (λ s. IsBefore s time → ⊥))) (before_itself time))
-earliest_push times (Some known) time earliest (among, first) is = elim is [
-  | inl (before, same) ↦
-      subst (λ (t : Timestamp). Contains (times ++ time ∷ []) t × All (λ s. IsBefore s t → ⊥) (times ++ time ∷ [])) (sym same)
-      (Contains-append_left times (time ∷ []) known among, All-push (λ s. IsBefore s known → ⊥) times time first (λ after. before_both known time before after))
-  | inr (later, same) ↦
-      subst (λ (t : Timestamp). Contains (times ++ time ∷ []) t × All (λ s. IsBefore s t → ⊥) (times ++ time ∷ [])) (sym same) (
-        Contains-push times time,
-        All-push (λ s. IsBefore s time → ⊥) times time (All-weaker (λ s. IsBefore s known → ⊥) (λ s. IsBefore s time → ⊥) (λ s none before. none (before_later s time known before later)) times first) (before_itself time),
-      )
-]
+-- the first of times, and of the times of packets, behind one more
+module _ (Comes : Timestamp → Timestamp → Type 0) (itself : (t : Timestamp) → Comes t t → ⊥) (both : (s t : Timestamp) → Comes s t → Comes t s → ⊥) (later : (s t u : Timestamp) → Comes s t → (Comes u t → ⊥) → Comes s u) where
+  first_push : (times : List Timestamp) (known : Option Timestamp) (time first : Timestamp) → IsFirst Comes times known → IsFirstOf Comes known time first → IsFirst Comes (times ++ time ∷ []) (Some first)
+  first_push times None time first none is =
+      subst (λ (t : Timestamp). Contains (times ++ time ∷ []) t × All (λ s. Comes s t → ⊥) (times ++ time ∷ [])) (sym is)
+      (Contains-push times time, All-push (λ s. Comes s time → ⊥) times time (subst (λ (l : List Timestamp). All (λ s. Comes s time → ⊥) l) (sym none) (All-nil (λ s. Comes s time → ⊥))) (itself time))
+  first_push times (Some known) time first (among, before_none) is = elim is [
+    | inl (comes, same) ↦
+        subst (λ (t : Timestamp). Contains (times ++ time ∷ []) t × All (λ s. Comes s t → ⊥) (times ++ time ∷ [])) (sym same)
+        (Contains-append_left times (time ∷ []) known among, All-push (λ s. Comes s known → ⊥) times time before_none (λ after. both known time comes after))
+    | inr (not, same) ↦
+        subst (λ (t : Timestamp). Contains (times ++ time ∷ []) t × All (λ s. Comes s t → ⊥) (times ++ time ∷ [])) (sym same) (
+          Contains-push times time,
+          All-push (λ s. Comes s time → ⊥) times time (All-weaker (λ s. Comes s known → ⊥) (λ s. Comes s time → ⊥) (λ s none comes. none (later s time known comes not)) times before_none) (itself time),
+        )
+  ]
 
-latest_push : (times : List Timestamp) (known : Option Timestamp) (time latest : Timestamp) → IsLatest times known → IsLaterOf known time latest → IsLatest (times ++ time ∷ []) (Some latest)
-latest_push times None time latest none is =
-    subst (λ (t : Timestamp). Contains (times ++ time ∷ []) t × All (λ s. IsBefore t s → ⊥) (times ++ time ∷ [])) (sym is)
-    (Contains-push times time, All-push (λ s. IsBefore time s → ⊥) times time (subst (λ (l : List Timestamp). All (λ s. IsBefore time s → ⊥) l) (sym none) (All-nil (λ s. IsBefore time s → ⊥))) (before_itself time))
-latest_push times (Some known) time latest (among, last) is = elim is [
-  | inl (before, same) ↦
-      subst (λ (t : Timestamp). Contains (times ++ time ∷ []) t × All (λ s. IsBefore t s → ⊥) (times ++ time ∷ [])) (sym same)
-      (Contains-append_left times (time ∷ []) known among, All-push (λ s. IsBefore known s → ⊥) times time last (λ after. before_both known time after before))
-  | inr (earlier, same) ↦
-      subst (λ (t : Timestamp). Contains (times ++ time ∷ []) t × All (λ s. IsBefore t s → ⊥) (times ++ time ∷ [])) (sym same) (
-        Contains-push times time,
-        All-push (λ s. IsBefore time s → ⊥) times time (All-weaker (λ s. IsBefore known s → ⊥) (λ s. IsBefore time s → ⊥) (λ s none before. none (later_than known time s earlier before)) times last) (before_itself time),
-      )
-]
-
--- the earliest and the latest of the times of packets behind one more
-module _ (packets : List Seen) (known : Option Timestamp) where
-  earliest_behind : (seen : Seen) (time earliest : Option Timestamp) → seen.time ≡ time → IsEarliest (times_of packets) known → IsEarliestWith known time earliest → IsEarliest (times_of (packets ++ seen ∷ [])) earliest
-  earliest_behind seen None earliest is before with =
+  first_behind : (packets : List Seen) (known : Option Timestamp) (seen : Seen) (time first : Option Timestamp) → seen.time ≡ time → IsFirst Comes (times_of packets) known → IsFirstWith Comes known time first
+      → IsFirst Comes (times_of (packets ++ seen ∷ [])) first
+  first_behind packets known seen None first is before with =
       rw (with, filter_map-append (λ (p : Seen). p.time) packets (seen ∷ []), is, append-nil (times_of packets)) before
-  earliest_behind seen (Some time) None is before with = absurd with
-  earliest_behind seen (Some time) (Some earliest) is before with =
-      rw (filter_map-append (λ (p : Seen). p.time) packets (seen ∷ []), is) (earliest_push (times_of packets) known time earliest before with)
-
-  latest_behind : (seen : Seen) (time latest : Option Timestamp) → seen.time ≡ time → IsLatest (times_of packets) known → IsLatestWith known time latest → IsLatest (times_of (packets ++ seen ∷ [])) latest
-  latest_behind seen None latest is before with =
-      rw (with, filter_map-append (λ (p : Seen). p.time) packets (seen ∷ []), is, append-nil (times_of packets)) before
-  latest_behind seen (Some time) None is before with = absurd with
-  latest_behind seen (Some time) (Some latest) is before with =
-      rw (filter_map-append (λ (p : Seen). p.time) packets (seen ∷ []), is) (latest_push (times_of packets) known time latest before with)
+  first_behind packets known seen (Some time) None is before with = absurd with
+  first_behind packets known seen (Some time) (Some first) is before with =
+      rw (filter_map-append (λ (p : Seen). p.time) packets (seen ∷ []), is) (first_push (times_of packets) known time first before with)
 
 -- the spread over time of packets behind one more
 module _ (packets : List Seen) (known spread : Option Spread) where
@@ -113,14 +92,14 @@ sizes_push old new packets seen class more is within long is_more is_new before 
     ]
 
 pub tally_push : (packets : List Seen) (seen : Seen) (old new : Tally) → Tallies packets old → new.packets ≡ counted (old.packets + 1) → new.stored ≡ counted (old.stored + seen.stored)
-    → new.original ≡ counted (old.original + seen.original) → IsEarliestWith old.earliest seen.time new.earliest → IsLatestWith old.latest seen.time new.latest → IsSpreadWith old.spread seen.time new.spread
+    → new.original ≡ counted (old.original + seen.original) → IsFirstWith IsBefore old.earliest seen.time new.earliest → IsFirstWith IsAfter old.latest seen.time new.latest → IsSpreadWith old.spread seen.time new.spread
     → ((k : ℕ) → k < 10 → slice_index new.sizes k ≡ counted (count_by (is_of_class k) (packets ++ seen ∷ []))) → Tallies (packets ++ seen ∷ []) new
 tally_push packets seen old new before number stored original earliest latest spread sizes = record {
   number = number ∙ counted_push old.packets (length packets) 1 before.number ∙ ap counted (sym (length-append packets (seen ∷ [])));
   stored = stored ∙ counted_push old.stored (sum_by (λ p. p.stored) packets) seen.stored before.stored ∙ ap counted (sym (sum_by_push (λ (p : Seen). p.stored) packets seen));
   original = original ∙ counted_push old.original (sum_by (λ p. p.original) packets) seen.original before.original ∙ ap counted (sym (sum_by_push (λ (p : Seen). p.original) packets seen));
-  earliest = earliest_behind packets old.earliest seen seen.time new.earliest refl before.earliest earliest;
-  latest = latest_behind packets old.latest seen seen.time new.latest refl before.latest latest;
+  earliest = first_behind IsBefore before_itself before_both before_later packets old.earliest seen seen.time new.earliest refl before.earliest earliest;
+  latest = first_behind IsAfter before_itself (λ s t one other. before_both s t other one) after_later packets old.latest seen seen.time new.latest refl before.latest latest;
   sizes = sizes;
   spread = spread_behind packets old.spread new.spread seen seen.time refl before.spread spread;
 }

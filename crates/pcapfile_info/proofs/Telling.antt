@@ -11,6 +11,7 @@ use Rattle.pcap_core.proofs.Asked.{asked_text}
 use Rattle.std.proofs.lemmas.List.Sums.{sum_by-cons}
 use Rattle.pcap_core.proofs.Formats.{state_push, texts_more, texts_push}
 use Rattle.pcapfile_run.specs.Passing.{counted}
+use Rattle.pcapfile_run.proofs.Passing.{counted_more}
 use Rattle.pcapfile_info.specs.declared.progress.Progress.{Progress}
 use Rattle.pcapfile_info.specs.declared.seen.Sight.{Sight}
 use Rattle.pcapfile_info.specs.declared.totals.Totals.{Totals}
@@ -26,12 +27,6 @@ sights_push IsSight n (w ∷ vs) [] v sight are is = absurd are
 sights_push IsSight n (w ∷ vs) (seen ∷ sights) v sight (first, are) is =
     let behind : n + sum_by interfaces_in (seen ∷ sights) ≡ n + interfaces_in seen + sum_by interfaces_in sights = omega (arith, sum_by-cons interfaces_in seen sights) in
     (first, sights_push IsSight (n + interfaces_in seen) vs sights v sight are (subst (λ (m : ℕ). IsSight m v sight) behind is))
-
-pub bytes_more : (a b c m n : ℕ) → b ≡ counted (a + m) → c ≡ counted (b + n) → c ≡ counted (a + (m + n))
-bytes_more a b c m n first second = omega arith
-
-pub bytes_same : (n : ℕ) → n < 2 ^ 64 → n ≡ counted (n + 0)
-bytes_same n room = omega (arith, room)
 
 -- where the counts stayed, nothing is added
 pub nothing_same : (old new : Progress) → SameCounts old new → AddsNothing old new
@@ -57,7 +52,7 @@ module _ {S V : Type 0} (f : Format S V) (q : S) (IsSight : ℕ → V → Sight 
     leads = refl;
     took = record { bytes = []; texts = refl; took = Consumes-nil before };
     number = omega arith;
-    bytes = bytes_same old.bytes room;
+    bytes = omega (arith, room);
     sights = [];
     are_sights = tt;
     kept = nothing;
@@ -80,7 +75,7 @@ module _ {S V : Type 0} (f : Format S V) (q : S) (IsSight : ℕ → V → Sight 
           took = Consumes-trans before left now so_far.took.bytes both.0.0 so_far.took.took both.0.2;
         };
         number = omega (arith, number, so_far.number);
-        bytes = bytes_more old.bytes mid.bytes new.bytes (length so_far.took.bytes) k so_far.bytes bytes ∙ ap (λ (m : ℕ). counted (old.bytes + m)) (sym (length-append so_far.took.bytes both.0.0 ∙ ap (λ (m : ℕ). length so_far.took.bytes + m) both.1));
+        bytes = counted_more old.bytes mid.bytes new.bytes (length so_far.took.bytes) k so_far.bytes bytes ∙ ap (λ (m : ℕ). counted (old.bytes + m)) (sym (length-append so_far.took.bytes both.0.0 ∙ ap (λ (m : ℕ). length so_far.took.bytes + m) both.1));
         sights = so_far.sights ++ sight ∷ [];
         are_sights = sights_push IsSight first so_far.items so_far.sights item sight so_far.are_sights is;
         kept = adds so_far.items so_far.sights so_far.kept;

@@ -1,7 +1,7 @@
 pub mod Describing
+pub mod InForce
 pub mod Information
 pub mod KeptBlocks
-pub mod Plain
 pub mod Sights
 pub mod Spreads
 pub mod Tallies

@@ -11,37 +11,25 @@ use Rattle.pcapfile_info.specs.Spreads.{Spreads}
 abbrev pub IsBefore : Timestamp → Timestamp → Type 0
 IsBefore left right = (left.seconds <ℤ right.seconds) ⊎ ((left.seconds ≡ right.seconds) × (left.nanoseconds < right.nanoseconds))
 
--- one time is the earlier one of a time and another, if there is one
-abbrev pub IsEarlierOf : Option Timestamp → Timestamp → Timestamp → Type 0
-IsEarlierOf None time earlier = earlier ≡ time
-IsEarlierOf (Some known) time earlier = (IsBefore known time × (earlier ≡ known)) ⊎ ((IsBefore known time → ⊥) × (earlier ≡ time))
+-- the same from the later one on
+abbrev pub IsAfter : Timestamp → Timestamp → Type 0
+IsAfter left right = IsBefore right left
 
--- or the later one
-abbrev pub IsLaterOf : Option Timestamp → Timestamp → Timestamp → Type 0
-IsLaterOf None time later = later ≡ time
-IsLaterOf (Some known) time later = (IsBefore time known × (later ≡ known)) ⊎ ((IsBefore time known → ⊥) × (later ≡ time))
+-- one time is the one that comes first of a time and another, if there is one
+abbrev pub IsFirstOf : (Timestamp → Timestamp → Type 0) → Option Timestamp → Timestamp → Timestamp → Type 0
+IsFirstOf Comes None time first = first ≡ time
+IsFirstOf Comes (Some known) time first = (Comes known time × (first ≡ known)) ⊎ ((Comes known time → ⊥) × (first ≡ time))
 
--- the earliest time behind one packet more, which may have a time
-abbrev pub IsEarliestWith : Option Timestamp → Option Timestamp → Option Timestamp → Type 0
-IsEarliestWith known None earliest = earliest ≡ known
-IsEarliestWith known (Some time) None = ⊥
-IsEarliestWith known (Some time) (Some earliest) = IsEarlierOf known time earliest
+-- the first time behind one packet more, which may have a time
+abbrev pub IsFirstWith : (Timestamp → Timestamp → Type 0) → Option Timestamp → Option Timestamp → Option Timestamp → Type 0
+IsFirstWith Comes known None first = first ≡ known
+IsFirstWith Comes known (Some time) None = ⊥
+IsFirstWith Comes known (Some time) (Some first) = IsFirstOf Comes known time first
 
--- or the latest
-abbrev pub IsLatestWith : Option Timestamp → Option Timestamp → Option Timestamp → Type 0
-IsLatestWith known None latest = latest ≡ known
-IsLatestWith known (Some time) None = ⊥
-IsLatestWith known (Some time) (Some latest) = IsLaterOf known time latest
-
--- the earliest of times is one of them, and none is before it; there is none of no times
-abbrev pub IsEarliest : List Timestamp → Option Timestamp → Type 0
-IsEarliest times None = times ≡ []
-IsEarliest times (Some earliest) = Contains times earliest × All (λ time. IsBefore time earliest → ⊥) times
-
--- the latest of times is one of them, and it is before none
-abbrev pub IsLatest : List Timestamp → Option Timestamp → Type 0
-IsLatest times None = times ≡ []
-IsLatest times (Some latest) = Contains times latest × All (λ time. IsBefore latest time → ⊥) times
+-- the first of times is one of them, and none comes before it; there is none of no times
+abbrev pub IsFirst : (Timestamp → Timestamp → Type 0) → List Timestamp → Option Timestamp → Type 0
+IsFirst Comes times None = times ≡ []
+IsFirst Comes times (Some first) = Contains times first × All (λ time. Comes time first → ⊥) times
 
 -- the times of those packets that have one
 abbrev pub times_of : List Seen → List Timestamp
@@ -92,7 +80,7 @@ pub record Tallies (packets : List Seen) (tally : Tally) : Type 0 where
   pub number : tally.packets ≡ counted (length packets)
   pub stored : tally.stored ≡ counted (sum_by (λ packet. packet.stored) packets)
   pub original : tally.original ≡ counted (sum_by (λ packet. packet.original) packets)
-  pub earliest : IsEarliest (times_of packets) tally.earliest
-  pub latest : IsLatest (times_of packets) tally.latest
+  pub earliest : IsFirst IsBefore (times_of packets) tally.earliest
+  pub latest : IsFirst IsAfter (times_of packets) tally.latest
   pub sizes : (class : ℕ) → class < 10 → slice_index tally.sizes class ≡ counted (count_by (is_of_class class) packets)
   pub spread : IsSpread (instants_of packets) tally.spread

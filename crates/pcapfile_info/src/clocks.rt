@@ -4,14 +4,14 @@ ghost use Rattle.std.specs.Prelude.{◌≡◌, [], length, map, option_map, slic
 ghost use Rattle.pcap_blocks.specs.InterfaceDescription.{interface_of};
 ghost use Rattle.pcap_blocks.specs.SectionHeader.{magic_order, section_of};
 ghost use Rattle.pcap_file.specs.State.{State, or_big, within};
-ghost use Rattle.pcapfile_info.specs.Plain.{AreInForce, IsClocked, LeadsOn};
+ghost use Rattle.pcapfile_info.specs.InForce.{AreInForce, IsClocked, LeadsOn};
 ghost use Rattle.pcapfile_info.specs.Sights.{Sees, place_of};
 ghost use Rattle.pcapfile_info.specs.Totals.{IsBelow};
 
 use crate::blocks::place_at;
-use crate::plain::Plain;
 use crate::seen::Seen;
 use pcap_file::Endianness;
+use pcap_file::pcapng::enhanced::EnhancedNumbers;
 use pcap_file::pcapng::{
     BlockType, Clock, InterfaceDescriptionBlock, SectionHeaderBlock, Timestamp,
 };
@@ -85,7 +85,7 @@ impl Clocks {
 
     /// What is seen of an enhanced packet, where so many interfaces are described, the last of them those of the section.
     #[inline(always)]
-    pub(crate) fn seen(&self, described: usize, packet: Plain) -> Seen
+    pub(crate) fn seen(&self, described: usize, packet: EnhancedNumbers) -> Seen
         ensures sees { Sees (place_of described (length self.now.clocks.items) packet.interface) packet.stored packet.original result }
         ensures time { IsClocked (slice_get self.now.clocks.items packet.interface) packet.units result.time }
         ensures below { IsBelow described result.interface }

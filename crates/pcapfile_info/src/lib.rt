@@ -7,7 +7,6 @@ mod clocks;
 mod described;
 mod packets;
 mod passing;
-mod plain;
 mod progress;
 mod seen;
 mod shown;

@@ -2,7 +2,7 @@
 
 ghost use Rattle.std.specs.Prelude.{◌≡◌, ◌<◌, ◌⊎◌, ◌++◌, ◌∷◌, [], ℕ, List, Some, IsTrue, ◌↔◌, IfSome};
 ghost use Rattle.pcapfile_info.specs.declared.seen.Seen.{Seen};
-ghost use Rattle.pcapfile_info.specs.Tallies.{instant_of, IsBefore, IsEarliestWith, IsLatestWith, IsSpread, IsSpreadWith, size_class, Tallies};
+ghost use Rattle.pcapfile_info.specs.Tallies.{instant_of, IsAfter, IsBefore, IsFirstWith, IsSpread, IsSpreadWith, size_class, Tallies};
 
 use crate::seen::Seen;
 use crate::spread::Spread;
@@ -45,7 +45,7 @@ fn is_before(left: Timestamp, right: Timestamp) -> bool
 // Keeps the earlier one of a time and another, if there is one.
 #[inline(always)]
 fn keep_earlier(known: &mut Option<Timestamp>, time: Timestamp)
-    ensures { IsEarliestWith known.old (Some time) known.new }
+    ensures { IsFirstWith IsBefore known.old (Some time) known.new }
 {
     if let Some(first) = known {
         if is_before(*first, time) {
@@ -58,7 +58,7 @@ fn keep_earlier(known: &mut Option<Timestamp>, time: Timestamp)
 // Keeps the later one of a time and another, if there is one.
 #[inline(always)]
 fn keep_later(known: &mut Option<Timestamp>, time: Timestamp)
-    ensures { IsLatestWith known.old (Some time) known.new }
+    ensures { IsFirstWith IsAfter known.old (Some time) known.new }
 {
     if let Some(last) = known {
         if is_before(time, *last) {
@@ -133,8 +133,8 @@ impl Tally {
     #[inline(always)]
     fn add_time(&mut self, time: Option<Timestamp>)
         ensures same { (self.new.packets ≡ self.old.packets) × (self.new.stored ≡ self.old.stored) × (self.new.original ≡ self.old.original) × (self.new.sizes ≡ self.old.sizes) }
-        ensures earliest { IsEarliestWith self.old.earliest time self.new.earliest }
-        ensures latest { IsLatestWith self.old.latest time self.new.latest }
+        ensures earliest { IsFirstWith IsBefore self.old.earliest time self.new.earliest }
+        ensures latest { IsFirstWith IsAfter self.old.latest time self.new.latest }
         ensures spread { IsSpreadWith self.old.spread time self.new.spread }
     {
         let Some(time) = time else {

@@ -25,7 +25,7 @@ use Rattle.pcapfile_merge.specs.declared.reader.Taken.{Taken}
 use Rattle.pcapfile_merge.specs.Buffered.{data_of, has_failed, header_of, is_done, left_of, lent_packet}
 use Rattle.pcapfile_merge.specs.BufferedBlocks.{body_of, source_of}
 use Rattle.pcapfile_merge.specs.Packets.{Packet, packet_of}
-use Rattle.pcapfile_merge.specs.Holding.{HoldsFew, IsReady, IsReadyIf, TakesNext, TakesThere, alone, bytes_in, fault_beside, held_by}
+use Rattle.pcapfile_merge.specs.Holding.{HoldsFew, IsReady, IsReadyIf, TakesNext, TakesThere, alone, bytes_in, held_by}
 use Rattle.pcapfile_merge.specs.Sources.{GaveBy, GavePackets, GaveStored, Stands}
 use Rattle.pcapfile_merge.specs.Taking.{IsOf, TakesPacket, TakesPending, packet_in}
 use Rattle.pcapfile_merge.specs.TakingBlocks.{TakesStored}
@@ -108,11 +108,6 @@ pub pending_ready : {R : Type 0} (remaining : R → Option (List ℕ)) (number :
     → IsReadyIf (Packets new) next × HoldsFew (Packets new) next
 pending_ready remaining number header left new None fault takes = (refl, omega arith)
 pending_ready remaining number header left new (Some pending) fault takes = (takes.1, takes.2)
-
--- where a reader holds a packet, nothing refused the capture
-pub pending_whole : {R : Type 0} (remaining : R → Option (List ℕ)) (number : ℕ) (header : PcapHeader) (left : Option (List ℕ)) (new : BufferedPackets R) (next : Option Pending) (fault : Option PcapError) → TakesPending remaining number header left new next fault → fault_beside next fault ≡ None
-pending_whole remaining number header left new None fault takes = refl
-pending_whole remaining number header left new (Some pending) fault takes = takes.0
 
 -- what is taken from where a reader stayed is taken from where it was
 pub stays_taken : {R : Type 0} (remaining : R → Option (List ℕ)) (choice : Interfaces) (base : ℕ) (old mid new : Reader R) (taken : Taken) → TakesThere remaining base old mid None → TakesNext remaining choice base mid new taken

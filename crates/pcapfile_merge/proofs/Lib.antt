@@ -1,7 +1,6 @@
 pub mod Best
 pub mod Bodies
 pub mod Choices
-pub mod Enhanced
 pub mod FrontsGiven
 pub mod Given
 pub mod Lying

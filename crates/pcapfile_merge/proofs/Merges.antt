@@ -20,10 +20,6 @@ pub map_join : {S T : Type 0} (f : S → T) (before behind : List S) (s : S) →
 map_join f [] behind s = refl
 map_join f (b ∷ before) behind s = ap (λ l. f b ∷ l) (map_join f before behind s)
 
-pub map_long : {S T : Type 0} (f : S → T) (ss : List S) → length (map f ss) ≡ length ss
-map_long f [] = refl
-map_long f (s ∷ ss) = ap suc (map_long f ss)
-
 pub all_of_map : {S T : Type 0} (f : S → T) (Q : T → Type 0) (ss : List S) → AllByRecursion Q (map f ss) → AllByRecursion (λ s. Q (f s)) ss
 all_of_map f Q [] all = tt
 all_of_map f Q (s ∷ ss) all = (all.0, all_of_map f Q ss all.1)

@@ -3,41 +3,55 @@ use Rattle.std.proofs.Common.{◌≡◌, ℕ, List, [], length, take, false, Opt
 use Rattle.std.specs.Prelude.{◌==◌}
 use Rattle.std.specs.Io.Buffered.{reader_buffer, reader_capacity, reader_inner, reader_remaining}
 use Rattle.std.specs.declared.io.buffered.BufReader.{BufReader}
+use Rattle.pcap_core.specs.declared.common.Endianness.{Endianness}
 use Rattle.pcap_core.specs.declared.errors.PcapError.{PcapError}
 use Rattle.pcap_blocks.specs.InterfaceDescription.{Interface}
 use Rattle.pcap_blocks.specs.ParsedBlock.{EnhancedBody}
+use Rattle.pcap_blocks.specs.SectionHeader.{Section, magic_order}
+use Rattle.pcap_file.specs.declared.pcapng.enhanced.EnhancedNumbers.{EnhancedNumbers}
 use Rattle.pcap_file.specs.declared.pcapng.reader.PcapNgReader.{PcapNgReader}
 use Rattle.pcap_file.specs.Blocks.{Item}
+use Rattle.pcap_file.specs.Enhanced.{PacketText, enhanced_frame}
+use Rattle.pcap_file.specs.Frames.{Framed, frame_format}
 use Rattle.pcap_file.specs.Lent.{body_in}
 use Rattle.pcap_file.specs.Placing as placing
 use Rattle.pcap_file.specs.Placing.{Source, TakesNext}
 use Rattle.pcap_file.specs.Reader.{body_of, interfaces_in_force, section_in_force, state_of, stream_of}
-use Rattle.pcap_file.specs.State.{order_at}
+use Rattle.pcap_file.specs.State.{or_big, order_at, within}
+use Rattle.pcap_file.proofs.EnhancedFrames.{packet_item, packet_says}
+use Rattle.pcap_file.proofs.Lent.{held_block}
 use Rattle.pcapfile_run.specs.BlockPackets.{HoldsPacket, InBlock}
 use Rattle.pcapfile_merge.specs.declared.packet.Pending.{Pending}
-use Rattle.pcapfile_merge.specs.declared.plain.Plain.{Plain}
 use Rattle.pcapfile_merge.specs.declared.reader.Interfaces.{Interfaces}
 use Rattle.pcapfile_merge.specs.declared.stored.Said.{Said}
 use Rattle.pcapfile_merge.specs.BufferedBlocks.{source_at, text_in}
 use Rattle.pcapfile_merge.specs.Passing.{TellsPending, TellsStored, TellsTaken, bytes_within, in_said}
-use Rattle.pcapfile_merge.specs.Plain.{PlainText}
 use Rattle.pcapfile_merge.specs.Taking.{packet_in}
 use Rattle.pcapfile_merge.specs.TakingBlocks.{GivesOf, IsGoing}
 use Rattle.pcapfile_merge.proofs.Bodies.{stored_pending}
-use Rattle.pcapfile_merge.proofs.Enhanced.{packet_item, packet_says, plain_body}
 use Rattle.pcapfile_merge.proofs.Lying.{front_taken}
 use Rattle.pcapfile_merge.proofs.Turning.{passed_none}
 
 -- what an enhanced packet that lies in a buffer says
-abbrev pub said_of : Plain → Said
+abbrev pub said_of : EnhancedNumbers → Said
 said_of packet = record { interface = packet.interface; units = Some packet.units; original_len = packet.original; len = packet.stored }
 
 -- what is told of what a block says is told of what lies in the buffer
-pub told_there : (base : ℕ) (lent interfaces : List Interface) (said : Said) (packet : Plain) (result : Result Pending PcapError) → lent ≡ interfaces → said ≡ said_of packet
+pub told_there : (base : ℕ) (lent interfaces : List Interface) (said : Said) (packet : EnhancedNumbers) (result : Result Pending PcapError) → lent ≡ interfaces → said ≡ said_of packet
     → ((bytes : List ℕ) → said.len ≡ length bytes → TellsStored base lent (in_said said bytes) result) → (bytes : List ℕ) → packet.stored ≡ length bytes → TellsStored base interfaces (in_said (said_of packet) bytes) result
 told_there base lent interfaces said packet result there is tells =
     let here = subst (λ (l : List Interface). (bytes : List ℕ) → said.len ≡ length bytes → TellsStored base l (in_said said bytes) result) there tells in
     subst (λ (s : Said). (bytes : List ℕ) → s.len ≡ length bytes → TellsStored base interfaces (in_said s bytes) result) is here
+
+-- the body of a block stands in it
+packet_body : (e : Endianness) (packet : EnhancedNumbers) (s : List ℕ) (text : PacketText e packet s []) → body_in s ≡ text.body
+unfolding frame_format
+packet_body e packet s text = ap (λ (b : Framed). b.body) (held_block e (enhanced_frame e text.frame.0 text.body) s text.frame.1)
+
+-- the order of a section's blocks
+pub order_there : (section there : Section) (interfaces : List Interface) (e : Endianness) → section ≡ there → magic_order section.magic ≡ Some e → e ≡ order_at (within there interfaces)
+unfolding order_at
+order_there section there interfaces e same named = ap or_big (sym named) ∙ ap (λ (s : Section). or_big (magic_order s.magic)) same
 
 module _ {R A : Type 0} (remaining : R → Option (List ℕ)) (choice : Interfaces) (base : ℕ) (a : Source) where
   -- what a reader took that holds its block was taken
@@ -47,8 +61,8 @@ module _ {R A : Type 0} (remaining : R → Option (List ℕ)) (choice : Interfac
   held_taken None mid reader result none same tells = subst (λ (s : Source). TellsTaken choice base s (source_at remaining None reader) (body_in (text_in None reader)) result) same tells
   held_taken (Some n) mid reader result none same tells = absurd (let no : ⊥ = cc in no)
 
-  module _ (shown : Option ℕ) (reader : PcapNgReader (BufReader R A)) (packet : Plain) (n : ℕ) (none : shown ≡ None) (same : source_at remaining shown reader ≡ a) (ready : a.done ≡ false)
-      (text : PlainText (order_at (state_of reader)) packet (take n (reader_buffer (stream_of reader))) []) where
+  module _ (shown : Option ℕ) (reader : PcapNgReader (BufReader R A)) (packet : EnhancedNumbers) (n : ℕ) (none : shown ≡ None) (same : source_at remaining shown reader ≡ a) (ready : a.done ≡ false)
+      (text : PacketText (order_at (state_of reader)) packet (take n (reader_buffer (stream_of reader))) []) where
     item_there : Item
     item_there = packet_item (order_at (state_of reader)) text.frame.0 text.body (state_of reader)
 
@@ -68,7 +82,7 @@ module _ {R A : Type 0} (remaining : R → Option (List ℕ)) (choice : Interfac
         let done : (source_at remaining None reader).done ≡ false = ap (λ (s : Source). s.done) starts ∙ ready in
         subst (λ (b : Source). TakesNext b (source_at remaining (Some n) reader) item_there) starts
         (record {
-          took = (take n s, packet_says (section_in_force reader) (interfaces_in_force reader) packet (take n s) text, front_taken (reader_capacity stream == 0) n s (remaining (reader_inner stream)));
+          took = (take n s, packet_says (order_at (state_of reader)) (section_in_force reader) (interfaces_in_force reader) refl text.frame.0 text.body (take n s) [] text.frame.1, front_taken (reader_capacity stream == 0) n s (remaining (reader_inner stream)));
           leads = refl;
           no_read_failed = reader.unfailed done;
           went_on = done;
@@ -92,6 +106,6 @@ module _ {R A : Type 0} (remaining : R → Option (List ℕ)) (choice : Interfac
         → TellsTaken choice base a (source_at remaining (Some n) reader) (body_in (text_in (Some n) reader)) (Ok (Some pending))
     unfolding item_there
     shown_taken pending tells =
-        let body = plain_body (order_at (state_of reader)) packet (take n (reader_buffer (stream_of reader))) text in
+        let body = packet_body (order_at (state_of reader)) packet (take n (reader_buffer (stream_of reader))) text in
         let gives = subst (λ (s : List ℕ). GivesOf base (interfaces_in_force reader) item_there.block (Some (packet_in (bytes_within s pending) pending))) (sym body) (tells_block (Ok pending) tells) in
         (a, (passed_none choice a going).passes, item_there, next_there, gives)

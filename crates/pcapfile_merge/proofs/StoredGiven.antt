@@ -6,9 +6,10 @@ use Rattle.std.proofs.lemmas.Bool.{true≢false}
 use Rattle.std.proofs.lemmas.List.Elements.{filter_map-append}
 use Rattle.std.proofs.lemmas.Slice.Zip.{all_zipped_more}
 use Rattle.pcap_core.specs.declared.errors.PcapError.{PcapError}
-use Rattle.pcap_core.specs.Format.{Format, state_after}
+use Rattle.pcap_core.specs.Format.{state_after}
 use Rattle.pcap_core.specs.Reading.{Takes}
 use Rattle.pcap_core.specs.Takes.{TakesTexts}
+use Rattle.pcap_core.proofs.Copying.{state_all}
 use Rattle.pcap_core.proofs.Formats.{state_push}
 use Rattle.pcap_core.proofs.Taking.{takes_all, takes_more, takes_none}
 use Rattle.pcap_blocks.specs.declared.block_type.BlockType.{BlockType}
@@ -27,10 +28,6 @@ use Rattle.pcapfile_merge.specs.Sources.{BlocksGave, IsKeptFirst, StandsBehind}
 use Rattle.pcapfile_merge.specs.Taking.{packet_in}
 use Rattle.pcapfile_merge.specs.TakingBlocks.{EndsAt, EndsWell, GivesIn, IsGoing, MayPass, Passes, TakesStored, body_refused, interface_behind, packet_unfit}
 
-pub state_joined : {S V : Type 0} (f : Format S V) (q : S) (vs ws : List V) → state_after f q (vs ++ ws) ≡ state_after f (state_after f q vs) ws
-state_joined f q [] ws = refl
-state_joined f q (v ∷ vs) ws = state_joined f (f.goes q v) vs ws
-
 zip_joined : {A B : Type 0} (R : A → B → Type 0) (xs vs : List A) (ys ws : List B) → AllZip R xs ys → AllZip R vs ws → AllZip R (xs ++ vs) (ys ++ ws)
 zip_joined R [] vs [] ws left right = right
 zip_joined R [] vs (y ∷ ys) ws left right = absurd left
@@ -44,13 +41,7 @@ no_packet Closed type may = may.0
 packet_not_kept : (type : BlockType) → is_packet type ≡ true → is_kept type ≡ false
 packet_not_kept types.SectionHeader is = absurd (true≢false (sym is))
 packet_not_kept types.InterfaceDescription is = absurd (true≢false (sym is))
-packet_not_kept types.Packet is = refl
-packet_not_kept types.SimplePacket is = refl
-packet_not_kept types.NameResolution is = refl
-packet_not_kept types.InterfaceStatistics is = refl
-packet_not_kept types.EnhancedPacket is = refl
-packet_not_kept types.SystemdJournalExport is = refl
-packet_not_kept (types.Unknown n) is = refl
+packet_not_kept _ is = refl
 
 later_pushed : (items : List Item) (item : Item) → AllByRecursion (λ (later : Item). is_kept later.block.type_ ≡ false) items → is_kept item.block.type_ ≡ false
     → AllByRecursion (λ (later : Item). is_kept later.block.type_ ≡ false) (items ++ item ∷ [])
@@ -106,7 +97,7 @@ module _ (base : ℕ) (a : Source) where
         items = so_far.items ++ passed.items;
         packets = so_far.packets ++ none.0;
         took = takes_all block_format blocks_lawful a.state so_far.items passed.items a.left mid.left b.left so_far.took more;
-        in_force = state_joined block_format a.state so_far.items passed.items ∙ ap (λ (q : State). state_after block_format q passed.items) so_far.in_force ∙ passed.in_force;
+        in_force = state_all block_format a.state so_far.items passed.items ∙ ap (λ (q : State). state_after block_format q passed.items) so_far.in_force ∙ passed.in_force;
         goes_on = passed.goes_on;
         kept_first = kept;
         gives = zip_joined (GivesIn base) so_far.items passed.items so_far.packets none.0 so_far.gives none.1;

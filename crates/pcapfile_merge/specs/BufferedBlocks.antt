@@ -3,15 +3,15 @@ use Rattle.std.specs.Prelude.{◌≡◌, ℕ, List, [], take, Bool, Option, None
 use Rattle.std.specs.Io.Buffered.{reader_buffer}
 use Rattle.std.specs.declared.io.buffered.BufReader.{BufReader}
 use Rattle.pcap_blocks.specs.InterfaceDescription.{Interface}
+use Rattle.pcap_file.specs.declared.pcapng.enhanced.EnhancedNumbers.{EnhancedNumbers}
 use Rattle.pcap_file.specs.declared.pcapng.reader.PcapNgReader.{PcapNgReader}
+use Rattle.pcap_file.specs.Enhanced.{PacketText}
 use Rattle.pcap_file.specs.Lent.{body_in}
 use Rattle.pcap_file.specs.Placing.{Source}
 use Rattle.pcap_file.specs.Reader as readers
 use Rattle.pcap_file.specs.State.{order_at}
 use Rattle.pcapfile_merge.specs.declared.buffered_blocks.BufferedBlocks.{BufferedBlocks}
-use Rattle.pcapfile_merge.specs.declared.plain.Plain.{Plain}
 use Rattle.pcapfile_merge.specs.Buffered.{left_behind, lent_of}
-use Rattle.pcapfile_merge.specs.Plain.{PlainText}
 
 -- the text that is lent: what the reader lends, or the first so many bytes of its buffer
 abbrev pub text_in : {R A : Type 0} → Option ℕ → PcapNgReader (BufReader R A) → List ℕ
@@ -49,5 +49,5 @@ module _ {R : Type 0} where
   StaysAt remaining old new = (new.shown ≡ None) × (source_of remaining new ≡ source_of remaining old)
 
   -- the first so many bytes of the buffer are the block of an enhanced packet that says so
-  abbrev pub LiesThere : BufferedBlocks R → Plain → ℕ → Type 0
-  LiesThere blocks packet n = PlainText (order_at (readers.state_of blocks.reader)) packet (take n (reader_buffer (readers.stream_of blocks.reader))) []
+  abbrev pub LiesThere : BufferedBlocks R → EnhancedNumbers → ℕ → Type 0
+  LiesThere blocks packet n = PacketText (order_at (readers.state_of blocks.reader)) packet (take n (reader_buffer (readers.stream_of blocks.reader))) []

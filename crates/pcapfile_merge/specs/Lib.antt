@@ -8,7 +8,6 @@ pub mod Merges
 pub mod Merging
 pub mod Packets
 pub mod Passing
-pub mod Plain
 pub mod Sources
 pub mod Taking
 pub mod TakingBlocks

@@ -7,9 +7,9 @@ ghost use Rattle.pcap_file.specs.Placing as readers;
 ghost use Rattle.pcapfile_merge.specs.BufferedBlocks.{LiesThere, body_of, interfaces_of, source_of};
 
 use crate::parts::{behind, front};
-use crate::plain::{Plain, packet_at};
 use pcap_file::PcapNgReader;
 use pcap_file::pcapng::InterfaceDescriptionBlock;
+use pcap_file::pcapng::enhanced::{EnhancedNumbers, packet_at};
 use std::alloc::Global;
 use std::io::{BufRead, BufReader, Read};
 
@@ -61,7 +61,7 @@ impl<R: Read + Drop> BufferedBlocks<R> {
 
     // What the enhanced packet says that lies whole at the front of the buffer, and how many bytes its block has.
     #[inline(always)]
-    pub(crate) fn packet_there(&self, alloc: Global) -> Option<(Plain, usize)>
+    pub(crate) fn packet_there(&self, alloc: Global) -> Option<(EnhancedNumbers, usize)>
         ensures { IfSome result (λ found. LiesThere self.now found.0 found.1) }
     {
         let shown = self.reader.get_ref().buffer();

@@ -8,7 +8,6 @@ pub mod laws;
 mod merging;
 mod packet;
 mod parts;
-mod plain;
 mod reader;
 mod source;
 mod stored;

@@ -15,8 +15,8 @@ ghost use Rattle.pcapfile_merge.specs.TakingBlocks.{IsTimeBy, MayPass};
 
 use crate::buffered_blocks::BufferedBlocks;
 use crate::packet::Pending;
-use crate::plain::Plain;
 use crate::reader::{Interfaces, Taken};
+use pcap_file::pcapng::enhanced::EnhancedNumbers;
 use pcap_file::pcapng::{Block, BlockHeader, BlockType, InterfaceDescriptionBlock, Timestamp};
 use pcap_file::run::Unplaced;
 use pcap_file::{PcapError, PcapNgReader, ResultParsing};
@@ -198,7 +198,7 @@ struct Said {
 
 // What is said by an enhanced packet that lies in a buffer.
 #[inline(always)]
-fn said_there(packet: Plain) -> Said
+fn said_there(packet: EnhancedNumbers) -> Said
     ensures { result ≡ record { interface = packet.interface; units = Some packet.units; original_len = packet.original; len = packet.stored } }
 {
     Said {

@@ -11,7 +11,7 @@ use byteorder::LittleEndian;
 use pcap_blocks::{InterfaceDescriptionBlock, InterfaceDescriptionOption, SectionHeaderBlock};
 use pcap_classic::pcap::{PacketHeader, PcapHeader, packet_of, read_header};
 use pcap_classic::run::{Copied, PacketsAhead, PutsPacket, end_copy};
-use pcap_core::stream::{Held, Tally, copy_items, put};
+use pcap_core::stream::{Tally, put};
 use pcap_core::{Endianness, ResultParsing};
 use pcap_written::{encode, put_packet};
 use std::alloc::Global;
@@ -53,21 +53,8 @@ fn convert<R: Read, W: Write>(
     ensures { ConvertRun (R.remaining reader.old) (R.remaining reader.new) (W.contents writer.old) (W.contents writer.new) most (copied_of tally.new (result_err result)) }
 {
     let header = begin_conversion(alloc, reader, writer, tally)?;
-    let packets = PacketsAhead {
-        header,
-        puts: PacketBlocks,
-    };
-    let mut held = Held::new(alloc);
-    copy_items(
-        alloc,
-        &packets,
-        &mut (),
-        reader,
-        writer,
-        most,
-        tally,
-        &mut held,
-    )
+    let puts = PacketBlocks;
+    PacketsAhead { header, puts }.copy(alloc, reader, writer, most, tally)
 }
 
 // Reads the header, and writes the blocks before the packets.

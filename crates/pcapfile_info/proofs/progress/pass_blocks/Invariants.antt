@@ -2,7 +2,7 @@ use Rattle.std.proofs.Common.{◌≡◌, ◌≤◌, ◌-◌, false}
 use Rattle.pcap_file.specs.Blocks.{block_format}
 use Rattle.pcap_file.specs.Reader.{is_done, state_of, stream_of}
 use Rattle.pcapfile_info.specs.KeptBlocks.{KeepsBlocks}
-use Rattle.pcapfile_info.specs.Plain.{AreInForce}
+use Rattle.pcapfile_info.specs.InForce.{AreInForce}
 use Rattle.pcapfile_info.specs.Sights.{IsBlockSight}
 use Rattle.pcapfile_info.specs.Telling.{Telling}
 use Rattle.pcapfile_info.proofs.progress.pass_blocks.Given as goal

@@ -1,8 +1,5 @@
 use Rattle.std.proofs.Common.{inl, inr}
 use Rattle.std.proofs.lemmas.Result.{err_from_is_err_and}
-use Rattle.pcap_core.proofs.Copying.{each_writing}
-use Rattle.pcap_classic.proofs.Copied.{lawful_under}
-use Rattle.pcap_file.specs.Converted.{converted_text}
 use Rattle.pcap_file.proofs.run.converting.convert.Goals as goal
 
 pub returns-in_err-header : goal.returns-in_err-header
@@ -10,11 +7,5 @@ returns-in_err-header g c =
     let p = err_from_is_err_and c.from_residual.result c.from_residual.ensures.1 in
     rw (p.1, p.2) (inl c.in_err-header.ensures)
 
-pub copy_items-requires-clause-lawful : goal.copy_items-requires-clause-lawful
-copy_items-requires-clause-lawful g c = lawful_under c.in_ok-header.header
-
-pub copy_items-requires-clause-writing : goal.copy_items-requires-clause-writing
-copy_items-requires-clause-writing g c = each_writing converted_text
-
 pub returns : goal.returns
-returns g c = inr (record { header = c.in_ok-header.header; behind = _; out_behind = _; opened = c.in_ok-header.ensures.0; packets = c.copy_items.ensures })
+returns g c = inr (record { header = c.in_ok-header.header; behind = _; out_behind = _; opened = c.in_ok-header.ensures.0; packets = c.copy.ensures })

@@ -1,8 +1,9 @@
 use Rattle.std.proofs.Common.{refl, arith}
 use Rattle.pcap_file.specs.Blocks.{block_format}
+use Rattle.pcap_file.proofs.EnhancedFrames.{packet_within}
 use Rattle.pcapfile_info.specs.KeptBlocks.{KeepsBlocks}
 use Rattle.pcapfile_info.specs.Sights.{IsBlockSight}
-use Rattle.pcapfile_info.proofs.EnhancedPackets.{plain_shorter, walk_on}
+use Rattle.pcapfile_info.proofs.EnhancedPackets.{walk_on}
 use Rattle.pcapfile_info.proofs.Turns.{walked_none, walked_used}
 use Rattle.pcapfile_info.proofs.progress.ClocksPasses.pass.Goals as goal
 
@@ -22,7 +23,7 @@ loop-progress-preserved c =
     record {
       walked = λ q known. walk_on c.args.self.now q known c.args.shown.now c.loop-progress.rest.now c.in-Some.after.now c.args.progress.now c.loop-progress.progress c.add_packet.new.self c.in-Some.packet c.seen-seen.result
           (so_far.walked q known) c.in-Some.ensures (rw c.as_slice-described.ensures.value at c.seen-seen.ensures.sees) c.seen-seen.ensures.time adds c.add_packet.ensures.same;
-      shorter = omega (arith, so_far.shorter, plain_shorter c.args.self.now.order c.in-Some.packet c.loop-progress.rest.now c.in-Some.after.now c.in-Some.ensures);
+      shorter = omega (arith, so_far.shorter, packet_within c.args.self.now.order c.in-Some.packet c.loop-progress.rest.now c.in-Some.after.now c.in-Some.ensures);
       more = omega (arith, adds.0, so_far.more);
       within = omega (arith, adds.0, c.loop-progress-test.true);
       described = grind (arith, c.add_packet.ensures.same, so_far.described);

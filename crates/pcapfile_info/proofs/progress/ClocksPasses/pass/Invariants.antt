@@ -3,7 +3,7 @@ use Rattle.pcap_file.specs.Blocks.{block_format}
 use Rattle.pcap_file.specs.State.{State}
 use Rattle.pcapfile_info.specs.Describing.{SameDescribed}
 use Rattle.pcapfile_info.specs.KeptBlocks.{KeepsBlocks}
-use Rattle.pcapfile_info.specs.Plain.{AreInForce}
+use Rattle.pcapfile_info.specs.InForce.{AreInForce}
 use Rattle.pcapfile_info.specs.Sights.{IsBlockSight}
 use Rattle.pcapfile_info.proofs.Turns.{Walked}
 use Rattle.pcapfile_info.proofs.progress.ClocksPasses.pass.Given as goal
