@@ -3,7 +3,7 @@ use Rattle.std.proofs.Common.{◌≡◌, ◌≢◌, ℕ, ℤ, pos, List, [], ◌
 use Rattle.std.specs.Prelude.{◌⊎◌}
 use Rattle.std.specs.List.{AllZip}
 use Rattle.std.proofs.lemmas.Bool.{cases_eq}
-use Rattle.pcap_core.specs.Format.{Front, Texts}
+use Rattle.pcap_core.specs.Format.{Texts}
 use Rattle.pcap_file.specs.Blocks.{Item}
 use Rattle.pcap_file.specs.Sections.{Leaves}
 use Rattle.pcap_file.specs.State.{State, opening, within}
@@ -16,17 +16,15 @@ use Rattle.pcapfile_c.specs.declared.errors.PcapfileError.{PcapfileError}
 use Rattle.pcapfile_c.specs.AnyCalls.{AnyCall, AnyCalls, CameToEnd, IsFresh, Kept, NgFrontTaken, NgPacketsTaken}
 use Rattle.pcapfile_c.specs.AnyCalls.AnyCalls.{none, call, between}
 use Rattle.pcapfile_c.specs.AnyCaptures.{HasEnded, IsNg, TakesAnyNgPacket, TakesWithPlaces}
-use Rattle.pcapfile_c.specs.PushPackets.{ReadMayGrow, ReadSays, ShowsInForce, Stops}
-use Rattle.pcapfile_c.specs.Pushes.{under_status}
+use Rattle.pcapfile_c.specs.PushPackets.{ReadSays, ShowsInForce, Stops}
+use Rattle.pcapfile_c.specs.RoomCalls.{under_status}
 use Rattle.pcapfile_c.specs.ReadBlocks.{ShowsThere, read_format}
-use Rattle.pcapfile_c.specs.Refusals.{TellsRefusal}
 use Rattle.pcapfile_c.proofs.AnyTaken.{StartsNg}
-use Rattle.pcapfile_c.proofs.BlockLaws.{not_for_memory}
 use Rattle.pcapfile_c.proofs.Leading.{zero_opens}
 use Rattle.pcapfile_c.proofs.PacketLaws.{in_force_keeps}
-use Rattle.pcapfile_c.proofs.PacketsCome.{PacketsCome, behind, come_all, front_comes, packets_among, refused_no_read, state_all, state_same}
+use Rattle.pcapfile_c.proofs.PacketsCome.{PacketsCome, behind, come_all, front_comes, packets_among, state_all, state_same, stops_front}
 use Rattle.pcapfile_c.proofs.PushedNgPackets.{read_blocks}
-use Rattle.pcapfile_c.proofs.Pushes.{none_refused}
+use Rattle.pcapfile_c.proofs.RoomLaws.{none_refused}
 
 -- where the number of a section is 0, nothing is in force
 nothing_opens : (section : PcapfileSection) (places : List PcapfileInterface) (q : State) → ShowsInForce section places q → section.magic_number ≡ 0 → q ≡ opening
@@ -110,17 +108,6 @@ module _ (start : PcapfileCapture) (s : List ℕ) (fresh : IsFresh start) (is : 
       let come = (calls_take places next rest given calls).1 in
       record { items = come.0; texts = come.1; in_force = come.2; shows = come.3 }
 
-  -- what is left is refused, and so the blocks are those of the front
-  front_of : (next : Kept) (rest : List ℕ) (given : List PcapfileAnyPacket) (told : PcapfileError) (z : ℤ) (come : PacketsCome opening s next.0.section next.1 rest given)
-      → TellsRefusal (ReadSays (behind opening come.0) rest) told z → Front read_format opening come.0 s rest
-  unfolding read_format
-  front_of next rest given told z come refused = record { texts = come.1; longest = λ item after text. refused_no_read (behind opening come.0) rest item after text told z refused }
-
-  stopped : (next : Kept) (rest : List ℕ) (items : List Item) (error told : PcapfileError) (z : ℤ) → z ≢ pos 6 → z ≢ pos 11 → Stops (behind opening items) next.0.section next.1 rest error told z
-      → TellsRefusal (ReadSays (behind opening items) rest) told z
-  stopped next rest items error told z memory places (inl full) = absurd (places full.0)
-  stopped next rest items error told z memory places (inr said) = not_for_memory (ReadMayGrow (behind opening items) rest) (ReadSays (behind opening items) rest) told z memory said
-
   -- nothing that is left is of a capture that has begun
   begun : (kept : Kept) (rest : List ℕ) (given : List PcapfileAnyPacket) → Taken start s kept rest given → rest ≡ [] → HasEnded kept.0 rest
   begun kept rest given come empty = (empty, inl (λ zero. no_section zero))
@@ -136,21 +123,21 @@ module _ (start : PcapfileCapture) (s : List ℕ) (fresh : IsFresh start) (is : 
       → TakesAnyNgPacket (behind opening come.1.0) kept.0 next.0 kept.1 next.1 left rest old shown error told z → NgFrontTaken s rest given told z
   last_takes kept next left rest given old shown error told z come end (inl x) =
       let f = with_places kept next s left rest given old shown error x.3 (pos 1) come.1 x.4.1 in
-      let refused = stopped next rest f.0.0 error x.3 (pos 1) (λ e. absurd cc) (λ e. absurd cc) (f.1 (λ e. absurd cc) (λ e. absurd cc)) in
+      let front = stops_front opening next.0.section next.1 f.0.0 s rest error x.3 (pos 1) (λ e. absurd cc) (λ e. absurd cc) f.0.1 (f.1 (λ e. absurd cc) (λ e. absurd cc)) in
       let shows : AllZip ShowsThere (packets_among opening f.0.0) given = subst (λ (l : List PcapfileAnyPacket). AllZip ShowsThere (packets_among opening f.0.0) l) (append-nil given) f.0.3 in
-      record { items = f.0.0; front = front_of next rest (given ++ []) x.3 (pos 1) f.0 refused; shows = shows; ends = inl (x.0, x.2.0) }
+      record { items = f.0.0; front = front.0; shows = shows; ends = inl (x.0, x.2.0) }
   last_takes kept next left rest given old shown error told z come end (inr x) =
       let f = with_places kept next s left rest given old shown error told z come.1 x.1.1 in
-      let refused = stopped next rest f.0.0 error told z end.1 end.3 (f.1 end.0 end.2) in
-      let empty : under_status z (shown ∷ []) ≡ [] = none_refused (ReadSays (behind opening f.0.0) rest) told z (shown ∷ []) refused in
+      let front = stops_front opening next.0.section next.1 f.0.0 s rest error told z end.1 end.3 f.0.1 (f.1 end.0 end.2) in
+      let empty : under_status z (shown ∷ []) ≡ [] = none_refused (ReadSays (behind opening f.0.0) rest) told z (shown ∷ []) front.1 in
       let same : given ++ under_status z (shown ∷ []) ≡ given = ap (λ (l : List PcapfileAnyPacket). given ++ l) empty ∙ append-nil given in
       let shows : AllZip ShowsThere (packets_among opening f.0.0) given = subst (λ (l : List PcapfileAnyPacket). AllZip ShowsThere (packets_among opening f.0.0) l) same f.0.3 in
       let there : Taken start s next rest (given ++ under_status z (shown ∷ [])) = (x.1.0 ∙ come.0, f.0) in
       record {
         items = f.0.0;
-        front = front_of next rest (given ++ under_status z (shown ∷ [])) told z f.0 refused;
+        front = front.0;
         shows = shows;
-        ends = inr (λ one nothing. x.0 one (begun next rest (given ++ under_status z (shown ∷ [])) there nothing), refused);
+        ends = inr (λ one nothing. x.0 one (begun next rest (given ++ under_status z (shown ∷ [])) there nothing), front.1);
       }
 
   pub ng_front : (places : List PcapfileInterface) (kept next : Kept) (left rest : List ℕ) (given : List PcapfileAnyPacket) (shown : PcapfileAnyPacket) (told : PcapfileError) (z : ℤ)

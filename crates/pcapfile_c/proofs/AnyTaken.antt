@@ -22,10 +22,11 @@ use Rattle.pcapfile_c.specs.AnyCalls.AnyCalls.{none, call, between}
 use Rattle.pcapfile_c.specs.AnyCaptures.{HasEnded, IsNg, ShowsCaptured, TakesAnyPacket, TakesCaptured}
 use Rattle.pcapfile_c.specs.Calls.{PacketsSaid}
 use Rattle.pcapfile_c.specs.Push.{Opened}
-use Rattle.pcapfile_c.specs.Pushes.{under_status}
+use Rattle.pcapfile_c.specs.RoomCalls.{under_status}
 use Rattle.pcapfile_c.specs.Refusals.{TellsRefusal}
 use Rattle.pcapfile_c.specs.Shown.{shown_header}
-use Rattle.pcapfile_c.proofs.Pushes.{HaveCome, no_packet, none_refused, not_both, opened_comes, packet_comes}
+use Rattle.pcapfile_c.proofs.Pushes.{HaveCome, no_packet, not_both, opened_comes, packet_comes}
+use Rattle.pcapfile_c.proofs.RoomLaws.{none_refused}
 
 -- the packets that came so far, and structs that show them
 abbrev Come : List ℕ → PcapfileHeader → List ℕ → List PcapfileAnyPacket → Type 0

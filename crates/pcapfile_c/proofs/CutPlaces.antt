@@ -1,21 +1,28 @@
 -- Cuts in the first places of a list.
-use Rattle.std.proofs.Common.{◌≡◌, ◌<◌, ◌≤◌, ◌+◌, ◌-◌, ◌*◌, ℕ, List, [], ◌∷◌, ◌++◌, length, take, refl, sym, subst, arith, length-append}
+use Rattle.std.proofs.Common.{◌≡◌, ◌<◌, ◌≤◌, ◌+◌, ◌-◌, ℕ, List, [], ◌∷◌, ◌++◌, length, take, refl, sym, subst, arith, length-append, Option, Some, None}
 use Rattle.std.proofs.lemmas.Grind.{take-set_at}
 use Rattle.std.proofs.lemmas.List.{length-map, length-take-le}
 use Rattle.std.specs.Prelude.{slice_set}
+use Rattle.pcap_core.specs.declared.rest.Rest.{Rest}
 use Rattle.pcap_core.specs.Format.{Format}
-use Rattle.pcap_parts.specs.declared.cut.Cut.{Cut}
+use Rattle.pcap_classic.specs.declared.pcap.header.PcapHeader.{PcapHeader}
+use Rattle.pcap_classic.specs.HeaderText.{HeaderText}
+use Rattle.pcap_classic.specs.PacketText.{Captured, packet_limit}
+use Rattle.pcap_classic.specs.Packets.{format_under}
+use Rattle.pcap_classic.proofs.CaptureFormat.{under_lawful}
 use Rattle.pcap_file.specs.Blocks.{block_format}
+use Rattle.pcap_parts.specs.declared.cut.Cut.{Cut}
 use Rattle.pcap_parts.specs.declared.cut_ng.NgCut.{NgCut}
 use Rattle.pcap_parts.specs.declared.cut_ng.NgCuts.{NgCuts}
 use Rattle.pcap_parts.specs.declared.parting.Parting.{Parting}
 use Rattle.pcap_parts.specs.declared.parting.Parting.TheVariants.{Equal, AtLeast}
-use Rattle.pcap_parts.specs.NgParts.{IsNgCut, IsNgCutAtLeast, bounds_of}
-use Rattle.pcap_parts.specs.Parts.{AreCuts}
+use Rattle.pcap_parts.specs.NgParts.{bounds_of}
+use Rattle.pcap_parts.specs.Partings.{AreAskedFor, AsksSome, WantsNext}
+use Rattle.pcap_parts.specs.Parts.{AreCuts, AreFair, Passes}
 use Rattle.pcap_parts.proofs.NgCaptures.{opening_same}
-use Rattle.pcap_parts.proofs.Parted.{PartedSoFar}
+use Rattle.pcap_parts.proofs.Parted.{PartedSoFar, parted_more}
 use Rattle.pcap_parts.proofs.Stepping.{steps_fit}
-use Rattle.pcapfile_c.specs.Cuts.{HasRoom}
+use Rattle.pcapfile_c.specs.Cuts.{CutsBlocks, HasRoom, IsCutAsAsked}
 
 module _ {S V : Type 0} (f : Format S V) (q : S) (s : List ℕ) (total : ℕ) (left : List ℕ) (before : ℕ) where
   -- one more place is filled
@@ -32,9 +39,35 @@ module _ {S V : Type 0} (f : Format S V) (q : S) (s : List ℕ) (total : ℕ) (l
       let one : length (take k places ++ x ∷ []) ≡ length (take k places) + 1 = length-append (take k places) (x ∷ []) in
       omega (arith, steps_fit f q s total n _ (take k places ++ x ∷ []) (length places) so_far.made so_far.cutting.cuts_are.bounds room, one, length-take-le k places within)
 
-pub block_steps_fit : (n : ℕ) (cuts : NgCuts) (bytes : List ℕ) (places : ℕ) → IsNgCut cuts bytes → IsNgCutAtLeast n cuts.cuts.items bytes → length bytes < places * n → length cuts.cuts.items ≤ places
-block_steps_fit n cuts bytes places cut steps room =
+-- cuts of all packets that are as it is asked for
+pub cut_as_asked : (how : Parting) (header : PcapHeader) (cuts : List Cut) (bytes after : List ℕ) → HeaderText header bytes after → length bytes - length after ≡ 24
+    → AreAskedFor (format_under packet_limit header) tt after (length bytes) how cuts → IsCutAsAsked how header cuts bytes
+cut_as_asked (Equal parts) header cuts bytes after text front asked =
+    record { after = after; header_text = text; fair = subst (λ (n : ℕ). AreFair (format_under packet_limit header) tt after (length bytes) n parts cuts) front asked }
+cut_as_asked (AtLeast n) header cuts bytes after text front asked = record { after = after; header_text = text; steps = asked }
+
+-- the cuts of blocks fit into their places
+pub blocks_fit : (how : Parting) (cuts : NgCuts) (bytes : List ℕ) (places : ℕ) → CutsBlocks how bytes cuts → HasRoom how (length bytes) places → length cuts.cuts.items ≤ places
+blocks_fit (Equal parts) cuts bytes places (cut, fair) room = omega (arith, fair.fair.few, length-map cuts.cuts.items (λ (c : NgCut). c.at), room.0, room.1)
+blocks_fit (AtLeast n) cuts bytes places (cut, steps) room =
     let bounds = bounds_of cuts.cuts.items in
     let same = opening_same bytes steps.first cut.first steps.after cut.after steps.opens cut.opens in
     let all : AreCuts block_format steps.first steps.after (length bytes - length cut.after) (length bytes) bounds = rw (same.0, same.1) cut.cuts_are in
     omega (arith, steps_fit block_format steps.first steps.after (length bytes) n _ bounds places steps.steps all.bounds room, length-map cuts.cuts.items (λ (c : NgCut). c.at))
+
+-- the packets behind a header that are cut
+module _ (header : PcapHeader) (s : List ℕ) (total : ℕ) (fits : length s ≤ total) (how : Parting) (some : AsksSome how) where
+  abbrev f : Format (Unit {0}) Captured
+  f = format_under packet_limit header
+
+  -- behind a part that bytes follow there is a place for one more cut, and it is filled
+  pub cut_next : (left after : List ℕ) (before wanted items : ℕ) (rest : Option Rest) (places : List Cut) (k : ℕ) (x : Cut) (so_far : PartedSoFar f tt s total how left before (take k places))
+      → WantsNext how (length s - length left) (length s) (Some wanted) → Passes f tt left after wanted items rest → rest ≡ None → 0 < length after → items + length after ≤ length left
+      → x.offset ≡ total - length after → x.before ≡ before + items → HasRoom how total (length places) → k ≤ length places
+      → (k < length places) × PartedSoFar f tt s total how after x.before (take (k + 1) (slice_set places k x))
+  cut_next left after before wanted items rest places k x so_far wants passes none bytes few at counts room within =
+      let p : Passes f tt left after wanted items None = subst (λ (r : Option Rest). Passes f tt left after wanted items r) none passes in
+      let more = parted_more f (under_lawful packet_limit header) tt s total fits how some left after before wanted items (take k places) x so_far wants p bytes few at counts in
+      let here : PartedSoFar f tt s total how after x.before (take k places ++ x ∷ []) = subst (λ (n : ℕ). PartedSoFar f tt s total how after n (take k places ++ x ∷ [])) (sym counts) more in
+      let place = cuts_few f tt s total after x.before how places k x room within here in
+      (place, cut_filled f tt s total after x.before how places k x place here)

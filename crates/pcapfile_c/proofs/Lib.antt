@@ -4,9 +4,9 @@ pub mod Leading
 pub mod Passages
 pub mod Pushed
 pub mod PushedPackets
+pub mod RoomLaws
 pub mod Pushes
 pub mod PushedBlocks
-pub mod RoomLaws
 pub mod BlockLaws
 pub mod Passing
 pub mod PacketsCome

@@ -1,50 +1,47 @@
 -- Packets of a PcapNg capture that comes in pieces.
-use Rattle.std.proofs.Common.{◌≡◌, ◌≢◌, ℕ, ℤ, pos, List, [], ◌∷◌, ◌++◌, take, sym, ap, subst, ◌∙◌, append-nil, inl, inr}
+use Rattle.std.proofs.Common.{◌≡◌, ◌≢◌, ℕ, ℤ, pos, List, [], ◌∷◌, ◌++◌, take, refl, sym, ap, subst, ◌∙◌, inl, inr}
 use Rattle.std.specs.List.{AllZip}
-use Rattle.std.proofs.lemmas.List.Concat.{flat_map-append}
 use Rattle.pcap_core.specs.Format.{Front}
 use Rattle.pcap_file.specs.Blocks.{Item}
 use Rattle.pcap_file.specs.State.{State, opening, within}
 use Rattle.pcapfile_c.specs.declared.any_packets.PcapfileAnyPacket.{PcapfileAnyPacket}
 use Rattle.pcapfile_c.specs.declared.errors.PcapfileError.{PcapfileError}
 use Rattle.pcapfile_c.specs.declared.push.PcapfilePush.{PcapfilePush}
-use Rattle.pcapfile_c.specs.PacketPushes.{GivesNext, GivesUnder, InForceShown, KeepsInForce, PacketsHaveEnded}
+use Rattle.pcapfile_c.specs.declared.shown.PcapfileHeader.{PcapfileHeader}
+use Rattle.pcapfile_c.specs.PacketPushes.{GivesUnder, InForceShown, KeepsInForce, PacketsHaveEnded}
 use Rattle.pcapfile_c.specs.Push.{held_in}
 use Rattle.pcapfile_c.specs.PushNgBatches.{TakesNextNgPackets}
-use Rattle.pcapfile_c.specs.PushPackets.{ReadMayGrow, ReadSays, ShowsInForce, Stops, TakesNextPacket}
-use Rattle.pcapfile_c.specs.Pushes.{all_given, all_put, under_status}
+use Rattle.pcapfile_c.specs.PushPackets.{ShowsInForce, Stops, TakesNextPacket}
 use Rattle.pcapfile_c.specs.ReadBlocks.{ShowsThere, read_format}
-use Rattle.pcapfile_c.proofs.BlockLaws.{not_for_memory}
-use Rattle.pcapfile_c.proofs.PacketsCome.{PacketsCome, behind, come_all, front_comes, packets_among, read_more, refused_no_read, state_all}
-use Rattle.pcapfile_c.proofs.RoomLaws.{calls_come}
+use Rattle.pcapfile_c.specs.RoomCalls.{all_given, all_put, under_status}
+use Rattle.pcapfile_c.proofs.PacketsCome.{PacketsCome, behind, come_all, front_comes, packets_among, read_more, state_all, stops_front}
+use Rattle.pcapfile_c.proofs.RoomLaws.{come_before, given_all, put_all, stays}
 
 -- what calls gave from the first byte on
 abbrev HaveCome : List ℕ → InForceShown → List ℕ → List PcapfileAnyPacket → Type 0
 HaveCome s kept held given = PacketsCome opening s kept.0 kept.1 held given
 
-packet_puts : (s t held : List ℕ) (kept : InForceShown) (given : List PcapfileAnyPacket) → HaveCome s kept held given → HaveCome (s ++ t) kept (held ++ t) given
-packet_puts s t held kept given x = (x.0, read_more opening x.0 s held t x.1, x.2, x.3)
+-- the same, whatever header stands beside it
+abbrev Known : List ℕ → PcapfileHeader → InForceShown → List ℕ → List PcapfileAnyPacket → Type 0
+Known s header kept held given = HaveCome s kept held given
+
+packet_puts : (s t held : List ℕ) (header : PcapfileHeader) (kept : InForceShown) (given : List PcapfileAnyPacket) → HaveCome s kept held given → HaveCome (s ++ t) kept (held ++ t) given
+packet_puts s t held header kept given x = (x.0, read_more opening x.0 s held t x.1, x.2, x.3)
 
 pub in_force_keeps : (q : State) (kept next : InForceShown) → KeepsInForce kept next → ShowsInForce kept.0 kept.1 q → ShowsInForce next.0 next.1 q
 in_force_keeps opening kept next k x = rw k.0 x
 in_force_keeps (within d interfaces) kept next k x = rw (k.0, k.1) x
 
-packet_keeps : (s held : List ℕ) (kept next : InForceShown) (given : List PcapfileAnyPacket) → KeepsInForce kept next → HaveCome s kept held given → HaveCome s next held given
-packet_keeps s held kept next given k x = (x.0, x.1, in_force_keeps (behind opening x.0) kept next k x.2, x.3)
-
--- nothing was taken or given
-same_given : (s held left : List ℕ) (kept : InForceShown) (given more : List PcapfileAnyPacket) → left ≡ held → more ≡ [] → HaveCome s kept held given → HaveCome s kept left (given ++ more)
-same_given s held left kept given more is none x =
-    let all : given ++ more ≡ given = ap (λ (l : List PcapfileAnyPacket). given ++ l) none ∙ append-nil given in
-    rw (all, is) x
+packet_keeps : (s held : List ℕ) (header : PcapfileHeader) (kept next : InForceShown) (given : List PcapfileAnyPacket) → KeepsInForce kept next → HaveCome s kept held given → HaveCome s next held given
+packet_keeps s held header kept next given k x = (x.0, x.1, in_force_keeps (behind opening x.0) kept next k x.2, x.3)
 
 -- where no packet follows, what is left gives none
-abbrev Ended : PcapfileError → PcapfileError → ℤ → InForceShown → List ℕ → List Item → Type 0
-Ended error told z next rest items = z ≢ pos 0 → z ≢ pos 10 → Stops (behind opening items) next.0 next.1 rest error told z
+abbrev StopsSo : PcapfileError → PcapfileError → ℤ → InForceShown → List ℕ → List Item → Type 0
+StopsSo error told z next rest items = z ≢ pos 0 → z ≢ pos 10 → Stops (behind opening items) next.0 next.1 rest error told z
 
 -- what a call left, with how it ended
 CallComes : PcapfileError → PcapfileError → ℤ → List ℕ → InForceShown → List ℕ → List PcapfileAnyPacket → Type 0
-CallComes error told z s next rest given = (x : HaveCome s next rest given) × Ended error told z next rest x.0
+CallComes error told z s next rest given = (x : HaveCome s next rest given) × StopsSo error told z next rest x.0
 
 module _ (before push : PcapfilePush) (kept next : InForceShown) (room s : List ℕ) (given : List PcapfileAnyPacket) (error told : PcapfileError) (z : ℤ) (x : HaveCome s kept (held_in before room) given) where
   taken_comes : (more : List PcapfileAnyPacket) (y : PacketsCome (behind opening x.0) (held_in before room) next.0 next.1 (held_in push room) more)
@@ -58,8 +55,8 @@ module _ (before push : PcapfilePush) (kept next : InForceShown) (room s : List 
   left_comes : (more : List PcapfileAnyPacket) → z ≡ pos 10 → push ≡ before → KeepsInForce kept next → more ≡ [] → CallComes error told z s next (held_in push room) (given ++ more)
   unfolding CallComes
   left_comes more bad same keeps none =
-      let there = packet_keeps s (held_in before room) kept next given keeps x in
-      (same_given s (held_in before room) (held_in push room) next given more (ap (λ (p : PcapfilePush). held_in p room) same) none there, λ some known. absurd (known bad))
+      let there = packet_keeps s (held_in before room) push.header kept next given keeps x in
+      (stays Known s (held_in before room) (held_in push room) push.header push.header next next given more refl refl (ap (λ (p : PcapfilePush). held_in p room) same) none there, λ some known. absurd (known bad))
 
   packet_taken : (old packet : PcapfileAnyPacket) → TakesNextPacket (behind opening x.0) before push kept.0 next.0 kept.1 next.1 room old packet error told z
       → CallComes error told z s next (held_in push room) (given ++ under_status z (packet ∷ []))
@@ -100,42 +97,28 @@ call_ends before push kept next room s given more z (inr g) x =
     let there = packets_taken before push kept next room s given g.3.error g.2 z x g.3.old g.0 g.1 (g.3.takes (behind opening x.0) x.2) in
     (g.3.error, g.2, subst (λ (l : List PcapfileAnyPacket). CallComes g.3.error g.2 z s next (held_in push room) (given ++ l)) (sym g.4) there)
 
-packet_goes : (before push : PcapfilePush) (kept next : InForceShown) (room s : List ℕ) (given more : List PcapfileAnyPacket) → GivesNext before kept room push next more
+packet_goes : (z : ℤ) (before push : PcapfilePush) (kept next : InForceShown) (room s : List ℕ) (given more : List PcapfileAnyPacket) → GivesUnder z before kept room push next more
     → HaveCome s kept (held_in before room) given → HaveCome s next (held_in push room) (given ++ more)
 unfolding CallComes
-packet_goes before push kept next room s given more g x = (call_ends before push kept next room s given more g.0 g.1 x).2.0
+packet_goes z before push kept next room s given more g x = (call_ends before push kept next room s given more z g x).2.0
 
 -- the packets of the front, where these bytes were put
 AreFront : List ℕ → List ℕ → List PcapfileAnyPacket → Type 0
 AreFront s rest given = (items : List Item) × Front read_format opening items s rest × AllZip ShowsThere (packets_among opening items) given
 
-stopped : (s rest : List ℕ) (next : InForceShown) (given : List PcapfileAnyPacket) (error told : PcapfileError) (z : ℤ) → z ≢ pos 6 → z ≢ pos 11 → (x : HaveCome s next rest given)
-    → Stops (behind opening x.0) next.0 next.1 rest error told z → AreFront s rest given
-unfolding AreFront read_format
-stopped s rest next given error told z memory places x (inl full) = absurd (places full.0)
-stopped s rest next given error told z memory places x (inr said) =
-    let q = behind opening x.0 in
-    let refused = not_for_memory (ReadMayGrow q rest) (ReadSays q rest) told z memory said in
-    let front : Front read_format opening x.0 s rest = record { texts = x.1; longest = λ item after text. refused_no_read q rest item after text told z refused } in
-    (x.0, front, x.3)
-
-module _ (calls : List (List ℕ × List PcapfileAnyPacket)) (push : PcapfilePush) (room : List ℕ) (e : PacketsHaveEnded calls push room) where
-  last_come : CallEnds e.status (all_put e.earlier) e.kept (held_in push room) (all_given e.earlier ++ e.given)
+module _ (calls : List (List ℕ × List PcapfileAnyPacket)) (push : PcapfilePush) (room : List ℕ) (ended : PacketsHaveEnded calls push room) where
+  last_come : CallEnds ended.1.status (all_put ended.1.earlier) ended.0 (held_in push room) (all_given ended.1.earlier ++ ended.1.given)
   last_come =
-      let come = calls_come GivesNext KeepsInForce HaveCome packet_puts packet_goes packet_keeps e.earlier e.start e.last e.start_kept e.last_kept e.start_room room [] [] e.made ([], sym e.empty, e.fresh, tt) in
-      call_ends e.last push e.last_kept e.kept room (all_put e.earlier) (all_given e.earlier) e.given e.status e.tells come
-
-  put_all : all_put calls ≡ all_put e.earlier
-  put_all = ap all_put e.all ∙ flat_map-append (λ call. call.0) e.earlier (([], e.given) ∷ []) ∙ append-nil (all_put e.earlier)
-
-  given_all : all_given calls ≡ all_given e.earlier ++ e.given
-  given_all = ap all_given e.all ∙ flat_map-append (λ call. call.1) e.earlier (([], e.given) ∷ []) ∙ ap (λ (l : List PcapfileAnyPacket). all_given e.earlier ++ l) (append-nil e.given)
+      let come = come_before GivesUnder KeepsInForce Known packet_puts packet_goes packet_keeps _ _ calls push ended.0 room ended.1 ([], refl, ended.1.fresh, tt) in
+      call_ends ended.1.last push ended.1.last_kept ended.0 room (all_put ended.1.earlier) (all_given ended.1.earlier) ended.1.given ended.1.status ended.1.tells come
 
   -- The law: however the bytes are cut, and whatever calls are made, what they gave are the packets of the front of all bytes.
   pub pushed_packets : (items : List Item) × Front read_format opening items (all_put calls) (held_in push room) × AllZip ShowsThere (packets_among opening items) (all_given calls)
   unfolding AreFront CallComes
   pushed_packets =
       let come = last_come in
-      let front : AreFront (all_put e.earlier) (held_in push room) (all_given e.earlier ++ e.given) =
-      stopped (all_put e.earlier) (held_in push room) e.kept (all_given e.earlier ++ e.given) come.0 come.1 e.status e.had_memory e.had_places come.2.0 (come.2.1 e.refused e.made_sense) in
-      rw (put_all, given_all) front
+      let front = stops_front opening ended.0.0 ended.0.1 come.2.0.0 (all_put ended.1.earlier) (held_in push room) come.0 come.1 ended.1.status ended.1.ends.0 ended.1.ends.2 come.2.0.1 (come.2.1 ended.1.refused ended.1.ends.1) in
+      let all : AreFront (all_put ended.1.earlier) (held_in push room) (all_given ended.1.earlier ++ ended.1.given) = (come.2.0.0, front.0, come.2.0.3) in
+      let put = put_all GivesUnder KeepsInForce Known packet_puts packet_goes packet_keeps _ _ calls push ended.0 room ended.1 in
+      let given = given_all GivesUnder KeepsInForce Known packet_puts packet_goes packet_keeps _ _ calls push ended.0 room ended.1 in
+      rw (put, given) all

@@ -1,11 +1,11 @@
 -- Blocks of a PcapNg capture that were taken, and the structs that show their packets.
-use Rattle.std.proofs.Common.{◌≡◌, ◌⊎◌, if◌then◌else◌, ℕ, ℤ, pos, List, [], ◌∷◌, ◌++◌, Bool, true, false, refl, sym, ap, subst, ◌∙◌, inl, inr}
+use Rattle.std.proofs.Common.{◌≡◌, ◌≢◌, ◌⊎◌, if◌then◌else◌, ℕ, ℤ, pos, List, [], ◌∷◌, ◌++◌, Bool, true, false, refl, sym, ap, subst, ◌∙◌, inl, inr}
 use Rattle.std.specs.Prelude.{filter}
 use Rattle.std.specs.List.{AllZip}
 use Rattle.std.proofs.lemmas.List.Elements.{filter-append}
 use Rattle.pcap_core.specs.Answer.{number_in, whole, faulty}
 use Rattle.pcap_core.specs.Faults.{Fault, Invalid, Io, Utf8}
-use Rattle.pcap_core.specs.Format.{Texts, state_after}
+use Rattle.pcap_core.specs.Format.{Front, Texts, state_after}
 use Rattle.pcap_core.proofs.Formats.{fault_no_text, lacks_no_text, text_same, texts_all, texts_push, state_push}
 use Rattle.pcap_blocks.specs.ParsedBlock.{Body, BodySays}
 use Rattle.pcap_blocks.proofs.OneBody.{body_one}
@@ -21,10 +21,11 @@ use Rattle.pcapfile_c.specs.declared.bodies.PcapfileInterface.{PcapfileInterface
 use Rattle.pcapfile_c.specs.declared.errors.PcapfileError.{PcapfileError}
 use Rattle.pcapfile_c.specs.PushNgBatches.{PacketIsLast}
 use Rattle.pcapfile_c.specs.PushPackets.{EndsWalk, GivesPacket, ReadMayGrow, ReadSays, ReadText, ShowsInForce, Stops, TakesFrontPacket, is_packet_block}
-use Rattle.pcapfile_c.specs.Pushes.{under_status}
+use Rattle.pcapfile_c.specs.RoomCalls.{under_status}
 use Rattle.pcapfile_c.specs.ReadBlocks.{ShowsThere, each_under, is_packet_there, read_format}
 use Rattle.pcapfile_c.specs.Refusals.{TellsRefusal}
-use Rattle.pcapfile_c.proofs.RoomLaws.{none_refused_where}
+use Rattle.pcapfile_c.proofs.Pushes.{not_both}
+use Rattle.pcapfile_c.proofs.RoomLaws.{none_refused_where, not_for_memory}
 
 -- ---- blocks whose bodies are good where they are packets
 
@@ -36,12 +37,9 @@ read_more q (item ∷ items) s rest more texts =
     let text = (blocks_lawful.stable q).text s more texts.0 item texts.1.text in
     (texts.0 ++ more, record { text = text; body = texts.1.body }, read_more item.after items texts.0 rest more texts.2)
 
-true_no_false : (b : Bool) → b ≡ true → b ≡ false → ⊥
-true_no_false b is other = let e : true ≡ false = sym is ∙ other in absurd cc
-
 -- a block that is no packet is one of these
 plain_read : (q : State) (item : Item) (s rest : List ℕ) → BlockText q item s rest → is_packet_block item ≡ false → ReadText q item s rest
-plain_read q item s rest text none = record { text = text; body = λ is. absurd (true_no_false (is_packet_block item) is none) }
+plain_read q item s rest text none = record { text = text; body = λ is. absurd (not_both (is_packet_block item) is none) }
 
 kept_out : (b : Bool) (item : Item) (l : List Item) → (if b then item ∷ l else l) ≡ [] → (b ≡ false) × (l ≡ [])
 kept_out true item l e = absurd cc
@@ -151,6 +149,16 @@ pub stops_give_none : {A : Type 0} (q : State) (section : PcapfileSection) (plac
     → Stops q section places s error told z → under_status z all ≡ []
 stops_give_none q section places s error told z all (inl x) = ap (λ (k : ℤ). under_status k all) x.0
 stops_give_none q section places s error told z all (inr x) = none_refused_where (ReadMayGrow q s) (ReadSays q s) told z all x
+
+-- what is left gives none, and so the blocks before it are those of the front
+pub stops_front : (q : State) (section : PcapfileSection) (places : List PcapfileInterface) (items : List Item) (s rest : List ℕ) (error told : PcapfileError) (z : ℤ) → z ≢ pos 6 → z ≢ pos 11 → Texts read_format q items s rest
+    → Stops (behind q items) section places rest error told z → Front read_format q items s rest × TellsRefusal (ReadSays (behind q items) rest) told z
+unfolding read_format
+stops_front q section places items s rest error told z memory room texts (inl full) = absurd (room full.0)
+stops_front q section places items s rest error told z memory room texts (inr said) =
+    let p = behind q items in
+    let refused = not_for_memory (ReadMayGrow p rest) (ReadSays p rest) told z memory said in
+    (record { texts = texts; longest = λ item after text. refused_no_read p rest item after text told z refused }, refused)
 
 -- how a walk to a packet ends behind these blocks: with the packet, or before what gives none
 abbrev pub HasCome : State → List Item → PcapfileSection → List PcapfileInterface → List ℕ → PcapfileAnyPacket → PcapfileAnyPacket → PcapfileError → PcapfileError → ℤ → Type 0

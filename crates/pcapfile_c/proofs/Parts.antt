@@ -1,15 +1,13 @@
 -- The texts of blocks, in the parts that are put.
-use Rattle.std.proofs.Common.{◌≡◌, ◌≢◌, ℕ, ◌+◌, ◌-◌, ◌≤◌, ◌/◌, ◌%◌, ◌^◌, List, [], ◌∷◌, ◌++◌, length, take, refl, sym, ap, ◌∙◌, append_assoc, append-nil, length-append, arith, zero, suc}
+use Rattle.std.proofs.Common.{◌≡◌, ◌≢◌, ℕ, ◌+◌, ◌-◌, ◌≤◌, ◌/◌, ◌%◌, ◌^◌, List, [], ◌∷◌, ◌++◌, length, take, sym, ap, ◌∙◌, append_assoc, append-nil, length-append, arith, zero, suc}
 use Rattle.std.specs.Prelude.{◌==◌, false}
 use Rattle.std.specs.Int.{w64, cast_unsigned}
 use Rattle.std.proofs.lemmas.Bool.{ne_eqb}
 use Rattle.byteorder.specs.Endian.{big_bytes}
-use Rattle.pcap_core.specs.declared.common.Endianness.TheVariants.{Big}
 use Rattle.pcap_core.specs.declared.link.DataLink.{DataLink}
 use Rattle.pcap_core.specs.Codec.{Encoder}
 use Rattle.pcap_core.specs.Link.{link_number}
 use Rattle.pcap_core.specs.Padded.{up_to_4}
-use Rattle.pcap_core.proofs.Codec.{codec}
 use Rattle.pcap_blocks.specs.BlockType.{type_number}
 use Rattle.pcap_blocks.specs.InterfaceDescription.{interface_description}
 use Rattle.pcap_blocks.specs.ParsedBlock.{Body}
@@ -30,56 +28,20 @@ interface_regrouped : (type len link reserved snaplen list again : List ℕ)
     → type ++ (len ++ ((link ++ reserved) ++ (snaplen ++ (list ++ again)))) ≡ type ++ (len ++ ((link ++ (reserved ++ (snaplen ++ list))) ++ again))
 interface_regrouped type len link reserved snaplen list again = simp append_assoc
 
--- with an offset the options have 24 bytes
-moved_len : (offset : ℕ) → offset ≢ 0 → clock_len offset ≡ 24
-moved_len offset moved = let is : (offset == 0) ≡ false = ne_eqb offset 0 moved in rw is refl
-
--- and 24 at most
+-- the options of a clock have 24 bytes at most
 pub clock_short : (offset : ℕ) → clock_len offset ≤ 24
 clock_short zero = omega arith
-clock_short (suc n) = let moved : suc n ≢ 0 = λ e. omega (arith, e) in omega (arith, moved_len (suc n) moved)
+clock_short (suc n) = let is : (suc n == 0) ≡ false = ne_eqb (suc n) 0 (λ e. omega (arith, e)) in rw is (omega arith)
 
 module _ (write : Encoder) (wide : (w n : ℕ) → length (write w n) ≡ w) where
   pub pair_long : (n m : ℕ) → length (write 2 n ++ write 2 m) ≡ 4
-  pair_long n m = omega (arith, length-append (write 2 n) (write 2 m), wide 2 n, wide 2 m)
+  pair_long n m = simp (length-append, wide)
 
   pub head_long : (len id high low captured original : ℕ) → length (plain_head write len id high low captured original) ≡ 28
-  head_long len id high low captured original =
-      let last = write 4 captured ++ write 4 original in
-      omega (
-        arith,
-        wide 4 6,
-        wide 4 len,
-        wide 4 id,
-        wide 4 high,
-        wide 4 low,
-        wide 4 captured,
-        wide 4 original,
-        length-append (write 4 6) (write 4 len ++ (write 4 id ++ (write 4 high ++ (write 4 low ++ last)))),
-        length-append (write 4 len) (write 4 id ++ (write 4 high ++ (write 4 low ++ last))),
-        length-append (write 4 id) (write 4 high ++ (write 4 low ++ last)),
-        length-append (write 4 high) (write 4 low ++ last),
-        length-append (write 4 low) last,
-        length-append (write 4 captured) (write 4 original),
-      )
+  head_long len id high low captured original = simp (length-append, wide)
 
   pub section_long : (s : PcapfileSection) → length (body_text write (section_block s)) ≡ 16
-  section_long s =
-      let magic = big_bytes 4 s.magic_number in
-      let major = write 2 s.version_major in
-      let minor = write 2 s.version_minor in
-      let unknown = write 8 18446744073709551615 in
-      omega (
-        arith,
-        (codec Big).wide 4 s.magic_number,
-        wide 2 s.version_major,
-        wide 2 s.version_minor,
-        wide 8 18446744073709551615,
-        length-append magic (major ++ (minor ++ (unknown ++ []))),
-        length-append major (minor ++ (unknown ++ [])),
-        length-append minor (unknown ++ []),
-        length-append unknown [],
-      )
+  section_long s = simp (length-append, wide)
 
   pub section_parts : (s : PcapfileSection)
       → write 4 0x0A0D0D0A ++ (write 4 28 ++ (big_bytes 4 s.magic_number ++ ((write 2 s.version_major ++ write 2 s.version_minor) ++ (write 8 18446744073709551615 ++ write 4 28)))) ≡ text_of write (section_block s)
@@ -98,43 +60,15 @@ module _ (write : Encoder) (wide : (w n : ℕ) → length (write w n) ≡ w) whe
       rw (is, wide 8 offset) (simp (append_assoc, append-nil))
 
   pub clock_long : (resolution offset : ℕ) → length (list_text write interface_description (clock_options resolution offset)) ≡ clock_len offset
-  clock_long resolution zero =
-      let bytes : List ℕ = resolution ∷ 0 ∷ 0 ∷ 0 ∷ [] in
-      let mark = write 2 0 ++ write 2 0 in
-      sym (ap length (unmoved_clock resolution)) ∙ omega (arith, length-append (write 2 9 ++ write 2 1) (bytes ++ mark), length-append bytes mark, pair_long 9 1, pair_long 0 0)
+  clock_long resolution zero = simp (length-append, wide)
   clock_long resolution (suc n) =
-      let bytes : List ℕ = resolution ∷ 0 ∷ 0 ∷ 0 ∷ [] in
-      let mark = write 2 0 ++ write 2 0 in
-      let number = write 8 (suc n) in
-      let moved : suc n ≢ 0 = λ e. omega (arith, e) in
-      let parts : length ((write 2 9 ++ write 2 1) ++ (bytes ++ ((write 2 14 ++ write 2 8) ++ (number ++ mark)))) ≡ 24 = omega (
-        arith,
-        length-append (write 2 9 ++ write 2 1) (bytes ++ ((write 2 14 ++ write 2 8) ++ (number ++ mark))),
-        length-append bytes ((write 2 14 ++ write 2 8) ++ (number ++ mark)),
-        length-append (write 2 14 ++ write 2 8) (number ++ mark),
-        length-append number mark,
-        pair_long 9 1,
-        pair_long 14 8,
-        pair_long 0 0,
-        wide 8 (suc n),
-      ) in
-      sym (ap length (moved_clock resolution (suc n) moved)) ∙ parts ∙ sym (moved_len (suc n) moved)
+      let is : (suc n == 0) ≡ false = ne_eqb (suc n) 0 (λ e. omega (arith, e)) in
+      rw is (simp (length-append, wide))
 
   pub interface_long : (link : DataLink) (i : PcapfileInterface) → length (body_text write (interface_block link i)) ≡ 8 + clock_len (cast_unsigned w64 i.ts_offset)
   interface_long link i =
-      let number = write 2 (link_number link) in
-      let snaplen = write 4 i.snaplen in
-      let list = list_text write interface_description (clock_options (resolution_byte i.ts_base i.ts_exponent) (cast_unsigned w64 i.ts_offset)) in
-      omega (
-        arith,
-        wide 2 (link_number link),
-        wide 2 0,
-        wide 4 i.snaplen,
-        clock_long (resolution_byte i.ts_base i.ts_exponent) (cast_unsigned w64 i.ts_offset),
-        length-append number (write 2 0 ++ (snaplen ++ list)),
-        length-append (write 2 0) (snaplen ++ list),
-        length-append snaplen list,
-      )
+      let resolution = resolution_byte i.ts_base i.ts_exponent in
+      rw (length-append, length-append, length-append, wide 2 (link_number link), wide 2 0, wide 4 i.snaplen, clock_long resolution (cast_unsigned w64 i.ts_offset)) (omega arith)
 
   pub interface_parts : (link : DataLink) (i : PcapfileInterface) (len number resolution offset : ℕ) → len ≡ clock_len (cast_unsigned w64 i.ts_offset) + 20
       → number ≡ link_number link → resolution ≡ resolution_byte i.ts_base i.ts_exponent → offset ≡ cast_unsigned w64 i.ts_offset
@@ -142,12 +76,7 @@ module _ (write : Encoder) (wide : (w n : ℕ) → length (write w n) ≡ w) whe
   interface_parts link i len number resolution offset is number_is resolution_is offset_is =
       let all : length (body_text write (interface_block link i)) + 12 ≡ len = omega (arith, interface_long link i, is) in
       let list = list_text write interface_description (clock_options (resolution_byte i.ts_base i.ts_exponent) (cast_unsigned w64 i.ts_offset)) in
-      let options : list_text write interface_description (clock_options resolution offset) ≡ list =
-      ap (λ (r : ℕ). list_text write interface_description (clock_options r offset)) resolution_is ∙ ap (λ (o : ℕ). list_text write interface_description (clock_options (resolution_byte i.ts_base i.ts_exponent) o)) offset_is in
-      ap (λ (k : ℕ). write 4 1 ++ (write 4 len ++ ((write 2 k ++ write 2 0) ++ (write 4 i.snaplen ++ (list_text write interface_description (clock_options resolution offset) ++ write 4 len))))) number_is
-      ∙ ap (λ (t : List ℕ). write 4 1 ++ (write 4 len ++ ((write 2 (link_number link) ++ write 2 0) ++ (write 4 i.snaplen ++ (t ++ write 4 len))))) options
-      ∙ interface_regrouped (write 4 1) (write 4 len) (write 2 (link_number link)) (write 2 0) (write 4 i.snaplen) list (write 4 len)
-      ∙ ap (λ (k : ℕ). write 4 1 ++ (write 4 k ++ (body_text write (interface_block link i) ++ write 4 k))) (sym all)
+      rw (number_is, resolution_is, offset_is, all) (interface_regrouped (write 4 1) (write 4 len) (write 2 (link_number link)) (write 2 0) (write 4 i.snaplen) list (write 4 len))
 
   pub packet_parts : (p : PcapfileNgPacket) (len missing : ℕ) → len ≡ up_to_4 (length p.bytes.now) + 32 → length p.bytes.now + missing ≡ up_to_4 (length p.bytes.now)
       → plain_head write len p.interface_id (p.timestamp / 2 ^ 32) (p.timestamp % 2 ^ 32) (length p.bytes.now) p.orig_len ++ (p.bytes.now ++ (take missing (0 ∷ 0 ∷ 0 ∷ []) ++ write 4 len)) ≡ text_of write (packet_block p)
@@ -161,17 +90,7 @@ module _ (write : Encoder) (wide : (w n : ℕ) → length (write w n) ≡ w) whe
 
   block_long : (body : Body) → length (text_of write body) ≡ length (body_text write body) + 12
   block_long body =
-      let inner = body_text write body in
-      let len = write 4 (length inner + 12) in
-      let type = write 4 (type_number (type_of body)) in
-      omega (
-        arith,
-        wide 4 (type_number (type_of body)),
-        wide 4 (length inner + 12),
-        length-append type (len ++ (inner ++ len)),
-        length-append len (inner ++ len),
-        length-append inner len,
-      )
+      rw (length-append, length-append, length-append, wide 4 (type_number (type_of body)), wide 4 (length (body_text write body) + 12)) (omega arith)
 
   pub section_text_long : (s : PcapfileSection) → length (text_of write (section_block s)) ≡ 28
   section_text_long s = omega (arith, block_long (section_block s), section_long s)

@@ -1,5 +1,5 @@
 -- Blocks before a packet, and what they put in force, as structs show it.
-use Rattle.std.proofs.Common.{◌≡◌, ◌<◌, ◌≤◌, ◌+◌, ◌-◌, ◌^◌, ◌⊎◌, ℕ, ℤ, zero, suc, List, [], ◌∷◌, ◌++◌, length, min, take, Bool, if◌then◌else◌, true, false, Ok, Err, Option, Some, None, refl, sym, ap, subst, ◌∙◌, inl, inr, arith, w32, to_z, of_z, drop, append_assoc}
+use Rattle.std.proofs.Common.{◌≡◌, ◌<◌, ◌≤◌, ◌+◌, ◌-◌, ◌^◌, ◌⊎◌, ℕ, ℤ, zero, suc, List, [], ◌∷◌, ◌++◌, length, min, take, Bool, if◌then◌else◌, true, false, Ok, Err, Option, Some, None, refl, sym, ap, subst, ◌∙◌, inl, inr, arith, w32, to_z, of_z, append_assoc}
 use Rattle.std.specs.Prelude.{IsSome, slice_set, filter}
 use Rattle.std.specs.List.{AllZip, slice_get}
 use Rattle.std.proofs.lemmas.Bool.{ne_eqb}
@@ -42,11 +42,10 @@ use Rattle.pcapfile_c.specs.Batches.{LeadingText, OtherText, PacketText, PacketF
 use Rattle.pcapfile_c.specs.Blocks.{ShowsState, TellsSection}
 use Rattle.pcapfile_c.specs.Bodies.{BodyTells, ShowsInterface, ShowsInterfaceOf, IsInterface}
 use Rattle.pcapfile_c.specs.PushPackets.{ShowsInForce, ShowsFound, GivesPacket, PutsBlock, PutsTells, StepTells, EndsWalk, TakesFrontPacket, TakesNextPacket, is_packet_block, ReadSays, ReadMayGrow, LacksPlace, Stops}
-use Rattle.pcapfile_c.specs.Push.{LiesWithin, held_in}
 use Rattle.pcapfile_c.specs.Refusals.{ShowsError, TellsRefusalWhere}
 use Rattle.pcapfile_c.proofs.BlockLaws.{behind_push}
-use Rattle.pcapfile_c.proofs.Leading.{interface_refuses, not_named, none_some, section_leads, section_puts}
-use Rattle.pcapfile_c.proofs.Pushed.{held_rest, with_rest}
+use Rattle.pcapfile_c.proofs.Leading.{body_faults, change_refuses, not_named, none_some, section_puts, section_refuses}
+use Rattle.pcapfile_c.proofs.Pushed.{Found, held_says, with_rest}
 use Rattle.pcapfile_c.proofs.PushedBlocks.{block_ends}
 use Rattle.pcapfile_c.proofs.Refused.{tells_refusal_where}
 
@@ -187,7 +186,7 @@ pub section_stops : (q : State) (section : PcapfileSection) (places : List Pcapf
     → LeadingText (order_at q) types.SectionHeader body s rest → TellsSection body (Err e) → ShowsError e told z → Stops q section places s error told (to_z w32 (of_z w32 z))
 section_stops q section places body s rest e error told z text refused shows =
     let b = text.block in
-    let led = section_leads b body text.type_is text.body_is q (Err e) refused in
+    let led = section_refuses b body text.type_is text.body_is q e refused in
     block_stops q section places s error told (to_z w32 (of_z w32 z)) (tells_refusal_where (MayGrow q s) (BlockSays q s) e told z (body_refuses q s b rest text.frame e led) shows)
 
 interface_no_section : types.InterfaceDescription ≡ types.SectionHeader → ⊥
@@ -201,11 +200,10 @@ module _ (d : Section) (interfaces : List Interface) (section : PcapfileSection)
       frame_order (order_at (within d interfaces)) text.block s rest text.frame (λ other. interface_no_section (sym text.type_is ∙ other)) ∙ holding section places (within d interfaces) e shows is
 
   -- an interface that leads on stands there
-  InterfaceText : PcapfileInterface → Type 0
+  abbrev InterfaceText : PcapfileInterface → Type 0
   InterfaceText found = (i : Interface) × ShowsInterfaceOf i found × BlockText (within d interfaces) (record { block = text.block; after = within d (interfaces ++ i ∷ []) }) s rest
 
   interface_text : (found : PcapfileInterface) → BodyTells ShowsInterface IsInterface e types.InterfaceDescription body (Ok (Some found)) → InterfaceText found
-  unfolding InterfaceText
   interface_text found told =
       let b = text.block in
       let i = told.3.0 in
@@ -220,56 +218,40 @@ module _ (d : Section) (interfaces : List Interface) (section : PcapfileSection)
       let count : length (take section.interfaces places) ≡ section.interfaces = length-take-le section.interfaces places (omega (arith, within_places)) in
       omega (arith, long, count, few, length-append interfaces (i ∷ []))
 
-  interface_puts : (next : PcapfileSection) (found : PcapfileInterface) → BodyTells ShowsInterface IsInterface e types.InterfaceDescription body (Ok (Some found)) → section.interfaces < length places
-      → section.interfaces < 2 ^ 32 - 1 → next.interfaces ≡ section.interfaces + 1 → next.magic_number ≡ section.magic_number → next.version_major ≡ section.version_major → next.version_minor ≡ section.version_minor
-      → PutsBlock (within d interfaces) next (slice_set places section.interfaces found) s rest
-  unfolding InterfaceText
-  interface_puts next found told within_places few count magic major minor =
-      let t = interface_text found told in
-      let state : ShowsState next (within d (interfaces ++ t.0 ∷ [])) =
-      (record { magic = magic ∙ shows.0.0.magic; named = shows.0.0.named; major = major ∙ shows.0.0.major; minor = minor ∙ shows.0.0.minor }, count ∙ interface_counted t.0 within_places few) in
-      let taken : take next.interfaces (slice_set places section.interfaces found) ≡ take section.interfaces places ++ found ∷ [] = take-set_at places section.interfaces next.interfaces found count within_places in
-      let zip : AllZip ShowsInterfaceOf (interfaces ++ t.0 ∷ []) (take next.interfaces (slice_set places section.interfaces found)) =
-      rw taken (zip_push ShowsInterfaceOf interfaces (take section.interfaces places) t.0 found shows.1 t.1) in
-      (record { block = text.block; after = within d (interfaces ++ t.0 ∷ []) }, ap is_packet text.type_is, t.2, (state, zip))
-
-  interface_lacks : (found : PcapfileInterface) → BodyTells ShowsInterface IsInterface e types.InterfaceDescription body (Ok (Some found)) → (length places ≤ section.interfaces) ⊎ (section.interfaces ≡ 2 ^ 32 - 1)
-      → LacksPlace (within d interfaces) section places s
-  unfolding InterfaceText
-  interface_lacks found told full =
-      let t = interface_text found told in
-      (record { block = text.block; after = within d (interfaces ++ t.0 ∷ []) }, rest, text.type_is, t.2, full)
-
-  interface_refused : (error : PcapError) (error_before told : PcapfileError) (z : ℤ) → BodyTells ShowsInterface IsInterface e types.InterfaceDescription body (Err error) → ShowsError error told z
-      → Stops (within d interfaces) section places s error_before told (to_z w32 (of_z w32 z))
-  interface_refused error error_before told z refused shown =
-      let b = text.block in
-      let q = within d interfaces in
-      let there : Refuses (GrowsInBody b) (λ n. SaysOfBody b (lacks n)) (λ fault. SaysOfBody b (faulty fault)) error = rw (interface_order, text.type_is, sym text.body_is) refused in
-      let led = interface_refuses d interfaces b text.type_is error there in
-      block_stops q section places s error_before told (to_z w32 (of_z w32 z)) (tells_refusal_where (MayGrow q s) (BlockSays q s) error told z (body_refuses q s b rest text.frame error led) shown)
-
--- the same of any state that the structs show
+-- where it has a place
 pub found_puts : (q : State) (section next : PcapfileSection) (places : List PcapfileInterface) (e : Endianness) (body s rest : List ℕ) (found : PcapfileInterface) → ShowsInForce section places q
     → magic_order section.magic_number ≡ Some e → LeadingText (order_at q) types.InterfaceDescription body s rest → BodyTells ShowsInterface IsInterface e types.InterfaceDescription body (Ok (Some found))
     → section.interfaces < length places → section.interfaces < 2 ^ 32 - 1 → next.interfaces ≡ section.interfaces + 1 → next.magic_number ≡ section.magic_number
     → next.version_major ≡ section.version_major → next.version_minor ≡ section.version_minor → PutsBlock q next (slice_set places section.interfaces found) s rest
 found_puts opening section next places e body s rest found shows is text told within_places few count magic major minor = absurd (named_some section.magic_number e is shows)
 found_puts (within d interfaces) section next places e body s rest found shows is text told within_places few count magic major minor =
-    interface_puts d interfaces section places e body s rest shows is text next found told within_places few count magic major minor
+    let t = interface_text d interfaces section places e body s rest shows is text found told in
+    let all = interfaces ++ t.0 ∷ [] in
+    let counts = count ∙ interface_counted d interfaces section places e body s rest shows is text t.0 within_places few in
+    let state : ShowsState next (within d all) = (record { magic = magic ∙ shows.0.0.magic; named = shows.0.0.named; major = major ∙ shows.0.0.major; minor = minor ∙ shows.0.0.minor }, counts) in
+    let taken : take next.interfaces (slice_set places section.interfaces found) ≡ take section.interfaces places ++ found ∷ [] = take-set_at places section.interfaces next.interfaces found count within_places in
+    let zip : AllZip ShowsInterfaceOf all (take next.interfaces (slice_set places section.interfaces found)) = rw taken (zip_push ShowsInterfaceOf interfaces (take section.interfaces places) t.0 found shows.1 t.1) in
+    (record { block = text.block; after = within d all }, ap is_packet text.type_is, t.2, (state, zip))
 
 pub found_lacks : (q : State) (section : PcapfileSection) (places : List PcapfileInterface) (e : Endianness) (body s rest : List ℕ) (found : PcapfileInterface) → ShowsInForce section places q
     → magic_order section.magic_number ≡ Some e → LeadingText (order_at q) types.InterfaceDescription body s rest → BodyTells ShowsInterface IsInterface e types.InterfaceDescription body (Ok (Some found))
     → (length places ≤ section.interfaces) ⊎ (section.interfaces ≡ 2 ^ 32 - 1) → LacksPlace q section places s
 found_lacks opening section places e body s rest found shows is text told full = absurd (named_some section.magic_number e is shows)
-found_lacks (within d interfaces) section places e body s rest found shows is text told full = interface_lacks d interfaces section places e body s rest shows is text found told full
+found_lacks (within d interfaces) section places e body s rest found shows is text told full =
+    let t = interface_text d interfaces section places e body s rest shows is text found told in
+    (record { block = text.block; after = within d (interfaces ++ t.0 ∷ []) }, rest, text.type_is, t.2, full)
 
 pub found_stops : (q : State) (section : PcapfileSection) (places : List PcapfileInterface) (e : Endianness) (body s rest : List ℕ) (error : PcapError) (error_before told : PcapfileError) (z : ℤ)
     → ShowsInForce section places q → magic_order section.magic_number ≡ Some e → LeadingText (order_at q) types.InterfaceDescription body s rest
     → BodyTells ShowsInterface IsInterface e types.InterfaceDescription body (Err error) → ShowsError error told z → Stops q section places s error_before told (to_z w32 (of_z w32 z))
 found_stops opening section places e body s rest error error_before told z shows is text refused shown = absurd (named_some section.magic_number e is shows)
 found_stops (within d interfaces) section places e body s rest error error_before told z shows is text refused shown =
-    interface_refused d interfaces section places e body s rest shows is text error error_before told z refused shown
+    let b = text.block in
+    let q = within d interfaces in
+    let there : Refuses (GrowsInBody b) (λ n. SaysOfBody b (lacks n)) (λ fault. SaysOfBody b (faulty fault)) error = rw (interface_order d interfaces section places e body s rest shows is text, text.type_is, sym text.body_is) refused in
+    let faults = body_faults b (GrowsInBody b) (λ fault. SaysOfBody b (faulty fault)) error there in
+    let led = change_refuses section q b error shows.0 (named_some section.magic_number e is) (ap is_kept text.type_is) faults in
+    block_stops q section places s error_before told (to_z w32 (of_z w32 z)) (tells_refusal_where (MayGrow q s) (BlockSays q s) error told z (body_refuses q s b rest text.frame error led) shown)
 
 -- Blocks one after the other, none of them a packet, and these structs show what is in force behind them.
 abbrev pub PutsBlocks : State → PcapfileSection → List PcapfileInterface → List ℕ → List ℕ → Type 0
@@ -307,14 +289,12 @@ front_ends q next now s rest old packet error told z x =
 
 -- a packet is taken from what is held
 pub packet_takes : (before : PcapfilePush) (q : State) (section next : PcapfileSection) (places now : List PcapfileInterface) (room s rest : List ℕ) (old packet : PcapfileAnyPacket) (error told : PcapfileError) (z : ℤ)
-    → LiesWithin before room → s ≡ held_in before room → TakesFrontPacket q next now s rest old packet error told z
+    → Found before room s → TakesFrontPacket q next now s rest old packet error told z
     → TakesNextPacket q before (with_rest before before.header rest) section next places now room old packet error told z
-packet_takes before q section next places now room s rest old packet error told z lies is x =
-    let o = front_ends q next now s rest old packet error told z x in
-    let same : drop (before.end - length rest) (take before.end room) ≡ rest = held_rest before room s o.0 rest lies is o.1 in
-    let here : TakesFrontPacket q next now (held_in before room) rest old packet error told z = subst (λ (l : List ℕ). TakesFrontPacket q next now l rest old packet error told z) is x in
-    let there = subst (λ (l : List ℕ). TakesFrontPacket q next now (held_in before room) l old packet error told z) (sym same) here in
-    inl ((lies, (omega arith, lies.1), refl, refl), there)
+packet_takes before q section next places now room s rest old packet error told z found x =
+    let ends = front_ends q next now s rest old packet error told z x in
+    let held = held_says (λ s rest. TakesFrontPacket q next now s rest old packet error told z) before before.header room s rest found ends x in
+    inl ((held.0, held.1, refl, refl), held.2)
 
 pub shows_state : (q : State) (section : PcapfileSection) (places : List PcapfileInterface) → ShowsInForce section places q → ShowsState section q
 shows_state opening section places shows = shows

@@ -51,11 +51,6 @@ rest_held b e room t rest within fits text =
     let all : n ≡ (take b n ++ t) ++ rest = sym (take-append-drop b n) ∙ ap (λ (l : List ℕ). take b n ++ l) text ∙ sym (append_assoc (take b n) t rest) in
     ap (λ (k : ℕ). drop (k - length rest) n) (sym long) ∙ after_is_drop n (take b n ++ t) rest all
 
--- what is left of what is held is what is held up to the same end
-pub held_rest : (push : PcapfilePush) (room s t rest : List ℕ) → LiesWithin push room → s ≡ held_in push room → s ≡ t ++ rest
-    → drop (push.end - length rest) (take push.end room) ≡ rest
-held_rest push room s t rest lies is text = rest_held push.begin push.end room t rest lies.0 lies.1 (sym is ∙ text)
-
 -- what follows a packet's text
 packet_ends : (magic : ℕ) (s rest : List ℕ) (p : Captured) → PacketsSaid magic s (whole p rest) → (t : List ℕ) × (s ≡ t ++ rest)
 packet_ends magic s rest p x =
@@ -84,13 +79,23 @@ front_ends before now s rest old packet error told z (inr (inr x)) = ([], sym x.
 abbrev pub with_rest : PcapfilePush → PcapfileHeader → List ℕ → PcapfilePush
 with_rest push header rest = record { header = header; begin = push.end - length rest; end = push.end }
 
+-- these bytes of a room were found where what is held lies
+abbrev pub Found : PcapfilePush → List ℕ → List ℕ → Type 0
+Found push room s = (push.begin ≤ push.end) × (push.end ≤ length room) × (s ≡ take (push.end - push.begin) (drop push.begin room)) × (length s + push.begin ≡ push.end)
+
+-- what is said of what is held and of its end that is left is said of what is held before and now
+pub held_says : (Says : List ℕ → List ℕ → Type 0) (before : PcapfilePush) (header : PcapfileHeader) (room s rest : List ℕ) → Found before room s → (t : List ℕ) × (s ≡ t ++ rest) → Says s rest
+    → LiesWithin before room × LiesWithin (with_rest before header rest) room × Says (held_in before room) (held_in (with_rest before header rest) room)
+held_says Says before header room s rest found ends says =
+    let is = found.2 ∙ between_same before.begin before.end room found.0 in
+    let same = rest_held before.begin before.end room ends.0 rest found.0 found.1 (sym is ∙ ends.1) in
+    ((found.0, found.1), (omega arith, found.1), subst (λ (l : List ℕ). Says l (held_in (with_rest before header rest) room)) is (subst (Says s) (sym same) says))
+
 -- a packet is taken from what is held
 pub next_takes : (before : PcapfilePush) (header : PcapfileHeader) (room s rest : List ℕ) (old packet : PcapfilePacket) (error told : PcapfileError) (z : ℤ)
-    → LiesWithin before room → s ≡ held_in before room → TakesFront before.header header s rest old packet error told z
+    → Found before room s → TakesFront before.header header s rest old packet error told z
     → TakesNext before (with_rest before header rest) room old packet error told z
-next_takes before header room s rest old packet error told z lies is takes =
-    let o = front_ends before.header header s rest old packet error told z takes in
-    let same : drop (before.end - length rest) (take before.end room) ≡ rest = held_rest before room s o.0 rest lies is o.1 in
-    let here : TakesFront before.header header (held_in before room) rest old packet error told z = subst (λ (l : List ℕ). TakesFront before.header header l rest old packet error told z) is takes in
-    let there = subst (λ (l : List ℕ). TakesFront before.header header (held_in before room) l old packet error told z) (sym same) here in
-    inl (lies, (omega arith, lies.1), refl, there)
+next_takes before header room s rest old packet error told z found takes =
+    let ends = front_ends before.header header s rest old packet error told z takes in
+    let held = held_says (λ s rest. TakesFront before.header header s rest old packet error told z) before header room s rest found ends takes in
+    inl (held.0, held.1, refl, held.2)

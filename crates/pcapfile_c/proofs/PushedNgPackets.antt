@@ -1,5 +1,5 @@
 -- Many packets of a PcapNg capture that comes in pieces.
-use Rattle.std.proofs.Common.{◌≡◌, ◌<◌, ◌+◌, ◌-◌, ℕ, ℤ, List, [], ◌∷◌, ◌++◌, length, take, drop, refl, sym, ap, subst, ◌∙◌, arith, append-nil, inl, inr, w32, of_z}
+use Rattle.std.proofs.Common.{◌≡◌, ◌<◌, ◌+◌, ℕ, ℤ, List, [], ◌∷◌, ◌++◌, length, take, drop, refl, sym, ap, subst, ◌∙◌, arith, append-nil, inl, inr, w32, of_z}
 use Rattle.std.specs.Prelude.{slice_set}
 use Rattle.std.specs.List.{AllZip}
 use Rattle.std.proofs.lemmas.Grind.{take-set_at}
@@ -13,13 +13,12 @@ use Rattle.pcapfile_c.specs.declared.blocks.PcapfileSection.{PcapfileSection}
 use Rattle.pcapfile_c.specs.declared.bodies.PcapfileInterface.{PcapfileInterface}
 use Rattle.pcapfile_c.specs.declared.errors.PcapfileError.{PcapfileError}
 use Rattle.pcapfile_c.specs.declared.push.PcapfilePush.{PcapfilePush}
-use Rattle.pcapfile_c.specs.Push.{LiesWithin, held_in}
 use Rattle.pcapfile_c.specs.PushNgBatches.{PacketIsLast, TakesFrontNgPackets, TakesNextNgPackets}
 use Rattle.pcapfile_c.specs.PushPackets.{ReadSays, Stops, TakesFrontPacket}
-use Rattle.pcapfile_c.specs.Pushes.{under_status}
+use Rattle.pcapfile_c.specs.RoomCalls.{under_status}
 use Rattle.pcapfile_c.specs.ReadBlocks.{ShowsThere, read_format}
 use Rattle.pcapfile_c.proofs.PacketsCome.{PacketsCome, behind, come_all, front_comes, packets_among, state_all, stops_give_none}
-use Rattle.pcapfile_c.proofs.Pushed.{held_rest, with_rest}
+use Rattle.pcapfile_c.proofs.Pushed.{Found, held_says, with_rest}
 use Rattle.pcapfile_c.proofs.Refused.{refusal_not_0}
 
 last_all : (items more : List Item) → PacketIsLast items → PacketIsLast more → PacketIsLast (items ++ more)
@@ -92,11 +91,9 @@ read_blocks q (item ∷ items) s rest texts = (texts.0, texts.1.text, read_block
 
 -- packets are taken from what is held
 pub ng_packets_take : (before : PcapfilePush) (q : State) (section next : PcapfileSection) (places now : List PcapfileInterface) (room s rest : List ℕ) (old packets : List PcapfileAnyPacket) (taken : ℕ) (error told : PcapfileError) (z : ℤ)
-    → LiesWithin before room → s ≡ held_in before room → TakesFrontNgPackets q next now s rest old packets taken error told z
+    → Found before room s → TakesFrontNgPackets q next now s rest old packets taken error told z
     → TakesNextNgPackets q before (with_rest before before.header rest) section next places now room old packets taken error told z
-ng_packets_take before q section next places now room s rest old packets taken error told z lies is x =
+ng_packets_take before q section next places now room s rest old packets taken error told z found x =
     let o = texts_own block_format blocks_lawful q x.items s rest (read_blocks q x.items s rest x.texts) in
-    let same : drop (before.end - length rest) (take before.end room) ≡ rest = held_rest before room s o.0 rest lies is o.1 in
-    let here : TakesFrontNgPackets q next now (held_in before room) rest old packets taken error told z = subst (λ (l : List ℕ). TakesFrontNgPackets q next now l rest old packets taken error told z) is x in
-    let there = subst (λ (l : List ℕ). TakesFrontNgPackets q next now (held_in before room) l old packets taken error told z) (sym same) here in
-    inl ((lies, (omega arith, lies.1), refl, refl), there)
+    let held = held_says (λ s rest. TakesFrontNgPackets q next now s rest old packets taken error told z) before before.header room s rest found (o.0, o.1) x in
+    inl ((held.0, held.1, refl, refl), held.2)

@@ -1,5 +1,5 @@
 -- Many packets of a capture that comes in pieces.
-use Rattle.std.proofs.Common.{◌≡◌, ◌≤◌, ◌-◌, ℕ, ℤ, List, [], ◌++◌, length, map, take, drop, refl, sym, ap, subst, ◌∙◌, arith, append_assoc, length-append, length-take, inl, inr}
+use Rattle.std.proofs.Common.{◌≡◌, ◌≤◌, ◌-◌, ℕ, ℤ, List, [], ◌++◌, length, map, take, drop, refl, sym, ap, ◌∙◌, arith, append_assoc, length-append, length-take, inl, inr}
 use Rattle.pcap_core.specs.Answer.{number_in}
 use Rattle.pcap_core.proofs.Formats.{texts_own}
 use Rattle.pcap_classic.specs.Magic.{order_of, resolution_of}
@@ -10,10 +10,9 @@ use Rattle.pcapfile_c.specs.declared.errors.PcapfileError.{PcapfileError}
 use Rattle.pcapfile_c.specs.declared.push.PcapfilePush.{PcapfilePush}
 use Rattle.pcapfile_c.specs.declared.shown.PcapfileHeader.{PcapfileHeader}
 use Rattle.pcapfile_c.specs.declared.shown.PcapfilePacket.{PcapfilePacket}
-use Rattle.pcapfile_c.specs.Push.{LiesWithin, held_in}
 use Rattle.pcapfile_c.specs.PushBatches.{FillsPlaces, TakesFrontPackets, TakesNextPackets}
 use Rattle.pcapfile_c.specs.Shown.{captured}
-use Rattle.pcapfile_c.proofs.Pushed.{held_rest, opened_ends, with_rest}
+use Rattle.pcapfile_c.proofs.Pushed.{Found, held_says, opened_ends, with_rest}
 
 -- what is left is the end of what was there
 fills_ends : (magic : ℕ) (s rest : List ℕ) (old packets : List PcapfilePacket) (taken : ℕ) (error told : PcapfileError) (z : ℤ)
@@ -38,11 +37,9 @@ rest_fits b e room held t rest is text = omega (arith, ap length is ∙ length-t
 
 -- packets are taken from what is held
 pub packets_take : (before : PcapfilePush) (header : PcapfileHeader) (room s rest : List ℕ) (old packets : List PcapfilePacket) (taken : ℕ) (error told : PcapfileError) (z : ℤ)
-    → LiesWithin before room → s ≡ held_in before room → TakesFrontPackets before.header header s rest old packets taken error told z
+    → Found before room s → TakesFrontPackets before.header header s rest old packets taken error told z
     → TakesNextPackets before (with_rest before header rest) room old packets taken error told z
-packets_take before header room s rest old packets taken error told z lies is takes =
-    let o = packets_end before.header header s rest old packets taken error told z takes in
-    let same : drop (before.end - length rest) (take before.end room) ≡ rest = held_rest before room s o.0 rest lies is o.1 in
-    let here : TakesFrontPackets before.header header (held_in before room) rest old packets taken error told z = subst (λ (l : List ℕ). TakesFrontPackets before.header header l rest old packets taken error told z) is takes in
-    let there = subst (λ (l : List ℕ). TakesFrontPackets before.header header (held_in before room) l old packets taken error told z) (sym same) here in
-    inl (lies, (omega arith, lies.1), refl, there)
+packets_take before header room s rest old packets taken error told z found takes =
+    let ends = packets_end before.header header s rest old packets taken error told z takes in
+    let held = held_says (λ s rest. TakesFrontPackets before.header header s rest old packets taken error told z) before header room s rest found ends takes in
+    inl (held.0, held.1, refl, held.2)

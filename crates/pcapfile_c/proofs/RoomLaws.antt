@@ -1,22 +1,33 @@
--- Calls on a PcapNg capture that comes in pieces, one after the other.
-use Rattle.std.proofs.Common.{◌≡◌, ℕ, ℤ, List, [], ◌∷◌, ◌++◌, take, drop, refl, ap, ◌∙◌, append_assoc, append-nil, inl, inr}
+-- Calls on a capture that comes in pieces, one after the other.
+use Rattle.std.proofs.Common.{◌≡◌, ◌≢◌, ℕ, ℤ, pos, List, [], ◌∷◌, ◌++◌, take, drop, refl, ap, ◌∙◌, append_assoc, append-nil, inl, inr}
+use Rattle.std.proofs.lemmas.List.Concat.{flat_map-append}
 use Rattle.pcap_core.specs.Answer.{Verdict, whole}
 use Rattle.pcap_core.specs.Faults.{Invalid, Io, Utf8}
 use Rattle.pcap_core.specs.Format.{Format, IsLawful}
 use Rattle.pcap_core.proofs.Formats.{lacks_no_text, fault_no_text}
 use Rattle.pcapfile_c.specs.declared.errors.PcapfileError.{PcapfileError}
 use Rattle.pcapfile_c.specs.declared.push.PcapfilePush.{PcapfilePush}
-use Rattle.pcapfile_c.specs.Push.{held_in}
-use Rattle.pcapfile_c.specs.Pushes.{under_status, all_put, all_given}
+use Rattle.pcapfile_c.specs.declared.shown.PcapfileHeader.{PcapfileHeader}
+use Rattle.pcapfile_c.specs.Push.{MakesSpace, held_in}
 use Rattle.pcapfile_c.specs.Refusals.{TellsRefusal, TellsRefusalWhere}
-use Rattle.pcapfile_c.specs.RoomCalls.{RoomCall, RoomCalls}
+use Rattle.pcapfile_c.specs.RoomCalls.{Ended, RoomCall, RoomCalls, all_given, all_put, under_status}
 use Rattle.pcapfile_c.specs.RoomCalls.RoomCall.{space, put, gives, between}
-use Rattle.pcapfile_c.proofs.Pushes.{none_refused, space_keeps}
 
 -- a refusal gives nothing
+pub none_refused : {V A : Type 0} (IsSaid : Verdict V → Type 0) (told : PcapfileError) (z : ℤ) (all : List A) → TellsRefusal IsSaid told z → under_status z all ≡ []
+none_refused IsSaid told z all (inl x) = ap (λ (k : ℤ). under_status k all) x.0
+none_refused IsSaid told z all (inr (inl x)) = ap (λ (k : ℤ). under_status k all) x.0
+none_refused IsSaid told z all (inr (inr (inl x))) = ap (λ (k : ℤ). under_status k all) x.0
+none_refused IsSaid told z all (inr (inr (inr x))) = ap (λ (k : ℤ). under_status k all) x.0
+
 pub none_refused_where : {V A : Type 0} (M : Type 0) (IsSaid : Verdict V → Type 0) (told : PcapfileError) (z : ℤ) (all : List A) → TellsRefusalWhere M IsSaid told z → under_status z all ≡ []
 none_refused_where M IsSaid told z all (inl x) = none_refused IsSaid told z all x
 none_refused_where M IsSaid told z all (inr x) = ap (λ (k : ℤ). under_status k all) x.0
+
+-- a refusal that isn't for memory
+pub not_for_memory : {V : Type 0} (M : Type 0) (IsSaid : Verdict V → Type 0) (told : PcapfileError) (z : ℤ) → z ≢ pos 6 → TellsRefusalWhere M IsSaid told z → TellsRefusal IsSaid told z
+not_for_memory M IsSaid told z had (inl x) = x
+not_for_memory M IsSaid told z had (inr x) = absurd (had x.0)
 
 -- what is refused begins no text
 pub refused_no_text : {S V : Type 0} (f : Format S V) → IsLawful f → (q : S) (s : List ℕ) (told : PcapfileError) (z : ℤ) → TellsRefusal (f.says q s) told z
@@ -26,48 +37,74 @@ refused_no_text f laws q s told z (inr (inl x)) v after text = fault_no_text f l
 refused_no_text f laws q s told z (inr (inr (inl x))) v after text = fault_no_text f laws q Io s x.2 v after text
 refused_no_text f laws q s told z (inr (inr (inr x))) v after text = fault_no_text f laws q Utf8 s x.2 v after text
 
--- What each call keeps of what is known of the bytes that were put, what is kept, what is held and what was given, all of them
--- keep.
-module _ {T G : Type 0} (Gives : PcapfilePush → T → List ℕ → PcapfilePush → T → List G → Type 0) (Keeps : T → T → Type 0) (Come : List ℕ → T → List ℕ → List G → Type 0)
-    (puts : (s t held : List ℕ) (kept : T) (given : List G) → Come s kept held given → Come (s ++ t) kept (held ++ t) given)
-    (goes : (before push : PcapfilePush) (kept next : T) (room s : List ℕ) (given more : List G) → Gives before kept room push next more
-    → Come s kept (held_in before room) given → Come s next (held_in push room) (given ++ more))
-    (keeps : (s held : List ℕ) (kept next : T) (given : List G) → Keeps kept next → Come s kept held given → Come s next held given) where
+-- space is made, and what is held is as it was
+space_keeps : (before push : PcapfilePush) (room now : List ℕ) (wanted : ℕ) (error told : PcapfileError) (z : ℤ) → MakesSpace before push room now wanted error told z
+    → (push.header ≡ before.header) × (held_in push now ≡ held_in before room)
+space_keeps before push room now wanted error told z (inl x) = rw (x.2, x.3) (refl, refl)
+space_keeps before push room now wanted error told z (inr (inl x)) = rw (x.2, x.3) (refl, refl)
+space_keeps before push room now wanted error told z (inr (inr x)) = (x.2.header, x.2.held)
+
+-- of what is known of the bytes that were put, the header in force, what is kept, what is held and what was given
+module _ {T G : Type 0} (Come : List ℕ → PcapfileHeader → T → List ℕ → List G → Type 0) where
   -- nothing was put, taken or given
-  unmoved : (s t held left : List ℕ) (kept next : T) (given more : List G) → next ≡ kept → left ≡ held → t ≡ [] → more ≡ [] → Come s kept held given
-      → Come (s ++ t) next left (given ++ more)
-  unmoved s t held left kept next given more same is none empty come =
+  unmoved : (s t held left : List ℕ) (header now : PcapfileHeader) (kept next : T) (given more : List G) → now ≡ header → next ≡ kept → left ≡ held → t ≡ [] → more ≡ [] → Come s header kept held given
+      → Come (s ++ t) now next left (given ++ more)
+  unmoved s t held left header now kept next given more same_header same is none empty come =
       let bytes : s ++ t ≡ s = ap (λ (l : List ℕ). s ++ l) none ∙ append-nil s in
       let all : given ++ more ≡ given = ap (λ (l : List G). given ++ l) empty ∙ append-nil given in
-      rw (bytes, all, is, same) come
+      rw (bytes, all, is, same_header, same) come
 
+  -- nothing was taken or given
+  pub stays : (s held left : List ℕ) (header now : PcapfileHeader) (kept next : T) (given more : List G) → now ≡ header → next ≡ kept → left ≡ held → more ≡ [] → Come s header kept held given
+      → Come s now next left (given ++ more)
+  stays s held left header now kept next given more same_header same is empty come = rw (← append-nil s) (unmoved s [] held left header now kept next given more same_header same is refl empty come)
+
+-- What each call keeps of that, all of them keep.
+module _ {T G : Type 0} (Gives : ℤ → PcapfilePush → T → List ℕ → PcapfilePush → T → List G → Type 0) (Keeps : T → T → Type 0) (Come : List ℕ → PcapfileHeader → T → List ℕ → List G → Type 0)
+    (puts : (s t held : List ℕ) (header : PcapfileHeader) (kept : T) (given : List G) → Come s header kept held given → Come (s ++ t) header kept (held ++ t) given)
+    (goes : (z : ℤ) (before push : PcapfilePush) (kept next : T) (room s : List ℕ) (given more : List G) → Gives z before kept room push next more
+    → Come s before.header kept (held_in before room) given → Come s push.header next (held_in push room) (given ++ more))
+    (keeps : (s held : List ℕ) (header : PcapfileHeader) (kept next : T) (given : List G) → Keeps kept next → Come s header kept held given → Come s header next held given) where
   call_comes : (before push : PcapfilePush) (kept next : T) (room now s t : List ℕ) (given more : List G) → RoomCall Gives Keeps before kept room push next now t more
-      → Come s kept (held_in before room) given → Come (s ++ t) next (held_in push now) (given ++ more)
+      → Come s before.header kept (held_in before room) given → Come (s ++ t) push.header next (held_in push now) (given ++ more)
   call_comes before push kept next room now s t given more (space wanted error told z same makes) come =
       let k = space_keeps before push room now wanted error told z makes in
-      unmoved s [] (held_in before room) (held_in push now) kept next given [] same k.1 refl refl come
+      unmoved Come s [] (held_in before room) (held_in push now) before.header push.header kept next given [] k.0 same k.1 refl refl come
   call_comes before push kept next room now s t given more (put count z same is (inl x)) come =
       let bytes = take count (drop before.end room) in
       let some : under_status z bytes ≡ bytes = ap (λ (k : ℤ). under_status k bytes) x.0 in
-      let here : Come (s ++ bytes) kept (held_in before room ++ bytes) given = puts s bytes (held_in before room) kept given come in
+      let here : Come (s ++ bytes) before.header kept (held_in before room ++ bytes) given = puts s bytes (held_in before room) before.header kept given come in
       let held : held_in push now ≡ held_in before room ++ bytes = ap (held_in push) is ∙ x.5 in
-      rw (some, append-nil given, same, held) here
+      rw (some, append-nil given, same, x.1, held) here
   call_comes before push kept next room now s t given more (put count z same is (inr x)) come =
       let bytes = take count (drop before.end room) in
       let none : under_status z bytes ≡ [] = ap (λ (k : ℤ). under_status k bytes) x.0 in
-      unmoved s (under_status z bytes) (held_in before room) (held_in push now) kept next given [] same (rw (x.1, is) refl) none refl come
-  call_comes before push kept next room now s t given more (gives found is g) come =
-      rw (append-nil s, is) (goes before push kept next room s given more g come)
+      unmoved Come s (under_status z bytes) (held_in before room) (held_in push now) before.header push.header kept next given [] (ap (λ (p : PcapfilePush). p.header) x.1) same (rw (x.1, is) refl) none refl come
+  call_comes before push kept next room now s t given more (gives z found is g) come =
+      rw (append-nil s, is) (goes z before push kept next room s given more g come)
   call_comes before push kept next room now s t given more (between same k front) come =
       let held : held_in push now ≡ held_in before room = ap (λ (p : PcapfilePush). held_in p now) same ∙ front in
-      unmoved s [] (held_in before room) (held_in push now) next next given [] refl held refl refl (keeps s (held_in before room) kept next given k come)
+      unmoved Come s [] (held_in before room) (held_in push now) before.header push.header next next given [] (ap (λ (p : PcapfilePush). p.header) same) refl held refl refl
+      (keeps s (held_in before room) before.header kept next given k come)
 
   -- calls: what they gave, and what is held, are all bytes that were put
-  pub calls_come : (calls : List (List ℕ × List G)) (before push : PcapfilePush) (kept next : T) (room now s : List ℕ) (given : List G)
-      → RoomCalls Gives Keeps before kept room calls push next now → Come s kept (held_in before room) given → Come (s ++ all_put calls) next (held_in push now) (given ++ all_given calls)
+  calls_come : (calls : List (List ℕ × List G)) (before push : PcapfilePush) (kept next : T) (room now s : List ℕ) (given : List G)
+      → RoomCalls Gives Keeps before kept room calls push next now → Come s before.header kept (held_in before room) given → Come (s ++ all_put calls) push.header next (held_in push now) (given ++ all_given calls)
   calls_come [] before push kept next room now s given x come =
-      unmoved s [] (held_in before room) (held_in push now) kept next given [] x.1 (rw (x.0, x.2) refl) refl refl come
+      unmoved Come s [] (held_in before room) (held_in push now) before.header push.header kept next given [] (ap (λ (p : PcapfilePush). p.header) x.0) x.1 (rw (x.0, x.2) refl) refl refl come
   calls_come (call ∷ calls) before push kept next room now s given x come =
       let here = call_comes before x.0 kept x.1 room x.2 s call.0 given call.1 x.3 come in
       let there = calls_come calls x.0 push x.1 next x.2 now (s ++ call.0) (given ++ call.1) x.4 here in
       rw (← append_assoc s call.0 (all_put calls), ← append_assoc given call.1 (all_given calls)) there
+
+  -- where the last one ended them
+  module _ (IsFresh : PcapfilePush → T → Type 0) (Ends : ℤ → PcapfilePush → Type 0) (calls : List (List ℕ × List G)) (push : PcapfilePush) (next : T) (room : List ℕ) (e : Ended Gives Keeps IsFresh Ends calls push next room) where
+    -- what is known before it
+    pub come_before : Come [] e.start.header e.start_kept [] [] → Come (all_put e.earlier) e.last.header e.last_kept (held_in e.last room) (all_given e.earlier)
+    come_before fresh = calls_come e.earlier e.start e.last e.start_kept e.last_kept e.start_room room [] [] e.made (rw e.empty fresh)
+
+    pub put_all : all_put calls ≡ all_put e.earlier
+    put_all = ap all_put e.all ∙ flat_map-append (λ call. call.0) e.earlier (([], e.given) ∷ []) ∙ append-nil (all_put e.earlier)
+
+    pub given_all : all_given calls ≡ all_given e.earlier ++ e.given
+    given_all = ap all_given e.all ∙ flat_map-append (λ call. call.1) e.earlier (([], e.given) ∷ []) ∙ ap (λ (l : List G). all_given e.earlier ++ l) (append-nil e.given)

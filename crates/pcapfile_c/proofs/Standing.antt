@@ -1,5 +1,5 @@
 -- Blocks as they stand, as structs show them.
-use Rattle.std.proofs.Common.{◌≡◌, ◌<◌, ◌+◌, ◌-◌, ◌^◌, ℕ, suc, List, [], ◌∷◌, ◌++◌, length, map, take, min, get_or, Option, Some, None, Ok, refl, sym, ap, subst, ◌∙◌, arith, inl, inr, length-append}
+use Rattle.std.proofs.Common.{◌≡◌, ◌<◌, ◌+◌, ◌-◌, ◌^◌, ℕ, suc, List, [], ◌∷◌, ◌++◌, length, map, take, min, get_or, Some, None, Ok, refl, sym, ap, subst, ◌∙◌, arith, inl, inr}
 use Rattle.std.specs.Global.{Vec}
 use Rattle.std.specs.Prelude.{slice_set}
 use Rattle.std.proofs.lemmas.Grind.{take-set_at}
@@ -14,8 +14,7 @@ use Rattle.pcap_core.specs.Headed.{good, bad}
 use Rattle.pcap_core.proofs.Refusals.{named_refuses}
 use Rattle.pcap_blocks.specs.declared.block_type.BlockType.{BlockType}
 use Rattle.pcap_blocks.specs.declared.block_type.BlockType.TheVariants as types
-use Rattle.pcap_blocks.specs.InterfaceDescription.{Interface}
-use Rattle.pcap_blocks.specs.SectionHeader.{Section, magic_order}
+use Rattle.pcap_blocks.specs.SectionHeader.{magic_order}
 use Rattle.pcap_file.specs.Frames.{Framed, FrameText, FrameSays}
 use Rattle.pcap_file.specs.State as strict
 use Rattle.pcap_tolerant_blocks.specs.declared.flaws.Flaw.{Flaw}
@@ -31,8 +30,8 @@ use Rattle.pcapfile_c.specs.declared.blocks.PcapfileSection.{PcapfileSection}
 use Rattle.pcapfile_c.specs.declared.blocks_as_is.FoundAsIs.{FoundAsIs}
 use Rattle.pcapfile_c.specs.declared.blocks_as_is.PcapfileBlockFlaw.{PcapfileBlockFlaw}
 use Rattle.pcapfile_c.specs.Blocks.{ShowsBlock, ShowsSection, order_shown}
-use Rattle.pcapfile_c.specs.BlocksAsIs.{ShowsStanding, shown_flaw, Reading, ReadsAs, Stands, ShowsStandingBlock, CanGrow, MayGrow, said_in, IsOf, TellsSection, FindsNothing, FindsInterface, FindsPacket, LeadsStanding}
-use Rattle.pcapfile_c.proofs.Leading.{or_some, order_of_section, zero_opens}
+use Rattle.pcapfile_c.specs.BlocksAsIs.{ShowsStanding, shown_flaw, Reading, ReadsAs, ShowsReading, CanGrow, MayGrow, said_in, IsOf, TellsSection, FindsNothing, FindsInterface, FindsPacket, LeadsStanding}
+use Rattle.pcapfile_c.proofs.Leading.{counted, or_some, order_of_section, zero_opens}
 
 -- ---- flaws in places
 
@@ -57,24 +56,21 @@ order_stands shown opening e shows is = ap strict.or_big (sym (ap order_shown sh
 order_stands shown (within section interfaces) e shows is =
     or_some (magic_order section.magic) e (sym (order_of_section section.magic shows.0.named) ∙ sym (ap order_shown shows.0.magic) ∙ is)
 
--- a block that is found is shown
-shown_block : (b : Framed) (lent : PcapfileBlock) (led : Led) (x : FoundAsIs) → ShowsBlock b lent → IsOf lent x.shown → Stands b.type_ (number_in b.endianness) b.body led.flaws x.shown (said_in x.flaws)
-    → ShowsStandingBlock (record { block = b; led = led }) x.shown (said_in x.flaws)
-shown_block b lent led x shows of stands = record { type_is = of.0 ∙ shows.0; body_is = of.1 ∙ shows.1; stands = stands }
+-- what a block of this type puts in force, and what is read of it, as it is found and shown
+found_leads : (q : State) (b : Framed) (lent : PcapfileBlock) (x : FoundAsIs) (next : PcapfileSection) (t : BlockType) (led : Led) (reading : Reading) → b.type_ ≡ t → ShowsBlock b lent → IsOf lent x.shown → MeansFor (role_of t) q b (good led)
+    → ReadsAs t (number_in b.endianness) b.body led.flaws reading → ShowsReading reading x.shown → said_in x.flaws ≡ reading.flaws → ShowsStanding next led.after → LeadsStanding q b (Ok (x, next))
+found_leads q b lent x next t led reading is shows of means reads shown flaws after =
+    let here : Means q b (good led) = subst (λ (type : BlockType). MeansFor (role_of type) q b (good led)) (sym is) means in
+    let read : ReadsAs b.type_ (number_in b.endianness) b.body led.flaws reading = subst (λ (type : BlockType). ReadsAs type (number_in b.endianness) b.body led.flaws reading) (sym is) reads in
+    (led, here, record { type_is = of.0 ∙ shows.0; body_is = of.1 ∙ shows.1; stands = record { reading = reading; reads = read; shows = shown; flaws_are = flaws } }, after)
 
 -- the section that a section header puts in force
 pub section_stands : (q : State) (b : Framed) (lent : PcapfileBlock) (x : FoundAsIs) (next : PcapfileSection) (flaws : Vec Flaw) → b.type_ ≡ types.SectionHeader → ShowsBlock b lent
     → FindsNothing lent (said_in flaws) x → TellsSection lent.body.now (Ok (next, flaws)) → LeadsStanding q b (Ok (x, next))
 section_stands q b lent x next flaws is shows found told =
-    let led : Led = record { flaws = said_in flaws; after = within told.0 [] } in
     let text : SectionText told.0 (said_in flaws) b.body told.1 = subst (λ (s : List ℕ). SectionText told.0 (said_in flaws) s told.1) shows.1 told.2 in
-    let there : MeansFor (role_of types.SectionHeader) q b (good led) = (told.0, told.1, text, refl) in
-    let means : Means q b (good led) = subst (λ (t : BlockType). MeansFor (role_of t) q b (good led)) (sym is) there in
-    let reading : Reading = record { interface = None; packet = None; flaws = said_in flaws } in
-    let nothing : ReadsAs types.SectionHeader (number_in b.endianness) b.body led.flaws reading = (refl, refl, refl) in
-    let reads : ReadsAs b.type_ (number_in b.endianness) b.body led.flaws reading = subst (λ (t : BlockType). ReadsAs t (number_in b.endianness) b.body led.flaws reading) (sym is) nothing in
-    let stands : Stands b.type_ (number_in b.endianness) b.body led.flaws x.shown (said_in x.flaws) = record { reading = reading; reads = reads; shows = found.1; flaws_are = found.2 } in
-    (led, means, shown_block b lent led x shows found.0 stands, (told.3, told.4))
+    found_leads q b lent x next types.SectionHeader (record { flaws = said_in flaws; after = within told.0 [] }) (record { interface = None; packet = None; flaws = said_in flaws }) is shows found.0 (told.0, told.1, text, refl) (refl, refl, refl)
+    found.1 found.2 (told.3, told.4)
 
 -- a block that is neither a section nor an interface leaves what is in force
 other_leaves : (t : BlockType) → (t ≡ types.SectionHeader → ⊥) → (t ≡ types.InterfaceDescription → ⊥) → role_of t ≡ leaves_all
@@ -86,13 +82,8 @@ other_leaves _ no_section no_interface = refl
 other_reads : (t : BlockType) (order : Order) (body : List ℕ) → (t ≡ types.InterfaceDescription → ⊥) → (t ≡ types.EnhancedPacket → ⊥) → ReadsAs t order body [] (record { interface = None; packet = None; flaws = [] })
 other_reads types.SectionHeader order body no_interface no_packet = (refl, refl, refl)
 other_reads types.InterfaceDescription order body no_interface no_packet = absurd (no_interface refl)
-other_reads types.Packet order body no_interface no_packet = (refl, refl, refl)
-other_reads types.SimplePacket order body no_interface no_packet = (refl, refl, refl)
-other_reads types.NameResolution order body no_interface no_packet = (refl, refl, refl)
-other_reads types.InterfaceStatistics order body no_interface no_packet = (refl, refl, refl)
 other_reads types.EnhancedPacket order body no_interface no_packet = absurd (no_packet refl)
-other_reads types.SystemdJournalExport order body no_interface no_packet = (refl, refl, refl)
-other_reads (types.Unknown n) order body no_interface no_packet = (refl, refl, refl)
+other_reads _ order body no_interface no_packet = (refl, refl, refl)
 
 -- a first block that is no section header
 pub missing_stands : (shown : PcapfileSection) (q : State) (b : Framed) (e : PcapError) → ShowsStanding shown q → shown.magic_number ≡ 0 → (b.type_ ≡ types.SectionHeader → ⊥) → Names SectionMissing e
@@ -101,75 +92,38 @@ missing_stands shown opening b e shows zero other named =
     named_refuses (CanGrow opening b) (λ n. ⊥) (λ fault. Means opening b (bad fault)) SectionMissing e (first_missing b.type_ other b) named
 missing_stands shown (within section interfaces) b e shows zero other named = absurd (zero_opens shown section shows.0 zero)
 
--- one interface more
-counted : (n m : ℕ) (interfaces : List (Option Interface)) (one : Option Interface) → n ≡ min (length interfaces) (2 ^ 32 - 1) → m ≡ min (n + 1) (2 ^ 32 - 1) → m ≡ min (length (interfaces ++ one ∷ [])) (2 ^ 32 - 1)
-counted n m interfaces one before now = rw (length-append interfaces (one ∷ []), now, before) (omega arith)
-
-module _ (shown next : PcapfileSection) (section : Section) (interfaces : List (Option Interface)) (b : Framed) (lent : PcapfileBlock) (x : FoundAsIs) where
-  abbrev q : State
-  q = within section interfaces
-
-  pub interface_within : ShowsStanding shown q → b.type_ ≡ types.InterfaceDescription → ShowsBlock b lent → FindsInterface (number_in b.endianness) lent x
-      → next.magic_number ≡ shown.magic_number → next.version_major ≡ shown.version_major → next.version_minor ≡ shown.version_minor → next.interfaces ≡ min (shown.interfaces + 1) (2 ^ 32 - 1)
-      → LeadsStanding q b (Ok (x, next))
-  interface_within shows is of found magic major minor count =
-      let all = interfaces ++ found.1 ∷ [] in
-      let led : Led = record { flaws = said_in x.flaws; after = within section all } in
-      let text : InterfaceText (number_in b.endianness) found.1 (said_in x.flaws) b.body found.2 =
-      subst (λ (s : List ℕ). InterfaceText (number_in b.endianness) found.1 (said_in x.flaws) s found.2) of.1 found.3 in
-      let there : MeansFor (role_of types.InterfaceDescription) q b (good led) =
-      (all, record { interface = found.1; rest = found.2; text = text; one_more = refl }, refl) in
-      let means : Means q b (good led) = subst (λ (t : BlockType). MeansFor (role_of t) q b (good led)) (sym is) there in
-      let reading : Reading = record { interface = found.1; packet = None; flaws = said_in x.flaws } in
-      let read : ReadsAs types.InterfaceDescription (number_in b.endianness) b.body led.flaws reading = (refl, refl, (found.2, text)) in
-      let reads : ReadsAs b.type_ (number_in b.endianness) b.body led.flaws reading = subst (λ (t : BlockType). ReadsAs t (number_in b.endianness) b.body led.flaws reading) (sym is) read in
-      let stands : Stands b.type_ (number_in b.endianness) b.body led.flaws x.shown (said_in x.flaws) = record { reading = reading; reads = reads; shows = found.4; flaws_are = refl } in
-      let kept : ShowsSection next section = record { magic = magic ∙ shows.0.magic; named = shows.0.named; major = major ∙ shows.0.major; minor = minor ∙ shows.0.minor } in
-      (led, means, shown_block b lent led x of found.0 stands, (kept, counted shown.interfaces next.interfaces interfaces found.1 shows.1 count))
-
-  pub packet_within : ShowsStanding shown q → b.type_ ≡ types.EnhancedPacket → ShowsBlock b lent → FindsPacket (number_in b.endianness) lent x → LeadsStanding q b (Ok (x, shown))
-  packet_within shows is of found =
-      let led : Led = record { flaws = []; after = q } in
-      let text : EnhancedText (number_in b.endianness) found.1 (said_in x.flaws) b.body found.2 =
-      subst (λ (s : List ℕ). EnhancedText (number_in b.endianness) found.1 (said_in x.flaws) s found.2) of.1 found.3 in
-      let there : MeansFor (role_of types.EnhancedPacket) q b (good led) = (refl, refl) in
-      let means : Means q b (good led) = subst (λ (t : BlockType). MeansFor (role_of t) q b (good led)) (sym is) there in
-      let reading : Reading = record { interface = None; packet = found.1; flaws = said_in x.flaws } in
-      let read : ReadsAs types.EnhancedPacket (number_in b.endianness) b.body led.flaws reading = (refl, (found.2, text)) in
-      let reads : ReadsAs b.type_ (number_in b.endianness) b.body led.flaws reading = subst (λ (t : BlockType). ReadsAs t (number_in b.endianness) b.body led.flaws reading) (sym is) read in
-      let stands : Stands b.type_ (number_in b.endianness) b.body led.flaws x.shown (said_in x.flaws) = record { reading = reading; reads = reads; shows = found.4; flaws_are = refl } in
-      (led, means, shown_block b lent led x of found.0 stands, shows)
-
-  pub other_within : ShowsStanding shown q → (b.type_ ≡ types.SectionHeader → ⊥) → (b.type_ ≡ types.InterfaceDescription → ⊥) → (b.type_ ≡ types.EnhancedPacket → ⊥) → ShowsBlock b lent → FindsNothing lent [] x
-      → LeadsStanding q b (Ok (x, shown))
-  other_within shows no_section no_interface no_packet of found =
-      let led : Led = record { flaws = []; after = q } in
-      let there : MeansFor leaves_all q b (good led) = (refl, refl) in
-      let means : Means q b (good led) = subst (λ (r : Role). MeansFor r q b (good led)) (sym (other_leaves b.type_ no_section no_interface)) there in
-      let reading : Reading = record { interface = None; packet = None; flaws = [] } in
-      let reads : ReadsAs b.type_ (number_in b.endianness) b.body led.flaws reading = other_reads b.type_ (number_in b.endianness) b.body no_interface no_packet in
-      let stands : Stands b.type_ (number_in b.endianness) b.body led.flaws x.shown (said_in x.flaws) = record { reading = reading; reads = reads; shows = found.1; flaws_are = found.2 } in
-      (led, means, shown_block b lent led x of found.0 stands, shows)
-
--- the same of any state that a struct shows behind the first block
+-- behind the first block: an interface
 pub interface_stands : (shown next : PcapfileSection) (q : State) (b : Framed) (lent : PcapfileBlock) (x : FoundAsIs) → ShowsStanding shown q → (shown.magic_number ≡ 0 → ⊥) → b.type_ ≡ types.InterfaceDescription
     → ShowsBlock b lent → FindsInterface (number_in b.endianness) lent x
     → next.magic_number ≡ shown.magic_number → next.version_major ≡ shown.version_major → next.version_minor ≡ shown.version_minor → next.interfaces ≡ min (shown.interfaces + 1) (2 ^ 32 - 1)
     → LeadsStanding q b (Ok (x, next))
 interface_stands shown next opening b lent x shows some is of found magic major minor count = absurd (some shows)
 interface_stands shown next (within section interfaces) b lent x shows some is of found magic major minor count =
-    interface_within shown next section interfaces b lent x shows is of found magic major minor count
+    let all = interfaces ++ found.1 ∷ [] in
+    let text : InterfaceText (number_in b.endianness) found.1 (said_in x.flaws) b.body found.2 = subst (λ (s : List ℕ). InterfaceText (number_in b.endianness) found.1 (said_in x.flaws) s found.2) of.1 found.3 in
+    let kept : ShowsSection next section = record { magic = magic ∙ shows.0.magic; named = shows.0.named; major = major ∙ shows.0.major; minor = minor ∙ shows.0.minor } in
+    found_leads (within section interfaces) b lent x next types.InterfaceDescription (record { flaws = said_in x.flaws; after = within section all }) (record { interface = found.1; packet = None; flaws = said_in x.flaws }) is of found.0
+    (all, record { interface = found.1; rest = found.2; text = text; one_more = refl }, refl) (refl, refl, (found.2, text)) found.4 refl (kept, counted interfaces found.1 shown.interfaces next.interfaces shows.1 count)
 
+-- an enhanced packet
 pub packet_stands : (shown : PcapfileSection) (q : State) (b : Framed) (lent : PcapfileBlock) (x : FoundAsIs) → ShowsStanding shown q → (shown.magic_number ≡ 0 → ⊥) → b.type_ ≡ types.EnhancedPacket
     → ShowsBlock b lent → FindsPacket (number_in b.endianness) lent x → LeadsStanding q b (Ok (x, shown))
 packet_stands shown opening b lent x shows some is of found = absurd (some shows)
-packet_stands shown (within section interfaces) b lent x shows some is of found = packet_within shown shown section interfaces b lent x shows is of found
+packet_stands shown (within section interfaces) b lent x shows some is of found =
+    let text : EnhancedText (number_in b.endianness) found.1 (said_in x.flaws) b.body found.2 = subst (λ (s : List ℕ). EnhancedText (number_in b.endianness) found.1 (said_in x.flaws) s found.2) of.1 found.3 in
+    found_leads (within section interfaces) b lent x shown types.EnhancedPacket (record { flaws = []; after = within section interfaces }) (record { interface = None; packet = found.1; flaws = said_in x.flaws }) is of found.0 (refl, refl)
+    (refl, (found.2, text)) found.4 refl shows
 
+-- any other block
 pub other_stands : (shown : PcapfileSection) (q : State) (b : Framed) (lent : PcapfileBlock) (x : FoundAsIs) → ShowsStanding shown q → (shown.magic_number ≡ 0 → ⊥) → (b.type_ ≡ types.SectionHeader → ⊥)
     → (b.type_ ≡ types.InterfaceDescription → ⊥) → (b.type_ ≡ types.EnhancedPacket → ⊥) → ShowsBlock b lent → FindsNothing lent [] x → LeadsStanding q b (Ok (x, shown))
 other_stands shown opening b lent x shows some no_section no_interface no_packet of found = absurd (some shows)
 other_stands shown (within section interfaces) b lent x shows some no_section no_interface no_packet of found =
-    other_within shown shown section interfaces b lent x shows no_section no_interface no_packet of found
+    let q = within section interfaces in
+    let led : Led = record { flaws = []; after = q } in
+    let there : MeansFor leaves_all q b (good led) = (refl, refl) in
+    let means = subst (λ (r : Role). MeansFor r q b (good led)) (sym (other_leaves b.type_ no_section no_interface)) there in
+    found_leads q b lent x shown b.type_ led (record { interface = None; packet = None; flaws = [] }) refl of found.0 means (other_reads b.type_ (number_in b.endianness) b.body no_interface no_packet) found.1 found.2 shows
 
 -- ---- refusals
 

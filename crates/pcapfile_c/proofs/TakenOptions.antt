@@ -8,7 +8,7 @@ use Rattle.pcap_core.specs.Padded.{Behind, Chain}
 use Rattle.pcap_core.proofs.Padded.{chain_more}
 use Rattle.pcap_blocks.specs.Names.{NameText, NamesText}
 use Rattle.pcap_blocks.specs.NameResolution.{KeptText, RecordsText}
-use Rattle.pcap_blocks.specs.Record.{Address, AddressText, NameRecord, End, Ipv4, Ipv6, Other, RecordText}
+use Rattle.pcap_blocks.specs.Record.{Address, AddressText, NameRecord, End, RecordText}
 use Rattle.pcap_blocks.specs.StoredPacket.{StoredHead}
 use Rattle.pcap_blocks.proofs.Naming.{split_parts}
 use Rattle.pcap_blocks.proofs.StoredPackets.{stored}
@@ -64,16 +64,12 @@ address_found type width v a b shown long front back wide type_is address_is nam
 -- a record that a struct shows is no end
 shown_no_end : (r : NameRecord) (shown : PcapfileRecord) → ShowsRecord r (Some shown) → r ≢ End
 shown_no_end End shown shows e = absurd shows
-shown_no_end (Ipv4 a) shown shows e = absurd cc
-shown_no_end (Ipv6 a) shown shows e = absurd cc
-shown_no_end (Other t n v) shown shows e = absurd cc
+shown_no_end _ shown shows e = absurd cc
 
 -- one that none shows is the end
 none_is_end : (r : NameRecord) → ShowsRecord r None → r ≡ End
 none_is_end End shows = refl
-none_is_end (Ipv4 a) shows = absurd shows
-none_is_end (Ipv6 a) shows = absurd shows
-none_is_end (Other t n v) shows = absurd shows
+none_is_end _ shows = absurd shows
 
 -- one more record
 pub records_more : (order : Order) (s left rest : List ℕ) (shown : PcapfileRecord) → (records : List NameRecord) × Chain (KeptText order) records s left

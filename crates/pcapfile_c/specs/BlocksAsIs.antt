@@ -10,6 +10,7 @@ use Rattle.pcap_core.specs.Headed.{good, bad}
 use Rattle.pcap_core.specs.Rules.{number_of}
 use Rattle.pcap_blocks.specs.declared.block_type.BlockType.{BlockType}
 use Rattle.pcap_blocks.specs.declared.block_type.BlockType.TheVariants as types
+use Rattle.pcap_blocks.specs.BlockType.{type_number}
 use Rattle.pcap_blocks.specs.EnhancedPacket.{Enhanced}
 use Rattle.pcap_blocks.specs.InterfaceDescription.{Interface}
 use Rattle.pcap_blocks.specs.ParsedBlock.{EnhancedBody}
@@ -32,7 +33,7 @@ use Rattle.pcapfile_c.specs.declared.bodies.PcapfileInterface.{PcapfileInterface
 use Rattle.pcapfile_c.specs.declared.bodies.PcapfileNgPacket.{PcapfileNgPacket}
 use Rattle.pcapfile_c.specs.declared.errors.PcapfileError.{PcapfileError}
 use Rattle.pcapfile_c.specs.declared.shown.PcapfileBytes.{PcapfileBytes}
-use Rattle.pcapfile_c.specs.Blocks.{ShowsSection, number_of_type}
+use Rattle.pcapfile_c.specs.Blocks.{ShowsSection}
 use Rattle.pcapfile_c.specs.Bodies.{ShowsInterfaceOf, ShowsPacket}
 use Rattle.pcapfile_c.specs.Refusals.{ShowsRule, TellsRefusalWhere}
 
@@ -124,7 +125,7 @@ pub record Stands (type : BlockType) (order : Order) (body : List ℕ) (led : Li
 
 -- a struct that shows this block, and what is read of it, with what is wrong with it
 pub record ShowsStandingBlock (item : Item) (shown : PcapfileBlockAsIs) (flaws : List Said) : Type 0 where
-  pub type_is : shown.type_ ≡ number_of_type item.block.type_
+  pub type_is : shown.type_ ≡ type_number item.block.type_
   pub body_is : shown.body.now ≡ item.block.body
   pub stands : Stands item.block.type_ (number_in item.block.endianness) item.block.body item.led.flaws shown flaws
 

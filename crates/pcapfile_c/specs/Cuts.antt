@@ -1,5 +1,5 @@
 -- What the calls that tell where a capture can be cut answer.
-use Rattle.std.specs.Prelude.{◌≡◌, ◌<◌, ◌*◌, ◌⊎◌, ⊤, ℕ, ℤ, pos, List, [], length, take, drop}
+use Rattle.std.specs.Prelude.{◌≡◌, ◌<◌, ◌≤◌, ◌*◌, ◌⊎◌, ⊤, ℕ, ℤ, pos, List, [], length, take, drop}
 use Rattle.pcap_classic.specs.declared.pcap.header.PcapHeader.{PcapHeader}
 use Rattle.pcap_classic.specs.HeaderText.{HeaderSays}
 use Rattle.pcap_file.specs.Opening.{OpeningSays}
@@ -8,8 +8,8 @@ use Rattle.pcap_parts.specs.declared.cut_ng.NgCut.{NgCut}
 use Rattle.pcap_parts.specs.declared.cut_ng.NgCuts.{NgCuts}
 use Rattle.pcap_parts.specs.declared.parting.Parting.{Parting}
 use Rattle.pcap_parts.specs.declared.parting.Parting.TheVariants.{Equal, AtLeast}
-use Rattle.pcap_parts.specs.Captures.{IsCut, IsCutFairly}
-use Rattle.pcap_parts.specs.NgParts.{IsNgCut, IsNgCutFairly}
+use Rattle.pcap_parts.specs.Captures.{IsCut, IsCutAtLeast, IsCutFairly}
+use Rattle.pcap_parts.specs.NgParts.{IsNgCut, IsNgCutAtLeast, IsNgCutFairly}
 use Rattle.pcapfile_c.specs.declared.errors.PcapfileError.{PcapfileError}
 use Rattle.pcapfile_c.specs.Refusals.{TellsRefusal, TellsRefusalWhere}
 
@@ -22,36 +22,47 @@ abbrev pub HasRoom : Parting → ℕ → ℕ → Type 0
 HasRoom (Equal parts) total places = (parts ≡ places) × (0 < places)
 HasRoom (AtLeast n) total places = total < places * n
 
--- the first places hold the cuts of a classic capture into as many fair parts as there are places
-pub record CutsPackets (bytes : List ℕ) (before after : List Cut) (count : ℕ) : Type 0 where
+-- these places may not hold each cut that is asked for: there is none, or as long as so many parts of n bytes are, the bytes are too
+abbrev pub MayLackPlaces : {A : Type 0} → Parting → List ℕ → List A → Type 0
+MayLackPlaces (Equal parts) bytes places = places ≡ []
+MayLackPlaces (AtLeast n) bytes places = length places * n ≤ length bytes
+
+-- the packets behind this header are cut as it is asked for
+abbrev pub IsCutAsAsked : Parting → PcapHeader → List Cut → List ℕ → Type 0
+IsCutAsAsked (Equal parts) header cuts bytes = IsCutFairly parts header cuts bytes
+IsCutAsAsked (AtLeast n) header cuts bytes = IsCutAtLeast n header cuts bytes
+
+-- the first places hold the cuts of a classic capture that are asked for
+pub record CutsPackets (how : Parting) (bytes : List ℕ) (before after : List Cut) (count : ℕ) : Type 0 where
   pub header : PcapHeader
   pub cuts : List Cut
   pub cut : IsCut header cuts bytes
-  pub fair : IsCutFairly (length before) header cuts bytes
+  pub asked : IsCutAsAsked how header cuts bytes
   pub filled : Fills cuts before after count
 
--- Status 0: the capture is cut. Else there is no cut, and the places are as they were. Status 11: there is no place. Another: the
+-- Status 0: the capture is cut. Else there is no cut, and the places are as they were. Status 11: there may be too few. Another: the
 -- capture's header is refused.
-abbrev pub TellsCuts : List ℕ → List Cut → List Cut → ℕ → PcapfileError → PcapfileError → ℤ → Type 0
-TellsCuts bytes before after count error told status =
-    ((status ≡ pos 0) × (told ≡ error) × CutsPackets bytes before after count)
-    ⊎ ((count ≡ 0) × (after ≡ before) × (((status ≡ pos 11) × (told ≡ error) × (before ≡ [])) ⊎ TellsRefusal (HeaderSays bytes) told status))
+abbrev pub TellsCuts : Parting → List ℕ → List Cut → List Cut → ℕ → PcapfileError → PcapfileError → ℤ → Type 0
+TellsCuts how bytes before after count error told status =
+    ((status ≡ pos 0) × (told ≡ error) × CutsPackets how bytes before after count)
+    ⊎ ((count ≡ 0) × (after ≡ before) × (((status ≡ pos 11) × (told ≡ error) × MayLackPlaces how bytes before) ⊎ TellsRefusal (HeaderSays bytes) told status))
 
--- these are cuts of a PcapNg capture into so many fair parts, with the places of its interfaces
-abbrev pub CutsBlocks : List ℕ → ℕ → NgCuts → Type 0
-CutsBlocks bytes parts cuts = IsNgCut cuts bytes × IsNgCutFairly parts cuts.cuts.items bytes
+-- these are the cuts of a PcapNg capture that are asked for, with the places of its interfaces
+abbrev pub CutsBlocks : Parting → List ℕ → NgCuts → Type 0
+CutsBlocks (Equal parts) bytes cuts = IsNgCut cuts bytes × IsNgCutFairly parts cuts.cuts.items bytes
+CutsBlocks (AtLeast n) bytes cuts = IsNgCut cuts bytes × IsNgCutAtLeast n cuts.cuts.items bytes
 
--- There is no place for a cut, or the capture has more interfaces than there are places: so many, up to the last cut at least.
-abbrev pub LacksPlaces : List ℕ → List NgCut → List ℕ → ℕ → Type 0
-LacksPlaces bytes before places known =
-    ((known ≡ 0) × (before ≡ []))
-    ⊎ ((cuts : NgCuts) × CutsBlocks bytes (length before) cuts × (known ≡ length cuts.interfaces.items) × (length places < known))
+-- There may be too few places for cuts, or the capture has more interfaces than there are places: so many, up to the last cut at
+-- least.
+abbrev pub LacksPlaces : Parting → List ℕ → List NgCut → List ℕ → ℕ → Type 0
+LacksPlaces how bytes before places known =
+    ((known ≡ 0) × MayLackPlaces how bytes before)
+    ⊎ ((cuts : NgCuts) × CutsBlocks how bytes cuts × (known ≡ length cuts.interfaces.items) × (length places < known))
 
--- Status 0: the first places hold the cuts of the capture into as many fair parts as there are places, and those for interfaces the
--- places of the interfaces. Else there is no cut, and all places are as they were. Status 11: places are missing. Another: the first
--- block is refused, or memory.
-abbrev pub TellsBlockCuts : List ℕ → List NgCut → List NgCut → ℕ → List ℕ → List ℕ → ℕ → PcapfileError → PcapfileError → ℤ → Type 0
-TellsBlockCuts bytes before after count places now known error told status =
-    ((status ≡ pos 0) × (told ≡ error) × (cuts : NgCuts) × CutsBlocks bytes (length before) cuts × Fills cuts.cuts.items before after count × Fills cuts.interfaces.items places now known)
+-- Status 0: the first places hold the cuts of the capture, and those for interfaces the places of the interfaces. Else there is no
+-- cut, and all places are as they were. Status 11: places are missing. Another: the first block is refused, or memory.
+abbrev pub TellsBlockCuts : Parting → List ℕ → List NgCut → List NgCut → ℕ → List ℕ → List ℕ → ℕ → PcapfileError → PcapfileError → ℤ → Type 0
+TellsBlockCuts how bytes before after count places now known error told status =
+    ((status ≡ pos 0) × (told ≡ error) × (cuts : NgCuts) × CutsBlocks how bytes cuts × Fills cuts.cuts.items before after count × Fills cuts.interfaces.items places now known)
     ⊎ ((count ≡ 0) × (after ≡ before) × (now ≡ places)
-    × (((status ≡ pos 11) × (told ≡ error) × LacksPlaces bytes before places known) ⊎ ((known ≡ 0) × TellsRefusalWhere ⊤ (OpeningSays bytes) told status)))
+    × (((status ≡ pos 11) × (told ≡ error) × LacksPlaces how bytes before places known) ⊎ ((known ≡ 0) × TellsRefusalWhere ⊤ (OpeningSays bytes) told status)))

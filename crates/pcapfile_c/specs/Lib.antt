@@ -8,9 +8,9 @@ pub mod Bodies
 pub mod Batches
 pub mod Push
 pub mod PushBatches
+pub mod RoomCalls
 pub mod Pushes
 pub mod PushBlocks
-pub mod RoomCalls
 pub mod BlockPushes
 pub mod AnyPackets
 pub mod PushPackets
@@ -27,5 +27,4 @@ pub mod Options
 pub mod Records
 pub mod AnyCaptures
 pub mod AnyCalls
-pub mod AtLeast
 pub mod BlocksAsIs

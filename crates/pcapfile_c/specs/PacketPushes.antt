@@ -1,16 +1,14 @@
 -- What calls on a PcapNg capture that comes in pieces do, where they give packets.
-use Rattle.std.specs.Prelude.{◌≡◌, ◌≢◌, ◌⊎◌, ℕ, ℤ, pos, List, [], ◌∷◌, ◌++◌, take}
+use Rattle.std.specs.Prelude.{◌≡◌, ◌≢◌, ◌⊎◌, ℕ, ℤ, pos, List, [], ◌∷◌, take}
 use Rattle.pcap_file.specs.State.{State}
 use Rattle.pcapfile_c.specs.declared.any_packets.PcapfileAnyPacket.{PcapfileAnyPacket}
 use Rattle.pcapfile_c.specs.declared.blocks.PcapfileSection.{PcapfileSection}
 use Rattle.pcapfile_c.specs.declared.bodies.PcapfileInterface.{PcapfileInterface}
 use Rattle.pcapfile_c.specs.declared.errors.PcapfileError.{PcapfileError}
 use Rattle.pcapfile_c.specs.declared.push.PcapfilePush.{PcapfilePush}
-use Rattle.pcapfile_c.specs.Push.{held_in}
-use Rattle.pcapfile_c.specs.Pushes.{under_status}
 use Rattle.pcapfile_c.specs.PushNgBatches.{TakesNextNgPackets}
 use Rattle.pcapfile_c.specs.PushPackets.{ShowsInForce, TakesNextPacket}
-use Rattle.pcapfile_c.specs.RoomCalls.{RoomCalls}
+use Rattle.pcapfile_c.specs.RoomCalls.{Ended, under_status}
 
 -- what is kept beside the room: the section in force, and the places of its interfaces
 abbrev pub InForceShown : Type 0
@@ -34,31 +32,11 @@ GivesUnder status before kept room push next given =
     ((packet : PcapfileAnyPacket) × (told : PcapfileError) × PacketCall before push kept next room packet told status × (given ≡ under_status status (packet ∷ [])))
     ⊎ ((packets : List PcapfileAnyPacket) × (taken : ℕ) × (told : PcapfileError) × PacketsCall before push kept next room packets taken told status × (given ≡ take taken packets))
 
--- a call of either kind
-abbrev pub GivesNext : PcapfilePush → InForceShown → List ℕ → PcapfilePush → InForceShown → List PcapfileAnyPacket → Type 0
-GivesNext before kept room push next given = (status : ℤ) × GivesUnder status before kept room push next given
-
 -- between two calls the section stays, and the interfaces that it has stay in their places, of which there may be more
 abbrev pub KeepsInForce : InForceShown → InForceShown → Type 0
 KeepsInForce kept next = (next.0 ≡ kept.0) × (take kept.0.interfaces next.1 ≡ take kept.0.interfaces kept.1)
 
 -- What is left after these calls, from nothing on: the last one told that no packet follows, behind those that it gave.
-pub record PacketsHaveEnded (calls : List (List ℕ × List PcapfileAnyPacket)) (push : PcapfilePush) (room : List ℕ) : Type 0 where
-  pub start : PcapfilePush
-  pub start_kept : InForceShown
-  pub start_room : List ℕ
-  pub fresh : start_kept.0.magic_number ≡ 0
-  pub empty : held_in start start_room ≡ []
-  pub earlier : List (List ℕ × List PcapfileAnyPacket)
-  pub last : PcapfilePush
-  pub last_kept : InForceShown
-  pub made : RoomCalls GivesNext KeepsInForce start start_kept start_room earlier last last_kept room
-  pub kept : InForceShown
-  pub given : List PcapfileAnyPacket
-  pub status : ℤ
-  pub tells : GivesUnder status last last_kept room push kept given
-  pub all : calls ≡ earlier ++ ([], given) ∷ []
-  pub refused : status ≢ pos 0
-  pub had_memory : status ≢ pos 6
-  pub made_sense : status ≢ pos 10
-  pub had_places : status ≢ pos 11
+abbrev pub PacketsHaveEnded : List (List ℕ × List PcapfileAnyPacket) → PcapfilePush → List ℕ → Type 0
+PacketsHaveEnded calls push room =
+    (kept : InForceShown) × Ended GivesUnder KeepsInForce (λ start kept. kept.0.magic_number ≡ 0) (λ status push. (status ≢ pos 6) × (status ≢ pos 10) × (status ≢ pos 11)) calls push kept room

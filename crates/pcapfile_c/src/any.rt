@@ -11,13 +11,11 @@ ghost use Rattle.pcapfile_c.specs.Shown.{captured};
 use crate::any_packets::PcapfileAnyPacket;
 use crate::blocks::PcapfileSection;
 use crate::bodies::{PcapfileInterface, PcapfileTime};
-use crate::errors::{PcapfileError, tell};
+use crate::errors::{PcapfileError, tell_broken};
 use crate::push::take_front;
 use crate::push_packets::take_packet;
 use crate::shown::{PcapfileBytes, PcapfileHeader, PcapfilePacket};
 use pcap_core::rules::Rule;
-use pcap_file::PcapError;
-use pcap_file::pcap::PcapHeader;
 use std::alloc::Global;
 
 /// What a walk over the packets of a capture of either format keeps between two of them. In C: `pcapfile_capture`.
@@ -126,7 +124,7 @@ fn take_any_block<'a>(
         return 10;
     }
     if section.order().is_none() {
-        return tell(&PcapError::from(Rule::SectionMagic), error);
+        return tell_broken(Rule::SectionMagic, error);
     }
     take_packet(alloc, section, left, interfaces, packet, error)
 }
@@ -139,7 +137,7 @@ impl PcapfileCapture {
         if self.section.magic_number != 0 {
             return true;
         }
-        !self.header.is_in_force() && bytes.starts_with(&SECTION)
+        self.header.kind().is_none() && bytes.starts_with(&SECTION)
     }
 
     // Whether a walk that stopped with this status has come to the end of a capture.
@@ -148,20 +146,7 @@ impl PcapfileCapture {
     {
         status == 1
             && left.is_empty()
-            && (self.section.magic_number != 0 || self.header.is_in_force())
-    }
-}
-
-impl PcapfileHeader {
-    // Whether its magic number is one of the four.
-    fn is_in_force(&self) -> bool
-        ensures { IsTrue result ↔ IsTrue (is_magic self.now.magic_number) }
-    {
-        let header = PcapHeader {
-            magic_number: self.magic_number,
-            ..PcapHeader::default()
-        };
-        header.has_valid_magic()
+            && (self.section.magic_number != 0 || self.header.kind().is_some())
     }
 }
 

@@ -9,11 +9,10 @@ ghost use Rattle.pcapfile_c.specs.AsIs.{bits_of, number_or_0, ShowsAsIs, AsIsSai
 ghost use Rattle.pcapfile_c.specs.Calls.{Takes, RefusesMagic};
 
 use crate::bodies::PcapfileTime;
-use crate::errors::{PcapfileError, tell};
+use crate::errors::{PcapfileError, tell, tell_broken};
 use crate::shown::{PcapfileBytes, PcapfileHeader};
 use pcap_classic::TsResolution;
 use pcap_classic::pcap::PcapParser;
-use pcap_core::PcapError;
 use pcap_core::rules::Rule;
 use pcap_tolerant::resync::resync;
 use pcap_tolerant::{Flaws, PacketAsIs, next_packet_as_is};
@@ -53,7 +52,7 @@ pub extern "C" fn pcapfile_take_packet_as_is<'a>(
     ensures refused { is_magic header.now.magic_number ≡ false → RefusesMagic left.old left.new packet.old packet.new error.new result }
 {
     let Some(parser) = header.parser() else {
-        return tell(&PcapError::from(Rule::CaptureMagic), error);
+        return tell_broken(Rule::CaptureMagic, error);
     };
     match next_packet_as_is(&parser, left.bytes, limit) {
         Ok((rest, found)) => {
@@ -80,7 +79,7 @@ pub extern "C" fn pcapfile_resync(
     ensures refused { is_magic header.now.magic_number ≡ false → RefusesMagic bytes.now bytes.now place.old place.new error.new result }
 {
     let Some(parser) = header.parser() else {
-        return tell(&PcapError::from(Rule::CaptureMagic), error);
+        return tell_broken(Rule::CaptureMagic, error);
     };
     match resync(&parser, bytes.bytes, row) {
         Some(found) => {

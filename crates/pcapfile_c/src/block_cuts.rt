@@ -1,11 +1,16 @@
 //! PcapNg captures that lie in memory: where they can be cut into parts, and what is in force there.
 
-ghost use Rattle.std.specs.Prelude.{◌≤◌, length};
-ghost use Rattle.pcapfile_c.specs.Cuts.{Fills, TellsBlockCuts};
+ghost use Rattle.std.specs.Prelude.{◌≡◌, ◌≤◌, ⊤, length, max, IfErr, IfOk};
+ghost use Rattle.pcap_core.specs.Answer.{Refuses, faulty, lacks};
+ghost use Rattle.pcap_file.specs.Opening.{OpeningSays};
+ghost use Rattle.pcap_parts.specs.declared.parting.Parting.TheVariants as partings;
+ghost use Rattle.pcap_parts.specs.Partings.{AsksSome};
+ghost use Rattle.pcapfile_c.specs.Cuts.{CutsBlocks, Fills, HasRoom, TellsBlockCuts};
 
 use crate::errors::{PcapfileError, tell};
 use crate::shown::PcapfileBytes;
-use pcap_parts::{NgCut, cut_pcapng};
+use pcap_file::ResultParsing;
+use pcap_parts::{NgCut, NgCuts, Parting, cut_pcapng, cut_pcapng_at_least};
 use std::alloc::Global;
 
 /// Where a capture can be cut into as many parts of equal length as there are places in `cuts`, but for less than a block each, so
@@ -21,14 +26,78 @@ pub extern "C" fn pcapfile_cut_blocks(
     known: &mut usize,
     error: &mut PcapfileError,
 ) -> i32
-    ensures { TellsBlockCuts capture.now.bytes.now cuts.old cuts.new count.new interfaces.old interfaces.new known.new error.old error.new result }
+    ensures { TellsBlockCuts (partings.Equal (length cuts.old)) capture.now.bytes.now cuts.old cuts.new count.new interfaces.old interfaces.new known.new error.old error.new result }
 {
     *count = 0;
     *known = 0;
     if cuts.is_empty() {
         return 11;
     }
-    match cut_pcapng(alloc, capture.bytes, cuts.len()) {
+    let parting = Parting::Equal(cuts.len());
+    fill_cuts(
+        alloc,
+        capture.bytes,
+        parting,
+        cuts,
+        count,
+        interfaces,
+        known,
+        error,
+    )
+}
+
+/// The same of parts of at least so many bytes. `count` and `known` say how many places are filled, of cuts and of interfaces; or
+/// under status 11 `known` says how many interfaces need a place, or 0 where it is the cuts that lack places.
+#[unsafe(no_mangle)]
+pub extern "C" fn pcapfile_cut_blocks_at_least(
+    alloc: Global,
+    capture: &PcapfileBytes<'_>,
+    at_least: usize,
+    cuts: &mut [NgCut],
+    count: &mut usize,
+    interfaces: &mut [usize],
+    known: &mut usize,
+    error: &mut PcapfileError,
+) -> i32
+    ensures { TellsBlockCuts (partings.AtLeast (max at_least 1)) capture.now.bytes.now cuts.old cuts.new count.new interfaces.old interfaces.new known.new error.old error.new result }
+{
+    *count = 0;
+    *known = 0;
+    let wanted = at_least.max(1);
+    if cuts.len().saturating_mul(wanted) <= capture.bytes.len() {
+        return 11;
+    }
+    let parting = Parting::AtLeast(wanted);
+    fill_cuts(
+        alloc,
+        capture.bytes,
+        parting,
+        cuts,
+        count,
+        interfaces,
+        known,
+        error,
+    )
+}
+
+// Puts into the first places the cuts that are asked for, of which they hold each, and the places of interfaces.
+fn fill_cuts(
+    alloc: Global,
+    bytes: &[u8],
+    parting: Parting,
+    cuts: &mut [NgCut],
+    count: &mut usize,
+    interfaces: &mut [usize],
+    known: &mut usize,
+    error: &mut PcapfileError,
+) -> i32
+    requires no_cut { count.old ≡ 0 }
+    requires no_interface { known.old ≡ 0 }
+    requires some { AsksSome parting }
+    requires room { HasRoom parting (length bytes.now) (length cuts.old) }
+    ensures { TellsBlockCuts parting bytes.now cuts.old cuts.new count.new interfaces.old interfaces.new known.new error.old error.new result }
+{
+    match cut_capture(alloc, bytes, parting) {
         Ok(found) => {
             *known = found.interfaces.len();
             if interfaces.len() < *known {
@@ -42,8 +111,20 @@ pub extern "C" fn pcapfile_cut_blocks(
     }
 }
 
+// Where a capture can be cut as it is asked for, and where what is in force there stands.
+fn cut_capture(alloc: Global, bytes: &[u8], parting: Parting) -> ResultParsing<NgCuts>
+    requires { AsksSome parting }
+    ensures cut { IfOk result (CutsBlocks parting bytes.now) }
+    ensures refused { IfErr result (Refuses ⊤ (λ n. OpeningSays bytes.now (lacks n)) (λ fault. OpeningSays bytes.now (faulty fault))) }
+{
+    match parting {
+        Parting::Equal(parts) => cut_pcapng(alloc, bytes, parts),
+        Parting::AtLeast(least) => cut_pcapng_at_least(alloc, bytes, least),
+    }
+}
+
 // Puts these values into the first places, and tells how many they are.
-pub(crate) fn fill<T: Copy>(values: &[T], places: &mut [T]) -> usize
+fn fill<T: Copy>(values: &[T], places: &mut [T]) -> usize
     requires { length values.now ≤ length places.old }
     ensures { Fills values.now places.old places.new result }
 {

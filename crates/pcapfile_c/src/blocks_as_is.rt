@@ -244,13 +244,7 @@ fn section_standing(alloc: Global, body: &[u8]) -> ResultParsing<(PcapfileSectio
 {
     let (_rest, read) = SectionAsIs::from_slice(alloc, body)?;
     let SectionAsIs { section, flaws } = read;
-    let shown = PcapfileSection {
-        magic_number: section.magic,
-        version_major: section.major_version,
-        version_minor: section.minor_version,
-        interfaces: 0,
-    };
-    Ok((shown, flaws))
+    Ok((PcapfileSection::opened(&section), flaws))
 }
 
 // The interface that a body is as it stands, in this order.

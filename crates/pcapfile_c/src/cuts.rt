@@ -1,9 +1,10 @@
 //! Classic captures that lie in memory: where they can be cut into parts.
 
-ghost use Rattle.std.specs.Prelude.{◌≡◌, ◌≤◌, ◌-◌, length, take, drop};
+ghost use Rattle.std.specs.Prelude.{◌≡◌, ◌≤◌, ◌-◌, length, max, take, drop};
 ghost use Rattle.pcap_classic.specs.PacketText.{packet_limit};
 ghost use Rattle.pcap_classic.specs.Packets.{format_under};
 ghost use Rattle.pcap_classic.specs.Parser.{header_of};
+ghost use Rattle.pcap_parts.specs.declared.parting.Parting.TheVariants as partings;
 ghost use Rattle.pcap_parts.specs.Parts.{AreCuts};
 ghost use Rattle.pcap_parts.specs.Partings.{AreAskedFor, AsksSome};
 ghost use Rattle.pcapfile_c.specs.Cuts.{HasRoom, TellsCuts};
@@ -22,15 +23,50 @@ pub extern "C" fn pcapfile_cut_packets(
     count: &mut usize,
     error: &mut PcapfileError,
 ) -> i32
-    ensures { TellsCuts capture.now.bytes.now cuts.old cuts.new count.new error.old error.new result }
+    ensures { TellsCuts (partings.Equal (length cuts.old)) capture.now.bytes.now cuts.old cuts.new count.new error.old error.new result }
 {
     *count = 0;
     if cuts.is_empty() {
         return 11;
     }
+    fill_cuts(capture, Parting::Equal(cuts.len()), cuts, count, error)
+}
+
+/// Where a capture can be cut into parts of at least so many bytes, each but the last with no packet more than it needs. `count`
+/// says how many places are filled. Status 11 where the places times so many bytes, or one, are not more than the capture has.
+#[unsafe(no_mangle)]
+pub extern "C" fn pcapfile_cut_packets_at_least(
+    capture: &PcapfileBytes<'_>,
+    at_least: usize,
+    cuts: &mut [Cut],
+    count: &mut usize,
+    error: &mut PcapfileError,
+) -> i32
+    ensures { TellsCuts (partings.AtLeast (max at_least 1)) capture.now.bytes.now cuts.old cuts.new count.new error.old error.new result }
+{
+    *count = 0;
+    let wanted = at_least.max(1);
+    if cuts.len().saturating_mul(wanted) <= capture.bytes.len() {
+        return 11;
+    }
+    fill_cuts(capture, Parting::AtLeast(wanted), cuts, count, error)
+}
+
+// Puts into the first places the cuts that are asked for, of which they hold each.
+fn fill_cuts(
+    capture: &PcapfileBytes<'_>,
+    parting: Parting,
+    cuts: &mut [Cut],
+    count: &mut usize,
+    error: &mut PcapfileError,
+) -> i32
+    requires none { count.old ≡ 0 }
+    requires some { AsksSome parting }
+    requires room { HasRoom parting (length capture.now.bytes.now) (length cuts.old) }
+    ensures { TellsCuts parting capture.now.bytes.now cuts.old cuts.new count.new error.old error.new result }
+{
     match PcapParser::new(capture.bytes) {
         Ok((after, parser)) => {
-            let parting = Parting::Equal(cuts.len());
             *count = cut_packets(&parser, after, capture.bytes.len(), parting, cuts);
             0
         }
@@ -40,7 +76,7 @@ pub extern "C" fn pcapfile_cut_packets(
 
 // Puts into the first places where the parts of the packets behind a header begin, and tells how many they are. Their last byte has
 // this place.
-pub(crate) fn cut_packets(
+fn cut_packets(
     parser: &PcapParser,
     slice: &[u8],
     total: usize,

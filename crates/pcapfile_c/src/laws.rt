@@ -19,15 +19,17 @@ ghost use Rattle.pcapfile_c.specs.BlockPushes.{BlocksHaveEnded};
 ghost use Rattle.pcapfile_c.specs.declared.any_packets.PcapfileAnyPacket.{PcapfileAnyPacket};
 ghost use Rattle.pcapfile_c.specs.PacketPushes.{PacketsHaveEnded};
 ghost use Rattle.pcapfile_c.specs.Push.{held_in};
-ghost use Rattle.pcapfile_c.specs.Pushes.{HaveEnded, all_given, all_put};
+ghost use Rattle.pcapfile_c.specs.Pushes.{HaveEnded};
 ghost use Rattle.pcapfile_c.specs.Putting.{Given, a_section};
 ghost use Rattle.pcapfile_c.specs.PutsAgain.{ArePut, IsReadAs};
+ghost use Rattle.pcapfile_c.specs.RoomCalls.{all_given, all_put};
 ghost use Rattle.pcapfile_c.specs.ReadBlocks.{ShowsThere, each_under, is_packet_there, read_format};
 ghost use Rattle.pcapfile_c.specs.Shown.{shown_header};
 
 /// However a capture is cut, and whatever calls are made in any order, in any rooms in which C leaves what is held: where a call
 /// tells that no packet follows, the packets that were given are those of the front of all bytes that were put, and what is held
 /// is the rest.
+#[tactic(auto, using(crate::proofs::Pushes::pushes_front))]
 pub fn pushes_give_the_front()
     ensures { (calls : List (List ℕ × List Captured)) (push : PcapfilePush) (room : List ℕ) → HaveEnded calls push room →
         (header : PcapHeader) × (push.header ≡ shown_header header) × CaptureFront packet_limit header (all_given calls) (all_put calls) (held_in push room) }
@@ -35,6 +37,7 @@ pub fn pushes_give_the_front()
 
 /// The same of the blocks of a PcapNg capture: those that were given are those of the front of all bytes that were put, what is
 /// held is the rest, and what is in force is what the front leaves.
+#[tactic(auto, using(crate::proofs::BlockLaws::pushed_blocks))]
 pub fn pushed_blocks_give_the_front()
     ensures { (calls : List (List ℕ × List PcapfileBlock)) (push : PcapfilePush) (section : PcapfileSection) (room : List ℕ) → BlocksHaveEnded calls push section room →
         (items : List Item) × Front block_format opening items (all_put calls) (held_in push room) × ShowsState section (state_after block_format opening items)
@@ -44,6 +47,7 @@ pub fn pushed_blocks_give_the_front()
 /// The same of the packets of a PcapNg capture, where the array of interfaces may be a longer one at each call: those that were
 /// given are, in order, the packets among the blocks of the front of all bytes that were put, where the body of each packet is
 /// read, and each is shown with what is in force where it stands.
+#[tactic(auto, using(crate::proofs::PacketLaws::pushed_packets))]
 pub fn pushed_packets_give_the_front()
     ensures { (calls : List (List ℕ × List PcapfileAnyPacket)) (push : PcapfilePush) (room : List ℕ) → PacketsHaveEnded calls push room →
         (items : List Item) × Front read_format opening items (all_put calls) (held_in push room)

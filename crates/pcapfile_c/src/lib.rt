@@ -8,7 +8,6 @@
 mod any;
 mod any_packets;
 mod as_is;
-mod at_least;
 mod batches;
 mod block_cuts;
 mod blocks;

@@ -1,16 +1,14 @@
 //! PcapNg captures that lie in memory: the options of their blocks, as they stand.
 
-ghost use Rattle.std.specs.Prelude.{◌≡◌, None, Some, IsErrAnd};
+ghost use Rattle.std.specs.Prelude.{◌≡◌, None, Some};
 ghost use Rattle.pcap_core.specs.declared.common.Endianness.{Endianness};
-ghost use Rattle.pcap_core.specs.declared.rules.Rule.TheVariants.{SectionMagic};
 ghost use Rattle.pcap_core.specs.Answer.{number_in};
-ghost use Rattle.pcap_core.specs.Faults.{Names};
 ghost use Rattle.pcap_blocks.specs.SectionHeader.{magic_order};
 ghost use Rattle.pcapfile_c.specs.Bodies.{RefusesSection};
 ghost use Rattle.pcapfile_c.specs.Options.{FindsOptions, TakesOption, OptionsTell, OptionTells, FixedTells, PacketTells};
 
 use crate::blocks::{PcapfileBlock, PcapfileSection};
-use crate::errors::{PcapfileError, tell};
+use crate::errors::{PcapfileError, tell, tell_broken};
 use crate::records::behind_records;
 use crate::shown::PcapfileBytes;
 use byteorder::{BigEndian, ByteOrder, LittleEndian};
@@ -40,7 +38,10 @@ pub extern "C" fn pcapfile_options<'a>(
         FindsOptions e block.now options.old options.new error.old error.new result }
     ensures refused { magic_order section.now.magic_number ≡ None → RefusesSection options.old options.new error.new result }
 {
-    match section.options(BlockType::from(block.type_), block.body) {
+    let Some(order) = section.endianness() else {
+        return tell_broken(Rule::SectionMagic, error);
+    };
+    match options_of(order, BlockType::from(block.type_), block.body) {
         Ok(Some(found)) => {
             options.bytes = found;
             0
@@ -64,7 +65,10 @@ pub extern "C" fn pcapfile_take_option<'a>(
     ensures refused { magic_order section.now.magic_number ≡ None →
         (left.new ≡ left.old) × RefusesSection option.old option.new error.new result }
 {
-    match section.option(left.bytes) {
+    let Some(order) = section.endianness() else {
+        return tell_broken(Rule::SectionMagic, error);
+    };
+    match option_at(order, left.bytes) {
         Ok(Some((rest, found))) => {
             *option = found;
             left.bytes = rest;
@@ -75,33 +79,21 @@ pub extern "C" fn pcapfile_take_option<'a>(
     }
 }
 
-impl PcapfileSection {
-    // The bytes in which the options of a body of this type stand. None where such a body has none.
-    fn options<'a>(&self, type_: BlockType, body: &'a [u8]) -> ResultParsing<Option<&'a [u8]>>
-        ensures tells { (e : Endianness) → magic_order self.now.magic_number ≡ Some e → OptionsTell (number_in e) type_ body.now result }
-        ensures refused { magic_order self.now.magic_number ≡ None → IsErrAnd result (Names SectionMagic) }
-    {
-        match self.endianness() {
-            Some(Endianness::Big) => options_in::<BigEndian>(type_, body),
-            Some(Endianness::Little) => options_in::<LittleEndian>(type_, body),
-            None => Err(PcapError::from(Rule::SectionMagic)),
-        }
-    }
-
-    // The option at the front of a slice, behind what follows it. None where the list is over there.
-    fn option<'a>(&self, slice: &'a [u8]) -> ResultParsing<Option<(&'a [u8], PcapfileOption<'a>)>>
-        ensures tells { (e : Endianness) → magic_order self.now.magic_number ≡ Some e → OptionTells (number_in e) slice.now result }
-        ensures refused { magic_order self.now.magic_number ≡ None → IsErrAnd result (Names SectionMagic) }
-    {
-        match self.endianness() {
-            Some(Endianness::Big) => option_in::<BigEndian>(slice),
-            Some(Endianness::Little) => option_in::<LittleEndian>(slice),
-            None => Err(PcapError::from(Rule::SectionMagic)),
-        }
+// The bytes in which the options of a body of this type stand. None where such a body has none.
+fn options_of<'a>(
+    order: Endianness,
+    type_: BlockType,
+    body: &'a [u8],
+) -> ResultParsing<Option<&'a [u8]>>
+    ensures { OptionsTell (number_in order) type_ body.now result }
+{
+    match order {
+        Endianness::Big => options_in::<BigEndian>(type_, body),
+        Endianness::Little => options_in::<LittleEndian>(type_, body),
     }
 }
 
-// The bytes in which the options of a body of this type stand. None where such a body has none.
+// The same, where numbers are read in this order.
 fn options_in<'a, B: ByteOrder>(type_: BlockType, body: &'a [u8]) -> ResultParsing<Option<&'a [u8]>>
     ensures { OptionsTell B.number_of type_ body.now result }
 {
@@ -145,6 +137,19 @@ fn behind_packet<B: ByteOrder>(body: &[u8]) -> ResultParsing<&[u8]>
 }
 
 // The option at the front of a slice, behind what follows it. None where the list is over there.
+fn option_at<'a>(
+    order: Endianness,
+    slice: &'a [u8],
+) -> ResultParsing<Option<(&'a [u8], PcapfileOption<'a>)>>
+    ensures { OptionTells (number_in order) slice.now result }
+{
+    match order {
+        Endianness::Big => option_in::<BigEndian>(slice),
+        Endianness::Little => option_in::<LittleEndian>(slice),
+    }
+}
+
+// The same, where numbers are read in this order.
 fn option_in<'a, B: ByteOrder>(
     slice: &'a [u8],
 ) -> ResultParsing<Option<(&'a [u8], PcapfileOption<'a>)>>

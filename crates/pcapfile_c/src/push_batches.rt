@@ -11,7 +11,7 @@ ghost use Rattle.pcapfile_c.specs.PushPackets.{ShowsInForce};
 use crate::any_packets::PcapfileAnyPacket;
 use crate::blocks::PcapfileSection;
 use crate::bodies::PcapfileInterface;
-use crate::errors::{PcapfileError, tell};
+use crate::errors::{PcapfileError, tell, tell_broken};
 use crate::pcap::{pcapfile_take_header, pcapfile_take_packets};
 use crate::push::PcapfilePush;
 use crate::push_packets::take_packet;
@@ -126,7 +126,7 @@ pub extern "C" fn pcapfile_push_ng_packets<'a>(
         return 10;
     }
     if section.order().is_none() {
-        return tell(&PcapError::from(Rule::SectionMagic), error);
+        return tell_broken(Rule::SectionMagic, error);
     }
     let mut left = PcapfileBytes { bytes: held };
     let status = take_ng_packets(alloc, section, &mut left, interfaces, packets, taken, error);

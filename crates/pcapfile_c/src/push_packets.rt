@@ -1,7 +1,6 @@
 //! PcapNg captures that come in pieces, in room that the caller has: their packets.
 
 ghost use Rattle.std.specs.Prelude.{◌≡◌, ◌<◌, ◌≤◌, List, length, None, Some};
-ghost use Rattle.pcap_core.specs.declared.common.Endianness.{Endianness};
 ghost use Rattle.pcap_blocks.specs.declared.block_type.BlockType.TheVariants as types;
 ghost use Rattle.pcap_blocks.specs.SectionHeader.{magic_order};
 ghost use Rattle.pcap_file.specs.State.{State, order_at};
@@ -12,12 +11,12 @@ ghost use Rattle.pcapfile_c.specs.PushPackets.{ShowsInForce, LeavesFewer, PutsTe
 use crate::any_packets::PcapfileAnyPacket;
 use crate::batches::Front;
 use crate::blocks::{PcapfileSection, section_in};
-use crate::bodies::PcapfileInterface;
-use crate::errors::{PcapfileError, tell};
+use crate::bodies::{PcapfileInterface, interface_of};
+use crate::errors::{PcapfileError, tell, tell_broken};
 use crate::push::PcapfilePush;
 use crate::shown::PcapfileBytes;
 use pcap_core::rules::Rule;
-use pcap_file::PcapError;
+use pcap_file::Endianness;
 use pcap_file::pcapng::BlockType;
 use std::alloc::Global;
 
@@ -49,7 +48,7 @@ pub extern "C" fn pcapfile_push_ng_next<'a>(
         return 10;
     }
     if section.order().is_none() {
-        return tell(&PcapError::from(Rule::SectionMagic), error);
+        return tell_broken(Rule::SectionMagic, error);
     }
     let mut left = PcapfileBytes { bytes: held };
     let status = take_packet(alloc, section, &mut left, interfaces, packet, error);
@@ -108,7 +107,7 @@ fn take_block<'a>(
         }
         Ok((rest, Front::Section(body))) => take_section(alloc, section, left, rest, body, error),
         Ok((rest, Front::Interface(body))) => {
-            take_interface(alloc, section, left, rest, body, interfaces, error)
+            take_interface(alloc, order, section, left, rest, body, interfaces, error)
         }
         Err(e) => Some(tell(&e, error)),
     }
@@ -170,6 +169,7 @@ fn take_section<'a>(
 #[inline(never)]
 fn take_interface<'a>(
     alloc: Global,
+    order: Endianness,
     section: &mut PcapfileSection,
     left: &mut PcapfileBytes<'a>,
     rest: &'a [u8],
@@ -177,14 +177,14 @@ fn take_interface<'a>(
     interfaces: &mut [PcapfileInterface],
     error: &mut PcapfileError,
 ) -> Option<i32>
-    requires named { (e : Endianness) × (magic_order section.old.magic_number ≡ Some e) }
+    requires named { magic_order section.old.magic_number ≡ Some order }
     requires shorter { length rest.now < length left.old.bytes.now }
     ensures taken { (q : State) → ShowsInForce section.old interfaces.old q →
         LeadingText (order_at q) types.InterfaceDescription body.now left.old.bytes.now rest.now →
         PutsTells q section.old section.new interfaces.old interfaces.new left.old.bytes.now left.new.bytes.now error.old error.new result }
     ensures fewer { LeavesFewer left.old.bytes.now left.new.bytes.now result }
 {
-    let found = match section.interface(alloc, BlockType::InterfaceDescription, body) {
+    let found = match interface_of(alloc, order, BlockType::InterfaceDescription, body) {
         Ok(Some(found)) => found,
         Ok(None) => unreachable!(),
         Err(e) => return Some(tell(&e, error)),

@@ -1,17 +1,15 @@
 //! PcapNg captures that lie in memory: the addresses of name resolution blocks, and their names.
 
-ghost use Rattle.std.specs.Prelude.{◌≡◌, ◌<◌, ◌^◌, None, Some, IsErrAnd};
+ghost use Rattle.std.specs.Prelude.{◌≡◌, ◌<◌, ◌^◌, None, Some};
 ghost use Rattle.pcap_core.specs.declared.common.Endianness.{Endianness};
-ghost use Rattle.pcap_core.specs.declared.rules.Rule.TheVariants.{SectionMagic};
 ghost use Rattle.pcap_core.specs.Answer.{number_in};
-ghost use Rattle.pcap_core.specs.Faults.{Names};
 ghost use Rattle.pcap_blocks.specs.Record.{form_of};
 ghost use Rattle.pcap_blocks.specs.SectionHeader.{magic_order};
 ghost use Rattle.pcapfile_c.specs.Bodies.{RefusesSection};
 ghost use Rattle.pcapfile_c.specs.Records.{TakesRecord, TakesName, RecordTells, RecordsTell, ValueTells, AddressTells, NamesTell};
 
 use crate::blocks::PcapfileSection;
-use crate::errors::{PcapfileError, tell};
+use crate::errors::{PcapfileError, tell, tell_broken};
 use crate::shown::PcapfileBytes;
 use byteorder::{BigEndian, ByteOrder, LittleEndian};
 use pcap_blocks::str_from_u8_null_terminated;
@@ -45,7 +43,10 @@ pub extern "C" fn pcapfile_take_record<'a>(
     ensures refused { magic_order section.now.magic_number ≡ None →
         (left.new ≡ left.old) × RefusesSection shown.old shown.new error.new result }
 {
-    match section.record(left.bytes) {
+    let Some(order) = section.endianness() else {
+        return tell_broken(Rule::SectionMagic, error);
+    };
+    match record_at(order, left.bytes) {
         Ok((rest, Some(found))) => {
             *shown = found;
             left.bytes = rest;
@@ -78,17 +79,16 @@ pub extern "C" fn pcapfile_take_name<'a>(
     }
 }
 
-impl PcapfileSection {
-    // The record at the front of a slice, and what follows it. None where it is the end of the records.
-    fn record<'a>(&self, slice: &'a [u8]) -> ResultParsing<(&'a [u8], Option<PcapfileRecord<'a>>)>
-        ensures tells { (e : Endianness) → magic_order self.now.magic_number ≡ Some e → RecordTells (number_in e) slice.now result }
-        ensures refused { magic_order self.now.magic_number ≡ None → IsErrAnd result (Names SectionMagic) }
-    {
-        match self.endianness() {
-            Some(Endianness::Big) => record_in::<BigEndian>(slice),
-            Some(Endianness::Little) => record_in::<LittleEndian>(slice),
-            None => Err(PcapError::from(Rule::SectionMagic)),
-        }
+// The record at the front of a slice, and what follows it. None where it is the end of the records.
+fn record_at<'a>(
+    order: Endianness,
+    slice: &'a [u8],
+) -> ResultParsing<(&'a [u8], Option<PcapfileRecord<'a>>)>
+    ensures { RecordTells (number_in order) slice.now result }
+{
+    match order {
+        Endianness::Big => record_in::<BigEndian>(slice),
+        Endianness::Little => record_in::<LittleEndian>(slice),
     }
 }
 
@@ -107,7 +107,7 @@ pub(crate) fn behind_records<B: ByteOrder>(body: &[u8]) -> ResultParsing<&[u8]>
     }
 }
 
-// The record at the front of a slice, and what follows it. None where it is the end of the records.
+// The same, where numbers are read in this order.
 fn record_in<'a, B: ByteOrder>(
     slice: &'a [u8],
 ) -> ResultParsing<(&'a [u8], Option<PcapfileRecord<'a>>)>

@@ -1,5 +1,5 @@
-use Rattle.std.proofs.Common.{rules, ◌≡◌, ◌∙◌, w32, to_z, of_z}
-use Rattle.pcapfile_c.proofs.Pushed.{between_same, next_takes}
+use Rattle.std.proofs.Common.{rules, ◌≡◌, w32, to_z, of_z}
+use Rattle.pcapfile_c.proofs.Pushed.{next_takes}
 use Rattle.pcapfile_c.proofs.push.pcapfile_push_next.Goals as goal
 
 pub returns : goal.returns
@@ -10,5 +10,4 @@ returns c =
     let here = c.take_front-status in
     let z = here.result in
     let same : to_z w32 (of_z w32 z) ≡ z = search rules in
-    let is = lookup.2 ∙ between_same push.begin push.end room lookup.0 in
-    rw same (next_takes push here.new.header room c.in-Some.held.now here.new.left.bytes.now c.args.packet.now here.new.packet c.args.error.now here.new.error z (lookup.0, lookup.1) is here.ensures)
+    rw same (next_takes push here.new.header room c.in-Some.held.now here.new.left.bytes.now c.args.packet.now here.new.packet c.args.error.now here.new.error z lookup here.ensures)

@@ -1,5 +1,4 @@
-use Rattle.std.proofs.Common.{rules, ◌≡◌, ◌∙◌, w32, to_z, of_z}
-use Rattle.pcapfile_c.proofs.Pushed.{between_same}
+use Rattle.std.proofs.Common.{rules, ◌≡◌, w32, to_z, of_z}
 use Rattle.pcapfile_c.proofs.PushedPackets.{packets_end, packets_take, rest_fits}
 use Rattle.pcapfile_c.proofs.push_batches.pcapfile_push_packets.Goals as goal
 
@@ -20,5 +19,4 @@ returns c =
     let here = c.take_front_packets-status in
     let z = here.result in
     let same : to_z w32 (of_z w32 z) ≡ z = search rules in
-    let is = lookup.2 ∙ between_same push.begin push.end room lookup.0 in
-    rw same (packets_take push here.new.header room c.in-Some.held.now here.new.left.bytes.now c.args.packets.now here.new.packets here.new.taken c.args.error.now here.new.error z (lookup.0, lookup.1) is here.ensures)
+    rw same (packets_take push here.new.header room c.in-Some.held.now here.new.left.bytes.now c.args.packets.now here.new.packets here.new.taken c.args.error.now here.new.error z lookup here.ensures)

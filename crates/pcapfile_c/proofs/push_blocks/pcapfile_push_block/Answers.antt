@@ -1,5 +1,4 @@
-use Rattle.std.proofs.Common.{rules, ◌≡◌, ◌∙◌, w32, to_z, of_z}
-use Rattle.pcapfile_c.proofs.Pushed.{between_same}
+use Rattle.std.proofs.Common.{rules, ◌≡◌, w32, to_z, of_z}
 use Rattle.pcapfile_c.proofs.PushedBlocks.{block_takes, order_refuses}
 use Rattle.pcapfile_c.proofs.push_blocks.pcapfile_push_block.Goals as goal
 
@@ -11,8 +10,7 @@ returns-clause-taken c q shows =
     let here = c.pcapfile_take_block-status in
     let z = here.result in
     let same : to_z w32 (of_z w32 z) ≡ z = search rules in
-    let is = lookup.2 ∙ between_same push.begin push.end room lookup.0 in
-    rw same (block_takes push c.args.section.now here.new.section room _ here.new.left c.args.block.now here.new.block c.args.error.now here.new.error z (lookup.0, lookup.1) is q (here.ensures.taken q shows))
+    rw same (block_takes push c.args.section.now here.new.section room _ here.new.left c.args.block.now here.new.block c.args.error.now here.new.error z lookup q (here.ensures.taken q shows))
 
 pub returns-clause-refused : goal.returns-clause-refused
 returns-clause-refused c none =
@@ -22,5 +20,4 @@ returns-clause-refused c none =
     let here = c.pcapfile_take_block-status in
     let z = here.result in
     let same : to_z w32 (of_z w32 z) ≡ z = search rules in
-    let is = lookup.2 ∙ between_same push.begin push.end room lookup.0 in
-    rw same (order_refuses push c.args.section.now here.new.section room _ here.new.left c.args.block.now here.new.block c.args.error.now here.new.error z (lookup.0, lookup.1) is (here.ensures.refused none))
+    rw same (order_refuses push c.args.section.now here.new.section room _ here.new.left c.args.block.now here.new.block c.args.error.now here.new.error z lookup (here.ensures.refused none))

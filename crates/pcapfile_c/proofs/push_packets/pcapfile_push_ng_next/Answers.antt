@@ -1,8 +1,5 @@
-use Rattle.std.proofs.Common.{rules, ◌≡◌, ◌∙◌, inl, refl, w32, to_z, of_z}
-use Rattle.pcap_core.specs.declared.rules.Rule.TheVariants.{SectionMagic}
-use Rattle.pcapfile_c.proofs.Pushed.{between_same}
+use Rattle.std.proofs.Common.{rules, ◌≡◌, w32, to_z, of_z}
 use Rattle.pcapfile_c.proofs.Passing.{packet_takes}
-use Rattle.pcapfile_c.proofs.Refused.{tells_named}
 use Rattle.pcapfile_c.proofs.push_packets.pcapfile_push_ng_next.Goals as goal
 
 pub returns-clause-taken : goal.returns-clause-taken
@@ -13,11 +10,4 @@ returns-clause-taken c q shows =
     let here = c.take_packet-status in
     let z = here.result in
     let same : to_z w32 (of_z w32 z) ≡ z = search rules in
-    let is = lookup.2 ∙ between_same push.begin push.end room lookup.0 in
-    rw same (packet_takes push q c.args.section.now here.new.section c.args.interfaces.now here.new.interfaces room _ here.new.left.bytes.now c.args.packet.now here.new.packet c.args.error.now here.new.error z (lookup.0, lookup.1) is (here.ensures.taken q shows))
-
-pub returns-then-is_none-clause-refused : goal.returns-then-is_none-clause-refused
-returns-then-is_none-clause-refused c none =
-    let lookup = c.in-Some.ensures.lookup.0 in
-    let told = tells_named SectionMagic c.from.result c.tell.new.told c.tell.result c.from.ensures c.tell.ensures in
-    inl ((lookup.0, lookup.1), told.0, told.1, refl, refl, refl, refl)
+    rw same (packet_takes push q c.args.section.now here.new.section c.args.interfaces.now here.new.interfaces room _ here.new.left.bytes.now c.args.packet.now here.new.packet c.args.error.now here.new.error z lookup (here.ensures.taken q shows))
