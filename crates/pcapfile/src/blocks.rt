@@ -3,10 +3,11 @@
 use crate::source::{Source, nothing};
 use pcap_core::stream::put;
 use pcap_file::pcapng::{
-    Block, BlockHeader, BlockType, InterfaceDescriptionBlock, ParsedBlock, Timestamp,
+    BlockHeader, BlockType, InterfaceDescriptionBlock, ParsedBlock, Timestamp,
 };
 use pcap_file::{PcapNgReader, ResultParsing};
 use pcapfile_cut::{Outcome, Wanted};
+use pcapfile_run::{holds_packet, interface_at, packet_in_body};
 use std::alloc::Global;
 use std::io;
 use std::io::{Read, Write};
@@ -66,7 +67,7 @@ impl<R: Read + Drop> Blocks<R> {
     fn put_block<W: Write>(&self, output: &mut W, outcome: &mut Outcome) -> ResultParsing<()> {
         let text = self.reader.text();
         put(output, &mut outcome.write_failed, text)?;
-        outcome.bytes = outcome.bytes.saturating_add(text.len() as u64);
+        pass_text(text, outcome);
         Ok(())
     }
 
@@ -83,9 +84,7 @@ impl<R: Read + Drop> Blocks<R> {
                 }
                 outcome.packets = outcome.packets.saturating_add(1);
             }
-            outcome.bytes = outcome
-                .bytes
-                .saturating_add(self.reader.text().len() as u64);
+            pass_text(self.reader.text(), outcome);
         }
         Ok(())
     }
@@ -138,9 +137,7 @@ impl<R: Read + Drop> Blocks<R> {
             if !holds_packet(header.type_) || self.is_within(alloc, header, times)? {
                 self.put_block(output, outcome)?;
             } else {
-                outcome.bytes = outcome
-                    .bytes
-                    .saturating_add(self.reader.text().len() as u64);
+                pass_text(self.reader.text(), outcome);
             }
         }
         Ok(())
@@ -154,8 +151,8 @@ impl<R: Read + Drop> Blocks<R> {
         times: (Timestamp, Timestamp),
     ) -> ResultParsing<bool> {
         let block = self.reader.block(header);
-        let time = time_of(alloc, self.reader.interfaces(), &block)?;
-        Ok(match time {
+        let parsed = block.parsed(alloc)?;
+        Ok(match time_of(self.reader.interfaces(), &parsed) {
             Some(time) => times.0 <= time && time < times.1,
             None => false,
         })
@@ -199,31 +196,19 @@ fn moment(nanoseconds: u64) -> Timestamp {
     }
 }
 
-// The time of the packet in a block, where it has one.
+// The time of the packet that a body is, where it has one.
 fn time_of(
-    alloc: Global,
     interfaces: &[InterfaceDescriptionBlock<'static>],
-    block: &Block<'_>,
-) -> ResultParsing<Option<Timestamp>> {
-    let parsed = block.parsed(alloc)?;
-    Ok(match &parsed {
-        ParsedBlock::EnhancedPacket(packet) => {
-            time_at(interfaces, packet.interface_id as usize, packet.timestamp)
-        }
-        ParsedBlock::Packet(packet) => {
-            time_at(interfaces, packet.interface_id as usize, packet.timestamp)
-        }
-        _ => None,
-    })
+    parsed: &ParsedBlock<'_>,
+) -> Option<Timestamp> {
+    let packet = packet_in_body(interfaces, parsed)?;
+    let interface = interface_at(interfaces, packet.interface)?;
+    Some(interface.timestamp(packet.units?))
 }
 
-fn time_at(
-    interfaces: &[InterfaceDescriptionBlock<'static>],
-    number: usize,
-    units: u64,
-) -> Option<Timestamp> {
-    let interface = interfaces.get(number)?;
-    Some(interface.timestamp(units))
+// Counts the bytes of a block.
+fn pass_text(text: &[u8], outcome: &mut Outcome) {
+    outcome.bytes = outcome.bytes.saturating_add(text.len() as u64);
 }
 
 // Whether no packet more is wanted behind these.
@@ -233,13 +218,6 @@ fn is_enough(wanted: Wanted, outcome: &Outcome) -> bool {
         Wanted::Bytes(bytes) => outcome.packets > 0 && outcome.bytes >= bytes,
         Wanted::All | Wanted::Times { .. } => false,
     }
-}
-
-fn holds_packet(type_: BlockType) -> bool {
-    matches!(
-        type_,
-        BlockType::EnhancedPacket | BlockType::Packet | BlockType::SimplePacket
-    )
 }
 
 /// Writes the blocks of a further part behind others that left this in force: without what opens it, where that is the same.
@@ -291,7 +269,7 @@ fn lead_of<R: Read + Drop>(
             break;
         };
         let text = part.reader.text();
-        outcome.bytes = outcome.bytes.saturating_add(text.len() as u64);
+        pass_text(text, outcome);
         lead.extend_from_slice(text)?;
     }
     Ok(lead)

@@ -2,17 +2,16 @@
 
 use crate::captured::Captured;
 use crate::console::Console;
-use crate::input::{STANDARD, buffered};
-use crate::output::{OUTPUT, Unfinished, tell_read};
+use crate::input::buffered;
+use crate::output::{OUTPUT, write_named};
 use crate::tell::{tell_error, tell_io};
-use capcopy_run::Uninterrupted;
 use pcap_file::pcap::PcapHeader;
-use pcap_file::pcapng::{BlockType, InterfaceDescriptionBlock};
+use pcap_file::pcapng::InterfaceDescriptionBlock;
 use pcap_file::run::{
     IfUnplaced, Under, convert_to_pcap, convert_to_pcapng, copy_buffered, copy_pcapng_buffered,
 };
 use pcap_file::{DataLink, PcapError, PcapNgReader, PcapWriter, ResultParsing};
-use pcapfile_run::{Format, format_of};
+use pcapfile_run::{Format, format_of, holds_packet};
 use std::alloc::Global;
 use std::io;
 use std::io::{BufRead, BufWriter, Read, Write};
@@ -34,15 +33,6 @@ pub(crate) struct Conversion<'a> {
     pub(crate) out: &'a str,
     /// Whether the capture is read as it stands.
     pub(crate) as_is: bool,
-}
-
-/// The blocks before the first interface.
-#[derive(Drop)]
-struct Early {
-    /// How many of them hold a packet.
-    packets: u64,
-    /// How many don't.
-    others: u64,
 }
 
 /// How a conversion ended.
@@ -70,24 +60,12 @@ impl Ended {
     }
 }
 
-/// Converts a capture, and gives the status. A file is written under another name in the same folder, and has its own once all
-/// of it is there.
+/// Converts a capture, and gives the status.
 pub(crate) fn convert_file(console: &Console, asked: &Conversion) -> io::Result<u8> {
-    if asked.out == STANDARD {
-        let ended = open_and_convert(console, asked, Uninterrupted::new(console.rt().stdout()));
-        return tell_ended(console, asked, &ended);
-    }
-    if asked.out == asked.from {
-        return tell_read(console, asked.out);
-    }
-    let unfinished = Unfinished::new(console, asked.out)?;
-    let file = match unfinished.create(console) {
-        Ok(file) => file,
-        Err(error) => return tell_io(console, unfinished.part(), &error),
-    };
-    let ended = open_and_convert(console, asked, Uninterrupted::new(file));
-    let told = tell_ended(console, asked, &ended);
-    unfinished.finish(console, told)
+    write_named(console, asked.out, &[asked.from], |output| {
+        let ended = open_and_convert(console, asked, output);
+        tell_ended(console, asked, &ended)
+    })
 }
 
 fn tell_ended(console: &Console, asked: &Conversion, ended: &io::Result<Ended>) -> io::Result<u8> {
@@ -182,7 +160,7 @@ fn place_blocks<R: Read + Drop, W: Write + Drop>(
     output: W,
 ) -> ResultParsing<Ended> {
     let mut reader = PcapNgReader::new(alloc, input)?;
-    let early = pass_to_interface(&mut reader)?;
+    let mut ended = pass_to_interface(&mut reader)?;
     let header = header_under(reader.interfaces());
     let mut writer = match PcapWriter::with_header(header, output) {
         Ok(writer) => writer,
@@ -196,23 +174,17 @@ fn place_blocks<R: Read + Drop, W: Write + Drop>(
         u64::MAX,
     );
     let packets = converted.packets.saturating_add(converted.left_out);
-    let ended = Ended {
-        left_out: early.packets.saturating_add(converted.left_out),
-        others: early
-            .others
-            .saturating_add(converted.blocks.saturating_sub(packets)),
-        fault: converted.fault,
-        write_failed: writer.failed(),
-    };
+    let others = converted.blocks.saturating_sub(packets);
+    ended.left_out = ended.left_out.saturating_add(converted.left_out);
+    ended.others = ended.others.saturating_add(others);
+    ended.fault = converted.fault;
+    ended.write_failed = writer.failed();
     Ok(flushed(writer.into_writer(), ended))
 }
 
-// Passes blocks until an interface is described, and counts those before it.
-fn pass_to_interface<R: Read + Drop>(reader: &mut PcapNgReader<R>) -> ResultParsing<Early> {
-    let mut early = Early {
-        packets: 0,
-        others: 0,
-    };
+// Passes blocks until an interface is described. What is before it has no place.
+fn pass_to_interface<R: Read + Drop>(reader: &mut PcapNgReader<R>) -> ResultParsing<Ended> {
+    let mut early = Ended::whole(None, false);
     for _turn in 0..u64::MAX {
         let Some(header) = reader.next_header() else {
             break;
@@ -222,19 +194,12 @@ fn pass_to_interface<R: Read + Drop>(reader: &mut PcapNgReader<R>) -> ResultPars
             break;
         }
         if holds_packet(type_) {
-            early.packets = early.packets.saturating_add(1);
+            early.left_out = early.left_out.saturating_add(1);
         } else {
             early.others = early.others.saturating_add(1);
         }
     }
     Ok(early)
-}
-
-fn holds_packet(type_: BlockType) -> bool {
-    matches!(
-        type_,
-        BlockType::EnhancedPacket | BlockType::Packet | BlockType::SimplePacket
-    )
 }
 
 // The header of the classic capture that blocks become. Without an interface it is that of Ethernet.

@@ -5,10 +5,9 @@ use crate::blocks::Blocks;
 use crate::captured::Captured;
 use crate::console::Console;
 use crate::input::{STANDARD, buffered};
-use crate::output::{OUTPUT, Unfinished, tell_read};
+use crate::output::{OUTPUT, write_named};
 use crate::source::{Packets, Source, flushed};
 use crate::tell::{tell_error, tell_io, tell_outcome};
-use capcopy_run::Uninterrupted;
 use pcap_parts::to_next_end;
 use pcapfile_cut::{Outcome, Wanted};
 use pcapfile_run::{Format, format_of};
@@ -173,25 +172,14 @@ fn write_part<S: Source>(
     source: &mut S,
     place: &mut Place,
 ) -> io::Result<u8> {
-    if name == STANDARD && !asked.way.is_many() {
-        let stdout = Uninterrupted::new(console.rt().stdout());
-        let written = write_to(console.alloc(), asked.way, source, *place, stdout);
-        return tell_written(console, asked, name, *place, &written);
-    }
-    if name == asked.from {
-        return tell_read(console, name);
-    }
-    let unfinished = Unfinished::new(console, name)?;
-    let file = match unfinished.create(console) {
-        Ok(file) => Uninterrupted::new(file),
-        Err(error) => return tell_io(console, unfinished.part(), &error),
-    };
-    let written = write_to(console.alloc(), asked.way, source, *place, file);
-    let told = tell_written(console, asked, name, *place, &written);
-    if let Ok(outcome) = &written {
-        place.passed = place.passed.saturating_add(outcome.bytes);
-    }
-    unfinished.finish(console, told)
+    write_named(console, name, &[asked.from], |output| {
+        let written = write_to(console.alloc(), asked.way, source, *place, output);
+        let told = tell_written(console, asked, name, *place, &written);
+        if let Ok(outcome) = &written {
+            place.passed = place.passed.saturating_add(outcome.bytes);
+        }
+        told
+    })
 }
 
 fn write_to<S: Source, W: Write + Drop>(

@@ -3,6 +3,7 @@
 use crate::captured::Captured;
 use crate::console::Console;
 use crate::input::buffered;
+use crate::output::OUTPUT;
 use crate::tell::{tell_error, tell_io};
 use capcopy_run::Uninterrupted;
 use pcap_file::PcapError;
@@ -11,9 +12,6 @@ use pcapfile_run::{End, Format, format_of};
 use pcapfile_shown::{Report, json_of};
 use std::io;
 use std::io::{BufWriter, ErrorKind, Write};
-
-/// The size of the buffer before standard output, in bytes.
-const OUTPUT: usize = 65_536;
 
 /// What the word is asked for.
 #[derive(Drop)]

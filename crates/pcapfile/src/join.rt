@@ -2,8 +2,8 @@
 
 use crate::blocks::{Blocks, join_blocks};
 use crate::console::Console;
-use crate::input::{STANDARD, Watched, buffered, open_watched};
-use crate::output::{OUTPUT, Unfinished, tell_read};
+use crate::input::{Watched, buffered, open_watched};
+use crate::output::{OUTPUT, write_named};
 use crate::source::{Packets, Source};
 use crate::tell::{AT_FAULT, tell_error, tell_io, tell_outcome};
 use capcopy_run::Uninterrupted;
@@ -25,21 +25,9 @@ type Input = BufReader<Uninterrupted<Watched>>;
 
 /// Joins parts of a capture, and gives the status.
 pub(crate) fn join_files(console: &Console, asked: &Joining) -> io::Result<u8> {
-    if asked.out == STANDARD {
-        return join_into(console, asked, Uninterrupted::new(console.rt().stdout()));
-    }
-    for part in asked.parts {
-        if *part == asked.out {
-            return tell_read(console, part);
-        }
-    }
-    let unfinished = Unfinished::new(console, asked.out)?;
-    let file = match unfinished.create(console) {
-        Ok(file) => Uninterrupted::new(file),
-        Err(error) => return tell_io(console, unfinished.part(), &error),
-    };
-    let told = join_into(console, asked, file);
-    unfinished.finish(console, told)
+    write_named(console, asked.out, asked.parts, |output| {
+        join_into(console, asked, output)
+    })
 }
 
 fn join_into<W: Write + Drop>(console: &Console, asked: &Joining, output: W) -> io::Result<u8> {

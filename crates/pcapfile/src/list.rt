@@ -2,6 +2,7 @@
 
 use crate::console::Console;
 use crate::input::{buffered, open_watched};
+use crate::output::OUTPUT;
 use crate::tell::{tell_exit, tell_io, tell_unwritten};
 use capcopy_run::{Exit, Uninterrupted};
 use pcap_core::stream::Told;
@@ -9,9 +10,6 @@ use pcapfile_lines::{Form, HEADING};
 use pcapfile_run::list;
 use std::io;
 use std::io::{BufWriter, Write};
-
-/// The size of the buffer before standard output, in bytes.
-const OUTPUT: usize = 65_536;
 
 /// Writes the packets of each capture, and gives the status: that of the worst of them. The names of several stand before their
 /// lines, but for a form that a program reads.

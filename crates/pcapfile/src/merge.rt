@@ -5,9 +5,9 @@ ghost use Rattle.pcapfile_merge.specs.Holding.{IsReady};
 
 use crate::captured::Captured;
 use crate::console::Console;
-use crate::input::{STANDARD, Watched, buffered, open_further};
+use crate::input::{Watched, buffered, open_further};
 use crate::opening::{interfaces_of, put_opening};
-use crate::output::{OUTPUT, Unfinished, tell_read};
+use crate::output::{OUTPUT, write_named};
 use crate::tell::{AT_FAULT, tell_error, tell_io};
 use capcopy_run::Uninterrupted;
 use pcap_file::{PcapNgReader, PcapReader, ResultParsing};
@@ -50,32 +50,15 @@ impl Ended {
     }
 }
 
-/// Merges captures, and gives the status. A file is written under another name in the same folder, and has its own once all of
-/// it is there.
+/// Merges captures, and gives the status. What goes out is whole also where one that is read is at fault.
 pub(crate) fn merge_files(console: &Console, asked: &Merge) -> io::Result<u8> {
-    if asked.out == STANDARD {
-        let ended = merge_to(console, asked, Uninterrupted::new(console.rt().stdout()))?;
-        return Ok(ended.status);
-    }
-    if asked.names.contains(&asked.out) {
-        return tell_read(console, asked.out);
-    }
-    let unfinished = Unfinished::new(console, asked.out)?;
-    let file = match unfinished.create(console) {
-        Ok(file) => file,
-        Err(error) => return tell_io(console, unfinished.part(), &error),
-    };
-    let ended = merge_to(console, asked, Uninterrupted::new(file));
-    match ended {
-        Ok(
-            Ended {
-                status,
-                is_whole: true,
-            },
-        ) => Ok(unfinished.finish(console, Ok(0))?.max(status)),
-        Ok(given_up) => unfinished.finish(console, Ok(given_up.status)),
-        Err(error) => unfinished.finish(console, Err(error)),
-    }
+    let mut worst = 0;
+    let told = write_named(console, asked.out, asked.names, |output| {
+        let ended = merge_to(console, asked, output)?;
+        worst = ended.status;
+        Ok(if ended.is_whole { 0 } else { ended.status })
+    })?;
+    Ok(told.max(worst))
 }
 
 fn merge_to<W: Write + Drop>(console: &Console, asked: &Merge, output: W) -> io::Result<Ended> {

@@ -1,11 +1,10 @@
 //! The word `repair`.
 
 use crate::console::Console;
-use crate::input::{STANDARD, open_watched};
-use crate::output::{OUTPUT, Unfinished, tell_read};
+use crate::input::open_watched;
+use crate::output::{OUTPUT, write_named};
 use crate::repaired::Repaired;
 use crate::tell::{tell_error, tell_io};
-use capcopy_run::Uninterrupted;
 use std::io;
 use std::io::{BufWriter, Write};
 
@@ -18,22 +17,11 @@ pub(crate) struct Repair<'a> {
     pub(crate) out: &'a str,
 }
 
-/// Writes a capture of what can be read of another one, in which nothing breaks a rule, and gives the status. A file is written under
-/// another name in the same folder, and has its own once all of it is there.
+/// Writes a capture of what can be read of another one, in which nothing breaks a rule, and gives the status.
 pub(crate) fn repair_file(console: &Console, asked: &Repair) -> io::Result<u8> {
-    if asked.out == STANDARD {
-        return repair_to(console, asked, Uninterrupted::new(console.rt().stdout()));
-    }
-    if asked.out == asked.from {
-        return tell_read(console, asked.out);
-    }
-    let unfinished = Unfinished::new(console, asked.out)?;
-    let file = match unfinished.create(console) {
-        Ok(file) => file,
-        Err(error) => return tell_io(console, unfinished.part(), &error),
-    };
-    let told = repair_to(console, asked, Uninterrupted::new(file));
-    unfinished.finish(console, told)
+    write_named(console, asked.out, &[asked.from], |output| {
+        repair_to(console, asked, output)
+    })
 }
 
 fn repair_to<W: Write + Drop>(console: &Console, asked: &Repair, output: W) -> io::Result<u8> {

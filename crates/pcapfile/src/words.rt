@@ -135,6 +135,11 @@ the capture is at fault the parts before the fault stay.
 
 A time is in seconds since 1970, as 1700000000.25, or as 2023-11-14T22:13:20.25Z.";
 
+const OUT_HELP: &str = "Where it goes; - is standard output, and a device or a pipe is written to";
+
+const PARTS_OUT_HELP: &str =
+    "Where it goes; - is standard output, of one part, and a device or a pipe is written to";
+
 const RANGE_HELP: &str = "Those of these numbers as list has them: 10-20, 10-, -20 or 10";
 
 const PARTS_HELP: &str = "So many parts of nearly equal length, of a file, and not with --as-is";
@@ -254,7 +259,7 @@ fn convert<'a>(alloc: Global) -> Result<Command<'a>, AllocError> {
         .value_name("FORMAT")
         .value_parser(FORMATS)
         .help("The format that it gets, else the one that it isn't of");
-    let out = output(alloc, "Where it goes; - is standard output");
+    let out = output(alloc, OUT_HELP);
     Command::new(alloc, "convert")
         .about(CONVERT)
         .after_help(STATUSES)
@@ -279,7 +284,7 @@ fn cut<'a>(alloc: Global) -> Result<Command<'a>, AllocError> {
         .arg(parts(alloc, PARTS, PARTS_HELP)?)?
         .arg(bytes(alloc, BYTES, BYTES_HELP)?)?
         .arg(as_repaired(alloc))?
-        .arg(output(alloc, "Where it goes; - is standard output, of one part"))
+        .arg(output(alloc, PARTS_OUT_HELP))
 }
 
 fn range<'a>(alloc: Global, name: &'a str, help: &'a str) -> Result<Arg<'a>, AllocError> {
@@ -334,7 +339,7 @@ fn join<'a>(alloc: Global) -> Result<Command<'a>, AllocError> {
         .required(true)
         .num_args(1..)
         .help("The parts in their order");
-    let out = output(alloc, "Where the capture goes; - is standard output");
+    let out = output(alloc, OUT_HELP);
     Command::new(alloc, "join")
         .about(JOIN)
         .after_help(STATUSES)
@@ -348,7 +353,7 @@ fn merge<'a>(alloc: Global) -> Result<Command<'a>, AllocError> {
         .after_help(STATUSES)
         .arg(files(alloc))?
         .arg(as_repaired(alloc))?
-        .arg(output(alloc, "Where it goes; - is standard output"))
+        .arg(output(alloc, OUT_HELP))
 }
 
 fn repair<'a>(alloc: Global) -> Result<Command<'a>, AllocError> {
@@ -359,7 +364,7 @@ fn repair<'a>(alloc: Global) -> Result<Command<'a>, AllocError> {
         .about(REPAIR)
         .after_help(STATUSES)
         .arg(from)?
-        .arg(output(alloc, "Where the other one goes; - is standard output"))
+        .arg(output(alloc, OUT_HELP))
 }
 
 fn as_is<'a>(alloc: Global) -> Arg<'a> {
