@@ -91,7 +91,7 @@ refusing_lawful = record {
     request = λ s more n fewer h. (nil_from_length (s ++ more) (omega (arith, length-append s more, ap length h.0, h.1)), omega (arith, h.1));
   };
   own = λ q s rest packet text. absurd text;
-  some = omega arith;
+  some = λ q. omega arith;
   asks = λ q s n lack. omega (arith, lack.1);
   short = λ q s n sum some. (nil_from_length s (omega (arith, sum, some)), omega (arith, sum, some));
   last = λ q s more n m long lack count again. omega (arith, long, ap length lack.0);

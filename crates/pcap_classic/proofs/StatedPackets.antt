@@ -28,11 +28,11 @@ pub no_kind : (magic : ℕ) → kind_of magic ≡ None → is_magic magic ≡ fa
 unfolding is_magic
 no_kind magic k = rw k refl
 
-chosen_head : (b : Bool) (f g : Format (Unit {0}) Captured) → b ≡ true → (choice b f g).head ≡ f.head
+chosen_head : (b : Bool) (f g : Format (Unit {0}) Captured) → b ≡ true → (choice b f g).head tt ≡ f.head tt
 chosen_head true f g e = refl
 chosen_head false f g e = absurd cc
 
-pub reader_head : (header : PcapHeader) → is_magic header.magic_number ≡ true → (reader_format packet_limit header).head ≡ 16
+pub reader_head : (header : PcapHeader) → is_magic header.magic_number ≡ true → (reader_format packet_limit header).head tt ≡ 16
 unfolding reader_format packet_format
 reader_head header valid = chosen_head (is_magic header.magic_number) _ _ valid
 
@@ -67,7 +67,7 @@ header_refused header s e valid long refuses =
     shows_more step e (refuses_shows (λ n. LacksHead s n) (HasHeadFault packet_limit order r s) e (λ n lack. omega (arith, long, lack.some, lack.missing)) refuses)
 
 -- the packet that held bytes show
-pub shown_stands : (header : PcapHeader) (head : PacketHeader) (s : List ℕ) → Stated (KnowsHeader header) (reader_format packet_limit header).head head s
+pub shown_stands : (header : PcapHeader) (head : PacketHeader) (s : List ℕ) → Stated (KnowsHeader header) ((reader_format packet_limit header).head tt) head s
     → (reader_format packet_limit header).says tt s (whole (record { header = head; bytes = drop 16 s }) [])
 shown_stands header head s t =
     let long : length t.front ≡ 16 = t.length_is ∙ reader_head header t.knows.valid in
@@ -77,7 +77,7 @@ shown_stands header head s t =
 
 -- what was filled with was taken
 pub packet_held : (header : PcapHeader) (before after : Option (List ℕ)) (held : List ℕ) (failed : Bool) (result : Result (Option PacketHeader) PcapError)
-    → FillsHeaded ((reader_format packet_limit header).says tt) (KnowsHeader header) (reader_format packet_limit header).head before after held failed result
+    → FillsHeaded ((reader_format packet_limit header).says tt) (KnowsHeader header) ((reader_format packet_limit header).head tt) before after held failed result
     → Pulls ((reader_format packet_limit header).says tt) (held_packet held) before after failed result
 packet_held header before after held failed (Ok (Some head)) x = (x.0, (held, shown_stands header head held x.1, x.4))
 packet_held header before after held failed (Ok None) x = (x.0, x.2, x.3)
@@ -85,18 +85,18 @@ packet_held header before after held failed (Err e) x = x
 
 -- a header that was taken, and the data that it states, are a packet
 pub packet_taken : (header : PcapHeader) (head : PacketHeader) (body : List ℕ) (before after : Option (List ℕ))
-    → TakesStated ((reader_format packet_limit header).says tt) (KnowsHeader header) (reader_format packet_limit header).head before after head body
+    → TakesStated ((reader_format packet_limit header).says tt) (KnowsHeader header) ((reader_format packet_limit header).head tt) before after head body
     → Takes ((reader_format packet_limit header).says tt) before after (record { header = head; bytes = body })
 packet_taken header head body before after x =
     let s = x.stated in
     let stands = packet_stands header head (length s.body) s.front s.body x.bytes s.knows s.split refl in
     (x.bytes, subst (λ (l : List ℕ). (reader_format packet_limit header).says tt x.bytes (whole (record { header = head; bytes = l }) [])) x.body_is stands, x.took)
 
-choice_within : (b : Bool) (f g : Format (Unit {0}) Captured) → f.head ≤ 16 → g.head ≤ 16 → (choice b f g).head ≤ 16
+choice_within : (b : Bool) (f g : Format (Unit {0}) Captured) → f.head tt ≤ 16 → g.head tt ≤ 16 → (choice b f g).head tt ≤ 16
 choice_within true f g x y = x
 choice_within false f g x y = y
 
 -- no head is longer than a packet's header
-pub head_within : (header : PcapHeader) → (reader_format packet_limit header).head ≤ 16
+pub head_within : (header : PcapHeader) → (reader_format packet_limit header).head tt ≤ 16
 unfolding reader_format packet_format refusing_format
 head_within header = choice_within (is_magic header.magic_number) _ _ (omega arith) (omega arith)

@@ -19,7 +19,7 @@ DataReads header b (bad fault) = ⊥
 -- packets, whose head is a header of sixteen bytes that states how long the data is
 abbrev pub headed_packets : ℕ → Order → TsResolution → Headed (Unit {0}) PacketHeader Captured
 headed_packets limit order r = record {
-  head = 16;
+  head = λ q. 16;
   reads = λ q. HeadReads limit order r;
   size = λ header. header.incl_len;
   means = λ q. DataReads;

@@ -11,7 +11,7 @@ use Rattle.pcap_core.specs.Format.{Format}
 
 -- packets of at most limit bytes, in this order and resolution: no state
 unfoldable pub packet_format : ℕ → Order → TsResolution → Format (Unit {0}) Captured
-packet_format limit order r = record { says = λ q. PacketSays limit order r; goes = λ q packet. q; head = 16 }
+packet_format limit order r = record { says = λ q. PacketSays limit order r; goes = λ q packet. q; head = λ q. 16 }
 
 -- packets behind this header
 abbrev pub format_under : ℕ → PcapHeader → Format (Unit {0}) Captured
@@ -25,7 +25,7 @@ RefusingSays s (faulty fault) = (0 < length s) × (fault ≡ Invalid CaptureMagi
 
 -- the format under a header of no valid magic number: no packet
 unfoldable pub refusing_format : Format (Unit {0}) Captured
-refusing_format = record { says = λ q. RefusingSays; goes = λ q packet. q; head = 1 }
+refusing_format = record { says = λ q. RefusingSays; goes = λ q packet. q; head = λ q. 1 }
 
 -- the first format where it is true, else the second
 abbrev pub choice : {S V : Type 0} → Bool → Format S V → Format S V → Format S V
@@ -38,4 +38,4 @@ reader_format limit header = choice (is_magic header.magic_number) (format_under
 
 -- packets after any header, which is the state
 abbrev pub capture_format : ℕ → Format PcapHeader Captured
-capture_format limit = record { says = λ header. (format_under limit header).says tt; goes = λ header packet. header; head = 16 }
+capture_format limit = record { says = λ header. (format_under limit header).says tt; goes = λ header packet. header; head = λ header. 16 }

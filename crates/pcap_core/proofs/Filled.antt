@@ -26,7 +26,7 @@ module _ {S V : Type 0} (f : Format S V) (laws : IsLawful f) (q : S) where
   pub begins_none : (held : List ℕ) (before : Option (List ℕ)) → held ≡ [] → Begins f laws q before before held
   begins_none held before none = rw none (record { came = Consumes-nil before; asked = asked_none f laws q })
 
-  pub none_lacks : (held : List ℕ) → held ≡ [] → f.says q held (lacks f.head)
+  pub none_lacks : (held : List ℕ) → held ≡ [] → f.says q held (lacks (f.head q))
   none_lacks held none = rw none (nothing_lacks f laws q)
 
   -- a request was met
@@ -59,14 +59,14 @@ module _ {S V : Type 0} (f : Format S V) (laws : IsLawful f) (q : S) where
     record { taken = held; from_stream = b.came; asked = b.asked },
   )
 
-  settled_by : (n : ℕ) (held more : List ℕ) → f.head ≡ length held → f.says q held (lacks n) → length more ≡ n → (v : Verdict V) → f.says q (held ++ more) v → IsSettled (f.says q (held ++ more))
+  settled_by : (n : ℕ) (held more : List ℕ) → f.head q ≡ length held → f.says q held (lacks n) → length more ≡ n → (v : Verdict V) → f.says q (held ++ more) v → IsSettled (f.says q (held ++ more))
   settled_by n held more long ask count (whole v rest) x =
       inl (v, subst (λ (l : List ℕ). f.says q (held ++ more) (whole v l)) (exact f laws q n held more ask count v rest x) x)
   settled_by n held more long ask count (lacks m) x = absurd (laws.last q held more n m (omega (arith, long)) ask count x)
   settled_by n held more long ask count (faulty fault) x = inr (fault, x)
 
   -- what is asked for behind a head is all that lacks
-  pub settled : (n : ℕ) (held new : List ℕ) (before after : Option (List ℕ)) → length held ≡ f.head → f.says q held (lacks n) → Adds held new before after n → IsSettled (f.says q new)
+  pub settled : (n : ℕ) (held new : List ℕ) (before after : Option (List ℕ)) → length held ≡ f.head q → f.says q held (lacks n) → Adds held new before after n → IsSettled (f.says q new)
   settled n held new before after long ask adds =
       let one = laws.one q (held ++ adds.taken) in
       rw adds.added (settled_by n held adds.taken (sym long) ask adds.count one.value one.holds)
@@ -105,9 +105,9 @@ module _ {S V : Type 0} (f : Format S V) (laws : IsLawful f) (q : S) where
       (length part.0, part.2, record { taken = part.0; count = refl; added = refl; from_stream = part.1 }) (cause_behind n held mid old failed e some cause)
 
   -- a head was taken, and then the bytes that it states
-  pub taken_stated : {H : Type 0} (Knows : H → ℕ → List ℕ → Type 0) (known : H) (n : ℕ) (held body : List ℕ) (before mid after : Option (List ℕ)) → length held ≡ f.head
+  pub taken_stated : {H : Type 0} (Knows : H → ℕ → List ℕ → Type 0) (known : H) (n : ℕ) (held body : List ℕ) (before mid after : Option (List ℕ)) → length held ≡ f.head q
       → StatesRest (f.says q) Knows held (Ok (known, n)) → Begins f laws q before mid held → length body ≡ n → Consumes mid after body
-      → TakesStated (f.says q) Knows f.head before after known body
+      → TakesStated (f.says q) Knows (f.head q) before after known body
   unfolding stated_more
   taken_stated Knows known n held body before mid after long stated b count came =
       let adds : Adds held (held ++ body) mid after n = record { taken = body; count = count; added = refl; from_stream = came } in
@@ -116,7 +116,7 @@ module _ {S V : Type 0} (f : Format S V) (laws : IsLawful f) (q : S) where
             let all = begins_more f laws q held (held ++ body) before mid after n b (stated.2 some) adds in
             record {
               bytes = held ++ body;
-              stated = stated_more Knows f.head n known held (held ++ body) mid after long stated.0 adds;
+              stated = stated_more Knows (f.head q) n known held (held ++ body) mid after long stated.0 adds;
               body_is = refl;
               settled = settled f laws q n held (held ++ body) mid after long (stated.2 some) adds;
               asked = all.asked;
@@ -127,7 +127,7 @@ module _ {S V : Type 0} (f : Format S V) (laws : IsLawful f) (q : S) where
             let same : held ≡ held ++ body = sym (append-nil held) ∙ ap (λ (l : List ℕ). held ++ l) (sym nothing) in
             record {
               bytes = held ++ body;
-              stated = stated_more Knows f.head n known held (held ++ body) mid after long stated.0 adds;
+              stated = stated_more Knows (f.head q) n known held (held ++ body) mid after long stated.0 adds;
               body_is = refl;
               settled = subst (λ (l : List ℕ). IsSettled (f.says q l)) same (stated.1 (omega (arith, none)));
               asked = subst (λ (l : List ℕ). IsAskedFor (f.says q) l) same b.asked;

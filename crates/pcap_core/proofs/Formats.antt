@@ -48,17 +48,17 @@ module _ {S V : Type 0} (f : Format S V) (laws : IsLawful f) where
   pub fault_no_text : (q : S) (fault : Fault) (s : List ℕ) → f.says q s (faulty fault) → (v : V) (rest : List ℕ) → f.says q s (whole v rest) → ⊥
   fault_no_text q fault s x v rest y = let e : faulty fault ≡ whole v rest = only q s (faulty fault) (whole v rest) x y in absurd cc
 
-  pub nothing_lacks : (q : S) → f.says q [] (lacks f.head)
-  nothing_lacks q = let e : 0 + f.head ≡ f.head = omega arith in laws.short q [] f.head e laws.some
+  pub nothing_lacks : (q : S) → f.says q [] (lacks (f.head q))
+  nothing_lacks q = let e : 0 + f.head q ≡ f.head q = omega arith in laws.short q [] (f.head q) e (laws.some q)
 
   -- a fault has bytes
   pub fault_some : (q : S) (s : List ℕ) (fault : Fault) → f.says q s (faulty fault) → 0 < length s
-  fault_some q [] fault x = let e : lacks f.head ≡ faulty fault = only q [] (lacks f.head) (faulty fault) (nothing_lacks q) x in absurd cc
+  fault_some q [] fault x = let e : lacks (f.head q) ≡ faulty fault = only q [] (lacks (f.head q)) (faulty fault) (nothing_lacks q) x in absurd cc
   fault_some q (b ∷ s) fault x = omega arith
 
   -- a text is not empty
   pub nothing_no_text : (q : S) (v : V) (rest : List ℕ) → f.says q [] (whole v rest) → ⊥
-  nothing_no_text q v rest x = lacks_no_text q f.head [] (nothing_lacks q) v rest x
+  nothing_no_text q v rest x = lacks_no_text q (f.head q) [] (nothing_lacks q) v rest x
 
   pub shorter : (q : S) (v : V) (s rest : List ℕ) → f.says q s (whole v rest) → length rest < length s
   shorter q v s rest x =
@@ -176,35 +176,35 @@ module _ {S V : Type 0} (f : Format S V) (laws : IsLawful f) where
   nothing_more q (v ∷ more) mid rest front none = absurd (none v front.texts.0 front.texts.1)
 
   -- how many requests are left, from what is said of what is held
-  pub requests_of : List ℕ → Verdict V → ℕ
-  requests_of s (whole v rest) = 0
-  requests_of s (faulty fault) = 0
-  requests_of s (lacks n) = if nat_lt (length s) f.head then 2 else 1
+  pub requests_of : S → List ℕ → Verdict V → ℕ
+  requests_of q s (whole v rest) = 0
+  requests_of q s (faulty fault) = 0
+  requests_of q s (lacks n) = if nat_lt (length s) (f.head q) then 2 else 1
 
   pub requests_left : S → List ℕ → ℕ
-  requests_left q s = requests_of s ((laws.one q s).value)
+  requests_left q s = requests_of q s ((laws.one q s).value)
 
-  said_requests : (q : S) (s : List ℕ) (v : Verdict V) → f.says q s v → requests_left q s ≡ requests_of s v
+  said_requests : (q : S) (s : List ℕ) (v : Verdict V) → f.says q s v → requests_left q s ≡ requests_of q s v
   unfolding requests_left
-  said_requests q s v x = ap (requests_of s) (sym ((laws.one q s).only v x))
+  said_requests q s v x = ap (requests_of q s) (sym ((laws.one q s).only v x))
 
   -- a short head lacks what is missing to a head
-  pub short_asks : (q : S) (s : List ℕ) (n : ℕ) → length s < f.head → f.says q s (lacks n) → length s + n ≡ f.head
+  pub short_asks : (q : S) (s : List ℕ) (n : ℕ) → length s < f.head q → f.says q s (lacks n) → length s + n ≡ f.head q
   short_asks q s n lt ask =
-      let m = f.head - length s in
+      let m = f.head q - length s in
       let there : f.says q s (lacks m) = laws.short q s m (omega (arith, lt)) (omega (arith, lt)) in
       let e : lacks n ≡ lacks m = only q s (lacks n) (lacks m) ask there in
       let is : n ≡ m = cc in
       omega (arith, lt, is)
 
-  requests_after : (q : S) (s : List ℕ) (n : ℕ) → f.says q s (lacks n) → (more : List ℕ) → length more ≡ n → (v : Verdict V) → f.says q (s ++ more) v → requests_of (s ++ more) v < requests_of s (lacks n)
+  requests_after : (q : S) (s : List ℕ) (n : ℕ) → f.says q s (lacks n) → (more : List ℕ) → length more ≡ n → (v : Verdict V) → f.says q (s ++ more) v → requests_of q (s ++ more) v < requests_of q s (lacks n)
   unfolding requests_of
   requests_after q s n ask more count (whole v rest) x = grind (arith, nat_tests)
   requests_after q s n ask more count (faulty fault) x = grind (arith, nat_tests)
   requests_after q s n ask more count (lacks m) x =
-      elim (cases_lt (length s) f.head) [
+      elim (cases_lt (length s) (f.head q)) [
         | inl lt ↦
-            let long : length (s ++ more) ≡ f.head = omega (arith, length-append s more, count, short_asks q s n lt ask) in
+            let long : length (s ++ more) ≡ f.head q = omega (arith, length-append s more, count, short_asks q s n lt ask) in
             grind (arith, nat_tests, long, lt)
         | inr le ↦ absurd (laws.last q s more n m le ask count x)
       ]
@@ -213,15 +213,15 @@ module _ {S V : Type 0} (f : Format S V) (laws : IsLawful f) where
   pub requests_fall : (q : S) (s : List ℕ) (n : ℕ) (more : List ℕ) → f.says q s (lacks n) → length more ≡ n → requests_left q (s ++ more) < requests_left q s
   requests_fall q s n more ask count =
       let o = laws.one q (s ++ more) in
-      let a : requests_left q (s ++ more) ≡ requests_of (s ++ more) o.value = said_requests q (s ++ more) o.value o.holds in
-      let b : requests_left q s ≡ requests_of s (lacks n) = said_requests q s (lacks n) ask in
+      let a : requests_left q (s ++ more) ≡ requests_of q (s ++ more) o.value = said_requests q (s ++ more) o.value o.holds in
+      let b : requests_left q s ≡ requests_of q s (lacks n) = said_requests q s (lacks n) ask in
       rw (a, b) (requests_after q s n ask more count o.value o.holds)
 
-  requests_few : (s : List ℕ) (v : Verdict V) → requests_of s v ≤ 2
+  requests_few : (q : S) (s : List ℕ) (v : Verdict V) → requests_of q s v ≤ 2
   unfolding requests_of
-  requests_few s (whole v rest) = omega arith
-  requests_few s (faulty fault) = omega arith
-  requests_few s (lacks n) = grind (arith, nat_tests)
+  requests_few q s (whole v rest) = omega arith
+  requests_few q s (faulty fault) = omega arith
+  requests_few q s (lacks n) = grind (arith, nat_tests)
 
   asks_within : (q : S) (ns : List ℕ) (s t : List ℕ) → Asks f q ns s t → length ns ≤ requests_left q s
   asks_within q [] s t asked = omega arith
@@ -231,7 +231,7 @@ module _ {S V : Type 0} (f : Format S V) (laws : IsLawful f) where
   -- who adds exactly what is asked for is asked twice at most
   pub asks_twice : (q : S) (ns : List ℕ) (s t : List ℕ) → Asks f q ns s t → length ns ≤ 2
   unfolding requests_left
-  asks_twice q ns s t asked = omega (arith, asks_within q ns s t asked, requests_few s ((laws.one q s).value))
+  asks_twice q ns s t asked = omega (arith, asks_within q ns s t asked, requests_few q s ((laws.one q s).value))
 
   -- and has nothing behind the text, where something was asked
   pub asks_exact : (q : S) (n : ℕ) (ns : List ℕ) (s t : List ℕ) → Asks f q (n ∷ ns) s t → (v : V) (rest : List ℕ) → f.says q t (whole v rest) → rest ≡ []
@@ -252,7 +252,7 @@ module _ {S V : Type 0} (f : Format S V) (laws : IsLawful f) where
           absurd (omega (arith, lt, ap length same.1, length-append after more))
 
   -- behind a head the request is for all the rest of the text
-  pub second_is_all : (q : S) (v : V) (h b : List ℕ) (k : ℕ) → f.head ≤ length h → f.says q (h ++ b) (whole v []) → f.says q h (lacks k) → k ≡ length b
+  pub second_is_all : (q : S) (v : V) (h b : List ℕ) (k : ℕ) → f.head q ≤ length h → f.says q (h ++ b) (whole v []) → f.says q h (lacks k) → k ≡ length b
   second_is_all q v h b k long text ask =
       let fit : k + length {A = ℕ} [] ≤ length b = fits q k h b v [] ask text in
       elim (cases_lt k (length b)) [
@@ -271,20 +271,20 @@ module _ {S V : Type 0} (f : Format S V) (laws : IsLawful f) where
   -- and these requests come
   pub requests_there : (q : S) (v : V) (t : List ℕ) → f.says q t (whole v []) → (ns : List ℕ) × Asks f q ns [] t
   requests_there q v t text =
-      let long : f.head + length {A = ℕ} [] ≤ length t = fits q f.head [] t v [] (nothing_lacks q) text in
-      let h = take f.head t in
-      let b = drop f.head t in
-      let split : t ≡ h ++ b = sym (take-append-drop f.head t) in
-      let count : length h ≡ f.head = omega (arith, long, length-take f.head t) in
+      let long : f.head q + length {A = ℕ} [] ≤ length t = fits q (f.head q) [] t v [] (nothing_lacks q) text in
+      let h = take (f.head q) t in
+      let b = drop (f.head q) t in
+      let split : t ≡ h ++ b = sym (take-append-drop (f.head q) t) in
+      let count : length h ≡ f.head q = omega (arith, long, length-take (f.head q) t) in
       let here : f.says q (h ++ b) (whole v []) = subst (λ (u : List ℕ). f.says q u (whole v [])) split text in
       elim (cases_lt 0 (length b)) [
         | inr le ↦
             let none : b ≡ [] = nil_of_length b (omega (arith, le)) in
-            (f.head ∷ [], (h, nothing_lacks q, count, sym (split ∙ ap (λ (u : List ℕ). h ++ u) none ∙ append-nil h)))
+            (f.head q ∷ [], (h, nothing_lacks q, count, sym (split ∙ ap (λ (u : List ℕ). h ++ u) none ∙ append-nil h)))
         | inl some ↦
             let ask = beginning_asks q h b v [] here some in
             let all : ask.0 ≡ length b = second_is_all q v h b ask.0 (omega (arith, count)) here ask.1 in
-            (f.head ∷ ask.0 ∷ [], (h, nothing_lacks q, count, (b, ask.1, sym all, sym split)))
+            (f.head q ∷ ask.0 ∷ [], (h, nothing_lacks q, count, (b, ask.1, sym all, sym split)))
       ]
 
 -- ---- what needs no law
@@ -316,8 +316,8 @@ front_extends f g laws e q vs ws s a b x y =
     let on = front_goes_on g laws q vs ws s a b (texts_extend f g e q vs s a x.texts) y in
     (on.0, on.1)
 
--- a format that says the same with a head of the same length is lawful too
-pub lawful_moved : {S V : Type 0} (f g : Format S V) → f.head ≡ g.head → ((q : S) (s : List ℕ) (v : Verdict V) → f.says q s v → g.says q s v)
+-- a format that says the same with heads of the same lengths is lawful too
+pub lawful_moved : {S V : Type 0} (f g : Format S V) → ((q : S) → f.head q ≡ g.head q) → ((q : S) (s : List ℕ) (v : Verdict V) → f.says q s v → g.says q s v)
     → ((q : S) (s : List ℕ) (v : Verdict V) → g.says q s v → f.says q s v) → IsLawful f → IsLawful g
 lawful_moved f g head to from laws = record {
   one = λ q s. let o = laws.one q s in record { value = o.value; holds = to q s o.value o.holds; only = λ other x. o.only other (from q s other x) };
@@ -327,8 +327,8 @@ lawful_moved f g head to from laws = record {
     request = λ s more n fewer x. to q (s ++ more) (lacks (n - length more)) ((laws.stable q).request s more n fewer (from q s (lacks n) x));
   };
   own = λ q s rest v x. let o = laws.own q s rest v (from q s (whole v rest) x) in (o.0, o.1, to q o.0 (whole v []) o.2);
-  some = omega (arith, head, laws.some);
+  some = λ q. omega (arith, head q, laws.some q);
   asks = λ q s n x. laws.asks q s n (from q s (lacks n) x);
-  short = λ q s n sum some. to q s (lacks n) (laws.short q s n (sum ∙ sym head) some);
-  last = λ q s more n m long x count y. laws.last q s more n m (omega (arith, head, long)) (from q s (lacks n) x) count (from q (s ++ more) (lacks m) y);
+  short = λ q s n sum some. to q s (lacks n) (laws.short q s n (sum ∙ sym (head q)) some);
+  last = λ q s more n m long x count y. laws.last q s more n m (omega (arith, head q, long)) (from q s (lacks n) x) count (from q (s ++ more) (lacks m) y);
 }

@@ -1,4 +1,4 @@
--- Formats with a head of a fixed length are lawful.
+-- Formats with a head are lawful.
 use Rattle.std.proofs.Common.{◌≡◌, ℕ, ◌+◌, ◌-◌, ◌<◌, ◌≤◌, List, [], ◌++◌, length, take, drop, refl, sym, ap, subst, ◌∙◌, arith, append_assoc, append-nil, length-append, inl, inr}
 use Rattle.std.proofs.lemmas.List.{length-take, take-append-drop}
 use Rattle.std.proofs.lemmas.Bool.{cases_lt}
@@ -31,13 +31,13 @@ good_same x y e = cc
 
 module _ {S X V : Type 0} (g : Headed S X V) (laws : IsHeaded g) (q : S) where
   head_same : (h k : HeadReading X) (s a c : List ℕ) → HasHead g q h s a → HasHead g q k s c → (h ≡ k) × (a ≡ c)
-  head_same h k s a c = piece_same g.head (g.reads q) (laws.heads q) h k s a c
+  head_same h k s a c = piece_same (g.head q) (g.reads q) (laws.heads q) h k s a c
 
   body_same : (x : X) (m l : HeadReading V) (s a c : List ℕ) → HasBody g q x m s a → HasBody g q x l s c → (m ≡ l) × (a ≡ c)
   body_same x m l s a c = piece_same (g.size x) (g.means q x) (laws.bodies q x) m l s a c
 
-  head_length : (h : HeadReading X) (s a : List ℕ) → HasHead g q h s a → length s ≡ g.head + length a
-  head_length h s a p = piece_length g.head (λ b. g.reads q b h) s a p
+  head_length : (h : HeadReading X) (s a : List ℕ) → HasHead g q h s a → length s ≡ g.head q + length a
+  head_length h s a p = piece_length (g.head q) (λ b. g.reads q b h) s a p
 
   body_length : (x : X) (m : HeadReading V) (s a : List ℕ) → HasBody g q x m s a → length s ≡ g.size x + length a
   body_length x m s a p = piece_length (g.size x) (λ b. g.means q x b m) s a p
@@ -69,12 +69,12 @@ module _ {S X V : Type 0} (g : Headed S X V) (laws : IsHeaded g) (q : S) where
       ]
 
   -- ---- the whole
-  short_length : (s : List ℕ) (v : Verdict V) → ShortSays g s v → length s < g.head
+  short_length : (s : List ℕ) (v : Verdict V) → ShortSays g q s v → length s < g.head q
   short_length s (lacks n) p = omega (arith, p.0, p.1)
   short_length s (whole v a) p = absurd p
   short_length s (faulty f) p = absurd p
 
-  short_only : (s : List ℕ) (v w : Verdict V) → ShortSays g s v → ShortSays g s w → v ≡ w
+  short_only : (s : List ℕ) (v w : Verdict V) → ShortSays g q s v → ShortSays g q s w → v ≡ w
   short_only s (lacks n) (lacks m) p r = let e : n ≡ m = omega (arith, p.1, r.1) in rw e refl
   short_only s (lacks n) (whole w c) p r = absurd r
   short_only s (lacks n) (faulty f) p r = absurd r
@@ -102,7 +102,7 @@ module _ {S X V : Type 0} (g : Headed S X V) (laws : IsHeaded g) (q : S) where
       let no : bad a.0 ≡ good x = e.0 in
       absurd cc
 
-  bad_long : (s : List ℕ) (v : Verdict V) → BadSays g q s v → g.head ≤ length s
+  bad_long : (s : List ℕ) (v : Verdict V) → BadSays g q s v → g.head q ≤ length s
   bad_long s v p = let a = bad_head s v p in omega (arith, head_length (bad a.0) s a.1 a.3)
 
   headed_only : (s : List ℕ) (v w : Verdict V) → HeadedSays g q s v → HeadedSays g q s w → v ≡ w
@@ -121,7 +121,7 @@ module _ {S X V : Type 0} (g : Headed S X V) (laws : IsHeaded g) (q : S) where
       let two : BehindSays g q r.0 r.1 v = subst (λ (t : List ℕ). BehindSays g q r.0 t v) e.1 one in
       behind_only r.0 r.1 v w two r.3
 
-  head_read : (s bytes rest : List ℕ) → s ≡ bytes ++ rest → length bytes ≡ g.head → (h : HeadReading X) → g.reads q bytes h → (v : Verdict V) × HeadedSays g q s v
+  head_read : (s bytes rest : List ℕ) → s ≡ bytes ++ rest → length bytes ≡ g.head q → (h : HeadReading X) → g.reads q bytes h → (v : Verdict V) × HeadedSays g q s v
   head_read s bytes rest text count (bad f) reads = (faulty f, inr (inl (rest, record { bytes = bytes; text = text; length_is = count; holds = reads })))
   head_read s bytes rest text count (good x) reads =
       let more = behind_there x rest in
@@ -129,10 +129,10 @@ module _ {S X V : Type 0} (g : Headed S X V) (laws : IsHeaded g) (q : S) where
 
   headed_there : (s : List ℕ) → (v : Verdict V) × HeadedSays g q s v
   headed_there s =
-      elim (cases_lt (length s) g.head) [
-        | inl short ↦ (lacks (g.head - length s), inl (omega (arith, short), omega (arith, short)))
+      elim (cases_lt (length s) (g.head q)) [
+        | inl short ↦ (lacks (g.head q - length s), inl (omega (arith, short), omega (arith, short)))
         | inr long ↦
-            let p = piece_there g.head s long in
+            let p = piece_there (g.head q) s long in
             let o = laws.heads q p.0 p.3 in
             head_read s p.0 p.1 p.2 p.3 o.value o.holds
       ]
@@ -141,7 +141,7 @@ module _ {S X V : Type 0} (g : Headed S X V) (laws : IsHeaded g) (q : S) where
   headed_one s = let v = headed_there s in record { value = v.0; holds = v.1; only = λ w h. headed_only s w v.0 h v.1 }
 
   head_more : (h : HeadReading X) (s a more : List ℕ) → HasHead g q h s a → HasHead g q h (s ++ more) (a ++ more)
-  head_more h s a more p = piece_more g.head (λ b. g.reads q b h) s a more p
+  head_more h s a more p = piece_more (g.head q) (λ b. g.reads q b h) s a more p
 
   body_more : (x : X) (m : HeadReading V) (s a more : List ℕ) → HasBody g q x m s a → HasBody g q x m (s ++ more) (a ++ more)
   body_more x m s a more p = piece_more (g.size x) (λ b. g.means q x b m) s a more p
@@ -183,7 +183,7 @@ module _ {S X V : Type 0} (g : Headed S X V) (laws : IsHeaded g) (q : S) where
   asks_some s n (inr (inl p)) = absurd p
   asks_some s n (inr (inr p)) = p.3.0
 
-  asks_last : (s more : List ℕ) (n m : ℕ) → g.head ≤ length s → HeadedSays g q s (lacks n) → length more ≡ n → HeadedSays g q (s ++ more) (lacks m) → ⊥
+  asks_last : (s more : List ℕ) (n m : ℕ) → g.head q ≤ length s → HeadedSays g q s (lacks n) → length more ≡ n → HeadedSays g q (s ++ more) (lacks m) → ⊥
   asks_last s more n m long (inl p) count r = omega (arith, long, p.0, p.1)
   asks_last s more n m long (inr (inl p)) count r = absurd p
   asks_last s more n m long (inr (inr p)) count (inl r) = omega (arith, long, r.0, r.1, length-append s more)

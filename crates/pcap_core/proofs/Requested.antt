@@ -114,18 +114,18 @@ module _ {S V : Type 0} (f : Format S V) (laws : IsLawful f) (q : S) where
       let same : f.says q s (lacks (n - length (drop m s))) = subst (λ (t : List ℕ). f.says q t (lacks (n - length (drop m s)))) (take-append-drop m s) there in
       subst (λ (k : ℕ). f.says q s (lacks (n - k))) count same
 
-  first_is : (n : ℕ) → f.says q [] (lacks n) → n ≡ f.head
-  first_is n ask = let sum : length {A = ℕ} [] + n ≡ f.head = short_asks f laws q [] n laws.some ask in omega (arith, sum)
+  first_is : (n : ℕ) → f.says q [] (lacks n) → n ≡ f.head q
+  first_is n ask = let sum : length {A = ℕ} [] + n ≡ f.head q = short_asks f laws q [] n (laws.some q) ask in omega (arith, sum)
 
   -- who is told an item or a fault has made the requests for it
   ends_told : (ns : List ℕ) (s held left : List ℕ) → s ≡ held ++ left → Asks f q ns [] held → ((n : ℕ) → f.says q held (lacks n) → ⊥) → RequestsAt f q s ns
-  ends_told [] s held left text asked none = absurd (none f.head (subst (λ (t : List ℕ). f.says q t (lacks f.head)) asked (nothing_lacks f laws q)))
+  ends_told [] s held left text asked none = absurd (none (f.head q) (subst (λ (t : List ℕ). f.says q t (lacks (f.head q))) asked (nothing_lacks f laws q)))
   ends_told (n ∷ []) s held left text asked none =
-      let is : n ≡ f.head = first_is n asked.1 in
+      let is : n ≡ f.head q = first_is n asked.1 in
       let all : asked.0 ≡ held = asked.3 in
       head_alone held left text (omega (arith, is, asked.2, ap length all)) none (ap (λ (k : ℕ). k ∷ []) is)
   ends_told (n ∷ k ∷ []) s held left text asked none =
-      let is : n ≡ f.head = first_is n asked.1 in
+      let is : n ≡ f.head q = first_is n asked.1 in
       let more = asked.3 in
       let all : asked.0 ++ more.0 ≡ held = more.3 in
       let there : s ≡ asked.0 ++ (more.0 ++ left) = text ∙ ap (λ (t : List ℕ). t ++ left) (sym all) ∙ append_assoc asked.0 more.0 left in
@@ -136,14 +136,14 @@ module _ {S V : Type 0} (f : Format S V) (laws : IsLawful f) (q : S) where
   ends_short : (ns : List ℕ) (n : ℕ) (s held left : List ℕ) → s ≡ held ++ left → Asks f q ns [] held → f.says q held (lacks n) → length left < n → RequestsAt f q s (ns ++ n ∷ [])
   ends_short [] n s held left text asked ask few =
       let none : [] ≡ held = asked in
-      let is : n ≡ f.head = first_is n (subst (λ (t : List ℕ). f.says q t (lacks n)) (sym none) ask) in
+      let is : n ≡ f.head q = first_is n (subst (λ (t : List ℕ). f.says q t (lacks n)) (sym none) ask) in
       head_short (omega (arith, is, few, ap length text, length-append held left, ap length none)) (ap (λ (k : ℕ). k ∷ []) is)
   ends_short (k ∷ []) n s held left text asked ask few =
-      let is : k ≡ f.head = first_is k asked.1 in
+      let is : k ≡ f.head q = first_is k asked.1 in
       let all : asked.0 ≡ held = asked.3 in
       head_first held left n text (omega (arith, is, asked.2, ap length all)) ask (ap (λ (i : ℕ). i ∷ n ∷ []) is)
   ends_short (k ∷ m ∷ []) n s held left text asked ask few =
-      let is : k ≡ f.head = first_is k asked.1 in
+      let is : k ≡ f.head q = first_is k asked.1 in
       let more = asked.3 in
       let all : asked.0 ++ more.0 ≡ held = more.3 in
       absurd (laws.last q asked.0 more.0 m n (omega (arith, is, asked.2)) more.1 more.2 (subst (λ (t : List ℕ). f.says q t (lacks n)) (sym all) ask))
@@ -165,8 +165,8 @@ texts_long f laws q (v ∷ vs) s rest texts =
 -- ---- the requests are these and no others
 
 module _ {S V : Type 0} (f : Format S V) (laws : IsLawful f) (q : S) where
-  alone_first : (s bytes more other behind : List ℕ) (n : ℕ) → s ≡ bytes ++ more → length bytes ≡ f.head → ((k : ℕ) → f.says q bytes (lacks k) → ⊥)
-      → s ≡ other ++ behind → length other ≡ f.head → f.says q other (lacks n) → ⊥
+  alone_first : (s bytes more other behind : List ℕ) (n : ℕ) → s ≡ bytes ++ more → length bytes ≡ f.head q → ((k : ℕ) → f.says q bytes (lacks k) → ⊥)
+      → s ≡ other ++ behind → length other ≡ f.head q → f.says q other (lacks n) → ⊥
   alone_first s bytes more other behind n text count none text2 count2 ask =
       let e = split_same other behind bytes more (count2 ∙ sym count) (sym text2 ∙ text) in
       none n (subst (λ (t : List ℕ). f.says q t (lacks n)) e.0 ask)
@@ -187,30 +187,30 @@ module _ {S V : Type 0} (f : Format S V) (laws : IsLawful f) (q : S) where
       let here : f.says q bytes2 (lacks n) = subst (λ (t : List ℕ). f.says q t (lacks n)) e.0 ask in
       let one : lacks n ≡ lacks m = only f laws q bytes2 (lacks n) (lacks m) here ask2 in
       let same : n ≡ m = cc in
-      is ∙ ap (λ (k : ℕ). f.head ∷ k ∷ []) same ∙ sym is2
+      is ∙ ap (λ (k : ℕ). f.head q ∷ k ∷ []) same ∙ sym is2
 
-  pub item_asks : (s ns : List ℕ) (v : V) (t after : List ℕ) → s ≡ t ++ after → f.says q t (whole v []) → RequestsAt f q s ns → HeadThenRest f.head (length t) ns
+  pub item_asks : (s ns : List ℕ) (v : V) (t after : List ℕ) → s ≡ t ++ after → f.says q t (whole v []) → RequestsAt f q s ns → HeadThenRest (f.head q) (length t) ns
   item_asks s ns v t after own text (head_short lt is) =
-      let long : f.head + length {A = ℕ} [] ≤ length t = fits f laws q f.head [] t v [] (nothing_lacks f laws q) text in
+      let long : f.head q + length {A = ℕ} [] ≤ length t = fits f laws q (f.head q) [] t v [] (nothing_lacks f laws q) text in
       absurd (omega (arith, lt, long, ap length own, length-append t after))
   item_asks s ns v t after own text (head_alone bytes more cut count none is) =
-      let long : f.head + length {A = ℕ} [] ≤ length t = fits f laws q f.head [] t v [] (nothing_lacks f laws q) text in
+      let long : f.head q + length {A = ℕ} [] ≤ length t = fits f laws q (f.head q) [] t v [] (nothing_lacks f laws q) text in
       let w = beginning bytes more t after (sym cut ∙ own) (omega (arith, long, count)) in
       let there : f.says q (bytes ++ w.0) (whole v []) = subst (λ (u : List ℕ). f.says q u (whole v [])) w.1 text in
-      let all : length t ≡ f.head = elim (cases_lt 0 (length w.0)) [
+      let all : length t ≡ f.head q = elim (cases_lt 0 (length w.0)) [
         | inl some ↦ let ask = beginning_asks f laws q bytes w.0 v [] there some in absurd (none ask.0 ask.1)
         | inr le ↦ omega (arith, le, count, ap length w.1, length-append bytes w.0)
       ] in
       inl (all, is)
   item_asks s ns v t after own text (head_first bytes more n cut count ask is) =
-      let long : f.head + length {A = ℕ} [] ≤ length t = fits f laws q f.head [] t v [] (nothing_lacks f laws q) text in
+      let long : f.head q + length {A = ℕ} [] ≤ length t = fits f laws q (f.head q) [] t v [] (nothing_lacks f laws q) text in
       let w = beginning bytes more t after (sym cut ∙ own) (omega (arith, long, count)) in
       let there : f.says q (bytes ++ w.0) (whole v []) = subst (λ (u : List ℕ). f.says q u (whole v [])) w.1 text in
       let all : n ≡ length w.0 = second_is_all f laws q v bytes w.0 n (omega (arith, count)) there ask in
       inr (n, laws.asks q bytes n ask, omega (arith, all, count, ap length w.1, length-append bytes w.0), is)
 
   -- where an item stands, its requests are for its text, and are what asking gives
-  pub requests_asked : (s rest ns : List ℕ) (v : V) → f.says q s (whole v rest) → RequestsAt f q s ns → (t : List ℕ) × (s ≡ t ++ rest) × HeadThenRest f.head (length t) ns × Asks f q ns [] t
+  pub requests_asked : (s rest ns : List ℕ) (v : V) → f.says q s (whole v rest) → RequestsAt f q s ns → (t : List ℕ) × (s ≡ t ++ rest) × HeadThenRest (f.head q) (length t) ns × Asks f q ns [] t
   requests_asked s rest ns v text asked =
       let o = laws.own q s rest v text in
       let there = requests_there f laws q v o.0 o.2 in

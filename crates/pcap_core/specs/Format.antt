@@ -3,14 +3,14 @@ use Rattle.std.specs.Prelude.{◌≡◌, ◌<◌, ◌≤◌, ◌+◌, ℕ, List,
 use Rattle.pcap_core.specs.Answer.{Verdict, whole, lacks}
 use Rattle.pcap_core.specs.Laws.{ExactlyOne, IsStable}
 
--- a format of items: what is said of bytes, where an item leads, and how long its head is
+-- a format of items: what is said of bytes, where an item leads, and how long its head is under a state
 pub record Format (S V : Type 0) : Type 1 where
   -- what is said of bytes where an item is asked for under a state
   pub says : S → List ℕ → Verdict V → Type 0
   -- the state behind an item
   pub goes : S → V → S
-  -- how many bytes say how long an item is
-  pub head : ℕ
+  -- how many bytes say how long an item is, under a state
+  pub head : S → ℕ
 
 module _ {S V : Type 0} (f : Format S V) where
   -- s is the texts of these items one after the other, and then rest
@@ -41,10 +41,10 @@ module _ {S V : Type 0} (f : Format S V) where
     -- a text is its own: the same bytes without the rest are that text
     pub own : (q : S) (s rest : List ℕ) (v : V) → f.says q s (whole v rest) → (t : List ℕ) × (s ≡ t ++ rest) × f.says q t (whole v [])
     -- a request is for some bytes, for those that lack of a head where that is short, and behind a head it is the last
-    pub some : 0 < f.head
+    pub some : (q : S) → 0 < f.head q
     pub asks : (q : S) (s : List ℕ) (n : ℕ) → f.says q s (lacks n) → 0 < n
-    pub short : (q : S) (s : List ℕ) (n : ℕ) → length s + n ≡ f.head → 0 < n → f.says q s (lacks n)
-    pub last : (q : S) (s more : List ℕ) (n m : ℕ) → f.head ≤ length s → f.says q s (lacks n) → length more ≡ n → f.says q (s ++ more) (lacks m) → ⊥
+    pub short : (q : S) (s : List ℕ) (n : ℕ) → length s + n ≡ f.head q → 0 < n → f.says q s (lacks n)
+    pub last : (q : S) (s more : List ℕ) (n m : ℕ) → f.head q ≤ length s → f.says q s (lacks n) → length more ≡ n → f.says q (s ++ more) (lacks m) → ⊥
 
 -- each text of f is one of g, and leads as far
 pub record Extends {S V : Type 0} (f g : Format S V) : Type 0 where

@@ -7,13 +7,13 @@ use Rattle.pcap_core.specs.Format.{Format, state_after}
 -- the requests for one item where s stands and none of it was shown: for a head, and then for the bytes that a head lacks, where it lacks some
 pub data RequestsAt {S V : Type 0} (f : Format S V) (q : S) (s ns : List ℕ) : Type 0 where
   -- s is shorter than a head
-  head_short : length s < f.head → ns ≡ f.head ∷ [] → RequestsAt f q s ns
+  head_short : length s < f.head q → ns ≡ f.head q ∷ [] → RequestsAt f q s ns
   -- the head of s lacks nothing: it is a whole item, or it is refused
-  head_alone : (bytes more : List ℕ) → s ≡ bytes ++ more → length bytes ≡ f.head → ((n : ℕ) → f.says q bytes (lacks n) → ⊥)
-      → ns ≡ f.head ∷ [] → RequestsAt f q s ns
+  head_alone : (bytes more : List ℕ) → s ≡ bytes ++ more → length bytes ≡ f.head q → ((n : ℕ) → f.says q bytes (lacks n) → ⊥)
+      → ns ≡ f.head q ∷ [] → RequestsAt f q s ns
   -- the head of s lacks n bytes
-  head_first : (bytes more : List ℕ) (n : ℕ) → s ≡ bytes ++ more → length bytes ≡ f.head → f.says q bytes (lacks n)
-      → ns ≡ f.head ∷ n ∷ [] → RequestsAt f q s ns
+  head_first : (bytes more : List ℕ) (n : ℕ) → s ≡ bytes ++ more → length bytes ≡ f.head q → f.says q bytes (lacks n)
+      → ns ≡ f.head q ∷ n ∷ [] → RequestsAt f q s ns
 
 module _ {S V : Type 0} (f : Format S V) where
   -- s is the texts of these items and then rest, and ns are the requests for the items, one after the other

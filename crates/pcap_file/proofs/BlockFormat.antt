@@ -196,7 +196,7 @@ blocks_lawful = record {
     request = λ s more n fewer x. (frames_lawful.stable (order_at q)).request s more n fewer x;
   };
   own = λ q s rest item x. let o = frames_lawful.own (order_at q) s rest item.block x.frame in (o.0, o.1, record { frame = o.2; means = x.means });
-  some = omega arith;
+  some = λ q. omega arith;
   asks = λ q s n x. frames_lawful.asks (order_at q) s n x;
   short = λ q s n sum some. frames_lawful.short (order_at q) s n sum some;
   last = λ q s more n m long x count y. frames_lawful.last (order_at q) s more n m long x count y;

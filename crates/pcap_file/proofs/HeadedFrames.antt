@@ -102,7 +102,7 @@ rest_there x m =
 
 headed_frames : Headed Endianness Head Framed
 headed_frames = record {
-  head = 12;
+  head = λ e. 12;
   reads = HeadReads;
   size = λ x. x.len - 12;
   means = λ e. RestReads;
@@ -113,7 +113,7 @@ headed_frames_lawful : IsLawful (headed headed_frames)
 unfolding headed_frames HeadReads
 headed_frames_lawful =
     let is : IsHeaded headed_frames = record {
-      some = omega arith;
+      some = λ q. omega arith;
       heads = λ e b count. order_one (own_order e (number_in e 4 (take 4 b)) (big_number 4 (drop 4 (drop 4 b)))) (number_in e 4 (take 4 b)) (take 4 (drop 4 b)) (drop 4 (drop 4 b));
       bodies = λ e x m count. let there = rest_there x m in record { value = there.0; holds = there.1; only = λ w k. rest_only x m w there.0 k there.1 };
     } in
@@ -409,7 +409,7 @@ module _ (e : Endianness) where
 
 pub frames_lawful : IsLawful frame_format
 unfolding frame_format headed_frames
-frames_lawful = lawful_moved (headed headed_frames) frame_format refl (λ e s v. frame_from e s v) (λ e s v. frame_to e s v) headed_frames_lawful
+frames_lawful = lawful_moved (headed headed_frames) frame_format (λ e. refl) (λ e s v. frame_from e s v) (λ e s v. frame_to e s v) headed_frames_lawful
 
 pub frame_one : (e : Endianness) (s : List ℕ) → ExactlyOne (FrameSays e s)
 unfolding frame_format

@@ -15,9 +15,9 @@ use Rattle.pcap_file.specs.Frames.{Framed, FrameHeadText, IsGoodLength, BreaksHe
 use Rattle.pcap_file.specs.StatedFrames.{KnowsFrame, TailOf, TailDiffers}
 use Rattle.pcap_file.proofs.Frames.{head_long}
 
-pub frame_head : frame_format.head ≡ 12
+pub frame_head : (e : Endianness) → frame_format.head e ≡ 12
 unfolding frame_format
-frame_head = refl
+frame_head e = refl
 
 number_more : (order : ℕ → List ℕ → ℕ) (w n : ℕ) (s a more : List ℕ) → Number order w n s a → Number order w n (s ++ more) (a ++ more)
 number_more order w n s a more p = record { bytes = p.bytes; text = ap (λ t. t ++ more) p.text ∙ append_assoc p.bytes a more; length_is = p.length_is; value = p.value }
@@ -42,15 +42,15 @@ head_drop e number len own s after t =
     ap (drop 8) text ∙ drop_at (a ++ b) after 8 (length-append a b ∙ omega (arith, t.number_is.length_is, t.len_is.length_is))
 
 -- the head of all bytes, from that of the first twelve
-pub head_of_all : (e : Endianness) (head : FrameHead) (s : List ℕ) → Stated (KnowsFrame e) frame_format.head head s → FrameHeadText e head.number head.endianness head.len s (drop 8 s)
+pub head_of_all : (e : Endianness) (head : FrameHead) (s : List ℕ) → Stated (KnowsFrame e) (frame_format.head e) head s → FrameHeadText e head.number head.endianness head.len s (drop 8 s)
 head_of_all e head s t =
     let k = t.knows in
     let all : FrameHeadText e head.number head.endianness head.len (t.front ++ t.body) (k.after ++ t.body) = head_more e head.number head.len head.endianness t.front k.after t.body k.text in
     let here : FrameHeadText e head.number head.endianness head.len s (k.after ++ t.body) = subst (λ (l : List ℕ). FrameHeadText e head.number head.endianness head.len l (k.after ++ t.body)) (sym t.split) all in
     subst (λ (l : List ℕ). FrameHeadText e head.number head.endianness head.len s l) (sym (head_drop e head.number head.len head.endianness s (k.after ++ t.body) here)) here
 
-pub stated_length : (e : Endianness) (head : FrameHead) (s : List ℕ) → Stated (KnowsFrame e) frame_format.head head s → length s ≡ head.len
-stated_length e head s t = omega (arith, ap length t.split, length-append t.front t.body, t.length_is, frame_head, t.knows.follows)
+pub stated_length : (e : Endianness) (head : FrameHead) (s : List ℕ) → Stated (KnowsFrame e) (frame_format.head e) head s → length s ≡ head.len
+stated_length e head s t = omega (arith, ap length t.split, length-append t.front t.body, t.length_is, frame_head e, t.knows.follows)
 
 module _ (e : Endianness) (head : FrameHead) (s after : List ℕ) (text : FrameHeadText e head.number head.endianness head.len s after) (good : IsGoodLength head.len) where
   -- what follows a head makes it a block

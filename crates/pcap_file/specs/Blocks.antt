@@ -42,4 +42,4 @@ pub record MayGrow (q : State) (s : List ℕ) : Type 0 where
 
 -- blocks, the first of which is a section header
 unfoldable pub block_format : Format State Item
-block_format = record { says = BlockSays; goes = λ q item. item.after; head = 12 }
+block_format = record { says = BlockSays; goes = λ q item. item.after; head = λ q. 12 }

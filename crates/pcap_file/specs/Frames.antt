@@ -127,4 +127,4 @@ FrameSays e s = Says (λ b rest. FrameText e b s rest) (FrameLacks e s) (FrameFa
 
 -- blocks in their frames, in this order where they are no sections
 unfoldable pub frame_format : Format Endianness Framed
-frame_format = record { says = FrameSays; goes = λ e b. e; head = 12 }
+frame_format = record { says = FrameSays; goes = λ e b. e; head = λ e. 12 }

@@ -42,4 +42,4 @@ pub record MarkedText (q : State) (item : Item) (s rest : List ℕ) : Type 0 whe
 
 -- such blocks; for a front only their texts count
 unfoldable pub marked_format : Format State Item
-marked_format = record { says = λ q s. Says (λ item rest. MarkedText q item s rest) (FrameLacks (order_at q) s) (FrameFault (order_at q) s); goes = λ q item. item.after; head = 12 }
+marked_format = record { says = λ q s. Says (λ item rest. MarkedText q item s rest) (FrameLacks (order_at q) s) (FrameFault (order_at q) s); goes = λ q item. item.after; head = λ q. 12 }

@@ -73,7 +73,7 @@ data_one r head b =
 headed_as_is_lawful : (limit : ℕ) (order : Order) (r : TsResolution) → IsLawful (headed (headed_as_is limit order r))
 headed_as_is_lawful limit order r =
     let is : IsHeaded (headed_as_is limit order r) = record {
-      some = omega arith;
+      some = λ q. omega arith;
       heads = λ q b count. reads_one limit order b count;
       bodies = λ q head b count. data_one r head b;
     } in
@@ -128,7 +128,7 @@ module _ (limit : ℕ) (order : Order) (r : TsResolution) where
 pub as_is_lawful : (limit : ℕ) (order : Order) (r : TsResolution) → IsLawful (as_is_format limit order r)
 unfolding as_is_format
 as_is_lawful limit order r =
-    lawful_moved (headed (headed_as_is limit order r)) (as_is_format limit order r) refl (λ q s v. as_is_from limit order r s v) (λ q s v. as_is_to limit order r s v)
+    lawful_moved (headed (headed_as_is limit order r)) (as_is_format limit order r) (λ q. refl) (λ q s v. as_is_from limit order r s v) (λ q s v. as_is_to limit order r s v)
     (headed_as_is_lawful limit order r)
 
 pub as_is_one : (limit : ℕ) (order : Order) (r : TsResolution) (s : List ℕ) → ExactlyOne (AsIsSays limit order r s)

@@ -30,7 +30,7 @@ run_within limit before now out out_now most copied run = elim run [ inl failed 
 
 -- what was filled with is the next packet, or there is none
 pub packet_held : (limit : ℕ) (header : PcapHeader) (before after : Option (List ℕ)) (held : List ℕ) (failed : Bool) (found : Option HeadAsIs)
-    → FillsHeaded ((as_is_under limit header).says tt) (KnowsAsIs limit header) (as_is_under limit header).head before after held failed (Ok found)
+    → FillsHeaded ((as_is_under limit header).says tt) (KnowsAsIs limit header) ((as_is_under limit header).head tt) before after held failed (Ok found)
     → HoldsNext (as_is_under limit header) tt tt before after held failed (Ok (is_some found))
 unfolding as_is_format
 packet_held limit header before after held failed (Some head) x = (x.0, record { item = held_as_is held head; text = held_stands limit header head held x.1; leads = refl }, x.4)

@@ -22,7 +22,7 @@ module _ (limit : ℕ) (header : PcapHeader) where
   pub under_lawful : IsLawful (as_is_under limit header)
   under_lawful = as_is_lawful (raised limit) (number_in (order_of header.magic_number)) (resolution_of header.magic_number)
 
-  pub under_head : (as_is_under limit header).head ≡ 16
+  pub under_head : (as_is_under limit header).head tt ≡ 16
   unfolding as_is_format
   under_head = refl
 
@@ -63,7 +63,7 @@ module _ (limit : ℕ) (header : PcapHeader) where
   )
 
   -- the packet that held bytes show
-  pub held_stands : (head : HeadAsIs) (s : List ℕ) → Stated (KnowsAsIs limit header) (as_is_under limit header).head head s → (as_is_under limit header).says tt s (whole (held_as_is s head) [])
+  pub held_stands : (head : HeadAsIs) (s : List ℕ) → Stated (KnowsAsIs limit header) ((as_is_under limit header).head tt) head s → (as_is_under limit header).says tt s (whole (held_as_is s head) [])
   held_stands head s t =
       let long : length t.front ≡ 16 = t.length_is ∙ under_head in
       let back : drop 16 s ≡ t.body = ap (drop 16) t.split ∙ drop_at t.front t.body 16 long in
@@ -71,7 +71,7 @@ module _ (limit : ℕ) (header : PcapHeader) where
 
   -- what was filled with was taken
   pub as_is_held : (before after : Option (List ℕ)) (held : List ℕ) (failed : Bool) (result : Result (Option HeadAsIs) PcapError)
-      → FillsHeaded ((as_is_under limit header).says tt) (KnowsAsIs limit header) (as_is_under limit header).head before after held failed result
+      → FillsHeaded ((as_is_under limit header).says tt) (KnowsAsIs limit header) ((as_is_under limit header).head tt) before after held failed result
       → Pulls ((as_is_under limit header).says tt) (held_as_is held) before after failed result
   as_is_held before after held failed (Ok (Some head)) x = (x.0, (held, held_stands head held x.1, x.4))
   as_is_held before after held failed (Ok None) x = (x.0, x.2, x.3)

@@ -113,7 +113,7 @@ AsIsSays limit order r s = Says (λ packet rest. AsIsText limit order r packet s
 
 -- the format of packets as they stand
 unfoldable pub as_is_format : ℕ → Order → TsResolution → Format (Unit {0}) AsIs
-as_is_format limit order r = record { says = λ q. AsIsSays limit order r; goes = λ q packet. q; head = 16 }
+as_is_format limit order r = record { says = λ q. AsIsSays limit order r; goes = λ q packet. q; head = λ q. 16 }
 
 -- ---- the same as a head and what follows it
 
@@ -130,7 +130,7 @@ DataReads r head b (bad fault) = ⊥
 -- packets as they stand, as a format with a head
 abbrev pub headed_as_is : ℕ → Order → TsResolution → Headed (Unit {0}) Head AsIs
 headed_as_is limit order r = record {
-  head = 16;
+  head = λ q. 16;
   reads = λ q. HeadReads limit order;
   size = λ head. head.included;
   means = λ q. DataReads r;

@@ -28,7 +28,7 @@ pub record Setting : Type 0 where
 
 -- packets as they stand behind any header and under any limit, which are the state
 abbrev pub any_as_is : Format Setting AsIs
-any_as_is = record { says = λ setting. (as_is_under setting.limit setting.header).says tt; goes = λ setting packet. setting; head = 16 }
+any_as_is = record { says = λ setting. (as_is_under setting.limit setting.header).says tt; goes = λ setting packet. setting; head = λ setting. 16 }
 
 -- what a parser is set to
 abbrev pub setting_of : ParserAsIs → Setting

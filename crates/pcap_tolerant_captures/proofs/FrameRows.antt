@@ -15,7 +15,7 @@ use Rattle.pcap_core.proofs.Formats.{lawful_moved, whole_same}
 
 laws : IsLawful frames_in_a_row
 unfolding frames_in_a_row frame_format
-laws = lawful_moved frame_format frames_in_a_row refl (λ e s v x. x) (λ e s v x. x) frames_lawful
+laws = lawful_moved frame_format frames_in_a_row (λ e. refl) (λ e s v x. x) (λ e s v x. x) frames_lawful
 
 -- a row of one frame
 one_row : (e : Endianness) (s : List ℕ) (b : Framed) (rest : List ℕ) → FrameText e b s rest → HasRoom b → FrameRow e 1 s

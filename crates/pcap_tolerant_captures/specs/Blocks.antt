@@ -65,7 +65,7 @@ pub record MayGrow (q : State) (s : List ℕ) : Type 0 where
 
 -- blocks as they stand, the first of which is a section header
 unfoldable pub as_is_format : Format State Item
-as_is_format = record { says = AsIsSays; goes = λ q item. item.led.after; head = 12 }
+as_is_format = record { says = AsIsSays; goes = λ q item. item.led.after; head = λ q. 12 }
 
 -- what the body of a block of this type is as it stands; none where the block is of another type
 abbrev pub IsBodyOf : {X V : Type 0} → BlockType → (Order → Option V → List Said → List ℕ → List ℕ → Type 0) → (X → Option V) → (X → List Said) → Framed → Option X → Type 0

@@ -27,7 +27,7 @@ FirstSays s = Made kept_by (AsIsSays opening s)
 
 -- blocks as they stand behind a first one, which is kept
 abbrev pub kept_format : Format Kept Item
-kept_format = record { says = λ q. as_is_format.says q.state; goes = λ q item. record { state = as_is_format.goes q.state item; first = q.first }; head = as_is_format.head }
+kept_format = record { says = λ q. as_is_format.says q.state; goes = λ q item. record { state = as_is_format.goes q.state item; first = q.first }; head = λ q. as_is_format.head q.state }
 
 -- the front of s has n blocks as they stand after the first, or no section header begins s, and n is 0
 abbrev pub HoldsBlocksAsIs : List ℕ → ℕ → Type 0

@@ -11,7 +11,7 @@ use Rattle.pcap_tolerant_captures.specs.Blocks.{Item, AsIsText}
 
 -- blocks in their frames, each in the order that the one before it has: a section header has the one that it names
 unfoldable pub frames_in_a_row : Format Endianness Framed
-frames_in_a_row = record { says = FrameSays; goes = λ e b. b.endianness; head = 12 }
+frames_in_a_row = record { says = FrameSays; goes = λ e b. b.endianness; head = λ e. 12 }
 
 -- a section header has room for what is read of it before its options: else it is refused
 abbrev pub HasRoom : Framed → Type 0

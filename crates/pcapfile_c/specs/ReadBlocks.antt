@@ -8,7 +8,7 @@ use Rattle.pcapfile_c.specs.PushPackets.{ReadSays, ShowsItem, is_packet_block}
 
 -- blocks, of which the body of each packet is good
 unfoldable pub read_format : Format State Item
-read_format = record { says = ReadSays; goes = λ q item. item.after; head = 12 }
+read_format = record { says = ReadSays; goes = λ q item. item.after; head = λ q. 12 }
 
 -- these blocks, each with what is in force before it
 abbrev pub each_under : State → List Item → List (State × Item)

@@ -42,7 +42,7 @@ RowSays header total s =
 
 -- rows of packets behind this header, in bytes that end at this place
 unfoldable pub row_format : PcapfileHeader → ℕ → Format (Unit {0}) PcapfileRow
-row_format header total = record { says = λ q. RowSays header total; goes = λ q row. q; head = 16 }
+row_format header total = record { says = λ q. RowSays header total; goes = λ q row. q; head = λ q. 16 }
 
 -- So many packets behind this header were taken as rows into the first places, and all other places are as they were. Status 0:
 -- every place is filled, or nothing is left. Another status: what is left is refused.
@@ -85,7 +85,7 @@ NgRowSays total e s = Says (λ found rest. NgPassageText e total found s rest) (
 
 -- rows of packets, and blocks that are passed over, of a section in this order, in bytes that end at this place
 unfoldable pub ng_row_format : ℕ → Format Endianness (Option PcapfileNgRow)
-ng_row_format total = record { says = NgRowSays total; goes = λ e found. e; head = 12 }
+ng_row_format total = record { says = NgRowSays total; goes = λ e found. e; head = λ e. 12 }
 
 -- So many packets of a section in this order were taken as rows into the first places, with the blocks that are passed over among
 -- them, and all other places are as they were. Status 0: every place is filled, or nothing is left. Status 8: a section or an

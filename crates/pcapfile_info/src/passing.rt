@@ -75,7 +75,7 @@ impl Passes for PcapHeader {
 
 // One packet more, which the bytes are.
 fn add_held(header: &PcapHeader, head: PacketHeader, held: &[u8], progress: &mut Progress)
-    requires stated { Stated (KnowsHeader header.now) (reader_format packet_limit header.now).head head held.now }
+    requires stated { Stated (KnowsHeader header.now) ((reader_format packet_limit header.now).head tt) head held.now }
     requires few { progress.old.items + 1 < 2 ^ 64 }
     ensures adds { (packet : Captured) × (reader_format packet_limit header.now).says tt held.now (whole packet []) × AddsPacketAlone (captured_seen packet) (16 + packet.header.incl_len) progress.old progress.new }
     ensures same { SameDescribed progress.old progress.new }

@@ -27,12 +27,12 @@ front_taken false n s None = tt
 front_taken false n s (Some rest) = ap (λ (l : List ℕ). l ++ rest) (sym (take-append-drop n s)) ∙ append_assoc (take n s) (drop n s) rest
 
 -- a header, and as many bytes behind it as it states
-pub lies_whole : (header : PcapHeader) (head : PacketHeader) (n m : ℕ) (s before after : List ℕ) → s ≡ before ++ after → length before ≡ m → m ≡ (reader_format packet_limit header).head → KnowsHeader header head n before → n ≤ length after
+pub lies_whole : (header : PcapHeader) (head : PacketHeader) (n m : ℕ) (s before after : List ℕ) → s ≡ before ++ after → length before ≡ m → m ≡ (reader_format packet_limit header).head tt → KnowsHeader header head n before → n ≤ length after
     → LiesWhole header s head (m + n)
 lies_whole header head n m s before after split count is knows within =
     let long : length (take n after) ≡ n = length-take-le n after within in
     let text : take (m + n) s ≡ before ++ take n after = ap (take (m + n)) split ∙ ap (λ (k : ℕ). take (k + n) (before ++ after)) (sym count) ∙ take-append-add before after n in
-    let stated : Stated (KnowsHeader header) (reader_format packet_limit header).head head (take (m + n) s) = record {
+    let stated : Stated (KnowsHeader header) ((reader_format packet_limit header).head tt) head (take (m + n) s) = record {
       front = before;
       body = take n after;
       split = text;

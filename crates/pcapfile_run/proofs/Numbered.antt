@@ -22,7 +22,7 @@ module _ {S V : Type 0} (f : Format S V) (is_one : V → Bool) where
       request = λ s more n fewer said. (laws.stable q.0).request s more n fewer said;
     };
     own = λ q s rest value said. let own = laws.own q.0 s rest said.0 said.2 in (own.0, own.1, (said.0, said.1, own.2));
-    some = laws.some;
+    some = λ q. laws.some q.0;
     asks = λ q s n said. laws.asks q.0 s n said;
     short = λ q s n long some. laws.short q.0 s n long some;
     last = λ q s more n m headed lack long again. laws.last q.0 s more n m headed lack long again;

@@ -23,5 +23,5 @@ abbrev pub numbered : {S V : Type 0} → Format S V → (V → Bool) → Format 
 numbered f is_one = record {
   says = λ q s. Made (numbered_behind is_one q.1) (f.says q.0 s);
   goes = λ q numbered. (f.goes q.0 numbered.item, numbered.number);
-  head = f.head;
+  head = λ q. f.head q.0;
 }

@@ -7,30 +7,32 @@ use Rattle.pcap_core.specs.Format.{IsLawful}
 use Rattle.pcap_core.specs.Headed.{HeadReading, good, bad}
 use Rattle.pcap_core.specs.Padded.{Behind}
 use Rattle.pcap_core.proofs.Headed.{headed_lawful}
-use Rattle.pcap_core.proofs.Numbers.{numbers_at}
+use Rattle.pcap_core.proofs.Numbers.{numbers_at, total}
 use Rattle.pcap_core.proofs.Texts.{number_same}
 use Rattle.test_formats.specs.declared.samples.Head.{Head}
-use Rattle.test_formats.specs.Samples.{Item, item_with, Announced, meaning, HeadReads, BytesRead, headed_samples, sample_format}
+use Rattle.test_formats.specs.Samples.{Item, item_with, Announced, meaning, number_width, head_length, HeadReads, BytesRead, headed_samples, sample_format}
 
 -- a head is read once
 head_same : (size : ℕ) (s : List ℕ) (h k : HeadReading Announced) → HeadReads size s h → HeadReads size s k → k ≡ h
 head_same size s h k x y =
     let kinds = number_same big_number 2 x.kind y.kind s x.after y.after x.kind_is y.kind_is in
-    let numbers = number_same big_number 2 x.number y.number x.after [] [] x.number_is (subst (λ (l : List ℕ). Number big_number 2 y.number l []) (sym kinds.1) y.number_is) in
+    let numbers = number_same big_number (number_width size) x.number y.number x.after [] [] x.number_is (subst (λ (l : List ℕ). Number big_number (number_width size) y.number l []) (sym kinds.1) y.number_is) in
     let same : meaning size x.kind x.number ≡ meaning size y.kind y.number = rw (kinds.0, numbers.0) refl in
     sym y.means ∙ sym same ∙ x.means
 
-head_one : (size : ℕ) (s : List ℕ) → length s ≡ 4 → ExactlyOne (HeadReads size s)
+head_one : (size : ℕ) (s : List ℕ) → length s ≡ head_length size → ExactlyOne (HeadReads size s)
 head_one size s long =
-    let all : Behind 4 s [] = record { bytes = s; text = sym (append-nil s); length_is = long } in
-    let there = numbers_at big_number (2 ∷ 2 ∷ []) s [] all in
+    let width = number_width size in
+    let count : length s ≡ total (2 ∷ width ∷ []) = omega (arith, long) in
+    let all : Behind (total (2 ∷ width ∷ [])) s [] = record { bytes = s; text = sym (append-nil s); length_is = count } in
+    let there = numbers_at big_number (2 ∷ width ∷ []) s [] all in
     let rest_is : there.1.2.0 ≡ [] = there.1.2.2 in
     let reads : HeadReads size s (meaning size there.0.0 there.0.1.0) = record {
       kind = there.0.0;
       number = there.0.1.0;
       after = there.1.0;
       kind_is = there.1.1;
-      number_is = subst (λ (l : List ℕ). Number big_number 2 there.0.1.0 there.1.0 l) rest_is there.1.2.1;
+      number_is = subst (λ (l : List ℕ). Number big_number width there.0.1.0 there.1.0 l) rest_is there.1.2.1;
       means = refl;
     } in
     record { value = meaning size there.0.0 there.0.1.0; holds = reads; only = λ k y. head_same size s (meaning size there.0.0 there.0.1.0) k reads y }
@@ -47,4 +49,4 @@ bytes_one x s = record { value = good (record { head = x.head; bytes = s }); hol
 
 pub samples_lawful : IsLawful sample_format
 unfolding sample_format
-samples_lawful = headed_lawful headed_samples (record { some = omega arith; heads = λ q s long. head_one q s long; bodies = λ q x s long. bytes_one x s })
+samples_lawful = headed_lawful headed_samples (record { some = λ q. omega arith; heads = λ q s long. head_one q s long; bodies = λ q x s long. bytes_one x s })

@@ -25,4 +25,4 @@ bytes_held reader = fill.held_of reader.fill
 
 -- those after its head
 abbrev pub bytes_of : {T : Type 0} → SampleReader T → List ℕ
-bytes_of reader = drop 4 (bytes_held reader)
+bytes_of reader = drop reader.start (bytes_held reader)

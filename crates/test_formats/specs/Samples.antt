@@ -1,5 +1,6 @@
--- A log of samples, as a format with a head: an item says how long the samples after it are, or is a sample.
-use Rattle.std.specs.Prelude.{◌≡◌, ◌==◌, if◌then◌else◌, nat_lt, ℕ, List, [], drop, Option, None, Some, Result, Ok, Err}
+-- A log of samples, as a format with a head: an item says how long the samples after it are, or is a sample. Where samples
+-- are long, the numbers of heads are too.
+use Rattle.std.specs.Prelude.{◌≡◌, ◌+◌, ◌==◌, if◌then◌else◌, nat_lt, ℕ, List, [], drop, Option, None, Some, Result, Ok, Err}
 use Rattle.byteorder.specs.Endian.{big_number}
 use Rattle.pcap_core.specs.declared.errors.PcapError.{PcapError}
 use Rattle.pcap_core.specs.declared.rules.Rule.{Rule}
@@ -28,13 +29,21 @@ meaning size kind number =
     if kind == 1 then (if nat_lt 1000 number then bad (Invalid UnknownTooLong) else good (record { head = heads.Size number; follows = 0 }))
     else if kind == 2 then good (record { head = heads.Sample number; follows = size }) else bad (Invalid CaptureMagic)
 
+-- how many bytes a number of a head has where samples have this size: four where they have more than eight, else two
+abbrev pub number_width : ℕ → ℕ
+number_width size = if nat_lt 8 size then 4 else 2
+
+-- how long a head is there: a kind of two bytes, and a number
+abbrev pub head_length : ℕ → ℕ
+head_length size = 2 + number_width size
+
 -- s is a kind and a number, high byte first, that say this where samples have this size, and nothing else
 pub record HeadReads (size : ℕ) (s : List ℕ) (h : HeadReading Announced) : Type 0 where
   pub kind : ℕ
   pub number : ℕ
   pub after : List ℕ
   pub kind_is : Number big_number 2 kind s after
-  pub number_is : Number big_number 2 number after []
+  pub number_is : Number big_number (number_width size) number after []
   pub means : meaning size kind number ≡ h
 
 -- the bytes after a head are those of its item, whatever they are
@@ -50,7 +59,7 @@ size_after size (heads.Sample channel) = size
 -- a log, whose state is the size of the samples that follow
 abbrev pub headed_samples : Headed ℕ Announced Item
 headed_samples = record {
-  head = 4;
+  head = head_length;
   reads = HeadReads;
   size = λ x. x.follows;
   means = λ q. BytesRead;
@@ -73,9 +82,9 @@ item_with head bytes = record { head = head; bytes = bytes }
 abbrev pub item_of : Lent → Item
 item_of lent = item_with lent.head lent.bytes.now
 
--- the item of this head whose head and bytes are held
-abbrev pub held_item : List ℕ → Head → Item
-held_item held head = item_with head (drop 4 held)
+-- the item of this head whose head and bytes are held where samples have this size
+abbrev pub held_item : ℕ → List ℕ → Head → Item
+held_item size held head = item_with head (drop (head_length size) held)
 
 -- the size of the samples after what a call of a reader gave: only an item changes it
 abbrev pub size_behind : ℕ → Option (Result Head PcapError) → ℕ
@@ -83,7 +92,12 @@ size_behind size (Some (Ok head)) = size_after size head
 size_behind size (Some (Err e)) = size
 size_behind size None = size
 
--- what is told of a head: what it says, or the rule that it breaks
+-- what is told of a kind and a number: what they say, or the rule that they break
 abbrev pub HeadTells : HeadReading Announced → Result (Head × ℕ) Rule → Type 0
 HeadTells h (Ok x) = h ≡ good (record { head = x.0; follows = x.1 })
 HeadTells h (Err rule) = h ≡ bad (Invalid rule)
+
+-- what is told of the bytes of a head where samples have this size
+abbrev pub BytesTell : ℕ → List ℕ → Result (Head × ℕ) Rule → Type 0
+BytesTell size s (Ok x) = KnowsHead size x.0 x.1 s
+BytesTell size s (Err rule) = HeadReads size s (bad (Invalid rule))

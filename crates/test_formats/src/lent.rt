@@ -5,9 +5,7 @@ ghost use Rattle.pcap_core.specs.Faults.{Invalid};
 ghost use Rattle.pcap_core.specs.Items.{GrowsIn, RunsTo};
 ghost use Rattle.test_formats.specs.Samples.{Item, item_of, sample_format, size_after};
 
-use crate::samples::{Head, SamplesOf, head_of};
-use byteorder::BigEndian;
-use pcap_core::fields::split_u16;
+use crate::samples::{Head, SamplesOf, head_in, head_len};
 use pcap_core::rules::Rule;
 use pcap_core::run::{Found, ItemRun, Items, parse_items};
 use std::alloc::{AllocError, Global};
@@ -61,13 +59,12 @@ impl<'a> Items<'a> for SamplesOf {
         &mut self,
         slice: &'a [u8],
     ) -> Result<Found<(&'a [u8], Lent<'a>), Rule>, AllocError> {
-        if slice.len() < 4 {
-            return Ok(Found::Needs(4 - slice.len()));
+        let len = head_len(self.size);
+        if slice.len() < len {
+            return Ok(Found::Needs(len - slice.len()));
         }
-        let (front, after) = slice.split_at(4);
-        let (kind, rest) = split_u16::<BigEndian>(front);
-        let (number, _end) = split_u16::<BigEndian>(rest);
-        match head_of(self.size, kind, number) {
+        let (front, after) = slice.split_at(len);
+        match head_in(self.size, front) {
             Err(rule) => Ok(Found::Refused(rule)),
             Ok((_, n)) if after.len() < n => Ok(Found::Needs(n - after.len())),
             Ok((head, n)) => {

@@ -10,3 +10,5 @@ mod rooms;
 #[cfg(test)]
 mod rows;
 pub mod samples;
+#[cfg(test)]
+mod wide;

@@ -24,7 +24,7 @@ pub const ITEMS: [(Head, &[u8], usize); 6] = [
     (Head::Sample(256), &[4, 5, 6], 29),
 ];
 
-fn is_head(given: &Option<ResultParsing<Head>>, head: Head) -> bool {
+pub(crate) fn is_head(given: &Option<ResultParsing<Head>>, head: Head) -> bool {
     matches!(given, Some(Ok(other)) if *other == head)
 }
 
@@ -32,7 +32,7 @@ fn is_io(given: &Option<ResultParsing<Head>>, kind: ErrorKind) -> bool {
     matches!(given, Some(Err(PcapError::IoError(e))) if e.kind() == kind)
 }
 
-fn is_item(item: &Option<(Head, Vec<u8>)>, head: Head, bytes: &[u8]) -> bool {
+pub(crate) fn is_item(item: &Option<(Head, Vec<u8>)>, head: Head, bytes: &[u8]) -> bool {
     matches!(item, Some((given, own)) if *given == head && own.as_slice() == bytes)
 }
 
@@ -40,12 +40,16 @@ fn is_early_end(error: Option<PcapError>) -> bool {
     matches!(error, Some(PcapError::IoError(e)) if e.kind() == ErrorKind::UnexpectedEof)
 }
 
-fn names(given: &Option<ResultParsing<Head>>, message: &str) -> bool {
+pub(crate) fn names(given: &Option<ResultParsing<Head>>, message: &str) -> bool {
     matches!(given, Some(Err(PcapError::InvalidField(text))) if *text == message)
 }
 
 // A reader of these bytes, so many at most in a read.
-fn reader(alloc: Global, bytes: &[u8], step: usize) -> Result<SampleReader<Halting>, AllocError> {
+pub(crate) fn reader(
+    alloc: Global,
+    bytes: &[u8],
+    step: usize,
+) -> Result<SampleReader<Halting>, AllocError> {
     Ok(SampleReader::new(alloc, Halting::new(alloc, bytes, step)?))
 }
 
@@ -55,35 +59,44 @@ fn gives(reader: &mut SampleReader<Halting>, head: Head, bytes: &[u8]) -> bool {
 }
 
 // Whether it gives nothing more, no read failed, and so many bytes are taken.
-fn is_done(reader: &mut SampleReader<Halting>, taken: usize) -> bool {
+pub(crate) fn is_done(reader: &mut SampleReader<Halting>, taken: usize) -> bool {
     let is_none = reader.next_head().is_none();
     is_none && reader.bytes().is_empty() && !reader.failed() && reader.get_ref().taken == taken
 }
 
-// Whether the reader gives the whole log.
-fn gives_all(mut reader: SampleReader<Halting>) -> bool {
+// Whether the reader gives these items of a log, and is done behind so many bytes.
+pub(crate) fn gives_all(
+    mut reader: SampleReader<Halting>,
+    items: &[(Head, &[u8], usize)],
+    end: usize,
+) -> bool {
     let mut is_so = true;
-    for (head, bytes, taken) in ITEMS {
-        is_so &= gives(&mut reader, head, bytes) && reader.get_ref().taken == taken;
+    for (head, bytes, taken) in items {
+        is_so &= gives(&mut reader, *head, bytes) && reader.get_ref().taken == *taken;
     }
-    is_so && is_done(&mut reader, 29)
+    is_so && is_done(&mut reader, end)
 }
 
 #[test]
 fn whole_log(rt: HostRuntime) -> Result<(), Fail> {
     for step in [1, 2, 3, 7, 29] {
-        assert!(rt; gives_all(reader(rt.alloc(), &LOG, step)?), "by {step}");
+        let reader = reader(rt.alloc(), &LOG, step)?;
+        assert!(rt; gives_all(reader, &ITEMS, 29), "by {step}");
     }
     Ok(())
 }
 
-// Whether the reader of so many bytes of the log gives the items that are whole, and tells how they end.
-fn gives_cut(mut reader: SampleReader<Halting>, end: usize) -> bool {
+// Whether the reader of so many bytes of a log gives the items that are whole, and tells how they end.
+pub(crate) fn gives_cut(
+    mut reader: SampleReader<Halting>,
+    items: &[(Head, &[u8], usize)],
+    end: usize,
+) -> bool {
     let mut is_so = true;
     let mut is_between = end == 0;
-    for (head, bytes, taken) in ITEMS {
-        is_so &= taken > end || gives(&mut reader, head, bytes);
-        is_between |= taken == end;
+    for (head, bytes, taken) in items {
+        is_so &= *taken > end || gives(&mut reader, *head, bytes);
+        is_between |= *taken == end;
     }
     let last = reader.next_head();
     let is_told = if is_between {
@@ -98,7 +111,7 @@ fn gives_cut(mut reader: SampleReader<Halting>, end: usize) -> bool {
 fn cut_logs(rt: HostRuntime) -> Result<(), Fail> {
     for end in 0..29 {
         let reader = reader(rt.alloc(), front(&LOG, end), 2)?;
-        assert!(rt; gives_cut(reader, end), "{end}");
+        assert!(rt; gives_cut(reader, &ITEMS, end), "{end}");
     }
     Ok(())
 }
@@ -146,8 +159,8 @@ fn gives_largest(mut reader: SampleReader<Halting>) -> bool {
 
 #[test]
 fn largest_samples(rt: HostRuntime) -> Result<(), Fail> {
-    let mut bytes = Vec::from_slice(rt.alloc(), &[0, 1, 3, 0xe8, 0, 2, 0, 1])?;
-    bytes.resize(1008, 6)?;
+    let mut bytes = Vec::from_slice(rt.alloc(), &[0, 1, 3, 0xe8, 0, 2, 0, 0, 0, 1])?;
+    bytes.resize(1010, 6)?;
     let reader = reader(rt.alloc(), bytes.as_slice(), 300)?;
     assert!(rt; gives_largest(reader));
     Ok(())

@@ -1,19 +1,21 @@
-//! A log of samples, whose items change how long the items after them are.
+//! A log of samples, whose items change how long the items after them are, and how long the heads of these are.
 //!
-//! An item begins with its kind and a number, two bytes each, high byte first. Kind 1 says how many bytes each sample after
-//! it has, at most 1000; kind 2 is a sample of the channel of this number, and its bytes follow. Before the first size a
-//! sample has no bytes. The log has no rules of its own: any other kind breaks `CaptureMagic`, a larger size
+//! An item begins with its kind, two bytes, and a number, both high byte first. The number has two bytes, or four where
+//! samples have more than eight. Kind 1 says how many bytes each sample after it has, at most 1000; kind 2 is a sample of the
+//! channel of this number, and its bytes follow. Before the first size a sample has no bytes. The log has no rules of its own: any other kind breaks `CaptureMagic`, a larger size
 //! `UnknownTooLong`.
 
-ghost use Rattle.std.specs.Prelude.{◌≡◌, ℕ, false, [], OnOk};
+ghost use Rattle.std.specs.Prelude.{◌≡◌, ℕ, false, [], length, drop, OnOk};
+ghost use Rattle.byteorder.specs.Endian.{big_number};
+ghost use Rattle.pcap_core.specs.Answer.{Number};
 ghost use Rattle.pcap_core.specs.Fill.{held_of, stream_of as source_of, has_failed as source_failed};
 ghost use Rattle.pcap_core.specs.Held.{held_bytes};
 ghost use Rattle.pcap_core.specs.Reading.{NextGives, Pulls};
-ghost use Rattle.test_formats.specs.Samples.{meaning, sample_format, held_item, item_with, size_behind, HeadTells};
+ghost use Rattle.test_formats.specs.Samples.{meaning, number_width, head_length, sample_format, held_item, item_with, size_behind, HeadTells, BytesTell};
 
 use byteorder::BigEndian;
 use pcap_core::ResultParsing;
-use pcap_core::fields::split_u16;
+use pcap_core::fields::{split_u16, split_u32};
 use pcap_core::rules::Rule;
 use pcap_core::stream::{Fill, HasHead, Held, Told, take_item};
 use std::alloc::Global;
@@ -22,13 +24,16 @@ use std::io::Read;
 /// The most bytes of a sample.
 pub const SIZE_LIMIT: u16 = 1000;
 
+/// The most bytes of a sample where the numbers of heads have two bytes.
+pub const SHORT_LIMIT: u16 = 8;
+
 /// What the head of an item says.
 #[derive(Clone, Copy, Debug, PartialEq, Eq)]
 pub enum Head {
     /// How many bytes each sample after it has.
     Size(u16),
     /// A sample of this channel.
-    Sample(u16),
+    Sample(u32),
 }
 
 /// The items of a log where samples have this size.
@@ -40,15 +45,43 @@ pub struct SamplesOf {
 
 // What a kind and a number say, and how many bytes follow, where samples have this size.
 #[tactic(auto, unfolding(crate::specs::Samples::meaning))]
-pub(crate) fn head_of(size: u16, kind: u16, number: u16) -> Result<(Head, usize), Rule>
+fn head_of(size: u16, kind: u16, number: u32) -> Result<(Head, usize), Rule>
     ensures { HeadTells (meaning size kind number) result }
 {
     match kind {
-        1 if number > SIZE_LIMIT => Err(Rule::UnknownTooLong),
-        1 => Ok((Head::Size(number), 0)),
+        1 if number > u32::from(SIZE_LIMIT) => Err(Rule::UnknownTooLong),
+        1 => Ok((Head::Size(number as u16), 0)),
         2 => Ok((Head::Sample(number), usize::from(size))),
         _ => Err(Rule::CaptureMagic),
     }
+}
+
+// How long a head is where samples have this size.
+pub(crate) fn head_len(size: u16) -> usize
+    ensures { result ≡ head_length size }
+{
+    if size > SHORT_LIMIT { 6 } else { 4 }
+}
+
+// The number of a head where samples have this size: its bytes behind the kind.
+fn number_of(size: u16, bytes: &[u8]) -> u32
+    requires { length bytes.now ≡ number_width size }
+    ensures { Number big_number (number_width size) result bytes.now [] }
+{
+    if size > SHORT_LIMIT {
+        split_u32::<BigEndian>(bytes).0
+    } else {
+        u32::from(split_u16::<BigEndian>(bytes).0)
+    }
+}
+
+// What the bytes of a head say, and how many bytes follow, where samples have this size.
+pub(crate) fn head_in(size: u16, bytes: &[u8]) -> Result<(Head, usize), Rule>
+    requires { length bytes.now ≡ head_length size }
+    ensures { BytesTell size bytes.now result }
+{
+    let (kind, after) = split_u16::<BigEndian>(bytes);
+    head_of(size, kind, number_of(size, after))
 }
 
 impl HasHead for SamplesOf {
@@ -68,13 +101,11 @@ impl HasHead for SamplesOf {
 
     #[tactic(auto, unfolding(crate::specs::Samples::sample_format))]
     fn head(&self) -> usize {
-        4
+        head_len(self.size)
     }
 
     fn stated(&self, bytes: &[u8]) -> ResultParsing<(Head, usize)> {
-        let (kind, after) = split_u16::<BigEndian>(bytes);
-        let (number, _end) = split_u16::<BigEndian>(after);
-        let stated = head_of(self.size, kind, number)?;
+        let stated = head_in(self.size, bytes)?;
         Ok(stated)
     }
 }
@@ -86,6 +117,8 @@ impl HasHead for SamplesOf {
 pub struct SampleReader<T> {
     fill: Fill<T>,
     size: u16,
+    // the length of the head of what is held
+    start: usize,
     is_done: bool,
     ghost unfailed: { is_done ≡ false → source_failed fill ≡ false },
 }
@@ -103,6 +136,7 @@ impl<T: Read + Drop> SampleReader<T> {
         SampleReader {
             fill: Fill::new(alloc, Told::new(stream)),
             size: 0,
+            start: 0,
             is_done: false,
         }
     }
@@ -112,10 +146,12 @@ impl<T: Read + Drop> SampleReader<T> {
     /// `InvalidField` for the rule that the head breaks. `IoError` where a read failed, or the stream ended inside the item.
     /// `OutOfMemory` where its bytes can't be held.
     pub fn next_head(&mut self) -> Option<ResultParsing<Head>>
-        ensures next { NextGives (sample_format.says (size_of self.old)) (held_item (bytes_held self.new)) (T.remaining (stream_of self.old)) (T.remaining (stream_of self.new)) (is_done self.old) (is_done self.new) (has_failed self.old) (has_failed self.new) result }
+        ensures next { NextGives (sample_format.says (size_of self.old)) (held_item (size_of self.old) (bytes_held self.new)) (T.remaining (stream_of self.old)) (T.remaining (stream_of self.new)) (is_done self.old) (is_done self.new) (has_failed self.old) (has_failed self.new) result }
         ensures size { size_of self.new ≡ size_behind (size_of self.old) result }
+        ensures bytes { bytes_of self.new ≡ drop (head_length (size_of self.old)) (bytes_held self.new) }
     {
         self.fill.clear();
+        self.start = head_len(self.size);
         if self.is_done {
             return None;
         }
@@ -132,10 +168,10 @@ impl<T: Read + Drop> SampleReader<T> {
         ensures { result.now ≡ bytes_of self.now }
     {
         let held = self.fill.held();
-        if held.len() < 4 {
+        if held.len() < self.start {
             return &[];
         }
-        let (_head, bytes) = held.split_at(4);
+        let (_head, bytes) = held.split_at(self.start);
         bytes
     }
 
@@ -158,7 +194,7 @@ impl<T: Read + Drop> SampleReader<T> {
 fn fill_next<T: Read>(size: u16, fill: &mut Fill<T>) -> ResultParsing<Option<Head>>
     requires between { held_of fill.old ≡ [] }
     requires unfailed { source_failed fill.old ≡ false }
-    ensures { Pulls (sample_format.says size) (held_item (held_of fill.new)) (T.remaining (source_of fill.old)) (T.remaining (source_of fill.new)) (source_failed fill.new) result }
+    ensures { Pulls (sample_format.says size) (held_item size (held_of fill.new)) (T.remaining (source_of fill.old)) (T.remaining (source_of fill.new)) (source_failed fill.new) result }
 {
     fill.item(&SamplesOf { size })
 }

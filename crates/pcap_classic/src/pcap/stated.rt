@@ -70,7 +70,7 @@ impl HasHead for PacketsUnder<'_> {
 
 /// The packet of this header that the bytes are, lent from them.
 pub fn packet_of<'a>(header: &PcapHeader, head: PacketHeader, bytes: &'a [u8]) -> Packet<'a>
-    requires { Stated (KnowsHeader header.now) (reader_format packet_limit header.now).head head bytes.now }
+    requires { Stated (KnowsHeader header.now) ((reader_format packet_limit header.now).head tt) head bytes.now }
     ensures { (reader_format packet_limit header.now).says tt bytes.now (whole (content_of result) []) }
 {
     let (_front, data) = bytes.split_at(16);

@@ -166,7 +166,7 @@ pub trait PutsPacket {
         held: &[u8],
     ) -> ResultParsing<()>
         requires stands { stands self.now }
-        requires stated { Stated (KnowsHeader header.now) (reader_format packet_limit header.now).head head held.now }
+        requires stated { Stated (KnowsHeader header.now) ((reader_format packet_limit header.now).head tt) head held.now }
         ensures out { WritesHeld ((reader_format packet_limit header.now).says tt) (text self.now) held.now (W.contents writer.old) (W.contents writer.new) result }
         ensures told { MatchResult result (λ _. has_failed.new ≡ has_failed.old) (λ _. has_failed.new ≡ true) };
 }

@@ -10,7 +10,7 @@ use crate::stream::{Held, read_exactly, take_bytes};
 use std::alloc::Global;
 use std::io::Read;
 
-/// A format under a state: its items begin with a head of a known length, which states how many bytes follow it.
+/// A format under a state: its items begin with a head, whose length the state says and which states how many bytes follow it.
 pub trait HasHead {
     /// What is read of a head.
     type Head: Drop;
@@ -25,13 +25,13 @@ pub trait HasHead {
 
     ghost knows: { Self → Self.Head → ℕ → List ℕ → Type 0 };
 
-    /// The length of a head.
+    /// The length of a head under this state.
     fn head(&self) -> usize
-        ensures { result ≡ (format self.now).head };
+        ensures { result ≡ (format self.now).head (state self.now) };
 
     /// What the head says that these bytes are, and how many bytes follow it, or the head's refusal.
     fn stated(&self, bytes: &[u8]) -> ResultParsing<(Self::Head, usize)>
-        requires { length bytes.now ≡ (format self.now).head }
+        requires { length bytes.now ≡ (format self.now).head (state self.now) }
         ensures { StatesRest ((format self.now).says (state self.now)) (knows self.now) bytes.now result };
 }
 
@@ -50,7 +50,7 @@ pub fn fill_item<H: HasHead, T: Read>(
     requires lawful { IsLawful (H.format item.now) }
     requires between { held_bytes held.old ≡ [] }
     requires unfailed { has_failed.old ≡ false }
-    ensures fills { FillsHeaded ((H.format item.now).says (H.state item.now)) (H.knows item.now) (H.format item.now).head (T.remaining stream.old) (T.remaining stream.new) (held_bytes held.new) has_failed.new result }
+    ensures fills { FillsHeaded ((H.format item.now).says (H.state item.now)) (H.knows item.now) ((H.format item.now).head (H.state item.now)) (T.remaining stream.old) (T.remaining stream.new) (held_bytes held.new) has_failed.new result }
     ensures ahead { room_of held.new ≤ max (room_of held.old) (length (held_bytes held.new) + 65536) }
 {
     let Some((head, rest)) = fill_head(item, stream, has_failed, held)? else {
@@ -78,9 +78,9 @@ pub fn take_item<H: HasHead, T: Read>(
     requires lawful { IsLawful (H.format item.now) }
     requires between { held_bytes held.old ≡ [] }
     requires unfailed { has_failed.old ≡ false }
-    ensures takes { TakesHeaded ((H.format item.now).says (H.state item.now)) (H.knows item.now) (H.format item.now).head (λ body. body.items) (T.remaining stream.old) (T.remaining stream.new) has_failed.new result }
+    ensures takes { TakesHeaded ((H.format item.now).says (H.state item.now)) (H.knows item.now) ((H.format item.now).head (H.state item.now)) (λ body. body.items) (T.remaining stream.old) (T.remaining stream.new) has_failed.new result }
     ensures between { OnOk result (held_bytes held.new ≡ []) }
-    ensures room { room_of held.new ≤ max (room_of held.old) (H.format item.now).head }
+    ensures room { room_of held.new ≤ max (room_of held.old) ((H.format item.now).head (H.state item.now)) }
 {
     let Some((head, rest)) = fill_head(item, stream, has_failed, held)? else {
         return Ok(None);
@@ -101,8 +101,8 @@ fn fill_head<H: HasHead, T: Read>(
     requires lawful { IsLawful (H.format item.now) }
     requires between { held_bytes held.old ≡ [] }
     requires unfailed { has_failed.old ≡ false }
-    ensures fills { FillsHead ((H.format item.now).says (H.state item.now)) (H.knows item.now) (H.format item.now).head (T.remaining stream.old) (T.remaining stream.new) (held_bytes held.new) has_failed.new result }
-    ensures room { room_of held.new ≤ max (room_of held.old) (H.format item.now).head }
+    ensures fills { FillsHead ((H.format item.now).says (H.state item.now)) (H.knows item.now) ((H.format item.now).head (H.state item.now)) (T.remaining stream.old) (T.remaining stream.new) (held_bytes held.new) has_failed.new result }
+    ensures room { room_of held.new ≤ max (room_of held.old) ((H.format item.now).head (H.state item.now)) }
     ensures ahead { room_of held.new ≤ max (room_of held.old) (length (held_bytes held.new) + 65536) }
 {
     if !read_exactly(stream, has_failed, held, item.head())? {

@@ -187,7 +187,7 @@ fn follow_held(
     held: &[u8],
 ) -> ResultParsing<()>
     requires order { frames.order ≡ order_at (state_in in_force.old) }
-    requires stated { Stated (KnowsFrame frames.order) frame_format.head head held.now }
+    requires stated { Stated (KnowsFrame frames.order) (frame_format.head frames.order) head held.now }
     ensures { FollowsHeld (state_in in_force.old) (state_in in_force.new) held.now result }
 {
     let block = frames.block(head, held)?;

@@ -57,7 +57,7 @@ impl HasHead for FramesIn {
 impl FramesIn {
     // The block of this head that the bytes are, lent from them.
     pub(crate) fn block<'a>(&self, head: FrameHead, bytes: &'a [u8]) -> ResultParsing<Block<'a>>
-        requires { Stated (KnowsFrame self.now.order) frame_format.head head bytes.now }
+        requires { Stated (KnowsFrame self.now.order) (frame_format.head self.now.order) head bytes.now }
         ensures { TellsSettled (frame_format.says self.now.order bytes.now) framed_of result }
     {
         let (_front, after) = bytes.split_at(8);

@@ -79,7 +79,7 @@ pub(crate) fn hold<T: Read>(
 
 // What is in force after the first block, which has this head and is these bytes.
 pub(crate) fn opened(alloc: Global, head: FrameHead, bytes: &[u8]) -> ResultParsing<InForce>
-    requires { Stated (KnowsFrame Big) frame_format.head head bytes.now }
+    requires { Stated (KnowsFrame Big) (frame_format.head Big) head bytes.now }
     ensures { OpensHeld bytes.now result }
 {
     let frames = FramesIn {

@@ -38,6 +38,6 @@ returns-clause-fills g c =
     let adds = rw c.if-not-branch.false at c.in_ok-read_exactly.ensures.added in
     let held = held_bytes c.read_exactly.new.held in
     let b = begins_more f laws q before held _ _ _ c.head.result (begins_none f laws q before _ c.requires.between) ask adds in
-    let long : length held ≡ f.head = adds_length c.head.result before held _ _ c.requires.between adds ∙ c.head.ensures in
+    let long : length held ≡ f.head q = adds_length c.head.result before held _ _ c.requires.between adds ∙ c.head.ensures in
     let stated = rw c.as_slice.ensures at c.in_ok-stated.ensures in
     (c.in_ok-read_exactly.ensures.told ∙ c.requires.unfailed, long, stated, b.asked, b.came)

@@ -34,16 +34,16 @@ returns-clause-fills g c =
           let some : 0 < n = omega (arith, w.if-rest-gt0.true) in
           let next = filled.2.2 some in
           let new = held_bytes w.read_exactly.new.held in
-          let more = adds_behind n held new _ _ w.in_ok-read_exactly.field-0 (omega (arith, filled.1, laws.some)) w.in_ok-read_exactly.ensures.added in
+          let more = adds_behind n held new _ _ w.in_ok-read_exactly.field-0 (omega (arith, filled.1, laws.some q)) w.in_ok-read_exactly.ensures.added in
           let all = begins_more f laws q held new _ _ _ n b next more in
           rw (w.held-is, w.stream-is, w.has_failed-is) (
             w.in_ok-read_exactly.ensures.told ∙ filled.0,
-            stated_more knows f.head n head held new _ _ filled.1 filled.2.0 more,
+            stated_more knows (f.head q) n head held new _ _ filled.1 filled.2.0 more,
             settled f laws q n held new _ _ filled.1 next more,
             all.asked,
             all.came,
           )
       | else-rest-gt0 w ↦
           let none : n ≡ 0 = omega (arith, w.if-rest-gt0.false) in
-          rw (w.held-is, w.stream-is, w.has_failed-is) (filled.0, stated_alone knows f.head n head held filled.1 none filled.2.0, filled.2.1 none, b.asked, b.came)
+          rw (w.held-is, w.stream-is, w.has_failed-is) (filled.0, stated_alone knows (f.head q) n head held filled.1 none filled.2.0, filled.2.1 none, b.asked, b.came)
     ]

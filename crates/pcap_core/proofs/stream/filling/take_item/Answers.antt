@@ -16,7 +16,7 @@ returns-in_err-body-clause-takes g c =
     let n = c.in-Some.rest in
     let b : Begins f laws q (g.T.Read.remaining c.args.stream.now) (g.T.Read.remaining c.fill_head.new.stream) held = record { came = filled.4; asked = filled.3 } in
     let part = c.in_err-body.ensures.part in
-    let some : 0 < length held = omega (arith, filled.1, laws.some) in
+    let some : 0 < length held = omega (arith, filled.1, laws.some q) in
     let ask : f.says q held (lacks n) = filled.2.2 (omega (arith, part.2)) in
     rw (p.1, p.2) (unmet_behind f laws q c.in_err-body.field-0.0 held _ _ _ _ _ n b some ask filled.0 part c.in_err-body.ensures.cause)
 

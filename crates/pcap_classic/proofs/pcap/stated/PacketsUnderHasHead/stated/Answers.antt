@@ -18,7 +18,7 @@ returns-in_default c =
     let header = c.args.self.now.header.now in
     let bytes = c.args.bytes.now in
     let invalid : is_magic header.magic_number ≡ false = no_kind header.magic_number (sym c.kind.ensures ∙ c.in_default.is) in
-    let some : 0 < length bytes = omega (arith, c.requires, (reader_lawful packet_limit header).some) in
+    let some : 0 < length bytes = omega (arith, c.requires, (reader_lawful packet_limit header).some tt) in
     named_shows (λ fault. (reader_format packet_limit header).says tt bytes (faulty fault)) CaptureMagic c.from.result (reader_refuses packet_limit header bytes invalid some) c.from.ensures
 
 pub returns-in_err-head : goal.returns-in_err-head

@@ -6,7 +6,7 @@ use Rattle.pcap_core.proofs.Refusals.{named_states}
 use Rattle.pcap_file.proofs.pcapng.framing.FramesInHasHead.stated.Goals as goal
 
 pub split_head-requires : goal.split_head-requires
-split_head-requires c = omega (arith, c.requires, frame_head)
+split_head-requires c = omega (arith, c.requires, frame_head c.args.self.now.order)
 
 pub returns-in_err-head : goal.returns-in_err-head
 returns-in_err-head c =
@@ -20,6 +20,6 @@ returns c =
     let e = c.args.self.now.order in
     let s = c.args.bytes.now in
     let head = c.in_ok-head.head in
-    let long : length s ≡ 12 = c.requires ∙ frame_head in
+    let long : length s ≡ 12 = c.requires ∙ frame_head e in
     let knows : KnowsFrame e head (head.len - 12) s = record { after = c.in_ok-head._after.now; text = c.in_ok-head.ensures.0; good = c.in_ok-head.ensures.1; follows = omega (arith, c.in_ok-head.ensures.1.1) } in
     (knows, λ none. frame_settled e head (head.len - 12) s long knows none, λ some. frame_lacks e head (head.len - 12) s long knows some)
