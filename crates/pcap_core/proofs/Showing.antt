@@ -5,7 +5,6 @@ use Rattle.std.specs.Prelude.{min}
 use Rattle.std.proofs.Math.Nat.{min-le_left, min-le_right, min-eq_left, min-eq_right}
 use Rattle.std.proofs.lemmas.Bool.{cases_lt}
 use Rattle.pcap_core.specs.declared.run.items.Ended.{Ended}
-use Rattle.pcap_core.specs.declared.run.items.Ended.TheVariants as ends
 use Rattle.pcap_core.specs.Faults.{Fault}
 use Rattle.pcap_core.specs.Answer.{Verdict, whole, lacks, faulty}
 use Rattle.pcap_core.specs.Format.{Format, state_after, IsLawful}

@@ -1,6 +1,6 @@
 //! Copies of items that go out as they came, over any format.
 
-ghost use Rattle.std.specs.Prelude.{◌≡◌, ℕ, List, [], false};
+ghost use Rattle.std.specs.Prelude.{◌≡◌, [], false};
 ghost use Rattle.pcap_core.specs.AsTheyCame.{HoldsNext, PassesItem};
 ghost use Rattle.pcap_core.specs.Format.{Format};
 ghost use Rattle.pcap_core.specs.Held.{held_bytes};
@@ -68,6 +68,7 @@ impl<H: Holding> Ahead for AsTheyCame<H> {
 
     ghost state = { H.state };
 
+    #[inline(always)]
     fn copy_next<R: Read, W: Write>(
         &self,
         alloc: Global,
