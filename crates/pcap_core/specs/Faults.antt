@@ -9,11 +9,13 @@ use Rattle.pcap_core.specs.Rules.{row_of}
 abbrev pub rule_message : Rule → List ℕ
 rule_message rule = (row_of rule).message
 
--- why bytes are refused: they break a rule, a value is too short, or a string is not UTF-8
+-- why bytes are refused: they break a rule, a value is too short, or a string is not UTF-8; or a format that is none of
+-- captures has this fault of its own, by its number, which no error here shows
 pub data Fault : Type 0 where
   Invalid : Rule → Fault
   Io : Fault
   Utf8 : Fault
+  Own : ℕ → Fault
 
 -- the error has the message of this rule
 abbrev pub Names : Rule → PcapError → Type 0

@@ -2,7 +2,7 @@
 use Rattle.std.specs.Prelude.{ℕ, List, [], ◌++◌, codes, Option, None, Some}
 use Rattle.std.specs.List.{flat_map}
 use Rattle.std.specs.Fmt.{decimal}
-use Rattle.pcap_core.specs.Faults.{Fault, Invalid, Io, Utf8, rule_message}
+use Rattle.pcap_core.specs.Faults.{Fault, Invalid, Io, Utf8, Own, rule_message}
 use Rattle.pcap_core.specs.Rules.{number_of}
 use Rattle.pcap_tolerant_blocks.specs.Flaws.{Said}
 use Rattle.pcap_tolerant_captures.specs.Blocks.{Item}
@@ -20,11 +20,12 @@ option_text (Some code) = codes " in option " ++ decimal code
 abbrev pub broken_rule : List ℕ → ℕ → List ℕ → List ℕ → List ℕ
 broken_rule place number option message = place ++ (codes " breaks rule " ++ (decimal number ++ (option ++ (codes ": " ++ (message ++ codes "\n")))))
 
--- the line of a fault
+-- the line of a fault; a body has none of another format
 abbrev pub fault_line : List ℕ → List ℕ → Fault → List ℕ
 fault_line place option (Invalid rule) = broken_rule place (number_of rule) option (rule_message rule)
 fault_line place option Io = place ++ (codes " is too short" ++ (option ++ codes "\n"))
 fault_line place option Utf8 = place ++ (codes " is not UTF-8" ++ (option ++ codes "\n"))
+fault_line place option (Own n) = []
 
 -- the line of a flaw
 abbrev pub said_line : List ℕ → Said → List ℕ

@@ -3,7 +3,7 @@ use Rattle.std.specs.Prelude.{◌≡◌, ℕ, List, [], ◌∷◌, ◌++◌, Boo
 use Rattle.std.specs.List.{flat_map}
 use Rattle.std.specs.Fmt.{decimal}
 use Rattle.pcap_core.specs.Answer.{number_in}
-use Rattle.pcap_core.specs.Faults.{Fault, Invalid, Io, Utf8}
+use Rattle.pcap_core.specs.Faults.{Fault, Invalid, Io, Utf8, Own}
 use Rattle.pcap_core.specs.Rules.{number_of}
 use Rattle.pcap_blocks.specs.declared.block_type.BlockType.TheVariants as types
 use Rattle.pcap_blocks.specs.EnhancedPacket.{Enhanced}
@@ -26,11 +26,12 @@ use Rattle.pcapfile_as_is.specs.declared.counted.Told.{Told}
 use Rattle.pcapfile_as_is.specs.Counts.{are_some, is_flawed}
 use Rattle.pcapfile_as_is.specs.Texts.{numbered}
 
--- the mark of a flaw: its rule's number, or what it is where it breaks no rule
+-- the mark of a flaw: its rule's number, or what it is where it breaks no rule; a body has none of another format
 abbrev pub mark_of : Fault → List ℕ
 mark_of (Invalid rule) = codes " !" ++ decimal (number_of rule)
 mark_of Io = codes " !short"
 mark_of Utf8 = codes " !utf8"
+mark_of (Own n) = []
 
 -- the mark of what is said of a body
 abbrev pub said_mark : Said → List ℕ

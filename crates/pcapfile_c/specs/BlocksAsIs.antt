@@ -5,7 +5,7 @@ use Rattle.std.specs.Global.{Vec}
 use Rattle.pcap_core.specs.declared.errors.PcapError.{PcapError}
 use Rattle.pcap_core.specs.declared.rules.Rule.TheVariants.{SectionMagic}
 use Rattle.pcap_core.specs.Answer.{Order, number_in, whole, lacks, faulty, Refuses}
-use Rattle.pcap_core.specs.Faults.{Fault, Invalid, Io, Utf8}
+use Rattle.pcap_core.specs.Faults.{Fault, Invalid, Io, Utf8, Own}
 use Rattle.pcap_core.specs.Headed.{good, bad}
 use Rattle.pcap_core.specs.Rules.{number_of}
 use Rattle.pcap_blocks.specs.declared.block_type.BlockType.{BlockType}
@@ -47,17 +47,19 @@ ShowsStanding shown (within section interfaces) = ShowsSection shown section × 
 
 -- ---- what is wrong
 
--- the status by which a fault is told
+-- the status by which a fault is told; a body has none of another format
 abbrev pub status_of : Fault → ℤ
 status_of (Invalid rule) = pos 3
 status_of Io = pos 2
 status_of Utf8 = pos 4
+status_of (Own n) = pos 3
 
 -- the number of the rule that a fault names, 0 where it names none
 abbrev pub rule_of : Fault → ℕ
 rule_of (Invalid rule) = number_of rule
 rule_of Io = 0
 rule_of Utf8 = 0
+rule_of (Own n) = 0
 
 -- the code of an option, 0 of none
 abbrev pub code_or_0 : Option ℕ → ℕ

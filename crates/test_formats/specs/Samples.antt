@@ -1,17 +1,20 @@
 -- A log of samples, as a format with a head: an item says how long the samples after it are, or is a sample. Where samples
 -- are long, the numbers of heads are too.
-use Rattle.std.specs.Prelude.{◌≡◌, ◌+◌, ◌==◌, if◌then◌else◌, nat_lt, ℕ, List, [], drop, Option, None, Some, Result, Ok, Err}
+use Rattle.std.specs.Prelude.{◌≡◌, ◌+◌, ◌==◌, if◌then◌else◌, nat_lt, ℕ, List, [], length, drop, Option, None, Some, Result, Ok, Err, Bool, true, false}
+use Rattle.std.specs.Io.KnownBytes.{Consumes, Keeps, IsAtEnd}
 use Rattle.byteorder.specs.Endian.{big_number}
-use Rattle.pcap_core.specs.declared.errors.PcapError.{PcapError}
-use Rattle.pcap_core.specs.declared.rules.Rule.{Rule}
-use Rattle.pcap_core.specs.declared.rules.Rule.TheVariants.{CaptureMagic, UnknownTooLong}
-use Rattle.pcap_core.specs.Answer.{Number}
-use Rattle.pcap_core.specs.Faults.{Invalid}
+use Rattle.pcap_core.specs.Answer.{Number, faulty}
+use Rattle.pcap_core.specs.Faults.{Fault, Own}
 use Rattle.pcap_core.specs.Format.{Format}
 use Rattle.pcap_core.specs.Headed.{HeadReading, good, bad, Headed, headed}
+use Rattle.pcap_core.specs.Reading.{HasCause, Takes, TakesAsked}
 use Rattle.test_formats.specs.declared.lent.Lent.{Lent}
 use Rattle.test_formats.specs.declared.samples.Head.{Head}
 use Rattle.test_formats.specs.declared.samples.Head.TheVariants as heads
+use Rattle.test_formats.specs.declared.samples.LogError.{LogError}
+use Rattle.test_formats.specs.declared.samples.LogError.TheVariants.{Refused, Stopped}
+use Rattle.test_formats.specs.declared.samples.LogFault.{LogFault}
+use Rattle.test_formats.specs.declared.samples.LogFault.TheVariants as faults
 
 -- an item: what its head says, and the bytes after it
 pub record Item : Type 0 where
@@ -23,11 +26,16 @@ pub record Announced : Type 0 where
   pub head : Head
   pub follows : ℕ
 
+-- the faults of a log, which are no rules of captures
+abbrev pub fault_of : LogFault → Fault
+fault_of faults.UnknownKind = Own 1
+fault_of faults.SizeTooLarge = Own 2
+
 -- what a head of this kind and number says, where samples have this size: kind 1 is a size, kind 2 a sample
 unfoldable pub meaning : ℕ → ℕ → ℕ → HeadReading Announced
 meaning size kind number =
-    if kind == 1 then (if nat_lt 1000 number then bad (Invalid UnknownTooLong) else good (record { head = heads.Size number; follows = 0 }))
-    else if kind == 2 then good (record { head = heads.Sample number; follows = size }) else bad (Invalid CaptureMagic)
+    if kind == 1 then (if nat_lt 1000 number then bad (fault_of faults.SizeTooLarge) else good (record { head = heads.Size number; follows = 0 }))
+    else if kind == 2 then good (record { head = heads.Sample number; follows = size }) else bad (fault_of faults.UnknownKind)
 
 -- how many bytes a number of a head has where samples have this size: four where they have more than eight, else two
 abbrev pub number_width : ℕ → ℕ
@@ -87,17 +95,45 @@ abbrev pub held_item : ℕ → List ℕ → Head → Item
 held_item size held head = item_with head (drop (head_length size) held)
 
 -- the size of the samples after what a call of a reader gave: only an item changes it
-abbrev pub size_behind : ℕ → Option (Result Head PcapError) → ℕ
+abbrev pub size_behind : ℕ → Option (Result Head LogError) → ℕ
 size_behind size (Some (Ok head)) = size_after size head
 size_behind size (Some (Err e)) = size
 size_behind size None = size
 
--- what is told of a kind and a number: what they say, or the rule that they break
-abbrev pub HeadTells : HeadReading Announced → Result (Head × ℕ) Rule → Type 0
+-- what is told of a kind and a number: what they say, or their fault
+abbrev pub HeadTells : HeadReading Announced → Result (Head × ℕ) LogFault → Type 0
 HeadTells h (Ok x) = h ≡ good (record { head = x.0; follows = x.1 })
-HeadTells h (Err rule) = h ≡ bad (Invalid rule)
+HeadTells h (Err fault) = h ≡ bad (fault_of fault)
 
 -- what is told of the bytes of a head where samples have this size
-abbrev pub BytesTell : ℕ → List ℕ → Result (Head × ℕ) Rule → Type 0
+abbrev pub BytesTell : ℕ → List ℕ → Result (Head × ℕ) LogFault → Type 0
 BytesTell size s (Ok x) = KnowsHead size x.0 x.1 s
-BytesTell size s (Err rule) = HeadReads size s (bad (Invalid rule))
+BytesTell size s (Err fault) = HeadReads size s (bad (fault_of fault))
+
+-- the bytes are a head of which this is told where samples have this size, and n bytes follow it; none follows a bad one
+abbrev pub KnowsTold : ℕ → Result Head LogFault → ℕ → List ℕ → Type 0
+KnowsTold size (Ok head) n s = KnowsHead size head n s
+KnowsTold size (Err fault) n s = (n ≡ 0) × HeadReads size s (bad (fault_of fault))
+
+-- a bad head was taken, and no more
+abbrev pub TakesBadHead : ℕ → Option (List ℕ) → Option (List ℕ) → LogFault → Type 0
+TakesBadHead size before after fault = (t : List ℕ) × (length t ≡ head_length size) × sample_format.says size t (faulty (fault_of fault)) × Consumes before after t
+
+-- why a call on a stream gives no item: its head is bad, or there is another cause
+abbrev pub StopsFor : ℕ → Option (List ℕ) → Option (List ℕ) → Bool → LogError → Type 0
+StopsFor size before after failed (Refused fault) = (failed ≡ false) × TakesBadHead size before after fault
+StopsFor size before after failed (Stopped e) = HasCause (sample_format.says size) before failed e × TakesAsked (sample_format.says size) before after
+
+-- one call that takes an item: the item, or nothing exactly at the end of the stream, or it stops
+abbrev pub TakesSample : {X : Type 0} → ℕ → (X → Item) → Option (List ℕ) → Option (List ℕ) → Bool → Result (Option X) LogError → Type 0
+TakesSample size view before after failed (Ok None) = (failed ≡ false) × IsAtEnd before × Keeps before after
+TakesSample size view before after failed (Ok (Some x)) = (failed ≡ false) × Takes (sample_format.says size) before after (view x)
+TakesSample size view before after failed (Err e) = StopsFor size before after failed e
+
+-- one call of a reader's next; once it stopped it is None for good, and touches nothing
+abbrev pub NextSample : {X : Type 0} → ℕ → (X → Item) → Option (List ℕ) → Option (List ℕ) → Bool → Bool → Bool → Bool → Option (Result X LogError) → Type 0
+NextSample size view before after true done old new None = (done ≡ true) × (new ≡ old) × Keeps before after
+NextSample size view before after true done old new (Some r) = ⊥
+NextSample size view before after false done old new None = (done ≡ false) × (new ≡ false) × IsAtEnd before × Keeps before after
+NextSample size view before after false done old new (Some (Ok x)) = (done ≡ false) × (new ≡ false) × Takes (sample_format.says size) before after (view x)
+NextSample size view before after false done old new (Some (Err e)) = (done ≡ true) × StopsFor size before after new e

@@ -2,8 +2,7 @@
 
 use crate::lent::parse_log;
 use crate::rows::{ITEMS, LOG};
-use crate::samples::SamplesOf;
-use pcap_core::rules::Rule;
+use crate::samples::{LogFault, SamplesOf};
 use pcap_core::run::Ended;
 use std::alloc::{AllocError, Global};
 use std::test::Fail;
@@ -57,18 +56,18 @@ fn cut_logs(rt: HostRuntime) -> Result<(), Fail> {
     Ok(())
 }
 
-// Whether a head of this kind and number behind two items ends the run, by this rule.
-fn is_refused(alloc: Global, kind: u8, number: u8, rule: Rule) -> Result<bool, AllocError> {
+// Whether a head of this kind and number behind two items ends the run, for this fault.
+fn is_refused(alloc: Global, kind: u8, number: u8, fault: LogFault) -> Result<bool, AllocError> {
     let log = [0, 1, 0, 1, 0, 2, 0, 9, 5, 0, kind, number, 0];
     let run = parse_log(alloc, &mut SamplesOf { size: 0 }, &log)?;
-    let is_named = matches!(run.ended, Ended::Refused(told) if told == rule);
+    let is_named = matches!(run.ended, Ended::Refused(told) if told == fault);
     Ok(is_named && run.items.len() == 2 && run.used == 9)
 }
 
-// A head that breaks a rule of the log ends the run, whatever the items before it made the size of samples.
+// A bad head ends the run, whatever the items before it made the size of samples.
 #[test]
 fn refused_logs(rt: HostRuntime) -> Result<(), Fail> {
-    assert!(rt; is_refused(rt.alloc(), 3, 0, Rule::CaptureMagic)?);
-    assert!(rt; is_refused(rt.alloc(), 1, 4, Rule::UnknownTooLong)?);
+    assert!(rt; is_refused(rt.alloc(), 3, 0, LogFault::UnknownKind)?);
+    assert!(rt; is_refused(rt.alloc(), 1, 4, LogFault::SizeTooLarge)?);
     Ok(())
 }

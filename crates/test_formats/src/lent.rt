@@ -1,12 +1,10 @@
 //! The items of a log that lies in a slice, which lend their bytes from it.
 
 ghost use Rattle.std.specs.Prelude.{◌≡◌, ℕ, map, IfErr, IfOk};
-ghost use Rattle.pcap_core.specs.Faults.{Invalid};
 ghost use Rattle.pcap_core.specs.Items.{GrowsIn, RunsTo};
-ghost use Rattle.test_formats.specs.Samples.{Item, item_of, sample_format, size_after};
+ghost use Rattle.test_formats.specs.Samples.{Item, item_of, sample_format, size_after, fault_of};
 
-use crate::samples::{Head, SamplesOf, head_in, head_len};
-use pcap_core::rules::Rule;
+use crate::samples::{Head, LogFault, SamplesOf, head_in, head_len};
 use pcap_core::run::{Found, ItemRun, Items, parse_items};
 use std::alloc::{AllocError, Global};
 
@@ -32,8 +30,7 @@ fn after_head(size: u16, head: Head) -> u16
 impl<'a> Items<'a> for SamplesOf {
     type Item = Lent<'a>;
 
-    // A log's own fault is the rule, and no error of captures.
-    type Refusal = Rule;
+    type Refusal = LogFault;
 
     ghost State = { ℕ };
 
@@ -51,21 +48,21 @@ impl<'a> Items<'a> for SamplesOf {
 
     ghost lent = { λ _. Unit {0} };
 
-    ghost shows = { λ rule fault. fault ≡ Invalid rule };
+    ghost shows = { λ told fault. fault ≡ fault_of told };
 
     ghost grows = { λ _ _. ⊥ };
 
     fn next_item(
         &mut self,
         slice: &'a [u8],
-    ) -> Result<Found<(&'a [u8], Lent<'a>), Rule>, AllocError> {
+    ) -> Result<Found<(&'a [u8], Lent<'a>), LogFault>, AllocError> {
         let len = head_len(self.size);
         if slice.len() < len {
             return Ok(Found::Needs(len - slice.len()));
         }
         let (front, after) = slice.split_at(len);
         match head_in(self.size, front) {
-            Err(rule) => Ok(Found::Refused(rule)),
+            Err(fault) => Ok(Found::Refused(fault)),
             Ok((_, n)) if after.len() < n => Ok(Found::Needs(n - after.len())),
             Ok((head, n)) => {
                 let (bytes, after) = after.split_at(n);
@@ -83,8 +80,8 @@ pub fn parse_log<'a>(
     alloc: Global,
     samples: &mut SamplesOf,
     log: &'a [u8],
-) -> Result<ItemRun<Lent<'a>, Rule>, AllocError>
-    ensures front { IfOk result (λ run. RunsTo sample_format (λ item. item) (λ rule fault. fault ≡ Invalid rule) samples.old.size samples.new.size (map item_of run.items.items) log.now
+) -> Result<ItemRun<Lent<'a>, LogFault>, AllocError>
+    ensures front { IfOk result (λ run. RunsTo sample_format (λ item. item) (λ told fault. fault ≡ fault_of told) samples.old.size samples.new.size (map item_of run.items.items) log.now
         run.used run.ended) }
     ensures memory { IfErr result (λ _. GrowsIn sample_format (λ _ _. ⊥) samples.old.size log.now) }
 {

@@ -1,8 +1,8 @@
 //! Worked rows of a log that changes the size of its samples, off streams that give few bytes at once, end or fail.
 
-use crate::samples::{Head, SampleReader, SamplesOf, take_next};
+use crate::samples::{Head, LogError, LogFault, SampleReader, SamplesOf, take_next};
+use pcap_core::PcapError;
 use pcap_core::stream::{Fill, HasHead, Held, Told};
-use pcap_core::{PcapError, ResultParsing};
 use std::alloc::{AllocError, Global};
 use std::io::ErrorKind;
 use std::test::Fail;
@@ -24,12 +24,12 @@ pub const ITEMS: [(Head, &[u8], usize); 6] = [
     (Head::Sample(256), &[4, 5, 6], 29),
 ];
 
-pub(crate) fn is_head(given: &Option<ResultParsing<Head>>, head: Head) -> bool {
+pub(crate) fn is_head(given: &Option<Result<Head, LogError>>, head: Head) -> bool {
     matches!(given, Some(Ok(other)) if *other == head)
 }
 
-fn is_io(given: &Option<ResultParsing<Head>>, kind: ErrorKind) -> bool {
-    matches!(given, Some(Err(PcapError::IoError(e))) if e.kind() == kind)
+fn is_io(given: &Option<Result<Head, LogError>>, kind: ErrorKind) -> bool {
+    matches!(given, Some(Err(LogError::Stopped(PcapError::IoError(e)))) if e.kind() == kind)
 }
 
 pub(crate) fn is_item(item: &Option<(Head, Vec<u8>)>, head: Head, bytes: &[u8]) -> bool {
@@ -40,8 +40,8 @@ fn is_early_end(error: Option<PcapError>) -> bool {
     matches!(error, Some(PcapError::IoError(e)) if e.kind() == ErrorKind::UnexpectedEof)
 }
 
-pub(crate) fn names(given: &Option<ResultParsing<Head>>, message: &str) -> bool {
-    matches!(given, Some(Err(PcapError::InvalidField(text))) if *text == message)
+pub(crate) fn names(given: &Option<Result<Head, LogError>>, fault: LogFault) -> bool {
+    matches!(given, Some(Err(LogError::Refused(told))) if *told == fault)
 }
 
 // A reader of these bytes, so many at most in a read.
@@ -125,26 +125,26 @@ fn log_with(alloc: Global, head: [u8; 4]) -> Result<Vec<u8>, AllocError> {
 }
 
 // Whether the second head is refused so: no byte behind it was taken, and nothing comes after it.
-fn refuses(alloc: Global, head: [u8; 4], message: &str) -> Result<bool, AllocError> {
+fn refuses(alloc: Global, head: [u8; 4], fault: LogFault) -> Result<bool, AllocError> {
     let bytes = log_with(alloc, head)?;
     let mut reader = reader(alloc, bytes.as_slice(), 9)?;
     let is_first = is_head(&reader.next_head(), Head::Size(2));
-    let is_named = names(&reader.next_head(), message) && reader.get_ref().taken == 8;
+    let is_named = names(&reader.next_head(), fault) && reader.get_ref().taken == 8;
     Ok(is_first && is_named && is_done(&mut reader, 8))
 }
 
 #[test]
 fn refused_heads(rt: HostRuntime) -> Result<(), Fail> {
-    // a head behind a size of two bytes, and the message of its refusal
-    let rows: [([u8; 4], &str); 5] = [
-        ([0, 0, 0, 9], "PcapHeader wrong magic number"),
-        ([0, 3, 0, 9], "PcapHeader wrong magic number"),
-        ([1, 2, 0, 9], "PcapHeader wrong magic number"),
-        ([0, 1, 3, 0xe9], "UnknownBlock: length > 0xFFFFFFFF"),
-        ([0, 1, 0xff, 0xff], "UnknownBlock: length > 0xFFFFFFFF"),
+    // a head behind a size of two bytes, and its fault
+    let rows = [
+        ([0, 0, 0, 9], LogFault::UnknownKind),
+        ([0, 3, 0, 9], LogFault::UnknownKind),
+        ([1, 2, 0, 9], LogFault::UnknownKind),
+        ([0, 1, 3, 0xe9], LogFault::SizeTooLarge),
+        ([0, 1, 0xff, 0xff], LogFault::SizeTooLarge),
     ];
-    for (head, message) in rows {
-        assert!(rt; refuses(rt.alloc(), head, message)?, "{message}");
+    for (head, fault) in rows {
+        assert!(rt; refuses(rt.alloc(), head, fault)?, "{fault:?}");
     }
     Ok(())
 }
@@ -209,13 +209,13 @@ fn failed_reads(rt: HostRuntime) -> Result<(), Fail> {
 fn fills(alloc: Global, stream: Halting) -> bool {
     let samples = SamplesOf { size: 3 };
     let mut fill = Fill::new(alloc, Told::new(stream));
-    if !matches!(fill.item(&samples), Ok(Some(Head::Sample(5)))) {
+    if !matches!(fill.item(&samples), Ok(Some(Ok(Head::Sample(5))))) {
         return false;
     }
     let is_first = fill.held() == [0, 2, 0, 5, 7, 8, 9].as_slice();
     let is_asked = samples.head() == 4 && fill.get_ref().most_room == 4;
     fill.clear();
-    if !matches!(fill.item(&samples), Ok(Some(Head::Size(1)))) {
+    if !matches!(fill.item(&samples), Ok(Some(Ok(Head::Size(1))))) {
         return false;
     }
     let is_second = fill.held() == [0, 1, 0, 1].as_slice();

@@ -2,22 +2,20 @@
 //!
 //! An item begins with its kind, two bytes, and a number, both high byte first. The number has two bytes, or four where
 //! samples have more than eight. Kind 1 says how many bytes each sample after it has, at most 1000; kind 2 is a sample of the
-//! channel of this number, and its bytes follow. Before the first size a sample has no bytes. The log has no rules of its own: any other kind breaks `CaptureMagic`, a larger size
-//! `UnknownTooLong`.
+//! channel of this number, and its bytes follow. Before the first size a sample has no bytes. Any other kind
+//! and a larger size are faults of the log, and no rules of captures.
 
 ghost use Rattle.std.specs.Prelude.{◌≡◌, ℕ, false, [], length, drop, OnOk};
 ghost use Rattle.byteorder.specs.Endian.{big_number};
 ghost use Rattle.pcap_core.specs.Answer.{Number};
 ghost use Rattle.pcap_core.specs.Fill.{held_of, stream_of as source_of, has_failed as source_failed};
 ghost use Rattle.pcap_core.specs.Held.{held_bytes};
-ghost use Rattle.pcap_core.specs.Reading.{NextGives, Pulls};
-ghost use Rattle.test_formats.specs.Samples.{meaning, number_width, head_length, sample_format, held_item, item_with, size_behind, HeadTells, BytesTell};
+ghost use Rattle.test_formats.specs.Samples.{meaning, number_width, head_length, sample_format, held_item, item_with, size_behind, HeadTells, BytesTell, TakesSample, NextSample};
 
 use byteorder::BigEndian;
-use pcap_core::ResultParsing;
 use pcap_core::fields::{split_u16, split_u32};
-use pcap_core::rules::Rule;
 use pcap_core::stream::{Fill, HasHead, Held, Told, take_item};
+use pcap_core::{PcapError, ResultParsing};
 use std::alloc::Global;
 use std::io::Read;
 
@@ -36,6 +34,24 @@ pub enum Head {
     Sample(u32),
 }
 
+/// What is wrong with a head.
+#[derive(Clone, Copy, Debug, PartialEq, Eq)]
+pub enum LogFault {
+    /// A kind that no log has.
+    UnknownKind,
+    /// A size above `SIZE_LIMIT`.
+    SizeTooLarge,
+}
+
+/// Why a call on a stream gives no item.
+#[derive(Debug, Drop)]
+pub enum LogError {
+    /// The head is bad.
+    Refused(LogFault),
+    /// `IoError` where a read failed, or the stream ended inside the item. `OutOfMemory` where its bytes can't be held.
+    Stopped(PcapError),
+}
+
 /// The items of a log where samples have this size.
 #[derive(Clone, Copy)]
 pub struct SamplesOf {
@@ -45,14 +61,14 @@ pub struct SamplesOf {
 
 // What a kind and a number say, and how many bytes follow, where samples have this size.
 #[tactic(auto, unfolding(crate::specs::Samples::meaning))]
-fn head_of(size: u16, kind: u16, number: u32) -> Result<(Head, usize), Rule>
+fn head_of(size: u16, kind: u16, number: u32) -> Result<(Head, usize), LogFault>
     ensures { HeadTells (meaning size kind number) result }
 {
     match kind {
-        1 if number > u32::from(SIZE_LIMIT) => Err(Rule::UnknownTooLong),
+        1 if number > u32::from(SIZE_LIMIT) => Err(LogFault::SizeTooLarge),
         1 => Ok((Head::Size(number as u16), 0)),
         2 => Ok((Head::Sample(number), usize::from(size))),
-        _ => Err(Rule::CaptureMagic),
+        _ => Err(LogFault::UnknownKind),
     }
 }
 
@@ -76,7 +92,7 @@ fn number_of(size: u16, bytes: &[u8]) -> u32
 }
 
 // What the bytes of a head say, and how many bytes follow, where samples have this size.
-pub(crate) fn head_in(size: u16, bytes: &[u8]) -> Result<(Head, usize), Rule>
+pub(crate) fn head_in(size: u16, bytes: &[u8]) -> Result<(Head, usize), LogFault>
     requires { length bytes.now ≡ head_length size }
     ensures { BytesTell size bytes.now result }
 {
@@ -85,9 +101,10 @@ pub(crate) fn head_in(size: u16, bytes: &[u8]) -> Result<(Head, usize), Rule>
 }
 
 impl HasHead for SamplesOf {
-    ghost use Rattle.test_formats.specs.Samples.{Item, KnowsHead};
+    ghost use Rattle.test_formats.specs.Samples.{Item, KnowsTold};
 
-    type Head = Head;
+    // A bad head is known as one, and no error of captures tells it.
+    type Head = Result<Head, LogFault>;
 
     ghost State = { ℕ };
 
@@ -97,16 +114,18 @@ impl HasHead for SamplesOf {
 
     ghost state = { λ samples. samples.size };
 
-    ghost knows = { λ samples head n bytes. KnowsHead samples.size head n bytes };
+    ghost knows = { λ samples told n bytes. KnowsTold samples.size told n bytes };
 
     #[tactic(auto, unfolding(crate::specs::Samples::sample_format))]
     fn head(&self) -> usize {
         head_len(self.size)
     }
 
-    fn stated(&self, bytes: &[u8]) -> ResultParsing<(Head, usize)> {
-        let stated = head_in(self.size, bytes)?;
-        Ok(stated)
+    fn stated(&self, bytes: &[u8]) -> ResultParsing<(Result<Head, LogFault>, usize)> {
+        match head_in(self.size, bytes) {
+            Ok((head, n)) => Ok((Ok(head), n)),
+            Err(fault) => Ok((Err(fault), 0)),
+        }
     }
 }
 
@@ -143,10 +162,9 @@ impl<T: Read + Drop> SampleReader<T> {
 
     /// The head of the next item, whose bytes the reader lends from then on.
     ///
-    /// `InvalidField` for the rule that the head breaks. `IoError` where a read failed, or the stream ended inside the item.
-    /// `OutOfMemory` where its bytes can't be held.
-    pub fn next_head(&mut self) -> Option<ResultParsing<Head>>
-        ensures next { NextGives (sample_format.says (size_of self.old)) (held_item (size_of self.old) (bytes_held self.new)) (T.remaining (stream_of self.old)) (T.remaining (stream_of self.new)) (is_done self.old) (is_done self.new) (has_failed self.old) (has_failed self.new) result }
+    /// Of a bad head no byte behind it is taken.
+    pub fn next_head(&mut self) -> Option<Result<Head, LogError>>
+        ensures next { NextSample (size_of self.old) (held_item (size_of self.old) (bytes_held self.new)) (T.remaining (stream_of self.old)) (T.remaining (stream_of self.new)) (is_done self.old) (is_done self.new) (has_failed self.old) (has_failed self.new) result }
         ensures size { size_of self.new ≡ size_behind (size_of self.old) result }
         ensures bytes { bytes_of self.new ≡ drop (head_length (size_of self.old)) (bytes_held self.new) }
     {
@@ -191,12 +209,17 @@ impl<T: Read + Drop> SampleReader<T> {
 }
 
 // Holds the next item, its head too.
-fn fill_next<T: Read>(size: u16, fill: &mut Fill<T>) -> ResultParsing<Option<Head>>
+fn fill_next<T: Read>(size: u16, fill: &mut Fill<T>) -> Result<Option<Head>, LogError>
     requires between { held_of fill.old ≡ [] }
     requires unfailed { source_failed fill.old ≡ false }
-    ensures { Pulls (sample_format.says size) (held_item size (held_of fill.new)) (T.remaining (source_of fill.old)) (T.remaining (source_of fill.new)) (source_failed fill.new) result }
+    ensures { TakesSample size (held_item size (held_of fill.new)) (T.remaining (source_of fill.old)) (T.remaining (source_of fill.new)) (source_failed fill.new) result }
 {
-    fill.item(&SamplesOf { size })
+    match fill.item(&SamplesOf { size }) {
+        Ok(None) => Ok(None),
+        Ok(Some(Ok(head))) => Ok(Some(head)),
+        Ok(Some(Err(fault))) => Err(LogError::Refused(fault)),
+        Err(error) => Err(LogError::Stopped(error)),
+    }
 }
 
 /// Takes the next item off a stream where samples have this size: its head, and its bytes in a vector of their own. None
@@ -209,11 +232,16 @@ pub fn take_next<T: Read>(
     stream: &mut T,
     has_failed: &mut bool,
     held: &mut Held,
-) -> ResultParsing<Option<(Head, Vec<u8>)>>
+) -> Result<Option<(Head, Vec<u8>)>, LogError>
     requires between { held_bytes held.old ≡ [] }
     requires unfailed { has_failed.old ≡ false }
-    ensures takes { Pulls (sample_format.says size) (λ x. item_with x.0 x.1.items) (T.remaining stream.old) (T.remaining stream.new) has_failed.new result }
+    ensures takes { TakesSample size (λ x. item_with x.0 x.1.items) (T.remaining stream.old) (T.remaining stream.new) has_failed.new result }
     ensures between { OnOk result (held_bytes held.new ≡ []) }
 {
-    take_item(alloc, &SamplesOf { size }, stream, has_failed, held)
+    match take_item(alloc, &SamplesOf { size }, stream, has_failed, held) {
+        Ok(None) => Ok(None),
+        Ok(Some((Ok(head), bytes))) => Ok(Some((head, bytes))),
+        Ok(Some((Err(fault), _none))) => Err(LogError::Refused(fault)),
+        Err(error) => Err(LogError::Stopped(error)),
+    }
 }

@@ -2,8 +2,7 @@
 
 use crate::lent::parse_log;
 use crate::rows::{gives_all, gives_cut, is_done, is_head, is_item, names, reader};
-use crate::samples::{Head, SamplesOf, take_next};
-use pcap_core::rules::Rule;
+use crate::samples::{Head, LogFault, SamplesOf, take_next};
 use pcap_core::run::Ended;
 use pcap_core::stream::{Fill, HasHead, Held, Told};
 use std::alloc::{AllocError, Global};
@@ -83,24 +82,11 @@ fn lent_cut_logs(rt: HostRuntime) -> Result<(), Fail> {
     Ok(())
 }
 
-// Heads of six bytes that are refused, with the rule and its message. The second number would be a good one without its
-// upper half.
-const REFUSED: [([u8; 6], Rule, &str); 3] = [
-    (
-        [0, 3, 0, 0, 0, 0],
-        Rule::CaptureMagic,
-        "PcapHeader wrong magic number",
-    ),
-    (
-        [0, 1, 0, 1, 0, 5],
-        Rule::UnknownTooLong,
-        "UnknownBlock: length > 0xFFFFFFFF",
-    ),
-    (
-        [0, 1, 0, 0, 3, 0xe9],
-        Rule::UnknownTooLong,
-        "UnknownBlock: length > 0xFFFFFFFF",
-    ),
+// Heads of six bytes that are refused, with their faults. The second number would be a good one without its upper half.
+const REFUSED: [([u8; 6], LogFault); 3] = [
+    ([0, 3, 0, 0, 0, 0], LogFault::UnknownKind),
+    ([0, 1, 0, 1, 0, 5], LogFault::SizeTooLarge),
+    ([0, 1, 0, 0, 3, 0xe9], LogFault::SizeTooLarge),
 ];
 
 // A size of nine bytes, this head, and a zero.
@@ -111,28 +97,28 @@ fn log_with(alloc: Global, head: [u8; 6]) -> Result<Vec<u8>, AllocError> {
     Ok(bytes)
 }
 
-// Whether this head ends a run over a slice, by this rule.
-fn ends_run(alloc: Global, head: [u8; 6], rule: Rule) -> Result<bool, AllocError> {
+// Whether this head ends a run over a slice, for this fault.
+fn ends_run(alloc: Global, head: [u8; 6], fault: LogFault) -> Result<bool, AllocError> {
     let log = log_with(alloc, head)?;
     let run = parse_log(alloc, &mut SamplesOf { size: 0 }, log.as_slice())?;
-    let is_named = matches!(run.ended, Ended::Refused(told) if told == rule);
+    let is_named = matches!(run.ended, Ended::Refused(told) if told == fault);
     Ok(is_named && run.items.len() == 1 && run.used == 4)
 }
 
-// Whether a reader refuses this head with this message, and takes no byte behind it.
-fn ends_reader(alloc: Global, head: [u8; 6], message: &str) -> Result<bool, AllocError> {
+// Whether a reader refuses this head for this fault, and takes no byte behind it.
+fn ends_reader(alloc: Global, head: [u8; 6], fault: LogFault) -> Result<bool, AllocError> {
     let log = log_with(alloc, head)?;
     let mut reader = reader(alloc, log.as_slice(), 4)?;
     let is_first = is_head(&reader.next_head(), Head::Size(9));
-    let is_named = names(&reader.next_head(), message);
+    let is_named = names(&reader.next_head(), fault);
     Ok(is_first && is_named && is_done(&mut reader, 10))
 }
 
 #[test]
 fn refused_heads(rt: HostRuntime) -> Result<(), Fail> {
-    for (head, rule, message) in REFUSED {
-        assert!(rt; ends_run(rt.alloc(), head, rule)?, "{message}");
-        assert!(rt; ends_reader(rt.alloc(), head, message)?, "{message}");
+    for (head, fault) in REFUSED {
+        assert!(rt; ends_run(rt.alloc(), head, fault)?, "{fault:?}");
+        assert!(rt; ends_reader(rt.alloc(), head, fault)?, "{fault:?}");
     }
     Ok(())
 }
@@ -160,12 +146,12 @@ fn read_cut_logs(rt: HostRuntime) -> Result<(), Fail> {
 fn fills(alloc: Global, stream: Halting) -> bool {
     let samples = SamplesOf { size: 9 };
     let mut fill = Fill::new(alloc, Told::new(stream));
-    if !matches!(fill.item(&samples), Ok(Some(Head::Sample(70_000)))) {
+    if !matches!(fill.item(&samples), Ok(Some(Ok(Head::Sample(70_000))))) {
         return false;
     }
     let is_first = samples.head() == 6 && fill.held() == back(front(&LOG, 35), 20);
     fill.clear();
-    let is_size = matches!(fill.item(&samples), Ok(Some(Head::Size(1))));
+    let is_size = matches!(fill.item(&samples), Ok(Some(Ok(Head::Size(1)))));
     is_first && is_size && fill.held() == [0, 1, 0, 0, 0, 1].as_slice()
 }
 

@@ -5,7 +5,7 @@ use pcap_core::stream::Held;
 use pcap_core::{PcapError, ResultParsing};
 use std::alloc::Global;
 use std::io::{self, Cursor};
-use test_formats::samples::{SampleReader, take_next};
+use test_formats::samples::{LogError, SampleReader, take_next};
 
 /// A sample of three bytes, and the size before it.
 const LOG: [u8; 11] = [0, 1, 0, 3, 0, 2, 0, 7, 4, 5, 6];
@@ -25,7 +25,10 @@ fn next_head(alloc: Global) -> ResultParsing<()> {
             Some(Err(_)) if reader.failed() => {
                 return Err(PcapError::InvalidField("no read failed"));
             }
-            Some(Err(error)) => return Err(error),
+            Some(Err(LogError::Stopped(error))) => return Err(error),
+            Some(Err(LogError::Refused(_))) => return Err(PcapError::InvalidField(
+                "no head is bad",
+            )),
         }
     }
     Ok(())
@@ -35,8 +38,10 @@ fn take(alloc: Global) -> ResultParsing<()> {
     let (_size, mut sample) = LOG.split_at(4);
     let mut has_failed = false;
     let mut held = Held::new(alloc);
-    match take_next(alloc, 3, &mut sample, &mut has_failed, &mut held)? {
-        None => Err(PcapError::InvalidField("no item came")),
-        Some((_head, _bytes)) => Ok(()),
+    match take_next(alloc, 3, &mut sample, &mut has_failed, &mut held) {
+        Ok(Some((_head, _bytes))) => Ok(()),
+        Ok(None) => Err(PcapError::InvalidField("no item came")),
+        Err(LogError::Stopped(error)) => Err(error),
+        Err(LogError::Refused(_)) => Err(PcapError::InvalidField("no head is bad")),
     }
 }

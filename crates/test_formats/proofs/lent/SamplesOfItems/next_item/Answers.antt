@@ -1,7 +1,6 @@
 use Rattle.std.proofs.Common.{◌≡◌, ◌<◌, ◌++◌, ◌∙◌, length, refl, sym, arith}
 use Rattle.std.proofs.lemmas.List.{take-append-drop}
-use Rattle.pcap_core.specs.Faults.{Invalid}
-use Rattle.test_formats.specs.Samples.{head_length, item_with, sample_format}
+use Rattle.test_formats.specs.Samples.{head_length, fault_of, item_with, sample_format}
 use Rattle.test_formats.proofs.LentSamples.{lent_short, lent_refused, lent_lacks, lent_whole}
 use Rattle.test_formats.proofs.lent.SamplesOfItems.next_item.Goals as goal
 
@@ -20,8 +19,8 @@ returns-in-Err-clause-finds c =
     let after = c.split_at.result.1.now in
     let split : s ≡ front ++ after = rw (c.split_at.ensures.front, c.split_at.ensures.back) (sym (take-append-drop c.head_len-len.result s)) in
     let long : length front ≡ head_length size = c.split_at.ensures.front_len ∙ c.head_len-len.ensures in
-    let rule = c.in-Err.rule in
-    (refl, (Invalid rule, refl, lent_refused size s front after split long (Invalid rule) c.in-Err.ensures))
+    let fault = fault_of c.in-Err.fault in
+    (refl, (fault, refl, lent_refused size s front after split long fault c.in-Err.ensures))
 
 pub returns-in-Ok-clause-finds : goal.returns-in-Ok-clause-finds
 returns-in-Ok-clause-finds c =
