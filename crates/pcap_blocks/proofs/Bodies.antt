@@ -8,14 +8,16 @@ use Rattle.pcap_core.specs.declared.common.Endianness.{Endianness}
 use Rattle.pcap_core.specs.declared.common.Endianness.TheVariants.{Big, Little}
 use Rattle.pcap_core.specs.Answer.{Order, Number, number_in}
 use Rattle.pcap_core.specs.Faults.{Fault}
-use Rattle.pcap_blocks.specs.declared.refusal.Refusal.{Refusal}
+use Rattle.pcap_options.specs.declared.refusal.Refusal.{Refusal}
 use Rattle.pcap_blocks.specs.declared.section_header.SectionHeaderBlock.{SectionHeaderBlock}
-use Rattle.pcap_blocks.specs.Refusal.{FindsWhere}
+use Rattle.pcap_options.specs.Refusal.{FindsWhere}
 use Rattle.pcap_core.specs.Padded.{Behind}
-use Rattle.pcap_blocks.specs.Options.{may_end_with_body, ListFault}
-use Rattle.pcap_blocks.specs.InterfaceDescription.{interface_description, InterfaceFault, in_options}
-use Rattle.pcap_blocks.specs.SectionHeader.{section_header, magic_order, AfterMagicFault, AfterMagicSays, AfterMagicMayGrow, SectionFault, after_magic, SectionSays, SectionMayGrow, section_of}
-use Rattle.pcap_blocks.proofs.Refusals.{denies_more}
+use Rattle.pcap_options.specs.Options.{may_end_with_body, ListFault}
+use Rattle.pcap_options.specs.InterfaceOption.{interface_description}
+use Rattle.pcap_blocks.specs.InterfaceDescription.{InterfaceFault, in_options}
+use Rattle.pcap_options.specs.SectionOption.{section_header}
+use Rattle.pcap_blocks.specs.SectionHeader.{magic_order, AfterMagicFault, AfterMagicSays, AfterMagicMayGrow, SectionFault, after_magic, SectionSays, SectionMayGrow, section_of}
+use Rattle.pcap_options.proofs.Refusals.{denies_more}
 
 pub interface_fails : (order : Order) (s after : List ℕ) → Behind 8 s after → (f : Fault) → ListFault may_end_with_body order interface_description after f → InterfaceFault order s f
 interface_fails order s after behind f fault = in_options f after behind fault

@@ -1,11 +1,4 @@
-pub mod Refusals
-pub mod Strings
-pub mod Growth
-pub mod ReadOptions
 pub mod Bodies
-pub mod OneVerdict
-pub mod OneOption
-pub mod OneList
 pub mod NumbersThen
 pub mod OneSection
 pub mod OneInterface
@@ -21,5 +14,4 @@ pub mod OneName
 pub mod OneRecord
 pub mod OneResolution
 pub mod OneBody
-pub mod Found
 pub mod Secrets

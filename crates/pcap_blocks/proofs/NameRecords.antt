@@ -7,10 +7,11 @@ use Rattle.pcap_core.proofs.Texts.{split_same}
 use Rattle.pcap_blocks.specs.declared.record.Record.{Record}
 use Rattle.pcap_blocks.specs.declared.record.Record.TheVariants as record_of
 use Rattle.pcap_core.specs.Padded.{Padded, up_to_4, Chain}
-use Rattle.pcap_blocks.specs.Options.{CodeLengthText, may_end_with_body, ListFault}
+use Rattle.pcap_options.specs.Options.{CodeLengthText, may_end_with_body, ListFault}
 use Rattle.pcap_blocks.specs.Record.{NameRecord, End, form_of, RecordValueSays, RecordText, RecordFault, RecordValueMayGrow, RecordMayGrow, wrong, unpadded, name_record_of}
-use Rattle.pcap_blocks.specs.NameResolution.{name_resolution, KeptText, RecordsText, RecordsFault, RecordsMayGrow, kept, named, ResolutionFault, in_options}
-use Rattle.pcap_blocks.proofs.ReadOptions.{head_with}
+use Rattle.pcap_options.specs.NameOption.{name_resolution}
+use Rattle.pcap_blocks.specs.NameResolution.{KeptText, RecordsText, RecordsFault, RecordsMayGrow, kept, named, ResolutionFault, in_options}
+use Rattle.pcap_options.proofs.ReadOptions.{head_with}
 
 pub record_wrong : (order : Order) (type len : ℕ) (s after v more : List ℕ) → CodeLengthText order type len s after → length v ≡ len → after ≡ v ++ more → (f : Fault) → RecordValueSays (form_of type) v (faulty f) → RecordFault order s f
 record_wrong order type len s after v more h is parts f fault = wrong f type v after more (head_with order type len v s after h is) parts fault

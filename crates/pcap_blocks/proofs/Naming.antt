@@ -3,7 +3,7 @@ use Rattle.std.proofs.Common.{◌≡◌, ℕ, ◌+◌, ◌≤◌, suc, ◌<◌, 
 use Rattle.std.specs.Prelude.{Err}
 use Rattle.std.proofs.lemmas.List.{take-append-drop}
 use Rattle.pcap_core.specs.Faults.{Fault}
-use Rattle.pcap_blocks.specs.Values.{string_at}
+use Rattle.pcap_options.specs.Values.{string_at}
 use Rattle.pcap_core.specs.declared.rules.Rule.{Rule}
 use Rattle.pcap_blocks.specs.Record.{AddressFault, in_names, AddressMayGrow}
 use Rattle.pcap_blocks.specs.Names.{NameText, HasNoZero, NameFault, no_string, NamesFault, NamesMayGrow}

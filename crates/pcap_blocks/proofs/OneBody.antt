@@ -20,7 +20,7 @@ use Rattle.pcap_blocks.specs.ParsedBlock.{SectionBody, InterfaceBody, OldPacketB
 use Rattle.pcap_blocks.specs.UnknownBlock.{UnknownSays}
 use Rattle.pcap_core.proofs.Verdicts.{one_made}
 use Rattle.pcap_blocks.proofs.OneSection.{section_one}
-use Rattle.pcap_blocks.proofs.OneVerdict.{IsDecided, one_said}
+use Rattle.pcap_options.proofs.OneVerdict.{IsDecided, one_said}
 use Rattle.pcap_blocks.proofs.OneInterface.{interface_one}
 use Rattle.pcap_blocks.proofs.OnePacket.{packet_body_one}
 use Rattle.pcap_blocks.proofs.OneWhole.{simple_one, journal_one}

@@ -8,13 +8,14 @@ use Rattle.pcap_core.specs.Link.{Link}
 use Rattle.pcap_core.specs.declared.link.DataLink.{DataLink}
 use Rattle.pcap_core.specs.declared.rules.Rule.TheVariants.{InterfaceTooShort}
 use Rattle.pcap_core.proofs.Links.{plain_same, link_of}
-use Rattle.pcap_blocks.specs.Values.{Entry}
-use Rattle.pcap_blocks.specs.Options.{may_end_with_body, ListSays}
-use Rattle.pcap_blocks.specs.InterfaceDescription.{interface_description, Interface, InterfaceHead, InterfaceText, InterfaceFault, short, in_options, InterfaceSays}
+use Rattle.pcap_options.specs.Values.{Entry}
+use Rattle.pcap_options.specs.Options.{may_end_with_body, ListSays}
+use Rattle.pcap_options.specs.InterfaceOption.{interface_description}
+use Rattle.pcap_blocks.specs.InterfaceDescription.{Interface, InterfaceHead, InterfaceText, InterfaceFault, short, in_options, InterfaceSays}
 use Rattle.pcap_core.specs.Padded.{Behind}
 use Rattle.pcap_core.proofs.Numbers.{Values, Numbers}
 use Rattle.pcap_blocks.proofs.NumbersThen.{IsNumbersThen, numbers_then_one}
-use Rattle.pcap_blocks.proofs.OneList.{list_one}
+use Rattle.pcap_options.proofs.OneList.{list_one}
 
 -- link type, reserved number, snap length
 abbrev widths : List ℕ

@@ -8,10 +8,10 @@ use Rattle.pcap_core.specs.Faults.{Fault, Invalid, Utf8}
 use Rattle.pcap_core.specs.Laws.{ExactlyOne}
 use Rattle.pcap_core.specs.declared.rules.Rule.TheVariants.{NameUnended}
 use Rattle.pcap_core.specs.Padded.{Chain}
-use Rattle.pcap_blocks.specs.Values.{string_at}
+use Rattle.pcap_options.specs.Values.{string_at}
 use Rattle.pcap_blocks.specs.Names.{HasNoZero, NameText, NameFault, unended, no_string, NameSays, NamesSay}
 use Rattle.pcap_blocks.proofs.Naming.{name_shorter}
-use Rattle.pcap_blocks.proofs.OneVerdict.{IsDecided, one_said, same_said}
+use Rattle.pcap_options.proofs.OneVerdict.{IsDecided, one_said, same_said}
 use Rattle.pcap_core.proofs.Verdicts.{one_moved, Then, one_then, Stopped, IsMany, one_stopped, whole_no_fault}
 use Rattle.pcap_core.proofs.Formats.{whole_same}
 

@@ -6,7 +6,8 @@ use Rattle.pcap_core.specs.Laws.{ExactlyOne}
 use Rattle.pcap_core.specs.declared.rules.Rule.TheVariants.{EnhancedTooShort}
 use Rattle.pcap_core.proofs.Numbers.{Values}
 use Rattle.pcap_blocks.specs.StoredPacket.{Stored, StoredSays}
-use Rattle.pcap_blocks.specs.Packet.{packet_kind, PacketBody, PacketBodyText, PacketBodyFault, short, in_packet, PacketBodySays}
+use Rattle.pcap_options.specs.PacketOption.{packet_kind}
+use Rattle.pcap_blocks.specs.Packet.{PacketBody, PacketBodyText, PacketBodyFault, short, in_packet, PacketBodySays}
 use Rattle.pcap_blocks.proofs.NumbersThen.{IsNumbersThen, numbers_then_one}
 use Rattle.pcap_blocks.proofs.OneStored.{PacketFault, short_packet, stored_one}
 

@@ -9,15 +9,15 @@ use Rattle.pcap_core.specs.declared.rules.Rule.{Rule}
 use Rattle.pcap_core.specs.declared.rules.Rule.TheVariants.{RecordCut, EndNotEmpty, RecordUnpadded}
 use Rattle.pcap_core.proofs.Texts.{split_same}
 use Rattle.pcap_core.specs.Padded.{Padded, up_to_4}
-use Rattle.pcap_blocks.specs.Options.{CodeLengthText}
+use Rattle.pcap_options.specs.Options.{CodeLengthText}
 use Rattle.pcap_blocks.specs.Names.{NamesSay}
 use Rattle.pcap_blocks.specs.Record.{Address, AddressText, short, in_names, AddressSays, NameRecord, End, Other, Form, no_value, address, any_value, form_of, RecordValueSays, RecordFault, cut, wrong, unpadded, RecordSays}
-use Rattle.pcap_blocks.proofs.ReadOptions.{head_with}
+use Rattle.pcap_options.proofs.ReadOptions.{head_with}
 use Rattle.pcap_core.proofs.Verdicts.{one_moved, Then, one_then, one_made}
 use Rattle.pcap_core.proofs.Numbers.{NumbersSay, numbers_one}
 use Rattle.pcap_blocks.proofs.OneName.{names_one}
-use Rattle.pcap_blocks.proofs.OneVerdict.{IsDecided, one_said}
-use Rattle.pcap_blocks.proofs.OneOption.{widths, head_to, head_from}
+use Rattle.pcap_options.proofs.OneVerdict.{IsDecided, one_said}
+use Rattle.pcap_options.proofs.OneOption.{widths, head_to, head_from}
 use Rattle.pcap_blocks.proofs.NameRecords.{same_padded}
 use Rattle.pcap_core.proofs.OnePadded.{PaddedSays, padded_one, padded_same, no_short_padded}
 

@@ -5,16 +5,17 @@ use Rattle.pcap_core.specs.Answer.{Order, Verdict, whole, lacks, faulty, Made}
 use Rattle.pcap_core.specs.Faults.{Fault}
 use Rattle.pcap_core.specs.Laws.{ExactlyOne}
 use Rattle.pcap_core.specs.Padded.{Chain}
-use Rattle.pcap_blocks.specs.Values.{Entry}
-use Rattle.pcap_blocks.specs.Options.{may_end_with_body, ListSays}
+use Rattle.pcap_options.specs.Values.{Entry}
+use Rattle.pcap_options.specs.Options.{may_end_with_body, ListSays}
 use Rattle.pcap_blocks.specs.Record.{NameRecord, End, Ipv4, Ipv6, Other, RecordText, RecordFault, RecordSays}
-use Rattle.pcap_blocks.specs.NameResolution.{name_resolution, Resolution, KeptText, RecordsSay, ResolutionText, in_records, in_options, ResolutionSays}
+use Rattle.pcap_options.specs.NameOption.{name_resolution}
+use Rattle.pcap_blocks.specs.NameResolution.{Resolution, KeptText, RecordsSay, ResolutionText, in_records, in_options, ResolutionSays}
 use Rattle.pcap_core.proofs.Verdicts.{one_moved, Then, one_then, one_made, Stopped, IsMany, one_stopped, whole_no_fault}
 use Rattle.pcap_core.proofs.OnePadded.{padded_length}
 use Rattle.pcap_core.proofs.Formats.{whole_same}
 use Rattle.pcap_blocks.proofs.OneRecord.{record_one}
-use Rattle.pcap_blocks.proofs.OneVerdict.{IsDecided, same_said}
-use Rattle.pcap_blocks.proofs.OneList.{list_one, head_length}
+use Rattle.pcap_options.proofs.OneVerdict.{IsDecided, same_said}
+use Rattle.pcap_options.proofs.OneList.{list_one, head_length}
 
 record_same : (order : Order) (s : List ℕ) (v w : Verdict NameRecord) → RecordSays order s v → RecordSays order s w → w ≡ v
 record_same order s v w h k = (record_one order s).only w k ∙ sym ((record_one order s).only v h)

@@ -11,13 +11,14 @@ use Rattle.pcap_core.specs.Answer.{Order, Number, number_in, Verdict, whole, lac
 use Rattle.pcap_core.specs.Faults.{Fault, Invalid}
 use Rattle.pcap_core.specs.Laws.{ExactlyOne}
 use Rattle.pcap_core.proofs.Texts.{number_length}
-use Rattle.pcap_blocks.specs.Values.{Entry}
-use Rattle.pcap_blocks.specs.Options.{may_end_with_body, ListSays}
-use Rattle.pcap_blocks.specs.SectionHeader.{section_header, magic_order, Section, VersionText, AfterMagic, AfterMagicFault, SectionText, SectionFault, short, no_magic, after_magic, SectionSays}
+use Rattle.pcap_options.specs.Values.{Entry}
+use Rattle.pcap_options.specs.Options.{may_end_with_body, ListSays}
+use Rattle.pcap_options.specs.SectionOption.{section_header}
+use Rattle.pcap_blocks.specs.SectionHeader.{magic_order, Section, VersionText, AfterMagic, AfterMagicFault, SectionText, SectionFault, short, no_magic, after_magic, SectionSays}
 use Rattle.pcap_core.proofs.Verdicts.{one_moved, Then, one_then, one_made}
 use Rattle.pcap_core.proofs.Numbers.{Values, Numbers, NumbersSay, numbers_one, numbers_behind, numbers_at}
-use Rattle.pcap_blocks.proofs.OneList.{list_one}
-use Rattle.pcap_blocks.proofs.OneVerdict.{IsDecided, one_said}
+use Rattle.pcap_options.proofs.OneList.{list_one}
+use Rattle.pcap_options.proofs.OneVerdict.{IsDecided, one_said}
 
 abbrev too_short : Fault
 too_short = Invalid SectionTooShort

@@ -5,13 +5,14 @@ use Rattle.pcap_core.specs.Answer.{Order, Number, whole, faulty}
 use Rattle.pcap_core.specs.Faults.{Fault, Invalid}
 use Rattle.pcap_core.specs.Laws.{ExactlyOne}
 use Rattle.pcap_core.specs.declared.rules.Rule.TheVariants.{StatisticsTooShort}
-use Rattle.pcap_blocks.specs.Values.{Entry}
-use Rattle.pcap_blocks.specs.Options.{may_end_with_body, ListSays}
-use Rattle.pcap_blocks.specs.InterfaceStatistics.{interface_statistics, Statistics, StatisticsText, StatisticsFault, short, in_options, StatisticsSays}
+use Rattle.pcap_options.specs.Values.{Entry}
+use Rattle.pcap_options.specs.Options.{may_end_with_body, ListSays}
+use Rattle.pcap_options.specs.StatisticsOption.{interface_statistics}
+use Rattle.pcap_blocks.specs.InterfaceStatistics.{Statistics, StatisticsText, StatisticsFault, short, in_options, StatisticsSays}
 use Rattle.pcap_core.specs.Padded.{Behind}
 use Rattle.pcap_core.proofs.Numbers.{Values, Numbers}
 use Rattle.pcap_blocks.proofs.NumbersThen.{IsNumbersThen, numbers_then_one}
-use Rattle.pcap_blocks.proofs.OneList.{list_one}
+use Rattle.pcap_options.proofs.OneList.{list_one}
 
 -- interface, and the halves of the time
 abbrev widths : List ℕ

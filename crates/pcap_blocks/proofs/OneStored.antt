@@ -8,13 +8,13 @@ use Rattle.pcap_core.specs.Faults.{Fault, Invalid}
 use Rattle.pcap_core.specs.Laws.{ExactlyOne}
 use Rattle.pcap_core.specs.Padded.{Behind}
 use Rattle.pcap_core.specs.declared.rules.Rule.TheVariants.{EnhancedTooShort, EnhancedCut}
-use Rattle.pcap_blocks.specs.Values.{Entry, Kind}
-use Rattle.pcap_blocks.specs.Options.{may_end_with_body, ListSays}
+use Rattle.pcap_options.specs.Values.{Entry, Kind}
+use Rattle.pcap_options.specs.Options.{may_end_with_body, ListSays}
 use Rattle.pcap_blocks.specs.StoredPacket.{Stored, StoredHead, StoredText, StoredFault, short, cut, in_options, StoredSays}
 use Rattle.pcap_core.proofs.Verdicts.{one_moved, Then, one_then, one_made}
 use Rattle.pcap_core.proofs.Numbers.{Values, Numbers, NumbersSay, numbers_one}
 use Rattle.pcap_core.proofs.OnePadded.{PaddedSays, padded_one}
-use Rattle.pcap_blocks.proofs.OneList.{list_one}
+use Rattle.pcap_options.proofs.OneList.{list_one}
 use Rattle.pcap_blocks.proofs.StoredPackets.{stored}
 
 -- the halves of the time, captured and original length

@@ -4,15 +4,18 @@ use Rattle.pcap_core.specs.Answer.{Order, Number}
 use Rattle.pcap_core.specs.Faults.{Fault, Invalid}
 use Rattle.pcap_core.specs.declared.rules.Rule.TheVariants.{EnhancedCut}
 use Rattle.pcap_core.specs.Padded.{up_to_4, Padded, Behind}
-use Rattle.pcap_blocks.specs.Values.{Entry, Kind}
-use Rattle.pcap_blocks.specs.Options.{may_end_with_body, ListFault, OptionsMayGrow}
+use Rattle.pcap_options.specs.Values.{Entry, Kind}
+use Rattle.pcap_options.specs.Options.{may_end_with_body, ListFault, OptionsMayGrow}
 use Rattle.pcap_blocks.specs.StoredPacket.{Stored, StoredHead, StoredFault, StoredMayGrow, cut, in_options}
 use Rattle.pcap_blocks.specs.Time.{TimeText}
-use Rattle.pcap_blocks.specs.EnhancedPacket.{enhanced_packet, EnhancedFault}
+use Rattle.pcap_options.specs.EnhancedOption.{enhanced_packet}
+use Rattle.pcap_blocks.specs.EnhancedPacket.{EnhancedFault}
 use Rattle.pcap_blocks.specs.EnhancedPacket as enhanced
-use Rattle.pcap_blocks.specs.Packet.{packet_kind, PacketBodyFault}
+use Rattle.pcap_options.specs.PacketOption.{packet_kind}
+use Rattle.pcap_blocks.specs.Packet.{PacketBodyFault}
 use Rattle.pcap_blocks.specs.Packet as body
-use Rattle.pcap_blocks.specs.InterfaceStatistics.{interface_statistics, StatisticsFault}
+use Rattle.pcap_options.specs.StatisticsOption.{interface_statistics}
+use Rattle.pcap_blocks.specs.InterfaceStatistics.{StatisticsFault}
 use Rattle.pcap_blocks.specs.InterfaceStatistics as statistics
 use Rattle.pcap_core.proofs.Padded.{behind_number, behind_both}
 

@@ -1,21 +1,15 @@
 -- The body of an enhanced packet ('Enhanced Packet Block').
-use Rattle.std.specs.Prelude.{◌≡◌, ◌<◌, ℕ, List, [], ◌∷◌, length, map, All}
+use Rattle.std.specs.Prelude.{◌≡◌, ◌<◌, ℕ, List, [], length, map, All}
 use Rattle.pcap_core.specs.Answer.{Order, Number, Verdict, Says}
 use Rattle.pcap_core.specs.Bytes.{cow_bytes, IsBorrowed, IsOwned}
 use Rattle.pcap_core.specs.Faults.{Fault, Invalid}
-use Rattle.pcap_core.specs.declared.rules.Rule.TheVariants.{EnhancedTooShort, EnhancedFlagsLength, EnhancedDropCountLength}
+use Rattle.pcap_core.specs.declared.rules.Rule.TheVariants.{EnhancedTooShort}
 use Rattle.pcap_blocks.specs.declared.enhanced_packet.EnhancedPacketBlock.{EnhancedPacketBlock}
-use Rattle.pcap_blocks.specs.declared.enhanced_packet.EnhancedPacketOption.{EnhancedPacketOption}
-use Rattle.pcap_blocks.specs.declared.enhanced_packet.EnhancedPacketOption.TheVariants as option_of
 use Rattle.pcap_core.specs.Padded.{Behind}
-use Rattle.pcap_blocks.specs.Values.{Entry, Kind, string, bytes, number, custom}
-use Rattle.pcap_blocks.specs.CommonOptions.{Carried, carries_string, carries_bytes, carries_number, carries_custom_bytes, carries_custom_string, carries_unknown}
-use Rattle.pcap_blocks.specs.Growth.{HoldsAfter}
+use Rattle.pcap_options.specs.Values.{bytes}
+use Rattle.pcap_options.specs.Growth.{HoldsAfter}
 use Rattle.pcap_blocks.specs.StoredPacket.{Stored, StoredText, StoredFault, StoredMayGrow}
-
--- comment, flags, hash, drop count
-abbrev pub enhanced_packet : Kind
-enhanced_packet = (1, string) ∷ (2, number 4 EnhancedFlagsLength) ∷ (3, bytes) ∷ (4, number 8 EnhancedDropCountLength) ∷ custom
+use Rattle.pcap_options.specs.EnhancedOption.{enhanced_packet, enhanced_entry, EnhancedOptionIsBorrowed, EnhancedOptionIsOwned}
 
 -- an enhanced packet, wherever its bytes lie
 pub record Enhanced : Type 0 where
@@ -40,28 +34,6 @@ EnhancedSays order s = Says (λ enhanced rest. EnhancedText order enhanced s res
 -- an enhanced packet has an option
 abbrev pub EnhancedMayGrow : Order → List ℕ → Type 0
 EnhancedMayGrow order = HoldsAfter 4 (StoredMayGrow order enhanced_packet)
-
--- what an option of the code carries
-abbrev pub enhanced_carries : EnhancedPacketOption → Carried
-enhanced_carries (option_of.Comment t) = carries_string 1 t
-enhanced_carries (option_of.Flags n) = carries_number 2 n
-enhanced_carries (option_of.Hash b) = carries_bytes 3 b
-enhanced_carries (option_of.DropCount n) = carries_number 4 n
-enhanced_carries (option_of.CustomBinary o) = carries_custom_bytes o
-enhanced_carries (option_of.CustomUtf8 o) = carries_custom_string o
-enhanced_carries (option_of.Unknown o) = carries_unknown o
-
--- what an option of the code says
-abbrev pub enhanced_entry : EnhancedPacketOption → Entry
-enhanced_entry o = (enhanced_carries o).entry
-
--- its string or bytes are borrowed, where it has any
-abbrev pub EnhancedOptionIsBorrowed : EnhancedPacketOption → Type 0
-EnhancedOptionIsBorrowed o = (enhanced_carries o).is_borrowed
-
--- its string or bytes are owned, where it has any
-abbrev pub EnhancedOptionIsOwned : EnhancedPacketOption → Type 0
-EnhancedOptionIsOwned o = (enhanced_carries o).is_owned
 
 -- a block of the code
 abbrev pub enhanced_of : EnhancedPacketBlock → Enhanced

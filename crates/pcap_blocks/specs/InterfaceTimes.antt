@@ -5,7 +5,7 @@ use Rattle.pcap_times.specs.Times.{unit_of, IsTimeOf}
 use Rattle.pcap_times.specs.declared.clock.Clock.{Clock}
 use Rattle.pcap_times.specs.declared.clock.Timestamp.{Timestamp}
 use Rattle.pcap_blocks.specs.InterfaceDescription.{Interface}
-use Rattle.pcap_blocks.specs.Held.{number_in, first_under}
+use Rattle.pcap_options.specs.Held.{number_in, first_under}
 
 -- a clock of the first unit and the first offset among an interface's options, or of microseconds and of none
 pub record IsClockOf (interface : Interface) (clock : Clock) : Type 0 where

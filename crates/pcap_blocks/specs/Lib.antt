@@ -1,8 +1,3 @@
-pub mod Refusal
-pub mod Growth
-pub mod Values
-pub mod Options
-pub mod CommonOptions
 pub mod SectionHeader
 pub mod InterfaceDescription
 pub mod Time
@@ -18,7 +13,6 @@ pub mod Names
 pub mod Record
 pub mod NameResolution
 pub mod ParsedBlock
-pub mod Held
 pub mod InterfaceTimes
 pub mod StoredBytes
 pub mod Views

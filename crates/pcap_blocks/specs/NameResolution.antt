@@ -1,21 +1,14 @@
 -- The body of a name resolution block ('Name Resolution Block').
-use Rattle.std.specs.Prelude.{◌≡◌, ◌≢◌, ℕ, List, [], ◌∷◌, map, All}
+use Rattle.std.specs.Prelude.{◌≡◌, ◌≢◌, ℕ, List, [], map, All}
 use Rattle.pcap_core.specs.Answer.{Order, Verdict, Says}
 use Rattle.pcap_core.specs.Faults.{Fault}
-use Rattle.pcap_core.specs.declared.rules.Rule.TheVariants.{NameIpv4Length, NameIpv6Length}
 use Rattle.pcap_blocks.specs.declared.name_resolution.NameResolutionBlock.{NameResolutionBlock}
-use Rattle.pcap_blocks.specs.declared.name_resolution.NameResolutionOption.{NameResolutionOption}
-use Rattle.pcap_blocks.specs.declared.name_resolution.NameResolutionOption.TheVariants as option_of
 use Rattle.pcap_core.specs.Padded.{Chain}
-use Rattle.pcap_blocks.specs.Values.{Entry, Kind, string, fixed_bytes, custom}
-use Rattle.pcap_blocks.specs.Growth.{BeginsWith}
-use Rattle.pcap_blocks.specs.Options.{may_end_with_body, OptionList, ListFault, OptionsMayGrow}
-use Rattle.pcap_blocks.specs.CommonOptions.{Carried, carries_string, carries_bytes, carries_custom_bytes, carries_custom_string, carries_unknown}
+use Rattle.pcap_options.specs.Values.{Entry}
+use Rattle.pcap_options.specs.Growth.{BeginsWith}
+use Rattle.pcap_options.specs.Options.{may_end_with_body, OptionList, ListFault, OptionsMayGrow}
 use Rattle.pcap_blocks.specs.Record.{NameRecord, End, RecordText, RecordFault, RecordMayGrow, name_record_of, RecordIsBorrowed, RecordIsOwned}
-
--- comment, and the name and addresses of the server that resolved the names
-abbrev pub name_resolution : Kind
-name_resolution = (1, string) ∷ (2, string) ∷ (3, fixed_bytes 4 NameIpv4Length) ∷ (4, fixed_bytes 16 NameIpv6Length) ∷ custom
+use Rattle.pcap_options.specs.NameOption.{name_resolution, name_entry, NameOptionIsBorrowed, NameOptionIsOwned}
 
 -- names, wherever their bytes lie
 pub record Resolution : Type 0 where
@@ -68,28 +61,6 @@ ResolutionSays order s = Says (λ b rest. ResolutionText order b s rest) (λ n. 
 pub data ResolutionMayGrow (order : Order) (s : List ℕ) : Type 0 where
   with_record : RecordsMayGrow order s → ResolutionMayGrow order s
   with_option : (records : List NameRecord) (after : List ℕ) → RecordsText order records s after → OptionsMayGrow order name_resolution after → ResolutionMayGrow order s
-
--- what an option of the code carries
-abbrev pub name_carries : NameResolutionOption → Carried
-name_carries (option_of.Comment t) = carries_string 1 t
-name_carries (option_of.NsDnsName t) = carries_string 2 t
-name_carries (option_of.NsDnsIpv4Addr b) = carries_bytes 3 b
-name_carries (option_of.NsDnsIpv6Addr b) = carries_bytes 4 b
-name_carries (option_of.CustomBinary o) = carries_custom_bytes o
-name_carries (option_of.CustomUtf8 o) = carries_custom_string o
-name_carries (option_of.Unknown o) = carries_unknown o
-
--- what an option of the code says
-abbrev pub name_entry : NameResolutionOption → Entry
-name_entry o = (name_carries o).entry
-
--- its string or bytes are borrowed, where it has any
-abbrev pub NameOptionIsBorrowed : NameResolutionOption → Type 0
-NameOptionIsBorrowed o = (name_carries o).is_borrowed
-
--- its string or bytes are owned, where it has any
-abbrev pub NameOptionIsOwned : NameResolutionOption → Type 0
-NameOptionIsOwned o = (name_carries o).is_owned
 
 -- a block of the code
 abbrev pub names_of : NameResolutionBlock → Resolution

@@ -4,8 +4,8 @@ use Rattle.pcap_core.specs.Answer.{Verdict, Says}
 use Rattle.pcap_core.specs.Faults.{Fault, Invalid}
 use Rattle.pcap_core.specs.declared.rules.Rule.TheVariants.{NameUnended}
 use Rattle.pcap_core.specs.Padded.{Chain}
-use Rattle.pcap_blocks.specs.Values.{string_at}
-use Rattle.pcap_blocks.specs.Growth.{BeginsWith}
+use Rattle.pcap_options.specs.Values.{string_at}
+use Rattle.pcap_options.specs.Growth.{BeginsWith}
 
 -- no byte is zero
 abbrev pub HasNoZero : List ℕ → Type 0

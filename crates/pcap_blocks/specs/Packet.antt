@@ -1,21 +1,15 @@
 -- The body of an obsolete packet block ('Packet Block').
-use Rattle.std.specs.Prelude.{◌≡◌, ◌<◌, ℕ, List, [], ◌∷◌, length, map, All}
+use Rattle.std.specs.Prelude.{◌≡◌, ◌<◌, ℕ, List, [], length, map, All}
 use Rattle.pcap_core.specs.Answer.{Order, Number, Verdict, Says}
 use Rattle.pcap_core.specs.Bytes.{cow_bytes, IsBorrowed, IsOwned}
 use Rattle.pcap_core.specs.Faults.{Fault, Invalid}
-use Rattle.pcap_core.specs.declared.rules.Rule.TheVariants.{EnhancedTooShort, PacketFlagsLength}
+use Rattle.pcap_core.specs.declared.rules.Rule.TheVariants.{EnhancedTooShort}
 use Rattle.pcap_blocks.specs.declared.packet.PacketBlock.{PacketBlock}
-use Rattle.pcap_blocks.specs.declared.packet.PacketOption.{PacketOption}
-use Rattle.pcap_blocks.specs.declared.packet.PacketOption.TheVariants as option_of
 use Rattle.pcap_core.specs.Padded.{Behind}
-use Rattle.pcap_blocks.specs.Values.{Entry, Kind, string, bytes, number, custom}
-use Rattle.pcap_blocks.specs.CommonOptions.{Carried, carries_string, carries_bytes, carries_number, carries_custom_bytes, carries_custom_string, carries_unknown}
-use Rattle.pcap_blocks.specs.Growth.{HoldsAfter}
+use Rattle.pcap_options.specs.Values.{bytes}
+use Rattle.pcap_options.specs.Growth.{HoldsAfter}
 use Rattle.pcap_blocks.specs.StoredPacket.{Stored, StoredText, StoredFault, StoredMayGrow}
-
--- comment, flags, hash
-abbrev pub packet_kind : Kind
-packet_kind = (1, string) ∷ (2, number 4 PacketFlagsLength) ∷ (3, bytes) ∷ custom
+use Rattle.pcap_options.specs.PacketOption.{packet_kind, packet_entry, PacketOptionIsBorrowed, PacketOptionIsOwned}
 
 -- a packet block, wherever its bytes lie
 pub record PacketBody : Type 0 where
@@ -43,27 +37,6 @@ PacketBodySays order s = Says (λ body rest. PacketBodyText order body s rest) (
 -- a packet block has an option
 abbrev pub PacketBodyMayGrow : Order → List ℕ → Type 0
 PacketBodyMayGrow order = HoldsAfter 4 (StoredMayGrow order packet_kind)
-
--- what an option of the code carries
-abbrev pub packet_carries : PacketOption → Carried
-packet_carries (option_of.Comment t) = carries_string 1 t
-packet_carries (option_of.Flags n) = carries_number 2 n
-packet_carries (option_of.Hash b) = carries_bytes 3 b
-packet_carries (option_of.CustomBinary o) = carries_custom_bytes o
-packet_carries (option_of.CustomUtf8 o) = carries_custom_string o
-packet_carries (option_of.Unknown o) = carries_unknown o
-
--- what an option of the code says
-abbrev pub packet_entry : PacketOption → Entry
-packet_entry o = (packet_carries o).entry
-
--- its string or bytes are borrowed, where it has any
-abbrev pub PacketOptionIsBorrowed : PacketOption → Type 0
-PacketOptionIsBorrowed o = (packet_carries o).is_borrowed
-
--- its string or bytes are owned, where it has any
-abbrev pub PacketOptionIsOwned : PacketOption → Type 0
-PacketOptionIsOwned o = (packet_carries o).is_owned
 
 -- a block of the code
 abbrev pub packet_of : PacketBlock → PacketBody

@@ -14,9 +14,9 @@ use Rattle.pcap_blocks.specs.declared.record.UnknownRecord.{UnknownRecord}
 use Rattle.pcap_blocks.specs.declared.record.Record.{Record}
 use Rattle.pcap_blocks.specs.declared.record.Record.TheVariants as record_of
 use Rattle.pcap_core.specs.Padded.{Padded, up_to_4, Behind}
-use Rattle.pcap_blocks.specs.Options.{CodeLengthText}
+use Rattle.pcap_options.specs.Options.{CodeLengthText}
 use Rattle.pcap_blocks.specs.Names.{NamesText, NamesFault, NamesMayGrow}
-use Rattle.pcap_blocks.specs.Growth.{HoldsAfter}
+use Rattle.pcap_options.specs.Growth.{HoldsAfter}
 
 -- an address and its names
 pub record Address : Type 0 where

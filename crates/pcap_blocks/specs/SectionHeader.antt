@@ -1,5 +1,5 @@
 -- The body of a section header ('Section Header Block').
-use Rattle.std.specs.Prelude.{◌≡◌, ◌≤◌, ◌<◌, ◌==◌, if◌then◌else◌, ℕ, ℤ, List, [], ◌∷◌, length, map, All, Option, Some, None}
+use Rattle.std.specs.Prelude.{◌≡◌, ◌≤◌, ◌<◌, ◌==◌, if◌then◌else◌, ℕ, ℤ, List, [], length, map, All, Option, Some, None}
 use Rattle.std.specs.Int.{w64, cast_signed}
 use Rattle.byteorder.specs.Endian.{big_number}
 use Rattle.pcap_core.specs.declared.common.Endianness.{Endianness}
@@ -8,17 +8,11 @@ use Rattle.pcap_core.specs.declared.rules.Rule.TheVariants.{SectionTooShort, Sec
 use Rattle.pcap_core.specs.Answer.{Order, Number, number_in, Verdict, Says}
 use Rattle.pcap_core.specs.Faults.{Fault, Invalid}
 use Rattle.pcap_blocks.specs.declared.section_header.SectionHeaderBlock.{SectionHeaderBlock}
-use Rattle.pcap_blocks.specs.declared.section_header.SectionHeaderOption.{SectionHeaderOption}
-use Rattle.pcap_blocks.specs.declared.section_header.SectionHeaderOption.TheVariants as option_of
 use Rattle.pcap_core.specs.Padded.{Behind}
-use Rattle.pcap_blocks.specs.Values.{Entry, Kind, string, custom}
-use Rattle.pcap_blocks.specs.Growth.{HoldsAfter}
-use Rattle.pcap_blocks.specs.Options.{may_end_with_body, OptionList, ListFault, OptionsMayGrow}
-use Rattle.pcap_blocks.specs.CommonOptions.{Carried, carries_string, carries_custom_bytes, carries_custom_string, carries_unknown}
-
--- comment, hardware, operating system, application
-abbrev pub section_header : Kind
-section_header = (1, string) ∷ (2, string) ∷ (3, string) ∷ (4, string) ∷ custom
+use Rattle.pcap_options.specs.Values.{Entry}
+use Rattle.pcap_options.specs.Growth.{HoldsAfter}
+use Rattle.pcap_options.specs.Options.{may_end_with_body, OptionList, ListFault, OptionsMayGrow}
+use Rattle.pcap_options.specs.SectionOption.{section_header, section_entry, SectionOptionIsBorrowed, SectionOptionIsOwned}
 
 -- the order that a section's magic number names
 unfoldable pub magic_order : ℕ → Option Endianness
@@ -89,28 +83,6 @@ pub record SectionMayGrow (s : List ℕ) : Type 0 where
   pub magic_is : Number big_number 4 magic s after_magic
   pub names : magic_order magic ≡ Some endianness
   pub grows : AfterMagicMayGrow (number_in endianness) after_magic
-
--- what an option of the code carries
-abbrev pub section_carries : SectionHeaderOption → Carried
-section_carries (option_of.Comment t) = carries_string 1 t
-section_carries (option_of.Hardware t) = carries_string 2 t
-section_carries (option_of.OS t) = carries_string 3 t
-section_carries (option_of.UserApplication t) = carries_string 4 t
-section_carries (option_of.CustomBinary o) = carries_custom_bytes o
-section_carries (option_of.CustomUtf8 o) = carries_custom_string o
-section_carries (option_of.Unknown o) = carries_unknown o
-
--- what an option of the code says
-abbrev pub section_entry : SectionHeaderOption → Entry
-section_entry o = (section_carries o).entry
-
--- its string or bytes are borrowed, where it has any
-abbrev pub SectionOptionIsBorrowed : SectionHeaderOption → Type 0
-SectionOptionIsBorrowed o = (section_carries o).is_borrowed
-
--- its string or bytes are owned, where it has any
-abbrev pub SectionOptionIsOwned : SectionHeaderOption → Type 0
-SectionOptionIsOwned o = (section_carries o).is_owned
 
 -- a block of the code
 abbrev pub section_of : SectionHeaderBlock → Section

@@ -6,9 +6,9 @@ use Rattle.pcap_core.specs.Faults.{Fault, Invalid}
 use Rattle.pcap_core.specs.declared.rules.Rule.TheVariants.{EnhancedTooShort, EnhancedCut}
 use Rattle.pcap_blocks.specs.declared.stored_packet.StoredPacket.{StoredPacket}
 use Rattle.pcap_core.specs.Padded.{up_to_4, Padded}
-use Rattle.pcap_blocks.specs.Values.{Entry, Kind}
+use Rattle.pcap_options.specs.Values.{Entry, Kind}
 use Rattle.pcap_blocks.specs.Time.{TimeText}
-use Rattle.pcap_blocks.specs.Options.{may_end_with_body, OptionList, ListFault, OptionsMayGrow}
+use Rattle.pcap_options.specs.Options.{may_end_with_body, OptionList, ListFault, OptionsMayGrow}
 
 -- a packet that is stored, wherever its bytes lie
 pub record Stored : Type 0 where

@@ -1,27 +1,18 @@
 //! Enhanced packets.
 
-ghost use Rattle.std.specs.Prelude.{map, All, IsOk, IfOk, ◌≡◌, IfErr};
+ghost use Rattle.std.specs.Prelude.{IsOk, IfOk, ◌≡◌, IfErr};
 ghost use Rattle.pcap_core.specs.Answer.{TellsWhere};
-ghost use Rattle.pcap_blocks.specs.Refusal.{FindsWhere};
-ghost use Rattle.pcap_blocks.specs.Options.{may_end_with_body, ListSays, OptionsMayGrow};
-ghost use Rattle.pcap_blocks.specs.EnhancedPacket.{enhanced_packet, EnhancedSays, enhanced_entry, EnhancedOptionIsBorrowed, enhanced_of, EnhancedIsBorrowed, EnhancedOptionIsOwned, EnhancedIsOwned, EnhancedNeedsNoMemory, EnhancedMayGrow};
+ghost use Rattle.pcap_options.specs.Refusal.{FindsWhere};
+ghost use Rattle.pcap_blocks.specs.EnhancedPacket.{EnhancedSays, enhanced_of, EnhancedIsBorrowed, EnhancedIsOwned, EnhancedNeedsNoMemory, EnhancedMayGrow};
 ghost use Rattle.pcap_core.specs.Errors.{IsMemory};
 
-use crate::enhanced_options;
-use crate::kinds::{kept_option, read_option};
-use crate::options::{
-    CustomBinaryOption, CustomUtf8Option, PcapNgOption, UnknownOption, options_from_slice,
-};
-use crate::owned::{IntoStatic, kept_fields};
-use crate::refusal::Refusal;
 use crate::stored_packet::stored_from_slice;
-use crate::values::{string_value, u32_value, u64_value};
 use byteorder::ByteOrder;
 use pcap_core::fields::split_u32;
 use pcap_core::rules::Rule;
 use pcap_core::{CowBytes, ResultParsing};
+use pcap_options::{EnhancedPacketOption, IntoStatic, Refusal, kept_fields};
 use std::alloc::{AllocError, Global};
-use std::borrow::CowStr;
 
 /// The body of an enhanced packet ('Enhanced Packet Block'): a packet of an interface.
 #[derive(Clone, Debug, Drop)]
@@ -91,83 +82,6 @@ impl<'a> EnhancedPacketBlock<'a> {
         ensures kept { EnhancedNeedsNoMemory self.entry → IsOk result }
     {
         Ok(self.into_static(alloc)?)
-    }
-}
-
-/// An option of an enhanced packet ('Enhanced Packet Block').
-#[derive(Clone, Debug, Drop)]
-pub enum EnhancedPacketOption<'a> {
-    /// A comment on the packet (opt_comment, code 1).
-    Comment(CowStr<'a>),
-    /// What the link layer says of the packet (epb_flags, code 2). Bit 0 is the lowest: bits 0 and 1 are the direction
-    /// (1 in, 2 out), bits 2 to 4 how it was received (1 unicast, 2 multicast, 3 broadcast, 4 promiscuous), bits 5 to 8
-    /// the length of its frame check sequence in bytes, bits 16 to 31 errors of the link layer. 0 is not known.
-    Flags(u32),
-    /// A hash of the packet (epb_hash, code 3), after a byte that names its algorithm: 0 for the 2s complement, 1 for
-    /// XOR, 2 for CRC32, 3 for MD5, 4 for SHA-1.
-    Hash(CowBytes<'a>),
-    /// How many packets of the interface were lost between this one and the one before it (epb_dropcount, code 4).
-    DropCount(u64),
-    /// Bytes of an enterprise, code 2989 or 19373.
-    CustomBinary(CustomBinaryOption<'a>),
-    /// A string of an enterprise, code 2988 or 19372.
-    CustomUtf8(CustomUtf8Option<'a>),
-    /// An option of another code.
-    Unknown(UnknownOption<'a>),
-}
-
-impl<'a> EnhancedPacketOption<'a> {
-    /// The list of options at the front of a slice, and what follows it. It ends at its mark or with the slice.
-    ///
-    /// `InvalidField` for the first fault of the list, or `Utf8Error` or `IoError` where that is a string that isn't
-    /// UTF-8 or a custom value under 4 bytes. `OutOfMemory` where an allocation failed, and only where an option
-    /// stands.
-    pub fn from_slice<B: ByteOrder>(
-        alloc: Global,
-        slice: &'a [u8],
-    ) -> ResultParsing<(&'a [u8], Vec<Self>)>
-        ensures tells { TellsWhere (OptionsMayGrow B.number_of enhanced_packet slice.now) (ListSays may_end_with_body B.number_of enhanced_packet slice.now) (λ options. map enhanced_entry options.items) result }
-        ensures borrowed { IfOk result (λ x. All EnhancedOptionIsBorrowed x.1.items) }
-    {
-        Ok(options_from_slice::<EnhancedPacketOption, B>(alloc, slice)?)
-    }
-
-    /// The same option, with bytes and strings of its own: borrowed ones are copied, owned ones kept.
-    ///
-    /// `OutOfMemory` where an allocation failed; the value is then dropped.
-    pub fn into_owned(self, alloc: Global) -> ResultParsing<EnhancedPacketOption<'static>>
-        ensures same { IfOk result (λ kept. enhanced_entry kept ≡ enhanced_entry self.entry) }
-        ensures owned { IfOk result EnhancedOptionIsOwned }
-        ensures memory { IfErr result IsMemory }
-        ensures kept { EnhancedOptionIsOwned self.entry → IsOk result }
-    {
-        Ok(self.into_static(alloc)?)
-    }
-}
-
-impl<'a> PcapNgOption<'a> for EnhancedPacketOption<'a> {
-    ghost kind = { enhanced_packet };
-
-    ghost view = { enhanced_entry };
-
-    ghost is_borrowed = { EnhancedOptionIsBorrowed };
-
-    fn from_value<B: ByteOrder>(code: u16, len: u16, value: &'a [u8]) -> Result<Self, Refusal> {
-        enhanced_options!(read_option B code len value)
-    }
-}
-
-impl<'a> IntoStatic for EnhancedPacketOption<'a> {
-    type Owned = EnhancedPacketOption<'static>;
-
-    ghost is_same = { λ value kept. enhanced_entry kept ≡ enhanced_entry value };
-
-    ghost is_owned = { EnhancedOptionIsOwned };
-
-    ghost needs_no_memory = { EnhancedOptionIsOwned };
-
-    fn into_static(self, alloc: Global) -> Result<EnhancedPacketOption<'static>, AllocError> {
-        enhanced_options!(kept_option self alloc)
     }
 }
 

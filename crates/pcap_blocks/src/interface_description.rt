@@ -2,24 +2,18 @@
 
 ghost use Rattle.std.specs.Prelude.{◌≡◌, IsOk, IfOk, IfErr};
 ghost use Rattle.pcap_core.specs.Answer.{TellsWhere};
-ghost use Rattle.pcap_blocks.specs.Refusal.{FindsWhere};
-ghost use Rattle.pcap_blocks.specs.InterfaceDescription.{interface_description, InterfaceSays, interface_entry, InterfaceOptionIsBorrowed, interface_of, InterfaceIsBorrowed, InterfaceOptionIsOwned, InterfaceIsOwned, InterfaceNeedsNoMemory, InterfaceMayGrow};
+ghost use Rattle.pcap_options.specs.Refusal.{FindsWhere};
+ghost use Rattle.pcap_blocks.specs.InterfaceDescription.{InterfaceSays, interface_of, InterfaceIsBorrowed, InterfaceIsOwned, InterfaceNeedsNoMemory, InterfaceMayGrow};
 ghost use Rattle.pcap_core.specs.Errors.{IsMemory};
 
-use crate::interface_options;
-use crate::kinds::{kept_option, read_option};
-use crate::options::{
-    CustomBinaryOption, CustomUtf8Option, PcapNgOption, UnknownOption, options_from_slice,
-};
-use crate::owned::{IntoStatic, kept_fields};
-use crate::refusal::Refusal;
-use crate::values::{fixed_value, some_value, string_value, u8_value, u32_value, u64_value};
 use byteorder::ByteOrder;
 use pcap_core::fields::{split_u16, split_u32};
 use pcap_core::rules::Rule;
-use pcap_core::{CowBytes, DataLink, ResultParsing};
+use pcap_core::{DataLink, ResultParsing};
+use pcap_options::{
+    InterfaceDescriptionOption, IntoStatic, Refusal, kept_fields, options_from_slice,
+};
 use std::alloc::{AllocError, Global};
-use std::borrow::CowStr;
 
 /// The body of an interface description ('Interface Description Block'): an interface that packets were captured on.
 #[derive(Clone, Debug, Drop)]
@@ -84,88 +78,6 @@ impl<'a> InterfaceDescriptionBlock<'a> {
         ensures kept { InterfaceNeedsNoMemory self.entry → IsOk result }
     {
         Ok(self.into_static(alloc)?)
-    }
-}
-
-/// An option of an interface description ('Interface Description Block').
-#[derive(Clone, Debug, Drop)]
-pub enum InterfaceDescriptionOption<'a> {
-    /// A comment on the interface (opt_comment, code 1).
-    Comment(CowStr<'a>),
-    /// The name of the device (if_name, code 2).
-    IfName(CowStr<'a>),
-    /// What the device is (if_description, code 3).
-    IfDescription(CowStr<'a>),
-    /// An IPv4 address and its netmask, 4 bytes each (if_IPv4addr, code 4).
-    IfIpv4Addr(CowBytes<'a>),
-    /// An IPv6 address, 16 bytes, and the length of its prefix in bits, one byte (if_IPv6addr, code 5).
-    IfIpv6Addr(CowBytes<'a>),
-    /// The hardware's MAC address, 6 bytes (if_MACaddr, code 6).
-    IfMacAddr(CowBytes<'a>),
-    /// The hardware's EUI address, 8 bytes as a number in the order of the section (if_EUIaddr, code 7).
-    IfEuIAddr(u64),
-    /// The interface's speed in bits a second (if_speed, code 8).
-    IfSpeed(u64),
-    /// The unit of times in seconds (if_tsresol, code 9): 10 to the power of minus this number, or, where its highest
-    /// bit is set, 2 to the power of minus the other seven bits.
-    IfTsResol(u8),
-    /// The time zone, a number of 4 bytes whose unit the draft leaves open (if_tzone, code 10).
-    IfTzone(u32),
-    /// The filter of the capture, at least one byte: the first one tells its form (if_filter, code 11).
-    IfFilter(CowBytes<'a>),
-    /// The operating system of the interface's machine (if_os, code 12).
-    IfOs(CowStr<'a>),
-    /// The length of the frame check sequence in bits (if_fcslen, code 13).
-    IfFcsLen(u8),
-    /// Seconds that are to be added to each time (if_tsoffset, code 14).
-    IfTsOffset(u64),
-    /// What the hardware is (if_hardware, code 15).
-    IfHardware(CowStr<'a>),
-    /// Bytes of an enterprise, code 2989 or 19373.
-    CustomBinary(CustomBinaryOption<'a>),
-    /// A string of an enterprise, code 2988 or 19372.
-    CustomUtf8(CustomUtf8Option<'a>),
-    /// An option of another code.
-    Unknown(UnknownOption<'a>),
-}
-
-impl<'a> PcapNgOption<'a> for InterfaceDescriptionOption<'a> {
-    ghost kind = { interface_description };
-
-    ghost view = { interface_entry };
-
-    ghost is_borrowed = { InterfaceOptionIsBorrowed };
-
-    fn from_value<B: ByteOrder>(code: u16, len: u16, value: &'a [u8]) -> Result<Self, Refusal> {
-        interface_options!(read_option B code len value)
-    }
-}
-
-impl<'a> InterfaceDescriptionOption<'a> {
-    /// The same option, with bytes and strings of its own: borrowed ones are copied, owned ones kept.
-    ///
-    /// `OutOfMemory` where an allocation failed; the value is then dropped.
-    pub fn into_owned(self, alloc: Global) -> ResultParsing<InterfaceDescriptionOption<'static>>
-        ensures same { IfOk result (λ kept. interface_entry kept ≡ interface_entry self.entry) }
-        ensures owned { IfOk result InterfaceOptionIsOwned }
-        ensures memory { IfErr result IsMemory }
-        ensures kept { InterfaceOptionIsOwned self.entry → IsOk result }
-    {
-        Ok(self.into_static(alloc)?)
-    }
-}
-
-impl<'a> IntoStatic for InterfaceDescriptionOption<'a> {
-    type Owned = InterfaceDescriptionOption<'static>;
-
-    ghost is_same = { λ value kept. interface_entry kept ≡ interface_entry value };
-
-    ghost is_owned = { InterfaceOptionIsOwned };
-
-    ghost needs_no_memory = { InterfaceOptionIsOwned };
-
-    fn into_static(self, alloc: Global) -> Result<InterfaceDescriptionOption<'static>, AllocError> {
-        interface_options!(kept_option self alloc)
     }
 }
 

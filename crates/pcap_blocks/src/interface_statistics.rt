@@ -2,25 +2,19 @@
 
 ghost use Rattle.std.specs.Prelude.{IsOk, IfOk, ◌≡◌, IfErr};
 ghost use Rattle.pcap_core.specs.Answer.{TellsWhere};
-ghost use Rattle.pcap_blocks.specs.Refusal.{FindsWhere};
-ghost use Rattle.pcap_blocks.specs.InterfaceStatistics.{interface_statistics, StatisticsSays, statistics_entry, StatisticsOptionIsBorrowed, statistics_of, StatisticsIsBorrowed, StatisticsOptionIsOwned, StatisticsIsOwned, StatisticsNeedsNoMemory, StatisticsMayGrow};
+ghost use Rattle.pcap_options.specs.Refusal.{FindsWhere};
+ghost use Rattle.pcap_blocks.specs.InterfaceStatistics.{StatisticsSays, statistics_of, StatisticsIsBorrowed, StatisticsIsOwned, StatisticsNeedsNoMemory, StatisticsMayGrow};
 ghost use Rattle.pcap_core.specs.Errors.{IsMemory};
 
-use crate::kinds::{kept_option, read_option};
-use crate::options::{
-    CustomBinaryOption, CustomUtf8Option, PcapNgOption, UnknownOption, options_from_slice,
-};
-use crate::owned::{IntoStatic, kept_fields};
-use crate::refusal::Refusal;
-use crate::statistics_options;
 use crate::time::split_time;
-use crate::values::{first_number, first_time, string_value};
 use byteorder::ByteOrder;
 use pcap_core::ResultParsing;
 use pcap_core::fields::split_u32;
 use pcap_core::rules::Rule;
+use pcap_options::{
+    InterfaceStatisticsOption, IntoStatic, Refusal, kept_fields, options_from_slice,
+};
 use std::alloc::{AllocError, Global};
-use std::borrow::CowStr;
 
 /// The body of interface statistics ('Interface Statistics Block'): what an interface counted.
 #[derive(Clone, Debug, Drop)]
@@ -82,73 +76,6 @@ impl<'a> InterfaceStatisticsBlock<'a> {
         ensures kept { StatisticsNeedsNoMemory self.entry → IsOk result }
     {
         Ok(self.into_static(alloc)?)
-    }
-}
-
-/// An option of interface statistics ('Interface Statistics Block'). Times are in the unit of the block's own.
-#[derive(Clone, Debug, Drop)]
-pub enum InterfaceStatisticsOption<'a> {
-    /// A comment on the statistics (opt_comment, code 1).
-    Comment(CowStr<'a>),
-    /// When the capture began (isb_starttime, code 2).
-    IsbStartTime(u64),
-    /// When the capture ended (isb_endtime, code 3).
-    IsbEndTime(u64),
-    /// How many packets the interface received (isb_ifrecv, code 4).
-    IsbIfRecv(u64),
-    /// How many packets the interface dropped (isb_ifdrop, code 5).
-    IsbIfDrop(u64),
-    /// How many packets the filter accepted (isb_filteraccept, code 6).
-    IsbFilterAccept(u64),
-    /// How many packets the operating system dropped (isb_osdrop, code 7).
-    IsbOsDrop(u64),
-    /// How many packets the user was given (isb_usrdeliv, code 8).
-    IsbUsrDeliv(u64),
-    /// Bytes of an enterprise, code 2989 or 19373.
-    CustomBinary(CustomBinaryOption<'a>),
-    /// A string of an enterprise, code 2988 or 19372.
-    CustomUtf8(CustomUtf8Option<'a>),
-    /// An option of another code.
-    Unknown(UnknownOption<'a>),
-}
-
-impl<'a> PcapNgOption<'a> for InterfaceStatisticsOption<'a> {
-    ghost kind = { interface_statistics };
-
-    ghost view = { statistics_entry };
-
-    ghost is_borrowed = { StatisticsOptionIsBorrowed };
-
-    fn from_value<B: ByteOrder>(code: u16, len: u16, value: &'a [u8]) -> Result<Self, Refusal> {
-        statistics_options!(read_option B code len value)
-    }
-}
-
-impl<'a> InterfaceStatisticsOption<'a> {
-    /// The same option, with bytes and strings of its own: borrowed ones are copied, owned ones kept.
-    ///
-    /// `OutOfMemory` where an allocation failed; the value is then dropped.
-    pub fn into_owned(self, alloc: Global) -> ResultParsing<InterfaceStatisticsOption<'static>>
-        ensures same { IfOk result (λ kept. statistics_entry kept ≡ statistics_entry self.entry) }
-        ensures owned { IfOk result StatisticsOptionIsOwned }
-        ensures memory { IfErr result IsMemory }
-        ensures kept { StatisticsOptionIsOwned self.entry → IsOk result }
-    {
-        Ok(self.into_static(alloc)?)
-    }
-}
-
-impl<'a> IntoStatic for InterfaceStatisticsOption<'a> {
-    type Owned = InterfaceStatisticsOption<'static>;
-
-    ghost is_same = { λ value kept. statistics_entry kept ≡ statistics_entry value };
-
-    ghost is_owned = { StatisticsOptionIsOwned };
-
-    ghost needs_no_memory = { StatisticsOptionIsOwned };
-
-    fn into_static(self, alloc: Global) -> Result<InterfaceStatisticsOption<'static>, AllocError> {
-        statistics_options!(kept_option self alloc)
     }
 }
 

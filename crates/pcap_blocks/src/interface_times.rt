@@ -3,11 +3,11 @@
 ghost use Rattle.pcap_blocks.specs.InterfaceDescription.{interface_of};
 ghost use Rattle.pcap_blocks.specs.InterfaceTimes.{IsClockOf, IsTimeAt};
 ghost use Rattle.std.specs.Prelude.{◌≡◌, map};
-ghost use Rattle.pcap_blocks.specs.InterfaceDescription.{interface_entry};
-ghost use Rattle.pcap_blocks.specs.Held.{number_in, under, first_under};
+ghost use Rattle.pcap_options.specs.InterfaceOption.{interface_entry};
+ghost use Rattle.pcap_options.specs.Held.{number_in, under, first_under};
 
-use crate::held::first_number;
-use crate::interface_description::{InterfaceDescriptionBlock, InterfaceDescriptionOption};
+use crate::interface_description::InterfaceDescriptionBlock;
+use pcap_options::{InterfaceDescriptionOption, first_number};
 use pcap_times::{Clock, TimeUnit, Timestamp};
 
 impl InterfaceDescriptionBlock<'_> {

@@ -4,8 +4,6 @@
 ghost use Rattle.std.specs.Prelude.{◌≡◌, ◌↔◌, ℕ, List, IsTrue, IsOk, IfOk};
 ghost use Rattle.pcap_core.specs.Answer.{Order};
 ghost use Rattle.pcap_core.specs.Laws.{ExactlyOne};
-ghost use Rattle.pcap_blocks.specs.Values.{Entry, Kind, Shape, EntrySays};
-ghost use Rattle.pcap_blocks.specs.Options.{Ending, wants_end, may_end_with_body, OptionList, OptionSays, ListSays};
 ghost use Rattle.pcap_blocks.specs.SectionHeader.{SectionSays};
 ghost use Rattle.pcap_blocks.specs.InterfaceDescription.{InterfaceSays};
 ghost use Rattle.pcap_blocks.specs.EnhancedPacket.{EnhancedSays};
@@ -22,25 +20,10 @@ ghost use Rattle.pcap_blocks.specs.SimplePacket.{SimpleSays};
 ghost use Rattle.pcap_blocks.specs.SystemdJournalExport.{JournalSays};
 
 use crate::BlockType;
+pub use pcap_options::laws::{list_is_kept, list_is_one, option_is_one, value_is_one};
 use std::alloc::AllocError;
 
-/// Of all bytes of a value exactly one thing is said, whatever its shape: the option that it is, or one fault. This
-/// holds of the custom options.
-pub fn value_is_one()
-    ensures { (order : Order) (shape : Shape) (code : ℕ) (v : List ℕ) → ExactlyOne (EntrySays order shape code v) }
-{}
-
-/// The same where an option or the mark is asked for.
-pub fn option_is_one()
-    ensures { (order : Order) (kind : Kind) (s : List ℕ) → ExactlyOne (OptionSays order kind s) }
-{}
-
-/// The same where a list of options is, however it may end.
-pub fn list_is_one()
-    ensures { (ending : Ending) (order : Order) (kind : Kind) (s : List ℕ) → ExactlyOne (ListSays ending order kind s) }
-{}
-
-/// The same where the body of a section is.
+/// Of all bytes exactly one thing is said where the body of a section is asked for: the section, or one fault.
 pub fn section_is_one()
     ensures { (s : List ℕ) → ExactlyOne (SectionSays s) }
 {}
@@ -113,15 +96,6 @@ pub fn resolution_is_one()
 /// The same where the body of a block of any type is.
 pub fn body_is_one()
     ensures { (order : Order) (type : BlockType) (s : List ℕ) → ExactlyOne (BodySays order type s) }
-{}
-
-/// Where bytes are a list of options that wants its mark, they are that list, and no other, where a list may end with
-/// its body.
-pub fn list_is_kept()
-    ensures kept { (order : Order) (kind : Kind) (options : List Entry) (s rest : List ℕ) →
-        OptionList wants_end order kind options s rest → OptionList may_end_with_body order kind options s rest }
-    ensures no_others { (order : Order) (kind : Kind) (options others : List Entry) (s rest more : List ℕ) →
-        OptionList wants_end order kind options s rest → OptionList may_end_with_body order kind others s more → (others ≡ options) × (more ≡ rest) }
 {}
 
 /// Two types of blocks are equal where they are the same variant and, where unknown, have the same number.

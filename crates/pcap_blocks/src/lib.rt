@@ -6,22 +6,16 @@
 
 mod block_type;
 mod enhanced_packet;
-mod held;
 mod interface_description;
 mod interface_statistics;
 mod interface_times;
-mod kinds;
 pub mod laws;
 mod name_resolution;
 mod named;
 mod names;
-mod options;
-mod owned;
 mod packet;
 mod parsed_block;
 mod record;
-mod refusal;
-mod rows;
 mod section_header;
 mod simple_packet;
 mod stored_bytes;
@@ -29,21 +23,25 @@ mod stored_packet;
 mod systemd_journal_export;
 mod time;
 mod unknown_block;
-mod values;
 mod views;
 
 pub use block_type::BlockType;
-pub use enhanced_packet::{EnhancedPacketBlock, EnhancedPacketOption};
-pub use interface_description::{InterfaceDescriptionBlock, InterfaceDescriptionOption};
-pub use interface_statistics::{InterfaceStatisticsBlock, InterfaceStatisticsOption};
-pub use name_resolution::{NameResolutionBlock, NameResolutionOption};
+pub use enhanced_packet::EnhancedPacketBlock;
+pub use interface_description::InterfaceDescriptionBlock;
+pub use interface_statistics::InterfaceStatisticsBlock;
+pub use name_resolution::NameResolutionBlock;
 pub use names::str_from_u8_null_terminated;
-pub use options::{CustomBinaryOption, CustomUtf8Option, UnknownOption};
-pub use packet::{PacketBlock, PacketOption};
+pub use packet::PacketBlock;
 pub use parsed_block::ParsedBlock;
+pub use pcap_options::{
+    CustomBinaryOption, CustomUtf8Option, EnhancedPacketOption, InterfaceDescriptionOption,
+    InterfaceStatisticsOption, NameResolutionOption, PacketOption, SectionHeaderOption,
+    UnknownOption, enhanced_options, interface_options, name_options, packet_options,
+    section_options, statistics_options,
+};
 pub use pcap_times::{Clock, TimeUnit, Timestamp};
 pub use record::{Ipv4Record, Ipv6Record, Record, UnknownRecord};
-pub use section_header::{SectionHeaderBlock, SectionHeaderOption};
+pub use section_header::SectionHeaderBlock;
 pub use simple_packet::SimplePacketBlock;
 pub use systemd_journal_export::SystemdJournalExportBlock;
 pub use unknown_block::UnknownBlock;

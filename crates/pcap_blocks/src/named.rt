@@ -2,7 +2,7 @@
 
 ghost use Rattle.std.specs.Prelude.{◌≡◌};
 ghost use Rattle.std.specs.Option.{option_map};
-ghost use Rattle.pcap_blocks.specs.Held.{string_in, number_in, first_under};
+ghost use Rattle.pcap_options.specs.Held.{string_in, number_in, first_under};
 ghost use Rattle.pcap_blocks.specs.SectionHeader.{section_of};
 ghost use Rattle.pcap_blocks.specs.InterfaceDescription.{interface_of};
 ghost use Rattle.pcap_blocks.specs.EnhancedPacket.{enhanced_of};
@@ -11,12 +11,12 @@ ghost use Rattle.pcap_blocks.specs.NameResolution.{names_of};
 ghost use Rattle.pcap_blocks.specs.InterfaceStatistics.{statistics_of};
 
 use crate::enhanced_packet::EnhancedPacketBlock;
-use crate::held::{first_number, first_string};
 use crate::interface_description::InterfaceDescriptionBlock;
 use crate::interface_statistics::InterfaceStatisticsBlock;
 use crate::name_resolution::NameResolutionBlock;
 use crate::packet::PacketBlock;
 use crate::section_header::SectionHeaderBlock;
+use pcap_options::{first_number, first_string};
 
 impl SectionHeaderBlock<'_> {
     /// The first comment on the section.

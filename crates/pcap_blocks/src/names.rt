@@ -3,15 +3,28 @@
 ghost use Rattle.std.specs.Prelude.{◌≡◌, ◌<◌, length, map, take, slice_index, All, IfOk, MatchOption};
 ghost use Rattle.std.specs.Cow.{cow_str_bytes, IsBorrowedStr};
 ghost use Rattle.pcap_core.specs.Answer.{Tells};
-ghost use Rattle.pcap_blocks.specs.Refusal.{Finds, FindsAllWhere};
+ghost use Rattle.pcap_options.specs.Refusal.{Finds, FindsAll, FindsAllWhere};
+ghost use Rattle.pcap_options.specs.Values.{AllSay, string_at};
 ghost use Rattle.pcap_blocks.specs.Names.{HasNoZero, NameSays, NamesSay, NamesMayGrow};
 
-use crate::refusal::Refusal;
-use crate::values::str_value;
 use pcap_core::ResultParsing;
 use pcap_core::rules::Rule;
+use pcap_options::Refusal;
 use std::alloc::Global;
 use std::borrow::CowStr;
+use std::str;
+
+// The string that all bytes of a name are.
+#[tactic(auto, using(pcap_options::proofs::Strings::string_is, pcap_options::proofs::Strings::no_string))]
+fn str_value(name: &[u8]) -> Result<&str, Refusal>
+    ensures tells { FindsAll (AllSay (string_at name.now)) (λ string. string.now) result }
+    ensures same { IfOk result (λ string. string.now ≡ name.now) }
+{
+    match str::from_utf8(name) {
+        Ok(string) => Ok(string),
+        Err(e) => Err(Refusal::Utf8(e)),
+    }
+}
 
 // Where the first zero byte stands.
 fn zero_position(bytes: &[u8]) -> Option<usize>

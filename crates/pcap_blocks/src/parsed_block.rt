@@ -2,7 +2,7 @@
 
 ghost use Rattle.std.specs.Prelude.{◌≡◌, IsOk, IfOk, IfErr};
 ghost use Rattle.pcap_core.specs.Answer.{TellsWhere};
-ghost use Rattle.pcap_blocks.specs.Refusal.{FindsWhere};
+ghost use Rattle.pcap_options.specs.Refusal.{FindsWhere};
 ghost use Rattle.pcap_blocks.specs.ParsedBlock.{BodySays, BodyMayGrow, body_of, ParsedIsBorrowed, section_in, interface_in, ParsedIsOwned, ParsedNeedsNoMemory};
 ghost use Rattle.pcap_core.specs.Errors.{IsMemory};
 
@@ -11,9 +11,7 @@ use crate::enhanced_packet::EnhancedPacketBlock;
 use crate::interface_description::InterfaceDescriptionBlock;
 use crate::interface_statistics::InterfaceStatisticsBlock;
 use crate::name_resolution::NameResolutionBlock;
-use crate::owned::IntoStatic;
 use crate::packet::PacketBlock;
-use crate::refusal::Refusal;
 use crate::section_header::SectionHeaderBlock;
 use crate::simple_packet::SimplePacketBlock;
 use crate::systemd_journal_export::SystemdJournalExportBlock;
@@ -21,6 +19,7 @@ use crate::unknown_block::UnknownBlock;
 use byteorder::ByteOrder;
 use pcap_core::ResultParsing;
 use pcap_core::rules::Rule;
+use pcap_options::{IntoStatic, Refusal};
 use std::alloc::{AllocError, Global};
 
 /// The body of a block, by its type ('Block Types').

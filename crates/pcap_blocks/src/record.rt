@@ -3,17 +3,16 @@
 ghost use Rattle.std.specs.Prelude.{◌≡◌, ◌≤◌, length, IsOk, IfOk, IfErr};
 ghost use Rattle.pcap_core.specs.Answer.{TellsWhere, TellsAllWhere};
 ghost use Rattle.pcap_core.specs.declared.rules.Rule.TheVariants.{Ipv4RecordTooShort, Ipv6RecordTooShort};
-ghost use Rattle.pcap_blocks.specs.Refusal.{FindsWhere, FindsAllWhere};
+ghost use Rattle.pcap_options.specs.Refusal.{FindsWhere, FindsAllWhere};
 ghost use Rattle.pcap_blocks.specs.Record.{AddressSays, address_of, AddressIsBorrowed, form_of, RecordValueSays, RecordSays, ipv4_of, ipv6_of, name_record_of, Ipv4IsBorrowed, Ipv6IsBorrowed, RecordIsBorrowed, other_of, Ipv4IsOwned, Ipv4NeedsNoMemory, Ipv6IsOwned, Ipv6NeedsNoMemory, UnknownRecordIsOwned, RecordIsOwned, RecordNeedsNoMemory, AddressMayGrow, RecordValueMayGrow, RecordMayGrow};
 ghost use Rattle.pcap_core.specs.Errors.{IsMemory};
 
 use crate::names::names_from_slice;
-use crate::owned::{IntoStatic, kept_fields};
-use crate::refusal::Refusal;
 use byteorder::ByteOrder;
 use pcap_core::fields::{split_padded, split_u16};
 use pcap_core::rules::Rule;
 use pcap_core::{CowBytes, ResultParsing};
+use pcap_options::{IntoStatic, Refusal, kept_fields};
 use std::alloc::{AllocError, Global};
 use std::borrow::CowStr;
 

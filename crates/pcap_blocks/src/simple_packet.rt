@@ -2,16 +2,15 @@
 
 ghost use Rattle.std.specs.Prelude.{IsOk, IfOk, ◌≡◌, IfErr};
 ghost use Rattle.pcap_core.specs.Answer.{Tells};
-ghost use Rattle.pcap_blocks.specs.Refusal.{Finds};
+ghost use Rattle.pcap_options.specs.Refusal.{Finds};
 ghost use Rattle.pcap_blocks.specs.SimplePacket.{SimpleSays, simple_of, SimpleIsBorrowed, SimpleIsOwned};
 ghost use Rattle.pcap_core.specs.Errors.{IsMemory};
 
-use crate::owned::{IntoStatic, kept_fields};
-use crate::refusal::Refusal;
 use byteorder::ByteOrder;
 use pcap_core::fields::split_u32;
 use pcap_core::rules::Rule;
 use pcap_core::{CowBytes, ResultParsing};
+use pcap_options::{IntoStatic, Refusal, kept_fields};
 use std::alloc::{AllocError, Global};
 
 /// The body of a simple packet ('Simple Packet Block'): a packet of the section's first interface, with no time.

@@ -1,16 +1,15 @@
 //! What both kinds of packet body hold after their interface.
 
 ghost use Rattle.std.specs.Prelude.{◌≤◌, length, IfOk};
-ghost use Rattle.pcap_blocks.specs.Refusal.{FindsWhere};
+ghost use Rattle.pcap_options.specs.Refusal.{FindsWhere};
 ghost use Rattle.pcap_blocks.specs.StoredPacket.{StoredSays, stored_of, StoredIsBorrowed, StoredMayGrow};
 
-use crate::options::{PcapNgOption, options_from_slice};
-use crate::refusal::Refusal;
 use crate::time::split_time;
 use byteorder::ByteOrder;
 use pcap_core::CowBytes;
 use pcap_core::fields::{split_padded, split_u32};
 use pcap_core::rules::Rule;
+use pcap_options::{PcapNgOption, Refusal, options_from_slice};
 use std::alloc::Global;
 
 // A packet without its interface.

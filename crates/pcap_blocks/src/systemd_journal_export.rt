@@ -5,9 +5,9 @@ ghost use Rattle.pcap_core.specs.Answer.{Tells, whole};
 ghost use Rattle.pcap_blocks.specs.SystemdJournalExport.{JournalSays, journal_of, JournalIsBorrowed, JournalIsOwned};
 ghost use Rattle.pcap_core.specs.Errors.{IsMemory};
 
-use crate::owned::{IntoStatic, kept_fields};
 use byteorder::ByteOrder;
 use pcap_core::{CowBytes, ResultParsing};
+use pcap_options::{IntoStatic, kept_fields};
 use std::alloc::{AllocError, Global};
 
 /// The body of a systemd journal export ('systemd Journal Export Block').

@@ -5,8 +5,8 @@ ghost use Rattle.pcap_blocks.specs.UnknownBlock.{unknown_of, UnknownBlockIsBorro
 ghost use Rattle.pcap_core.specs.Errors.{IsMemory};
 
 use crate::block_type::BlockType;
-use crate::owned::{IntoStatic, kept_fields};
 use pcap_core::{CowBytes, ResultParsing};
+use pcap_options::{IntoStatic, kept_fields};
 use std::alloc::{AllocError, Global};
 
 /// The body of a block whose type has no name here ('General Block Structure').

@@ -4,17 +4,17 @@ ghost use Rattle.std.specs.Prelude.{◌≡◌, ◌∷◌, ℕ, List, MatchOption
 ghost use Rattle.std.specs.Option.{option_map};
 ghost use Rattle.pcap_core.specs.Answer.{number_in};
 ghost use Rattle.pcap_blocks.specs.EnhancedPacket.{enhanced_of};
-ghost use Rattle.pcap_blocks.specs.Held.{first_under, unknown_in};
+ghost use Rattle.pcap_options.specs.Held.{first_under, unknown_in};
 ghost use Rattle.pcap_blocks.specs.Views.{SecretsText, AddressOf, number_of_all, some_bytes_of};
 
 use crate::block_type::BlockType;
 use crate::enhanced_packet::EnhancedPacketBlock;
-use crate::held::first_unknown;
 use crate::record::UnknownRecord;
 use crate::unknown_block::UnknownBlock;
 use byteorder::{BigEndian, ByteOrder, LittleEndian};
 use pcap_core::Endianness;
 use pcap_core::fields::{split_padded, split_u32};
+use pcap_options::first_unknown;
 
 /// The secrets of a block of type 10 ('Decryption Secrets Block').
 #[derive(Clone, Copy, Debug)]

@@ -28,7 +28,7 @@ use Rattle.pcap_classic.proofs.Accepted.{no_header_refusal}
 use Rattle.pcap_classic.proofs.Copied.{lawful_under}
 use Rattle.pcap_classic.proofs.One.{header_one}
 use Rattle.pcap_classic.proofs.Stable.{header_stable}
-use Rattle.pcap_blocks.specs.InterfaceDescription.{interface_description}
+use Rattle.pcap_options.specs.InterfaceOption.{interface_description}
 use Rattle.pcap_blocks.specs.ParsedBlock.{SectionBody, InterfaceBody}
 use Rattle.pcap_written.specs.declared.unwritable.Unwritable.{Unwritable}
 use Rattle.pcap_written.specs.declared.unwritable.Unwritable.TheVariants as flaws

@@ -9,11 +9,12 @@ use Rattle.pcap_core.proofs.Numbers.{number_there}
 use Rattle.pcap_core.proofs.Texts.{front_of, number_length, number_same, split_same}
 use Rattle.pcap_blocks.specs.declared.block_type.BlockType.TheVariants as types
 use Rattle.pcap_blocks.specs.BlockType.{block_type, type_number}
-use Rattle.pcap_blocks.specs.EnhancedPacket.{enhanced_packet, EnhancedText}
+use Rattle.pcap_options.specs.EnhancedOption.{enhanced_packet}
+use Rattle.pcap_blocks.specs.EnhancedPacket.{EnhancedText}
 use Rattle.pcap_blocks.specs.InterfaceDescription.{Interface}
-use Rattle.pcap_blocks.specs.Options.{OptionList, may_end_with_body}
+use Rattle.pcap_options.specs.Options.{OptionList, may_end_with_body}
 use Rattle.pcap_blocks.specs.SectionHeader.{Section}
-use Rattle.pcap_blocks.specs.Values.{Entry}
+use Rattle.pcap_options.specs.Values.{Entry}
 use Rattle.pcap_file.specs.Blocks.{Item, block_format}
 use Rattle.pcap_file.specs.Enhanced.{EnhancedFrame, PacketText, PartsText, enhanced_frame, enhanced_with}
 use Rattle.pcap_file.specs.Frames.{Framed, FrameHeadText, FrameTail, FrameText, frame_format, own_order}

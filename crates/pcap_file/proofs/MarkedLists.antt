@@ -6,10 +6,12 @@ use Rattle.pcap_core.specs.Headed.{good}
 use Rattle.pcap_core.proofs.Formats.{front_extends}
 use Rattle.pcap_blocks.specs.declared.block_type.BlockType.{BlockType}
 use Rattle.pcap_blocks.specs.declared.block_type.BlockType.TheVariants as types
-use Rattle.pcap_blocks.specs.InterfaceDescription.{Interface, InterfaceText, interface_description}
+use Rattle.pcap_options.specs.InterfaceOption.{interface_description}
+use Rattle.pcap_blocks.specs.InterfaceDescription.{Interface, InterfaceText}
 use Rattle.pcap_blocks.specs.ParsedBlock.{SectionBody, InterfaceBody, BodySays}
-use Rattle.pcap_blocks.specs.SectionHeader.{Section, SectionText, section_header}
-use Rattle.pcap_blocks.proofs.OneList.{list_kept}
+use Rattle.pcap_options.specs.SectionOption.{section_header}
+use Rattle.pcap_blocks.specs.SectionHeader.{Section, SectionText}
+use Rattle.pcap_options.proofs.OneList.{list_kept}
 use Rattle.pcap_file.specs.Blocks.{Item, BlockText, block_format}
 use Rattle.pcap_file.specs.Frames.{Framed}
 use Rattle.pcap_file.specs.MarkedLists.{MarkedSection, MarkedInterface, MarkedLeads, to_section, to_interface, nowhere, MarkedText, marked_format}

@@ -18,9 +18,11 @@ use Rattle.pcap_classic.specs.Magic.{resolution_of}
 use Rattle.pcap_classic.specs.Written.{IsWhole, IsWholeHeader, cut}
 use Rattle.pcap_blocks.specs.declared.block_type.BlockType.{BlockType}
 use Rattle.pcap_blocks.specs.declared.block_type.BlockType.TheVariants as types
-use Rattle.pcap_blocks.specs.InterfaceDescription.{Interface, interface_description}
+use Rattle.pcap_options.specs.InterfaceOption.{interface_description}
+use Rattle.pcap_blocks.specs.InterfaceDescription.{Interface}
 use Rattle.pcap_blocks.specs.ParsedBlock.{Body, BodySays, SectionBody, InterfaceBody}
-use Rattle.pcap_blocks.specs.SectionHeader.{Section, section_header}
+use Rattle.pcap_options.specs.SectionOption.{section_header}
+use Rattle.pcap_blocks.specs.SectionHeader.{Section}
 use Rattle.pcap_written.specs.Bodies.{body_text}
 use Rattle.pcap_written.specs.Fits.{IsFitOption}
 use Rattle.pcap_written.specs.Plain.{plain_section}

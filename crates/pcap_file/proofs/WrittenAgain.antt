@@ -15,8 +15,10 @@ use Rattle.pcap_core.proofs.Formats.{nothing_no_text, texts_extend}
 use Rattle.pcap_blocks.specs.declared.block_type.BlockType.{BlockType}
 use Rattle.pcap_blocks.specs.declared.block_type.BlockType.TheVariants as types
 use Rattle.pcap_blocks.specs.BlockType.{block_type, type_number}
-use Rattle.pcap_blocks.specs.InterfaceDescription.{Interface, interface_description}
-use Rattle.pcap_blocks.specs.SectionHeader.{Section, magic_order, section_header}
+use Rattle.pcap_options.specs.InterfaceOption.{interface_description}
+use Rattle.pcap_blocks.specs.InterfaceDescription.{Interface}
+use Rattle.pcap_options.specs.SectionOption.{section_header}
+use Rattle.pcap_blocks.specs.SectionHeader.{Section, magic_order}
 use Rattle.pcap_blocks.specs.ParsedBlock.{Body, SectionBody, InterfaceBody, OldPacketBody, SimpleBody, NamesBody, StatisticsBody, EnhancedBody, JournalBody, OtherBody}
 use Rattle.pcap_written.specs.declared.place.Place.{Place}
 use Rattle.pcap_written.specs.Bodies.{after_magic_text, body_text, interface_text, magic_in, order_under, section_text, text_of, type_of}

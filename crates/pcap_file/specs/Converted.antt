@@ -7,7 +7,7 @@ use Rattle.pcap_classic.specs.declared.pcap.header.PcapHeader.{PcapHeader}
 use Rattle.pcap_classic.specs.PacketText.{Captured}
 use Rattle.pcap_blocks.specs.InterfaceDescription.{Interface}
 use Rattle.pcap_blocks.specs.ParsedBlock.{Body, SectionBody, InterfaceBody, EnhancedBody}
-use Rattle.pcap_blocks.specs.Values.{Entry, Integer}
+use Rattle.pcap_options.specs.Values.{Entry, Integer}
 use Rattle.pcap_written.specs.Bodies.{text_of}
 use Rattle.pcap_written.specs.Plain.{plain_packet, plain_section}
 

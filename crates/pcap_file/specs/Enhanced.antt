@@ -7,7 +7,7 @@ use Rattle.pcap_core.specs.Padded.{Padded}
 use Rattle.pcap_blocks.specs.declared.block_type.BlockType.TheVariants as types
 use Rattle.pcap_blocks.specs.EnhancedPacket.{Enhanced, EnhancedFault, EnhancedMayGrow, EnhancedText}
 use Rattle.pcap_blocks.specs.StoredPacket.{StoredHead}
-use Rattle.pcap_blocks.specs.Values.{Entry}
+use Rattle.pcap_options.specs.Values.{Entry}
 use Rattle.pcap_file.specs.Frames.{Framed, FrameText}
 use Rattle.pcap_file.specs.declared.pcapng.enhanced.EnhancedNumbers.{EnhancedNumbers}
 use Rattle.pcap_file.specs.declared.pcapng.enhanced.EnhancedParts.{EnhancedParts}

@@ -5,9 +5,11 @@ use Rattle.pcap_core.specs.declared.common.Endianness.{Endianness}
 use Rattle.pcap_core.specs.Answer.{Order, Number, number_in, Says}
 use Rattle.pcap_core.specs.Format.{Format}
 use Rattle.pcap_blocks.specs.declared.block_type.BlockType.TheVariants as types
-use Rattle.pcap_blocks.specs.InterfaceDescription.{Interface, InterfaceHead, interface_description}
-use Rattle.pcap_blocks.specs.Options.{wants_end, OptionList}
-use Rattle.pcap_blocks.specs.SectionHeader.{Section, VersionText, section_header, magic_order}
+use Rattle.pcap_options.specs.InterfaceOption.{interface_description}
+use Rattle.pcap_blocks.specs.InterfaceDescription.{Interface, InterfaceHead}
+use Rattle.pcap_options.specs.Options.{wants_end, OptionList}
+use Rattle.pcap_options.specs.SectionOption.{section_header}
+use Rattle.pcap_blocks.specs.SectionHeader.{Section, VersionText, magic_order}
 use Rattle.pcap_file.specs.Blocks.{Item}
 use Rattle.pcap_file.specs.Frames.{Framed, FrameText, FrameLacks, FrameFault}
 use Rattle.pcap_file.specs.State.{State, within, order_at, is_read}

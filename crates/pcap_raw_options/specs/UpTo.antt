@@ -4,9 +4,9 @@ use Rattle.std.specs.Option.{option_map}
 use Rattle.pcap_core.specs.Answer.{Order}
 use Rattle.pcap_core.specs.Faults.{Fault, Invalid}
 use Rattle.pcap_core.specs.Padded.{Chain}
-use Rattle.pcap_blocks.specs.Values.{Entry, Kind}
-use Rattle.pcap_blocks.specs.Options.{OptionText, EndMark, OptionFault, Ending, IsOver}
-use Rattle.pcap_blocks.specs.CommonOptions.{unknown_entry}
+use Rattle.pcap_options.specs.Values.{Entry, Kind}
+use Rattle.pcap_options.specs.Options.{OptionText, EndMark, OptionFault, Ending, IsOver}
+use Rattle.pcap_options.specs.CommonOptions.{unknown_entry}
 use Rattle.pcap_raw_options.specs.declared.raw.RawOptions.{RawOptions}
 
 -- the options before the first fault, that fault, if there is one, and what is left: behind the list, or from the fault on

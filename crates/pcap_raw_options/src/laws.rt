@@ -5,8 +5,8 @@ ghost use Rattle.pcap_core.specs.Answer.{Order};
 ghost use Rattle.pcap_core.specs.Faults.{Fault, Invalid};
 ghost use Rattle.pcap_core.specs.Laws.{ExactlyOne};
 ghost use Rattle.pcap_core.specs.declared.rules.Rule.TheVariants.{OptionTooShort, OptionCut};
-ghost use Rattle.pcap_blocks.specs.Values.{Kind, Entry};
-ghost use Rattle.pcap_blocks.specs.Options.{Ending, OptionList, ListFault};
+ghost use Rattle.pcap_options.specs.Values.{Kind, Entry};
+ghost use Rattle.pcap_options.specs.Options.{Ending, OptionList, ListFault};
 ghost use Rattle.pcap_raw_options.specs.UpTo.{UpTo, ReadUpTo, no_kind};
 
 /// All bytes have one list of options before their first fault, and one fault or none.

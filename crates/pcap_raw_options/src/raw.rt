@@ -4,14 +4,14 @@ ghost use Rattle.std.specs.Prelude.{◌≡◌, [], ◌∷◌, ◌++◌, IfOk, If
 ghost use Rattle.std.specs.Option.{option_map};
 ghost use Rattle.pcap_core.specs.Answer.{whole};
 ghost use Rattle.pcap_core.specs.Faults.{Invalid};
-ghost use Rattle.pcap_blocks.specs.Options.{may_end_with_body, OptionFault, OptionSays, OptionsMayGrow};
-ghost use Rattle.pcap_blocks.specs.CommonOptions.{unknown_entry};
+ghost use Rattle.pcap_options.specs.Options.{may_end_with_body, OptionFault, OptionSays, OptionsMayGrow};
+ghost use Rattle.pcap_options.specs.CommonOptions.{unknown_entry};
 ghost use Rattle.pcap_raw_options.specs.UpTo.{ReadUpTo, no_kind, up_to_of};
 
 use byteorder::ByteOrder;
-use pcap_blocks::UnknownOption;
 use pcap_core::fields::{split_padded, split_u16};
 use pcap_core::rules::Rule;
+use pcap_options::UnknownOption;
 use std::alloc::{AllocError, Global};
 
 /// Options as they stand, and why they end.

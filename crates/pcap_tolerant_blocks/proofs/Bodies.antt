@@ -4,7 +4,7 @@ use Rattle.byteorder.specs.Endian.{big_number}
 use Rattle.pcap_core.specs.declared.common.Endianness.{Endianness}
 use Rattle.pcap_core.specs.declared.rules.Rule.{Rule}
 use Rattle.pcap_core.specs.Answer.{Order, Number, number_in}
-use Rattle.pcap_blocks.specs.Values.{Entry, Kind}
+use Rattle.pcap_options.specs.Values.{Entry, Kind}
 use Rattle.pcap_blocks.specs.SectionHeader.{Section, magic_order}
 use Rattle.pcap_tolerant_blocks.specs.Flaws.{Said, alone, IfRoom}
 use Rattle.pcap_tolerant_blocks.specs.OptionsAsIs.{OptionsAsIs}

@@ -8,10 +8,11 @@ use Rattle.pcap_core.specs.Laws.{ExactlyOne}
 use Rattle.pcap_core.specs.Padded.{Chain}
 use Rattle.pcap_core.specs.declared.rules.Rule.{Rule}
 use Rattle.pcap_core.proofs.Texts.{number_same}
-use Rattle.pcap_blocks.specs.Values.{Entry, Kind}
-use Rattle.pcap_blocks.specs.Options.{may_end_with_body, OptionFault}
-use Rattle.pcap_blocks.specs.SectionHeader.{Section, VersionText, section_header, magic_order}
-use Rattle.pcap_blocks.proofs.OneList.{Ends, mark_no_fault, mark_no_item}
+use Rattle.pcap_options.specs.Values.{Entry, Kind}
+use Rattle.pcap_options.specs.Options.{may_end_with_body, OptionFault}
+use Rattle.pcap_options.specs.SectionOption.{section_header}
+use Rattle.pcap_blocks.specs.SectionHeader.{Section, VersionText, magic_order}
+use Rattle.pcap_options.proofs.OneList.{Ends, mark_no_fault, mark_no_item}
 use Rattle.pcap_raw_options.specs.UpTo.{StopsAt, no_kind}
 use Rattle.pcap_tolerant_blocks.specs.Flaws.{Said, Flawed, alone, KeepsSome}
 use Rattle.pcap_tolerant_blocks.specs.OptionsAsIs.{Judged, JudgedText, entry_in, cut_by, flaws_in, OptionsAsIs, OptionsAsIsSay, OptionsGrow}

@@ -5,8 +5,8 @@ use Rattle.pcap_core.specs.Answer.{Order}
 use Rattle.pcap_core.specs.Faults.{Fault}
 use Rattle.pcap_core.specs.Padded.{Chain}
 use Rattle.pcap_core.proofs.Padded.{chain_more}
-use Rattle.pcap_blocks.specs.Values.{Entry, Kind}
-use Rattle.pcap_blocks.specs.Options.{may_end_with_body, OptionFault}
+use Rattle.pcap_options.specs.Values.{Entry, Kind}
+use Rattle.pcap_options.specs.Options.{may_end_with_body, OptionFault}
 use Rattle.pcap_raw_options.specs.UpTo.{StopsAt, no_kind}
 use Rattle.pcap_tolerant_blocks.specs.declared.flaws.Flaw.{Flaw}
 use Rattle.pcap_tolerant_blocks.specs.Flaws.{Said, said_of}

@@ -14,10 +14,12 @@ use Rattle.pcap_core.specs.Padded.{Chain}
 use Rattle.pcap_core.proofs.Links.{plain_same, link_of}
 use Rattle.pcap_core.proofs.Numbers.{Values, number_there}
 use Rattle.pcap_core.proofs.Texts.{number_same, number_length}
-use Rattle.pcap_blocks.specs.Values.{Entry, Value, Unknown, Kind, shape_at, value_of, value_bytes}
-use Rattle.pcap_blocks.specs.Options.{may_end_with_body, OptionText}
-use Rattle.pcap_blocks.specs.InterfaceDescription.{interface_description, Interface}
-use Rattle.pcap_blocks.specs.SectionHeader.{section_header, magic_order, Section}
+use Rattle.pcap_options.specs.Values.{Entry, Value, Unknown, Kind, shape_at, value_of, value_bytes}
+use Rattle.pcap_options.specs.Options.{may_end_with_body, OptionText}
+use Rattle.pcap_options.specs.InterfaceOption.{interface_description}
+use Rattle.pcap_blocks.specs.InterfaceDescription.{Interface}
+use Rattle.pcap_options.specs.SectionOption.{section_header}
+use Rattle.pcap_blocks.specs.SectionHeader.{magic_order, Section}
 use Rattle.pcap_blocks.proofs.NumbersThen.{IsNumbersThen, numbers_then_one}
 use Rattle.pcap_blocks.proofs.OneSection.{version_length}
 use Rattle.pcap_raw_options.specs.UpTo.{UpTo, StopsAt, ReadUpTo, no_kind}

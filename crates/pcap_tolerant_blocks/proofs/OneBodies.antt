@@ -12,13 +12,16 @@ use Rattle.pcap_core.specs.Padded.{Behind}
 use Rattle.pcap_core.proofs.Verdicts.{one_moved, Then, one_then, one_made}
 use Rattle.pcap_core.proofs.Numbers.{Values, Numbers, NumbersSay, numbers_one}
 use Rattle.pcap_core.proofs.OnePadded.{PaddedSays, padded_one}
-use Rattle.pcap_blocks.specs.Values.{Entry, Kind}
+use Rattle.pcap_options.specs.Values.{Entry, Kind}
 use Rattle.pcap_blocks.specs.StoredPacket.{Stored, StoredHead}
-use Rattle.pcap_blocks.specs.EnhancedPacket.{enhanced_packet, Enhanced}
-use Rattle.pcap_blocks.specs.Packet.{packet_kind, PacketBody}
+use Rattle.pcap_options.specs.EnhancedOption.{enhanced_packet}
+use Rattle.pcap_blocks.specs.EnhancedPacket.{Enhanced}
+use Rattle.pcap_options.specs.PacketOption.{packet_kind}
+use Rattle.pcap_blocks.specs.Packet.{PacketBody}
 use Rattle.pcap_blocks.specs.SimplePacket.{Simple, SimpleFault, SimpleSays}
 use Rattle.pcap_blocks.specs.SimplePacket as strict_simple
-use Rattle.pcap_blocks.specs.InterfaceStatistics.{interface_statistics, Statistics}
+use Rattle.pcap_options.specs.StatisticsOption.{interface_statistics}
+use Rattle.pcap_blocks.specs.InterfaceStatistics.{Statistics}
 use Rattle.pcap_blocks.proofs.OneWhole.{simple_one}
 use Rattle.pcap_blocks.proofs.StoredPackets.{stored}
 use Rattle.pcap_blocks.proofs.NumbersThen.{IsNumbersThen, numbers_then_one}

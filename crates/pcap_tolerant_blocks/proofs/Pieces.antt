@@ -10,9 +10,9 @@ use Rattle.pcap_core.specs.Answer.{Order, Number, Verdict, whole}
 use Rattle.pcap_core.specs.Faults.{Fault}
 use Rattle.pcap_core.specs.Padded.{Padded, Chain}
 use Rattle.pcap_core.proofs.OnePadded.{padded_length}
-use Rattle.pcap_blocks.specs.Values.{Entry, Kind}
-use Rattle.pcap_blocks.proofs.OneList.{head_length}
-use Rattle.pcap_blocks.specs.Options.{may_end_with_body, CodeLengthText}
+use Rattle.pcap_options.specs.Values.{Entry, Kind}
+use Rattle.pcap_options.proofs.OneList.{head_length}
+use Rattle.pcap_options.specs.Options.{may_end_with_body, CodeLengthText}
 use Rattle.pcap_raw_options.specs.UpTo.{StopsAt, no_kind}
 use Rattle.pcap_tolerant_blocks.specs.Flaws.{Flawed}
 use Rattle.pcap_tolerant_blocks.specs.OptionsAsIs.{Judged, JudgedText, OptionsAsIsSay}

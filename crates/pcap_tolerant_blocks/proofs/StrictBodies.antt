@@ -7,25 +7,30 @@ use Rattle.pcap_core.specs.declared.rules.Rule.{Rule}
 use Rattle.pcap_core.specs.declared.rules.Rule.TheVariants.{InterfaceTooShort, EnhancedCut}
 use Rattle.pcap_core.specs.Padded.{Behind}
 use Rattle.pcap_core.proofs.Padded.{behind_number, behind_both}
-use Rattle.pcap_blocks.specs.Values.{Entry, Kind}
-use Rattle.pcap_blocks.specs.Options.{may_end_with_body, OptionList, ListFault, ListSays}
-use Rattle.pcap_blocks.specs.InterfaceDescription.{interface_description, Interface, InterfaceHead, short, in_options, InterfaceSays}
+use Rattle.pcap_options.specs.Values.{Entry, Kind}
+use Rattle.pcap_options.specs.Options.{may_end_with_body, OptionList, ListFault, ListSays}
+use Rattle.pcap_options.specs.InterfaceOption.{interface_description}
+use Rattle.pcap_blocks.specs.InterfaceDescription.{Interface, InterfaceHead, short, in_options, InterfaceSays}
 use Rattle.pcap_blocks.proofs.OneInterface.{interface_one}
-use Rattle.pcap_blocks.specs.SectionHeader.{section_header, Section, VersionText, SectionFault, SectionSays}
+use Rattle.pcap_options.specs.SectionOption.{section_header}
+use Rattle.pcap_blocks.specs.SectionHeader.{Section, VersionText, SectionFault, SectionSays}
 use Rattle.pcap_blocks.specs.SectionHeader as strict_section
 use Rattle.pcap_blocks.proofs.OneSection.{section_one}
 use Rattle.pcap_blocks.specs.StoredPacket.{Stored, StoredText, StoredFault}
 use Rattle.pcap_blocks.specs.StoredPacket as stored
-use Rattle.pcap_blocks.specs.EnhancedPacket.{enhanced_packet, Enhanced, EnhancedFault, EnhancedSays}
+use Rattle.pcap_options.specs.EnhancedOption.{enhanced_packet}
+use Rattle.pcap_blocks.specs.EnhancedPacket.{Enhanced, EnhancedFault, EnhancedSays}
 use Rattle.pcap_blocks.specs.EnhancedPacket as strict_enhanced
 use Rattle.pcap_blocks.proofs.OneEnhanced.{enhanced_one}
-use Rattle.pcap_blocks.specs.Packet.{packet_kind, PacketBody, PacketBodyFault, PacketBodySays}
+use Rattle.pcap_options.specs.PacketOption.{packet_kind}
+use Rattle.pcap_blocks.specs.Packet.{PacketBody, PacketBodyFault, PacketBodySays}
 use Rattle.pcap_blocks.specs.Packet as strict_packet
 use Rattle.pcap_blocks.proofs.OnePacket.{packet_body_one}
 use Rattle.pcap_blocks.specs.SimplePacket.{Simple, SimpleFault, SimpleSays}
 use Rattle.pcap_blocks.specs.SimplePacket as strict_simple
 use Rattle.pcap_blocks.proofs.OneWhole.{simple_one}
-use Rattle.pcap_blocks.specs.InterfaceStatistics.{interface_statistics, Statistics, StatisticsFault, StatisticsSays}
+use Rattle.pcap_options.specs.StatisticsOption.{interface_statistics}
+use Rattle.pcap_blocks.specs.InterfaceStatistics.{Statistics, StatisticsFault, StatisticsSays}
 use Rattle.pcap_blocks.specs.InterfaceStatistics as strict_statistics
 use Rattle.pcap_blocks.proofs.OneStatistics.{statistics_one}
 use Rattle.pcap_blocks.proofs.StoredPackets.{behind_time}

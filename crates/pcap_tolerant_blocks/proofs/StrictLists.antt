@@ -3,9 +3,9 @@ use Rattle.std.proofs.Common.{◌≡◌, ◌≢◌, ℕ, List, [], ◌∷◌, �
 use Rattle.pcap_core.specs.Answer.{Order, Verdict, whole, faulty}
 use Rattle.pcap_core.specs.Faults.{Fault}
 use Rattle.pcap_core.specs.Padded.{Chain}
-use Rattle.pcap_blocks.specs.Values.{Entry, Value, Kind, shape_at, value_of}
-use Rattle.pcap_blocks.specs.Options.{may_end_with_body, OptionText, OptionFault, short, cut, wrong, OptionList, marked, with_body, ListFault, ListSays}
-use Rattle.pcap_blocks.proofs.OneList.{list_one, list_from_stop, head_length}
+use Rattle.pcap_options.specs.Values.{Entry, Value, Kind, shape_at, value_of}
+use Rattle.pcap_options.specs.Options.{may_end_with_body, OptionText, OptionFault, short, cut, wrong, OptionList, marked, with_body, ListFault, ListSays}
+use Rattle.pcap_options.proofs.OneList.{list_one, list_from_stop, head_length}
 use Rattle.pcap_raw_options.specs.UpTo.{StopsAt, no_kind}
 use Rattle.pcap_tolerant_blocks.specs.Flaws.{Said, StrictIs}
 use Rattle.pcap_tolerant_blocks.specs.OptionsAsIs.{Judged, judged, JudgedText, entry_in, cut_by, flaws_in, OptionsAsIs}

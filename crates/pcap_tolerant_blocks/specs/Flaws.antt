@@ -3,7 +3,7 @@ use Rattle.std.specs.Prelude.{◌≡◌, ℕ, List, [], ◌∷◌, Option, Some,
 use Rattle.pcap_core.specs.Answer.{Verdict, whole, faulty, Says}
 use Rattle.pcap_core.specs.Faults.{Fault, Invalid, Io, Utf8}
 use Rattle.pcap_core.specs.declared.rules.Rule.{Rule}
-use Rattle.pcap_blocks.specs.Values.{Value, Entry}
+use Rattle.pcap_options.specs.Values.{Value, Entry}
 use Rattle.pcap_tolerant_blocks.specs.declared.flaws.Broken.{Broken}
 use Rattle.pcap_tolerant_blocks.specs.declared.flaws.Broken.TheVariants as broken
 use Rattle.pcap_tolerant_blocks.specs.declared.flaws.Flaw.{Flaw}

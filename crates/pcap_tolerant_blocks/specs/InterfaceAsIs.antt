@@ -3,7 +3,8 @@ use Rattle.std.specs.Prelude.{◌≡◌, ◌<◌, ℕ, List, [], length, map, Op
 use Rattle.std.specs.Option.{option_map}
 use Rattle.pcap_core.specs.Answer.{Order, Verdict, Says}
 use Rattle.pcap_core.specs.declared.rules.Rule.TheVariants.{InterfaceTooShort}
-use Rattle.pcap_blocks.specs.InterfaceDescription.{Interface, InterfaceHead, interface_description, interface_of}
+use Rattle.pcap_options.specs.InterfaceOption.{interface_description}
+use Rattle.pcap_blocks.specs.InterfaceDescription.{Interface, InterfaceHead, interface_of}
 use Rattle.pcap_tolerant_blocks.specs.Flaws.{Said, Flawed, said_of, alone, KeepsSome}
 use Rattle.pcap_tolerant_blocks.specs.OptionsAsIs.{OptionsAsIs}
 use Rattle.pcap_tolerant_blocks.specs.declared.interface.InterfaceAsIs.{InterfaceAsIs}

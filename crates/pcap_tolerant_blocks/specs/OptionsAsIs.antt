@@ -3,8 +3,8 @@ use Rattle.std.specs.Prelude.{◌≡◌, ◌≢◌, ℕ, List, [], ◌∷◌, �
 use Rattle.pcap_core.specs.Answer.{Order, Verdict, Says}
 use Rattle.pcap_core.specs.Faults.{Fault}
 use Rattle.pcap_core.specs.Padded.{Padded, Chain}
-use Rattle.pcap_blocks.specs.Values.{Entry, Value, Unknown, Kind, shape_at, value_of}
-use Rattle.pcap_blocks.specs.Options.{may_end_with_body, CodeLengthText}
+use Rattle.pcap_options.specs.Values.{Entry, Value, Unknown, Kind, shape_at, value_of}
+use Rattle.pcap_options.specs.Options.{may_end_with_body, CodeLengthText}
 use Rattle.pcap_raw_options.specs.UpTo.{StopsAt, no_kind}
 use Rattle.pcap_tolerant_blocks.specs.Flaws.{Said, Flawed, said_of, KeepsSome}
 use Rattle.pcap_tolerant_blocks.specs.declared.flaws.Flaw.{Flaw}

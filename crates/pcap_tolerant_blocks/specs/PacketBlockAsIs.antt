@@ -2,7 +2,8 @@
 use Rattle.std.specs.Prelude.{◌≡◌, ℕ, List, [], map, Option}
 use Rattle.std.specs.Option.{option_map}
 use Rattle.pcap_core.specs.Answer.{Order, Number, Verdict}
-use Rattle.pcap_blocks.specs.Packet.{PacketBody, packet_kind, packet_of}
+use Rattle.pcap_options.specs.PacketOption.{packet_kind}
+use Rattle.pcap_blocks.specs.Packet.{PacketBody, packet_of}
 use Rattle.pcap_tolerant_blocks.specs.Flaws.{Said, Flawed, said_of, IfRoom, IfRoomSays, KeepsSome}
 use Rattle.pcap_tolerant_blocks.specs.StoredAsIs.{WithBytes, NoPacket}
 use Rattle.pcap_tolerant_blocks.specs.declared.packet_block.PacketBlockAsIs.{PacketBlockAsIs}

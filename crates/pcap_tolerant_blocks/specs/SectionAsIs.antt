@@ -5,7 +5,8 @@ use Rattle.pcap_core.specs.declared.common.Endianness.{Endianness}
 use Rattle.pcap_core.specs.declared.rules.Rule.TheVariants.{SectionTooShort, SectionMagic}
 use Rattle.pcap_core.specs.Answer.{Order, Number, number_in, Verdict, Says}
 use Rattle.pcap_core.specs.Faults.{Fault, Invalid}
-use Rattle.pcap_blocks.specs.SectionHeader.{Section, VersionText, section_header, magic_order}
+use Rattle.pcap_options.specs.SectionOption.{section_header}
+use Rattle.pcap_blocks.specs.SectionHeader.{Section, VersionText, magic_order}
 use Rattle.pcap_tolerant_blocks.specs.Flaws.{Said, Flawed, KeepsSome}
 use Rattle.pcap_tolerant_blocks.specs.OptionsAsIs.{OptionsAsIs}
 

@@ -3,13 +3,13 @@ use Rattle.std.specs.Prelude.{◌≡◌, ◌≢◌, ℕ, List, [], ◌∷◌, �
 use Rattle.std.specs.List.{flat_map}
 use Rattle.pcap_core.specs.Answer.{Order}
 use Rattle.pcap_core.specs.Faults.{Fault}
-use Rattle.pcap_blocks.specs.EnhancedPacket.{enhanced_packet}
-use Rattle.pcap_blocks.specs.InterfaceDescription.{interface_description}
-use Rattle.pcap_blocks.specs.InterfaceStatistics.{interface_statistics}
-use Rattle.pcap_blocks.specs.Options.{may_end_with_body}
-use Rattle.pcap_blocks.specs.Packet.{packet_kind}
-use Rattle.pcap_blocks.specs.SectionHeader.{section_header}
-use Rattle.pcap_blocks.specs.Values.{Kind}
+use Rattle.pcap_options.specs.EnhancedOption.{enhanced_packet}
+use Rattle.pcap_options.specs.InterfaceOption.{interface_description}
+use Rattle.pcap_options.specs.StatisticsOption.{interface_statistics}
+use Rattle.pcap_options.specs.Options.{may_end_with_body}
+use Rattle.pcap_options.specs.PacketOption.{packet_kind}
+use Rattle.pcap_options.specs.SectionOption.{section_header}
+use Rattle.pcap_options.specs.Values.{Kind}
 use Rattle.pcap_raw_options.specs.UpTo.{StopsAt, no_kind}
 use Rattle.pcap_tolerant_blocks.specs.declared.sound.OptionsOf.{OptionsOf}
 use Rattle.pcap_tolerant_blocks.specs.declared.sound.OptionsOf.TheVariants as of

@@ -5,7 +5,8 @@ use Rattle.pcap_core.specs.declared.rules.Rule.{Rule}
 use Rattle.pcap_core.specs.declared.rules.Rule.TheVariants.{StatisticsTooShort}
 use Rattle.pcap_core.specs.Answer.{Order, Number, Verdict}
 use Rattle.pcap_blocks.specs.Time.{TimeText}
-use Rattle.pcap_blocks.specs.InterfaceStatistics.{Statistics, interface_statistics, statistics_of}
+use Rattle.pcap_options.specs.StatisticsOption.{interface_statistics}
+use Rattle.pcap_blocks.specs.InterfaceStatistics.{Statistics, statistics_of}
 use Rattle.pcap_tolerant_blocks.specs.Flaws.{Said, Flawed, said_of, IfRoom, IfRoomSays, KeepsSome}
 use Rattle.pcap_tolerant_blocks.specs.OptionsAsIs.{OptionsAsIs}
 use Rattle.pcap_tolerant_blocks.specs.declared.statistics.StatisticsAsIs.{StatisticsAsIs}

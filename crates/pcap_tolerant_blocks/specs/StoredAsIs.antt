@@ -4,7 +4,7 @@ use Rattle.pcap_core.specs.declared.rules.Rule.{Rule}
 use Rattle.pcap_core.specs.declared.rules.Rule.TheVariants.{EnhancedTooShort, EnhancedCut}
 use Rattle.pcap_core.specs.Answer.{Order}
 use Rattle.pcap_core.specs.Padded.{up_to_4, Padded, Behind}
-use Rattle.pcap_blocks.specs.Values.{Entry, Kind}
+use Rattle.pcap_options.specs.Values.{Entry, Kind}
 use Rattle.pcap_blocks.specs.StoredPacket.{Stored, StoredHead}
 use Rattle.pcap_tolerant_blocks.specs.Flaws.{Said}
 use Rattle.pcap_tolerant_blocks.specs.OptionsAsIs.{OptionsAsIs}

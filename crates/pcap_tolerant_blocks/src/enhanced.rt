@@ -2,7 +2,7 @@
 
 ghost use Rattle.std.specs.Prelude.{◌≡◌, None, IfOk, IfErr, IfSome};
 ghost use Rattle.pcap_core.specs.Bytes.{IsBorrowed};
-ghost use Rattle.pcap_blocks.specs.EnhancedPacket.{enhanced_packet, enhanced_entry};
+ghost use Rattle.pcap_options.specs.EnhancedOption.{enhanced_packet, enhanced_entry};
 ghost use Rattle.pcap_tolerant_blocks.specs.Flaws.{alone};
 ghost use Rattle.pcap_tolerant_blocks.specs.EnhancedAsIs.{EnhancedText, enhanced_in, flaws_said, EnhancedGrows};
 

@@ -1,7 +1,7 @@
 //! Interfaces as they stand.
 
 ghost use Rattle.std.specs.Prelude.{IfOk, IfErr};
-ghost use Rattle.pcap_blocks.specs.InterfaceDescription.{interface_description, interface_entry};
+ghost use Rattle.pcap_options.specs.InterfaceOption.{interface_description, interface_entry};
 ghost use Rattle.pcap_tolerant_blocks.specs.InterfaceAsIs.{InterfaceText, interface_in, flaws_said, InterfaceGrows};
 
 use crate::flaws::{Broken, Flaw};

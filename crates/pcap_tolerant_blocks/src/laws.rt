@@ -3,8 +3,8 @@
 ghost use Rattle.std.specs.Prelude.{◌≡◌, List, ℕ, Option};
 ghost use Rattle.pcap_core.specs.Answer.{Order, Verdict};
 ghost use Rattle.pcap_core.specs.Laws.{ExactlyOne};
-ghost use Rattle.pcap_blocks.specs.Values.{Entry, Kind};
-ghost use Rattle.pcap_blocks.specs.Options.{may_end_with_body, ListSays};
+ghost use Rattle.pcap_options.specs.Values.{Entry, Kind};
+ghost use Rattle.pcap_options.specs.Options.{may_end_with_body, ListSays};
 ghost use Rattle.pcap_blocks.specs.InterfaceDescription.{Interface, InterfaceSays};
 ghost use Rattle.pcap_core.specs.Faults.{Fault};
 ghost use Rattle.pcap_blocks.specs.EnhancedPacket.{Enhanced, EnhancedSays};

@@ -2,9 +2,9 @@
 
 ghost use Rattle.std.specs.Prelude.{◌≡◌, ◌≢◌, [], ◌∷◌, ◌++◌, length, map, IfOk, IfErr, OnOk, MatchResult, MatchOption};
 ghost use Rattle.pcap_core.specs.Faults.{Invalid};
-ghost use Rattle.pcap_blocks.specs.Values.{Entry, Kind, shape_at, value_of};
-ghost use Rattle.pcap_blocks.specs.Options.{EndMark, OptionFault};
-ghost use Rattle.pcap_blocks.specs.CommonOptions.{unknown_entry};
+ghost use Rattle.pcap_options.specs.Values.{Entry, Kind, shape_at, value_of};
+ghost use Rattle.pcap_options.specs.Options.{EndMark, OptionFault};
+ghost use Rattle.pcap_options.specs.CommonOptions.{unknown_entry};
 ghost use Rattle.pcap_raw_options.specs.UpTo.{no_kind};
 ghost use Rattle.pcap_tolerant_blocks.specs.Flaws.{IsOption, said_of};
 ghost use Rattle.pcap_tolerant_blocks.specs.OptionsAsIs.{judged, judged_of, JudgedText, ListsAsIs, OptionsGrow, flaws_or_none};

@@ -1,7 +1,8 @@
 //! Name resolution as it stands.
 
 ghost use Rattle.std.specs.Prelude.{◌≡◌, ◌≢◌, [], ◌++◌, map, IfOk, IfErr, OnOk};
-ghost use Rattle.pcap_blocks.specs.NameResolution.{name_resolution, name_entry, names_of};
+ghost use Rattle.pcap_options.specs.NameOption.{name_resolution, name_entry};
+ghost use Rattle.pcap_blocks.specs.NameResolution.{names_of};
 ghost use Rattle.pcap_tolerant_blocks.specs.Flaws.{said_of};
 ghost use Rattle.pcap_tolerant_blocks.specs.NamesAsIs.{NamesText, NamesGrow, RecordsRead, RecordsGrow, flaws_said};
 

@@ -2,7 +2,7 @@
 
 ghost use Rattle.std.specs.Prelude.{◌≡◌, None, IfOk, IfErr, IfSome};
 ghost use Rattle.pcap_core.specs.Bytes.{IsBorrowed};
-ghost use Rattle.pcap_blocks.specs.Packet.{packet_kind, packet_entry};
+ghost use Rattle.pcap_options.specs.PacketOption.{packet_kind, packet_entry};
 ghost use Rattle.pcap_tolerant_blocks.specs.Flaws.{alone};
 ghost use Rattle.pcap_tolerant_blocks.specs.PacketBlockAsIs.{PacketBlockText, packet_in, flaws_said, PacketBlockGrows};
 

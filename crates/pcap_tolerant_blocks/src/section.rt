@@ -2,7 +2,8 @@
 
 ghost use Rattle.std.specs.Prelude.{◌≡◌, ◌≤◌, length, map, Some, IfOk, IfErr};
 ghost use Rattle.pcap_core.specs.Answer.{Refuses};
-ghost use Rattle.pcap_blocks.specs.SectionHeader.{section_header, section_entry, section_of, magic_order};
+ghost use Rattle.pcap_options.specs.SectionOption.{section_header, section_entry};
+ghost use Rattle.pcap_blocks.specs.SectionHeader.{section_of, magic_order};
 ghost use Rattle.pcap_tolerant_blocks.specs.Flaws.{said_of};
 ghost use Rattle.pcap_tolerant_blocks.specs.SectionAsIs.{AfterMagic, SectionText, NoSection, VersionGrows, SectionGrows};
 

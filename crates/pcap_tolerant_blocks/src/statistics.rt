@@ -1,7 +1,7 @@
 //! Interface statistics as they stand.
 
 ghost use Rattle.std.specs.Prelude.{IfOk, IfErr};
-ghost use Rattle.pcap_blocks.specs.InterfaceStatistics.{interface_statistics, statistics_entry};
+ghost use Rattle.pcap_options.specs.StatisticsOption.{interface_statistics, statistics_entry};
 ghost use Rattle.pcap_tolerant_blocks.specs.StatisticsAsIs.{StatisticsAsIsText, statistics_in, flaws_said, StatisticsGrow};
 
 use crate::flaws::{Broken, Flaw};

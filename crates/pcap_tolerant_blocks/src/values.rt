@@ -3,8 +3,8 @@
 ghost use Rattle.std.specs.Prelude.{◌≡◌};
 ghost use Rattle.std.specs.Cow.{cow_str_bytes};
 ghost use Rattle.pcap_core.specs.Bytes.{cow_bytes};
-ghost use Rattle.pcap_blocks.specs.Values.{Bytes, Integer, custom_string, custom_bytes, string_at, fixed_at, some_at, byte_at, number_at, first_number_at, first_time_at, value_of};
-ghost use Rattle.pcap_blocks.specs.CommonOptions.{custom_bytes_entry, custom_string_entry};
+ghost use Rattle.pcap_options.specs.Values.{Bytes, Integer, custom_string, custom_bytes, string_at, fixed_at, some_at, byte_at, number_at, first_number_at, first_time_at, value_of};
+ghost use Rattle.pcap_options.specs.CommonOptions.{custom_bytes_entry, custom_string_entry};
 ghost use Rattle.pcap_tolerant_blocks.specs.Flaws.{IsRead, IsOption};
 
 use crate::flaws::Broken;
@@ -16,7 +16,7 @@ use std::borrow::CowStr;
 use std::str;
 
 // A string.
-#[tactic(auto, using(pcap_blocks::proofs::Strings::string_is, pcap_blocks::proofs::Strings::no_string))]
+#[tactic(auto, using(pcap_options::proofs::Strings::string_is, pcap_options::proofs::Strings::no_string))]
 pub(crate) fn string_value(value: &[u8]) -> Result<CowStr<'_>, Broken>
     ensures tells { IsRead (string_at value.now) cow_str_bytes result }
 {
@@ -100,7 +100,7 @@ pub(crate) fn first_time_value<B: ByteOrder>(value: &[u8]) -> Result<u64, Broken
 }
 
 // A string of an enterprise.
-#[tactic(auto, using(pcap_blocks::proofs::Strings::string_is, pcap_blocks::proofs::Strings::no_string))]
+#[tactic(auto, using(pcap_options::proofs::Strings::string_is, pcap_options::proofs::Strings::no_string))]
 pub(crate) fn custom_string_value<'a, B: ByteOrder>(
     code: u16,
     value: &'a [u8],

@@ -8,15 +8,19 @@ use Rattle.pcap_core.specs.Codec.{Encoder}
 use Rattle.pcap_core.specs.Link.{link_number}
 use Rattle.pcap_core.specs.declared.common.Endianness.TheVariants.{Big}
 use Rattle.pcap_core.proofs.Codec.{codec}
-use Rattle.pcap_blocks.specs.Values.{Entry, Kind}
+use Rattle.pcap_options.specs.Values.{Entry, Kind}
 use Rattle.pcap_blocks.specs.StoredPacket.{Stored}
-use Rattle.pcap_blocks.specs.SectionHeader.{Section, section_header}
-use Rattle.pcap_blocks.specs.InterfaceDescription.{Interface, interface_description}
-use Rattle.pcap_blocks.specs.InterfaceStatistics.{Statistics, interface_statistics}
-use Rattle.pcap_blocks.specs.EnhancedPacket.{enhanced_packet}
-use Rattle.pcap_blocks.specs.Packet.{packet_kind}
+use Rattle.pcap_options.specs.SectionOption.{section_header}
+use Rattle.pcap_blocks.specs.SectionHeader.{Section}
+use Rattle.pcap_options.specs.InterfaceOption.{interface_description}
+use Rattle.pcap_blocks.specs.InterfaceDescription.{Interface}
+use Rattle.pcap_options.specs.StatisticsOption.{interface_statistics}
+use Rattle.pcap_blocks.specs.InterfaceStatistics.{Statistics}
+use Rattle.pcap_options.specs.EnhancedOption.{enhanced_packet}
+use Rattle.pcap_options.specs.PacketOption.{packet_kind}
 use Rattle.pcap_blocks.specs.Record.{NameRecord, End, Ipv4, Ipv6, Other}
-use Rattle.pcap_blocks.specs.NameResolution.{Resolution, name_resolution}
+use Rattle.pcap_options.specs.NameOption.{name_resolution}
+use Rattle.pcap_blocks.specs.NameResolution.{Resolution}
 use Rattle.pcap_blocks.specs.ParsedBlock.{Body, SectionBody, InterfaceBody, OldPacketBody, SimpleBody, NamesBody, StatisticsBody, EnhancedBody, JournalBody, OtherBody}
 use Rattle.pcap_written.specs.Text.{padding, padded_bytes, time_bytes, coded_bytes, option_value, option_text, end_mark, list_text}
 use Rattle.pcap_written.specs.Bodies.{address_text, record_text, packet_head_text, stored_text, after_magic_text, section_text, interface_text, statistics_text, resolution_text, body_text}

@@ -12,14 +12,19 @@ use Rattle.pcap_core.specs.declared.common.Endianness.TheVariants.{Big}
 use Rattle.pcap_core.proofs.Codec.{codec, number_again}
 use Rattle.pcap_blocks.specs.declared.block_type.BlockType.{BlockType}
 use Rattle.pcap_blocks.specs.declared.block_type.BlockType.TheVariants as types
-use Rattle.pcap_blocks.specs.Values.{Kind}
+use Rattle.pcap_options.specs.Values.{Kind}
 use Rattle.pcap_blocks.specs.Time.{TimeText}
 use Rattle.pcap_blocks.specs.StoredPacket.{Stored, StoredHead, StoredText}
-use Rattle.pcap_blocks.specs.SectionHeader.{Section, VersionText, AfterMagic, SectionText, section_header, magic_order}
-use Rattle.pcap_blocks.specs.InterfaceDescription.{Interface, InterfaceHead, InterfaceText, interface_description}
-use Rattle.pcap_blocks.specs.InterfaceStatistics.{Statistics, StatisticsText, interface_statistics}
-use Rattle.pcap_blocks.specs.EnhancedPacket.{Enhanced, EnhancedText, enhanced_packet}
-use Rattle.pcap_blocks.specs.Packet.{PacketBody, PacketBodyText, packet_kind}
+use Rattle.pcap_options.specs.SectionOption.{section_header}
+use Rattle.pcap_blocks.specs.SectionHeader.{Section, VersionText, AfterMagic, SectionText, magic_order}
+use Rattle.pcap_options.specs.InterfaceOption.{interface_description}
+use Rattle.pcap_blocks.specs.InterfaceDescription.{Interface, InterfaceHead, InterfaceText}
+use Rattle.pcap_options.specs.StatisticsOption.{interface_statistics}
+use Rattle.pcap_blocks.specs.InterfaceStatistics.{Statistics, StatisticsText}
+use Rattle.pcap_options.specs.EnhancedOption.{enhanced_packet}
+use Rattle.pcap_blocks.specs.EnhancedPacket.{Enhanced, EnhancedText}
+use Rattle.pcap_options.specs.PacketOption.{packet_kind}
+use Rattle.pcap_blocks.specs.Packet.{PacketBody, PacketBodyText}
 use Rattle.pcap_blocks.specs.ParsedBlock.{Body, SectionBody, InterfaceBody, OldPacketBody, SimpleBody, NamesBody, StatisticsBody, EnhancedBody, JournalBody, OtherBody, BodySays}
 use Rattle.pcap_written.specs.Text.{padded_bytes, time_bytes, list_text}
 use Rattle.pcap_written.specs.Bodies.{after_magic_text, section_text, interface_text, packet_head_text, stored_text, enhanced_text, packet_text, statistics_text, body_text, type_of, magic_in, order_under}

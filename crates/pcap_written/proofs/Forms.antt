@@ -5,8 +5,8 @@ use Rattle.std.proofs.lemmas.Bool.{le-ltb, eq-eqb, ne_eqb}
 use Rattle.std.proofs.lemmas.List.{take_at, drop_at, take_all}
 use Rattle.pcap_core.specs.declared.rules.Rule.{Rule}
 use Rattle.pcap_core.specs.Answer.{Order}
-use Rattle.pcap_blocks.specs.Values.{Value, Str, Bytes, Integer, CustomStr, CustomBytes, Unknown, Entry, Kind, shape_at, Shape, string, bytes, some_bytes, fixed_bytes, byte, number, first_number, first_time, custom_string, custom_bytes, unknown, value_of, with_value, number_at}
-use Rattle.pcap_blocks.proofs.Strings.{string_is}
+use Rattle.pcap_options.specs.Values.{Value, Str, Bytes, Integer, CustomStr, CustomBytes, Unknown, Entry, Kind, shape_at, Shape, string, bytes, some_bytes, fixed_bytes, byte, number, first_number, first_time, custom_string, custom_bytes, unknown, value_of, with_value, number_at}
+use Rattle.pcap_options.proofs.Strings.{string_is}
 use Rattle.pcap_written.specs.declared.form.Form.{Form}
 use Rattle.pcap_written.specs.declared.form.Form.TheVariants as forms
 use Rattle.pcap_core.specs.Codec.{Encoder, IsCodec}

@@ -9,9 +9,9 @@ use Rattle.pcap_core.specs.Codec.{Encoder, IsCodec, number_bytes}
 use Rattle.pcap_core.specs.Padded.{up_to_4, Padded, Chain}
 use Rattle.pcap_core.specs.declared.common.Endianness.{Endianness}
 use Rattle.pcap_core.proofs.Codec.{codec, number_again}
-use Rattle.pcap_blocks.specs.Values.{Entry, Kind}
-use Rattle.pcap_blocks.specs.Options.{may_end_with_body, wants_end, CodeLengthText, OptionText, EndMark, OptionList, marked, with_body}
-use Rattle.pcap_blocks.proofs.OneList.{list_kept}
+use Rattle.pcap_options.specs.Values.{Entry, Kind}
+use Rattle.pcap_options.specs.Options.{may_end_with_body, wants_end, CodeLengthText, OptionText, EndMark, OptionList, marked, with_body}
+use Rattle.pcap_options.proofs.OneList.{list_kept}
 use Rattle.pcap_written.specs.Text.{padding, padded_bytes, option_value, option_text, end_mark, list_text}
 use Rattle.pcap_written.specs.Fits.{IsFitOption, AreFit}
 

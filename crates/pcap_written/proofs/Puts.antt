@@ -6,7 +6,8 @@ use Rattle.pcap_core.specs.declared.errors.PcapError.{PcapError}
 use Rattle.pcap_core.specs.declared.errors.PcapError.TheVariants as errors
 use Rattle.pcap_core.specs.Answer.{Order}
 use Rattle.pcap_blocks.specs.ParsedBlock.{Body}
-use Rattle.pcap_blocks.specs.InterfaceDescription.{Interface, interface_description}
+use Rattle.pcap_options.specs.InterfaceOption.{interface_description}
+use Rattle.pcap_blocks.specs.InterfaceDescription.{Interface}
 use Rattle.pcap_written.specs.declared.unwritable.Unwritable.{Unwritable}
 use Rattle.pcap_written.specs.declared.unwritable.Unwritable.TheVariants as flaws
 use Rattle.pcap_written.specs.declared.unwritable.Unput.{Unput}

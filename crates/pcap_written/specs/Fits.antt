@@ -5,16 +5,22 @@ use Rattle.pcap_core.specs.Answer.{Order}
 use Rattle.pcap_core.specs.Link.{link_number, IsPlain}
 use Rattle.pcap_blocks.specs.declared.block_type.BlockType.TheVariants as types
 use Rattle.pcap_blocks.specs.BlockType.{block_type, type_number}
-use Rattle.pcap_blocks.specs.Values.{Entry, Kind, shape_at, string_at, value_of}
+use Rattle.pcap_options.specs.Values.{Entry, Kind, shape_at, string_at, value_of}
 use Rattle.pcap_blocks.specs.StoredPacket.{Stored}
-use Rattle.pcap_blocks.specs.SectionHeader.{Section, section_header}
-use Rattle.pcap_blocks.specs.InterfaceDescription.{Interface, interface_description}
-use Rattle.pcap_blocks.specs.InterfaceStatistics.{Statistics, interface_statistics}
-use Rattle.pcap_blocks.specs.EnhancedPacket.{Enhanced, enhanced_packet}
-use Rattle.pcap_blocks.specs.Packet.{PacketBody, packet_kind}
+use Rattle.pcap_options.specs.SectionOption.{section_header}
+use Rattle.pcap_blocks.specs.SectionHeader.{Section}
+use Rattle.pcap_options.specs.InterfaceOption.{interface_description}
+use Rattle.pcap_blocks.specs.InterfaceDescription.{Interface}
+use Rattle.pcap_options.specs.StatisticsOption.{interface_statistics}
+use Rattle.pcap_blocks.specs.InterfaceStatistics.{Statistics}
+use Rattle.pcap_options.specs.EnhancedOption.{enhanced_packet}
+use Rattle.pcap_blocks.specs.EnhancedPacket.{Enhanced}
+use Rattle.pcap_options.specs.PacketOption.{packet_kind}
+use Rattle.pcap_blocks.specs.Packet.{PacketBody}
 use Rattle.pcap_blocks.specs.Names.{HasNoZero}
 use Rattle.pcap_blocks.specs.Record.{Address, NameRecord, End, Ipv4, Ipv6, Other, form_of, any_value}
-use Rattle.pcap_blocks.specs.NameResolution.{Resolution, name_resolution}
+use Rattle.pcap_options.specs.NameOption.{name_resolution}
+use Rattle.pcap_blocks.specs.NameResolution.{Resolution}
 use Rattle.pcap_blocks.specs.UnknownBlock.{UnknownBody}
 use Rattle.pcap_blocks.specs.ParsedBlock.{Body, SectionBody, InterfaceBody, OldPacketBody, SimpleBody, NamesBody, StatisticsBody, EnhancedBody, JournalBody, OtherBody}
 use Rattle.pcap_core.specs.Codec.{Encoder}

@@ -1,6 +1,6 @@
 -- The value of an option, as it is about to be written.
 use Rattle.std.specs.Prelude.{◌≡◌, ◌≢◌, ◌<◌, ◌≤◌, ◌^◌, ℕ, List, [], ◌∷◌, ◌++◌, length, Option, Some, None, Result, Ok, Err, IsUtf8}
-use Rattle.pcap_blocks.specs.Values.{Value, Str, Bytes, Integer, CustomStr, CustomBytes, Unknown, Entry, Shape, string, bytes, some_bytes, fixed_bytes, byte, number, first_number, first_time, custom_string, custom_bytes, unknown, Kind, shape_at}
+use Rattle.pcap_options.specs.Values.{Value, Str, Bytes, Integer, CustomStr, CustomBytes, Unknown, Entry, Shape, string, bytes, some_bytes, fixed_bytes, byte, number, first_number, first_time, custom_string, custom_bytes, unknown, Kind, shape_at}
 use Rattle.pcap_written.specs.declared.form.Form.{Form}
 use Rattle.pcap_written.specs.declared.form.Form.TheVariants as forms
 use Rattle.pcap_written.specs.declared.unwritable.Unwritable.{Unwritable}

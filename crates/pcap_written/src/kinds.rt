@@ -1,11 +1,11 @@
 //! The options of each kind of block, by how they are written.
 
-ghost use Rattle.pcap_blocks.specs.EnhancedPacket.{enhanced_packet, enhanced_entry};
-ghost use Rattle.pcap_blocks.specs.InterfaceDescription.{interface_description, interface_entry};
-ghost use Rattle.pcap_blocks.specs.InterfaceStatistics.{interface_statistics, statistics_entry};
-ghost use Rattle.pcap_blocks.specs.NameResolution.{name_resolution, name_entry};
-ghost use Rattle.pcap_blocks.specs.Packet.{packet_kind, packet_entry};
-ghost use Rattle.pcap_blocks.specs.SectionHeader.{section_header, section_entry};
+ghost use Rattle.pcap_options.specs.EnhancedOption.{enhanced_packet, enhanced_entry};
+ghost use Rattle.pcap_options.specs.InterfaceOption.{interface_description, interface_entry};
+ghost use Rattle.pcap_options.specs.StatisticsOption.{interface_statistics, statistics_entry};
+ghost use Rattle.pcap_options.specs.NameOption.{name_resolution, name_entry};
+ghost use Rattle.pcap_options.specs.PacketOption.{packet_kind, packet_entry};
+ghost use Rattle.pcap_options.specs.SectionOption.{section_header, section_entry};
 
 use crate::form::Form;
 use crate::options::WrittenOption;

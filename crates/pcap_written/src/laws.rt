@@ -5,9 +5,9 @@ ghost use Rattle.std.specs.Prelude.{◌≡◌, ◌++◌, ℕ, List, [], ◌∷�
 ghost use Rattle.pcap_core.specs.Answer.{number_in, whole};
 ghost use Rattle.pcap_core.specs.Codec.{number_bytes};
 ghost use Rattle.pcap_core.specs.declared.common.Endianness.{Endianness};
-ghost use Rattle.pcap_blocks.specs.Options.{may_end_with_body, wants_end, OptionList, OptionText};
+ghost use Rattle.pcap_options.specs.Options.{may_end_with_body, wants_end, OptionList, OptionText};
 ghost use Rattle.pcap_blocks.specs.ParsedBlock.{Body, BodySays};
-ghost use Rattle.pcap_blocks.specs.Values.{Entry, Kind};
+ghost use Rattle.pcap_options.specs.Values.{Entry, Kind};
 ghost use Rattle.pcap_written.specs.Bodies.{body_text, magic_in, order_under, type_of};
 ghost use Rattle.pcap_written.specs.Capture.{AreWritten, IsWritten};
 ghost use Rattle.pcap_written.specs.Fits.{AreFit, IsFitOption, kept_body};

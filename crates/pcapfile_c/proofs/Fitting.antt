@@ -12,9 +12,9 @@ use Rattle.pcap_core.specs.Answer.{number_in}
 use Rattle.pcap_core.specs.Codec.{number_bytes}
 use Rattle.pcap_core.specs.Link.{Link}
 use Rattle.pcap_core.proofs.Codec.{codec}
-use Rattle.pcap_blocks.specs.InterfaceDescription.{interface_description}
+use Rattle.pcap_options.specs.InterfaceOption.{interface_description}
 use Rattle.pcap_blocks.specs.SectionHeader.{magic_order}
-use Rattle.pcap_blocks.specs.Values.{Entry, Integer}
+use Rattle.pcap_options.specs.Values.{Entry, Integer}
 use Rattle.pcap_written.specs.Bodies.{text_of}
 use Rattle.pcap_written.specs.Fits.{AreFit, IsFitOption}
 use Rattle.pcap_written.proofs.Packets.{packet_fit}

@@ -9,7 +9,7 @@ use Rattle.pcap_core.specs.Codec.{Encoder}
 use Rattle.pcap_core.specs.Link.{link_number}
 use Rattle.pcap_core.specs.Padded.{up_to_4}
 use Rattle.pcap_blocks.specs.BlockType.{type_number}
-use Rattle.pcap_blocks.specs.InterfaceDescription.{interface_description}
+use Rattle.pcap_options.specs.InterfaceOption.{interface_description}
 use Rattle.pcap_blocks.specs.ParsedBlock.{Body}
 use Rattle.pcap_written.specs.Bodies.{body_text, text_of, type_of}
 use Rattle.pcap_written.specs.Plain.{plain_head}

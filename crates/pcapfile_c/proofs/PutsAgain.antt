@@ -10,10 +10,10 @@ use Rattle.pcap_core.specs.declared.common.Endianness.{Endianness}
 use Rattle.pcap_core.specs.Format.{Front}
 use Rattle.pcap_times.specs.declared.unit.TimeUnit.TheVariants.{Binary, Decimal}
 use Rattle.pcap_times.specs.Times.{unit_of}
-use Rattle.pcap_blocks.specs.Held.{first_under, number_in}
+use Rattle.pcap_options.specs.Held.{first_under, number_in}
 use Rattle.pcap_blocks.specs.SectionHeader.{magic_order}
 use Rattle.pcap_blocks.specs.ParsedBlock.{Body}
-use Rattle.pcap_blocks.specs.Values.{Entry, Integer}
+use Rattle.pcap_options.specs.Values.{Entry, Integer}
 use Rattle.pcap_written.specs.declared.place.Place.{Place}
 use Rattle.pcap_written.specs.Capture.{AreWritten}
 use Rattle.pcap_written.specs.Fits.{kept_body}

@@ -2,9 +2,9 @@
 use Rattle.std.specs.Prelude.{◌≡◌, ℕ, List, length, Ok}
 use Rattle.pcap_core.specs.Answer.{Order}
 use Rattle.pcap_core.specs.Padded.{Padded}
-use Rattle.pcap_blocks.specs.EnhancedPacket.{enhanced_packet}
-use Rattle.pcap_blocks.specs.Options.{OptionList, may_end_with_body}
-use Rattle.pcap_blocks.specs.Values.{Entry, Value, shape_at, value_of}
+use Rattle.pcap_options.specs.EnhancedOption.{enhanced_packet}
+use Rattle.pcap_options.specs.Options.{OptionList, may_end_with_body}
+use Rattle.pcap_options.specs.Values.{Entry, Value, shape_at, value_of}
 
 -- s is a list of an enhanced packet's options, and then rest
 abbrev pub OptionsText : Order → List ℕ → List ℕ → Type 0

@@ -7,7 +7,7 @@ use Rattle.pcap_core.specs.Link.{Link}
 use Rattle.pcap_core.specs.Padded.{up_to_4}
 use Rattle.pcap_blocks.specs.SectionHeader.{magic_order}
 use Rattle.pcap_blocks.specs.ParsedBlock.{Body, SectionBody, InterfaceBody, EnhancedBody}
-use Rattle.pcap_blocks.specs.Values.{Entry, Integer}
+use Rattle.pcap_options.specs.Values.{Entry, Integer}
 use Rattle.pcap_written.specs.declared.place.Place.{Place}
 use Rattle.pcap_written.specs.Capture.{IsWritten}
 use Rattle.pcap_written.specs.Plain.{plain_packet}

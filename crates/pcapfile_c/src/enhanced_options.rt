@@ -1,7 +1,7 @@
 //! Options of enhanced packets that are passed over, where a packet alone is shown.
 
 ghost use Rattle.std.specs.Prelude.{IfSome};
-ghost use Rattle.pcap_blocks.specs.Options.{CodeLengthText};
+ghost use Rattle.pcap_options.specs.Options.{CodeLengthText};
 ghost use Rattle.pcapfile_c.specs.EnhancedOptions.{OptionsText, ValueText};
 
 use byteorder::ByteOrder;

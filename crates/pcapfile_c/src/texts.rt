@@ -5,7 +5,7 @@ ghost use Rattle.std.specs.Int.{w64, cast_unsigned};
 ghost use Rattle.pcap_core.specs.Codec.{number_bytes};
 ghost use Rattle.pcap_core.specs.Link.{link_number};
 ghost use Rattle.pcap_core.specs.Padded.{up_to_4};
-ghost use Rattle.pcap_blocks.specs.InterfaceDescription.{interface_description};
+ghost use Rattle.pcap_options.specs.InterfaceOption.{interface_description};
 ghost use Rattle.pcap_written.specs.Bodies.{text_of};
 ghost use Rattle.pcap_written.specs.Plain.{plain_head};
 ghost use Rattle.pcap_written.specs.Text.{list_text};

@@ -9,10 +9,10 @@ use Rattle.pcap_core.specs.declared.errors.PcapError.{PcapError}
 use Rattle.pcap_core.specs.Errors.{IsMemory}
 use Rattle.pcap_blocks.specs.declared.block_type.BlockType.{BlockType}
 use Rattle.pcap_blocks.specs.declared.block_type.BlockType.TheVariants as types
-use Rattle.pcap_blocks.specs.Held.{first_under, string_in, under}
+use Rattle.pcap_options.specs.Held.{first_under, string_in, under}
 use Rattle.pcap_blocks.specs.InterfaceDescription.{Interface}
 use Rattle.pcap_blocks.specs.SectionHeader.{Section, magic_order}
-use Rattle.pcap_blocks.specs.Values.{Entry}
+use Rattle.pcap_options.specs.Values.{Entry}
 use Rattle.pcap_file.specs.Blocks.{Item}
 use Rattle.pcap_file.specs.Placed.{interfaces_at}
 use Rattle.pcap_file.specs.State.{State, opening, within}

@@ -3,10 +3,12 @@
 ghost use Rattle.std.specs.Prelude.{◌≡◌, ◌++◌, map, IfOk};
 ghost use Rattle.std.specs.Option.{option_map, option_to_list};
 ghost use Rattle.std.specs.String.{string_bytes};
-ghost use Rattle.pcap_blocks.specs.Held.{string_in, under};
-ghost use Rattle.pcap_blocks.specs.InterfaceDescription.{interface_entry, interface_of};
-ghost use Rattle.pcap_blocks.specs.SectionHeader.{section_entry, section_of};
-ghost use Rattle.pcap_blocks.specs.Values.{Entry};
+ghost use Rattle.pcap_options.specs.Held.{string_in, under};
+ghost use Rattle.pcap_options.specs.InterfaceOption.{interface_entry};
+ghost use Rattle.pcap_blocks.specs.InterfaceDescription.{interface_of};
+ghost use Rattle.pcap_options.specs.SectionOption.{section_entry};
+ghost use Rattle.pcap_blocks.specs.SectionHeader.{section_of};
+ghost use Rattle.pcap_options.specs.Values.{Entry};
 ghost use Rattle.pcapfile_info.specs.Describing.{comments_among, last_description, opened_of, told_of};
 
 use pcap_file::pcapng::{

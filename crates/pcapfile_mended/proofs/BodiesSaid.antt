@@ -15,7 +15,7 @@ use Rattle.pcap_blocks.specs.declared.block_type.BlockType.{BlockType}
 use Rattle.pcap_blocks.specs.declared.block_type.BlockType.TheVariants as types
 use Rattle.pcap_blocks.specs.ParsedBlock.{Body, BodySays}
 use Rattle.pcap_blocks.specs.SectionHeader.{Section, SectionText}
-use Rattle.pcap_blocks.specs.Values.{Kind}
+use Rattle.pcap_options.specs.Values.{Kind}
 use Rattle.pcap_written.specs.Raw.{Raw, raw_text}
 use Rattle.pcap_tolerant_blocks.specs.declared.sound.OptionsOf.{OptionsOf}
 use Rattle.pcap_tolerant_blocks.specs.declared.sound.OptionsOf.TheVariants as kinds

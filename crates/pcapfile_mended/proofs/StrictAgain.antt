@@ -13,24 +13,29 @@ use Rattle.pcap_core.specs.Padded.{Behind, Chain, Padded, up_to_4}
 use Rattle.pcap_core.proofs.Padded.{behind_both, behind_number}
 use Rattle.pcap_blocks.specs.declared.block_type.BlockType.{BlockType}
 use Rattle.pcap_blocks.specs.declared.block_type.BlockType.TheVariants as types
-use Rattle.pcap_blocks.specs.Values.{Entry, Kind, Value, shape_at, value_of}
-use Rattle.pcap_blocks.specs.Options.{may_end_with_body, OptionText, OptionList, with_body, ListFault}
+use Rattle.pcap_options.specs.Values.{Entry, Kind, Value, shape_at, value_of}
+use Rattle.pcap_options.specs.Options.{may_end_with_body, OptionText, OptionList, with_body, ListFault}
 use Rattle.pcap_blocks.specs.ParsedBlock.{Body, BodySays}
 use Rattle.pcap_blocks.specs.StoredPacket.{Stored, StoredFault, StoredHead}
 use Rattle.pcap_blocks.specs.StoredPacket as stored
-use Rattle.pcap_blocks.specs.InterfaceDescription.{InterfaceFault, interface_description}
+use Rattle.pcap_options.specs.InterfaceOption.{interface_description}
+use Rattle.pcap_blocks.specs.InterfaceDescription.{InterfaceFault}
 use Rattle.pcap_blocks.specs.InterfaceDescription as interfaces
-use Rattle.pcap_blocks.specs.InterfaceStatistics.{StatisticsFault, interface_statistics}
+use Rattle.pcap_options.specs.StatisticsOption.{interface_statistics}
+use Rattle.pcap_blocks.specs.InterfaceStatistics.{StatisticsFault}
 use Rattle.pcap_blocks.specs.InterfaceStatistics as statistics
-use Rattle.pcap_blocks.specs.EnhancedPacket.{EnhancedFault, enhanced_packet}
+use Rattle.pcap_options.specs.EnhancedOption.{enhanced_packet}
+use Rattle.pcap_blocks.specs.EnhancedPacket.{EnhancedFault}
 use Rattle.pcap_blocks.specs.EnhancedPacket as enhanced
-use Rattle.pcap_blocks.specs.Packet.{PacketBodyFault, packet_kind}
+use Rattle.pcap_options.specs.PacketOption.{packet_kind}
+use Rattle.pcap_blocks.specs.Packet.{PacketBodyFault}
 use Rattle.pcap_blocks.specs.Packet as packets
-use Rattle.pcap_blocks.specs.SectionHeader.{Section, SectionFault, SectionText, magic_order, section_header}
+use Rattle.pcap_options.specs.SectionOption.{section_header}
+use Rattle.pcap_blocks.specs.SectionHeader.{Section, SectionFault, SectionText, magic_order}
 use Rattle.pcap_blocks.specs.SectionHeader as sections
 use Rattle.pcap_blocks.specs.Time.{TimeText}
 use Rattle.pcap_blocks.proofs.OneBody.{body_one}
-use Rattle.pcap_blocks.proofs.OneList.{list_one}
+use Rattle.pcap_options.proofs.OneList.{list_one}
 use Rattle.pcap_tolerant_blocks.specs.OptionsAsIs.{JudgedText, judged}
 use Rattle.pcap_tolerant_blocks.specs.SoundOptions.{IsPiece, Piece, SoundOptions, are_none, is_sound, kind_of, text_in}
 use Rattle.pcap_tolerant_blocks.specs.declared.sound.OptionsOf.{OptionsOf}

@@ -2,8 +2,8 @@
 
 ghost use Rattle.std.specs.Prelude.{◌≡◌, ℕ, List, [], true};
 ghost use Rattle.pcap_core.specs.Answer.{Order, number_in};
-ghost use Rattle.pcap_blocks.specs.Options.{may_end_with_body, OptionList};
-ghost use Rattle.pcap_blocks.specs.Values.{Entry, Kind};
+ghost use Rattle.pcap_options.specs.Options.{may_end_with_body, OptionList};
+ghost use Rattle.pcap_options.specs.Values.{Entry, Kind};
 ghost use Rattle.pcap_tolerant_blocks.specs.SoundOptions.{SoundOptions};
 ghost use Rattle.pcap_written.specs.Raw.{Raw};
 ghost use Rattle.pcapfile_mended.specs.Mended.{Becomes, IsTaken, IsTakenAfter, Mends, stays, unstated};

@@ -1,7 +1,7 @@
 use Rattle.std.proofs.Common.{sym}
-use Rattle.pcap_blocks.specs.Held.{number_in, under}
-use Rattle.pcap_blocks.specs.InterfaceDescription.{interface_entry}
-use Rattle.pcap_blocks.proofs.Found.{found, missed}
+use Rattle.pcap_options.specs.Held.{number_in, under}
+use Rattle.pcap_options.specs.InterfaceOption.{interface_entry}
+use Rattle.pcap_options.proofs.Found.{found, missed}
 use Rattle.pcap_blocks.proofs.interface_times.first_resolution.Goals as goal
 
 pub returns-in-Some : goal.returns-in-Some

@@ -1,7 +1,7 @@
 use Rattle.std.proofs.Common.{◌≡◌, [], map, take}
 use Rattle.std.specs.List.{filter_map}
-use Rattle.pcap_blocks.specs.Held.{number_in, under}
-use Rattle.pcap_blocks.specs.InterfaceDescription.{interface_entry}
+use Rattle.pcap_options.specs.Held.{number_in, under}
+use Rattle.pcap_options.specs.InterfaceOption.{interface_entry}
 use Rattle.pcap_blocks.proofs.interface_times.first_resolution.Given as goal
 
 abbrev pub invariant-loop-option : goal.invariant-loop-option

@@ -4,8 +4,8 @@ use Rattle.pcap_blocks.specs.Record.{RecordIsBorrowed}
 use Rattle.std.proofs.lemmas.Result.{err_from_is_err_and}
 use Rattle.pcap_blocks.specs.NameResolution.{KeptText, kept}
 use Rattle.pcap_core.proofs.Padded.{chain_more}
-use Rattle.pcap_blocks.proofs.Growth.{begins_with}
-use Rattle.pcap_blocks.proofs.Refusals.{denies_more}
+use Rattle.pcap_options.proofs.Growth.{begins_with}
+use Rattle.pcap_options.proofs.Refusals.{denies_more}
 use Rattle.pcap_blocks.proofs.NameRecords.{kept_of, records_grow, records_fail}
 use Rattle.pcap_blocks.proofs.name_resolution.records_from_slice.Goals as goal
 

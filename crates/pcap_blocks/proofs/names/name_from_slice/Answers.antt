@@ -1,6 +1,6 @@
 use Rattle.std.proofs.lemmas.Result.{err_from_is_err_and}
 use Rattle.pcap_blocks.specs.Names.{unended}
-use Rattle.pcap_blocks.proofs.Refusals.{denies_faults}
+use Rattle.pcap_options.proofs.Refusals.{denies_faults}
 use Rattle.pcap_blocks.proofs.Naming.{name_parts, name_string_fails}
 use Rattle.pcap_blocks.proofs.names.name_from_slice.Goals as goal
 

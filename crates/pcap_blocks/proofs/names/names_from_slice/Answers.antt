@@ -4,7 +4,7 @@ use Rattle.std.specs.Cow.{IsBorrowedStr}
 use Rattle.pcap_blocks.specs.Names.{NameText}
 use Rattle.std.proofs.lemmas.Result.{err_from_is_err_and}
 use Rattle.pcap_core.proofs.Padded.{chain_more}
-use Rattle.pcap_blocks.proofs.Growth.{begins_with}
+use Rattle.pcap_options.proofs.Growth.{begins_with}
 use Rattle.pcap_blocks.proofs.names.names_from_slice.Goals as goal
 
 pub returns-in_err-push-clause-tells : goal.returns-in_err-push-clause-tells

@@ -2,7 +2,7 @@ use Rattle.std.proofs.Common.{arith, ◌+◌, ◌≤◌, ◌≡◌, length}
 use Rattle.std.proofs.lemmas.Result.{err_from_is_err_and}
 use Rattle.pcap_blocks.specs.Record.{short}
 use Rattle.pcap_blocks.proofs.Naming.{split_parts, address_fails, address_grows}
-use Rattle.pcap_blocks.proofs.Refusals.{denies_more}
+use Rattle.pcap_options.proofs.Refusals.{denies_more}
 use Rattle.pcap_blocks.proofs.record.address_from_slice.Goals as goal
 
 pub returns-then-slice-width-clause-tells : goal.returns-then-slice-width-clause-tells

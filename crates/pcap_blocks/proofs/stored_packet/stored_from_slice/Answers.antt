@@ -1,7 +1,7 @@
 use Rattle.std.proofs.Common.{[]}
 use Rattle.std.proofs.lemmas.Result.{err_from_is_err_and}
 use Rattle.pcap_blocks.proofs.StoredPackets.{stored_head, stored_cut, stored_fails, stored_grows}
-use Rattle.pcap_blocks.proofs.Refusals.{denies_more}
+use Rattle.pcap_options.proofs.Refusals.{denies_more}
 use Rattle.pcap_blocks.proofs.stored_packet.stored_from_slice.Goals as goal
 
 pub returns-in_default-clause-tells : goal.returns-in_default-clause-tells

@@ -1,6 +1,6 @@
 use Rattle.std.proofs.Common.{arith}
-use Rattle.pcap_blocks.specs.Options.{short, cut}
-use Rattle.pcap_blocks.proofs.ReadOptions.{head_is}
+use Rattle.pcap_options.specs.Options.{short, cut}
+use Rattle.pcap_options.proofs.ReadOptions.{head_is}
 use Rattle.pcap_raw_options.proofs.raw.raw_option.Goals as goal
 
 pub returns-then-slice-lt4 : goal.returns-then-slice-lt4

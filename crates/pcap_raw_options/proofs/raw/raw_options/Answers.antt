@@ -1,7 +1,7 @@
 use Rattle.std.proofs.lemmas.List.{map-append}
 use Rattle.pcap_core.proofs.Padded.{chain_more}
-use Rattle.pcap_blocks.specs.Options.{OptionText, OptionsMayGrow}
-use Rattle.pcap_blocks.proofs.Growth.{begins_with}
+use Rattle.pcap_options.specs.Options.{OptionText, OptionsMayGrow}
+use Rattle.pcap_options.proofs.Growth.{begins_with}
 use Rattle.pcap_raw_options.specs.UpTo.{no_kind}
 use Rattle.pcap_raw_options.proofs.RawRead.{holds_on_err}
 use Rattle.pcap_raw_options.proofs.raw.raw_options.Goals as goal

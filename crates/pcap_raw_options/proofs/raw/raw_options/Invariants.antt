@@ -1,7 +1,7 @@
 use Rattle.std.proofs.Common.{length, map}
 use Rattle.pcap_core.specs.Padded.{Chain}
-use Rattle.pcap_blocks.specs.Options.{OptionText}
-use Rattle.pcap_blocks.specs.CommonOptions.{unknown_entry}
+use Rattle.pcap_options.specs.Options.{OptionText}
+use Rattle.pcap_options.specs.CommonOptions.{unknown_entry}
 use Rattle.pcap_raw_options.specs.UpTo.{no_kind}
 use Rattle.pcap_raw_options.proofs.raw.raw_options.Given as goal
 

@@ -1,6 +1,6 @@
 use Rattle.std.proofs.Common.{map}
 use Rattle.std.proofs.lemmas.List.{map-append}
-use Rattle.pcap_blocks.proofs.ReadOptions.{not_empty}
+use Rattle.pcap_options.proofs.ReadOptions.{not_empty}
 use Rattle.pcap_tolerant_blocks.specs.Flaws.{said_of}
 use Rattle.pcap_tolerant_blocks.specs.OptionsAsIs.{judged_of, OptionsGrow}
 use Rattle.pcap_tolerant_blocks.proofs.Lists.{read_more, read_cut}

@@ -1,6 +1,6 @@
 use Rattle.std.proofs.Common.{arith}
-use Rattle.pcap_blocks.specs.Options.{short, cut}
-use Rattle.pcap_blocks.proofs.ReadOptions.{head_is}
+use Rattle.pcap_options.specs.Options.{short, cut}
+use Rattle.pcap_options.proofs.ReadOptions.{head_is}
 use Rattle.pcap_tolerant_blocks.proofs.list.option_as_is.Goals as goal
 
 pub returns-then-slice-lt4 : goal.returns-then-slice-lt4

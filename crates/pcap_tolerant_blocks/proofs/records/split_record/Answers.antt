@@ -1,5 +1,5 @@
 use Rattle.std.proofs.Common.{arith}
-use Rattle.pcap_blocks.proofs.ReadOptions.{head_is}
+use Rattle.pcap_options.proofs.ReadOptions.{head_is}
 use Rattle.pcap_tolerant_blocks.specs.NamesAsIs.{no_head, no_bytes}
 use Rattle.pcap_tolerant_blocks.proofs.records.split_record.Goals as goal
 

@@ -1,6 +1,6 @@
 use Rattle.std.proofs.Common.{◌-◌, ◌++◌, ◌∙◌, ℕ, List, length, take, ap, refl, append_assoc, Some}
 use Rattle.pcap_core.specs.Faults.{Invalid}
-use Rattle.pcap_blocks.proofs.ReadOptions.{not_empty}
+use Rattle.pcap_options.proofs.ReadOptions.{not_empty}
 use Rattle.pcap_tolerant_blocks.specs.OptionsAsIs.{flaws_or_none, judged_of}
 use Rattle.pcap_tolerant_blocks.specs.SoundOptions.{PutsSome, are_none, text_if}
 use Rattle.pcap_tolerant_blocks.proofs.Pieces.{option_more, pieces_end, puts_some}

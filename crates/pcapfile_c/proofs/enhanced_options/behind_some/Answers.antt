@@ -1,9 +1,9 @@
 use Rattle.std.proofs.Common.{[], ◌∷◌, ◌++◌}
 use Rattle.pcap_core.proofs.Padded.{chain_more}
-use Rattle.pcap_blocks.specs.EnhancedPacket.{enhanced_packet}
-use Rattle.pcap_blocks.specs.Options.{OptionText, marked}
-use Rattle.pcap_blocks.specs.Values.{Entry}
-use Rattle.pcap_blocks.proofs.ReadOptions.{head_with}
+use Rattle.pcap_options.specs.EnhancedOption.{enhanced_packet}
+use Rattle.pcap_options.specs.Options.{OptionText, marked}
+use Rattle.pcap_options.specs.Values.{Entry}
+use Rattle.pcap_options.proofs.ReadOptions.{head_with}
 use Rattle.pcapfile_c.specs.EnhancedOptions.{ValueText}
 use Rattle.pcapfile_c.proofs.enhanced_options.behind_some.Goals as goal
 

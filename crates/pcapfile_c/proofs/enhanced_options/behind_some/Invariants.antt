@@ -1,8 +1,8 @@
 use Rattle.std.proofs.Common.{List, length}
 use Rattle.pcap_core.specs.Padded.{Chain}
-use Rattle.pcap_blocks.specs.EnhancedPacket.{enhanced_packet}
-use Rattle.pcap_blocks.specs.Options.{OptionText}
-use Rattle.pcap_blocks.specs.Values.{Entry}
+use Rattle.pcap_options.specs.EnhancedOption.{enhanced_packet}
+use Rattle.pcap_options.specs.Options.{OptionText}
+use Rattle.pcap_options.specs.Values.{Entry}
 use Rattle.pcapfile_c.proofs.enhanced_options.behind_some.Given as goal
 
 abbrev pub invariant-loop-left : goal.invariant-loop-left

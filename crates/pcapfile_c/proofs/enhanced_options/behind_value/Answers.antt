@@ -1,5 +1,5 @@
 use Rattle.std.proofs.Common.{refl}
-use Rattle.pcap_blocks.specs.Values.{Bytes, Integer}
+use Rattle.pcap_options.specs.Values.{Bytes, Integer}
 use Rattle.pcapfile_c.proofs.enhanced_options.behind_value.Goals as goal
 
 pub returns-in-2 : goal.returns-in-2

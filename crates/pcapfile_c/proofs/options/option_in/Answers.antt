@@ -2,8 +2,8 @@ use Rattle.std.proofs.Common.{arith}
 use Rattle.pcap_core.specs.Faults.{Invalid}
 use Rattle.pcap_core.specs.declared.rules.Rule.TheVariants.{OptionTooShort, OptionCut}
 use Rattle.pcap_core.proofs.Refusals.{named_shows}
-use Rattle.pcap_blocks.specs.Options.{OptionFault, short, cut}
-use Rattle.pcap_blocks.proofs.ReadOptions.{head_is, not_empty}
+use Rattle.pcap_options.specs.Options.{OptionFault, short, cut}
+use Rattle.pcap_options.proofs.ReadOptions.{head_is, not_empty}
 use Rattle.pcap_raw_options.specs.UpTo.{no_kind}
 use Rattle.pcapfile_c.proofs.options.option_in.Goals as goal
 

@@ -6,7 +6,7 @@ use Rattle.pcap_core.proofs.Refusals.{named_shows, shows_more}
 use Rattle.pcap_blocks.specs.Record.{RecordFault, short, cut}
 use Rattle.pcap_blocks.proofs.Naming.{split_parts}
 use Rattle.pcap_blocks.proofs.NameRecords.{record_wrong, record_unpadded}
-use Rattle.pcap_blocks.proofs.ReadOptions.{head_is}
+use Rattle.pcap_options.proofs.ReadOptions.{head_is}
 use Rattle.pcapfile_c.proofs.records.record_in.Goals as goal
 
 pub returns-then-slice-lt4 : goal.returns-then-slice-lt4

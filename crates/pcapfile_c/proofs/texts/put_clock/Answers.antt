@@ -1,5 +1,5 @@
 use Rattle.std.proofs.Common.{ℕ, List, refl, subst, sym}
-use Rattle.pcap_blocks.specs.InterfaceDescription.{interface_description}
+use Rattle.pcap_options.specs.InterfaceOption.{interface_description}
 use Rattle.pcap_written.specs.Text.{list_text}
 use Rattle.pcapfile_c.specs.Putting.{PutsAt, clock_options}
 use Rattle.pcapfile_c.proofs.Puts.{puts_both}

@@ -1,6 +1,6 @@
 use Rattle.std.proofs.Common.{map}
 use Rattle.std.specs.String.{string_bytes}
-use Rattle.pcap_blocks.specs.Held.{string_in, under}
+use Rattle.pcap_options.specs.Held.{string_in, under}
 use Rattle.pcapfile_info.proofs.Describing.{given_more}
 use Rattle.pcapfile_info.proofs.described.push_comments_among.Goals as goal
 

@@ -3,8 +3,8 @@ use Rattle.std.proofs.lemmas.Result.{err_from_is_err_and}
 use Rattle.pcap_blocks.specs.EnhancedPacket.{short}
 use Rattle.pcap_core.proofs.Padded.{behind_number}
 use Rattle.pcap_blocks.proofs.StoredPackets.{enhanced_fails}
-use Rattle.pcap_blocks.proofs.Growth.{holds_after}
-use Rattle.pcap_blocks.proofs.Refusals.{denies_more}
+use Rattle.pcap_options.proofs.Growth.{holds_after}
+use Rattle.pcap_options.proofs.Refusals.{denies_more}
 use Rattle.pcap_blocks.proofs.enhanced_packet.EnhancedPacketBlock.read.Goals as goal
 
 pub returns-then-slice-lt20-clause-tells : goal.returns-then-slice-lt20-clause-tells

@@ -4,8 +4,8 @@ use Rattle.pcap_core.specs.Link.{Link}
 use Rattle.pcap_blocks.specs.InterfaceDescription.{short}
 use Rattle.pcap_blocks.proofs.Bodies.{interface_fails}
 use Rattle.pcap_core.proofs.Padded.{behind_number, behind_both}
-use Rattle.pcap_blocks.proofs.Growth.{holds_after}
-use Rattle.pcap_blocks.proofs.Refusals.{denies_more}
+use Rattle.pcap_options.proofs.Growth.{holds_after}
+use Rattle.pcap_options.proofs.Refusals.{denies_more}
 use Rattle.pcap_blocks.proofs.interface_description.InterfaceDescriptionBlock.read.Goals as goal
 
 pub returns-then-slice-lt8-clause-tells : goal.returns-then-slice-lt8-clause-tells

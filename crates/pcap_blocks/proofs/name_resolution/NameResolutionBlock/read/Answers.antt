@@ -1,7 +1,7 @@
 use Rattle.std.proofs.lemmas.Result.{err_from_is_err_and}
 use Rattle.pcap_blocks.specs.NameResolution.{with_option}
 use Rattle.pcap_blocks.proofs.NameRecords.{resolution_options}
-use Rattle.pcap_blocks.proofs.Refusals.{denies_more}
+use Rattle.pcap_options.proofs.Refusals.{denies_more}
 use Rattle.pcap_blocks.proofs.name_resolution.NameResolutionBlock.read.Goals as goal
 
 pub returns-in_err-rest-clause-tells : goal.returns-in_err-rest-clause-tells

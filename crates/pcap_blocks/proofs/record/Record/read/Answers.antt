@@ -1,10 +1,10 @@
 use Rattle.std.proofs.Common.{arith}
 use Rattle.std.proofs.lemmas.Result.{err_from_is_err_and}
 use Rattle.pcap_blocks.specs.Record.{short, cut}
-use Rattle.pcap_blocks.proofs.ReadOptions.{head_is}
+use Rattle.pcap_options.proofs.ReadOptions.{head_is}
 use Rattle.pcap_blocks.proofs.Naming.{split_parts}
 use Rattle.pcap_blocks.proofs.NameRecords.{record_wrong, record_grows, record_unpadded, record_found}
-use Rattle.pcap_blocks.proofs.Refusals.{denies_more}
+use Rattle.pcap_options.proofs.Refusals.{denies_more}
 use Rattle.pcap_blocks.proofs.record.Record.read.Goals as goal
 
 pub returns-then-slice-lt4-clause-tells : goal.returns-then-slice-lt4-clause-tells

@@ -5,8 +5,8 @@ use Rattle.std.proofs.lemmas.Int.{to_z-of_z}
 use Rattle.std.proofs.lemmas.Result.{err_from_is_err_and}
 use Rattle.pcap_blocks.proofs.Bodies.{after_magic_fails}
 use Rattle.pcap_core.proofs.Padded.{behind_number, behind_both}
-use Rattle.pcap_blocks.proofs.Growth.{holds_after}
-use Rattle.pcap_blocks.proofs.Refusals.{denies_more}
+use Rattle.pcap_options.proofs.Growth.{holds_after}
+use Rattle.pcap_options.proofs.Refusals.{denies_more}
 use Rattle.pcap_blocks.proofs.section_header.SectionHeaderBlock.read_after.Goals as goal
 
 pub returns-in_err-rest-clause-tells : goal.returns-in_err-rest-clause-tells

@@ -1,6 +1,6 @@
 use Rattle.std.proofs.Common.{◌≡◌, [], refl, rules}
 use Rattle.std.proofs.lemmas.List.{nil_from_length}
-use Rattle.pcap_blocks.specs.Options.{with_body}
+use Rattle.pcap_options.specs.Options.{with_body}
 use Rattle.pcap_file.specs.Enhanced.{enhanced_with}
 use Rattle.pcap_file.proofs.EnhancedFrames.{parts_read}
 use Rattle.pcap_file.proofs.pcapng.enhanced.body_in.Goals as goal

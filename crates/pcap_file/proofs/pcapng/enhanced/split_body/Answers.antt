@@ -3,7 +3,8 @@ use Rattle.pcap_core.specs.declared.rules.Rule.TheVariants.{EnhancedCut, Enhance
 use Rattle.pcap_core.specs.Answer.{Number}
 use Rattle.pcap_core.specs.Faults.{Invalid}
 use Rattle.pcap_core.proofs.Padded.{behind_number}
-use Rattle.pcap_blocks.specs.EnhancedPacket.{enhanced_packet, in_packet, short}
+use Rattle.pcap_options.specs.EnhancedOption.{enhanced_packet}
+use Rattle.pcap_blocks.specs.EnhancedPacket.{in_packet, short}
 use Rattle.pcap_blocks.specs.Time.{TimeText}
 use Rattle.pcap_blocks.proofs.StoredPackets.{stored_cut, stored_head}
 use Rattle.pcap_file.proofs.pcapng.enhanced.split_body.Goals as goal

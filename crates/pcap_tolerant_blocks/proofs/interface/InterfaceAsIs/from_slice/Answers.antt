@@ -1,6 +1,6 @@
 use Rattle.std.proofs.Common.{refl}
 use Rattle.pcap_core.proofs.Links.{link_of}
-use Rattle.pcap_blocks.specs.InterfaceDescription.{interface_description}
+use Rattle.pcap_options.specs.InterfaceOption.{interface_description}
 use Rattle.pcap_tolerant_blocks.specs.InterfaceAsIs.{InterfaceText, InterfaceGrows}
 use Rattle.pcap_tolerant_blocks.proofs.Growth.{grows_behind}
 use Rattle.pcap_tolerant_blocks.proofs.OneAsIs.{interface_one}

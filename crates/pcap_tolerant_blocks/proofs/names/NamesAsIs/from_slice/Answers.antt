@@ -1,6 +1,6 @@
 use Rattle.std.proofs.Common.{map}
 use Rattle.pcap_blocks.specs.Record.{name_record_of}
-use Rattle.pcap_blocks.specs.NameResolution.{name_entry}
+use Rattle.pcap_options.specs.NameOption.{name_entry}
 use Rattle.pcap_tolerant_blocks.specs.Flaws.{said_of}
 use Rattle.pcap_tolerant_blocks.specs.NamesAsIs.{NamesGrow}
 use Rattle.pcap_tolerant_blocks.proofs.OneNames.{names_ended, names_cut, names_grow, options_grow, flaws_grow}

@@ -1,7 +1,7 @@
 use Rattle.std.proofs.Common.{refl, arith}
 use Rattle.pcap_core.specs.declared.rules.Rule.TheVariants.{EnhancedTooShort, EnhancedCut}
 use Rattle.pcap_core.proofs.Padded.{behind_number, behind_both}
-use Rattle.pcap_blocks.specs.Packet.{packet_kind}
+use Rattle.pcap_options.specs.PacketOption.{packet_kind}
 use Rattle.pcap_tolerant_blocks.specs.StoredAsIs.{NoPacket, no_head, no_bytes, stored_with}
 use Rattle.pcap_tolerant_blocks.specs.PacketBlockAsIs.{WithDrops, PacketBlockText, PacketBlockGrows, packet_in, flaws_said}
 use Rattle.pcap_tolerant_blocks.proofs.Bodies.{none_read, with_options}

@@ -1,5 +1,5 @@
 use Rattle.std.proofs.Common.{refl}
-use Rattle.pcap_blocks.specs.InterfaceStatistics.{interface_statistics}
+use Rattle.pcap_options.specs.StatisticsOption.{interface_statistics}
 use Rattle.pcap_tolerant_blocks.specs.StatisticsAsIs.{StatisticsAsIsText, StatisticsGrow}
 use Rattle.pcap_tolerant_blocks.proofs.Growth.{grows_behind}
 use Rattle.pcap_tolerant_blocks.proofs.OneBodies.{statistics_one}

@@ -1,7 +1,8 @@
 use Rattle.std.proofs.Common.{◌≡◌, ◌<◌, ◌^◌, ◌++◌, ℕ, List, ap, ◌∙◌, append_assoc, subst, map}
 use Rattle.pcap_core.specs.Link.{link_number}
-use Rattle.pcap_blocks.specs.InterfaceDescription.{interface_description, interface_entry, interface_of}
-use Rattle.pcap_blocks.specs.declared.interface_description.InterfaceDescriptionOption.{InterfaceDescriptionOption}
+use Rattle.pcap_options.specs.InterfaceOption.{interface_description, interface_entry}
+use Rattle.pcap_blocks.specs.InterfaceDescription.{interface_of}
+use Rattle.pcap_options.specs.declared.interface_option.InterfaceDescriptionOption.{InterfaceDescriptionOption}
 use Rattle.pcap_written.specs.Text.{list_text}
 use Rattle.pcap_written.specs.Fits.{AreFit, IsFitInterface}
 use Rattle.pcap_written.specs.Flaws.{ListFlaw, InterfaceFlaw}

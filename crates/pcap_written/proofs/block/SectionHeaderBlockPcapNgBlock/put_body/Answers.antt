@@ -3,8 +3,9 @@ use Rattle.std.specs.Prelude.{FitsSigned, ℤ}
 use Rattle.std.specs.Int.{w64, cast_unsigned}
 use Rattle.std.proofs.lemmas.Int.{to_z-of_z}
 use Rattle.byteorder.specs.Endian.{big_bytes}
-use Rattle.pcap_blocks.specs.SectionHeader.{section_header, section_entry, section_of}
-use Rattle.pcap_blocks.specs.declared.section_header.SectionHeaderOption.{SectionHeaderOption}
+use Rattle.pcap_options.specs.SectionOption.{section_header, section_entry}
+use Rattle.pcap_blocks.specs.SectionHeader.{section_of}
+use Rattle.pcap_options.specs.declared.section_option.SectionHeaderOption.{SectionHeaderOption}
 use Rattle.pcap_written.specs.Text.{list_text}
 use Rattle.pcap_written.specs.Bodies.{section_text}
 use Rattle.pcap_written.specs.Fits.{AreFit, IsFitSection}

@@ -1,5 +1,0 @@
-use Rattle.pcap_blocks.proofs.OneOption.{entry_one}
-use Rattle.pcap_blocks.proofs.laws.value_is_one.Goals as goal
-
-pub returns : goal.returns
-returns c = entry_one

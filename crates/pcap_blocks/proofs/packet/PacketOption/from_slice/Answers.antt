@@ -1,4 +1,0 @@
-use Rattle.pcap_blocks.proofs.packet.PacketOption.from_slice.Goals as goal
-
-pub returns-clause-tells : goal.returns-clause-tells
-returns-clause-tells g c = c.in_ok-options_from_slice.ensures.tells

@@ -1,0 +1,12 @@
+pub mod Refusal
+pub mod Growth
+pub mod Values
+pub mod Options
+pub mod CommonOptions
+pub mod SectionOption
+pub mod InterfaceOption
+pub mod EnhancedOption
+pub mod PacketOption
+pub mod NameOption
+pub mod StatisticsOption
+pub mod Held

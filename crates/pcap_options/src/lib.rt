@@ -1,0 +1,33 @@
+//! Options of PcapNg blocks: their values, the lists of them, and what a list holds.
+//!
+//! The format is that of the IETF draft draft-ietf-opsawg-pcapng; names in quotes are sections of it. A list of options
+//! ends at its mark, the code 0, or without one where no byte is left ('Options'). Lengths are in bytes.
+#![tactic(auto)]
+
+mod enhanced_option;
+mod held;
+mod interface_option;
+mod kinds;
+pub mod laws;
+mod name_option;
+mod options;
+mod owned;
+mod packet_option;
+mod refusal;
+mod rows;
+mod section_option;
+mod statistics_option;
+mod values;
+
+pub use enhanced_option::EnhancedPacketOption;
+pub use held::{Held, HoldsEntry, first_number, first_string, first_unknown};
+pub use interface_option::InterfaceDescriptionOption;
+pub use name_option::NameResolutionOption;
+pub use options::{
+    CustomBinaryOption, CustomUtf8Option, PcapNgOption, UnknownOption, options_from_slice,
+};
+pub use owned::{IntoStatic, each_into_static};
+pub use packet_option::PacketOption;
+pub use refusal::Refusal;
+pub use section_option::SectionHeaderOption;
+pub use statistics_option::InterfaceStatisticsOption;

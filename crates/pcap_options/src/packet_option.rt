@@ -1,0 +1,96 @@
+//! The options of a packet block.
+
+ghost use Rattle.std.specs.Prelude.{map, All, IsOk, IfOk, ◌≡◌, IfErr};
+ghost use Rattle.pcap_core.specs.Answer.{TellsWhere};
+ghost use Rattle.pcap_options.specs.Options.{may_end_with_body, ListSays, OptionsMayGrow};
+ghost use Rattle.pcap_options.specs.PacketOption.{packet_kind, packet_entry, PacketOptionIsBorrowed, PacketOptionIsOwned};
+ghost use Rattle.pcap_core.specs.Errors.{IsMemory};
+
+use crate::kinds::{kept_option, read_option};
+use crate::options::{
+    CustomBinaryOption, CustomUtf8Option, PcapNgOption, UnknownOption, options_from_slice,
+};
+use crate::owned::IntoStatic;
+use crate::packet_options;
+use crate::refusal::Refusal;
+use crate::values::{string_value, u32_value};
+use byteorder::ByteOrder;
+use pcap_core::rules::Rule;
+use pcap_core::{CowBytes, ResultParsing};
+use std::alloc::{AllocError, Global};
+use std::borrow::CowStr;
+
+/// An option of a packet block ('Packet Block').
+#[derive(Clone, Debug, Drop)]
+pub enum PacketOption<'a> {
+    /// A comment on the packet (opt_comment, code 1).
+    Comment(CowStr<'a>),
+    /// What the link layer says of the packet (pack_flags, code 2). Bit 0 is the lowest: bits 0 and 1 are the direction
+    /// (1 in, 2 out), bits 2 to 4 how it was received (1 unicast, 2 multicast, 3 broadcast, 4 promiscuous), bits 5 to 8
+    /// the length of its frame check sequence in bytes, bits 16 to 31 errors of the link layer. 0 is not known.
+    Flags(u32),
+    /// A hash of the packet (pack_hash, code 3), after a byte that names its algorithm: 0 for the 2s complement, 1 for
+    /// XOR, 2 for CRC32, 3 for MD5, 4 for SHA-1.
+    Hash(CowBytes<'a>),
+    /// Bytes of an enterprise, code 2989 or 19373.
+    CustomBinary(CustomBinaryOption<'a>),
+    /// A string of an enterprise, code 2988 or 19372.
+    CustomUtf8(CustomUtf8Option<'a>),
+    /// An option of another code.
+    Unknown(UnknownOption<'a>),
+}
+
+impl<'a> PacketOption<'a> {
+    /// The list of options at the front of a slice, and what follows it. It ends at its mark or with the slice.
+    ///
+    /// `InvalidField` for the first fault of the list, or `Utf8Error` or `IoError` where that is a string that isn't
+    /// UTF-8 or a custom value under 4 bytes. `OutOfMemory` where an allocation failed, and only where an option
+    /// stands.
+    pub fn from_slice<B: ByteOrder>(
+        alloc: Global,
+        slice: &'a [u8],
+    ) -> ResultParsing<(&'a [u8], Vec<Self>)>
+        ensures tells { TellsWhere (OptionsMayGrow B.number_of packet_kind slice.now) (ListSays may_end_with_body B.number_of packet_kind slice.now) (λ options. map packet_entry options.items) result }
+        ensures borrowed { IfOk result (λ x. All PacketOptionIsBorrowed x.1.items) }
+    {
+        Ok(options_from_slice::<PacketOption, B>(alloc, slice)?)
+    }
+
+    /// The same option, with bytes and strings of its own: borrowed ones are copied, owned ones kept.
+    ///
+    /// `OutOfMemory` where an allocation failed; the value is then dropped.
+    pub fn into_owned(self, alloc: Global) -> ResultParsing<PacketOption<'static>>
+        ensures same { IfOk result (λ kept. packet_entry kept ≡ packet_entry self.entry) }
+        ensures owned { IfOk result PacketOptionIsOwned }
+        ensures memory { IfErr result IsMemory }
+        ensures kept { PacketOptionIsOwned self.entry → IsOk result }
+    {
+        Ok(self.into_static(alloc)?)
+    }
+}
+
+impl<'a> PcapNgOption<'a> for PacketOption<'a> {
+    ghost kind = { packet_kind };
+
+    ghost view = { packet_entry };
+
+    ghost is_borrowed = { PacketOptionIsBorrowed };
+
+    fn from_value<B: ByteOrder>(code: u16, len: u16, value: &'a [u8]) -> Result<Self, Refusal> {
+        packet_options!(read_option B code len value)
+    }
+}
+
+impl<'a> IntoStatic for PacketOption<'a> {
+    type Owned = PacketOption<'static>;
+
+    ghost is_same = { λ value kept. packet_entry kept ≡ packet_entry value };
+
+    ghost is_owned = { PacketOptionIsOwned };
+
+    ghost needs_no_memory = { PacketOptionIsOwned };
+
+    fn into_static(self, alloc: Global) -> Result<PacketOption<'static>, AllocError> {
+        packet_options!(kept_option self alloc)
+    }
+}

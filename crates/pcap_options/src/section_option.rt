@@ -1,0 +1,75 @@
+//! The options of a section header.
+
+ghost use Rattle.std.specs.Prelude.{◌≡◌, IsOk, IfOk, IfErr};
+ghost use Rattle.pcap_options.specs.SectionOption.{section_header, section_entry, SectionOptionIsBorrowed, SectionOptionIsOwned};
+ghost use Rattle.pcap_core.specs.Errors.{IsMemory};
+
+use crate::kinds::{kept_option, read_option};
+use crate::options::{CustomBinaryOption, CustomUtf8Option, PcapNgOption, UnknownOption};
+use crate::owned::IntoStatic;
+use crate::refusal::Refusal;
+use crate::section_options;
+use crate::values::string_value;
+use byteorder::ByteOrder;
+use pcap_core::ResultParsing;
+use std::alloc::{AllocError, Global};
+use std::borrow::CowStr;
+
+/// An option of a section header ('Section Header Block').
+#[derive(Clone, Debug, Drop)]
+pub enum SectionHeaderOption<'a> {
+    /// A comment on the section (opt_comment, code 1).
+    Comment(CowStr<'a>),
+    /// The hardware that the section was made on (shb_hardware, code 2).
+    Hardware(CowStr<'a>),
+    /// The operating system that the section was made on (shb_os, code 3).
+    OS(CowStr<'a>),
+    /// The application that made the section (shb_userappl, code 4).
+    UserApplication(CowStr<'a>),
+    /// Bytes of an enterprise, code 2989 or 19373.
+    CustomBinary(CustomBinaryOption<'a>),
+    /// A string of an enterprise, code 2988 or 19372.
+    CustomUtf8(CustomUtf8Option<'a>),
+    /// An option of another code.
+    Unknown(UnknownOption<'a>),
+}
+
+impl<'a> PcapNgOption<'a> for SectionHeaderOption<'a> {
+    ghost kind = { section_header };
+
+    ghost view = { section_entry };
+
+    ghost is_borrowed = { SectionOptionIsBorrowed };
+
+    fn from_value<B: ByteOrder>(code: u16, len: u16, value: &'a [u8]) -> Result<Self, Refusal> {
+        section_options!(read_option B code len value)
+    }
+}
+
+impl<'a> SectionHeaderOption<'a> {
+    /// The same option, with bytes and strings of its own: borrowed ones are copied, owned ones kept.
+    ///
+    /// `OutOfMemory` where an allocation failed; the value is then dropped.
+    pub fn into_owned(self, alloc: Global) -> ResultParsing<SectionHeaderOption<'static>>
+        ensures same { IfOk result (λ kept. section_entry kept ≡ section_entry self.entry) }
+        ensures owned { IfOk result SectionOptionIsOwned }
+        ensures memory { IfErr result IsMemory }
+        ensures kept { SectionOptionIsOwned self.entry → IsOk result }
+    {
+        Ok(self.into_static(alloc)?)
+    }
+}
+
+impl<'a> IntoStatic for SectionHeaderOption<'a> {
+    type Owned = SectionHeaderOption<'static>;
+
+    ghost is_same = { λ value kept. section_entry kept ≡ section_entry value };
+
+    ghost is_owned = { SectionOptionIsOwned };
+
+    ghost needs_no_memory = { SectionOptionIsOwned };
+
+    fn into_static(self, alloc: Global) -> Result<SectionHeaderOption<'static>, AllocError> {
+        section_options!(kept_option self alloc)
+    }
+}
