@@ -18,6 +18,11 @@ use Rattle.pcap_blocks.specs.InterfaceDescription.{InterfaceFault, in_options}
 use Rattle.pcap_options.specs.SectionOption.{section_header}
 use Rattle.pcap_blocks.specs.SectionHeader.{magic_order, AfterMagicFault, AfterMagicSays, AfterMagicMayGrow, SectionFault, after_magic, SectionSays, SectionMayGrow, section_of}
 use Rattle.pcap_options.proofs.Refusals.{denies_more}
+use Rattle.pcap_options.specs.Record.{NameRecord}
+use Rattle.pcap_options.specs.Records.{RecordsText}
+use Rattle.pcap_options.specs.NameOption.{name_resolution}
+use Rattle.pcap_blocks.specs.NameResolution.{ResolutionFault}
+use Rattle.pcap_blocks.specs.NameResolution as names
 
 pub interface_fails : (order : Order) (s after : List ℕ) → Behind 8 s after → (f : Fault) → ListFault may_end_with_body order interface_description after f → InterfaceFault order s f
 interface_fails order s after behind f fault = in_options f after behind fault
@@ -52,3 +57,6 @@ no_magic_order magic a b =
     let x : (magic == 0x1A2B3C4D) ≡ false = ne_eqb _ _ a in
     let y : (magic == 0x4D3C2B1A) ≡ false = ne_eqb _ _ b in
     rw (x, y) refl
+
+pub resolution_options : (order : Order) (s : List ℕ) (records : List NameRecord) (after : List ℕ) → RecordsText order records s after → (f : Fault) → ListFault may_end_with_body order name_resolution after f → ResolutionFault order s f
+resolution_options order s records after are f fault = names.in_options records after are fault

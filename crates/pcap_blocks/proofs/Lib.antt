@@ -8,10 +8,6 @@ pub mod OneEnhanced
 pub mod OnePacket
 pub mod OneStatistics
 pub mod OneWhole
-pub mod Naming
-pub mod NameRecords
-pub mod OneName
-pub mod OneRecord
 pub mod OneResolution
 pub mod OneBody
 pub mod Secrets

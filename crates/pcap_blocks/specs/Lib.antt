@@ -9,8 +9,6 @@ pub mod BlockType
 pub mod SimplePacket
 pub mod SystemdJournalExport
 pub mod UnknownBlock
-pub mod Names
-pub mod Record
 pub mod NameResolution
 pub mod ParsedBlock
 pub mod InterfaceTimes

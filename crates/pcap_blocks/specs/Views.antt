@@ -1,11 +1,10 @@
--- Values of newer kinds, in what is unknown here ('Decryption Secrets Block', 'Name Resolution Block', 'Enhanced Packet Block').
-use Rattle.std.specs.Prelude.{◌≡◌, ◌==◌, if◌then◌else◌, ℕ, List, [], ◌∷◌, ◌++◌, length, Option, Some, None}
+-- Values of newer kinds, in what is unknown here ('Decryption Secrets Block', 'Enhanced Packet Block').
+use Rattle.std.specs.Prelude.{◌≡◌, ◌==◌, if◌then◌else◌, ℕ, List, [], ◌∷◌, length, Option, Some, None}
 use Rattle.pcap_core.specs.Answer.{Order, Number}
 use Rattle.pcap_core.specs.Padded.{Padded}
 use Rattle.pcap_core.specs.Bytes.{cow_bytes}
 use Rattle.pcap_blocks.specs.BlockType.{block_type}
 use Rattle.pcap_blocks.specs.declared.unknown_block.UnknownBlock.{UnknownBlock}
-use Rattle.pcap_blocks.specs.declared.record.UnknownRecord.{UnknownRecord}
 
 -- a block of type 10 holds secrets of this type, and their bytes with padding; rest is its options
 pub record SecretsText (order : Order) (block : UnknownBlock) (type : ℕ) (secrets rest : List ℕ) : Type 0 where
@@ -15,12 +14,6 @@ pub record SecretsText (order : Order) (block : UnknownBlock) (type : ℕ) (secr
   pub type_is : Number order 4 type (cow_bytes block.value) after_type
   pub length_is : Number order 4 (length secrets) after_type after_length
   pub padded : Padded secrets after_length rest
-
--- a record of this type holds an address of this width, and then its names
-pub record AddressOf (type width : ℕ) (r : UnknownRecord) (address names : List ℕ) : Type 0 where
-  pub record_is : r.type_ ≡ type
-  pub parts : cow_bytes r.value ≡ address ++ names
-  pub wide : length address ≡ width
 
 -- the number that bytes are, where there are so many
 abbrev pub number_of_all : Order → ℕ → Option (List ℕ) → Option ℕ

@@ -9,10 +9,7 @@ ghost use Rattle.pcap_blocks.specs.InterfaceDescription.{InterfaceSays};
 ghost use Rattle.pcap_blocks.specs.EnhancedPacket.{EnhancedSays};
 ghost use Rattle.pcap_blocks.specs.Packet.{PacketBodySays};
 ghost use Rattle.pcap_blocks.specs.InterfaceStatistics.{StatisticsSays};
-ghost use Rattle.pcap_core.specs.declared.rules.Rule.{Rule};
-ghost use Rattle.pcap_blocks.specs.Names.{NameSays, NamesSay};
-ghost use Rattle.pcap_blocks.specs.Record.{AddressSays, RecordSays};
-ghost use Rattle.pcap_blocks.specs.NameResolution.{RecordsSay, ResolutionSays};
+ghost use Rattle.pcap_blocks.specs.NameResolution.{ResolutionSays};
 ghost use Rattle.pcap_blocks.specs.declared.block_type.BlockType.{BlockType};
 ghost use Rattle.pcap_blocks.specs.ParsedBlock.{BodySays};
 ghost use Rattle.pcap_blocks.specs.UnknownBlock.{UnknownSays};
@@ -20,7 +17,10 @@ ghost use Rattle.pcap_blocks.specs.SimplePacket.{SimpleSays};
 ghost use Rattle.pcap_blocks.specs.SystemdJournalExport.{JournalSays};
 
 use crate::BlockType;
-pub use pcap_options::laws::{list_is_kept, list_is_one, option_is_one, value_is_one};
+pub use pcap_options::laws::{
+    address_is_one, list_is_kept, list_is_one, name_is_one, names_are_one, option_is_one,
+    record_is_one, records_are_one, value_is_one,
+};
 use std::alloc::AllocError;
 
 /// Of all bytes exactly one thing is said where the body of a section is asked for: the section, or one fault.
@@ -61,31 +61,6 @@ pub fn journal_is_one()
 /// The same where the body of an unknown block is.
 pub fn unknown_is_one()
     ensures { (type : BlockType) (s : List ℕ) → ExactlyOne (UnknownSays type s) }
-{}
-
-/// The same where a name is.
-pub fn name_is_one()
-    ensures { (s : List ℕ) → ExactlyOne (NameSays s) }
-{}
-
-/// The same where names to the end are.
-pub fn names_are_one()
-    ensures { (s : List ℕ) → ExactlyOne (NamesSay s) }
-{}
-
-/// The same where an address of any width and its names are.
-pub fn address_is_one()
-    ensures { (width : ℕ) (too_short : Rule) (s : List ℕ) → ExactlyOne (AddressSays width too_short s) }
-{}
-
-/// The same where a record is.
-pub fn record_is_one()
-    ensures { (order : Order) (s : List ℕ) → ExactlyOne (RecordSays order s) }
-{}
-
-/// The same where records up to their end are.
-pub fn records_are_one()
-    ensures { (order : Order) (s : List ℕ) → ExactlyOne (RecordsSay order s) }
 {}
 
 /// The same where the body of a name resolution block is.

@@ -12,10 +12,8 @@ mod interface_times;
 pub mod laws;
 mod name_resolution;
 mod named;
-mod names;
 mod packet;
 mod parsed_block;
-mod record;
 mod section_header;
 mod simple_packet;
 mod stored_bytes;
@@ -30,19 +28,18 @@ pub use enhanced_packet::EnhancedPacketBlock;
 pub use interface_description::InterfaceDescriptionBlock;
 pub use interface_statistics::InterfaceStatisticsBlock;
 pub use name_resolution::NameResolutionBlock;
-pub use names::str_from_u8_null_terminated;
 pub use packet::PacketBlock;
 pub use parsed_block::ParsedBlock;
 pub use pcap_options::{
-    CustomBinaryOption, CustomUtf8Option, EnhancedPacketOption, InterfaceDescriptionOption,
-    InterfaceStatisticsOption, NameResolutionOption, PacketOption, SectionHeaderOption,
-    UnknownOption, enhanced_options, interface_options, name_options, packet_options,
-    section_options, statistics_options,
+    CustomBinaryOption, CustomUtf8Option, EnhancedPacketOption, HardwareAddress,
+    InterfaceDescriptionOption, InterfaceStatisticsOption, Ipv4Record, Ipv6Record,
+    NameResolutionOption, PacketOption, Record, SectionHeaderOption, UnknownOption, UnknownRecord,
+    enhanced_options, interface_options, name_options, packet_options, section_options,
+    statistics_options, str_from_u8_null_terminated,
 };
 pub use pcap_times::{Clock, TimeUnit, Timestamp};
-pub use record::{Ipv4Record, Ipv6Record, Record, UnknownRecord};
 pub use section_header::SectionHeaderBlock;
 pub use simple_packet::SimplePacketBlock;
 pub use systemd_journal_export::SystemdJournalExportBlock;
 pub use unknown_block::UnknownBlock;
-pub use views::{DecryptionSecrets, HardwareAddress, PacketVerdict};
+pub use views::{DecryptionSecrets, PacketVerdict};

@@ -1,16 +1,17 @@
 //! Name resolution.
 
-ghost use Rattle.std.specs.Prelude.{map, All, IsOk, IfOk, ◌≡◌, IfErr};
+ghost use Rattle.std.specs.Prelude.{IsOk, IfOk, ◌≡◌, IfErr};
 ghost use Rattle.pcap_core.specs.Answer.{TellsWhere};
 ghost use Rattle.pcap_options.specs.Refusal.{FindsWhere};
-ghost use Rattle.pcap_blocks.specs.Record.{name_record_of, RecordIsBorrowed};
-ghost use Rattle.pcap_blocks.specs.NameResolution.{RecordsSay, ResolutionSays, names_of, ResolutionIsBorrowed, ResolutionIsOwned, ResolutionNeedsNoMemory, ResolutionMayGrow, RecordsMayGrow};
+ghost use Rattle.pcap_blocks.specs.NameResolution.{ResolutionSays, names_of, ResolutionIsBorrowed, ResolutionIsOwned, ResolutionNeedsNoMemory, ResolutionMayGrow};
 ghost use Rattle.pcap_core.specs.Errors.{IsMemory};
 
-use crate::record::Record;
 use byteorder::ByteOrder;
 use pcap_core::ResultParsing;
-use pcap_options::{IntoStatic, NameResolutionOption, Refusal, kept_fields, options_from_slice};
+use pcap_options::{
+    IntoStatic, NameResolutionOption, Record, Refusal, kept_fields, options_from_slice,
+    records_from_slice,
+};
 use std::alloc::{AllocError, Global};
 
 /// The body of a name resolution block ('Name Resolution Block'): names of addresses.
@@ -62,27 +63,6 @@ impl<'a> NameResolutionBlock<'a> {
         ensures kept { ResolutionNeedsNoMemory self.entry → IsOk result }
     {
         Ok(self.into_static(alloc)?)
-    }
-}
-
-// The records before the end, and what follows that.
-#[inline(never)]
-fn records_from_slice<'a, B: ByteOrder>(
-    alloc: Global,
-    slice: &'a [u8],
-) -> Result<(&'a [u8], Vec<Record<'a>>), Refusal>
-    ensures tells { FindsWhere (RecordsMayGrow B.number_of slice.now) (RecordsSay B.number_of slice.now) (λ records. map name_record_of records.items) result }
-    ensures borrowed { IfOk result (λ x. All RecordIsBorrowed x.1.items) }
-{
-    let mut records = Vec::new(alloc);
-    let mut rest = slice;
-    loop {
-        let (after, record) = Record::read::<B>(alloc, rest)?;
-        rest = after;
-        match record {
-            Record::End => return Ok((rest, records)),
-            record => records.push(record)?,
-        }
     }
 }
 

@@ -6,3 +6,8 @@ pub mod OneVerdict
 pub mod OneOption
 pub mod OneList
 pub mod Found
+pub mod Naming
+pub mod NameRecords
+pub mod OneName
+pub mod OneRecord
+pub mod OneRecords

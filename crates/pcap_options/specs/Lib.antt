@@ -10,3 +10,7 @@ pub mod PacketOption
 pub mod NameOption
 pub mod StatisticsOption
 pub mod Held
+pub mod Names
+pub mod Record
+pub mod Records
+pub mod HardwareAddress

@@ -13,6 +13,18 @@ use pcap_core::rules::Rule;
 use std::borrow::CowStr;
 use std::str;
 
+// The string that all bytes of a name are.
+#[tactic(auto, using(crate::proofs::Strings::string_is, crate::proofs::Strings::no_string))]
+pub(crate) fn str_value(name: &[u8]) -> Result<&str, Refusal>
+    ensures tells { FindsAll (AllSay (string_at name.now)) (λ string. string.now) result }
+    ensures same { IfOk result (λ string. string.now ≡ name.now) }
+{
+    match str::from_utf8(name) {
+        Ok(string) => Ok(string),
+        Err(e) => Err(Refusal::Utf8(e)),
+    }
+}
+
 // A string.
 #[tactic(auto, using(crate::proofs::Strings::string_is, crate::proofs::Strings::no_string))]
 pub(crate) fn string_value(value: &[u8]) -> Result<CowStr<'_>, Refusal>

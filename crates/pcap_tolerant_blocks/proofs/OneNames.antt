@@ -12,12 +12,12 @@ use Rattle.pcap_core.proofs.Verdicts.{Stopped, IsMany, one_stopped}
 use Rattle.pcap_core.proofs.Formats.{whole_same}
 use Rattle.pcap_options.specs.Values.{Entry}
 use Rattle.pcap_options.specs.Options.{CodeLengthText}
-use Rattle.pcap_blocks.specs.Record.{NameRecord, RecordFault, RecordSays}
+use Rattle.pcap_options.specs.Record.{NameRecord, RecordFault, RecordSays}
 use Rattle.pcap_options.specs.NameOption.{name_resolution}
 use Rattle.pcap_blocks.specs.NameResolution.{Resolution}
 use Rattle.pcap_options.proofs.OneList.{head_length}
 use Rattle.pcap_options.proofs.OneOption.{widths, head_from}
-use Rattle.pcap_blocks.proofs.OneRecord.{record_one}
+use Rattle.pcap_options.proofs.OneRecord.{record_one}
 use Rattle.pcap_options.proofs.ReadOptions.{head_with}
 use Rattle.pcap_tolerant_blocks.specs.Flaws.{Said, Flawed}
 use Rattle.pcap_tolerant_blocks.specs.OptionsAsIs.{OptionsAsIs, OptionsAsIsSay, OptionsGrow}

@@ -19,11 +19,11 @@ use Rattle.pcap_core.proofs.Texts.{number_same}
 use Rattle.pcap_core.proofs.Verdicts.{whole_no_fault}
 use Rattle.pcap_core.proofs.Formats.{whole_same}
 use Rattle.pcap_options.specs.Options.{CodeLengthText}
-use Rattle.pcap_blocks.specs.Record.{NameRecord, End, Ipv4, Ipv6, Other, no_value, address, any_value, form_of, RecordValueSays, RecordText, RecordFault, short, cut, wrong, unpadded, RecordMayGrow, RecordValueMayGrow, other_of}
-use Rattle.pcap_blocks.specs.declared.record.UnknownRecord.{UnknownRecord}
-use Rattle.pcap_blocks.proofs.NameRecords.{same_padded}
+use Rattle.pcap_options.specs.Record.{NameRecord, End, Ipv4, Ipv6, Other, no_value, address, any_value, form_of, RecordValueSays, RecordText, RecordFault, short, cut, wrong, unpadded, RecordMayGrow, RecordValueMayGrow, other_of}
+use Rattle.pcap_options.specs.declared.record.UnknownRecord.{UnknownRecord}
+use Rattle.pcap_options.proofs.NameRecords.{same_padded}
 use Rattle.pcap_options.proofs.OneList.{head_length}
-use Rattle.pcap_blocks.proofs.OneRecord.{value_one}
+use Rattle.pcap_options.proofs.OneRecord.{value_one}
 use Rattle.pcap_tolerant_blocks.specs.declared.flaws.Flaw.{Flaw}
 use Rattle.pcap_tolerant_blocks.specs.Flaws.{Said, Flawed, said_of}
 use Rattle.pcap_tolerant_blocks.specs.NamesAsIs.{only, IsJudged, sound, broken, Delimited, NoExtent, no_head, no_bytes, TypedText, KeptAsIs, record_in, flaws_of, judged_record, RawText, RecordsGrow, RecordsText, with_end, without_end}

@@ -7,9 +7,10 @@ use Rattle.pcap_core.specs.Faults.{Fault}
 use Rattle.pcap_core.specs.Padded.{Chain}
 use Rattle.pcap_options.specs.Values.{Entry}
 use Rattle.pcap_options.specs.Options.{may_end_with_body, ListSays}
-use Rattle.pcap_blocks.specs.Record.{NameRecord, End, form_of, RecordValueSays, RecordText, RecordFault, wrong}
+use Rattle.pcap_options.specs.Record.{NameRecord, End, form_of, RecordValueSays, RecordText, RecordFault, wrong}
 use Rattle.pcap_options.specs.NameOption.{name_resolution}
-use Rattle.pcap_blocks.specs.NameResolution.{Resolution, KeptText, RecordsText, ResolutionText, ResolutionFault, in_records, in_options, ResolutionSays}
+use Rattle.pcap_options.specs.Records.{KeptText, RecordsText}
+use Rattle.pcap_blocks.specs.NameResolution.{Resolution, ResolutionText, ResolutionFault, in_records, in_options, ResolutionSays}
 use Rattle.pcap_blocks.proofs.OneResolution.{resolution_one}
 use Rattle.pcap_tolerant_blocks.specs.Flaws.{Said, Flawed, StrictIs}
 use Rattle.pcap_tolerant_blocks.specs.OptionsAsIs.{OptionsAsIs}

@@ -7,10 +7,10 @@ use Rattle.pcap_core.specs.Padded.{up_to_4, Padded, Chain}
 use Rattle.pcap_core.specs.Bytes.{cow_bytes}
 use Rattle.pcap_options.specs.Values.{Entry}
 use Rattle.pcap_options.specs.Options.{CodeLengthText}
-use Rattle.pcap_blocks.specs.Record.{NameRecord, Other, form_of, RecordValueSays, RecordFault, name_record_of}
+use Rattle.pcap_options.specs.Record.{NameRecord, Other, form_of, RecordValueSays, RecordFault, name_record_of}
 use Rattle.pcap_options.specs.NameOption.{name_resolution}
 use Rattle.pcap_blocks.specs.NameResolution.{Resolution}
-use Rattle.pcap_blocks.specs.declared.record.UnknownRecord.{UnknownRecord}
+use Rattle.pcap_options.specs.declared.record.UnknownRecord.{UnknownRecord}
 use Rattle.pcap_tolerant_blocks.specs.Flaws.{Said, Flawed, said_of, KeepsSome}
 use Rattle.pcap_tolerant_blocks.specs.OptionsAsIs.{OptionsAsIs, flaws_or_none}
 use Rattle.pcap_tolerant_blocks.specs.declared.flaws.Flaw.{Flaw}

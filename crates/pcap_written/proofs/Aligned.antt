@@ -18,7 +18,7 @@ use Rattle.pcap_options.specs.StatisticsOption.{interface_statistics}
 use Rattle.pcap_blocks.specs.InterfaceStatistics.{Statistics}
 use Rattle.pcap_options.specs.EnhancedOption.{enhanced_packet}
 use Rattle.pcap_options.specs.PacketOption.{packet_kind}
-use Rattle.pcap_blocks.specs.Record.{NameRecord, End, Ipv4, Ipv6, Other}
+use Rattle.pcap_options.specs.Record.{NameRecord, End, Ipv4, Ipv6, Other}
 use Rattle.pcap_options.specs.NameOption.{name_resolution}
 use Rattle.pcap_blocks.specs.NameResolution.{Resolution}
 use Rattle.pcap_blocks.specs.ParsedBlock.{Body, SectionBody, InterfaceBody, OldPacketBody, SimpleBody, NamesBody, StatisticsBody, EnhancedBody, JournalBody, OtherBody}

@@ -7,10 +7,11 @@ use Rattle.std.proofs.lemmas.List.Elements.{All-head, All-tail}
 use Rattle.pcap_core.specs.Answer.{Order, whole}
 use Rattle.pcap_core.specs.Codec.{Encoder, IsCodec}
 use Rattle.pcap_core.specs.Padded.{Chain}
-use Rattle.pcap_blocks.specs.Names.{NameText}
-use Rattle.pcap_blocks.specs.Record.{Address, AddressText, NameRecord, End, Ipv4, Ipv6, Other, Form, RecordText, RecordValueSays, form_of}
+use Rattle.pcap_options.specs.Names.{NameText}
+use Rattle.pcap_options.specs.Record.{Address, AddressText, NameRecord, End, Ipv4, Ipv6, Other, Form, RecordText, RecordValueSays, form_of}
 use Rattle.pcap_options.specs.NameOption.{name_resolution}
-use Rattle.pcap_blocks.specs.NameResolution.{Resolution, KeptText, RecordsText, ResolutionText}
+use Rattle.pcap_options.specs.Records.{KeptText, RecordsText}
+use Rattle.pcap_blocks.specs.NameResolution.{Resolution, ResolutionText}
 use Rattle.pcap_written.specs.Text.{coded_bytes, padded_bytes, list_text}
 use Rattle.pcap_written.specs.Bodies.{name_text, address_text, record_text, resolution_text}
 use Rattle.pcap_written.specs.Fits.{IsFitName, IsFitAddress, IsFitOther, IsFitRecord, IsFitResolution}

@@ -23,7 +23,7 @@ use Rattle.pcap_blocks.specs.Packet.{PacketBody}
 use Rattle.pcap_blocks.specs.SimplePacket.{Simple}
 use Rattle.pcap_options.specs.NameOption.{name_resolution}
 use Rattle.pcap_blocks.specs.NameResolution.{Resolution}
-use Rattle.pcap_blocks.specs.Record.{Address, NameRecord, End, Ipv4, Ipv6, Other}
+use Rattle.pcap_options.specs.Record.{Address, NameRecord, End, Ipv4, Ipv6, Other}
 use Rattle.pcap_blocks.specs.ParsedBlock.{Body, SectionBody, InterfaceBody, OldPacketBody, SimpleBody, NamesBody, StatisticsBody, EnhancedBody, JournalBody, OtherBody}
 use Rattle.pcap_written.specs.declared.block.BlockHead.{BlockHead}
 use Rattle.pcap_core.specs.Codec.{Encoder}

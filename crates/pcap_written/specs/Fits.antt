@@ -17,8 +17,8 @@ use Rattle.pcap_options.specs.EnhancedOption.{enhanced_packet}
 use Rattle.pcap_blocks.specs.EnhancedPacket.{Enhanced}
 use Rattle.pcap_options.specs.PacketOption.{packet_kind}
 use Rattle.pcap_blocks.specs.Packet.{PacketBody}
-use Rattle.pcap_blocks.specs.Names.{HasNoZero}
-use Rattle.pcap_blocks.specs.Record.{Address, NameRecord, End, Ipv4, Ipv6, Other, form_of, any_value}
+use Rattle.pcap_options.specs.Names.{HasNoZero}
+use Rattle.pcap_options.specs.Record.{Address, NameRecord, End, Ipv4, Ipv6, Other, form_of, any_value}
 use Rattle.pcap_options.specs.NameOption.{name_resolution}
 use Rattle.pcap_blocks.specs.NameResolution.{Resolution}
 use Rattle.pcap_blocks.specs.UnknownBlock.{UnknownBody}

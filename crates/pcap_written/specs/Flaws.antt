@@ -16,8 +16,8 @@ use Rattle.pcap_blocks.specs.InterfaceDescription.{Interface}
 use Rattle.pcap_options.specs.StatisticsOption.{interface_statistics}
 use Rattle.pcap_options.specs.EnhancedOption.{enhanced_packet}
 use Rattle.pcap_options.specs.PacketOption.{packet_kind}
-use Rattle.pcap_blocks.specs.Names.{HasNoZero}
-use Rattle.pcap_blocks.specs.Record.{Address, NameRecord, End, Ipv4, Ipv6, Other, form_of, any_value}
+use Rattle.pcap_options.specs.Names.{HasNoZero}
+use Rattle.pcap_options.specs.Record.{Address, NameRecord, End, Ipv4, Ipv6, Other, form_of, any_value}
 use Rattle.pcap_options.specs.NameOption.{name_resolution}
 use Rattle.pcap_blocks.specs.NameResolution.{Resolution}
 use Rattle.pcap_blocks.specs.UnknownBlock.{UnknownBody}

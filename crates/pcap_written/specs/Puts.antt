@@ -6,7 +6,7 @@ use Rattle.pcap_core.specs.declared.errors.PcapError.TheVariants.{InvalidField, 
 use Rattle.pcap_written.specs.declared.unwritable.Unwritable.{Unwritable}
 use Rattle.pcap_written.specs.declared.unwritable.Unput.{Unput}
 use Rattle.pcap_written.specs.declared.unwritable.Unput.TheVariants.{Memory, Unfit}
-use Rattle.pcap_blocks.specs.Names.{HasNoZero}
+use Rattle.pcap_options.specs.Names.{HasNoZero}
 use Rattle.pcap_written.specs.declared.unwritable.Unwritable.TheVariants as flaws
 use Rattle.pcap_written.specs.Bodies.{name_text}
 use Rattle.pcap_written.specs.Fits.{IsFitName}

@@ -3,8 +3,8 @@
 ghost use Rattle.std.specs.Prelude.{◌≡◌, ◌≤◌, ◌++◌, false, map, true, All, Any, OnOk};
 ghost use Rattle.std.specs.Cow.{cow_str_bytes};
 ghost use Rattle.std.specs.List.{flat_map};
-ghost use Rattle.pcap_blocks.specs.Names.{HasNoZero};
-ghost use Rattle.pcap_blocks.specs.Record.{Address, name_record_of, other_of};
+ghost use Rattle.pcap_options.specs.Names.{HasNoZero};
+ghost use Rattle.pcap_options.specs.Record.{Address, name_record_of, other_of};
 ghost use Rattle.pcap_written.specs.Text.{coded_bytes};
 ghost use Rattle.pcap_written.specs.Bodies.{address_text, name_text, record_text};
 ghost use Rattle.pcap_written.specs.Fits.{IsFitAddress, IsFitRecord};

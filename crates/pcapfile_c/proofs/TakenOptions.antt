@@ -6,11 +6,11 @@ use Rattle.pcap_core.specs.Answer.{Order, Number, Verdict, lacks, faulty, Refuse
 use Rattle.pcap_core.specs.Faults.{Fault, Shows}
 use Rattle.pcap_core.specs.Padded.{Behind, Chain}
 use Rattle.pcap_core.proofs.Padded.{chain_more}
-use Rattle.pcap_blocks.specs.Names.{NameText, NamesText}
-use Rattle.pcap_blocks.specs.NameResolution.{KeptText, RecordsText}
-use Rattle.pcap_blocks.specs.Record.{Address, AddressText, NameRecord, End, RecordText}
+use Rattle.pcap_options.specs.Names.{NameText, NamesText}
+use Rattle.pcap_options.specs.Records.{KeptText, RecordsText}
+use Rattle.pcap_options.specs.Record.{Address, AddressText, NameRecord, End, RecordText}
 use Rattle.pcap_blocks.specs.StoredPacket.{StoredHead}
-use Rattle.pcap_blocks.proofs.Naming.{split_parts}
+use Rattle.pcap_options.proofs.Naming.{split_parts}
 use Rattle.pcap_blocks.proofs.StoredPackets.{stored}
 use Rattle.pcapfile_c.specs.declared.errors.PcapfileError.{PcapfileError}
 use Rattle.pcapfile_c.specs.declared.records.PcapfileRecord.{PcapfileRecord}

@@ -11,9 +11,9 @@ use Rattle.pcap_core.specs.Padded.{Padded, Behind, up_to_4}
 use Rattle.pcap_blocks.specs.declared.block_type.BlockType.{BlockType}
 use Rattle.pcap_blocks.specs.declared.block_type.BlockType.TheVariants as types
 use Rattle.pcap_blocks.specs.BlockType.{block_type}
-use Rattle.pcap_blocks.specs.NameResolution.{RecordsText, RecordsFault}
+use Rattle.pcap_options.specs.Records.{RecordsText, RecordsFault}
 use Rattle.pcap_options.specs.Options.{OptionText, EndMark, OptionSays}
-use Rattle.pcap_blocks.specs.Record.{NameRecord}
+use Rattle.pcap_options.specs.Record.{NameRecord}
 use Rattle.pcap_blocks.specs.StoredPacket.{Stored, StoredHead}
 use Rattle.pcap_options.specs.Values.{Entry, Unknown}
 use Rattle.pcap_raw_options.specs.UpTo.{no_kind}

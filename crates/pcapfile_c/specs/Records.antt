@@ -6,8 +6,8 @@ use Rattle.pcap_core.specs.declared.errors.PcapError.{PcapError}
 use Rattle.pcap_core.specs.declared.rules.Rule.{Rule}
 use Rattle.pcap_core.specs.Answer.{Order, number_in, whole, faulty}
 use Rattle.pcap_core.specs.Faults.{Shows}
-use Rattle.pcap_blocks.specs.Names.{NameText, NameSays, NamesText, NamesSay}
-use Rattle.pcap_blocks.specs.Record.{Address, AddressSays, NameRecord, End, Ipv4, Ipv6, Other, Form, RecordValueSays, RecordText, RecordSays}
+use Rattle.pcap_options.specs.Names.{NameText, NameSays, NamesText, NamesSay}
+use Rattle.pcap_options.specs.Record.{Address, AddressSays, NameRecord, End, Ipv4, Ipv6, Other, Form, RecordValueSays, RecordText, RecordSays}
 use Rattle.pcapfile_c.specs.declared.errors.PcapfileError.{PcapfileError}
 use Rattle.pcapfile_c.specs.declared.records.PcapfileRecord.{PcapfileRecord}
 use Rattle.pcapfile_c.specs.declared.shown.PcapfileBytes.{PcapfileBytes}

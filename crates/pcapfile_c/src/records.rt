@@ -3,7 +3,7 @@
 ghost use Rattle.std.specs.Prelude.{◌≡◌, ◌<◌, ◌^◌, None, Some};
 ghost use Rattle.pcap_core.specs.declared.common.Endianness.{Endianness};
 ghost use Rattle.pcap_core.specs.Answer.{number_in};
-ghost use Rattle.pcap_blocks.specs.Record.{form_of};
+ghost use Rattle.pcap_options.specs.Record.{form_of};
 ghost use Rattle.pcap_blocks.specs.SectionHeader.{magic_order};
 ghost use Rattle.pcapfile_c.specs.Bodies.{RefusesSection};
 ghost use Rattle.pcapfile_c.specs.Records.{TakesRecord, TakesName, RecordTells, RecordsTell, ValueTells, AddressTells, NamesTell};

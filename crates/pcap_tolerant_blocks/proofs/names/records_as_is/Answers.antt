@@ -1,6 +1,6 @@
 use Rattle.std.proofs.Common.{map}
 use Rattle.std.proofs.lemmas.List.{map-append}
-use Rattle.pcap_blocks.specs.Record.{name_record_of}
+use Rattle.pcap_options.specs.Record.{name_record_of}
 use Rattle.pcap_tolerant_blocks.specs.Flaws.{said_of}
 use Rattle.pcap_tolerant_blocks.specs.NamesAsIs.{judged_record, RecordsGrow}
 use Rattle.pcap_tolerant_blocks.proofs.RecordsAsIs.{record_more, records_end, records_cut, grows_at, grows_by_name, grows_by_record, grows_by_end, grows_by_cut}

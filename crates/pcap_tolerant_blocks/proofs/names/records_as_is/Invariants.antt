@@ -1,5 +1,5 @@
 use Rattle.std.proofs.Common.{length, map}
-use Rattle.pcap_blocks.specs.Record.{name_record_of}
+use Rattle.pcap_options.specs.Record.{name_record_of}
 use Rattle.pcap_tolerant_blocks.specs.Flaws.{said_of}
 use Rattle.pcap_tolerant_blocks.proofs.RecordsAsIs.{RecordsSoFar}
 use Rattle.pcap_tolerant_blocks.proofs.names.records_as_is.Given as goal

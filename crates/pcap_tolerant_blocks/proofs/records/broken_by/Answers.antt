@@ -1,4 +1,4 @@
-use Rattle.pcap_blocks.specs.Record.{RecordFault, RecordMayGrow}
+use Rattle.pcap_options.specs.Record.{RecordFault, RecordMayGrow}
 use Rattle.pcap_tolerant_blocks.proofs.RecordsAsIs.{io_stands}
 use Rattle.pcap_tolerant_blocks.proofs.records.broken_by.Goals as goal
 

@@ -1,6 +1,6 @@
 use Rattle.std.proofs.Common.{refl}
-use Rattle.pcap_blocks.specs.Record.{End, other_of}
-use Rattle.pcap_blocks.proofs.NameRecords.{kept_of}
+use Rattle.pcap_options.specs.Record.{End, other_of}
+use Rattle.pcap_options.proofs.NameRecords.{kept_of}
 use Rattle.pcap_tolerant_blocks.proofs.RecordsAsIs.{strict_end, strict_kept, end_broken, kept_broken}
 use Rattle.pcap_tolerant_blocks.proofs.records.record_as_is.Goals.{in-End, in_default}
 use Rattle.pcap_tolerant_blocks.proofs.records.record_as_is.Goals as goal

@@ -2,7 +2,7 @@ use Rattle.std.proofs.Common.{◌∙◌, [], ap, arith, length, length-append, m
 use Rattle.std.specs.Prelude.{IsUtf8, List, ℕ}
 use Rattle.std.specs.Cow.{cow_str_bytes}
 use Rattle.std.specs.List.{flat_map}
-use Rattle.pcap_blocks.specs.Names.{HasNoZero}
+use Rattle.pcap_options.specs.Names.{HasNoZero}
 use Rattle.pcap_options.proofs.Strings.{string_is}
 use Rattle.pcap_written.specs.Bodies.{name_text}
 use Rattle.pcap_written.specs.Fits.{IsFitName}

@@ -1,7 +1,7 @@
 use Rattle.std.proofs.Common.{map}
 use Rattle.std.specs.Prelude.{Any}
 use Rattle.std.proofs.lemmas.Result.{err_from_is_err_and}
-use Rattle.pcap_blocks.specs.Record.{name_record_of}
+use Rattle.pcap_options.specs.Record.{name_record_of}
 use Rattle.pcap_written.specs.Flaws.{RecordFlaw}
 use Rattle.pcap_written.proofs.Lists.{any_at}
 use Rattle.pcap_written.proofs.Puts.{refuses_more}

@@ -1,7 +1,7 @@
 use Rattle.std.proofs.Common.{◌≡◌, ◌++◌, map, take}
 use Rattle.std.specs.Prelude.{All}
 use Rattle.std.specs.List.{flat_map}
-use Rattle.pcap_blocks.specs.Record.{name_record_of}
+use Rattle.pcap_options.specs.Record.{name_record_of}
 use Rattle.pcap_written.specs.Bodies.{record_text}
 use Rattle.pcap_written.specs.Fits.{IsFitRecord}
 use Rattle.pcap_written.proofs.names.put_records.Given as goal

@@ -2,8 +2,8 @@ use Rattle.std.proofs.Common.{arith, refl, ◌≤◌, ◌+◌, length}
 use Rattle.std.proofs.lemmas.Result.{err_from_is_err_and}
 use Rattle.pcap_core.specs.Faults.{Invalid}
 use Rattle.pcap_core.proofs.Refusals.{named_shows, shows_more}
-use Rattle.pcap_blocks.specs.Record.{AddressFault, short}
-use Rattle.pcap_blocks.proofs.Naming.{split_parts, address_fails}
+use Rattle.pcap_options.specs.Record.{AddressFault, short}
+use Rattle.pcap_options.proofs.Naming.{split_parts, address_fails}
 use Rattle.pcapfile_c.proofs.TakenOptions.{address_found}
 use Rattle.pcapfile_c.proofs.records.address_of.Goals as goal
 

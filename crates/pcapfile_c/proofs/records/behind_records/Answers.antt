@@ -1,6 +1,6 @@
 use Rattle.std.proofs.lemmas.Result.{err_from_is_err_and}
 use Rattle.pcap_core.proofs.Refusals.{shows_more}
-use Rattle.pcap_blocks.proofs.NameRecords.{records_fail}
+use Rattle.pcap_options.proofs.NameRecords.{records_fail}
 use Rattle.pcapfile_c.proofs.TakenOptions.{records_more, records_end}
 use Rattle.pcapfile_c.proofs.records.behind_records.Goals as goal
 

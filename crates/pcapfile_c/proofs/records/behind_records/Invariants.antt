@@ -1,7 +1,7 @@
 use Rattle.std.proofs.Common.{List, length}
 use Rattle.pcap_core.specs.Padded.{Chain}
-use Rattle.pcap_blocks.specs.NameResolution.{KeptText}
-use Rattle.pcap_blocks.specs.Record.{NameRecord}
+use Rattle.pcap_options.specs.Records.{KeptText}
+use Rattle.pcap_options.specs.Record.{NameRecord}
 use Rattle.pcapfile_c.proofs.records.behind_records.Given as goal
 
 abbrev pub invariant-loop-rest : goal.invariant-loop-rest

@@ -1,7 +1,7 @@
 use Rattle.std.proofs.Common.{refl, inr, sym, ◌≡◌, ◌∙◌}
 use Rattle.std.proofs.lemmas.Option.{same_Some}
 use Rattle.pcap_core.specs.Answer.{number_in}
-use Rattle.pcap_blocks.specs.Record.{RecordSays}
+use Rattle.pcap_options.specs.Record.{RecordSays}
 use Rattle.pcapfile_c.proofs.TakenOptions.{tells_shown}
 use Rattle.pcapfile_c.proofs.records.pcapfile_take_record.Goals as goal
 

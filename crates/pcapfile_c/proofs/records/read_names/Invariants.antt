@@ -1,6 +1,6 @@
 use Rattle.std.proofs.Common.{ℕ, List, length}
 use Rattle.pcap_core.specs.Padded.{Chain}
-use Rattle.pcap_blocks.specs.Names.{NameText}
+use Rattle.pcap_options.specs.Names.{NameText}
 use Rattle.pcapfile_c.proofs.records.read_names.Given as goal
 
 abbrev pub invariant-loop-left : goal.invariant-loop-left

@@ -3,9 +3,9 @@ use Rattle.std.proofs.lemmas.Result.{err_from_is_err_and}
 use Rattle.pcap_core.specs.Faults.{Invalid, Io}
 use Rattle.pcap_core.specs.declared.rules.Rule.TheVariants.{RecordCut, RecordUnpadded}
 use Rattle.pcap_core.proofs.Refusals.{named_shows, shows_more}
-use Rattle.pcap_blocks.specs.Record.{RecordFault, short, cut}
-use Rattle.pcap_blocks.proofs.Naming.{split_parts}
-use Rattle.pcap_blocks.proofs.NameRecords.{record_wrong, record_unpadded}
+use Rattle.pcap_options.specs.Record.{RecordFault, short, cut}
+use Rattle.pcap_options.proofs.Naming.{split_parts}
+use Rattle.pcap_options.proofs.NameRecords.{record_wrong, record_unpadded}
 use Rattle.pcap_options.proofs.ReadOptions.{head_is}
 use Rattle.pcapfile_c.proofs.records.record_in.Goals as goal
 

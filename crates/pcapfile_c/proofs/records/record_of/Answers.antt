@@ -3,7 +3,7 @@ use Rattle.pcap_core.specs.Answer.{faulty}
 use Rattle.pcap_core.specs.Faults.{Fault}
 use Rattle.pcap_core.specs.declared.rules.Rule.TheVariants.{EndNotEmpty}
 use Rattle.pcap_core.proofs.Refusals.{named_shows}
-use Rattle.pcap_blocks.specs.Record.{RecordValueSays, no_value, Ipv4, Ipv6, Other}
+use Rattle.pcap_options.specs.Record.{RecordValueSays, no_value, Ipv4, Ipv6, Other}
 use Rattle.pcap_options.proofs.ReadOptions.{not_empty}
 use Rattle.pcapfile_c.proofs.records.record_of.Goals as goal
 

@@ -1,6 +1,6 @@
 use Rattle.std.proofs.lemmas.Result.{err_from_is_err_and}
 use Rattle.pcap_blocks.specs.NameResolution.{with_option}
-use Rattle.pcap_blocks.proofs.NameRecords.{resolution_options}
+use Rattle.pcap_blocks.proofs.Bodies.{resolution_options}
 use Rattle.pcap_options.proofs.Refusals.{denies_more}
 use Rattle.pcap_blocks.proofs.name_resolution.NameResolutionBlock.read.Goals as goal
 

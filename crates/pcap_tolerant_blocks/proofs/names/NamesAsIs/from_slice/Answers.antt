@@ -1,5 +1,5 @@
 use Rattle.std.proofs.Common.{map}
-use Rattle.pcap_blocks.specs.Record.{name_record_of}
+use Rattle.pcap_options.specs.Record.{name_record_of}
 use Rattle.pcap_options.specs.NameOption.{name_entry}
 use Rattle.pcap_tolerant_blocks.specs.Flaws.{said_of}
 use Rattle.pcap_tolerant_blocks.specs.NamesAsIs.{NamesGrow}
