@@ -10,7 +10,7 @@ use std::alloc::{AllocError, AllocFailed};
 use std::io;
 use std::str::Utf8Error;
 
-/// Why bytes are not read. It becomes a `PcapError` at each public call.
+/// Why bytes are not read. It becomes a `PcapError` at each call that users of blocks name.
 #[derive(Debug, Drop)]
 pub enum Refusal {
     /// A growth was refused.
