@@ -1,11 +1,8 @@
 //! Calls on a classic capture in memory.
 
-use pcap_blocks::InterfaceDescriptionBlock;
-use pcap_classic::pcap::{Packet, PcapParser, PcapReader, PcapWriter};
+use pcap_classic::ResultParsing;
+use pcap_classic::pcap::{PcapParser, PcapReader, PcapWriter};
 use pcap_classic::run::{Copied, Under, copy_buffered, copy_pcap};
-use pcap_classic::{DataLink, ResultParsing};
-use pcap_tolerant::next_packet_as_is;
-use pcap_written::PcapNgWriter;
 use std::alloc::Global;
 use std::io::BufReader;
 
@@ -21,11 +18,9 @@ pub(crate) fn passes_of(
 ) -> Option<ResultParsing<u64>> {
     match call {
         "next_packet" => Some(next_packet(passes, bytes)),
-        "next_packet_as_is" => Some(packets_as_they_stand(passes, bytes)),
         "next" => Some(next(alloc, passes, bytes)),
         "next_header" => Some(next_header(alloc, passes, bytes)),
         "write_packet" => Some(write_packet(alloc, passes, bytes)),
-        "write_ng_packet" => Some(write_ng_packet(alloc, passes, bytes)),
         "copy" => Some(copy(alloc, passes, bytes)),
         "copy_buffered" => Some(copy_out_of_a_buffer(alloc, passes, bytes)),
         "memcpy" => Some(memcpy(alloc, passes, bytes)),
@@ -45,27 +40,6 @@ fn next_packet(passes: u64, bytes: &[u8]) -> ResultParsing<u64> {
             sum = sum
                 .wrapping_add(u64::from(packet.header.ts_nsec))
                 .wrapping_add(packet.data_.len() as u64);
-            left = rest;
-        }
-    }
-    Ok(sum)
-}
-
-fn packets_as_they_stand(passes: u64, bytes: &[u8]) -> ResultParsing<u64> {
-    let mut sum = 0u64;
-    for _ in 0..passes {
-        let (mut left, parser) = PcapParser::new(bytes)?;
-        for _ in 0..u64::MAX {
-            if left.is_empty() {
-                break;
-            }
-            let (rest, packet) = next_packet_as_is(&parser, left, 0)?;
-            sum = sum
-                .wrapping_add(u64::from(packet.fraction))
-                .wrapping_add(packet.data.len() as u64);
-            if packet.flaws.is_broken() {
-                sum = sum.wrapping_add(1);
-            }
             left = rest;
         }
     }
@@ -130,7 +104,7 @@ fn next_header(alloc: Global, passes: u64, bytes: &[u8]) -> ResultParsing<u64> {
     Ok(sum)
 }
 
-fn packets_of(alloc: Global, bytes: &[u8]) -> ResultParsing<Vec<Packet<'_>>> {
+fn write_packet(alloc: Global, passes: u64, bytes: &[u8]) -> ResultParsing<u64> {
     let (mut left, parser) = PcapParser::new(bytes)?;
     let mut packets = Vec::new(alloc);
     for _ in 0..u64::MAX {
@@ -141,12 +115,7 @@ fn packets_of(alloc: Global, bytes: &[u8]) -> ResultParsing<Vec<Packet<'_>>> {
         packets.push(packet)?;
         left = rest;
     }
-    Ok(packets)
-}
-
-fn write_packet(alloc: Global, passes: u64, bytes: &[u8]) -> ResultParsing<u64> {
-    let packets = packets_of(alloc, bytes)?;
-    let header = *PcapParser::new(bytes)?.1.header();
+    let header = *parser.header();
     let mut out: Vec<u8> = Vec::with_capacity(alloc, bytes.len())?;
     let mut sum = 0u64;
     for _ in 0..passes {
@@ -155,33 +124,6 @@ fn write_packet(alloc: Global, passes: u64, bytes: &[u8]) -> ResultParsing<u64> 
             let mut writer = PcapWriter::with_header(header, &mut out)?;
             for packet in &packets {
                 writer.write_packet(packet)?;
-            }
-        }
-        sum = sum.wrapping_add(out.len() as u64);
-    }
-    Ok(sum)
-}
-
-// The packets in enhanced packet blocks of one interface.
-fn write_ng_packet(alloc: Global, passes: u64, bytes: &[u8]) -> ResultParsing<u64> {
-    let packets = packets_of(alloc, bytes)?;
-    let interface = InterfaceDescriptionBlock {
-        linktype: DataLink::ETHERNET,
-        reserved: 0,
-        snaplen: 0,
-        options: Vec::new(alloc),
-    };
-    let mut out: Vec<u8> = Vec::with_capacity(alloc, bytes.len())?;
-    let mut sum = 0u64;
-    for _ in 0..passes {
-        out.clear();
-        {
-            let mut writer = PcapNgWriter::new(alloc, &mut out)?;
-            writer.write_pcapng_block(&interface)?;
-            for packet in &packets {
-                let units = u64::from(packet.header.ts_nsec);
-                let bytes = packet.data_.as_slice();
-                writer.write_packet(0, units, bytes, packet.header.orig_len)?;
             }
         }
         sum = sum.wrapping_add(out.len() as u64);

@@ -1,0 +1,31 @@
+//! Makes one library call over and over on the bytes of standard input, so that its instructions can be counted, each of them one
+//! that the Rust crate lacks: `measured_blocks CALL PASSES < bytes`.
+#![tactic(auto)]
+
+mod blocks;
+mod packets;
+
+use pcap_classic::ResultParsing;
+use std::alloc::Global;
+use std::io;
+use test_support::passes::{Asked, tell};
+
+// The sum over the values of all passes, or nothing where no call has this name.
+fn passes_of(alloc: Global, call: &str, passes: u64, bytes: &[u8]) -> Option<ResultParsing<u64>> {
+    if let Some(sum) = packets::passes_of(alloc, call, passes, bytes) {
+        return Some(sum);
+    }
+    blocks::passes_of(alloc, call, passes, bytes)
+}
+
+fn main(rt: HostRuntime) -> io::Result<()> {
+    let Asked {
+        call,
+        passes,
+        bytes,
+    } = Asked::read(&rt)?;
+    tell(
+        &rt,
+        passes_of(rt.alloc(), call.as_str(), passes, bytes.as_slice()),
+    )
+}
