@@ -9,7 +9,7 @@ use byteorder::ByteOrder;
 use pcap_core::CowBytes;
 use pcap_core::fields::{split_padded, split_u32};
 use pcap_core::rules::Rule;
-use pcap_options::{PcapNgOption, Refusal, options_from_slice};
+use pcap_options::{ListedOption, Refusal};
 use std::alloc::Global;
 
 // A packet without its interface.
@@ -23,7 +23,7 @@ pub(crate) struct StoredPacket<'a, O> {
 }
 
 // The packet at the front of a slice, and what follows its options.
-pub(crate) fn stored_from_slice<'a, O: PcapNgOption<'a> + Drop, B: ByteOrder>(
+pub(crate) fn stored_from_slice<'a, O: ListedOption<'a> + Drop, B: ByteOrder>(
     alloc: Global,
     slice: &'a [u8],
 ) -> Result<(&'a [u8], StoredPacket<'a, O>), Refusal>
@@ -37,7 +37,7 @@ pub(crate) fn stored_from_slice<'a, O: PcapNgOption<'a> + Drop, B: ByteOrder>(
     let Some((bytes, rest)) = split_padded(rest, captured_len as usize) else {
         return Err(Refusal::Invalid(Rule::EnhancedCut));
     };
-    let (rest, options) = options_from_slice::<O, B>(alloc, rest)?;
+    let (rest, options) = O::list_from_slice::<B>(alloc, rest)?;
     let packet = StoredPacket {
         timestamp,
         captured_len,

@@ -9,7 +9,8 @@ ghost use Rattle.pcap_core.specs.Errors.{IsMemory};
 use crate::enhanced_options;
 use crate::kinds::{kept_option, read_option};
 use crate::options::{
-    CustomBinaryOption, CustomUtf8Option, PcapNgOption, UnknownOption, options_from_slice,
+    CustomBinaryOption, CustomUtf8Option, ListedOption, PcapNgOption, UnknownOption,
+    options_from_slice,
 };
 use crate::owned::IntoStatic;
 use crate::refusal::Refusal;
@@ -55,7 +56,7 @@ impl<'a> EnhancedPacketOption<'a> {
         ensures tells { TellsWhere (OptionsMayGrow B.number_of enhanced_packet slice.now) (ListSays may_end_with_body B.number_of enhanced_packet slice.now) (λ options. map enhanced_entry options.items) result }
         ensures borrowed { IfOk result (λ x. All EnhancedOptionIsBorrowed x.1.items) }
     {
-        Ok(options_from_slice::<EnhancedPacketOption, B>(alloc, slice)?)
+        Ok(Self::list_from_slice::<B>(alloc, slice)?)
     }
 
     /// The same option, with bytes and strings of its own: borrowed ones are copied, owned ones kept.
@@ -78,8 +79,19 @@ impl<'a> PcapNgOption<'a> for EnhancedPacketOption<'a> {
 
     ghost is_borrowed = { EnhancedOptionIsBorrowed };
 
+    #[inline(always)]
     fn from_value<B: ByteOrder>(code: u16, len: u16, value: &'a [u8]) -> Result<Self, Refusal> {
         enhanced_options!(read_option B code len value)
+    }
+}
+
+impl<'a> ListedOption<'a> for EnhancedPacketOption<'a> {
+    #[inline(always)]
+    fn list_from_slice<B: ByteOrder>(
+        alloc: Global,
+        slice: &'a [u8],
+    ) -> Result<(&'a [u8], Vec<Self>), Refusal> {
+        options_from_slice::<Self, B>(alloc, slice)
     }
 }
 

@@ -65,6 +65,7 @@ impl<'a> PcapNgOption<'a> for InterfaceDescriptionOption<'a> {
 
     ghost is_borrowed = { InterfaceOptionIsBorrowed };
 
+    #[inline(always)]
     fn from_value<B: ByteOrder>(code: u16, len: u16, value: &'a [u8]) -> Result<Self, Refusal> {
         interface_options!(read_option B code len value)
     }

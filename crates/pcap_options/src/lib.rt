@@ -30,7 +30,8 @@ pub use interface_option::InterfaceDescriptionOption;
 pub use name_option::NameResolutionOption;
 pub use names::str_from_u8_null_terminated;
 pub use options::{
-    CustomBinaryOption, CustomUtf8Option, PcapNgOption, UnknownOption, options_from_slice,
+    CustomBinaryOption, CustomUtf8Option, ListedOption, PcapNgOption, UnknownOption,
+    options_from_slice,
 };
 pub use owned::{IntoStatic, each_into_static};
 pub use packet_option::PacketOption;

@@ -42,6 +42,7 @@ impl<'a> PcapNgOption<'a> for NameResolutionOption<'a> {
 
     ghost is_borrowed = { NameOptionIsBorrowed };
 
+    #[inline(always)]
     fn from_value<B: ByteOrder>(code: u16, len: u16, value: &'a [u8]) -> Result<Self, Refusal> {
         name_options!(read_option B code len value)
     }

@@ -253,7 +253,19 @@ pub trait PcapNgOption<'a>: Sized {
         ensures borrowed { IfOk result is_borrowed };
 }
 
+/// A kind whose lists are read in more than one crate: by its own function, so that this is one.
+pub trait ListedOption<'a>: PcapNgOption<'a> {
+    /// The list of options of this kind at the front of a slice, and what follows it.
+    fn list_from_slice<B: ByteOrder>(
+        alloc: Global,
+        slice: &'a [u8],
+    ) -> Result<(&'a [u8], Vec<Self>), Refusal>
+        ensures tells { FindsWhere (OptionsMayGrow B.number_of Self.kind slice.now) (ListSays may_end_with_body B.number_of Self.kind slice.now) (λ options. map Self.view options.items) result }
+        ensures borrowed { IfOk result (λ x. All Self.is_borrowed x.1.items) };
+}
+
 // The option at the front of a slice, or none at the mark that ends a list, and what follows it.
+#[inline(always)]
 fn option_from_slice<'a, O: PcapNgOption<'a>, B: ByteOrder>(
     slice: &'a [u8],
 ) -> Result<(&'a [u8], Option<O>), Refusal>

@@ -8,7 +8,8 @@ ghost use Rattle.pcap_core.specs.Errors.{IsMemory};
 
 use crate::kinds::{kept_option, read_option};
 use crate::options::{
-    CustomBinaryOption, CustomUtf8Option, PcapNgOption, UnknownOption, options_from_slice,
+    CustomBinaryOption, CustomUtf8Option, ListedOption, PcapNgOption, UnknownOption,
+    options_from_slice,
 };
 use crate::owned::IntoStatic;
 use crate::packet_options;
@@ -53,7 +54,7 @@ impl<'a> PacketOption<'a> {
         ensures tells { TellsWhere (OptionsMayGrow B.number_of packet_kind slice.now) (ListSays may_end_with_body B.number_of packet_kind slice.now) (λ options. map packet_entry options.items) result }
         ensures borrowed { IfOk result (λ x. All PacketOptionIsBorrowed x.1.items) }
     {
-        Ok(options_from_slice::<PacketOption, B>(alloc, slice)?)
+        Ok(Self::list_from_slice::<B>(alloc, slice)?)
     }
 
     /// The same option, with bytes and strings of its own: borrowed ones are copied, owned ones kept.
@@ -76,8 +77,19 @@ impl<'a> PcapNgOption<'a> for PacketOption<'a> {
 
     ghost is_borrowed = { PacketOptionIsBorrowed };
 
+    #[inline(always)]
     fn from_value<B: ByteOrder>(code: u16, len: u16, value: &'a [u8]) -> Result<Self, Refusal> {
         packet_options!(read_option B code len value)
+    }
+}
+
+impl<'a> ListedOption<'a> for PacketOption<'a> {
+    #[inline(always)]
+    fn list_from_slice<B: ByteOrder>(
+        alloc: Global,
+        slice: &'a [u8],
+    ) -> Result<(&'a [u8], Vec<Self>), Refusal> {
+        options_from_slice::<Self, B>(alloc, slice)
     }
 }
 

@@ -41,6 +41,7 @@ impl<'a> PcapNgOption<'a> for SectionHeaderOption<'a> {
 
     ghost is_borrowed = { SectionOptionIsBorrowed };
 
+    #[inline(always)]
     fn from_value<B: ByteOrder>(code: u16, len: u16, value: &'a [u8]) -> Result<Self, Refusal> {
         section_options!(read_option B code len value)
     }

@@ -49,6 +49,7 @@ impl<'a> PcapNgOption<'a> for InterfaceStatisticsOption<'a> {
 
     ghost is_borrowed = { StatisticsOptionIsBorrowed };
 
+    #[inline(always)]
     fn from_value<B: ByteOrder>(code: u16, len: u16, value: &'a [u8]) -> Result<Self, Refusal> {
         statistics_options!(read_option B code len value)
     }

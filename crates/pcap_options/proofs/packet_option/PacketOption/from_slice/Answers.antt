@@ -1,4 +1,4 @@
 use Rattle.pcap_options.proofs.packet_option.PacketOption.from_slice.Goals as goal
 
 pub returns-clause-tells : goal.returns-clause-tells
-returns-clause-tells g c = c.in_ok-options_from_slice.ensures.tells
+returns-clause-tells g c = c.in_ok-list_from_slice.ensures.tells
