@@ -32,7 +32,7 @@ KIT = $(shell dirname "$$(dirname "$$(readlink -f "$$(command -v rt)")")")
 PROVED = crates/pcapfile_c/out/libpcapfile_c.a
 COPIES = crates/capcopy/out/capcopy
 FILES = crates/pcapfile/out/pcapfile
-LIBRARIES = pcap_core pcap_times pcap_classic pcap_tolerant pcap_options pcap_blocks pcap_raw_options pcap_written pcap_file pcap_parts pcap_tolerant_blocks pcap_tolerant_captures
+LIBRARIES = pcap_core pcap_items pcap_times pcap_classic pcap_tolerant pcap_options pcap_blocks pcap_raw_options pcap_written pcap_ng pcap_file pcap_parts pcap_tolerant_blocks pcap_tolerant_captures
 # The toolchain's ports that the library and the programs hold.
 PORTS = byteorder thiserror itoa clap strsim jiff arrayvec serde_json ryu simdutf8
 JOBS_OF_RT = $(if $(JOBS),--jobs $(JOBS))

@@ -2,14 +2,14 @@
 use Rattle.std.proofs.Common.{◌≡◌, refl, IfSome, ℕ, List, [], ◌∷◌, ◌++◌, Option, Result, Ok, Err, sym, subst, ◌∙◌}
 use Rattle.std.specs.Fmt.{decimal}
 use Rattle.std.specs.Io.KnownBytes.{Appends}
-use Rattle.pcap_core.specs.Reading.{Takes}
+use Rattle.pcap_items.specs.Reading.{Takes}
 use Rattle.pcap_blocks.specs.SectionHeader.{Section}
-use Rattle.pcap_file.specs.Blocks.{block_format}
-use Rattle.pcap_file.specs.Frames.{Framed}
-use Rattle.pcap_file.specs.Opening.{OpeningSays}
-use Rattle.pcap_file.specs.State.{State}
-use Rattle.pcap_file.proofs.BlockFormat.{blocks_lawful}
-use Rattle.pcap_file.proofs.FirstBlock.{opening_stable}
+use Rattle.pcap_ng.specs.Blocks.{block_format}
+use Rattle.pcap_ng.specs.Frames.{Framed}
+use Rattle.pcap_ng.specs.Opening.{OpeningSays}
+use Rattle.pcap_ng.specs.State.{State}
+use Rattle.pcap_ng.proofs.BlockFormat.{blocks_lawful}
+use Rattle.pcap_ng.proofs.FirstBlock.{opening_stable}
 use Rattle.capcopy_run.specs.declared.exit.Exit.{Exit}
 use Rattle.capcopy_run.specs.Exits.{exit_of}
 use Rattle.capcopy_run.specs.Lines.{WritesLine}

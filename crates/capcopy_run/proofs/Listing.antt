@@ -7,15 +7,15 @@ use Rattle.pcap_core.specs.declared.errors.PcapError.TheVariants as errors
 use Rattle.pcap_core.specs.Answer.{Verdict, whole}
 use Rattle.pcap_core.specs.Errors.{IsIo, IsMemory}
 use Rattle.pcap_core.specs.Faults.{Shows}
-use Rattle.pcap_core.specs.Format.{Format, Front, Texts, IsLawful, state_after}
+use Rattle.pcap_items.specs.Format.{Format, Front, Texts, IsLawful, state_after}
 use Rattle.pcap_core.specs.Laws.{IsStable}
-use Rattle.pcap_core.specs.Reading.{IsFaultOf, Takes, TakesAsked, HasCause, read_failed, no_memory, torn, refused}
-use Rattle.pcap_core.specs.Takes.{TakesTexts, ReadsFront, Stops}
-use Rattle.pcap_core.proofs.Pulling.{nothing_asked}
-use Rattle.pcap_core.specs.Writing.{AppendsPart}
-use Rattle.pcap_core.proofs.Formats.{state_push, lacks_no_text, fault_no_text, texts_more, front_goes_on, nothing_more}
+use Rattle.pcap_items.specs.Reading.{IsFaultOf, Takes, TakesAsked, HasCause, read_failed, no_memory, torn, refused}
+use Rattle.pcap_items.specs.Takes.{TakesTexts, ReadsFront, Stops}
+use Rattle.pcap_items.proofs.Pulling.{nothing_asked}
+use Rattle.pcap_items.specs.Writing.{AppendsPart}
+use Rattle.pcap_items.proofs.Formats.{state_push, lacks_no_text, fault_no_text, texts_more, front_goes_on, nothing_more}
 use Rattle.pcap_core.proofs.Refusals.{shown_fault}
-use Rattle.pcap_core.proofs.Taking.{takes_more, run_reads}
+use Rattle.pcap_items.proofs.Taking.{takes_more, run_reads}
 use Rattle.capcopy_run.specs.declared.exit.Exit.{Exit}
 use Rattle.capcopy_run.specs.declared.exit.Exit.TheVariants as exits
 use Rattle.capcopy_run.specs.Exits.{EndsAt, exit_of}

@@ -10,7 +10,7 @@ use Rattle.pcap_core.specs.Answer.{Order, number_in, whole}
 use Rattle.pcap_core.specs.declared.errors.PcapError.{PcapError}
 use Rattle.pcap_core.specs.Errors.{IsIo, IsMemory}
 use Rattle.pcap_core.specs.Faults.{Shows}
-use Rattle.pcap_core.specs.Reading.{IsFaultOf, Takes, TakesAsked, read_failed, no_memory, refused}
+use Rattle.pcap_items.specs.Reading.{IsFaultOf, Takes, TakesAsked, read_failed, no_memory, refused}
 use Rattle.pcap_classic.specs.HeaderText.{HeaderSays}
 use Rattle.pcap_classic.specs.Magic.{order_of, resolution_of}
 use Rattle.pcap_classic.specs.PacketText.{packet_limit, Captured, PacketHeaderSays, PacketSays}

@@ -5,8 +5,8 @@ use Rattle.std.specs.Io.KnownBytes.{Keeps, Consumes, prepend_known}
 use Rattle.std.proofs.KnownBytes.{Consumes-kept, Appends-kept, Keeps-refl, starts_with_rest}
 use Rattle.std.specs.Prelude.{option_map}
 use Rattle.pcap_core.specs.Answer.{whole}
-use Rattle.pcap_core.specs.Format.{Format, IsLawful}
-use Rattle.pcap_core.specs.Reading.{Takes}
+use Rattle.pcap_items.specs.Format.{Format, IsLawful}
+use Rattle.pcap_items.specs.Reading.{Takes}
 use Rattle.capcopy_run.specs.declared.exit.Exit.{Exit}
 use Rattle.capcopy_run.specs.declared.exit.Exit.TheVariants.{Memory}
 use Rattle.capcopy_run.specs.Listing.{Listing, LinesEnd, InputEnd}

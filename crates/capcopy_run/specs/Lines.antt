@@ -2,7 +2,7 @@
 use Rattle.std.specs.Prelude.{◌≡◌, ℕ, suc, List, [], ◌∷◌, ◌++◌, Option, Result, Ok, Err}
 use Rattle.std.specs.Io.KnownBytes.{Appends, Keeps}
 use Rattle.pcap_core.specs.declared.errors.PcapError.TheVariants.{IoError}
-use Rattle.pcap_core.specs.Writing.{AppendsPart}
+use Rattle.pcap_items.specs.Writing.{AppendsPart}
 use Rattle.capcopy_run.specs.declared.exit.Exit.{Exit}
 use Rattle.capcopy_run.specs.declared.exit.Exit.TheVariants.{Io, Memory}
 

@@ -5,10 +5,10 @@ use Rattle.pcap_core.specs.declared.errors.PcapError.{PcapError}
 use Rattle.pcap_core.specs.declared.errors.PcapError.TheVariants.{IoError}
 use Rattle.pcap_core.specs.Answer.{Verdict, whole}
 use Rattle.pcap_core.specs.Faults.{Shows}
-use Rattle.pcap_core.specs.Format.{Format, Front, state_after}
-use Rattle.pcap_core.specs.Reading.{IsFaultOf, Takes, TakesAsked}
-use Rattle.pcap_core.specs.Takes.{TakesTexts}
-use Rattle.pcap_core.specs.Writing.{AppendsPart}
+use Rattle.pcap_items.specs.Format.{Format, Front, state_after}
+use Rattle.pcap_items.specs.Reading.{IsFaultOf, Takes, TakesAsked}
+use Rattle.pcap_items.specs.Takes.{TakesTexts}
+use Rattle.pcap_items.specs.Writing.{AppendsPart}
 use Rattle.capcopy_run.specs.declared.exit.Exit.{Exit}
 use Rattle.capcopy_run.specs.declared.exit.Exit.TheVariants.{Done, Refused, Most, Usage, Io, Memory}
 use Rattle.capcopy_run.specs.Lines.{AreLines}

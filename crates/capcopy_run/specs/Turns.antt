@@ -1,7 +1,7 @@
 -- One turn of a list: it goes on, or it ends.
 use Rattle.std.specs.Prelude.{ℕ, List, drop, Bool, true, false, Option, Result, Ok, Err}
 use Rattle.std.specs.Io.KnownBytes.{prepend_known}
-use Rattle.pcap_core.specs.Format.{Format}
+use Rattle.pcap_items.specs.Format.{Format}
 use Rattle.capcopy_run.specs.declared.exit.Exit.{Exit}
 use Rattle.capcopy_run.specs.Listing.{Listing, ListsItems}
 

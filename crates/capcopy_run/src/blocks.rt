@@ -2,11 +2,11 @@
 
 ghost use Rattle.std.specs.Prelude.{⊤, ◌≡◌, ◌≤◌, ◌+◌, ◌++◌, [], drop, IfSome, IfErr, OnOk, IsSome, MatchResult, string_bytes};
 ghost use Rattle.pcap_blocks.specs.SectionHeader.{section_of, magic_order};
-ghost use Rattle.pcap_file.specs.Blocks.{Item, block_format};
-ghost use Rattle.pcap_file.specs.Bodies.{GrowsInBody};
-ghost use Rattle.pcap_file.specs.Frames.{framed_of};
-ghost use Rattle.pcap_file.specs.Parser.{state_of};
-ghost use Rattle.pcap_file.specs.State.{State};
+ghost use Rattle.pcap_ng.specs.Blocks.{Item, block_format};
+ghost use Rattle.pcap_ng.specs.Bodies.{GrowsInBody};
+ghost use Rattle.pcap_ng.specs.Frames.{framed_of};
+ghost use Rattle.pcap_ng.specs.Parser.{state_of};
+ghost use Rattle.pcap_ng.specs.State.{State};
 ghost use Rattle.capcopy_run.specs.declared.exit.Exit.TheVariants as exits;
 ghost use Rattle.capcopy_run.specs.BlockLines.{order_of, section_line, kind_name, IsBodyWord, IsBlockLine, IsItemLine, block_lines};
 ghost use Rattle.capcopy_run.specs.Exits.{IsOfKnownWord, exit_of};

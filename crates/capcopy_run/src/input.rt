@@ -1,7 +1,7 @@
 //! What comes in.
 
 ghost use Rattle.std.specs.Prelude.{OnOk, OnErr};
-ghost use Rattle.pcap_core.specs.Streams.{TakesFewer};
+ghost use Rattle.pcap_items.specs.Streams.{TakesFewer};
 ghost use Rattle.capcopy_run.specs.Skipping.{TakesExactly};
 
 use std::io;

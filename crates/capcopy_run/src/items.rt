@@ -2,7 +2,7 @@
 
 ghost use Rattle.std.specs.Prelude.{◌≡◌, ◌≤◌, ◌<◌, ◌+◌, ℕ, List, length, true, IfOk, IfErr};
 ghost use Rattle.capcopy_run.specs.Exits.{IsMemoryExit};
-ghost use Rattle.pcap_core.specs.Format.{Format};
+ghost use Rattle.pcap_items.specs.Format.{Format};
 ghost use Rattle.capcopy_run.specs.Listing.{ListsItems};
 ghost use Rattle.capcopy_run.specs.Turns.{TurnGives, WalkGives};
 

@@ -9,8 +9,8 @@ use Rattle.pcap_core.specs.Answer.{lacks, faulty}
 use Rattle.pcap_core.specs.Faults.{Invalid}
 use Rattle.pcap_classic.specs.Magic.{is_magic}
 use Rattle.pcap_classic.specs.Packets.{reader_format}
-use Rattle.pcap_core.specs.Reading.{TakesAsked, TakesAtMost}
-use Rattle.pcap_core.proofs.Formats.{only}
+use Rattle.pcap_items.specs.Reading.{TakesAsked, TakesAtMost}
+use Rattle.pcap_items.proofs.Formats.{only}
 use Rattle.pcap_classic.proofs.Packets.{reader_lawful, reader_refuses}
 
 -- under a header of no valid magic number one byte is refused

@@ -2,13 +2,13 @@
 use Rattle.std.proofs.Common.{◌≡◌, ℕ, List, [], ◌∷◌, refl, sym, subst, ◌∙◌, arith, inl, inr}
 use Rattle.std.proofs.lemmas.List.{map-id}
 use Rattle.pcap_core.specs.declared.errors.PcapError.{PcapError}
-use Rattle.pcap_core.specs.declared.run.items.Ended.{Ended}
+use Rattle.pcap_items.specs.declared.run.items.Ended.{Ended}
 use Rattle.pcap_core.specs.Answer.{number_in, whole}
-use Rattle.pcap_core.specs.Format.{Front, IsLawful, Texts, state_after}
-use Rattle.pcap_core.specs.Items.{EndsWith, LeadsTo, ShowsFault, rest_of}
-use Rattle.pcap_core.specs.Requested.{ItemRequests, RequestsAt, RunRequests, head_short, head_alone, head_first}
-use Rattle.pcap_core.specs.Run.{IsRest}
-use Rattle.pcap_core.proofs.Items.{ended_rest, leads_front}
+use Rattle.pcap_items.specs.Format.{Front, IsLawful, Texts, state_after}
+use Rattle.pcap_items.specs.Items.{EndsWith, LeadsTo, ShowsFault, rest_of}
+use Rattle.pcap_items.specs.Requested.{ItemRequests, RequestsAt, RunRequests, head_short, head_alone, head_first}
+use Rattle.pcap_items.specs.Run.{IsRest}
+use Rattle.pcap_items.proofs.Items.{ended_rest, leads_front}
 use Rattle.pcap_classic.specs.declared.pcap.header.PcapHeader.{PcapHeader}
 use Rattle.pcap_classic.specs.Magic.{order_of, resolution_of}
 use Rattle.pcap_classic.specs.Packets.{capture_format, format_under, packet_format}

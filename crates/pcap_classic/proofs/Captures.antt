@@ -4,16 +4,16 @@ use Rattle.std.specs.Prelude.{Option, IfSome}
 use Rattle.pcap_core.specs.declared.errors.PcapError.{PcapError}
 use Rattle.pcap_classic.specs.declared.pcap.header.PcapHeader.{PcapHeader}
 use Rattle.pcap_core.specs.Answer.{number_in}
-use Rattle.pcap_core.specs.Format.{Format}
+use Rattle.pcap_items.specs.Format.{Format}
 use Rattle.pcap_classic.specs.HeaderText.{HeaderSays, HeaderText}
 use Rattle.pcap_classic.specs.Magic.{is_magic, order_of, resolution_of}
 use Rattle.pcap_classic.specs.Packets.{format_under, reader_format, choice}
 use Rattle.pcap_classic.specs.PacketText.{Captured}
-use Rattle.pcap_core.specs.Reading.{Takes}
-use Rattle.pcap_core.specs.Takes.{TakesItems, ReadsFront}
+use Rattle.pcap_items.specs.Reading.{Takes}
+use Rattle.pcap_items.specs.Takes.{TakesItems, ReadsFront}
 use Rattle.pcap_classic.proofs.HeadedPackets.{packets_lawful}
 use Rattle.pcap_classic.proofs.Stable.{header_stable}
-use Rattle.pcap_core.proofs.Taking.{run_reads}
+use Rattle.pcap_items.proofs.Taking.{run_reads}
 
 chosen_true : (b : Bool) (f g : Format (Unit {0}) Captured) → b ≡ true → (P : Format (Unit {0}) Captured → Type 0) → P (choice b f g) → P f
 chosen_true true f g e P p = p

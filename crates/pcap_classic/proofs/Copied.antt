@@ -6,25 +6,25 @@ use Rattle.std.specs.Io.KnownBytes.{Appends}
 use Rattle.std.proofs.KnownBytes.{Appends-trans}
 use Rattle.std.proofs.lemmas.Bool.{true≢false}
 use Rattle.pcap_core.specs.declared.errors.PcapError.{PcapError}
-use Rattle.pcap_core.specs.declared.stream.copying.Tally.{Tally}
-use Rattle.pcap_core.specs.Copying.{each_written}
+use Rattle.pcap_items.specs.declared.stream.copying.Tally.{Tally}
+use Rattle.pcap_items.specs.Copying.{each_written}
 use Rattle.pcap_classic.specs.declared.pcap.header.PcapHeader.{PcapHeader}
 use Rattle.pcap_classic.specs.declared.run.copy.Copied.{Copied}
 use Rattle.pcap_classic.specs.declared.run.copy.Under.{Under}
 use Rattle.pcap_core.specs.Answer.{number_in, whole}
 use Rattle.pcap_classic.specs.Copies.{PacketIsSaid, OpensCopy, Ends, CopiesBehind, CopiesPackets, copied_of, CopiesFront, Copies, CopyRun, CopyFront, header_under}
-use Rattle.pcap_core.specs.Format.{Texts, Front, IsLawful}
+use Rattle.pcap_items.specs.Format.{Texts, Front, IsLawful}
 use Rattle.pcap_classic.specs.HeaderText.{HeaderText}
 use Rattle.pcap_classic.specs.Magic.{order_of, resolution_of}
 use Rattle.pcap_classic.specs.Packets.{format_under}
 use Rattle.pcap_classic.specs.PacketText.{Captured, packet_limit}
-use Rattle.pcap_core.specs.Reading.{Takes}
+use Rattle.pcap_items.specs.Reading.{Takes}
 use Rattle.pcap_classic.specs.Written.{written_header, written_under}
-use Rattle.pcap_core.proofs.Formats.{texts_more, has_front, front_goes_on}
+use Rattle.pcap_items.proofs.Formats.{texts_more, has_front, front_goes_on}
 use Rattle.pcap_classic.proofs.HeadedPackets.{packets_lawful}
 use Rattle.pcap_classic.proofs.Stable.{header_stable}
-use Rattle.pcap_core.proofs.Copying.{ends_stops}
-use Rattle.pcap_core.proofs.Taking.{ends_front, taken_known}
+use Rattle.pcap_items.proofs.Copying.{ends_stops}
+use Rattle.pcap_items.proofs.Taking.{ends_front, taken_known}
 
 pub lawful_under : (header : PcapHeader) → IsLawful (format_under packet_limit header)
 lawful_under header = packets_lawful packet_limit (number_in (order_of header.magic_number)) (resolution_of header.magic_number)

@@ -5,16 +5,16 @@ use Rattle.std.proofs.Math.Nat.{min-le_left, min-le_right}
 use Rattle.std.specs.Prelude.{min}
 use Rattle.pcap_core.specs.declared.errors.PcapError.{PcapError}
 use Rattle.pcap_core.specs.declared.errors.PcapError.TheVariants as errors
-use Rattle.pcap_core.specs.declared.run.items.Ended.{Ended}
+use Rattle.pcap_items.specs.declared.run.items.Ended.{Ended}
 use Rattle.pcap_core.specs.Answer.{Order, Refuses}
-use Rattle.pcap_core.specs.Exact.{ExactItems}
+use Rattle.pcap_items.specs.Exact.{ExactItems}
 use Rattle.pcap_core.specs.Faults.{Fault, Invalid, Io, Utf8}
-use Rattle.pcap_core.specs.Items.{GrowsIn, ShowsFault, rest_of}
-use Rattle.pcap_core.specs.Requested.{HeadThenRest, RequestsAt, RunRequests}
-use Rattle.pcap_core.proofs.Formats.{nil_of_length}
-use Rattle.pcap_core.proofs.Items.{grows_some}
-use Rattle.pcap_core.proofs.Requested.{item_asks}
-use Rattle.pcap_core.proofs.Showing.{exact_few, exact_leads}
+use Rattle.pcap_items.specs.Items.{GrowsIn, ShowsFault, rest_of}
+use Rattle.pcap_items.specs.Requested.{HeadThenRest, RequestsAt, RunRequests}
+use Rattle.pcap_items.proofs.Formats.{nil_of_length}
+use Rattle.pcap_items.proofs.Items.{grows_some}
+use Rattle.pcap_items.proofs.Requested.{item_asks}
+use Rattle.pcap_items.proofs.Showing.{exact_few, exact_leads}
 use Rattle.pcap_classic.specs.declared.common.TsResolution.{TsResolution}
 use Rattle.pcap_classic.specs.declared.pcap.header.PcapHeader.{PcapHeader}
 use Rattle.pcap_classic.specs.declared.run.PcapRun.{PcapRun}

@@ -7,14 +7,14 @@ use Rattle.pcap_classic.specs.declared.common.TsResolution.{TsResolution}
 use Rattle.pcap_core.specs.declared.errors.PcapError.{PcapError}
 use Rattle.pcap_classic.specs.declared.pcap.packet.PacketHeader.{PacketHeader}
 use Rattle.pcap_core.specs.Answer.{Order, lacks, faulty}
-use Rattle.pcap_core.specs.Early.{EarlyFault}
+use Rattle.pcap_items.specs.Early.{EarlyFault}
 use Rattle.pcap_core.specs.Faults.{Fault}
 use Rattle.pcap_classic.specs.PacketText.{content_of, PacketHeaderText, PacketHeaderSays, PacketText, PacketSays}
-use Rattle.pcap_core.specs.Reading.{IsFaultOf, TakesAsked, Reads, ReadsWhere}
-use Rattle.pcap_core.specs.Streams.{TakesFewer, HasCauseToTake}
+use Rattle.pcap_items.specs.Reading.{IsFaultOf, TakesAsked, Reads, ReadsWhere}
+use Rattle.pcap_items.specs.Streams.{TakesFewer, HasCauseToTake}
 use Rattle.pcap_classic.specs.Packets.{packet_format}
-use Rattle.pcap_core.proofs.Asked.{asked_more}
-use Rattle.pcap_core.proofs.Pulling.{array_asked}
+use Rattle.pcap_items.proofs.Asked.{asked_more}
+use Rattle.pcap_items.proofs.Pulling.{array_asked}
 use Rattle.pcap_classic.proofs.HeadedPackets.{packet_stable, packets_lawful}
 use Rattle.pcap_classic.proofs.FieldNumbers.{head_length}
 use Rattle.pcap_core.proofs.Refusals.{shows_more}

@@ -10,12 +10,12 @@ use Rattle.pcap_classic.specs.Magic.{is_magic, order_of, resolution_of}
 use Rattle.pcap_core.specs.Answer.{number_in, Verdict, whole, lacks, faulty, Refuses}
 use Rattle.pcap_classic.specs.PacketText.{PacketSays, Captured}
 use Rattle.pcap_core.specs.Laws.{ExactlyOne}
-use Rattle.pcap_core.specs.Format.{Format, IsLawful, Extends, Front}
+use Rattle.pcap_items.specs.Format.{Format, IsLawful, Extends, Front}
 use Rattle.pcap_classic.specs.Packets.{packet_format, format_under, RefusingSays, refusing_format, choice, reader_format}
 use Rattle.pcap_classic.specs.Front.{CaptureFront}
 use Rattle.pcap_classic.proofs.One.{header_same}
 use Rattle.pcap_classic.proofs.HeadedPackets.{packets_lawful}
-use Rattle.pcap_core.proofs.Formats.{front_extends}
+use Rattle.pcap_items.proofs.Formats.{front_extends}
 
 -- what the calls on slices say is what the format says
 pub packets_say : (limit : ℕ) (order : ℕ → List ℕ → ℕ) (r : TsResolution) (q : Unit {0}) (s : List ℕ) (v : Verdict Captured) → PacketSays limit order r s v → (packet_format limit order r).says q s v

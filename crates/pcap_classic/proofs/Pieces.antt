@@ -3,8 +3,8 @@ use Rattle.std.proofs.Common.{◌≡◌, ℕ, List, ◌++◌, length, map, sym, 
 use Rattle.std.proofs.lemmas.List.{map-id}
 use Rattle.byteorder.specs.Endian.{big_number}
 use Rattle.pcap_core.specs.Answer.{Order, Number, number_in}
-use Rattle.pcap_core.specs.Pieces.{HoldsItems, IsFedUpTo, IsOpening, Reaches}
-use Rattle.pcap_core.specs.Run.{IsRest}
+use Rattle.pcap_items.specs.Pieces.{HoldsItems, IsFedUpTo, IsOpening, Reaches}
+use Rattle.pcap_items.specs.Run.{IsRest}
 use Rattle.pcap_classic.specs.declared.pcap.header.PcapHeader.{PcapHeader}
 use Rattle.pcap_classic.specs.declared.pcap.parser.PcapParser.{PcapParser}
 use Rattle.pcap_classic.specs.declared.run.PcapRun.{PcapRun}
@@ -15,7 +15,7 @@ use Rattle.pcap_classic.specs.PacketText.{packet_limit, content_of}
 use Rattle.pcap_classic.specs.Parser.{header_of}
 use Rattle.pcap_classic.specs.Pieces.{HoldsPackets}
 use Rattle.pcap_classic.specs.Run.{IsRun}
-use Rattle.pcap_core.proofs.Showing.{rest_no_text}
+use Rattle.pcap_items.proofs.Showing.{rest_no_text}
 use Rattle.pcap_classic.proofs.CaptureFormat.{front_under, state_stays, texts_under, under_lawful}
 use Rattle.pcap_classic.proofs.One.{header_one}
 use Rattle.pcap_classic.proofs.OneFront.{front_one}

@@ -16,12 +16,12 @@ use Rattle.pcap_classic.specs.Magic.{order_of, resolution_of}
 use Rattle.pcap_classic.specs.HeaderText.{FieldsText, HeaderText}
 use Rattle.pcap_core.specs.Link.{link_number}
 use Rattle.pcap_classic.specs.PacketText.{packet_limit, Captured}
-use Rattle.pcap_core.specs.Format.{Texts}
+use Rattle.pcap_items.specs.Format.{Texts}
 use Rattle.pcap_classic.specs.Packets.{packet_format, format_under}
 use Rattle.pcap_classic.specs.Front.{CaptureFront}
 use Rattle.pcap_classic.specs.Written.{record_bytes, written_header, capture, cut, IsWhole, IsWholeHeader}
 use Rattle.pcap_core.proofs.Codec.{codec, number_again}
-use Rattle.pcap_core.proofs.Formats.{nothing_no_text}
+use Rattle.pcap_items.proofs.Formats.{nothing_no_text}
 use Rattle.pcap_classic.proofs.HeadedPackets.{packets_lawful}
 use Rattle.pcap_classic.proofs.ReadBack.{written_again}
 

@@ -6,17 +6,17 @@ use Rattle.pcap_classic.specs.declared.pcap.header.PcapHeader.{PcapHeader}
 use Rattle.pcap_classic.specs.declared.pcap.packet.PacketHeader.{PacketHeader}
 use Rattle.pcap_core.specs.Answer.{number_in, whole, lacks, faulty, Refuses}
 use Rattle.pcap_core.specs.Faults.{Fault, Shows}
-use Rattle.pcap_core.specs.Format.{Format}
+use Rattle.pcap_items.specs.Format.{Format}
 use Rattle.pcap_core.specs.declared.common.Endianness.{Endianness}
 use Rattle.pcap_classic.specs.declared.common.TsResolution.{TsResolution}
 use Rattle.pcap_classic.specs.Magic.{kind_of, is_magic, order_of, resolution_of}
 use Rattle.pcap_classic.specs.PacketText.{packet_limit, Captured, PacketHeaderText, PacketText, LacksHead, HasHeadFault}
-use Rattle.pcap_core.specs.Reading.{Takes, Pulls}
+use Rattle.pcap_items.specs.Reading.{Takes, Pulls}
 use Rattle.pcap_classic.specs.Packets.{packet_format, refusing_format, choice, reader_format}
 use Rattle.pcap_classic.proofs.Packets.{reader_says}
 use Rattle.pcap_core.proofs.Refusals.{refuses_shows, shows_more}
 use Rattle.pcap_classic.proofs.Stable.{packet_header_more}
-use Rattle.pcap_core.specs.Filling.{Stated, FillsHeaded, TakesStated}
+use Rattle.pcap_items.specs.Filling.{Stated, FillsHeaded, TakesStated}
 use Rattle.pcap_classic.specs.StatedPackets.{KnowsHeader, held_packet}
 
 -- what a kind says of a magic number

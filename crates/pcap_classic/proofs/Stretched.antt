@@ -13,21 +13,22 @@ use Rattle.pcap_classic.specs.declared.pcap.header.PcapHeader.{PcapHeader}
 use Rattle.pcap_core.specs.Answer.{number_in, whole, lacks, faulty, Refuses}
 use Rattle.pcap_core.specs.Bytes.{IsBytes}
 use Rattle.pcap_core.specs.Codec.{number_bytes}
-use Rattle.pcap_core.specs.Format.{Texts}
-use Rattle.pcap_core.specs.Copying as core
-use Rattle.pcap_core.specs.Copying.{each_written}
-use Rattle.pcap_core.specs.Writing.{AppendsPart}
-use Rattle.pcap_core.proofs.Copying.{appends_apart}
+use Rattle.pcap_items.specs.Format.{Texts}
+use Rattle.pcap_items.specs.Copying as core
+use Rattle.pcap_items.specs.Copying.{each_written}
+use Rattle.pcap_items.specs.Writing.{AppendsPart}
+use Rattle.pcap_items.proofs.Copying.{appends_apart}
 use Rattle.pcap_classic.specs.Copies.{PacketIsSaid}
 use Rattle.pcap_classic.specs.Magic.{order_of, resolution_of}
 use Rattle.pcap_classic.specs.Packets.{format_under, packet_format, reader_format}
 use Rattle.pcap_classic.specs.PacketText.{Captured, PacketSays, packet_limit}
 use Rattle.pcap_classic.specs.Stretches.{TakesWhole, SendsWhole, SendsTorn, Sends}
 use Rattle.pcap_classic.specs.Written.{record_bytes, written_under}
-use Rattle.pcap_core.proofs.Formats.{beginning, nil_of_length, text_same, nothing_no_text, texts_more, texts_own, texts_push}
-use Rattle.pcap_core.proofs.Fronts.{stops}
+use Rattle.pcap_items.proofs.Formats.{beginning, nil_of_length, text_same, nothing_no_text, texts_more, texts_own, texts_push}
+use Rattle.pcap_items.proofs.Fronts.{stops}
 use Rattle.pcap_core.proofs.Texts.{front_of, rest_of}
-use Rattle.pcap_classic.proofs.Concrete.{back_bytes, packet_written, packets_written}
+use Rattle.pcap_core.proofs.WrittenNumbers.{back_bytes}
+use Rattle.pcap_classic.proofs.Concrete.{packet_written, packets_written}
 use Rattle.pcap_classic.proofs.Copied.{lawful_under}
 use Rattle.pcap_classic.proofs.Packets.{packets_refuse, reader_whole}
 

@@ -4,8 +4,8 @@ use Rattle.pcap_classic.specs.declared.run.PcapRead.{PcapRead}
 use Rattle.pcap_classic.specs.HeaderText.{HeaderSays, HeaderText}
 use Rattle.pcap_classic.specs.Packets.{format_under}
 use Rattle.pcap_classic.specs.PacketText.{packet_limit, content_of}
-use Rattle.pcap_core.specs.Reading.{Takes}
-use Rattle.pcap_core.specs.Takes.{TakesItems, ReadsFront}
+use Rattle.pcap_items.specs.Reading.{Takes}
+use Rattle.pcap_items.specs.Takes.{TakesItems, ReadsFront}
 
 -- the header's text and the packets' texts were taken and no more, at most so many, up to a cause to stop
 pub record TakesCapture (known : Option (List ℕ)) (most : ℕ) (read : PcapRead) : Type 0 where

@@ -8,22 +8,22 @@ use Rattle.pcap_core.specs.declared.rules.Rule.TheVariants.{CaptureMagic}
 use Rattle.pcap_classic.specs.declared.run.copy.Copied.{Copied}
 use Rattle.pcap_classic.specs.declared.run.copy.Under.{Under}
 use Rattle.pcap_classic.specs.declared.run.copy.Under.TheVariants.{Same, Header, Order}
-use Rattle.pcap_core.specs.declared.stream.copying.Tally.{Tally}
+use Rattle.pcap_items.specs.declared.stream.copying.Tally.{Tally}
 use Rattle.pcap_core.specs.Answer.{Verdict, whole}
-use Rattle.pcap_core.specs.Copying as core
-use Rattle.pcap_core.specs.Copying.{NothingCopied, each_written}
+use Rattle.pcap_items.specs.Copying as core
+use Rattle.pcap_items.specs.Copying.{NothingCopied, each_written}
 use Rattle.pcap_core.specs.Errors.{IsMemory, IsIo}
 use Rattle.pcap_core.specs.Faults.{Names}
-use Rattle.pcap_core.specs.Format.{Texts}
+use Rattle.pcap_items.specs.Format.{Texts}
 use Rattle.pcap_classic.specs.Front.{CaptureFront}
 use Rattle.pcap_classic.specs.HeaderText.{HeaderText, HeaderSays}
 use Rattle.pcap_classic.specs.Magic.{magic_for, is_magic}
 use Rattle.pcap_classic.specs.Packets.{format_under}
 use Rattle.pcap_classic.specs.PacketText.{Captured, packet_limit}
-use Rattle.pcap_core.specs.Reading.{Takes, ReadsTold}
-use Rattle.pcap_core.specs.Takes.{EndsFront}
+use Rattle.pcap_items.specs.Reading.{Takes, ReadsTold}
+use Rattle.pcap_items.specs.Takes.{EndsFront}
 use Rattle.pcap_classic.specs.Writing.{IsWritable}
-use Rattle.pcap_core.specs.Writing.{AppendsPart, WritesAll}
+use Rattle.pcap_items.specs.Writing.{AppendsPart, WritesAll}
 use Rattle.pcap_classic.specs.Written.{written_header, written_under, capture}
 
 -- the header that a copy is written under, from the one that was read

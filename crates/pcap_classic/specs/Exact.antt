@@ -1,6 +1,6 @@
 -- What a run tells over a capture that is shown exactly as it is asked for.
 use Rattle.std.specs.Prelude.{◌≡◌, ◌≤◌, ◌+◌, ◌*◌, ℕ, List, ◌∷◌, ◌++◌, length, map}
-use Rattle.pcap_core.specs.Requested.{RunRequests}
+use Rattle.pcap_items.specs.Requested.{RunRequests}
 use Rattle.pcap_classic.specs.declared.pcap.header.PcapHeader.{PcapHeader}
 use Rattle.pcap_classic.specs.declared.run.PcapRun.{PcapRun}
 use Rattle.pcap_classic.specs.HeaderText.{HeaderText}

@@ -4,7 +4,7 @@ use Rattle.pcap_classic.specs.declared.common.TsResolution.{TsResolution}
 use Rattle.pcap_classic.specs.declared.pcap.packet.PacketHeader.{PacketHeader}
 use Rattle.pcap_core.specs.Answer.{Order}
 use Rattle.pcap_classic.specs.PacketText.{Captured, PacketHeaderText, HasHeadFault}
-use Rattle.pcap_core.specs.Headed.{HeadReading, good, bad, Headed}
+use Rattle.pcap_items.specs.Headed.{HeadReading, good, bad, Headed}
 
 -- what is said of a head: the header whose text it is, or its fault
 abbrev pub HeadReads : ℕ → Order → TsResolution → List ℕ → HeadReading PacketHeader → Type 0

@@ -7,7 +7,7 @@ use Rattle.pcap_core.specs.Answer.{Order, number_in, Verdict, whole, lacks, faul
 use Rattle.pcap_core.specs.Faults.{Invalid}
 use Rattle.pcap_classic.specs.Magic.{is_magic, order_of, resolution_of}
 use Rattle.pcap_classic.specs.PacketText.{Captured, PacketSays}
-use Rattle.pcap_core.specs.Format.{Format}
+use Rattle.pcap_items.specs.Format.{Format}
 
 -- packets of at most limit bytes, in this order and resolution: no state
 unfoldable pub packet_format : ℕ → Order → TsResolution → Format (Unit {0}) Captured

@@ -1,6 +1,6 @@
 -- What a run tells over a capture that comes in pieces.
 use Rattle.std.specs.Prelude.{◌≡◌, ◌⊎◌, ℕ, List, length}
-use Rattle.pcap_core.specs.Pieces.{OpensNone}
+use Rattle.pcap_items.specs.Pieces.{OpensNone}
 use Rattle.pcap_classic.specs.declared.pcap.header.PcapHeader.{PcapHeader}
 use Rattle.pcap_classic.specs.Front.{CaptureFront}
 use Rattle.pcap_classic.specs.HeaderText.{HeaderSays}

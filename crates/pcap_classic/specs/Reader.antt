@@ -5,10 +5,10 @@ use Rattle.pcap_classic.specs.declared.pcap.packet.PacketHeader.{PacketHeader}
 use Rattle.pcap_classic.specs.declared.pcap.reader.PcapReader.{PcapReader}
 use Rattle.pcap_core.specs.Errors.{IsIo}
 use Rattle.pcap_core.specs.Faults.{Shows}
-use Rattle.pcap_core.specs.Held.{held_bytes}
+use Rattle.pcap_items.specs.Held.{held_bytes}
 use Rattle.pcap_classic.specs.HeaderText.{HeaderSays}
 use Rattle.pcap_classic.specs.PacketText.{Captured}
-use Rattle.pcap_core.specs.Reading.{IsFaultOf, Takes}
+use Rattle.pcap_items.specs.Reading.{IsFaultOf, Takes}
 
 -- the stream behind a reader
 abbrev pub stream_of : {T : Type 0} → PcapReader T → T

@@ -5,7 +5,7 @@ use Rattle.pcap_classic.specs.declared.run.PcapRun.{PcapRun}
 use Rattle.pcap_classic.specs.PacketText.{packet_limit, Captured, content_of}
 use Rattle.pcap_classic.specs.Packets.{format_under}
 use Rattle.pcap_classic.specs.Front.{CaptureFront}
-use Rattle.pcap_core.specs.Run.{IsRest}
+use Rattle.pcap_items.specs.Run.{IsRest}
 
 -- The run is the front of s: its header and packets, its length, and what is said of its rest.
 pub record IsRun (run : PcapRun) (s : List ℕ) : Type 0 where

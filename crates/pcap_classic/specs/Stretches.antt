@@ -5,8 +5,8 @@ use Rattle.std.specs.Io.KnownBytes.{Appends}
 use Rattle.pcap_core.specs.declared.errors.PcapError.{PcapError}
 use Rattle.pcap_core.specs.Answer.{whole}
 use Rattle.pcap_core.specs.Errors.{IsIo}
-use Rattle.pcap_core.specs.Format.{Texts}
-use Rattle.pcap_core.specs.Writing.{AppendsPart}
+use Rattle.pcap_items.specs.Format.{Texts}
+use Rattle.pcap_items.specs.Writing.{AppendsPart}
 use Rattle.pcap_classic.specs.declared.pcap.header.PcapHeader.{PcapHeader}
 use Rattle.pcap_classic.specs.Copies.{PacketIsSaid}
 use Rattle.pcap_classic.specs.Packets.{format_under}

@@ -10,7 +10,7 @@ use Rattle.pcap_core.specs.Faults.{rule_message}
 use Rattle.pcap_classic.specs.Magic.{is_magic}
 use Rattle.pcap_classic.specs.PacketText.{Captured}
 use Rattle.pcap_classic.specs.Written.{written_header, written_under}
-use Rattle.pcap_core.specs.Writing.{AppendsPart}
+use Rattle.pcap_items.specs.Writing.{AppendsPart}
 
 -- the stream behind a writer
 abbrev pub stream_of : {W : Type 0} → PcapWriter W → W

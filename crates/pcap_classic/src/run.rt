@@ -17,18 +17,18 @@ ghost use Rattle.pcap_classic.specs.HeaderText.{LacksHeader, HasHeaderFault, Hea
 ghost use Rattle.pcap_classic.specs.Packets.{reader_format};
 ghost use Rattle.pcap_classic.specs.PacketText.{packet_limit, content_of};
 ghost use Rattle.pcap_classic.specs.Reader.{stream_of, has_failed, is_done};
-ghost use Rattle.pcap_core.specs.Reading.{IsFaultOf};
-ghost use Rattle.pcap_core.specs.Takes.{TakesItems};
+ghost use Rattle.pcap_items.specs.Reading.{IsFaultOf};
+ghost use Rattle.pcap_items.specs.Takes.{TakesItems};
 ghost use Rattle.pcap_classic.specs.Run.{IsRun, HasPacket};
 
 use crate::pcap::{Packet, PcapHeader, PcapParser, PcapReader};
 pub use buffered::copy_buffered;
 pub use copy::{Copied, PacketsAhead, PutsPacket, Under, copy_pcap, end_copy};
 pub use exact::exact_pcap;
-pub use pcap_core::Rest;
-use pcap_core::run::parse_items;
-pub use pcap_core::run::{Window, pieces_fit};
 use pcap_core::{PcapError, ResultParsing};
+pub use pcap_items::Rest;
+use pcap_items::run::parse_items;
+pub use pcap_items::run::{Window, pieces_fit};
 pub use pieces::pieces_pcap;
 use std::alloc::Global;
 use std::io::Read;

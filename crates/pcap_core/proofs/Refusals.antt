@@ -8,8 +8,6 @@ use Rattle.pcap_core.specs.declared.errors.PcapError.TheVariants as errors
 use Rattle.pcap_core.specs.declared.rules.Rule.{Rule}
 use Rattle.pcap_core.specs.Answer.{Verdict, lacks, faulty, Refuses, TellsWhere}
 use Rattle.pcap_core.specs.Errors.{IsMemory}
-use Rattle.pcap_core.specs.Filling.{StatesRest, TellsSettled}
-use Rattle.pcap_core.specs.Found.{found_of, FindsWhere}
 use Rattle.pcap_core.specs.Faults.{Fault, Invalid, Io, Utf8, Names, Shows}
 
 pub named_refuses : (M : Type 0) (L : ℕ → Type 0) (F : Fault → Type 0) (rule : Rule) (e : PcapError) → F (Invalid rule) → Names rule e → Refuses M L F e
@@ -33,17 +31,6 @@ pub named_shows : (Stands : Fault → Type 0) (rule : Rule) (e : PcapError) → 
 named_shows Stands rule (errors.InvalidField text) stands named = (rule, named, stands)
 named_shows Stands rule _ stands named = absurd named
 
--- a head that `?` refuses by its rule
-pub named_states : {H V : Type 0} (IsSaid : List ℕ → Verdict V → Type 0) (Knows : H → ℕ → List ℕ → Type 0) (s : List ℕ) (rule : Rule) (result : Result (H × ℕ) PcapError)
-    → IsSaid s (faulty (Invalid rule)) → IsErrAnd result (Names rule) → StatesRest IsSaid Knows s result
-named_states IsSaid Knows s rule (Err e) stands named = named_shows (λ fault. IsSaid s (faulty fault)) rule e stands named
-named_states IsSaid Knows s rule (Ok x) stands named = absurd named
-
--- what is read of bytes that were filled, refused by `?` for its rule
-pub named_settles : {X V : Type 0} (IsSaid : Verdict V → Type 0) (view : X → V) (rule : Rule) (result : Result X PcapError) → IsSaid (faulty (Invalid rule)) → IsErrAnd result (Names rule) → TellsSettled IsSaid view result
-named_settles IsSaid view rule (Err e) stands named = named_shows (λ fault. IsSaid (faulty fault)) rule e stands named
-named_settles IsSaid view rule (Ok x) stands named = absurd named
-
 -- where no bytes can lack, a refusal shows a fault
 pub refuses_shows : (L : ℕ → Type 0) (F : Fault → Type 0) (e : PcapError) → ((n : ℕ) → L n → ⊥) → Refuses ⊥ L F e → Shows F e
 refuses_shows L F (errors.IncompleteBuffer n) none refuses = absurd (none n refuses)
@@ -55,12 +42,6 @@ shown_fault Stands (errors.InvalidField text) shown = (Invalid shown.0, shown.2)
 shown_fault Stands (errors.IoError e) shown = (Io, shown)
 shown_fault Stands (errors.Utf8Error e) shown = (Utf8, shown)
 shown_fault Stands _ shown = absurd shown
-
--- what a parser tells, and what is found in its answer
-pub found_tells : {X V : Type 0} (M : Type 0) (IsSaid : Verdict V → Type 0) (view : X → V) (answer : Result (Bor (List ℕ) × X) PcapError) → TellsWhere M IsSaid view answer → FindsWhere M IsSaid view (found_of answer)
-found_tells M IsSaid view (Ok x) tells = tells
-found_tells M IsSaid view (Err (errors.IncompleteBuffer n)) tells = tells
-found_tells M IsSaid view _ tells = tells
 
 pub refuses_memory : (L : ℕ → Type 0) (F : Fault → Type 0) (e : PcapError) → IsMemory e → Refuses ⊤ L F e
 refuses_memory L F (errors.OutOfMemory memory) x = tt

@@ -6,7 +6,10 @@ use Rattle.pcap_core.specs.Faults.{Fault}
 use Rattle.pcap_core.specs.Laws.{ExactlyOne}
 use Rattle.pcap_core.specs.Padded.{Chain}
 use Rattle.pcap_core.proofs.Padded.{chain_more}
-use Rattle.pcap_core.proofs.Formats.{whole_same}
+
+-- a whole verdict is one value and one rest
+pub whole_same : {V : Type 0} (v w : V) (a b : List ℕ) → whole v a ≡ whole w b → (v ≡ w) × (a ≡ b)
+whole_same v w a b e = (cc, cc)
 
 -- what says the same has the same law
 pub one_moved : {X : Type 0} (P Q : X → Type 0) → ((x : X) → P x → Q x) → ((x : X) → Q x → P x) → ExactlyOne Q → ExactlyOne P

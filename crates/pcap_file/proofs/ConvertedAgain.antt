@@ -8,9 +8,9 @@ use Rattle.std.proofs.lemmas.List.Elements.{All-head, All-tail}
 use Rattle.pcap_core.specs.declared.common.Endianness.TheVariants.{Little}
 use Rattle.pcap_core.specs.declared.errors.PcapError.{PcapError}
 use Rattle.pcap_core.specs.Bytes.{IsBytes}
-use Rattle.pcap_core.specs.Copying.{each_written}
-use Rattle.pcap_core.specs.Takes.{ReadsFront}
-use Rattle.pcap_core.proofs.Copying.{copies_take, each_writing}
+use Rattle.pcap_items.specs.Copying.{each_written}
+use Rattle.pcap_items.specs.Takes.{ReadsFront}
+use Rattle.pcap_items.proofs.Copying.{copies_take, each_writing}
 use Rattle.pcap_core.proofs.Texts.{front_all}
 use Rattle.pcap_classic.specs.declared.pcap.header.PcapHeader.{PcapHeader}
 use Rattle.pcap_classic.specs.declared.run.copy.Copied.{Copied}
@@ -37,9 +37,9 @@ use Rattle.pcap_written.proofs.Packets.{packet_fit, packet_placed}
 use Rattle.pcap_file.specs.Conversion.{AreBlocksOf, IsConversion, exact_time}
 use Rattle.pcap_file.specs.Converted.{converted, converted_text, interface_for, little_text, little_texts, opening_blocks, packet_block, time_of}
 use Rattle.pcap_file.specs.Converts.{ConvertsPackets}
-use Rattle.pcap_file.specs.Written.{IsBodyOf}
+use Rattle.pcap_ng.specs.Written.{IsBodyOf}
 use Rattle.pcap_file.proofs.Converting.{blocks_out}
-use Rattle.pcap_file.proofs.WrittenAgain.{capture_again}
+use Rattle.pcap_ng.proofs.WrittenAgain.{capture_again}
 
 -- behind so many interfaces, little-endian
 abbrev behind : ℕ → Place

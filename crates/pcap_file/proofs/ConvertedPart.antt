@@ -6,14 +6,14 @@ use Rattle.std.proofs.KnownBytes.{Appends-kept, Appends-nil, Appends-trans}
 use Rattle.std.proofs.lemmas.Grind.{flat_map-append}
 use Rattle.std.proofs.lemmas.List.{map-append}
 use Rattle.std.proofs.lemmas.List.Folds.{flat_map-map}
-use Rattle.pcap_core.specs.Copying.{each_written}
-use Rattle.pcap_core.specs.Format.{Texts}
-use Rattle.pcap_core.specs.Takes.{TakesTexts}
-use Rattle.pcap_core.proofs.Formats.{front_goes_on, has_front, texts_more}
-use Rattle.pcap_core.proofs.Accepted.{copies_begin}
-use Rattle.pcap_core.proofs.Copying.{each_writing}
-use Rattle.pcap_core.proofs.Taking.{taken_known}
-use Rattle.pcap_core.specs.Reading.{Takes}
+use Rattle.pcap_items.specs.Copying.{each_written}
+use Rattle.pcap_items.specs.Format.{Texts}
+use Rattle.pcap_items.specs.Takes.{TakesTexts}
+use Rattle.pcap_items.proofs.Formats.{front_goes_on, has_front, texts_more}
+use Rattle.pcap_items.proofs.Accepted.{copies_begin}
+use Rattle.pcap_items.proofs.Copying.{each_writing}
+use Rattle.pcap_items.proofs.Taking.{taken_known}
+use Rattle.pcap_items.specs.Reading.{Takes}
 use Rattle.pcap_classic.specs.declared.pcap.header.PcapHeader.{PcapHeader}
 use Rattle.pcap_classic.specs.declared.run.copy.Copied.{Copied}
 use Rattle.pcap_classic.specs.HeaderText.{HeaderSays, HeaderText}

@@ -11,11 +11,11 @@ use Rattle.pcap_core.specs.Answer.{number_in, whole}
 use Rattle.pcap_core.specs.Codec.{number_bytes}
 use Rattle.pcap_core.specs.Errors.{IsMemory}
 use Rattle.pcap_core.specs.Link.{IsPlain, link_number}
-use Rattle.pcap_core.specs.Reading.{Takes}
-use Rattle.pcap_core.specs.Copying.{each_written}
-use Rattle.pcap_core.proofs.Accepted.{copies_accepted}
-use Rattle.pcap_core.proofs.Formats.{whole_same}
-use Rattle.pcap_core.proofs.Taking.{taken_known}
+use Rattle.pcap_items.specs.Reading.{Takes}
+use Rattle.pcap_items.specs.Copying.{each_written}
+use Rattle.pcap_items.proofs.Accepted.{copies_accepted}
+use Rattle.pcap_core.proofs.Verdicts.{whole_same}
+use Rattle.pcap_items.proofs.Taking.{taken_known}
 use Rattle.pcap_classic.specs.declared.pcap.header.PcapHeader.{PcapHeader}
 use Rattle.pcap_classic.specs.declared.run.copy.Copied.{Copied}
 use Rattle.pcap_classic.specs.Copies.{CopiesBehind, NothingFailed}

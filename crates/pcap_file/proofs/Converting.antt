@@ -11,7 +11,7 @@ use Rattle.pcap_core.specs.declared.errors.PcapError.{PcapError}
 use Rattle.pcap_core.specs.declared.errors.PcapError.TheVariants as errors
 use Rattle.pcap_core.specs.Answer.{whole}
 use Rattle.pcap_core.specs.Codec.{number_bytes}
-use Rattle.pcap_core.specs.Writing.{WritesAll}
+use Rattle.pcap_items.specs.Writing.{WritesAll}
 use Rattle.pcap_classic.specs.declared.pcap.header.PcapHeader.{PcapHeader}
 use Rattle.pcap_classic.specs.declared.run.copy.Copied.{Copied}
 use Rattle.pcap_classic.specs.Packets.{packet_format, reader_format}

@@ -5,7 +5,7 @@ use Rattle.std.specs.List.{AllZip, slice_get}
 use Rattle.std.proofs.lemmas.List.Concat.{flat_map-cons}
 use Rattle.std.proofs.lemmas.Option.{same_Some}
 use Rattle.pcap_core.specs.declared.link.DataLink.{DataLink}
-use Rattle.pcap_core.specs.Answer.{whole}
+use Rattle.pcap_core.specs.Answer.{number_in, whole}
 use Rattle.pcap_classic.specs.PacketText.{Captured}
 use Rattle.pcap_times.specs.declared.clock.Timestamp.{Timestamp}
 use Rattle.pcap_times.specs.declared.unit.TimeUnit.{TimeUnit}
@@ -15,11 +15,17 @@ use Rattle.pcap_blocks.specs.InterfaceTimes.{IsTimeAt}
 use Rattle.pcap_blocks.specs.ParsedBlock.{Body, SectionBody, InterfaceBody, OldPacketBody, SimpleBody, NamesBody, StatisticsBody, EnhancedBody, JournalBody, OtherBody}
 use Rattle.pcap_file.specs.declared.run.unplaced.Unplaced.{Unplaced}
 use Rattle.pcap_file.specs.declared.run.unplaced.Unplaced.TheVariants as reasons
-use Rattle.pcap_file.specs.Blocks.{Item}
-use Rattle.pcap_file.specs.Bodies.{SaysOfBody}
-use Rattle.pcap_file.specs.Frames.{Framed}
-use Rattle.pcap_file.specs.Placed.{Becomes, BecomesIn, HasNoPlace, HasNoPlaceBody, Places, PlacesBody, Turn, interfaces_at, is_packet, no_packet, packet_of_turn, packets_of, placed, reason_of_turn, reasons_of, time_in, unplaced}
-use Rattle.pcap_file.proofs.Bodies.{bodies_same}
+use Rattle.pcap_ng.specs.Blocks.{Item}
+use Rattle.pcap_ng.specs.Bodies.{SaysOfBody}
+use Rattle.pcap_ng.specs.Frames.{Framed}
+use Rattle.pcap_file.specs.Placed.{Becomes, BecomesIn, HasNoPlace, HasNoPlaceBody, Places, PlacesBody, Turn, is_packet, no_packet, packet_of_turn, packets_of, placed, reason_of_turn, reasons_of, time_in, unplaced}
+use Rattle.pcap_ng.specs.State.{interfaces_at}
+use Rattle.pcap_ng.proofs.Bodies.{bodies_same, type_is}
+use Rattle.pcap_written.specs.Bodies.{type_of}
+
+-- a block holds a packet where its body is a packet's
+pub packet_as_body : (b : Framed) (body : Body) (rest : List ℕ) → SaysOfBody b (whole body rest) → is_packet b.type_ ≡ is_packet (type_of body)
+packet_as_body b body rest says = ap is_packet (sym (type_is (number_in b.endianness) b.type_ b.body body rest says))
 
 -- seconds and nanoseconds are one way to split a number of nanoseconds
 split_same : (m n x y : ℕ) → m * 10 ^ 9 + x ≡ n * 10 ^ 9 + y → x < 10 ^ 9 → y < 10 ^ 9 → (m ≡ n) × (x ≡ y)

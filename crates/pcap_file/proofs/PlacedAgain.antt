@@ -9,9 +9,10 @@ use Rattle.pcap_classic.specs.PacketText.{Captured}
 use Rattle.pcap_classic.specs.Written.{IsWhole}
 use Rattle.pcap_blocks.specs.InterfaceDescription.{Interface}
 use Rattle.pcap_blocks.specs.ParsedBlock.{Body, SectionBody, InterfaceBody, OldPacketBody, SimpleBody, NamesBody, StatisticsBody, EnhancedBody, JournalBody, OtherBody}
-use Rattle.pcap_file.specs.Blocks.{Item}
+use Rattle.pcap_ng.specs.Blocks.{Item}
 use Rattle.pcap_file.specs.Converted.{interface_for, packet_block}
-use Rattle.pcap_file.specs.Placed.{Becomes, PlacesBody, Turn, carried, interfaces_at, no_packet, packets_of, placed, unplaced}
+use Rattle.pcap_file.specs.Placed.{Becomes, PlacesBody, Turn, carried, no_packet, packets_of, placed, unplaced}
+use Rattle.pcap_ng.specs.State.{interfaces_at}
 use Rattle.pcap_file.proofs.ConvertedAgain.{exactly_timed}
 
 -- a packet of a block: it is whole, and no whole second is among its nanoseconds

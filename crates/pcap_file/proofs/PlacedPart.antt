@@ -7,24 +7,25 @@ use Rattle.std.proofs.KnownBytes.{Appends-kept, Appends-nil, Appends-trans, Keep
 use Rattle.std.proofs.lemmas.List.Concat.{flat_map-append, flat_map-cons}
 use Rattle.std.proofs.lemmas.Slice.Zip.{all_zipped_more}
 use Rattle.pcap_core.specs.declared.errors.PcapError.{PcapError}
-use Rattle.pcap_core.specs.Format.{Texts, state_after}
-use Rattle.pcap_core.specs.Reading.{Takes}
-use Rattle.pcap_core.specs.Takes.{TakesTexts}
-use Rattle.pcap_core.proofs.Formats.{front_goes_on, front_same, has_front, texts_more}
-use Rattle.pcap_core.proofs.Taking.{takes_more}
+use Rattle.pcap_items.specs.Format.{Texts, state_after}
+use Rattle.pcap_items.specs.Reading.{Takes}
+use Rattle.pcap_items.specs.Takes.{TakesTexts}
+use Rattle.pcap_items.proofs.Formats.{front_goes_on, front_same, has_front, texts_more}
+use Rattle.pcap_items.proofs.Taking.{takes_more}
 use Rattle.pcap_classic.specs.declared.pcap.header.PcapHeader.{PcapHeader}
 use Rattle.pcap_classic.specs.PacketText.{Captured}
 use Rattle.pcap_classic.specs.Written.{written_under}
 use Rattle.pcap_file.specs.declared.run.placing.IfUnplaced.{IfUnplaced}
 use Rattle.pcap_file.specs.declared.run.placing.IfUnplaced.TheVariants.{Refuse}
 use Rattle.pcap_file.specs.declared.run.placing.NgConverted.{NgConverted}
-use Rattle.pcap_file.specs.Blocks.{Item, block_format}
-use Rattle.pcap_file.specs.Placed.{Becomes, Turn, interfaces_at, packet_of_turn, packets_of, placed, reason_of_turn, reasons_of}
+use Rattle.pcap_ng.specs.Blocks.{Item, block_format}
+use Rattle.pcap_file.specs.Placed.{Becomes, Turn, packet_of_turn, packets_of, placed, reason_of_turn, reasons_of}
+use Rattle.pcap_ng.specs.State.{interfaces_at}
 use Rattle.pcap_file.specs.Placing.{EndsPlacing, FailsBlock, PlacesAll, PlacesRun, Sink, Source, TakesNext}
 use Rattle.pcap_file.specs.RoundTrip.{BeginsPlaced, GoesNoFurther, PlacesRow}
-use Rattle.pcap_file.specs.State.{State}
-use Rattle.pcap_core.proofs.Taking.{taken_known}
-use Rattle.pcap_file.proofs.BlockFormat.{blocks_lawful}
+use Rattle.pcap_ng.specs.State.{State}
+use Rattle.pcap_items.proofs.Taking.{taken_known}
+use Rattle.pcap_ng.proofs.BlockFormat.{blocks_lawful}
 use Rattle.pcap_file.proofs.OneTurn.{turn_same}
 
 -- the bytes of packets of blocks, in two parts

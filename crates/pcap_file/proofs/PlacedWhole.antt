@@ -10,11 +10,11 @@ use Rattle.std.proofs.lemmas.Slice.Zip.{AllZip-long}
 use Rattle.pcap_core.specs.declared.errors.PcapError.{PcapError}
 use Rattle.pcap_core.specs.Answer.{whole}
 use Rattle.pcap_core.specs.Errors.{IsMemory}
-use Rattle.pcap_core.specs.Format.{Front, Texts}
-use Rattle.pcap_core.specs.Headed.{good}
-use Rattle.pcap_core.specs.Reading.{HasCause, Takes, TakesAsked}
+use Rattle.pcap_items.specs.Format.{Front, Texts}
+use Rattle.pcap_items.specs.Headed.{good}
+use Rattle.pcap_items.specs.Reading.{HasCause, Takes, TakesAsked}
 use Rattle.pcap_core.specs.declared.link.DataLink.{DataLink}
-use Rattle.pcap_core.proofs.Formats.{front_goes_on, nothing_more, nothing_no_text, text_same, texts_more}
+use Rattle.pcap_items.proofs.Formats.{front_goes_on, nothing_more, nothing_no_text, text_same, texts_more}
 use Rattle.pcap_classic.specs.declared.pcap.header.PcapHeader.{PcapHeader}
 use Rattle.pcap_classic.specs.Magic.{is_magic}
 use Rattle.pcap_classic.specs.PacketText.{Captured}
@@ -25,21 +25,22 @@ use Rattle.pcap_written.specs.Bodies.{type_of}
 use Rattle.pcap_file.specs.declared.run.placing.IfUnplaced.{IfUnplaced}
 use Rattle.pcap_file.specs.declared.run.placing.IfUnplaced.TheVariants.{Refuse}
 use Rattle.pcap_file.specs.declared.run.placing.NgConverted.{NgConverted}
-use Rattle.pcap_file.specs.Blocks.{Item, BlockText, block_format}
-use Rattle.pcap_file.specs.Frames.{Framed}
-use Rattle.pcap_file.specs.Opening.{OpeningSays}
-use Rattle.pcap_file.specs.Placed.{Becomes, BecomesIn, Turn, interfaces_at, is_packet, no_packet, packets_of, placed, reason_of_turn, reasons_of, unplaced}
+use Rattle.pcap_ng.specs.Blocks.{Item, BlockText, block_format}
+use Rattle.pcap_ng.specs.Frames.{Framed}
+use Rattle.pcap_ng.specs.Opening.{OpeningSays}
+use Rattle.pcap_file.specs.Placed.{Becomes, BecomesIn, Turn, is_packet, no_packet, packets_of, placed, reason_of_turn, reasons_of, unplaced}
+use Rattle.pcap_ng.specs.State.{interfaces_at}
 use Rattle.pcap_file.specs.Placing.{CannotWrite, EndsPlacing, FailsBlock, FailsNext, PlacesAll, PlacesRun, Sink, Source, TakesNext, TakesNone, source_of}
-use Rattle.pcap_file.specs.declared.pcapng.reader.PcapNgReader.{PcapNgReader}
-use Rattle.pcap_file.specs.Reader.{OpensReader, state_of, stream_of, text_of}
+use Rattle.pcap_ng.specs.declared.pcapng.reader.PcapNgReader.{PcapNgReader}
+use Rattle.pcap_ng.specs.Reader.{OpensReader, state_of, stream_of, text_of}
 use Rattle.pcap_file.specs.RoundTrip.{AreReady, BlocksBecome, CanPlace, ComeBack, IsOpened, NothingFailed, PlacesEach}
-use Rattle.pcap_file.specs.State.{State, leads, opening}
-use Rattle.pcap_core.proofs.Accepted.{no_stop}
-use Rattle.pcap_core.proofs.Taking.{taken_known}
-use Rattle.pcap_file.proofs.BlockFormat.{blocks_lawful}
-use Rattle.pcap_file.proofs.Bodies.{packet_as_body, refused_for_memory}
-use Rattle.pcap_file.proofs.FirstBlock.{opening_stable}
-use Rattle.pcap_file.proofs.OneTurn.{packet_is_read, turn_same, turns_same}
+use Rattle.pcap_ng.specs.State.{State, leads, opening}
+use Rattle.pcap_items.proofs.Accepted.{no_stop}
+use Rattle.pcap_items.proofs.Taking.{taken_known}
+use Rattle.pcap_ng.proofs.BlockFormat.{blocks_lawful}
+use Rattle.pcap_ng.proofs.Bodies.{refused_for_memory}
+use Rattle.pcap_ng.proofs.FirstBlock.{opening_stable}
+use Rattle.pcap_file.proofs.OneTurn.{packet_as_body, packet_is_read, turn_same, turns_same}
 
 -- a list that is zipped with another, in two parts
 zip_split : {X Y : Type 0} (P : X → Y → Type 0) (xs more : List X) (ys : List Y) → AllZip P (xs ++ more) ys

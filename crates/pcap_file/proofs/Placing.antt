@@ -9,10 +9,10 @@ use Rattle.std.proofs.lemmas.Grind.{flat_map-append}
 use Rattle.std.proofs.lemmas.Slice.Zip.{all_zipped_more}
 use Rattle.pcap_core.specs.declared.errors.PcapError.{PcapError}
 use Rattle.pcap_core.specs.Answer.{whole}
-use Rattle.pcap_core.specs.Format.{state_after}
-use Rattle.pcap_core.specs.Reading.{NextGives, Takes}
-use Rattle.pcap_core.proofs.Formats.{state_push}
-use Rattle.pcap_core.proofs.Taking.{takes_none, takes_more}
+use Rattle.pcap_items.specs.Format.{state_after}
+use Rattle.pcap_items.specs.Reading.{NextGives, Takes}
+use Rattle.pcap_items.proofs.Formats.{state_push}
+use Rattle.pcap_items.proofs.Taking.{takes_none, takes_more}
 use Rattle.pcap_classic.specs.declared.pcap.header.PcapHeader.{PcapHeader}
 use Rattle.pcap_classic.specs.PacketText.{Captured}
 use Rattle.pcap_classic.specs.Written.{written_under}
@@ -25,13 +25,13 @@ use Rattle.pcap_file.specs.declared.run.placing.IfUnplaced.TheVariants.{LeaveOut
 use Rattle.pcap_file.specs.declared.run.placing.NgConverted.{NgConverted}
 use Rattle.pcap_file.specs.declared.run.unplaced.PlacedPacket.{PlacedPacket}
 use Rattle.pcap_file.specs.declared.run.unplaced.Unplaced.{Unplaced}
-use Rattle.pcap_file.specs.Blocks.{Item, block_format}
-use Rattle.pcap_file.specs.Bodies.{SaysOfBody}
-use Rattle.pcap_file.specs.Frames.{Framed}
+use Rattle.pcap_ng.specs.Blocks.{Item, block_format}
+use Rattle.pcap_ng.specs.Bodies.{SaysOfBody}
+use Rattle.pcap_ng.specs.Frames.{Framed}
 use Rattle.pcap_file.specs.Placed.{Becomes, BecomesIn, TellsPlacedBody, Turn, captured_of, is_packet, no_packet, packet_of_turn, packets_of, placed, reason_of_turn, reasons_of, unplaced}
 use Rattle.pcap_file.specs.Placing.{CountsBecame, CountsTurn, FailsNext, Goes, IsQuiet, PlacesAll, PlacesBlock, PlacesBlocks, PlacesNext, PutsPlaced, RefusesNext, Sink, Source, TakesNext, TakesNone, outcome_of}
-use Rattle.pcap_file.specs.State.{State}
-use Rattle.pcap_file.proofs.BlockFormat.{blocks_lawful}
+use Rattle.pcap_ng.specs.State.{State}
+use Rattle.pcap_ng.proofs.BlockFormat.{blocks_lawful}
 
 -- what a packet's block becomes, by what its packet does
 pub block_placed : (header : PcapHeader) (choice : IfUnplaced) (interfaces : List Interface) (b : Framed) (c d : Sink) (body : Body) (rest : List ℕ) → is_packet b.type_ ≡ true → SaysOfBody b (whole body rest)

@@ -6,9 +6,9 @@ use Rattle.std.proofs.lemmas.List.Elements.{All-cons, All-head, All-nil, All-tai
 use Rattle.pcap_core.specs.Answer.{Order, number_in, whole}
 use Rattle.pcap_core.specs.declared.link.DataLink.{DataLink}
 use Rattle.pcap_core.specs.Codec.{number_bytes}
-use Rattle.pcap_core.specs.Format.{Front, Texts}
+use Rattle.pcap_items.specs.Format.{Front, Texts}
 use Rattle.pcap_core.specs.Link.{IsPlain, link_number}
-use Rattle.pcap_core.specs.Headed.{good}
+use Rattle.pcap_items.specs.Headed.{good}
 use Rattle.pcap_core.specs.declared.common.Endianness.TheVariants.{Little}
 use Rattle.pcap_classic.specs.declared.pcap.header.PcapHeader.{PcapHeader}
 use Rattle.pcap_classic.specs.PacketText.{Captured}
@@ -27,19 +27,21 @@ use Rattle.pcap_written.specs.Bodies.{body_text}
 use Rattle.pcap_written.specs.Fits.{IsFitOption}
 use Rattle.pcap_written.specs.Plain.{plain_section}
 use Rattle.pcap_written.specs.Writing.{IsFitIn}
-use Rattle.pcap_file.specs.Blocks.{Item, BlockText, block_format}
-use Rattle.pcap_file.specs.Bodies.{SaysOfBody}
+use Rattle.pcap_ng.specs.Blocks.{Item, BlockText, block_format}
+use Rattle.pcap_ng.specs.Bodies.{SaysOfBody}
 use Rattle.pcap_file.specs.Conversion.{AreBlocksOf}
 use Rattle.pcap_file.specs.Converted.{converted, in_nanoseconds, interface_for, little_texts, opening_blocks, packet_block}
-use Rattle.pcap_file.specs.Frames.{Framed}
-use Rattle.pcap_file.specs.Placed.{Becomes, PlacesBody, Turn, carried, interfaces_at, no_packet, packets_of, placed, reasons_of, unplaced}
+use Rattle.pcap_ng.specs.Frames.{Framed}
+use Rattle.pcap_file.specs.Placed.{Becomes, PlacesBody, Turn, carried, no_packet, packets_of, placed, reasons_of, unplaced}
+use Rattle.pcap_ng.specs.State.{interfaces_at}
 use Rattle.pcap_file.specs.RoundTrip.{BlocksBecome, HasSecondsInside, packets_read}
-use Rattle.pcap_file.specs.State.{State, opening, within, is_kept, is_read, leads, MeansIf}
-use Rattle.pcap_file.specs.Written.{IsBodyOf}
-use Rattle.pcap_file.proofs.Bodies.{bodies_same, packet_as_body}
+use Rattle.pcap_ng.specs.State.{State, opening, within, is_kept, is_read, leads, MeansIf}
+use Rattle.pcap_ng.specs.Written.{IsBodyOf}
+use Rattle.pcap_ng.proofs.Bodies.{bodies_same}
+use Rattle.pcap_file.proofs.OneTurn.{packet_as_body}
 use Rattle.pcap_file.proofs.ConvertedAgain.{converted_again}
 use Rattle.pcap_file.proofs.PlacedAgain.{IsPlaced, body_placed, packet_back}
-use Rattle.pcap_file.proofs.BlockFormat.{good_in}
+use Rattle.pcap_ng.proofs.BlockFormat.{good_in}
 
 -- a body of a type that isn't kept leaves what is in force
 unkept_stays : (section : Section) (interfaces : List Interface) (order : Order) (type : BlockType) (s : List ℕ) (body : Body) (rest : List ℕ)

@@ -2,8 +2,8 @@
 use Rattle.std.specs.Prelude.{◌≡◌, ◌+◌, ◌/◌, ◌%◌, ◌^◌, ◌++◌, ℕ, List, [], length, Option, None, pos}
 use Rattle.std.specs.Io.KnownBytes.{Appends}
 use Rattle.std.specs.List.{AllZip}
-use Rattle.pcap_core.specs.Format.{Front}
-use Rattle.pcap_core.specs.Takes.{ReadsFront}
+use Rattle.pcap_items.specs.Format.{Front}
+use Rattle.pcap_items.specs.Takes.{ReadsFront}
 use Rattle.pcap_classic.specs.declared.pcap.header.PcapHeader.{PcapHeader}
 use Rattle.pcap_classic.specs.declared.run.copy.Copied.{Copied}
 use Rattle.pcap_classic.specs.Front.{CaptureFront}
@@ -11,10 +11,10 @@ use Rattle.pcap_classic.specs.HeaderText.{HeaderText}
 use Rattle.pcap_classic.specs.Packets.{format_under}
 use Rattle.pcap_classic.specs.PacketText.{Captured, packet_limit}
 use Rattle.pcap_times.specs.declared.clock.Timestamp.{Timestamp}
-use Rattle.pcap_file.specs.Blocks.{Item, block_format}
+use Rattle.pcap_ng.specs.Blocks.{Item, block_format}
 use Rattle.pcap_file.specs.Converted.{converted, little_texts}
-use Rattle.pcap_file.specs.State.{opening}
-use Rattle.pcap_file.specs.Written.{IsBodyOf}
+use Rattle.pcap_ng.specs.State.{opening}
+use Rattle.pcap_ng.specs.Written.{IsBodyOf}
 
 -- The bytes are a PcapNg capture of these blocks, with nothing behind them.
 pub record AreBlocksOf (header : PcapHeader) (packets : List Captured) (bytes : List ℕ) : Type 0 where

@@ -5,11 +5,11 @@ use Rattle.std.specs.Io.KnownBytes.{Appends, Keeps}
 use Rattle.pcap_core.specs.declared.common.Endianness.TheVariants.{Little}
 use Rattle.pcap_core.specs.declared.errors.PcapError.{PcapError}
 use Rattle.pcap_core.specs.declared.errors.PcapError.TheVariants as errors
-use Rattle.pcap_core.specs.declared.stream.copying.Tally.{Tally}
-use Rattle.pcap_core.specs.Copying.{NothingCopied}
+use Rattle.pcap_items.specs.declared.stream.copying.Tally.{Tally}
+use Rattle.pcap_items.specs.Copying.{NothingCopied}
 use Rattle.pcap_core.specs.Errors.{IsIo}
-use Rattle.pcap_core.specs.Reading.{Takes}
-use Rattle.pcap_core.specs.Writing.{AppendsPart}
+use Rattle.pcap_items.specs.Reading.{Takes}
+use Rattle.pcap_items.specs.Writing.{AppendsPart}
 use Rattle.pcap_classic.specs.declared.pcap.header.PcapHeader.{PcapHeader}
 use Rattle.pcap_classic.specs.declared.run.copy.Copied.{Copied}
 use Rattle.pcap_classic.specs.declared.run.copy.Under.TheVariants.{Same}

@@ -16,10 +16,10 @@ use Rattle.pcap_blocks.specs.ParsedBlock.{Body, EnhancedBody, OldPacketBody}
 use Rattle.pcap_file.specs.declared.run.unplaced.PlacedPacket.{PlacedPacket}
 use Rattle.pcap_file.specs.declared.run.unplaced.Unplaced.{Unplaced}
 use Rattle.pcap_file.specs.declared.run.unplaced.Unplaced.TheVariants as reasons
-use Rattle.pcap_file.specs.Blocks.{Item}
-use Rattle.pcap_file.specs.Bodies.{SaysOfBody}
-use Rattle.pcap_file.specs.Frames.{Framed}
-use Rattle.pcap_file.specs.State.{State, opening, within}
+use Rattle.pcap_ng.specs.Blocks.{Item}
+use Rattle.pcap_ng.specs.Bodies.{SaysOfBody}
+use Rattle.pcap_ng.specs.Frames.{Framed}
+use Rattle.pcap_ng.specs.State.{interfaces_at}
 
 -- the message that names a reason
 abbrev pub unplaced_message : Unplaced → List ℕ
@@ -102,11 +102,6 @@ is_packet types.EnhancedPacket = true
 is_packet types.Packet = true
 is_packet types.SimplePacket = true
 is_packet _ = false
-
--- the interfaces that are in force
-abbrev pub interfaces_at : State → List Interface
-interfaces_at opening = []
-interfaces_at (within section interfaces) = interfaces
 
 -- what a block becomes: a packet, or one that has no place, or none
 pub data Turn : Type 0 where

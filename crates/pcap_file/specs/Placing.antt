@@ -10,10 +10,10 @@ use Rattle.pcap_core.specs.declared.rules.Rule.TheVariants.{CaptureMagic}
 use Rattle.pcap_core.specs.Answer.{lacks, faulty, Refuses}
 use Rattle.pcap_core.specs.Errors.{IsIo}
 use Rattle.pcap_core.specs.Faults.{Names}
-use Rattle.pcap_core.specs.Format.{state_after}
-use Rattle.pcap_core.specs.Reading.{HasCause, Takes, TakesAsked}
-use Rattle.pcap_core.specs.Takes.{TakesTexts}
-use Rattle.pcap_core.specs.Writing.{AppendsPart}
+use Rattle.pcap_items.specs.Format.{state_after}
+use Rattle.pcap_items.specs.Reading.{HasCause, Takes, TakesAsked}
+use Rattle.pcap_items.specs.Takes.{TakesTexts}
+use Rattle.pcap_items.specs.Writing.{AppendsPart}
 use Rattle.pcap_blocks.specs.InterfaceDescription.{Interface}
 use Rattle.pcap_classic.specs.declared.pcap.header.PcapHeader.{PcapHeader}
 use Rattle.pcap_classic.specs.declared.pcap.writer.PcapWriter.{PcapWriter}
@@ -21,7 +21,7 @@ use Rattle.pcap_classic.specs.Magic.{is_magic}
 use Rattle.pcap_classic.specs.PacketText.{Captured}
 use Rattle.pcap_classic.specs.Writing as writers
 use Rattle.pcap_classic.specs.Written.{written_under}
-use Rattle.pcap_file.specs.declared.pcapng.reader.PcapNgReader.{PcapNgReader}
+use Rattle.pcap_ng.specs.declared.pcapng.reader.PcapNgReader.{PcapNgReader}
 use Rattle.pcap_file.specs.declared.run.placing.Became.{Became}
 use Rattle.pcap_file.specs.declared.run.placing.Became.TheVariants as became
 use Rattle.pcap_file.specs.declared.run.placing.IfUnplaced.{IfUnplaced}
@@ -29,12 +29,13 @@ use Rattle.pcap_file.specs.declared.run.placing.IfUnplaced.TheVariants.{LeaveOut
 use Rattle.pcap_file.specs.declared.run.placing.NgConverted.{NgConverted}
 use Rattle.pcap_file.specs.declared.run.unplaced.PlacedPacket.{PlacedPacket}
 use Rattle.pcap_file.specs.declared.run.unplaced.Unplaced.{Unplaced}
-use Rattle.pcap_file.specs.Blocks.{Item, block_format}
-use Rattle.pcap_file.specs.Bodies.{GrowsInBody, SaysOfBody}
-use Rattle.pcap_file.specs.Frames.{Framed}
-use Rattle.pcap_file.specs.Placed.{Becomes, BecomesIn, Turn, captured_of, interfaces_at, is_packet, packet_of_turn, no_packet, packets_of, placed, reason_of_turn, reasons_of, unplaced, unplaced_message}
-use Rattle.pcap_file.specs.Reader as readers
-use Rattle.pcap_file.specs.State.{State}
+use Rattle.pcap_ng.specs.Blocks.{Item, block_format}
+use Rattle.pcap_ng.specs.Bodies.{GrowsInBody, SaysOfBody}
+use Rattle.pcap_ng.specs.Frames.{Framed}
+use Rattle.pcap_file.specs.Placed.{Becomes, BecomesIn, Turn, captured_of, is_packet, packet_of_turn, no_packet, packets_of, placed, reason_of_turn, reasons_of, unplaced, unplaced_message}
+use Rattle.pcap_ng.specs.State.{interfaces_at}
+use Rattle.pcap_ng.specs.Reader as readers
+use Rattle.pcap_ng.specs.State.{State}
 
 -- what a reader shows: what is in force, what is left of its stream, whether a read failed, and whether it has refused something
 pub record Source : Type 0 where

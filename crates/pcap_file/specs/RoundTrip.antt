@@ -5,7 +5,7 @@ use Rattle.std.specs.Io.KnownBytes.{Appends}
 use Rattle.pcap_core.specs.declared.link.DataLink.{DataLink}
 use Rattle.pcap_core.specs.Answer.{whole}
 use Rattle.pcap_core.specs.Errors.{IsMemory}
-use Rattle.pcap_core.specs.Format.{Front}
+use Rattle.pcap_items.specs.Format.{Front}
 use Rattle.pcap_classic.specs.declared.pcap.header.PcapHeader.{PcapHeader}
 use Rattle.pcap_classic.specs.Magic.{is_magic, resolution_of}
 use Rattle.pcap_classic.specs.PacketText.{Captured}
@@ -13,11 +13,11 @@ use Rattle.pcap_classic.specs.Written.{cut, written_under}
 use Rattle.pcap_file.specs.declared.run.placing.IfUnplaced.{IfUnplaced}
 use Rattle.pcap_file.specs.declared.run.placing.IfUnplaced.TheVariants.{Refuse}
 use Rattle.pcap_file.specs.declared.run.placing.NgConverted.{NgConverted}
-use Rattle.pcap_file.specs.Blocks.{Item, block_format}
-use Rattle.pcap_file.specs.Opening.{OpeningSays}
+use Rattle.pcap_ng.specs.Blocks.{Item, block_format}
+use Rattle.pcap_ng.specs.Opening.{OpeningSays}
 use Rattle.pcap_file.specs.Placed.{Becomes, Turn, carried, packets_of, reason_of_turn, reasons_of}
 use Rattle.pcap_file.specs.Placing.{Sink, Source}
-use Rattle.pcap_file.specs.State.{State, opening}
+use Rattle.pcap_ng.specs.State.{State, opening}
 
 -- a packet's seconds, with the whole seconds among its nanoseconds, are a number of 32 bits
 abbrev pub HasSecondsInside : Captured → Type 0

@@ -12,7 +12,7 @@ use Rattle.pcap_core.proofs.Verdicts.{one_moved, Stopped, IsMany, one_stopped, w
 use Rattle.pcap_options.proofs.OneOption.{option_one, option_same}
 use Rattle.pcap_options.proofs.OneVerdict.{IsDecided, same_said}
 use Rattle.pcap_core.proofs.OnePadded.{padded_length}
-use Rattle.pcap_core.proofs.Formats.{whole_same}
+use Rattle.pcap_core.proofs.Verdicts.{whole_same}
 
 pub head_length : (order : Order) (code len : ℕ) (s rest : List ℕ) → CodeLengthText order code len s rest → length s ≡ 4 + length rest
 head_length order code len s rest h = omega (arith, number_length order 2 code s h.after_code h.code_is, number_length order 2 len h.after_code rest h.length_is)

@@ -13,7 +13,7 @@ use Rattle.pcap_options.specs.Names.{HasNoZero, NameText, NameFault, unended, no
 use Rattle.pcap_options.proofs.Naming.{name_shorter}
 use Rattle.pcap_options.proofs.OneVerdict.{IsDecided, one_said, same_said}
 use Rattle.pcap_core.proofs.Verdicts.{one_moved, Then, one_then, Stopped, IsMany, one_stopped, whole_no_fault}
-use Rattle.pcap_core.proofs.Formats.{whole_same}
+use Rattle.pcap_core.proofs.Verdicts.{whole_same}
 
 no_zero_head : (b : ℕ) (s : List ℕ) → HasNoZero (b ∷ s) → b ≢ 0
 no_zero_head b s all = all 0 0 (omega arith)

@@ -12,7 +12,7 @@ use Rattle.pcap_options.proofs.OneVerdict.{IsDecided, one_said}
 use Rattle.pcap_core.proofs.Verdicts.{one_moved, Then, one_then}
 use Rattle.pcap_core.proofs.Numbers.{Values, Numbers, NumbersSay, numbers_one}
 use Rattle.pcap_core.proofs.OnePadded.{PaddedSays, padded_one}
-use Rattle.pcap_core.proofs.Formats.{whole_same}
+use Rattle.pcap_core.proofs.Verdicts.{whole_same}
 
 entry : ℕ → Value → Entry
 entry c v = record { code = c; value = v }

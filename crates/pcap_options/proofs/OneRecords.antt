@@ -9,7 +9,7 @@ use Rattle.pcap_options.specs.Record.{NameRecord, End, Ipv4, Ipv6, Other, Record
 use Rattle.pcap_options.specs.Records.{KeptText, RecordsSay}
 use Rattle.pcap_core.proofs.Verdicts.{one_moved, Stopped, IsMany, one_stopped, whole_no_fault}
 use Rattle.pcap_core.proofs.OnePadded.{padded_length}
-use Rattle.pcap_core.proofs.Formats.{whole_same}
+use Rattle.pcap_core.proofs.Verdicts.{whole_same}
 use Rattle.pcap_options.proofs.OneRecord.{record_one}
 use Rattle.pcap_options.proofs.OneVerdict.{IsDecided, same_said}
 use Rattle.pcap_options.proofs.OneList.{head_length}

@@ -4,15 +4,15 @@ use Rattle.pcap_core.specs.declared.errors.PcapError.{PcapError}
 use Rattle.pcap_core.specs.declared.errors.PcapError.TheVariants as errors
 use Rattle.pcap_core.specs.Answer.{Verdict, whole, lacks, faulty, Refuses}
 use Rattle.pcap_core.specs.Errors.{IsMemory}
-use Rattle.pcap_core.specs.Format.{Format, state_after, IsLawful}
+use Rattle.pcap_items.specs.Format.{Format, state_after, IsLawful}
 use Rattle.pcap_core.specs.Laws.{ExactlyOne}
-use Rattle.pcap_core.proofs.Formats.{text_same}
-use Rattle.pcap_core.proofs.Fronts.{said_not_refused}
-use Rattle.pcap_file.specs.Blocks.{MayGrow, block_format}
-use Rattle.pcap_file.specs.Opening.{OpeningSays}
-use Rattle.pcap_file.specs.State.{State, opening}
-use Rattle.pcap_file.proofs.BlockFormat.{blocks_lawful}
-use Rattle.pcap_file.proofs.FirstBlock.{opening_one}
+use Rattle.pcap_items.proofs.Formats.{text_same}
+use Rattle.pcap_items.proofs.Fronts.{said_not_refused}
+use Rattle.pcap_ng.specs.Blocks.{MayGrow, block_format}
+use Rattle.pcap_ng.specs.Opening.{OpeningSays}
+use Rattle.pcap_ng.specs.State.{State, opening}
+use Rattle.pcap_ng.proofs.BlockFormat.{blocks_lawful}
+use Rattle.pcap_ng.proofs.FirstBlock.{opening_one}
 use Rattle.pcap_parts.specs.Resume.{Fed, IsFed, RefusesOne}
 
 -- bytes of which a text is said are refused only for want of memory

@@ -5,8 +5,8 @@ use Rattle.pcap_classic.specs.declared.run.PcapRun.{PcapRun}
 use Rattle.pcap_classic.specs.PacketText.{packet_limit, content_of}
 use Rattle.pcap_classic.specs.Packets.{format_under}
 use Rattle.pcap_classic.specs.Run.{IsRun}
-use Rattle.pcap_core.specs.Format.{Front}
-use Rattle.pcap_core.specs.Run.{IsRest}
+use Rattle.pcap_items.specs.Format.{Front}
+use Rattle.pcap_items.specs.Run.{IsRest}
 use Rattle.pcap_classic.proofs.CaptureFormat.{under_lawful}
 use Rattle.pcap_classic.proofs.One.{header_same}
 use Rattle.pcap_classic.proofs.Pieces.{header_opening}

@@ -1,8 +1,8 @@
 -- Cuts that are made one by one.
 use Rattle.std.proofs.Common.{◌≡◌, ◌<◌, ◌≤◌, ◌+◌, ◌-◌, ℕ, List, [], ◌∷◌, ◌++◌, length, refl, sym, ◌∙◌, arith, length-append}
 use Rattle.std.specs.Prelude.{None}
-use Rattle.pcap_core.specs.Format.{Format, Texts, state_after}
-use Rattle.pcap_core.proofs.Formats.{texts_all}
+use Rattle.pcap_items.specs.Format.{Format, Texts, state_after}
+use Rattle.pcap_items.proofs.Formats.{texts_all}
 use Rattle.std.specs.List.{AllByRecursion}
 use Rattle.pcap_parts.specs.declared.cut.Cut.{Cut}
 use Rattle.pcap_parts.specs.Parts.{Passes, Bound, Rising, Starts, AreCuts}

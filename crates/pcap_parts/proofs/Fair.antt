@@ -5,13 +5,13 @@ use Rattle.std.specs.List.{AllByRecursion, Contains}
 use Rattle.std.proofs.lemmas.List.Elements.{Contains-append_left, Contains-push}
 use Rattle.std.proofs.Math.Nat.{mul-le-mul_right}
 use Rattle.std.proofs.lemmas.Bool.{cases_lt}
-use Rattle.pcap_core.specs.declared.rest.Rest.{Rest}
+use Rattle.pcap_items.specs.declared.rest.Rest.{Rest}
 use Rattle.pcap_core.specs.Answer.{whole}
-use Rattle.pcap_core.specs.Format.{Format, Texts, state_after, IsLawful}
-use Rattle.pcap_core.proofs.Formats.{text_same, texts_all}
-use Rattle.pcap_core.proofs.Requested.{texts_long}
-use Rattle.pcap_core.proofs.Showing.{rest_no_text}
-use Rattle.pcap_core.proofs.Copying.{state_all}
+use Rattle.pcap_items.specs.Format.{Format, Texts, state_after, IsLawful}
+use Rattle.pcap_items.proofs.Formats.{text_same, texts_all}
+use Rattle.pcap_items.proofs.Requested.{texts_long}
+use Rattle.pcap_items.proofs.Showing.{rest_no_text}
+use Rattle.pcap_items.proofs.Copying.{state_all}
 use Rattle.pcap_parts.specs.declared.cut.Cut.{Cut}
 use Rattle.pcap_parts.specs.Parts.{LastIsNeeded, Passes, Bound, FirstBound, EndsShares, AreFair, share_of}
 use Rattle.pcap_parts.proofs.Cutting.{each_push}

@@ -1,11 +1,11 @@
 -- The front of bytes that are cut at bounds.
 use Rattle.std.proofs.Common.{◌≡◌, ◌<◌, ◌≤◌, ◌+◌, ◌-◌, ℕ, List, [], ◌∷◌, ◌++◌, length, take, drop, refl, sym, ap, subst, ◌∙◌, arith, length-append, append_assoc, append-nil}
 use Rattle.std.proofs.lemmas.List.{nil_from_length}
-use Rattle.pcap_core.specs.Format.{Format, Texts, state_after, Front, IsLawful}
-use Rattle.pcap_core.proofs.Formats.{text_same, texts_own, front_goes_on, nothing_no_text, cons_same}
-use Rattle.pcap_core.proofs.Requested.{texts_long}
+use Rattle.pcap_items.specs.Format.{Format, Texts, state_after, Front, IsLawful}
+use Rattle.pcap_items.proofs.Formats.{text_same, texts_own, front_goes_on, nothing_no_text, cons_same}
+use Rattle.pcap_items.proofs.Requested.{texts_long}
 use Rattle.pcap_core.proofs.Texts.{front_of, rest_of}
-use Rattle.pcap_core.proofs.Copying.{state_all}
+use Rattle.pcap_items.proofs.Copying.{state_all}
 use Rattle.std.specs.List.{AllByRecursion}
 use Rattle.pcap_parts.specs.declared.cut.Cut.{Cut}
 use Rattle.pcap_parts.specs.Parts.{Bound, Rising, AreCuts, PartFronts, InParts, part_bytes, joined, CountsBefore}

@@ -2,16 +2,16 @@
 use Rattle.std.proofs.Common.{◌≡◌, ◌<◌, ◌+◌, ◌-◌, ℕ, List, [], ◌∷◌, ◌++◌, length, take, drop, refl, sym, ap, subst, ◌∙◌, arith, append_assoc, append-nil}
 use Rattle.std.proofs.lemmas.List.{nil_from_length}
 use Rattle.std.specs.List.{AllByRecursion, AllZip}
-use Rattle.pcap_core.specs.declared.rest.Rest.{Rest}
-use Rattle.pcap_core.specs.declared.rest.Rest.TheVariants.{Clean, Needs, Refused}
+use Rattle.pcap_items.specs.declared.rest.Rest.{Rest}
+use Rattle.pcap_items.specs.declared.rest.Rest.TheVariants.{Clean, Needs, Refused}
 use Rattle.pcap_core.specs.Answer.{faulty}
 use Rattle.pcap_core.specs.Faults.{Fault}
-use Rattle.pcap_core.specs.Format.{Format, Front, IsLawful, state_after}
-use Rattle.pcap_core.specs.Run.{IsRest}
-use Rattle.pcap_core.proofs.Formats.{fault_some, front_goes_on, front_same, texts_own}
+use Rattle.pcap_items.specs.Format.{Format, Front, IsLawful, state_after}
+use Rattle.pcap_items.specs.Run.{IsRest}
+use Rattle.pcap_items.proofs.Formats.{fault_some, front_goes_on, front_same, texts_own}
 use Rattle.pcap_core.proofs.Refusals.{shown_fault}
 use Rattle.pcap_core.proofs.Texts.{front_of}
-use Rattle.pcap_core.proofs.Copying.{state_all}
+use Rattle.pcap_items.proofs.Copying.{state_all}
 use Rattle.pcap_parts.specs.declared.cut.Cut.{Cut}
 use Rattle.pcap_parts.specs.PartRuns.{RunsOver, TakeParts}
 use Rattle.pcap_parts.specs.Parts.{AreCuts, Bound, Rising, joined, part_bytes}

@@ -1,18 +1,18 @@
 -- A run over a PcapNg capture, in parts.
 use Rattle.std.proofs.Common.{◌≡◌, ◌-◌, ℕ, List, ◌++◌, length, map, refl, sym, ap, subst, ◌∙◌, arith, length-append}
 use Rattle.pcap_core.specs.Answer.{whole}
-use Rattle.pcap_core.specs.Format.{state_after, Front}
-use Rattle.pcap_core.specs.Run.{IsRest}
-use Rattle.pcap_core.proofs.Formats.{text_same}
-use Rattle.pcap_file.specs.declared.run.NgRun.{NgRun}
-use Rattle.pcap_file.specs.Blocks.{Item, block_format}
-use Rattle.pcap_file.specs.Frames.{framed_of}
-use Rattle.pcap_file.specs.Opening.{OpeningSays}
-use Rattle.pcap_file.specs.Parser.{state_of}
-use Rattle.pcap_file.specs.Run.{IsRun}
-use Rattle.pcap_file.specs.State.{State, opening}
-use Rattle.pcap_file.proofs.BlockFormat.{blocks_lawful}
-use Rattle.pcap_file.proofs.FedBlocks.{first_opening}
+use Rattle.pcap_items.specs.Format.{state_after, Front}
+use Rattle.pcap_items.specs.Run.{IsRest}
+use Rattle.pcap_items.proofs.Formats.{text_same}
+use Rattle.pcap_ng.specs.declared.run.NgRun.{NgRun}
+use Rattle.pcap_ng.specs.Blocks.{Item, block_format}
+use Rattle.pcap_ng.specs.Frames.{framed_of}
+use Rattle.pcap_ng.specs.Opening.{OpeningSays}
+use Rattle.pcap_ng.specs.Parser.{state_of}
+use Rattle.pcap_ng.specs.Run.{IsRun}
+use Rattle.pcap_ng.specs.State.{State, opening}
+use Rattle.pcap_ng.proofs.BlockFormat.{blocks_lawful}
+use Rattle.pcap_ng.proofs.FedBlocks.{first_opening}
 use Rattle.pcap_parts.specs.declared.cut_ng.NgCuts.{NgCuts}
 use Rattle.pcap_parts.specs.declared.cut_ng.NgCut.{NgCut}
 use Rattle.pcap_parts.specs.declared.parting.Parting.{Parting}

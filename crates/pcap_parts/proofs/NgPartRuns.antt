@@ -2,17 +2,17 @@
 use Rattle.std.proofs.Common.{◌≡◌, ℕ, List, [], ◌∷◌, ◌++◌, length, map, take, drop, ◌-◌, refl, sym, ap, subst, ◌∙◌}
 use Rattle.std.specs.List.{AllByRecursion, AllZip}
 use Rattle.std.proofs.lemmas.List.{map-append}
-use Rattle.pcap_core.specs.declared.rest.Rest.{Rest}
-use Rattle.pcap_core.specs.Format.{state_after}
-use Rattle.pcap_core.specs.Run.{IsRest}
-use Rattle.pcap_core.proofs.Formats.{text_same}
-use Rattle.pcap_file.specs.declared.run.NgRun.{NgRun}
-use Rattle.pcap_file.specs.Blocks.{Item, block_format}
-use Rattle.pcap_file.specs.Frames.{Framed}
-use Rattle.pcap_file.specs.Parser.{state_of}
-use Rattle.pcap_file.specs.Run.{IsRun}
-use Rattle.pcap_file.specs.State.{State, opening}
-use Rattle.pcap_file.proofs.BlockFormat.{blocks_lawful}
+use Rattle.pcap_items.specs.declared.rest.Rest.{Rest}
+use Rattle.pcap_items.specs.Format.{state_after}
+use Rattle.pcap_items.specs.Run.{IsRest}
+use Rattle.pcap_items.proofs.Formats.{text_same}
+use Rattle.pcap_ng.specs.declared.run.NgRun.{NgRun}
+use Rattle.pcap_ng.specs.Blocks.{Item, block_format}
+use Rattle.pcap_ng.specs.Frames.{Framed}
+use Rattle.pcap_ng.specs.Parser.{state_of}
+use Rattle.pcap_ng.specs.Run.{IsRun}
+use Rattle.pcap_ng.specs.State.{State, opening}
+use Rattle.pcap_ng.proofs.BlockFormat.{blocks_lawful}
 use Rattle.pcap_parts.specs.declared.cut_ng.NgCut.{NgCut}
 use Rattle.pcap_parts.specs.declared.cut_ng.NgCuts.{NgCuts}
 use Rattle.pcap_parts.specs.NgParts.{IsNgCut, ResumesAt, bounds_of, places_at}

@@ -1,8 +1,8 @@
 -- Runs over the parts of a classic capture, one behind the other.
 use Rattle.std.proofs.Common.{◌≡◌, ℕ, List, [], ◌∷◌, ◌++◌, length, map, refl, sym, ap, subst, ◌∙◌}
 use Rattle.std.specs.List.{AllByRecursion, AllZip}
-use Rattle.pcap_core.specs.declared.rest.Rest.{Rest}
-use Rattle.pcap_core.specs.Run.{IsRest}
+use Rattle.pcap_items.specs.declared.rest.Rest.{Rest}
+use Rattle.pcap_items.specs.Run.{IsRest}
 use Rattle.pcap_classic.specs.declared.pcap.header.PcapHeader.{PcapHeader}
 use Rattle.pcap_classic.specs.declared.run.PcapRun.{PcapRun}
 use Rattle.pcap_classic.specs.PacketText.{Captured, packet_limit}
@@ -15,7 +15,7 @@ use Rattle.pcap_parts.specs.PartRuns.{IsPartRun, PartRunsJoin, TakeParts, packet
 use Rattle.pcap_parts.specs.Parts.{Bound, joined, part_bytes}
 use Rattle.pcap_parts.proofs.Captures.{cut_run}
 use Rattle.pcap_parts.proofs.Joining.{AreRuns, EndsAs, last_is, runs_join}
-use Rattle.pcap_core.proofs.Formats.{cons_same}
+use Rattle.pcap_items.proofs.Formats.{cons_same}
 
 HasPackets : Unit {0} → PcapRun → List Captured → Type 0
 HasPackets q run packets = packets ≡ packets_of run

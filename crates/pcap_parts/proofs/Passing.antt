@@ -4,13 +4,13 @@ use Rattle.std.proofs.lemmas.List.{nil_from_length}
 use Rattle.std.specs.Prelude.{Option, Some, None, Result, Ok, Err}
 use Rattle.std.specs.declared.alloc.AllocError.{AllocError}
 use Rattle.pcap_core.specs.declared.errors.PcapError.{PcapError}
-use Rattle.pcap_core.specs.declared.rest.Rest.{Rest}
+use Rattle.pcap_items.specs.declared.rest.Rest.{Rest}
 use Rattle.pcap_core.specs.declared.errors.PcapError.TheVariants as errors
-use Rattle.pcap_core.specs.declared.rest.Rest.TheVariants.{Needs, Refused}
+use Rattle.pcap_items.specs.declared.rest.Rest.TheVariants.{Needs, Refused}
 use Rattle.pcap_core.specs.Answer.{whole, lacks, faulty, Refuses}
-use Rattle.pcap_core.specs.Format.{Format, Texts, state_after, IsLawful}
-use Rattle.pcap_core.specs.Run.{IsRest}
-use Rattle.pcap_core.proofs.Formats.{state_push, texts_push, shorter}
+use Rattle.pcap_items.specs.Format.{Format, Texts, state_after, IsLawful}
+use Rattle.pcap_items.specs.Run.{IsRest}
+use Rattle.pcap_items.proofs.Formats.{state_push, texts_push, shorter}
 use Rattle.pcap_parts.specs.NgParts.{rest_or_memory_of}
 use Rattle.pcap_parts.specs.Parts.{EndsPassing, LastIsNeeded, PassesTo, StopsPassing}
 

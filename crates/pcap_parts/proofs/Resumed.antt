@@ -4,20 +4,20 @@ use Rattle.std.specs.Prelude.{All, filter}
 use Rattle.std.specs.List.{AllZip}
 use Rattle.std.proofs.lemmas.List.Elements.{All-filter, All-head, All-tail}
 use Rattle.pcap_core.specs.Answer.{whole}
-use Rattle.pcap_core.specs.Format.{Format, Texts, state_after, IsLawful}
-use Rattle.pcap_core.proofs.Formats.{state_push, cons_same}
+use Rattle.pcap_items.specs.Format.{Format, Texts, state_after, IsLawful}
+use Rattle.pcap_items.proofs.Formats.{state_push, cons_same}
 use Rattle.pcap_blocks.specs.SectionHeader.{Section}
 use Rattle.pcap_blocks.specs.InterfaceDescription.{Interface}
 use Rattle.pcap_blocks.specs.ParsedBlock.{SectionBody, InterfaceBody}
-use Rattle.pcap_file.specs.Bodies.{SaysOfBody}
-use Rattle.pcap_file.specs.Blocks.{Item, BlockSays, block_format}
-use Rattle.pcap_file.specs.Frames.{Framed}
-use Rattle.pcap_file.specs.Sections.{is_section, is_interface, IsInterfaceIn, LeavesInForce, Leaves}
-use Rattle.pcap_file.specs.State.{State, opening, within}
-use Rattle.pcap_file.specs.Opening.{OpeningSays}
-use Rattle.pcap_file.proofs.BlockFormat.{blocks_lawful, goes_after}
-use Rattle.pcap_file.proofs.Sections.{texts_leave}
-use Rattle.pcap_file.proofs.Bodies.{bodies_same}
+use Rattle.pcap_ng.specs.Bodies.{SaysOfBody}
+use Rattle.pcap_ng.specs.Blocks.{Item, BlockSays, block_format}
+use Rattle.pcap_ng.specs.Frames.{Framed}
+use Rattle.pcap_ng.specs.Sections.{is_section, is_interface, IsInterfaceIn, LeavesInForce, Leaves}
+use Rattle.pcap_ng.specs.State.{State, opening, within}
+use Rattle.pcap_ng.specs.Opening.{OpeningSays}
+use Rattle.pcap_ng.proofs.BlockFormat.{blocks_lawful, goes_after}
+use Rattle.pcap_ng.proofs.Sections.{texts_leave}
+use Rattle.pcap_ng.proofs.Bodies.{bodies_same}
 use Rattle.pcap_parts.specs.Resume.{Fed, IsFed, blocks_in_force}
 
 abbrev NoSection : Framed → Type 0

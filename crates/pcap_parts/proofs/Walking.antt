@@ -4,22 +4,22 @@ use Rattle.std.specs.Prelude.{Option, None, Some, IfNone}
 use Rattle.std.specs.List.{AllByRecursion}
 use Rattle.std.proofs.lemmas.List.{drop-append-le, map-append, take-append-le, take_all}
 use Rattle.std.proofs.lemmas.List.Elements.{All-from_get_or}
-use Rattle.pcap_core.specs.declared.rest.Rest.{Rest}
+use Rattle.pcap_items.specs.declared.rest.Rest.{Rest}
 use Rattle.pcap_core.specs.Answer.{whole}
 use Rattle.pcap_core.specs.Bytes.{IsBytes}
-use Rattle.pcap_core.specs.Format.{Texts, state_after}
-use Rattle.pcap_core.specs.Headed.{good}
-use Rattle.pcap_core.proofs.Formats.{state_push, texts_all, texts_own, texts_push}
+use Rattle.pcap_items.specs.Format.{Texts, state_after}
+use Rattle.pcap_items.specs.Headed.{good}
+use Rattle.pcap_items.proofs.Formats.{state_push, texts_all, texts_own, texts_push}
 use Rattle.pcap_core.proofs.Texts.{rest_of}
-use Rattle.pcap_core.proofs.Copying.{state_all}
+use Rattle.pcap_items.proofs.Copying.{state_all}
 use Rattle.pcap_blocks.specs.declared.block_type.BlockType.{BlockType}
 use Rattle.pcap_blocks.specs.declared.block_type.BlockType.TheVariants as types
 use Rattle.pcap_blocks.specs.SectionHeader.{Section}
 use Rattle.pcap_blocks.specs.InterfaceDescription.{Interface}
-use Rattle.pcap_file.specs.Blocks.{Item, BlockSays, block_format}
-use Rattle.pcap_file.specs.Opening.{OpeningSays}
-use Rattle.pcap_file.specs.State.{State, opening, within, MeansIf, is_kept}
-use Rattle.pcap_file.proofs.BlockFormat.{blocks_lawful}
+use Rattle.pcap_ng.specs.Blocks.{Item, BlockSays, block_format}
+use Rattle.pcap_ng.specs.Opening.{OpeningSays}
+use Rattle.pcap_ng.specs.State.{State, opening, within, MeansIf, is_kept}
+use Rattle.pcap_ng.proofs.BlockFormat.{blocks_lawful}
 use Rattle.pcap_parts.specs.declared.cut_ng.NgCut.{NgCut}
 use Rattle.pcap_parts.specs.NgParts.{GoesOn, IsWalked, ResumesAt, places_at}
 use Rattle.pcap_parts.specs.Parts.{Passes}

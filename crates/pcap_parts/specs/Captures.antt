@@ -1,6 +1,6 @@
 -- A capture cut into parts.
 use Rattle.std.specs.Prelude.{◌≡◌, ℕ, List, length, map}
-use Rattle.pcap_core.specs.Run.{IsRest}
+use Rattle.pcap_items.specs.Run.{IsRest}
 use Rattle.pcap_classic.specs.declared.run.PcapRun.{PcapRun}
 use Rattle.pcap_classic.specs.declared.pcap.header.PcapHeader.{PcapHeader}
 use Rattle.pcap_classic.specs.HeaderText.{HeaderText}

@@ -4,17 +4,17 @@ use Rattle.std.specs.List.{AllByRecursion}
 use Rattle.std.specs.declared.alloc.AllocError.{AllocError}
 use Rattle.pcap_core.specs.declared.errors.PcapError.{PcapError}
 use Rattle.pcap_core.specs.declared.errors.PcapError.TheVariants.{IncompleteBuffer, OutOfMemory}
-use Rattle.pcap_core.specs.declared.rest.Rest.{Rest}
-use Rattle.pcap_core.specs.declared.rest.Rest.TheVariants.{Needs, Refused}
+use Rattle.pcap_items.specs.declared.rest.Rest.{Rest}
+use Rattle.pcap_items.specs.declared.rest.Rest.TheVariants.{Needs, Refused}
 use Rattle.pcap_core.specs.Answer.{whole}
-use Rattle.pcap_core.specs.Format.{Texts, state_after}
-use Rattle.pcap_core.specs.Run.{IsRest}
-use Rattle.pcap_file.specs.declared.run.NgRun.{NgRun}
-use Rattle.pcap_file.specs.Blocks.{Item, block_format}
-use Rattle.pcap_file.specs.Frames.{framed_of}
-use Rattle.pcap_file.specs.Opening.{OpeningSays}
-use Rattle.pcap_file.specs.Parser.{state_of}
-use Rattle.pcap_file.specs.State.{State, opening}
+use Rattle.pcap_items.specs.Format.{Texts, state_after}
+use Rattle.pcap_items.specs.Run.{IsRest}
+use Rattle.pcap_ng.specs.declared.run.NgRun.{NgRun}
+use Rattle.pcap_ng.specs.Blocks.{Item, block_format}
+use Rattle.pcap_ng.specs.Frames.{framed_of}
+use Rattle.pcap_ng.specs.Opening.{OpeningSays}
+use Rattle.pcap_ng.specs.Parser.{state_of}
+use Rattle.pcap_ng.specs.State.{State, opening}
 use Rattle.pcap_parts.specs.declared.cut.Cut.{Cut}
 use Rattle.pcap_parts.specs.declared.cut_ng.NgCut.{NgCut}
 use Rattle.pcap_parts.specs.declared.cut_ng.NgCuts.{NgCuts}

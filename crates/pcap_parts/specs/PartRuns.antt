@@ -2,20 +2,20 @@
 use Rattle.std.specs.Prelude.{◌≡◌, ◌+◌, ℕ, List, [], ◌∷◌, length, map, drop, ⊤}
 use Rattle.pcap_core.specs.declared.errors.PcapError.{PcapError}
 use Rattle.pcap_core.specs.declared.errors.PcapError.TheVariants.{InvalidField, OutOfMemory}
-use Rattle.pcap_core.specs.declared.rest.Rest.{Rest}
-use Rattle.pcap_core.specs.declared.rest.Rest.TheVariants.{Clean}
-use Rattle.pcap_core.specs.Format.{Format, Front, state_after}
-use Rattle.pcap_core.specs.Run.{IsRest}
+use Rattle.pcap_items.specs.declared.rest.Rest.{Rest}
+use Rattle.pcap_items.specs.declared.rest.Rest.TheVariants.{Clean}
+use Rattle.pcap_items.specs.Format.{Format, Front, state_after}
+use Rattle.pcap_items.specs.Run.{IsRest}
 use Rattle.pcap_classic.specs.declared.pcap.header.PcapHeader.{PcapHeader}
 use Rattle.pcap_classic.specs.declared.run.PcapRun.{PcapRun}
 use Rattle.pcap_classic.specs.PacketText.{Captured, content_of, packet_limit}
 use Rattle.pcap_classic.specs.Packets.{format_under}
 use Rattle.pcap_classic.specs.Writing.{RefusesMagic}
-use Rattle.pcap_file.specs.declared.run.NgRun.{NgRun}
-use Rattle.pcap_file.specs.Blocks.{Item, block_format}
-use Rattle.pcap_file.specs.Frames.{Framed, framed_of}
-use Rattle.pcap_file.specs.Parser.{state_of}
-use Rattle.pcap_file.specs.State.{State}
+use Rattle.pcap_ng.specs.declared.run.NgRun.{NgRun}
+use Rattle.pcap_ng.specs.Blocks.{Item, block_format}
+use Rattle.pcap_ng.specs.Frames.{Framed, framed_of}
+use Rattle.pcap_ng.specs.Parser.{state_of}
+use Rattle.pcap_ng.specs.State.{State}
 use Rattle.pcap_parts.specs.declared.cut_ng.NgCut.{NgCut}
 use Rattle.pcap_parts.specs.NgParts.{places_at}
 use Rattle.pcap_parts.specs.Parts.{joined}

@@ -1,6 +1,6 @@
 -- How parts are asked for, over any format.
 use Rattle.std.specs.Prelude.{◌≡◌, ◌<◌, ◌-◌, ℕ, List, length, ⊤, Option, Some}
-use Rattle.pcap_core.specs.Format.{Format}
+use Rattle.pcap_items.specs.Format.{Format}
 use Rattle.pcap_parts.specs.declared.cut.Cut.{Cut}
 use Rattle.pcap_parts.specs.declared.parting.Parting.{Parting}
 use Rattle.pcap_parts.specs.declared.parting.Parting.TheVariants.{Equal, AtLeast}

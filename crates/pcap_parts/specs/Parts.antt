@@ -3,11 +3,11 @@ use Rattle.std.specs.Prelude.{◌≡◌, ◌<◌, ◌≤◌, ◌+◌, ◌-◌, �
 use Rattle.std.specs.Borrow.{Bor}
 use Rattle.std.specs.List.{AllByRecursion, Contains}
 use Rattle.pcap_core.specs.declared.errors.PcapError.{PcapError}
-use Rattle.pcap_core.specs.declared.rest.Rest.{Rest}
-use Rattle.pcap_core.specs.declared.rest.Rest.TheVariants.{Clean}
+use Rattle.pcap_items.specs.declared.rest.Rest.{Rest}
+use Rattle.pcap_items.specs.declared.rest.Rest.TheVariants.{Clean}
 use Rattle.pcap_core.specs.Answer.{Verdict, whole, lacks, faulty, Refuses}
-use Rattle.pcap_core.specs.Format.{Format, Texts, state_after, Front}
-use Rattle.pcap_core.specs.Run.{IsRest}
+use Rattle.pcap_items.specs.Format.{Format, Texts, state_after, Front}
+use Rattle.pcap_items.specs.Run.{IsRest}
 use Rattle.pcap_parts.specs.declared.cut.Cut.{Cut}
 
 -- what a call tells that passes over one item: what follows its text, or why it is refused

@@ -2,12 +2,12 @@
 use Rattle.std.specs.Prelude.{◌≡◌, ℕ, List, [], ◌∷◌, ◌++◌, ◌⊎◌, ⊤, filter, map, drop}
 use Rattle.pcap_core.specs.declared.errors.PcapError.{PcapError}
 use Rattle.pcap_core.specs.Answer.{whole, lacks, faulty, Refuses}
-use Rattle.pcap_core.specs.Format.{Format, state_after}
-use Rattle.pcap_file.specs.Blocks.{Item, block_format, BlockSays, MayGrow}
-use Rattle.pcap_file.specs.Frames.{Framed}
-use Rattle.pcap_file.specs.Sections.{is_interface, LeavesInForce}
-use Rattle.pcap_file.specs.State.{State, opening}
-use Rattle.pcap_file.specs.Opening.{OpeningSays}
+use Rattle.pcap_items.specs.Format.{Format, state_after}
+use Rattle.pcap_ng.specs.Blocks.{Item, block_format, BlockSays, MayGrow}
+use Rattle.pcap_ng.specs.Frames.{Framed}
+use Rattle.pcap_ng.specs.Sections.{is_interface, LeavesInForce}
+use Rattle.pcap_ng.specs.State.{State, opening}
+use Rattle.pcap_ng.specs.Opening.{OpeningSays}
 use Rattle.pcap_blocks.specs.SectionHeader.{Section}
 use Rattle.pcap_blocks.specs.InterfaceDescription.{Interface}
 

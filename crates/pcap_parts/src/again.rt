@@ -1,11 +1,11 @@
 //! A parser of blocks from a cut on.
 
-ghost use Rattle.pcap_file.specs.Parser.{state_of};
+ghost use Rattle.pcap_ng.specs.Parser.{state_of};
 ghost use Rattle.pcap_parts.specs.Resume.{IsFed, RefusesOne, from_places};
 ghost use Rattle.std.specs.Prelude.{◌≡◌, drop, IfErr, IfOk};
 
 use pcap_core::ResultParsing;
-use pcap_file::PcapNgParser;
+use pcap_ng::pcapng::PcapNgParser;
 use std::alloc::Global;
 
 // The bytes from a place on, none behind their end.

@@ -2,7 +2,7 @@
 
 ghost use Rattle.pcap_classic.specs.HeaderText.{LacksHeader, HasHeaderFault};
 ghost use Rattle.pcap_core.specs.Answer.{Refuses, lacks, faulty};
-ghost use Rattle.pcap_file.specs.Opening.{OpeningSays};
+ghost use Rattle.pcap_ng.specs.Opening.{OpeningSays};
 ghost use Rattle.pcap_parts.specs.Captures.{IsCut, IsCutAtLeast};
 ghost use Rattle.pcap_parts.specs.NgParts.{IsNgCut, IsNgCutAtLeast};
 ghost use Rattle.std.specs.Prelude.{⊤, max, IfOk, IfErr};

@@ -1,14 +1,15 @@
 //! Whole blocks that are passed over.
 
-ghost use Rattle.pcap_file.specs.Blocks.{MayGrow, block_format};
-ghost use Rattle.pcap_file.specs.Parser.{state_of};
+ghost use Rattle.pcap_ng.specs.Blocks.{MayGrow, block_format};
+ghost use Rattle.pcap_ng.specs.Parser.{state_of};
 ghost use Rattle.pcap_parts.specs.NgParts.{rest_or_memory_of};
 ghost use Rattle.pcap_parts.specs.Parts.{KeepsNext, PassesTo};
 ghost use Rattle.std.specs.Prelude.{◌≡◌, ◌≤◌, ◌+◌, length, IfOk, OnErr};
 
 use crate::skip::{Passed, rest_of_all};
-use pcap_core::{PcapError, Rest};
-use pcap_file::PcapNgParser;
+use pcap_core::PcapError;
+use pcap_items::Rest;
+use pcap_ng::pcapng::PcapNgParser;
 use std::alloc::AllocError;
 
 // The rest at which the parser gave this error. Want of memory is no rest.

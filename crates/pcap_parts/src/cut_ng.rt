@@ -1,9 +1,9 @@
 //! Places at which a PcapNg capture can be cut into parts.
 
 ghost use Rattle.pcap_core.specs.Answer.{Refuses, lacks, faulty};
-ghost use Rattle.pcap_file.specs.Blocks.{block_format};
-ghost use Rattle.pcap_file.specs.Opening.{OpeningSays};
-ghost use Rattle.pcap_file.specs.Parser.{state_of};
+ghost use Rattle.pcap_ng.specs.Blocks.{block_format};
+ghost use Rattle.pcap_ng.specs.Opening.{OpeningSays};
+ghost use Rattle.pcap_ng.specs.Parser.{state_of};
 ghost use Rattle.pcap_parts.specs.NgParts.{IsNgCut, IsNgCutBy, IsNgCutFairly, IsWalked, ResumesAt, bounds_of, places_at};
 ghost use Rattle.pcap_parts.specs.Partings.{AreAskedFor, AsksSome};
 ghost use Rattle.pcap_parts.specs.Parts.{AreCuts};
@@ -15,7 +15,7 @@ use crate::parting::Parting;
 use crate::skip::Passed;
 use crate::walk::Walk;
 use pcap_core::ResultParsing;
-use pcap_file::PcapNgParser;
+use pcap_ng::pcapng::PcapNgParser;
 use std::alloc::{AllocError, Global};
 
 /// Where a part of a PcapNg capture begins, and what is in force there.

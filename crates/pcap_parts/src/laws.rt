@@ -1,20 +1,20 @@
 //! Laws of captures in parts: joined, the parts are the whole. What is proved of each call stands at it.
 
-ghost use Rattle.pcap_file.specs.Blocks.{Item, block_format};
-ghost use Rattle.pcap_core.specs.Format.{Texts, state_after};
-ghost use Rattle.pcap_file.specs.State.{State, opening};
-ghost use Rattle.pcap_file.specs.Sections.{LeavesInForce};
+ghost use Rattle.pcap_ng.specs.Blocks.{Item, block_format};
+ghost use Rattle.pcap_items.specs.Format.{Texts, state_after};
+ghost use Rattle.pcap_ng.specs.State.{State, opening};
+ghost use Rattle.pcap_ng.specs.Sections.{LeavesInForce};
 ghost use Rattle.pcap_blocks.specs.SectionHeader.{Section};
 ghost use Rattle.pcap_blocks.specs.InterfaceDescription.{Interface};
 ghost use Rattle.pcap_core.specs.declared.errors.PcapError.{PcapError};
 ghost use Rattle.pcap_core.specs.Errors.{IsMemory};
-ghost use Rattle.pcap_file.specs.declared.run.NgRun.{NgRun};
-ghost use Rattle.pcap_file.specs.Run.{IsRun as IsNgRun};
+ghost use Rattle.pcap_ng.specs.declared.run.NgRun.{NgRun};
+ghost use Rattle.pcap_ng.specs.Run.{IsRun as IsNgRun};
 ghost use Rattle.pcap_parts.specs.declared.cut_ng.NgCuts.{NgCuts};
 ghost use Rattle.pcap_parts.specs.NgParts.{IsNgCut, IsNgRunInParts, bounds_of};
 ghost use Rattle.pcap_parts.specs.Resume.{Fed, IsFed, RefusesOne, blocks_in_force};
 ghost use Rattle.std.specs.Prelude.{◌≡◌, ℕ, List, ◌∷◌, ◌++◌, length, map};
-ghost use Rattle.pcap_core.specs.Format.{Front};
+ghost use Rattle.pcap_items.specs.Format.{Front};
 ghost use Rattle.pcap_classic.specs.declared.run.PcapRun.{PcapRun};
 ghost use Rattle.pcap_classic.specs.declared.pcap.header.PcapHeader.{PcapHeader};
 ghost use Rattle.pcap_classic.specs.Run.{IsRun};

@@ -1,17 +1,19 @@
 //! Runs over one part of a capture.
 
 ghost use Rattle.pcap_core.specs.Bytes.{IsBorrowed};
-ghost use Rattle.pcap_core.specs.Items.{GrowsIn};
-ghost use Rattle.pcap_file.specs.Blocks.{MayGrow, block_format};
-ghost use Rattle.pcap_file.specs.Parser.{state_of};
+ghost use Rattle.pcap_items.specs.Items.{GrowsIn};
+ghost use Rattle.pcap_ng.specs.Blocks.{MayGrow, block_format};
+ghost use Rattle.pcap_ng.specs.Parser.{state_of};
 ghost use Rattle.pcap_parts.specs.PartRuns.{IsNgPartRun, IsPartRun, RefusesPart};
 ghost use Rattle.std.specs.Prelude.{All, IfErr, IfOk, OnErr};
 
 use pcap_classic::pcap::{PcapHeader, PcapParser};
+use pcap_classic::run::PcapRun;
 use pcap_core::ResultParsing;
-use pcap_core::run::parse_items;
-use pcap_file::PcapNgParser;
-use pcap_file::run::{NgRun, PcapRun, Rest};
+use pcap_items::Rest;
+use pcap_items::run::parse_items;
+use pcap_ng::pcapng::PcapNgParser;
+use pcap_ng::run::NgRun;
 use std::alloc::{AllocError, Global};
 
 /// The run over one part of a classic capture, which are the bytes from its cut to the next one or to the end: its packets

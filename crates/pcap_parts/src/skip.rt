@@ -3,14 +3,15 @@
 ghost use Rattle.pcap_classic.specs.PacketText.{packet_limit, PacketSays};
 ghost use Rattle.pcap_classic.specs.Packets.{format_under, packet_format};
 ghost use Rattle.pcap_classic.specs.Parser.{header_of};
-ghost use Rattle.pcap_core.specs.Run.{rest_after};
+ghost use Rattle.pcap_items.specs.Run.{rest_after};
 ghost use Rattle.pcap_parts.specs.Parts.{EndsPassing, PassesOne, Passes};
 ghost use Rattle.std.specs.Prelude.{◌≡◌, ◌≤◌, ◌+◌, length};
 
 use byteorder::{BigEndian, ByteOrder, LittleEndian};
 use pcap_classic::TsResolution;
 use pcap_classic::pcap::{PacketHeader, PcapParser};
-use pcap_core::{Endianness, PcapError, Rest, ResultParsing};
+use pcap_core::{Endianness, PcapError, ResultParsing};
+use pcap_items::Rest;
 
 /// Items that were passed over, and why there were no more.
 #[derive(Debug, Drop)]

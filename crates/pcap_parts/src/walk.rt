@@ -1,8 +1,8 @@
 //! A walk over the blocks of a capture that keeps the places of what is in force.
 
 ghost use Rattle.pcap_core.specs.Answer.{Refuses, whole, lacks, faulty};
-ghost use Rattle.pcap_file.specs.Blocks.{Item, BlockSays, block_format};
-ghost use Rattle.pcap_file.specs.Parser.{state_of};
+ghost use Rattle.pcap_ng.specs.Blocks.{Item, BlockSays, block_format};
+ghost use Rattle.pcap_ng.specs.Parser.{state_of};
 ghost use Rattle.pcap_parts.specs.NgParts.{GoesOn, IsWalked};
 ghost use Rattle.pcap_parts.specs.Parts.{Passes};
 ghost use Rattle.std.specs.Prelude.{◌≡◌, ◌≤◌, ◌+◌, ⊤, length, drop, IfOk, IfErr, IfNone};
@@ -11,7 +11,7 @@ use crate::blocks::rest_or_memory;
 use crate::skip::{Passed, rest_of_all};
 use pcap_blocks::BlockType;
 use pcap_core::ResultParsing;
-use pcap_file::PcapNgParser;
+use pcap_ng::pcapng::PcapNgParser;
 use std::alloc::AllocError;
 
 // The parser of a walk, and the places of the blocks that put in force what it holds.

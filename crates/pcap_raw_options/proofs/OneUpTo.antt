@@ -8,7 +8,7 @@ use Rattle.pcap_core.specs.declared.rules.Rule.TheVariants.{OptionTooShort, Opti
 use Rattle.pcap_options.specs.Values.{Kind, Entry}
 use Rattle.pcap_options.specs.Options.{OptionText, OptionFault, short, cut, wrong, OptionSays, Ending, IsOver, OptionList, ListFault}
 use Rattle.pcap_core.proofs.Verdicts.{Stopped, IsMany, one_stopped, whole_no_fault}
-use Rattle.pcap_core.proofs.Formats.{whole_same}
+use Rattle.pcap_core.proofs.Verdicts.{whole_same}
 use Rattle.pcap_options.proofs.OneOption.{option_one, option_same}
 use Rattle.pcap_options.proofs.OneList.{item_same, item_shorter, marks_same, mark_no_fault, mark_no_item, over_or_not, list_from_stop}
 use Rattle.pcap_raw_options.specs.UpTo.{UpTo, StopsAt, ReadUpTo, no_kind}

@@ -7,11 +7,11 @@ use Rattle.pcap_core.specs.declared.rules.Rule.TheVariants.{IncludedTooLong}
 use Rattle.pcap_core.specs.Answer.{Order, Verdict, whole, lacks, faulty}
 use Rattle.pcap_core.specs.Faults.{Fault, Invalid}
 use Rattle.pcap_core.specs.Laws.{ExactlyOne, IsStable}
-use Rattle.pcap_core.specs.Format.{IsLawful}
-use Rattle.pcap_core.specs.Headed.{Piece, HeadReading, good, bad, HeadedSays, headed, IsHeaded}
+use Rattle.pcap_items.specs.Format.{IsLawful}
+use Rattle.pcap_items.specs.Headed.{Piece, HeadReading, good, bad, HeadedSays, headed, IsHeaded}
 use Rattle.pcap_core.proofs.Numbers.{numbers_there}
-use Rattle.pcap_core.proofs.Formats.{lawful_moved}
-use Rattle.pcap_core.proofs.Headed.{headed_lawful}
+use Rattle.pcap_items.proofs.Formats.{lawful_moved}
+use Rattle.pcap_items.proofs.Headed.{headed_lawful}
 use Rattle.pcap_classic.specs.PacketText.{Head, RecordHeadText}
 use Rattle.pcap_classic.proofs.FieldNumbers.{head_widths, head_with, head_from, head_same, head_length}
 use Rattle.pcap_classic.proofs.HeadedPackets.{head_again, head_piece}

@@ -3,8 +3,8 @@ use Rattle.std.proofs.Common.{◌≡◌, ◌≤◌, ℕ, List, [], length, subst
 use Rattle.std.specs.Prelude.{Option}
 use Rattle.std.specs.Option.{is_some}
 use Rattle.std.proofs.lemmas.List.{nil_from_length}
-use Rattle.pcap_core.specs.AsTheyCame.{HoldsNext}
-use Rattle.pcap_core.specs.Filling.{FillsHeaded}
+use Rattle.pcap_items.specs.AsTheyCame.{HoldsNext}
+use Rattle.pcap_items.specs.Filling.{FillsHeaded}
 use Rattle.pcap_classic.specs.declared.pcap.header.PcapHeader.{PcapHeader}
 use Rattle.pcap_classic.specs.declared.pcap.parser.PcapParser.{PcapParser}
 use Rattle.pcap_classic.specs.declared.run.copy.Copied.{Copied}

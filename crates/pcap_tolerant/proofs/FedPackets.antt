@@ -1,10 +1,10 @@
 -- Packets as they stand of a capture that comes in pieces.
 use Rattle.std.proofs.Common.{◌≡◌, ℕ, List, length, map, refl, sym, ap, subst, ◌∙◌, inl, inr}
-use Rattle.pcap_core.specs.Format.{Front}
-use Rattle.pcap_core.specs.Pieces.{HoldsItems, IsFedUpTo, IsOpening}
-use Rattle.pcap_core.specs.Run.{IsRest}
-use Rattle.pcap_core.proofs.Formats.{front_same}
-use Rattle.pcap_core.proofs.Pieces.{made_opening}
+use Rattle.pcap_items.specs.Format.{Front}
+use Rattle.pcap_items.specs.Pieces.{HoldsItems, IsFedUpTo, IsOpening}
+use Rattle.pcap_items.specs.Run.{IsRest}
+use Rattle.pcap_items.proofs.Formats.{front_same}
+use Rattle.pcap_items.proofs.Pieces.{made_opening}
 use Rattle.pcap_classic.specs.declared.pcap.header.PcapHeader.{PcapHeader}
 use Rattle.pcap_classic.specs.HeaderText.{HeaderSays}
 use Rattle.pcap_classic.specs.Parser.{header_of}

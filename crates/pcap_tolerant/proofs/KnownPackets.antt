@@ -4,9 +4,9 @@ use Rattle.std.proofs.lemmas.List.{drop_at}
 use Rattle.pcap_core.specs.declared.errors.PcapError.{PcapError}
 use Rattle.pcap_core.specs.Answer.{number_in, whole, lacks, faulty, Refuses}
 use Rattle.pcap_core.specs.Faults.{Shows}
-use Rattle.pcap_core.specs.Filling.{Stated, StatesRest, FillsHeaded}
-use Rattle.pcap_core.specs.Format.{IsLawful}
-use Rattle.pcap_core.specs.Reading.{Pulls}
+use Rattle.pcap_items.specs.Filling.{Stated, StatesRest, FillsHeaded}
+use Rattle.pcap_items.specs.Format.{IsLawful}
+use Rattle.pcap_items.specs.Reading.{Pulls}
 use Rattle.pcap_core.proofs.Refusals.{refuses_shows}
 use Rattle.pcap_classic.specs.declared.pcap.header.PcapHeader.{PcapHeader}
 use Rattle.pcap_classic.specs.Magic.{order_of, resolution_of}

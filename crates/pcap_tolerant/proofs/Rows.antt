@@ -3,9 +3,9 @@ use Rattle.std.proofs.Common.{◌≡◌, ◌<◌, ◌-◌, ℕ, zero, suc, List,
 use Rattle.std.specs.Prelude.{◌⊎◌}
 use Rattle.pcap_core.specs.declared.errors.PcapError.{PcapError}
 use Rattle.pcap_core.specs.Answer.{Order, number_in, Verdict, whole, lacks, faulty, Refuses}
-use Rattle.pcap_core.specs.Format.{Format, IsLawful}
-use Rattle.pcap_core.proofs.Formats.{nil_of_length, text_same}
-use Rattle.pcap_core.proofs.Fronts.{said_not_refused}
+use Rattle.pcap_items.specs.Format.{Format, IsLawful}
+use Rattle.pcap_items.proofs.Formats.{nil_of_length, text_same}
+use Rattle.pcap_items.proofs.Fronts.{said_not_refused}
 use Rattle.pcap_classic.specs.declared.common.TsResolution.{TsResolution}
 use Rattle.pcap_classic.specs.declared.pcap.header.PcapHeader.{PcapHeader}
 use Rattle.pcap_classic.specs.Magic.{order_of, resolution_of}

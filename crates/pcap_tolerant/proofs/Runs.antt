@@ -1,13 +1,13 @@
 -- Packets as they stand behind a header, which is the state of their format with the limit.
 use Rattle.std.proofs.Common.{◌≡◌, ℕ, List, [], ◌∷◌, refl, sym, subst, ◌∙◌, arith}
 use Rattle.std.proofs.lemmas.List.{map-id}
-use Rattle.pcap_core.specs.declared.rest.Rest.{Rest}
+use Rattle.pcap_items.specs.declared.rest.Rest.{Rest}
 use Rattle.pcap_core.specs.Answer.{whole}
-use Rattle.pcap_core.specs.Format.{Front, IsLawful, Texts, state_after}
-use Rattle.pcap_core.specs.Items.{GrowsIn, LeadsTo}
-use Rattle.pcap_core.specs.Run.{IsRest}
-use Rattle.pcap_core.proofs.Items.{grows_some}
-use Rattle.pcap_core.proofs.Showing.{rest_no_text}
+use Rattle.pcap_items.specs.Format.{Front, IsLawful, Texts, state_after}
+use Rattle.pcap_items.specs.Items.{GrowsIn, LeadsTo}
+use Rattle.pcap_items.specs.Run.{IsRest}
+use Rattle.pcap_items.proofs.Items.{grows_some}
+use Rattle.pcap_items.proofs.Showing.{rest_no_text}
 use Rattle.pcap_classic.specs.HeaderText.{HeaderText}
 use Rattle.pcap_tolerant.specs.AsIs.{AsIs, as_is_format}
 use Rattle.pcap_tolerant.specs.Run.{as_is_under, Setting, any_as_is, HasPacketAsIs}

@@ -5,8 +5,8 @@ use Rattle.pcap_core.specs.declared.rules.Rule.{Rule}
 use Rattle.pcap_core.specs.declared.rules.Rule.TheVariants.{FractionTooLarge, IncludedTooLong, OriginalTooLong, IncludedPastOriginal}
 use Rattle.pcap_core.specs.Answer.{Order, Verdict, Says}
 use Rattle.pcap_core.specs.Faults.{Fault, Invalid}
-use Rattle.pcap_core.specs.Format.{Format}
-use Rattle.pcap_core.specs.Headed.{HeadReading, good, bad, Headed}
+use Rattle.pcap_items.specs.Format.{Format}
+use Rattle.pcap_items.specs.Headed.{HeadReading, good, bad, Headed}
 use Rattle.pcap_classic.specs.PacketText.{packet_limit, Head, RecordHeadText, nanoseconds, spelled_header, Captured, LacksHead}
 use Rattle.pcap_tolerant.specs.declared.as_is.Flaws.{Flaws}
 use Rattle.pcap_tolerant.specs.declared.as_is.HeadAsIs.{HeadAsIs}

@@ -2,9 +2,9 @@
 use Rattle.std.specs.Prelude.{◌≡◌, ◌⊎◌, ℕ, List, [], Option, Some, Result, Ok, Err}
 use Rattle.std.specs.Io.KnownBytes.{Consumes, Appends}
 use Rattle.pcap_core.specs.declared.errors.PcapError.{PcapError}
-use Rattle.pcap_core.specs.declared.stream.copying.Tally.{Tally}
-use Rattle.pcap_core.specs.AsTheyCame.{as_they_came}
-use Rattle.pcap_core.specs.Copying.{NothingCopied, EndsTorn, CopiesBehind}
+use Rattle.pcap_items.specs.declared.stream.copying.Tally.{Tally}
+use Rattle.pcap_items.specs.AsTheyCame.{as_they_came}
+use Rattle.pcap_items.specs.Copying.{NothingCopied, EndsTorn, CopiesBehind}
 use Rattle.pcap_classic.specs.declared.pcap.header.PcapHeader.{PcapHeader}
 use Rattle.pcap_classic.specs.declared.pcap.parser.PcapParser.{PcapParser}
 use Rattle.pcap_classic.specs.declared.run.copy.Copied.{Copied}

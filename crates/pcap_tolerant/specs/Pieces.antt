@@ -1,7 +1,7 @@
 -- What a run tells over a capture that comes in pieces, with packets as they stand.
 use Rattle.std.specs.Prelude.{◌≡◌, ◌⊎◌, ℕ, List, length, map}
 use Rattle.pcap_core.specs.Answer.{Verdict, Made}
-use Rattle.pcap_core.specs.Pieces.{OpensNone}
+use Rattle.pcap_items.specs.Pieces.{OpensNone}
 use Rattle.pcap_classic.specs.declared.pcap.header.PcapHeader.{PcapHeader}
 use Rattle.pcap_classic.specs.HeaderText.{HeaderSays}
 use Rattle.pcap_tolerant.specs.declared.owned.OwnedAsIs.{OwnedAsIs}

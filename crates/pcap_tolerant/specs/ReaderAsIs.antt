@@ -3,8 +3,8 @@ use Rattle.std.specs.Prelude.{◌≡◌, ◌⊎◌, ℕ, List, [], drop, Bool, f
 use Rattle.pcap_core.specs.declared.errors.PcapError.{PcapError}
 use Rattle.pcap_core.specs.Errors.{IsIo}
 use Rattle.pcap_core.specs.Faults.{Shows}
-use Rattle.pcap_core.specs.Held.{held_bytes}
-use Rattle.pcap_core.specs.Reading.{IsFaultOf, Takes}
+use Rattle.pcap_items.specs.Held.{held_bytes}
+use Rattle.pcap_items.specs.Reading.{IsFaultOf, Takes}
 use Rattle.pcap_classic.specs.declared.pcap.header.PcapHeader.{PcapHeader}
 use Rattle.pcap_classic.specs.HeaderText.{HeaderSays}
 use Rattle.pcap_classic.specs.Parser.{header_of}

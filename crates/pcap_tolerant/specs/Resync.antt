@@ -1,7 +1,7 @@
 -- Where items stand again.
 use Rattle.std.specs.Prelude.{◌≡◌, ◌<◌, ◌⊎◌, ℕ, zero, suc, List, [], length, drop, Option, None, Some}
 use Rattle.pcap_core.specs.Answer.{whole}
-use Rattle.pcap_core.specs.Format.{Format}
+use Rattle.pcap_items.specs.Format.{Format}
 use Rattle.pcap_classic.specs.declared.pcap.header.PcapHeader.{PcapHeader}
 use Rattle.pcap_classic.specs.PacketText.{packet_limit, Captured}
 use Rattle.pcap_classic.specs.Packets.{format_under}

@@ -1,9 +1,9 @@
 -- What a run over a whole slice tells, with packets as they stand.
 use Rattle.std.specs.Prelude.{◌≡◌, ◌+◌, ℕ, List, ◌∷◌, length, map, Bool}
-use Rattle.pcap_core.specs.declared.rest.Rest.{Rest}
+use Rattle.pcap_items.specs.declared.rest.Rest.{Rest}
 use Rattle.pcap_core.specs.Answer.{number_in}
-use Rattle.pcap_core.specs.Format.{Format, Front}
-use Rattle.pcap_core.specs.Run.{IsRest}
+use Rattle.pcap_items.specs.Format.{Format, Front}
+use Rattle.pcap_items.specs.Run.{IsRest}
 use Rattle.pcap_classic.specs.declared.pcap.header.PcapHeader.{PcapHeader}
 use Rattle.pcap_classic.specs.HeaderText.{HeaderText}
 use Rattle.pcap_classic.specs.Magic.{order_of, resolution_of}

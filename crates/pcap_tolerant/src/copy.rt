@@ -2,8 +2,8 @@
 
 ghost use Rattle.std.specs.Prelude.{◌≡◌, ◌≤◌, [], OnOk};
 ghost use Rattle.std.specs.Result.{result_err};
-ghost use Rattle.pcap_core.specs.Copying.{NothingCopied};
-ghost use Rattle.pcap_core.specs.Held.{held_bytes};
+ghost use Rattle.pcap_items.specs.Copying.{NothingCopied};
+ghost use Rattle.pcap_items.specs.Held.{held_bytes};
 ghost use Rattle.pcap_classic.specs.Copies.{copied_of};
 ghost use Rattle.pcap_tolerant.specs.Copies.{BeginsAsIs, CopyRunAsIs};
 
@@ -12,7 +12,7 @@ use crate::stated::PacketsAsIs;
 use pcap_classic::pcap::PcapParser;
 use pcap_classic::run::{Copied, end_copy};
 use pcap_core::ResultParsing;
-use pcap_core::stream::{
+use pcap_items::stream::{
     AsTheyCame, Held, Holding, Tally, copy_buffers, copy_items, fill_array, fill_item, put,
 };
 use std::alloc::Global;

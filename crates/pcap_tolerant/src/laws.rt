@@ -2,10 +2,10 @@
 
 ghost use Rattle.std.specs.Prelude.{◌≡◌, ◌≤◌, ◌++◌, ℕ, List, [], ◌∷◌, length};
 ghost use Rattle.pcap_core.specs.Answer.{Order, Verdict};
-ghost use Rattle.pcap_core.specs.Format.{Asks, Front, IsLawful};
+ghost use Rattle.pcap_items.specs.Format.{Asks, Front, IsLawful};
 ghost use Rattle.pcap_core.specs.Laws.{ExactlyOne, IsStable};
 ghost use Rattle.pcap_classic.specs.declared.common.TsResolution.{TsResolution};
-ghost use Rattle.pcap_core.specs.Requested.{RequestsAt};
+ghost use Rattle.pcap_items.specs.Requested.{RequestsAt};
 ghost use Rattle.pcap_classic.specs.PacketText.{packet_limit, Captured, PacketSays};
 ghost use Rattle.pcap_tolerant.specs.AsIs.{AsIs, raised, AsIsText, AsIsSays, as_is_format};
 ghost use Rattle.pcap_tolerant.specs.Pieces.{HoldsAsIs};

@@ -2,7 +2,7 @@
 
 ghost use Rattle.std.specs.Prelude.{◌<◌, ◌^◌, [], ⊤, length, IfOk, IfErr};
 ghost use Rattle.pcap_core.specs.Answer.{Refuses};
-ghost use Rattle.pcap_core.specs.Pieces.{AfterEach, joined_pieces};
+ghost use Rattle.pcap_items.specs.Pieces.{AfterEach, joined_pieces};
 ghost use Rattle.pcap_classic.specs.HeaderText.{LacksHeader, HasHeaderFault};
 ghost use Rattle.pcap_tolerant.specs.Pieces.{HoldsAsIs, IsOwnedRunAsIs};
 
@@ -10,8 +10,9 @@ use crate::as_is::next_packet_as_is;
 use crate::owned::OwnedAsIs;
 use crate::run::ParserAsIs;
 use pcap_classic::pcap::{PcapHeader, PcapParser};
-use pcap_core::run::{PieceParser, feed_pieces};
-use pcap_core::{Rest, ResultParsing};
+use pcap_core::ResultParsing;
+use pcap_items::Rest;
+use pcap_items::run::{PieceParser, feed_pieces};
 use std::alloc::Global;
 
 /// A capture's header and its packets as they stand, how many bytes they take, and what stands behind them.

@@ -1,8 +1,8 @@
 //! Packets of a stream, as they stand.
 
 ghost use Rattle.std.specs.Prelude.{◌≡◌, false, [], IfOk, IfNone};
-ghost use Rattle.pcap_core.specs.Held.{held_bytes};
-ghost use Rattle.pcap_core.specs.Reading.{NextGives, Pulls};
+ghost use Rattle.pcap_items.specs.Held.{held_bytes};
+ghost use Rattle.pcap_items.specs.Reading.{NextGives, Pulls};
 ghost use Rattle.pcap_classic.specs.Magic.{order_of, resolution_of};
 ghost use Rattle.pcap_classic.specs.Parser.{header_of};
 ghost use Rattle.pcap_tolerant.specs.AsIs.{as_it_is};
@@ -13,8 +13,8 @@ use crate::as_is::{HeadAsIs, PacketAsIs};
 use crate::stated::PacketsAsIs;
 use pcap_classic::TsResolution;
 use pcap_classic::pcap::{PcapHeader, PcapParser};
-use pcap_core::stream::{Held, fill_item};
 use pcap_core::{Endianness, ResultParsing};
+use pcap_items::stream::{Held, fill_item};
 use std::alloc::Global;
 use std::io::Read;
 

@@ -8,8 +8,9 @@ ghost use Rattle.pcap_tolerant.specs.Run.{is_flawed, IsRunAsIs, HasPacketAsIs};
 
 use crate::as_is::{PacketAsIs, next_packet_as_is};
 use pcap_classic::pcap::{PcapHeader, PcapParser};
-use pcap_core::run::{Found, Items, found_in, parse_items};
-use pcap_core::{PcapError, Rest, ResultParsing};
+use pcap_core::{PcapError, ResultParsing};
+use pcap_items::Rest;
+use pcap_items::run::{Found, Items, found_in, parse_items};
 use std::alloc::{AllocError, Global};
 
 /// A capture's header and its packets as they stand, how many bytes they take, and what stands behind them.
@@ -54,7 +55,7 @@ pub(crate) struct ParserAsIs {
 }
 
 impl<'a> Items<'a> for ParserAsIs {
-    ghost use Rattle.pcap_core.specs.Items.{ShowsFault};
+    ghost use Rattle.pcap_items.specs.Items.{ShowsFault};
     ghost use Rattle.pcap_tolerant.specs.AsIs.{AsIs, as_it_is};
     ghost use Rattle.pcap_tolerant.specs.Run.{Setting, setting_of, any_as_is};
 

@@ -8,8 +8,8 @@ ghost use Rattle.pcap_tolerant.specs.AsIs.{raised, HeadAsIsSays};
 use crate::as_is::HeadAsIs;
 use byteorder::{BigEndian, LittleEndian};
 use pcap_classic::pcap::{PcapHeader, PcapParser};
-use pcap_core::stream::HasHead;
 use pcap_core::{Endianness, ResultParsing};
+use pcap_items::stream::HasHead;
 
 /// The packets as they stand of a parser's capture, of a stored length of at most so many bytes.
 #[derive(Clone, Copy)]

@@ -19,7 +19,7 @@ use Rattle.pcap_tolerant_blocks.specs.OptionsAsIs.{Judged, JudgedText, entry_in,
 use Rattle.pcap_tolerant_blocks.specs.SectionAsIs.{AfterMagic, SectionGrows, VersionGrows}
 use Rattle.pcap_tolerant_blocks.proofs.Lists.{ReadSoFar}
 use Rattle.pcap_tolerant_blocks.proofs.OneAsIs.{BodySays, raw_text, list_one}
-use Rattle.pcap_core.proofs.Formats.{whole_same}
+use Rattle.pcap_core.proofs.Verdicts.{whole_same}
 
 -- ---- lists
 

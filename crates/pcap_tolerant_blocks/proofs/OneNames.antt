@@ -9,7 +9,7 @@ use Rattle.pcap_core.specs.Padded.{Chain}
 use Rattle.pcap_core.proofs.Numbers.{Values, NumbersSay, numbers_one}
 use Rattle.pcap_core.proofs.OnePadded.{PaddedSays, padded_one, padded_length}
 use Rattle.pcap_core.proofs.Verdicts.{Stopped, IsMany, one_stopped}
-use Rattle.pcap_core.proofs.Formats.{whole_same}
+use Rattle.pcap_core.proofs.Verdicts.{whole_same}
 use Rattle.pcap_options.specs.Values.{Entry}
 use Rattle.pcap_options.specs.Options.{CodeLengthText}
 use Rattle.pcap_options.specs.Record.{NameRecord, RecordFault, RecordSays}

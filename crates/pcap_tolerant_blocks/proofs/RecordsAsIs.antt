@@ -17,7 +17,7 @@ use Rattle.pcap_core.proofs.OnePadded.{padded_same, no_short_padded}
 use Rattle.pcap_core.proofs.Padded.{chain_more}
 use Rattle.pcap_core.proofs.Texts.{number_same}
 use Rattle.pcap_core.proofs.Verdicts.{whole_no_fault}
-use Rattle.pcap_core.proofs.Formats.{whole_same}
+use Rattle.pcap_core.proofs.Verdicts.{whole_same}
 use Rattle.pcap_options.specs.Options.{CodeLengthText}
 use Rattle.pcap_options.specs.Record.{NameRecord, End, Ipv4, Ipv6, Other, no_value, address, any_value, form_of, RecordValueSays, RecordText, RecordFault, short, cut, wrong, unpadded, RecordMayGrow, RecordValueMayGrow, other_of}
 use Rattle.pcap_options.specs.declared.record.UnknownRecord.{UnknownRecord}

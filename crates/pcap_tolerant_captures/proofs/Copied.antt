@@ -5,16 +5,16 @@ use Rattle.std.specs.Option.{is_some}
 use Rattle.pcap_core.specs.declared.common.Endianness.{Endianness}
 use Rattle.pcap_core.specs.declared.errors.PcapError.{PcapError}
 use Rattle.pcap_core.specs.Answer.{whole, lacks, faulty, Refuses}
-use Rattle.pcap_core.specs.AsTheyCame.{HoldsNext, PassesBytes}
-use Rattle.pcap_core.specs.Headed.{good}
-use Rattle.pcap_core.specs.Reading.{Pulls}
-use Rattle.pcap_core.proofs.Formats.{text_same}
-use Rattle.pcap_core.proofs.Fronts.{said_not_refused}
+use Rattle.pcap_items.specs.AsTheyCame.{HoldsNext, PassesBytes}
+use Rattle.pcap_items.specs.Headed.{good}
+use Rattle.pcap_items.specs.Reading.{Pulls}
+use Rattle.pcap_items.proofs.Formats.{text_same}
+use Rattle.pcap_items.proofs.Fronts.{said_not_refused}
 use Rattle.pcap_blocks.specs.InterfaceDescription.{Interface}
 use Rattle.pcap_blocks.specs.SectionHeader.{Section}
-use Rattle.pcap_file.specs.Frames.{Framed, FrameText, FrameSays, frame_format}
-use Rattle.pcap_file.specs.Lent.{HoldsText}
-use Rattle.pcap_file.proofs.HeadedFrames.{frames_lawful}
+use Rattle.pcap_ng.specs.Frames.{Framed, FrameText, FrameSays, frame_format}
+use Rattle.pcap_ng.specs.Lent.{HoldsText}
+use Rattle.pcap_ng.proofs.HeadedFrames.{frames_lawful}
 use Rattle.pcap_tolerant_captures.specs.declared.parser.PcapNgParserAsIs.{PcapNgParserAsIs}
 use Rattle.pcap_tolerant_captures.specs.declared.reader.LentAsIs.{LentAsIs}
 use Rattle.pcap_tolerant_captures.specs.Blocks.{Item, as_is_format}

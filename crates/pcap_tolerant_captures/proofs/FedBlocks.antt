@@ -2,14 +2,14 @@
 use Rattle.std.proofs.Common.{◌≡◌, ◌≤◌, ℕ, List, [], ◌∷◌, length, map, refl, sym, ap, subst, ◌∙◌, arith, inl, inr}
 use Rattle.std.specs.Prelude.{sum_by}
 use Rattle.std.proofs.lemmas.List.{length-map}
-use Rattle.pcap_core.specs.declared.rest.Rest.{Rest}
+use Rattle.pcap_items.specs.declared.rest.Rest.{Rest}
 use Rattle.pcap_core.specs.Answer.{whole}
-use Rattle.pcap_core.specs.Format.{IsLawful, Texts, state_after}
-use Rattle.pcap_core.specs.Items.{LeadsTo}
-use Rattle.pcap_core.specs.Pieces.{HoldsItems, IsFedUpTo, IsOpening, OpensNone}
-use Rattle.pcap_core.proofs.Formats.{front_same}
-use Rattle.pcap_core.proofs.Pieces.{made_opening}
-use Rattle.pcap_core.proofs.Showing.{rest_no_text}
+use Rattle.pcap_items.specs.Format.{IsLawful, Texts, state_after}
+use Rattle.pcap_items.specs.Items.{LeadsTo}
+use Rattle.pcap_items.specs.Pieces.{HoldsItems, IsFedUpTo, IsOpening, OpensNone}
+use Rattle.pcap_items.proofs.Formats.{front_same}
+use Rattle.pcap_items.proofs.Pieces.{made_opening}
+use Rattle.pcap_items.proofs.Showing.{rest_no_text}
 use Rattle.pcap_tolerant_captures.specs.declared.block.BlockAsIs.{BlockAsIs}
 use Rattle.pcap_tolerant_captures.specs.declared.parser.OpenedAsIs.{OpenedAsIs}
 use Rattle.pcap_tolerant_captures.specs.Blocks.{Item, AsIsSays, as_is_format}

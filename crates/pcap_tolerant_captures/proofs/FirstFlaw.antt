@@ -5,10 +5,10 @@ use Rattle.std.specs.List.{position_from}
 use Rattle.std.proofs.lemmas.Iterator.Adapters.{position_from-zero}
 use Rattle.std.proofs.lemmas.List.Sums.{sum_by-cons}
 use Rattle.pcap_core.specs.Answer.{whole}
-use Rattle.pcap_core.specs.Format.{Texts}
-use Rattle.pcap_core.specs.Items.{LeadsTo}
-use Rattle.pcap_file.specs.Frames.{Framed, FrameText}
-use Rattle.pcap_file.proofs.Frames.{head_long, number_long}
+use Rattle.pcap_items.specs.Format.{Texts}
+use Rattle.pcap_items.specs.Items.{LeadsTo}
+use Rattle.pcap_ng.specs.Frames.{Framed, FrameText}
+use Rattle.pcap_ng.proofs.Frames.{head_long, number_long}
 use Rattle.pcap_core.specs.Answer.{number_in}
 use Rattle.pcap_core.specs.declared.common.Endianness.{Endianness}
 use Rattle.pcap_tolerant_captures.specs.declared.block.BlockAsIs.{BlockAsIs}

@@ -3,14 +3,14 @@ use Rattle.std.proofs.Common.{◌≡◌, ℕ, List, [], ◌∷◌, ◌++◌, Opt
 use Rattle.pcap_core.specs.declared.rules.Rule.TheVariants.{SectionMissing}
 use Rattle.pcap_core.specs.Answer.{number_in, Verdict, whole, lacks, faulty}
 use Rattle.pcap_core.specs.Faults.{Fault, Invalid}
-use Rattle.pcap_core.specs.Headed.{HeadReading, good, bad}
+use Rattle.pcap_items.specs.Headed.{HeadReading, good, bad}
 use Rattle.pcap_core.specs.Laws.{ExactlyOne, IsStable}
-use Rattle.pcap_core.specs.Format.{IsLawful}
+use Rattle.pcap_items.specs.Format.{IsLawful}
 use Rattle.pcap_core.proofs.Verdicts.{one_moved, Then, one_then}
 use Rattle.pcap_blocks.specs.InterfaceDescription.{Interface}
 use Rattle.pcap_blocks.specs.SectionHeader.{Section}
-use Rattle.pcap_file.specs.Frames.{Framed, FrameText, FrameSays, frame_format}
-use Rattle.pcap_file.proofs.HeadedFrames.{frames_lawful, frame_one}
+use Rattle.pcap_ng.specs.Frames.{Framed, FrameText, FrameSays, frame_format}
+use Rattle.pcap_ng.proofs.HeadedFrames.{frames_lawful, frame_one}
 use Rattle.pcap_tolerant_blocks.specs.Flaws.{Said, Flawed}
 use Rattle.pcap_tolerant_blocks.specs.InterfaceAsIs.{InterfaceAsIsSays}
 use Rattle.pcap_tolerant_blocks.specs.SectionAsIs.{SectionAsIsSays}

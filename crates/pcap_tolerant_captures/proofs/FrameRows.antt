@@ -5,13 +5,14 @@ use Rattle.std.proofs.lemmas.List.{take_all, length-drop}
 use Rattle.pcap_core.specs.declared.common.Endianness.{Endianness}
 use Rattle.pcap_core.specs.declared.errors.PcapError.{PcapError}
 use Rattle.pcap_core.specs.Answer.{whole, lacks, faulty, Refuses}
-use Rattle.pcap_core.specs.Format.{IsLawful}
+use Rattle.pcap_items.specs.Format.{IsLawful}
 use Rattle.pcap_blocks.specs.declared.block_type.BlockType.TheVariants as types
-use Rattle.pcap_file.specs.Frames.{Framed, FrameText, FrameSays, frame_format}
-use Rattle.pcap_file.proofs.HeadedFrames.{frames_lawful, frame_one}
+use Rattle.pcap_ng.specs.Frames.{Framed, FrameText, FrameSays, frame_format}
+use Rattle.pcap_ng.proofs.HeadedFrames.{frames_lawful, frame_one}
 use Rattle.pcap_tolerant.proofs.Rows.{goes_down, goes_up, goes_to_the_end, goes_no_further, goes_not_over}
 use Rattle.pcap_tolerant_captures.specs.Resync.{frames_in_a_row, FrameRow, HasRoom, HeaderStands}
-use Rattle.pcap_core.proofs.Formats.{lawful_moved, whole_same}
+use Rattle.pcap_core.proofs.Verdicts.{whole_same}
+use Rattle.pcap_items.proofs.Formats.{lawful_moved}
 
 laws : IsLawful frames_in_a_row
 unfolding frames_in_a_row frame_format

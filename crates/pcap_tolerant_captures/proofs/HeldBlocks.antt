@@ -6,16 +6,16 @@ use Rattle.pcap_core.specs.declared.errors.PcapError.{PcapError}
 use Rattle.pcap_core.specs.declared.errors.PcapError.TheVariants as errors
 use Rattle.pcap_core.specs.Answer.{Verdict, whole, lacks, faulty, Refuses}
 use Rattle.pcap_core.specs.Faults.{Fault, Shows}
-use Rattle.pcap_core.specs.Filling.{IsSettled, IsAskedFor}
-use Rattle.pcap_core.specs.Headed.{HeadReading, good, bad}
-use Rattle.pcap_core.specs.Reading.{HasCause, no_memory, TakesAsked}
-use Rattle.pcap_core.proofs.Filled.{held_refused}
-use Rattle.pcap_core.proofs.Formats.{fault_no_text, lacks_no_text, only, text_same}
-use Rattle.pcap_file.specs.Frames.{Framed, FrameText, FrameSays, frame_format}
-use Rattle.pcap_file.specs.Lent.{header_of, framed_around, body_in}
-use Rattle.pcap_file.specs.declared.pcapng.block_header.BlockHeader.{BlockHeader}
-use Rattle.pcap_file.proofs.Frames.{frame_long}
-use Rattle.pcap_file.proofs.Lent.{held_block}
+use Rattle.pcap_items.specs.Filling.{IsSettled, IsAskedFor}
+use Rattle.pcap_items.specs.Headed.{HeadReading, good, bad}
+use Rattle.pcap_items.specs.Reading.{HasCause, no_memory, TakesAsked}
+use Rattle.pcap_items.proofs.Filled.{held_refused}
+use Rattle.pcap_items.proofs.Formats.{fault_no_text, lacks_no_text, only, text_same}
+use Rattle.pcap_ng.specs.Frames.{Framed, FrameText, FrameSays, frame_format}
+use Rattle.pcap_ng.specs.Lent.{header_of, framed_around, body_in}
+use Rattle.pcap_ng.specs.declared.pcapng.block_header.BlockHeader.{BlockHeader}
+use Rattle.pcap_ng.proofs.Frames.{frame_long}
+use Rattle.pcap_ng.proofs.Lent.{held_block}
 use Rattle.pcap_tolerant_captures.specs.State.{State, order_at, Led, Means}
 use Rattle.pcap_tolerant_captures.specs.Blocks.{Item, AsIsSays, MayGrow, as_is_format}
 use Rattle.pcap_tolerant_captures.proofs.Format.{as_is_lawful, means_one}

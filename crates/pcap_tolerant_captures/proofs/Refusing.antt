@@ -5,10 +5,10 @@ use Rattle.pcap_core.specs.declared.errors.PcapError.TheVariants as errors
 use Rattle.pcap_core.specs.declared.rules.Rule.TheVariants.{SectionMissing}
 use Rattle.pcap_core.specs.Answer.{lacks, faulty, Refuses}
 use Rattle.pcap_core.specs.Faults.{Fault, Invalid, Io, Utf8}
-use Rattle.pcap_core.specs.Headed.{bad}
+use Rattle.pcap_items.specs.Headed.{bad}
 use Rattle.pcap_blocks.specs.declared.block_type.BlockType.{BlockType}
 use Rattle.pcap_blocks.specs.declared.block_type.BlockType.TheVariants as types
-use Rattle.pcap_file.specs.Frames.{Framed, FrameText, FrameSays}
+use Rattle.pcap_ng.specs.Frames.{Framed, FrameText, FrameSays}
 use Rattle.pcap_tolerant_captures.specs.State.{State, opening, order_at, role_of, MeansFor, Means, CanGrow}
 use Rattle.pcap_tolerant_captures.specs.Blocks.{AsIsSays, MayGrow}
 

@@ -5,15 +5,15 @@ use Rattle.pcap_core.specs.declared.common.Endianness.{Endianness}
 use Rattle.pcap_core.specs.declared.common.Endianness.TheVariants.{Big}
 use Rattle.pcap_core.specs.Answer.{Number}
 use Rattle.pcap_core.specs.Faults.{Fault}
-use Rattle.pcap_core.specs.Headed.{HeadReading, good, bad}
+use Rattle.pcap_items.specs.Headed.{HeadReading, good, bad}
 use Rattle.pcap_core.proofs.Texts.{number_same}
 use Rattle.pcap_blocks.specs.declared.block_type.BlockType.{BlockType}
 use Rattle.pcap_blocks.specs.declared.block_type.BlockType.TheVariants as types
 use Rattle.pcap_blocks.specs.BlockType.{block_type}
 use Rattle.pcap_blocks.specs.InterfaceDescription.{Interface}
 use Rattle.pcap_blocks.specs.SectionHeader.{Section, magic_order}
-use Rattle.pcap_file.specs.Frames.{Framed, FrameText, own_order}
-use Rattle.pcap_file.proofs.Refusing.{opening_order}
+use Rattle.pcap_ng.specs.Frames.{Framed, FrameText, own_order}
+use Rattle.pcap_ng.proofs.Refusing.{opening_order}
 use Rattle.pcap_tolerant_blocks.specs.SectionAsIs.{NoSection, short_section, unnamed}
 use Rattle.pcap_tolerant_captures.specs.State.{State, opening, within, order_at, Role, begins_section, adds_interface, leaves_all, role_of, Led, MeansFor, Means}
 use Rattle.pcap_tolerant_captures.specs.Resync.{frames_in_a_row, HasRoom, HeaderStands, BlocksStand, IsGiven}

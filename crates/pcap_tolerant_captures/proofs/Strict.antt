@@ -5,7 +5,7 @@ use Rattle.pcap_core.specs.declared.common.Endianness.{Endianness}
 use Rattle.pcap_core.specs.declared.rules.Rule.TheVariants.{SectionMissing}
 use Rattle.pcap_core.specs.Answer.{number_in, Verdict, whole, lacks, faulty}
 use Rattle.pcap_core.specs.Faults.{Fault, Invalid}
-use Rattle.pcap_core.specs.Headed.{HeadReading, good, bad}
+use Rattle.pcap_items.specs.Headed.{HeadReading, good, bad}
 use Rattle.pcap_blocks.specs.declared.block_type.BlockType.{BlockType}
 use Rattle.pcap_blocks.specs.declared.block_type.BlockType.TheVariants as types
 use Rattle.pcap_blocks.specs.InterfaceDescription.{Interface, InterfaceSays}
@@ -13,12 +13,12 @@ use Rattle.pcap_blocks.specs.SectionHeader.{Section, SectionSays}
 use Rattle.pcap_blocks.specs.ParsedBlock.{Body, SectionBody, InterfaceBody, BodySays}
 use Rattle.pcap_blocks.proofs.OneInterface.{interface_one}
 use Rattle.pcap_blocks.proofs.OneSection.{section_one}
-use Rattle.pcap_file.specs.Bodies.{SaysOfBody}
-use Rattle.pcap_file.specs.Frames.{Framed, FrameText, FrameLacks, FrameFault}
-use Rattle.pcap_file.specs.State as strict
-use Rattle.pcap_file.specs.Blocks as strict_blocks
-use Rattle.pcap_file.proofs.BlockFormat.{means_one, block_one}
-use Rattle.pcap_file.proofs.KeptBodies.{read_means}
+use Rattle.pcap_ng.specs.Bodies.{SaysOfBody}
+use Rattle.pcap_ng.specs.Frames.{Framed, FrameText, FrameLacks, FrameFault}
+use Rattle.pcap_ng.specs.State as strict
+use Rattle.pcap_ng.specs.Blocks as strict_blocks
+use Rattle.pcap_ng.proofs.BlockFormat.{means_one, block_one}
+use Rattle.pcap_ng.proofs.KeptBodies.{read_means}
 use Rattle.pcap_tolerant_blocks.specs.Flaws.{Said, StrictIs, StrictIsWhere}
 use Rattle.pcap_tolerant_blocks.specs.SectionAsIs.{NoSection}
 use Rattle.pcap_tolerant_blocks.proofs.StrictBodies.{interface_strict, section_strict, section_refused}

@@ -3,13 +3,13 @@ use Rattle.std.proofs.Common.{◌≡◌, ℕ, List, [], ◌∷◌, ◌++◌, map
 use Rattle.std.specs.Prelude.{All}
 use Rattle.std.proofs.lemmas.List.Elements.{All-head, All-tail}
 use Rattle.pcap_core.specs.Answer.{Verdict, whole, lacks, faulty}
-use Rattle.pcap_core.specs.Format.{Format, Front, Texts, state_after}
-use Rattle.pcap_core.proofs.Formats.{fault_no_text}
-use Rattle.pcap_file.specs.Blocks as strict_blocks
-use Rattle.pcap_file.specs.Blocks.{BlockSays, block_format}
-use Rattle.pcap_file.specs.Frames.{Framed}
-use Rattle.pcap_file.specs.State as strict
-use Rattle.pcap_file.proofs.BlockFormat.{block_one, blocks_lawful}
+use Rattle.pcap_items.specs.Format.{Format, Front, Texts, state_after}
+use Rattle.pcap_items.proofs.Formats.{fault_no_text}
+use Rattle.pcap_ng.specs.Blocks as strict_blocks
+use Rattle.pcap_ng.specs.Blocks.{BlockSays, block_format}
+use Rattle.pcap_ng.specs.Frames.{Framed}
+use Rattle.pcap_ng.specs.State as strict
+use Rattle.pcap_ng.proofs.BlockFormat.{block_one, blocks_lawful}
 use Rattle.pcap_tolerant_blocks.specs.Flaws.{Said}
 use Rattle.pcap_tolerant_captures.specs.Blocks.{Item, AsIsSays, as_is_format}
 use Rattle.pcap_tolerant_captures.specs.State.{State, opening}

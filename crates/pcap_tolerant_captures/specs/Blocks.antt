@@ -2,12 +2,12 @@
 use Rattle.std.specs.Prelude.{◌≡◌, ◌≢◌, ◌⊎◌, ℕ, List, map, Option, Some, None}
 use Rattle.pcap_core.specs.Answer.{Order, Verdict, Says, number_in}
 use Rattle.pcap_core.specs.Faults.{Fault}
-use Rattle.pcap_core.specs.Format.{Format}
-use Rattle.pcap_core.specs.Headed.{good, bad}
+use Rattle.pcap_items.specs.Format.{Format}
+use Rattle.pcap_items.specs.Headed.{good, bad}
 use Rattle.pcap_blocks.specs.NameResolution.{names_of}
 use Rattle.pcap_blocks.specs.declared.block_type.BlockType.{BlockType}
 use Rattle.pcap_blocks.specs.declared.block_type.BlockType.TheVariants as types
-use Rattle.pcap_file.specs.Frames.{Framed, framed_of, FrameText, FrameLacks, FrameFault}
+use Rattle.pcap_ng.specs.Frames.{Framed, framed_of, FrameText, FrameLacks, FrameFault}
 use Rattle.pcap_tolerant_blocks.specs.declared.enhanced.EnhancedAsIs.{EnhancedAsIs}
 use Rattle.pcap_tolerant_blocks.specs.EnhancedAsIs.{EnhancedText, enhanced_in, flaws_said}
 use Rattle.pcap_tolerant_blocks.specs.Flaws.{Said, said_of}

@@ -1,9 +1,9 @@
 -- What a copy of blocks as they stand takes and writes.
 use Rattle.std.specs.Prelude.{◌≡◌, ℕ, List, Option}
 use Rattle.pcap_core.specs.declared.errors.PcapError.{PcapError}
-use Rattle.pcap_core.specs.declared.stream.copying.Tally.{Tally}
-use Rattle.pcap_core.specs.AsTheyCame.{as_they_came}
-use Rattle.pcap_core.specs.Copying.{CopiesBehind}
+use Rattle.pcap_items.specs.declared.stream.copying.Tally.{Tally}
+use Rattle.pcap_items.specs.AsTheyCame.{as_they_came}
+use Rattle.pcap_items.specs.Copying.{CopiesBehind}
 use Rattle.pcap_tolerant_captures.specs.declared.copy.NgCopiedAsIs.{NgCopiedAsIs}
 use Rattle.pcap_tolerant_captures.specs.Blocks.{Item, as_is_format}
 use Rattle.pcap_tolerant_captures.specs.State.{opening, leaves_all, role_of}

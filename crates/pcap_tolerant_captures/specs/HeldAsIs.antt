@@ -2,8 +2,8 @@
 use Rattle.std.specs.Prelude.{◌≡◌, ℕ, List, Option, None, Some, Result, Ok, Err}
 use Rattle.pcap_core.specs.declared.errors.PcapError.{PcapError}
 use Rattle.pcap_core.specs.Answer.{whole, lacks, faulty, Refuses}
-use Rattle.pcap_file.specs.Frames.{Framed}
-use Rattle.pcap_file.specs.Lent.{header_of, framed_around, body_in}
+use Rattle.pcap_ng.specs.Frames.{Framed}
+use Rattle.pcap_ng.specs.Lent.{header_of, framed_around, body_in}
 use Rattle.pcap_tolerant_captures.specs.declared.parser.PcapNgParserAsIs.{PcapNgParserAsIs}
 use Rattle.pcap_tolerant_captures.specs.declared.reader.LentAsIs.{LentAsIs}
 use Rattle.pcap_tolerant_captures.specs.Blocks.{Item, AsIsSays, MayGrow}

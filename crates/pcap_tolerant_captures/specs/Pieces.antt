@@ -1,8 +1,8 @@
 -- What a run tells over a capture that comes in pieces, with blocks as they stand.
 use Rattle.std.specs.Prelude.{◌≡◌, ◌⊎◌, ℕ, List, ◌∷◌, length}
 use Rattle.pcap_core.specs.Answer.{Verdict, Made}
-use Rattle.pcap_core.specs.Format.{Format}
-use Rattle.pcap_core.specs.Pieces.{OpensNone}
+use Rattle.pcap_items.specs.Format.{Format}
+use Rattle.pcap_items.specs.Pieces.{OpensNone}
 use Rattle.pcap_tolerant_captures.specs.declared.parser.OpenedAsIs.{OpenedAsIs}
 use Rattle.pcap_tolerant_captures.specs.Blocks.{Item, AsIsSays, as_is_format}
 use Rattle.pcap_tolerant_captures.specs.Run.{Seen, seen_in, seen_of, NgFrontAsIs}

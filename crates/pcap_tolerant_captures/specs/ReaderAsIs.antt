@@ -1,8 +1,8 @@
 -- What a reader of blocks as they stand shows.
 use Rattle.std.specs.Prelude.{◌≡◌, ℕ, List, Bool, Option, Some, Result, Ok}
 use Rattle.pcap_core.specs.declared.errors.PcapError.{PcapError}
-use Rattle.pcap_core.specs.Held.{held_bytes}
-use Rattle.pcap_file.specs.Lent.{body_in}
+use Rattle.pcap_items.specs.Held.{held_bytes}
+use Rattle.pcap_ng.specs.Lent.{body_in}
 use Rattle.pcap_tolerant_captures.specs.declared.parser.PcapNgParserAsIs.{PcapNgParserAsIs}
 use Rattle.pcap_tolerant_captures.specs.declared.reader.LentAsIs.{LentAsIs}
 use Rattle.pcap_tolerant_captures.specs.declared.reader.PcapNgReaderAsIs.{PcapNgReaderAsIs}

@@ -2,9 +2,9 @@
 use Rattle.std.specs.Prelude.{◌≡◌, ◌≤◌, ◌⊎◌, ℕ, List, length, Option}
 use Rattle.pcap_core.specs.declared.common.Endianness.{Endianness}
 use Rattle.pcap_core.specs.declared.common.Endianness.TheVariants as orders
-use Rattle.pcap_core.specs.Format.{Format}
+use Rattle.pcap_items.specs.Format.{Format}
 use Rattle.pcap_blocks.specs.declared.block_type.BlockType.TheVariants as types
-use Rattle.pcap_file.specs.Frames.{Framed, FrameText, FrameSays}
+use Rattle.pcap_ng.specs.Frames.{Framed, FrameText, FrameSays}
 use Rattle.pcap_tolerant.specs.Resync.{FirstPlace, Row}
 use Rattle.pcap_tolerant_captures.specs.State.{State}
 use Rattle.pcap_tolerant_captures.specs.Blocks.{Item, AsIsText}

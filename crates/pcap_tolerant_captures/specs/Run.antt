@@ -1,8 +1,8 @@
 -- What a run over a whole slice tells, with blocks as they stand.
 use Rattle.std.specs.Prelude.{◌≡◌, ◌==◌, ◌+◌, ℕ, List, ◌∷◌, length, map, take, not, position, sum_by, Bool, Option, Some, None}
-use Rattle.pcap_core.specs.Format.{Front, state_after}
-use Rattle.pcap_core.specs.Run.{IsRest}
-use Rattle.pcap_file.specs.Frames.{Framed, framed_of}
+use Rattle.pcap_items.specs.Format.{Front, state_after}
+use Rattle.pcap_items.specs.Run.{IsRest}
+use Rattle.pcap_ng.specs.Frames.{Framed, framed_of}
 use Rattle.pcap_tolerant_blocks.specs.Flaws.{Said, said_of}
 use Rattle.pcap_tolerant_captures.specs.declared.block.BlockAsIs.{BlockAsIs}
 use Rattle.pcap_tolerant_captures.specs.declared.run.FlawedAt.{FlawedAt}

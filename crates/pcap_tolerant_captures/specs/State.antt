@@ -6,14 +6,14 @@ use Rattle.pcap_core.specs.declared.errors.PcapError.{PcapError}
 use Rattle.pcap_core.specs.declared.rules.Rule.TheVariants.{SectionMissing}
 use Rattle.pcap_core.specs.Answer.{number_in, Refuses}
 use Rattle.pcap_core.specs.Faults.{Invalid}
-use Rattle.pcap_core.specs.Headed.{HeadReading, good, bad}
+use Rattle.pcap_items.specs.Headed.{HeadReading, good, bad}
 use Rattle.pcap_blocks.specs.declared.block_type.BlockType.{BlockType}
 use Rattle.pcap_blocks.specs.declared.block_type.BlockType.TheVariants as types
 use Rattle.pcap_blocks.specs.declared.section_header.SectionHeaderBlock.{SectionHeaderBlock}
 use Rattle.pcap_blocks.specs.SectionHeader.{Section, section_of}
 use Rattle.pcap_blocks.specs.InterfaceDescription.{Interface}
-use Rattle.pcap_file.specs.Frames.{Framed}
-use Rattle.pcap_file.specs.State as strict
+use Rattle.pcap_ng.specs.Frames.{Framed}
+use Rattle.pcap_ng.specs.State as strict
 use Rattle.pcap_tolerant_blocks.specs.declared.flaws.Flaw.{Flaw}
 use Rattle.pcap_tolerant_blocks.specs.Flaws.{Said, said_of}
 use Rattle.pcap_tolerant_blocks.specs.InForce.{Adds, in_force}

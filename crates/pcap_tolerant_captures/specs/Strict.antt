@@ -3,8 +3,8 @@ use Rattle.std.specs.Prelude.{◌≡◌, ◌⊎◌, ℕ, List, [], ◌∷◌, ma
 use Rattle.pcap_core.specs.declared.rules.Rule.TheVariants.{SectionMissing}
 use Rattle.pcap_core.specs.Answer.{Verdict, whole, lacks, faulty}
 use Rattle.pcap_core.specs.Faults.{Fault, Invalid}
-use Rattle.pcap_file.specs.State as strict
-use Rattle.pcap_file.specs.Blocks as strict_blocks
+use Rattle.pcap_ng.specs.State as strict
+use Rattle.pcap_ng.specs.Blocks as strict_blocks
 use Rattle.pcap_tolerant_blocks.specs.Flaws.{Said}
 use Rattle.pcap_tolerant_captures.specs.State.{State, opening, within}
 use Rattle.pcap_tolerant_captures.specs.Blocks.{Item}

@@ -2,10 +2,10 @@
 use Rattle.std.specs.Prelude.{◌≡◌, ℕ, List, [], map}
 use Rattle.pcap_core.specs.Answer.{faulty}
 use Rattle.pcap_core.specs.Faults.{Fault}
-use Rattle.pcap_core.specs.Format.{Front, Texts, state_after}
-use Rattle.pcap_file.specs.Blocks as strict_blocks
-use Rattle.pcap_file.specs.Blocks.{block_format}
-use Rattle.pcap_file.specs.State as strict
+use Rattle.pcap_items.specs.Format.{Front, Texts, state_after}
+use Rattle.pcap_ng.specs.Blocks as strict_blocks
+use Rattle.pcap_ng.specs.Blocks.{block_format}
+use Rattle.pcap_ng.specs.State as strict
 use Rattle.pcap_tolerant_captures.specs.Blocks.{Item, as_is_format}
 use Rattle.pcap_tolerant_captures.specs.State.{opening}
 use Rattle.pcap_tolerant_captures.specs.Strict.{as_it_stands}

@@ -2,7 +2,7 @@
 
 ghost use Rattle.std.specs.Prelude.{◌≡◌, IfOk};
 ghost use Rattle.pcap_core.specs.Answer.{number_in};
-ghost use Rattle.pcap_file.specs.Frames.{framed_of};
+ghost use Rattle.pcap_ng.specs.Frames.{framed_of};
 ghost use Rattle.pcap_tolerant_blocks.specs.EnhancedAsIs.{EnhancedText, enhanced_in, flaws_said};
 ghost use Rattle.pcap_tolerant_blocks.specs.PacketBlockAsIs.{PacketBlockText, packet_in as packet_of_block, flaws_said as packet_block_flaws};
 ghost use Rattle.pcap_blocks.specs.NameResolution.{names_of};
@@ -14,7 +14,7 @@ ghost use Rattle.pcap_tolerant_captures.specs.Blocks.{IsPacketIn, IsSimpleIn, Is
 use byteorder::{BigEndian, LittleEndian};
 use pcap_blocks::BlockType;
 use pcap_core::{Endianness, ResultParsing};
-use pcap_file::pcapng::Block;
+use pcap_ng::pcapng::Block;
 use pcap_tolerant_blocks::{
     EnhancedAsIs, Flaw, NamesAsIs, PacketBlockAsIs, SimpleAsIs, StatisticsAsIs,
 };

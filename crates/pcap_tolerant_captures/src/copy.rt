@@ -2,16 +2,16 @@
 
 ghost use Rattle.std.specs.Prelude.{◌≡◌, ◌≤◌, ◌↔◌, IsTrue};
 ghost use Rattle.std.specs.Result.{result_err};
-ghost use Rattle.pcap_core.specs.Copying.{NothingCopied};
+ghost use Rattle.pcap_items.specs.Copying.{NothingCopied};
 ghost use Rattle.pcap_tolerant_captures.specs.Copies.{CopiesAsIs, copied_of};
 ghost use Rattle.pcap_tolerant_captures.specs.State.{leaves_all, role_of};
 
 use crate::parser::PcapNgParserAsIs;
 use crate::reader::hold;
 use pcap_blocks::BlockType;
-use pcap_core::stream::{AsTheyCame, Held, Holding, Tally, copy_buffers, copy_items};
 use pcap_core::{PcapError, ResultParsing};
-use pcap_file::pcapng::Block;
+use pcap_items::stream::{AsTheyCame, Held, Holding, Tally, copy_buffers, copy_items};
+use pcap_ng::pcapng::Block;
 use std::alloc::Global;
 use std::io::{BufRead, Read, Write};
 

@@ -3,7 +3,7 @@
 ghost use Rattle.std.specs.Prelude.{◌≡◌, map, IfOk, IfErr, OnErr};
 ghost use Rattle.pcap_core.specs.Answer.{number_in};
 ghost use Rattle.pcap_core.specs.Errors.{IsMemory};
-ghost use Rattle.pcap_file.specs.Frames.{framed_of};
+ghost use Rattle.pcap_ng.specs.Frames.{framed_of};
 ghost use Rattle.pcap_tolerant_blocks.specs.Flaws.{said_of};
 ghost use Rattle.pcap_tolerant_blocks.specs.InForce.{Adds, in_force};
 ghost use Rattle.pcap_tolerant_captures.specs.State.{FirstTells, SectionTells};
@@ -12,7 +12,7 @@ use byteorder::{BigEndian, LittleEndian};
 use pcap_blocks::{BlockType, SectionHeaderBlock};
 use pcap_core::rules::Rule;
 use pcap_core::{Endianness, PcapError, ResultParsing};
-use pcap_file::pcapng::Block;
+use pcap_ng::pcapng::Block;
 use pcap_tolerant_blocks::{Flaw, InterfacesAsIs, SectionAsIs};
 use std::alloc::Global;
 

@@ -2,13 +2,13 @@
 
 ghost use Rattle.std.specs.Prelude.{◌≡◌, ◌≤◌, ◌<◌, ◌++◌, ℕ, List, [], ◌∷◌, length, All, Option};
 ghost use Rattle.pcap_core.specs.Answer.{Verdict};
-ghost use Rattle.pcap_core.specs.Format.{Asks, Front, IsLawful};
+ghost use Rattle.pcap_items.specs.Format.{Asks, Front, IsLawful};
 ghost use Rattle.pcap_core.specs.Laws.{ExactlyOne, IsStable};
 ghost use Rattle.pcap_core.specs.declared.common.Endianness.TheVariants.{Big};
 ghost use Rattle.pcap_blocks.specs.InterfaceDescription.{Interface};
 ghost use Rattle.pcap_blocks.specs.SectionHeader.{Section};
-ghost use Rattle.pcap_file.specs.Blocks as strict_blocks;
-ghost use Rattle.pcap_file.specs.State as strict;
+ghost use Rattle.pcap_ng.specs.Blocks as strict_blocks;
+ghost use Rattle.pcap_ng.specs.State as strict;
 ghost use Rattle.pcap_tolerant_captures.specs.Blocks.{Item, AsIsText, AsIsSays, as_is_format};
 ghost use Rattle.pcap_tolerant_blocks.specs.Flaws.{Said};
 ghost use Rattle.pcap_tolerant_captures.specs.State.{State, opening, within, order_at};

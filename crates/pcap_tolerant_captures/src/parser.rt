@@ -7,7 +7,7 @@ use crate::block::BlockAsIs;
 use crate::kept::{add_in, first_section, section_in};
 use pcap_blocks::{BlockType, InterfaceDescriptionBlock, SectionHeaderBlock, Timestamp};
 use pcap_core::{Endianness, ResultParsing};
-use pcap_file::pcapng::Block;
+use pcap_ng::pcapng::Block;
 use pcap_tolerant_blocks::{Flaw, InterfacesAsIs};
 use std::alloc::Global;
 
@@ -36,7 +36,7 @@ impl PcapNgParserAsIs {
     ghost use Rattle.pcap_core.specs.Bytes.{IsBorrowed};
     ghost use Rattle.pcap_blocks.specs.SectionHeader.{section_of};
     ghost use Rattle.pcap_blocks.specs.InterfaceDescription.{interface_of};
-    ghost use Rattle.pcap_file.specs.Frames.{framed_of};
+    ghost use Rattle.pcap_ng.specs.Frames.{framed_of};
     ghost use Rattle.pcap_tolerant_blocks.specs.InForce.{IsTimeBy, known};
     ghost use Rattle.pcap_tolerant_captures.specs.Blocks.{AsIsSays, MayGrow, item_of, opened_of};
     ghost use Rattle.pcap_tolerant_captures.specs.State.{FollowTells, opening, order_at, section_in_force, interfaces_in_force, state_of};
@@ -114,7 +114,7 @@ impl PcapNgParserAsIs {
     }
 
     // The order of blocks that are no section.
-    #[tactic(auto, unfolding(pcap_file::specs::State::order_at))]
+    #[tactic(auto, unfolding(pcap_ng::specs::State::order_at))]
     pub(crate) fn order(&self) -> Endianness
         ensures { result ≡ order_at (state_of self.now) }
     {

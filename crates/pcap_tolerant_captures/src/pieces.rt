@@ -3,7 +3,7 @@
 ghost use Rattle.std.specs.Prelude.{◌<◌, ◌^◌, [], ⊤, length, All, IfOk, IfErr};
 ghost use Rattle.pcap_core.specs.Answer.{Refuses, lacks, faulty};
 ghost use Rattle.pcap_core.specs.Bytes.{IsOwned};
-ghost use Rattle.pcap_core.specs.Pieces.{AfterEach, joined_pieces};
+ghost use Rattle.pcap_items.specs.Pieces.{AfterEach, joined_pieces};
 ghost use Rattle.pcap_tolerant_captures.specs.Blocks.{AsIsSays, Item as BlockItem};
 ghost use Rattle.pcap_tolerant_captures.specs.Pieces.{FirstSays, HoldsBlocksAsIs, Kept, kept_format, kept_of};
 ghost use Rattle.pcap_tolerant_captures.specs.Run.{IsRunAsIs, Seen, seen_in, seen_of};
@@ -13,7 +13,7 @@ use crate::block::BlockAsIs;
 use crate::parser::{OpenedAsIs, PcapNgParserAsIs};
 use crate::run::{NgRunAsIs, first_flawed};
 use pcap_core::ResultParsing;
-use pcap_core::run::{PieceParser, feed_pieces};
+use pcap_items::run::{PieceParser, feed_pieces};
 use std::alloc::Global;
 
 impl PieceParser for OpenedAsIs<'static> {

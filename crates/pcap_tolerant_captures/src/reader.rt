@@ -1,10 +1,10 @@
 //! A reader of the blocks of a stream, as they stand.
 
 ghost use Rattle.std.specs.Prelude.{◌≡◌, ⊤, false, [], IfOk, IfNone, IfSome, option_map};
-ghost use Rattle.pcap_core.specs.Held.{held_bytes};
-ghost use Rattle.pcap_core.specs.Reading.{NextGives, Pulls};
-ghost use Rattle.pcap_file.specs.Frames.{framed_of};
-ghost use Rattle.pcap_file.specs.Lent.{header_of, framed_around, HoldsText};
+ghost use Rattle.pcap_items.specs.Held.{held_bytes};
+ghost use Rattle.pcap_items.specs.Reading.{NextGives, Pulls};
+ghost use Rattle.pcap_ng.specs.Frames.{framed_of};
+ghost use Rattle.pcap_ng.specs.Lent.{header_of, framed_around, HoldsText};
 ghost use Rattle.pcap_tolerant_captures.specs.Blocks.{as_is_format};
 ghost use Rattle.pcap_tolerant_captures.specs.HeldAsIs.{state_in, held_item, LentTells, StaysUnlessTaken};
 
@@ -13,8 +13,8 @@ use crate::parser::{OpenedAsIs, PcapNgParserAsIs};
 use crate::stated::BlocksAsIs;
 use pcap_blocks::BlockType;
 use pcap_core::ResultParsing;
-use pcap_core::stream::{Held, fill_item};
-use pcap_file::pcapng::BlockHeader;
+use pcap_items::stream::{Held, fill_item};
+use pcap_ng::pcapng::BlockHeader;
 use pcap_tolerant_blocks::{
     EnhancedAsIs, Flaw, NamesAsIs, PacketBlockAsIs, SimpleAsIs, StatisticsAsIs,
 };
@@ -105,7 +105,7 @@ pub(crate) fn hold<T: Read>(
 }
 
 impl<T: Read + Drop> PcapNgReaderAsIs<T> {
-    ghost use Rattle.pcap_file.specs.Lent.{LendsText};
+    ghost use Rattle.pcap_ng.specs.Lent.{LendsText};
     ghost use Rattle.pcap_tolerant_captures.specs.ReaderAsIs.{state_of, stream_of, has_failed, is_done, text_of, lent_item, StaysUnlessGiven};
 
     /// The header of the next block, whose body the reader lends from then on (`body`, `text`, `enhanced` and its like), until it is called again,

@@ -2,14 +2,14 @@
 
 ghost use Rattle.std.specs.Prelude.{◌≡◌, ◌≤◌, ◌↔◌, IsTrue, length};
 ghost use Rattle.pcap_core.specs.Bytes.{cow_bytes};
-ghost use Rattle.pcap_file.specs.Frames.{framed_of};
+ghost use Rattle.pcap_ng.specs.Frames.{framed_of};
 ghost use Rattle.pcap_tolerant_captures.specs.Resync.{BlocksResync, BlocksStand, FrameRow, HasRoom, HeaderStands, SectionResyncs};
 ghost use Rattle.pcap_tolerant_captures.specs.State.{order_at, state_of};
 
 use crate::parser::PcapNgParserAsIs;
 use pcap_blocks::BlockType;
 use pcap_core::Endianness;
-use pcap_file::pcapng::Block;
+use pcap_ng::pcapng::Block;
 
 // Whether a block is a section header.
 fn is_header(block: &Block) -> bool

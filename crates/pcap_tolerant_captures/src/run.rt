@@ -9,8 +9,9 @@ ghost use Rattle.pcap_tolerant_captures.specs.State.{opening};
 
 use crate::block::BlockAsIs;
 use crate::parser::{OpenedAsIs, PcapNgParserAsIs};
-use pcap_core::run::{Found, Items, found_in, parse_items};
-use pcap_core::{PcapError, Rest, ResultParsing};
+use pcap_core::{PcapError, ResultParsing};
+use pcap_items::Rest;
+use pcap_items::run::{Found, Items, found_in, parse_items};
 use std::alloc::{AllocError, Global};
 
 /// Where a block with a flaw stands in a capture.
@@ -54,7 +55,7 @@ impl NgRunAsIs<'_> {
 }
 
 impl<'a> Items<'a> for PcapNgParserAsIs {
-    ghost use Rattle.pcap_core.specs.Items.{ShowsFault};
+    ghost use Rattle.pcap_items.specs.Items.{ShowsFault};
     ghost use Rattle.pcap_tolerant_captures.specs.Blocks.{Item as BlockItem, as_is_format};
     ghost use Rattle.pcap_tolerant_captures.specs.Run.{Seen, seen_in, seen_of};
     ghost use Rattle.pcap_tolerant_captures.specs.State.{State as BlockState, state_of};

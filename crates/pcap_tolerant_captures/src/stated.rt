@@ -5,9 +5,9 @@ ghost use Rattle.pcap_tolerant_captures.specs.State.{order_at};
 ghost use Rattle.pcap_tolerant_captures.specs.HeldAsIs.{state_in};
 
 use crate::parser::PcapNgParserAsIs;
-use pcap_core::stream::HasHead;
 use pcap_core::{Endianness, PcapError, ResultParsing};
-use pcap_file::pcapng::Block;
+use pcap_items::stream::HasHead;
+use pcap_ng::pcapng::Block;
 
 /// The blocks as they stand behind what a parser has read, or from the first on where there is none yet.
 #[derive(Clone, Copy)]

@@ -9,8 +9,8 @@ use Rattle.pcap_core.specs.declared.errors.PcapError.TheVariants as errors
 use Rattle.pcap_core.specs.Codec.{Encoder, number_bytes}
 use Rattle.pcap_core.specs.Padded.{up_to_4}
 use Rattle.pcap_core.proofs.Codec.{codec}
-use Rattle.pcap_core.specs.Writing.{WritesAll}
-use Rattle.pcap_core.proofs.Writing.{first_fails, second_ends}
+use Rattle.pcap_items.specs.Writing.{WritesAll}
+use Rattle.pcap_items.proofs.Writing.{first_fails, second_ends}
 use Rattle.std.specs.Io.KnownBytes.{Appends}
 use Rattle.pcap_blocks.specs.ParsedBlock.{Body, EnhancedBody}
 use Rattle.pcap_written.specs.declared.unwritable.Unwritable.{Unwritable}

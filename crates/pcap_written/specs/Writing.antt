@@ -7,7 +7,7 @@ use Rattle.pcap_core.specs.declared.errors.PcapError.{PcapError}
 use Rattle.pcap_core.specs.declared.errors.PcapError.TheVariants as errors
 use Rattle.pcap_core.specs.declared.rules.Rule.TheVariants.{SectionMagic}
 use Rattle.pcap_core.specs.Answer.{Order, number_in}
-use Rattle.pcap_core.specs.Writing.{AppendsPart}
+use Rattle.pcap_items.specs.Writing.{AppendsPart}
 use Rattle.pcap_blocks.specs.declared.block_type.BlockType.{BlockType}
 use Rattle.pcap_blocks.specs.declared.block_type.BlockType.TheVariants as types
 use Rattle.pcap_blocks.specs.ParsedBlock.{Body}

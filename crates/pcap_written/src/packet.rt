@@ -1,14 +1,14 @@
 //! Packets that are written without memory.
 
 ghost use Rattle.std.specs.Prelude.{◌≡◌, ◌≤◌, ◌∷◌, ◌++◌, length, true, MatchResult};
-ghost use Rattle.pcap_core.specs.Writing.{WritesAll};
+ghost use Rattle.pcap_items.specs.Writing.{WritesAll};
 ghost use Rattle.pcap_blocks.specs.ParsedBlock.{EnhancedBody};
 ghost use Rattle.pcap_written.specs.Bodies.{text_of};
 ghost use Rattle.pcap_written.specs.Plain.{plain_head, plain_packet};
 
 use byteorder::ByteOrder;
 use pcap_core::ResultParsing;
-use pcap_core::stream::put;
+use pcap_items::stream::put;
 use std::io::Write;
 
 /// Writes a packet without options, and takes no memory: what stands before its bytes, its bytes, and what stands behind them.

@@ -24,8 +24,8 @@ use crate::raw::{RawBlock, RawPcapNgBlock};
 use crate::unwritable::{Unput, Unwritable};
 use byteorder::{BigEndian, ByteOrder, LittleEndian};
 use pcap_blocks::{BlockType, ParsedBlock, SectionHeaderBlock};
-use pcap_core::stream::put;
 use pcap_core::{Endianness, PcapError, ResultParsing};
+use pcap_items::stream::put;
 use std::alloc::{AllocError, Global};
 use std::io::Write;
 

@@ -1,11 +1,11 @@
 //! Captures of blocks that are read part by part.
 
 use crate::source::{Source, nothing};
-use pcap_core::stream::put;
 use pcap_file::pcapng::{
     BlockHeader, BlockType, InterfaceDescriptionBlock, ParsedBlock, Timestamp,
 };
 use pcap_file::{PcapNgReader, ResultParsing};
+use pcap_items::stream::put;
 use pcapfile_cut::{Outcome, Wanted};
 use pcapfile_run::{holds_packet, interface_at, packet_in_body};
 use std::alloc::Global;

@@ -5,7 +5,7 @@ use crate::input::{buffered, open_watched};
 use crate::output::OUTPUT;
 use crate::tell::{tell_exit, tell_io, tell_unwritten};
 use capcopy_run::{Exit, Uninterrupted};
-use pcap_core::stream::Told;
+use pcap_items::stream::Told;
 use pcapfile_lines::{Form, HEADING};
 use pcapfile_run::list;
 use std::io;

@@ -2,7 +2,7 @@
 use Rattle.std.proofs.Common.{◌≡◌, ℕ, List, [], map, Bool, true, false, refl, sym, ap, subst}
 use Rattle.std.specs.Prelude.{Option}
 use Rattle.pcap_blocks.specs.ParsedBlock.{Body}
-use Rattle.pcap_file.specs.Frames.{Framed}
+use Rattle.pcap_ng.specs.Frames.{Framed}
 use Rattle.pcap_file.specs.Placed.{is_packet}
 use Rattle.pcap_tolerant_blocks.specs.declared.flaws.Flaw.{Flaw}
 use Rattle.pcap_tolerant_blocks.specs.Flaws.{Said, said_of}

@@ -9,10 +9,10 @@ use Rattle.std.specs.Io.KnownBytes.{Appends}
 use Rattle.pcap_core.specs.declared.errors.PcapError.{PcapError}
 use Rattle.pcap_core.specs.declared.errors.PcapError.TheVariants.{IoError}
 use Rattle.pcap_core.specs.Answer.{number_in, whole}
-use Rattle.pcap_core.specs.Format.{Format, IsLawful, Texts, state_after}
-use Rattle.pcap_core.specs.Reading.{Takes}
-use Rattle.pcap_core.specs.Takes.{Stops}
-use Rattle.pcap_core.proofs.Formats.{texts_more, texts_push, state_push}
+use Rattle.pcap_items.specs.Format.{Format, IsLawful, Texts, state_after}
+use Rattle.pcap_items.specs.Reading.{Takes}
+use Rattle.pcap_items.specs.Takes.{Stops}
+use Rattle.pcap_items.proofs.Formats.{texts_more, texts_push, state_push}
 use Rattle.pcap_classic.specs.declared.common.TsResolution.{TsResolution}
 use Rattle.pcap_classic.specs.declared.pcap.header.PcapHeader.{PcapHeader}
 use Rattle.pcap_classic.specs.Magic.{order_of}

@@ -11,7 +11,7 @@ use Rattle.pcap_blocks.specs.InterfaceDescription.{Interface}
 use Rattle.pcap_blocks.specs.Packet.{PacketBody}
 use Rattle.pcap_blocks.specs.ParsedBlock.{Body, EnhancedBody, OldPacketBody, SimpleBody}
 use Rattle.pcap_blocks.specs.SimplePacket.{Simple}
-use Rattle.pcap_file.specs.Frames.{Framed}
+use Rattle.pcap_ng.specs.Frames.{Framed}
 use Rattle.pcap_file.specs.Placed.{is_packet}
 use Rattle.pcap_tolerant_blocks.specs.EnhancedAsIs.{EnhancedText}
 use Rattle.pcap_tolerant_blocks.specs.Flaws.{Said}

@@ -5,7 +5,7 @@ ghost use Rattle.std.specs.List.{flat_map};
 ghost use Rattle.std.specs.Fmt.{decimal};
 ghost use Rattle.pcap_blocks.specs.InterfaceDescription.{interface_of};
 ghost use Rattle.pcap_blocks.specs.ParsedBlock.{EnhancedBody, OldPacketBody, SimpleBody, body_of as body_shown};
-ghost use Rattle.pcap_file.specs.Lent.{framed_around};
+ghost use Rattle.pcap_ng.specs.Lent.{framed_around};
 ghost use Rattle.pcap_tolerant_blocks.specs.EnhancedAsIs.{enhanced_in};
 ghost use Rattle.pcap_tolerant_blocks.specs.Flaws.{fault_of, said_of};
 ghost use Rattle.pcap_tolerant_blocks.specs.InForce.{known};

@@ -1,7 +1,7 @@
 //! Blocks that are mended and written.
 
 ghost use Rattle.std.specs.Prelude.{◌≡◌, IfOk};
-ghost use Rattle.pcap_file.specs.RawBlocks.{raw_in};
+ghost use Rattle.pcap_ng.specs.RawBlocks.{raw_in};
 ghost use Rattle.pcap_tolerant_captures.specs.ReaderAsIs.{lent_item};
 ghost use Rattle.pcap_written.specs.Raw.{raw_of};
 ghost use Rattle.pcapfile_as_is.specs.MendedBlocks.{WritesMended};

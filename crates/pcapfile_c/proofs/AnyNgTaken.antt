@@ -3,11 +3,11 @@ use Rattle.std.proofs.Common.{◌≡◌, ◌≢◌, ℕ, ℤ, pos, List, [], ◌
 use Rattle.std.specs.Prelude.{◌⊎◌}
 use Rattle.std.specs.List.{AllZip}
 use Rattle.std.proofs.lemmas.Bool.{cases_eq}
-use Rattle.pcap_core.specs.Format.{Texts}
-use Rattle.pcap_file.specs.Blocks.{Item}
-use Rattle.pcap_file.specs.Sections.{Leaves}
-use Rattle.pcap_file.specs.State.{State, opening, within}
-use Rattle.pcap_file.proofs.Sections.{texts_leave}
+use Rattle.pcap_items.specs.Format.{Texts}
+use Rattle.pcap_ng.specs.Blocks.{Item}
+use Rattle.pcap_ng.specs.Sections.{Leaves}
+use Rattle.pcap_ng.specs.State.{State, opening, within}
+use Rattle.pcap_ng.proofs.Sections.{texts_leave}
 use Rattle.pcapfile_c.specs.declared.any.PcapfileCapture.{PcapfileCapture}
 use Rattle.pcapfile_c.specs.declared.any_packets.PcapfileAnyPacket.{PcapfileAnyPacket}
 use Rattle.pcapfile_c.specs.declared.blocks.PcapfileSection.{PcapfileSection}

@@ -2,7 +2,7 @@
 use Rattle.std.proofs.Common.{◌≡◌, ◌≢◌, ℕ, ℤ, pos, List, [], ◌∷◌, ◌++◌, false, refl, sym, ap, subst, ◌∙◌, append-nil, inl, inr}
 use Rattle.std.specs.Prelude.{IsTrue, ◌⊎◌, ◌==◌}
 use Rattle.std.specs.List.{AllZip, starts_with}
-use Rattle.pcap_core.specs.Format.{Front}
+use Rattle.pcap_items.specs.Format.{Front}
 use Rattle.pcap_core.proofs.Kept.{zip_push}
 use Rattle.pcap_classic.specs.declared.pcap.header.PcapHeader.{PcapHeader}
 use Rattle.pcap_core.specs.Link.{link_number}

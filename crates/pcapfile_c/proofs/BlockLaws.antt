@@ -1,12 +1,12 @@
 -- Blocks of a capture that comes in pieces.
 use Rattle.std.proofs.Common.{◌≡◌, ℕ, ℤ, List, [], ◌∷◌, ◌++◌, refl, sym, ap, subst, ◌∙◌, append-nil, inl, inr}
 use Rattle.std.specs.List.{AllZip}
-use Rattle.pcap_core.specs.Format.{Front, Texts, state_after}
-use Rattle.pcap_core.proofs.Formats.{state_push, texts_more, texts_push}
+use Rattle.pcap_items.specs.Format.{Front, Texts, state_after}
+use Rattle.pcap_items.proofs.Formats.{state_push, texts_more, texts_push}
 use Rattle.pcap_core.proofs.Kept.{zip_push}
-use Rattle.pcap_file.specs.Blocks.{Item, BlockSays, MayGrow, block_format}
-use Rattle.pcap_file.specs.State.{State, opening}
-use Rattle.pcap_file.proofs.BlockFormat.{blocks_lawful, block_said}
+use Rattle.pcap_ng.specs.Blocks.{Item, BlockSays, MayGrow, block_format}
+use Rattle.pcap_ng.specs.State.{State, opening}
+use Rattle.pcap_ng.proofs.BlockFormat.{blocks_lawful, block_said}
 use Rattle.pcapfile_c.specs.declared.blocks.PcapfileBlock.{PcapfileBlock}
 use Rattle.pcapfile_c.specs.declared.blocks.PcapfileSection.{PcapfileSection}
 use Rattle.pcapfile_c.specs.declared.errors.PcapfileError.{PcapfileError}

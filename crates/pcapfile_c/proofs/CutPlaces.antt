@@ -3,14 +3,14 @@ use Rattle.std.proofs.Common.{◌≡◌, ◌<◌, ◌≤◌, ◌+◌, ◌-◌, �
 use Rattle.std.proofs.lemmas.Grind.{take-set_at}
 use Rattle.std.proofs.lemmas.List.{length-map, length-take-le}
 use Rattle.std.specs.Prelude.{slice_set}
-use Rattle.pcap_core.specs.declared.rest.Rest.{Rest}
-use Rattle.pcap_core.specs.Format.{Format}
+use Rattle.pcap_items.specs.declared.rest.Rest.{Rest}
+use Rattle.pcap_items.specs.Format.{Format}
 use Rattle.pcap_classic.specs.declared.pcap.header.PcapHeader.{PcapHeader}
 use Rattle.pcap_classic.specs.HeaderText.{HeaderText}
 use Rattle.pcap_classic.specs.PacketText.{Captured, packet_limit}
 use Rattle.pcap_classic.specs.Packets.{format_under}
 use Rattle.pcap_classic.proofs.CaptureFormat.{under_lawful}
-use Rattle.pcap_file.specs.Blocks.{block_format}
+use Rattle.pcap_ng.specs.Blocks.{block_format}
 use Rattle.pcap_parts.specs.declared.cut.Cut.{Cut}
 use Rattle.pcap_parts.specs.declared.cut_ng.NgCut.{NgCut}
 use Rattle.pcap_parts.specs.declared.cut_ng.NgCuts.{NgCuts}

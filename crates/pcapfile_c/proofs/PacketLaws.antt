@@ -1,9 +1,9 @@
 -- Packets of a PcapNg capture that comes in pieces.
 use Rattle.std.proofs.Common.{◌≡◌, ◌≢◌, ℕ, ℤ, pos, List, [], ◌∷◌, ◌++◌, take, refl, sym, ap, subst, ◌∙◌, inl, inr}
 use Rattle.std.specs.List.{AllZip}
-use Rattle.pcap_core.specs.Format.{Front}
-use Rattle.pcap_file.specs.Blocks.{Item}
-use Rattle.pcap_file.specs.State.{State, opening, within}
+use Rattle.pcap_items.specs.Format.{Front}
+use Rattle.pcap_ng.specs.Blocks.{Item}
+use Rattle.pcap_ng.specs.State.{State, opening, within}
 use Rattle.pcapfile_c.specs.declared.any_packets.PcapfileAnyPacket.{PcapfileAnyPacket}
 use Rattle.pcapfile_c.specs.declared.errors.PcapfileError.{PcapfileError}
 use Rattle.pcapfile_c.specs.declared.push.PcapfilePush.{PcapfilePush}

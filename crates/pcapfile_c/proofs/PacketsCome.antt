@@ -5,16 +5,16 @@ use Rattle.std.specs.List.{AllZip}
 use Rattle.std.proofs.lemmas.List.Elements.{filter-append}
 use Rattle.pcap_core.specs.Answer.{number_in, whole, faulty}
 use Rattle.pcap_core.specs.Faults.{Fault, Invalid, Io, Utf8}
-use Rattle.pcap_core.specs.Format.{Front, Texts, state_after}
-use Rattle.pcap_core.proofs.Formats.{fault_no_text, lacks_no_text, text_same, texts_all, texts_push, state_push}
+use Rattle.pcap_items.specs.Format.{Front, Texts, state_after}
+use Rattle.pcap_items.proofs.Formats.{fault_no_text, lacks_no_text, text_same, texts_all, texts_push, state_push}
 use Rattle.pcap_blocks.specs.ParsedBlock.{Body, BodySays}
 use Rattle.pcap_blocks.proofs.OneBody.{body_one}
-use Rattle.pcap_file.specs.Blocks.{Item, BlockText, block_format}
-use Rattle.pcap_file.specs.Frames.{Framed, frame_format}
-use Rattle.pcap_file.specs.State.{State, order_at}
+use Rattle.pcap_ng.specs.Blocks.{Item, BlockText, block_format}
+use Rattle.pcap_ng.specs.Frames.{Framed, frame_format}
+use Rattle.pcap_ng.specs.State.{State, order_at}
 use Rattle.pcap_file.specs.Placed.{is_packet}
-use Rattle.pcap_file.proofs.BlockFormat.{blocks_lawful}
-use Rattle.pcap_file.proofs.HeadedFrames.{frames_lawful}
+use Rattle.pcap_ng.proofs.BlockFormat.{blocks_lawful}
+use Rattle.pcap_ng.proofs.HeadedFrames.{frames_lawful}
 use Rattle.pcapfile_c.specs.declared.any_packets.PcapfileAnyPacket.{PcapfileAnyPacket}
 use Rattle.pcapfile_c.specs.declared.blocks.PcapfileSection.{PcapfileSection}
 use Rattle.pcapfile_c.specs.declared.bodies.PcapfileInterface.{PcapfileInterface}

@@ -12,9 +12,9 @@ use Rattle.pcap_core.specs.declared.common.Endianness.{Endianness}
 use Rattle.pcap_core.specs.declared.errors.PcapError.{PcapError}
 use Rattle.pcap_core.specs.Answer.{Order, Verdict, number_in, whole, lacks, faulty, Refuses}
 use Rattle.pcap_core.specs.Faults.{Fault, Invalid, Io, Utf8}
-use Rattle.pcap_core.specs.Format.{Texts, state_after}
-use Rattle.pcap_core.specs.Headed.{good}
-use Rattle.pcap_core.proofs.Formats.{texts_own, texts_push}
+use Rattle.pcap_items.specs.Format.{Texts, state_after}
+use Rattle.pcap_items.specs.Headed.{good}
+use Rattle.pcap_items.proofs.Formats.{texts_own, texts_push}
 use Rattle.pcap_core.proofs.Kept.{zip_push}
 use Rattle.pcap_blocks.specs.declared.block_type.BlockType.{BlockType}
 use Rattle.pcap_blocks.specs.declared.block_type.BlockType.TheVariants as types
@@ -22,15 +22,15 @@ use Rattle.pcap_blocks.specs.BlockType.{block_type}
 use Rattle.pcap_blocks.specs.InterfaceDescription.{Interface}
 use Rattle.pcap_blocks.specs.ParsedBlock.{Body, InterfaceBody, BodySays}
 use Rattle.pcap_blocks.specs.SectionHeader.{Section, magic_order}
-use Rattle.pcap_file.specs.Blocks.{Item, BlockSays, BlockText, MayGrow, block_format}
-use Rattle.pcap_file.specs.Bodies.{GrowsInBody, SaysOfBody}
-use Rattle.pcap_file.specs.Frames.{Framed, FrameText, own_order}
-use Rattle.pcap_file.specs.State.{State, opening, within, or_big, order_at, is_kept, leads, Means, MeansIf}
+use Rattle.pcap_ng.specs.Blocks.{Item, BlockSays, BlockText, MayGrow, block_format}
+use Rattle.pcap_ng.specs.Bodies.{GrowsInBody, SaysOfBody}
+use Rattle.pcap_ng.specs.Frames.{Framed, FrameText, own_order}
+use Rattle.pcap_ng.specs.State.{State, opening, within, or_big, order_at, is_kept, leads, Means, MeansIf}
 use Rattle.pcap_file.specs.Placed.{is_packet}
-use Rattle.pcap_file.proofs.BlockFormat.{block_said, blocks_lawful, good_in}
-use Rattle.pcap_file.proofs.KeptBodies.{read_means}
-use Rattle.pcap_file.proofs.Refusing.{body_refuses}
-use Rattle.pcap_file.proofs.Sections.{bad_no_good}
+use Rattle.pcap_ng.proofs.BlockFormat.{block_said, blocks_lawful, good_in}
+use Rattle.pcap_ng.proofs.KeptBodies.{read_means}
+use Rattle.pcap_ng.proofs.Refusing.{body_refuses}
+use Rattle.pcap_ng.proofs.Sections.{bad_no_good}
 use Rattle.pcapfile_c.specs.declared.any_packets.PcapfileAnyPacket.{PcapfileAnyPacket}
 use Rattle.pcapfile_c.specs.declared.blocks.PcapfileSection.{PcapfileSection}
 use Rattle.pcapfile_c.specs.declared.bodies.PcapfileInterface.{PcapfileInterface}

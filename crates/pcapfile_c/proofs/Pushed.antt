@@ -17,7 +17,7 @@ use Rattle.pcapfile_c.specs.declared.shown.PcapfilePacket.{PcapfilePacket}
 use Rattle.pcapfile_c.specs.Calls.{PacketsSaid}
 use Rattle.pcapfile_c.specs.Push.{LiesWithin, Opened, TakesFront, TakesNext, held_in}
 use Rattle.pcapfile_c.specs.Shown.{captured}
-use Rattle.pcap_core.proofs.Pieces.{after_is_drop}
+use Rattle.pcap_items.proofs.Pieces.{after_is_drop}
 
 -- what lies between two places of a room
 pub between_same : (b e : ℕ) (room : List ℕ) → b ≤ e → take (e - b) (drop b room) ≡ drop b (take e room)

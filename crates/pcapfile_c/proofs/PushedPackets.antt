@@ -1,7 +1,7 @@
 -- Many packets of a capture that comes in pieces.
 use Rattle.std.proofs.Common.{◌≡◌, ◌≤◌, ◌-◌, ℕ, ℤ, List, [], ◌++◌, length, map, take, drop, refl, sym, ap, ◌∙◌, arith, append_assoc, length-append, length-take, inl, inr}
 use Rattle.pcap_core.specs.Answer.{number_in}
-use Rattle.pcap_core.proofs.Formats.{texts_own}
+use Rattle.pcap_items.proofs.Formats.{texts_own}
 use Rattle.pcap_classic.specs.Magic.{order_of, resolution_of}
 use Rattle.pcap_classic.specs.Packets.{packet_format}
 use Rattle.pcap_classic.specs.PacketText.{packet_limit}

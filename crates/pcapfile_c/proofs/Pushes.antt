@@ -2,8 +2,8 @@
 use Rattle.std.proofs.Common.{take, map, ◌≡◌, ℕ, ℤ, List, [], ◌∷◌, ◌++◌, false, Bool, T, refl, sym, ap, subst, ◌∙◌, inl, inr, pos}
 use Rattle.std.specs.Prelude.{IsTrue, ◌≢◌, ◌⊎◌}
 use Rattle.pcap_core.specs.Answer.{number_in, whole}
-use Rattle.pcap_core.specs.Format.{Front, Texts}
-use Rattle.pcap_core.proofs.Formats.{texts_all, texts_more, texts_push}
+use Rattle.pcap_items.specs.Format.{Front, Texts}
+use Rattle.pcap_items.proofs.Formats.{texts_all, texts_more, texts_push}
 use Rattle.pcap_classic.specs.declared.pcap.header.PcapHeader.{PcapHeader}
 use Rattle.pcap_classic.specs.Front.{CaptureFront}
 use Rattle.pcap_classic.specs.HeaderText.{HeaderSays, HeaderText}

@@ -7,7 +7,7 @@ use Rattle.std.proofs.lemmas.Bool.{le-ltb, lt-ltb}
 use Rattle.std.proofs.lemmas.Bool.Decides.{eqb_tells}
 use Rattle.std.proofs.lemmas.Int.{to_z-of_z}
 use Rattle.pcap_core.specs.declared.common.Endianness.{Endianness}
-use Rattle.pcap_core.specs.Format.{Front}
+use Rattle.pcap_items.specs.Format.{Front}
 use Rattle.pcap_times.specs.declared.unit.TimeUnit.TheVariants.{Binary, Decimal}
 use Rattle.pcap_times.specs.Times.{unit_of}
 use Rattle.pcap_options.specs.Held.{first_under, number_in}
@@ -18,10 +18,10 @@ use Rattle.pcap_written.specs.declared.place.Place.{Place}
 use Rattle.pcap_written.specs.Capture.{AreWritten}
 use Rattle.pcap_written.specs.Fits.{kept_body}
 use Rattle.pcap_written.specs.Writing.{opening_place}
-use Rattle.pcap_file.specs.Blocks.{Item, block_format}
-use Rattle.pcap_file.specs.State.{opening}
-use Rattle.pcap_file.specs.Written.{IsBodyOf}
-use Rattle.pcap_file.proofs.WrittenAgain.{capture_again}
+use Rattle.pcap_ng.specs.Blocks.{Item, block_format}
+use Rattle.pcap_ng.specs.State.{opening}
+use Rattle.pcap_ng.specs.Written.{IsBodyOf}
+use Rattle.pcap_ng.proofs.WrittenAgain.{capture_again}
 use Rattle.pcapfile_c.specs.declared.blocks.PcapfileSection.{PcapfileSection}
 use Rattle.pcapfile_c.specs.declared.bodies.PcapfileInterface.{PcapfileInterface}
 use Rattle.pcapfile_c.specs.Bodies.{unit_shown}

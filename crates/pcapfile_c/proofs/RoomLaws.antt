@@ -3,8 +3,8 @@ use Rattle.std.proofs.Common.{◌≡◌, ◌≢◌, ℕ, ℤ, pos, List, [], ◌
 use Rattle.std.proofs.lemmas.List.Concat.{flat_map-append}
 use Rattle.pcap_core.specs.Answer.{Verdict, whole}
 use Rattle.pcap_core.specs.Faults.{Invalid, Io, Utf8}
-use Rattle.pcap_core.specs.Format.{Format, IsLawful}
-use Rattle.pcap_core.proofs.Formats.{lacks_no_text, fault_no_text}
+use Rattle.pcap_items.specs.Format.{Format, IsLawful}
+use Rattle.pcap_items.proofs.Formats.{lacks_no_text, fault_no_text}
 use Rattle.pcapfile_c.specs.declared.errors.PcapfileError.{PcapfileError}
 use Rattle.pcapfile_c.specs.declared.push.PcapfilePush.{PcapfilePush}
 use Rattle.pcapfile_c.specs.declared.shown.PcapfileHeader.{PcapfileHeader}

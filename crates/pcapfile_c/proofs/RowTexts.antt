@@ -2,8 +2,8 @@
 use Rattle.std.proofs.Common.{◌≡◌, ◌≤◌, ◌+◌, ◌-◌, ℕ, List, [], ◌∷◌, ◌++◌, length, Option, Some, refl, sym, subst, arith}
 use Rattle.pcap_core.specs.declared.common.Endianness.{Endianness}
 use Rattle.pcap_core.specs.Answer.{number_in, whole}
-use Rattle.pcap_core.specs.Format.{Texts}
-use Rattle.pcap_core.proofs.Formats.{texts_push}
+use Rattle.pcap_items.specs.Format.{Texts}
+use Rattle.pcap_items.proofs.Formats.{texts_push}
 use Rattle.pcap_classic.specs.Magic.{order_of, resolution_of}
 use Rattle.pcap_classic.specs.PacketText.{Captured, packet_limit}
 use Rattle.pcap_classic.proofs.Texts.{packet_length}

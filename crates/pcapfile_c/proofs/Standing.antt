@@ -10,13 +10,13 @@ use Rattle.pcap_core.specs.declared.errors.PcapError.{PcapError}
 use Rattle.pcap_core.specs.declared.rules.Rule.TheVariants.{SectionMissing}
 use Rattle.pcap_core.specs.Answer.{Order, number_in, lacks, faulty, Refuses}
 use Rattle.pcap_core.specs.Faults.{Names}
-use Rattle.pcap_core.specs.Headed.{good, bad}
+use Rattle.pcap_items.specs.Headed.{good, bad}
 use Rattle.pcap_core.proofs.Refusals.{named_refuses}
 use Rattle.pcap_blocks.specs.declared.block_type.BlockType.{BlockType}
 use Rattle.pcap_blocks.specs.declared.block_type.BlockType.TheVariants as types
 use Rattle.pcap_blocks.specs.SectionHeader.{magic_order}
-use Rattle.pcap_file.specs.Frames.{Framed, FrameText, FrameSays}
-use Rattle.pcap_file.specs.State as strict
+use Rattle.pcap_ng.specs.Frames.{Framed, FrameText, FrameSays}
+use Rattle.pcap_ng.specs.State as strict
 use Rattle.pcap_tolerant_blocks.specs.declared.flaws.Flaw.{Flaw}
 use Rattle.pcap_tolerant_blocks.specs.EnhancedAsIs.{EnhancedText}
 use Rattle.pcap_tolerant_blocks.specs.Flaws.{Said, said_of}

@@ -2,7 +2,7 @@
 use Rattle.std.specs.Prelude.{◌≡◌, ◌≢◌, ◌⊎◌, ℕ, ℤ, pos, List, [], ◌∷◌, ◌++◌, take, filter, false}
 use Rattle.std.specs.List.{AllZip}
 use Rattle.pcap_core.specs.Answer.{Verdict}
-use Rattle.pcap_core.specs.Format.{Front, Texts, state_after}
+use Rattle.pcap_items.specs.Format.{Front, Texts, state_after}
 use Rattle.pcap_core.specs.Link.{link_number}
 use Rattle.pcap_classic.specs.declared.pcap.header.PcapHeader.{PcapHeader}
 use Rattle.pcap_classic.specs.Front.{CaptureFront}
@@ -10,8 +10,8 @@ use Rattle.pcap_classic.specs.HeaderText.{HeaderSays, HeaderText}
 use Rattle.pcap_classic.specs.Magic.{is_magic}
 use Rattle.pcap_classic.specs.Packets.{format_under}
 use Rattle.pcap_classic.specs.PacketText.{Captured, packet_limit}
-use Rattle.pcap_file.specs.Blocks.{Item}
-use Rattle.pcap_file.specs.State.{State, opening}
+use Rattle.pcap_ng.specs.Blocks.{Item}
+use Rattle.pcap_ng.specs.State.{State, opening}
 use Rattle.pcapfile_c.specs.declared.any.PcapfileCapture.{PcapfileCapture}
 use Rattle.pcapfile_c.specs.declared.any_packets.PcapfileAnyPacket.{PcapfileAnyPacket}
 use Rattle.pcapfile_c.specs.declared.bodies.PcapfileInterface.{PcapfileInterface}

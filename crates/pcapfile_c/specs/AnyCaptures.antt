@@ -5,7 +5,7 @@ use Rattle.pcap_core.specs.declared.rules.Rule.TheVariants.{SectionMagic}
 use Rattle.pcap_classic.specs.HeaderText.{HeaderSays}
 use Rattle.pcap_classic.specs.Magic.{is_magic}
 use Rattle.pcap_classic.specs.PacketText.{Captured}
-use Rattle.pcap_file.specs.State.{State}
+use Rattle.pcap_ng.specs.State.{State}
 use Rattle.pcapfile_c.specs.declared.any.PcapfileCapture.{PcapfileCapture}
 use Rattle.pcapfile_c.specs.declared.any_packets.PcapfileAnyPacket.{PcapfileAnyPacket}
 use Rattle.pcapfile_c.specs.declared.blocks.PcapfileSection.{PcapfileSection}

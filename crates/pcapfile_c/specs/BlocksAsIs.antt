@@ -6,7 +6,7 @@ use Rattle.pcap_core.specs.declared.errors.PcapError.{PcapError}
 use Rattle.pcap_core.specs.declared.rules.Rule.TheVariants.{SectionMagic}
 use Rattle.pcap_core.specs.Answer.{Order, number_in, whole, lacks, faulty, Refuses}
 use Rattle.pcap_core.specs.Faults.{Fault, Invalid, Io, Utf8, Own}
-use Rattle.pcap_core.specs.Headed.{good, bad}
+use Rattle.pcap_items.specs.Headed.{good, bad}
 use Rattle.pcap_core.specs.Rules.{number_of}
 use Rattle.pcap_blocks.specs.declared.block_type.BlockType.{BlockType}
 use Rattle.pcap_blocks.specs.declared.block_type.BlockType.TheVariants as types
@@ -15,8 +15,8 @@ use Rattle.pcap_blocks.specs.EnhancedPacket.{Enhanced}
 use Rattle.pcap_blocks.specs.InterfaceDescription.{Interface}
 use Rattle.pcap_blocks.specs.ParsedBlock.{EnhancedBody}
 use Rattle.pcap_blocks.specs.SectionHeader.{Section}
-use Rattle.pcap_file.specs.Frames.{Framed, FrameText}
-use Rattle.pcap_file.specs.State.{IsHeader}
+use Rattle.pcap_ng.specs.Frames.{Framed, FrameText}
+use Rattle.pcap_ng.specs.State.{IsHeader}
 use Rattle.pcap_tolerant_blocks.specs.declared.flaws.Flaw.{Flaw}
 use Rattle.pcap_tolerant_blocks.specs.EnhancedAsIs.{EnhancedText}
 use Rattle.pcap_tolerant_blocks.specs.Flaws.{Said, said_of}

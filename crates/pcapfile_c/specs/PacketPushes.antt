@@ -1,6 +1,6 @@
 -- What calls on a PcapNg capture that comes in pieces do, where they give packets.
 use Rattle.std.specs.Prelude.{◌≡◌, ◌≢◌, ◌⊎◌, ℕ, ℤ, pos, List, [], ◌∷◌, take}
-use Rattle.pcap_file.specs.State.{State}
+use Rattle.pcap_ng.specs.State.{State}
 use Rattle.pcapfile_c.specs.declared.any_packets.PcapfileAnyPacket.{PcapfileAnyPacket}
 use Rattle.pcapfile_c.specs.declared.blocks.PcapfileSection.{PcapfileSection}
 use Rattle.pcapfile_c.specs.declared.bodies.PcapfileInterface.{PcapfileInterface}

@@ -1,7 +1,7 @@
 -- What the call that takes many packets of a capture in pieces answers.
 use Rattle.std.specs.Prelude.{◌≡◌, ◌<◌, ◌≤◌, ◌⊎◌, ℕ, ℤ, pos, List, length, map, take, drop, false}
 use Rattle.pcap_core.specs.Answer.{number_in}
-use Rattle.pcap_core.specs.Format.{Texts}
+use Rattle.pcap_items.specs.Format.{Texts}
 use Rattle.pcap_classic.specs.HeaderText.{HeaderSays}
 use Rattle.pcap_classic.specs.Magic.{is_magic, order_of, resolution_of}
 use Rattle.pcap_classic.specs.Packets.{packet_format}

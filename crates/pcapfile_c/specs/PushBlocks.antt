@@ -2,8 +2,8 @@
 use Rattle.std.specs.Prelude.{◌≡◌, ◌⊎◌, ℤ, pos, List, ℕ}
 use Rattle.pcap_core.specs.declared.rules.Rule.TheVariants.{SectionMagic}
 use Rattle.pcap_core.specs.Answer.{whole}
-use Rattle.pcap_file.specs.Blocks.{Item, BlockSays, MayGrow}
-use Rattle.pcap_file.specs.State.{State}
+use Rattle.pcap_ng.specs.Blocks.{Item, BlockSays, MayGrow}
+use Rattle.pcap_ng.specs.State.{State}
 use Rattle.pcapfile_c.specs.declared.blocks.PcapfileBlock.{PcapfileBlock}
 use Rattle.pcapfile_c.specs.declared.blocks.PcapfileSection.{PcapfileSection}
 use Rattle.pcapfile_c.specs.declared.errors.PcapfileError.{PcapfileError}

@@ -2,9 +2,9 @@
 use Rattle.std.specs.Prelude.{◌≡◌, ◌<◌, ◌≤◌, ◌⊎◌, ⊤, ℕ, ℤ, pos, List, [], ◌∷◌, length, take, drop, filter, true}
 use Rattle.std.specs.List.{AllZip}
 use Rattle.pcap_core.specs.declared.rules.Rule.TheVariants.{SectionMagic}
-use Rattle.pcap_core.specs.Format.{Texts, state_after}
-use Rattle.pcap_file.specs.Blocks.{Item}
-use Rattle.pcap_file.specs.State.{State}
+use Rattle.pcap_items.specs.Format.{Texts, state_after}
+use Rattle.pcap_ng.specs.Blocks.{Item}
+use Rattle.pcap_ng.specs.State.{State}
 use Rattle.pcapfile_c.specs.declared.any_packets.PcapfileAnyPacket.{PcapfileAnyPacket}
 use Rattle.pcapfile_c.specs.declared.blocks.PcapfileSection.{PcapfileSection}
 use Rattle.pcapfile_c.specs.declared.bodies.PcapfileInterface.{PcapfileInterface}

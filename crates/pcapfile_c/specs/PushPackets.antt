@@ -3,14 +3,15 @@ use Rattle.std.specs.Prelude.{◌≡◌, ◌<◌, ◌≤◌, ◌-◌, ◌^◌, �
 use Rattle.std.specs.List.{AllZip, slice_get}
 use Rattle.pcap_core.specs.declared.rules.Rule.TheVariants.{SectionMagic}
 use Rattle.pcap_core.specs.Answer.{Verdict, Says, number_in, whole, faulty}
-use Rattle.pcap_core.specs.Format.{Texts, state_after}
+use Rattle.pcap_items.specs.Format.{Texts, state_after}
 use Rattle.pcap_blocks.specs.declared.block_type.BlockType.TheVariants as types
 use Rattle.pcap_blocks.specs.InterfaceDescription.{Interface}
 use Rattle.pcap_blocks.specs.ParsedBlock.{Body, BodySays}
-use Rattle.pcap_file.specs.Blocks.{Item, BlockSays, BlockText, MayGrow, block_format}
-use Rattle.pcap_file.specs.Frames.{FrameLacks}
-use Rattle.pcap_file.specs.State.{State, opening, within, order_at}
-use Rattle.pcap_file.specs.Placed.{is_packet, interfaces_at}
+use Rattle.pcap_ng.specs.Blocks.{Item, BlockSays, BlockText, MayGrow, block_format}
+use Rattle.pcap_ng.specs.Frames.{FrameLacks}
+use Rattle.pcap_ng.specs.State.{State, opening, within, order_at}
+use Rattle.pcap_file.specs.Placed.{is_packet}
+use Rattle.pcap_ng.specs.State.{interfaces_at}
 use Rattle.pcapfile_c.specs.declared.any_packets.PcapfileAnyPacket.{PcapfileAnyPacket}
 use Rattle.pcapfile_c.specs.declared.blocks.PcapfileSection.{PcapfileSection}
 use Rattle.pcapfile_c.specs.declared.bodies.PcapfileInterface.{PcapfileInterface}

@@ -2,7 +2,7 @@
 use Rattle.std.specs.Prelude.{◌≡◌, ◌<◌, ◌≤◌, ◌+◌, ◌*◌, ◌-◌, ◌^◌, ◌⊎◌, ◌==◌, if◌then◌else◌, ℕ, ℤ, pos, List, [], length, min, take, drop, Option, Some, None}
 use Rattle.pcap_core.specs.declared.common.Endianness.{Endianness}
 use Rattle.pcap_core.specs.Answer.{Verdict, Says, whole, lacks, faulty}
-use Rattle.pcap_core.specs.Format.{Format, Texts}
+use Rattle.pcap_items.specs.Format.{Format, Texts}
 use Rattle.pcap_classic.specs.PacketText.{Captured}
 use Rattle.pcapfile_c.specs.declared.bodies.PcapfileNgPacket.{PcapfileNgPacket}
 use Rattle.pcapfile_c.specs.declared.errors.PcapfileError.{PcapfileError}

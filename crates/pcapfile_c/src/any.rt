@@ -2,7 +2,7 @@
 
 ghost use Rattle.std.specs.Prelude.{◌≡◌, ◌↔◌, pos, None, IsTrue};
 ghost use Rattle.pcap_classic.specs.Magic.{is_magic};
-ghost use Rattle.pcap_file.specs.State.{State};
+ghost use Rattle.pcap_ng.specs.State.{State};
 ghost use Rattle.pcapfile_c.specs.AnyCaptures.{IsNg, HasEnded, TakesAnyPacket, TakesAnyNgPacket, TakesHeaded, TakesSectioned, RefusesAnyPacket, TakesCaptured, TakesWithPlaces, RefusesWithPlaces, ShowsCaptured};
 ghost use Rattle.pcapfile_c.specs.Blocks.{order_shown};
 ghost use Rattle.pcapfile_c.specs.PushPackets.{ShowsInForce};

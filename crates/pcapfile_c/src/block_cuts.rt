@@ -2,7 +2,7 @@
 
 ghost use Rattle.std.specs.Prelude.{◌≡◌, ◌≤◌, ⊤, length, max, IfErr, IfOk};
 ghost use Rattle.pcap_core.specs.Answer.{Refuses, faulty, lacks};
-ghost use Rattle.pcap_file.specs.Opening.{OpeningSays};
+ghost use Rattle.pcap_ng.specs.Opening.{OpeningSays};
 ghost use Rattle.pcap_parts.specs.declared.parting.Parting.TheVariants as partings;
 ghost use Rattle.pcap_parts.specs.Partings.{AsksSome};
 ghost use Rattle.pcapfile_c.specs.Cuts.{CutsBlocks, Fills, HasRoom, TellsBlockCuts};

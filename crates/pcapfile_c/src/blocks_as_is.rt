@@ -6,7 +6,7 @@ ghost use Rattle.pcap_core.specs.Answer.{number_in};
 ghost use Rattle.pcap_core.specs.Bytes.{IsBorrowed};
 ghost use Rattle.pcap_core.specs.Faults.{Names};
 ghost use Rattle.pcap_blocks.specs.declared.block_type.BlockType.TheVariants as types;
-ghost use Rattle.pcap_file.specs.Frames.{framed_of};
+ghost use Rattle.pcap_ng.specs.Frames.{framed_of};
 ghost use Rattle.pcap_tolerant_blocks.specs.EnhancedAsIs.{EnhancedText, enhanced_in, flaws_said as packet_flaws};
 ghost use Rattle.pcap_tolerant_blocks.specs.Flaws.{said_of};
 ghost use Rattle.pcap_tolerant_blocks.specs.InterfaceAsIs.{InterfaceText, interface_in, flaws_said as interface_flaws};

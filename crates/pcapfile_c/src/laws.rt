@@ -2,12 +2,12 @@
 
 ghost use Rattle.std.specs.Prelude.{◌≡◌, ◌⊎◌, ℕ, ℤ, List, [], ◌∷◌, filter};
 ghost use Rattle.std.specs.List.{AllZip};
-ghost use Rattle.pcap_core.specs.Format.{Front, state_after};
+ghost use Rattle.pcap_items.specs.Format.{Front, state_after};
 ghost use Rattle.pcap_classic.specs.declared.pcap.header.PcapHeader.{PcapHeader};
 ghost use Rattle.pcap_classic.specs.Front.{CaptureFront};
 ghost use Rattle.pcap_classic.specs.PacketText.{Captured, packet_limit};
-ghost use Rattle.pcap_file.specs.Blocks.{Item, block_format};
-ghost use Rattle.pcap_file.specs.State.{opening};
+ghost use Rattle.pcap_ng.specs.Blocks.{Item, block_format};
+ghost use Rattle.pcap_ng.specs.State.{opening};
 ghost use Rattle.pcapfile_c.specs.declared.blocks.PcapfileBlock.{PcapfileBlock};
 ghost use Rattle.pcapfile_c.specs.declared.blocks.PcapfileSection.{PcapfileSection};
 ghost use Rattle.pcapfile_c.specs.declared.push.PcapfilePush.{PcapfilePush};

@@ -2,7 +2,7 @@
 
 ghost use Rattle.std.specs.Prelude.{◌≡◌, ◌≤◌, length, false, IsTrue, None};
 ghost use Rattle.pcap_classic.specs.Magic.{is_magic};
-ghost use Rattle.pcap_file.specs.State.{State};
+ghost use Rattle.pcap_ng.specs.State.{State};
 ghost use Rattle.pcapfile_c.specs.Blocks.{order_shown};
 ghost use Rattle.pcapfile_c.specs.PushBatches.{FillsPlaces, TakesFrontPackets, TakesNextPackets};
 ghost use Rattle.pcapfile_c.specs.PushNgBatches.{TakesFrontNgPackets, TakesNextNgPackets, RefusesNextNgPackets};

@@ -1,7 +1,7 @@
 //! PcapNg captures that come in pieces, in room that the caller has: their blocks.
 
 ghost use Rattle.std.specs.Prelude.{◌≡◌, None};
-ghost use Rattle.pcap_file.specs.State.{State};
+ghost use Rattle.pcap_ng.specs.State.{State};
 ghost use Rattle.pcapfile_c.specs.Blocks.{ShowsState, order_shown};
 ghost use Rattle.pcapfile_c.specs.PushBlocks.{TakesNextBlock, RefusesNextBlock};
 

@@ -3,7 +3,7 @@
 ghost use Rattle.std.specs.Prelude.{◌≡◌, ◌<◌, ◌≤◌, List, length, None, Some};
 ghost use Rattle.pcap_blocks.specs.declared.block_type.BlockType.TheVariants as types;
 ghost use Rattle.pcap_blocks.specs.SectionHeader.{magic_order};
-ghost use Rattle.pcap_file.specs.State.{State, order_at};
+ghost use Rattle.pcap_ng.specs.State.{State, order_at};
 ghost use Rattle.pcapfile_c.specs.Batches.{LeadingText};
 ghost use Rattle.pcapfile_c.specs.Blocks.{order_shown};
 ghost use Rattle.pcapfile_c.specs.PushPackets.{ShowsInForce, LeavesFewer, PutsTells, StepTells, TakesFrontPacket, TakesNextPacket, RefusesNextPacket};

@@ -8,9 +8,9 @@ use Rattle.std.proofs.lemmas.List.{map-append}
 use Rattle.std.proofs.lemmas.List.Elements.{All-cons, All-head, All-nil, All-tail}
 use Rattle.pcap_core.specs.declared.errors.PcapError.{PcapError}
 use Rattle.pcap_core.specs.Answer.{whole}
-use Rattle.pcap_core.specs.Format.{Front, IsLawful, Texts}
-use Rattle.pcap_core.proofs.Formats.{front_goes_on, has_front, nothing_more, nothing_no_text}
-use Rattle.pcap_core.proofs.Taking.{ends_front}
+use Rattle.pcap_items.specs.Format.{Front, IsLawful, Texts}
+use Rattle.pcap_items.proofs.Formats.{front_goes_on, has_front, nothing_more, nothing_no_text}
+use Rattle.pcap_items.proofs.Taking.{ends_front}
 use Rattle.pcap_classic.specs.declared.pcap.header.PcapHeader.{PcapHeader}
 use Rattle.pcap_classic.specs.PacketText.{Captured, packet_limit}
 use Rattle.pcap_classic.proofs.CaptureFormat.{under_lawful}

@@ -8,9 +8,9 @@ use Rattle.std.proofs.KnownBytes.{Appends-kept, Appends-trans, Consumes-kept}
 use Rattle.std.proofs.lemmas.List.{take_all}
 use Rattle.std.proofs.Math.Seq.{drop-append_seam}
 use Rattle.pcap_core.specs.Errors.{IsIo}
-use Rattle.pcap_core.specs.Format.{Texts}
-use Rattle.pcap_core.specs.Reading.{HasCause}
-use Rattle.pcap_core.proofs.Formats.{texts_all}
+use Rattle.pcap_items.specs.Format.{Texts}
+use Rattle.pcap_items.specs.Reading.{HasCause}
+use Rattle.pcap_items.proofs.Formats.{texts_all}
 use Rattle.pcap_classic.specs.PacketText.{Captured}
 use Rattle.pcap_core.specs.declared.errors.PcapError.{PcapError}
 use Rattle.pcap_classic.specs.declared.pcap.header.PcapHeader.{PcapHeader}

@@ -6,9 +6,9 @@ use Rattle.std.specs.Io.KnownBytes.{Consumes, Appends, Keeps, IsAtEnd}
 use Rattle.pcap_core.specs.declared.errors.PcapError.{PcapError}
 use Rattle.pcap_core.specs.Answer.{Verdict, whole}
 use Rattle.pcap_core.specs.Errors.{IsIo}
-use Rattle.pcap_core.specs.Format.{Format}
-use Rattle.pcap_core.specs.Reading.{HasCause, TakesAsked}
-use Rattle.pcap_core.specs.Writing.{AppendsPart}
+use Rattle.pcap_items.specs.Format.{Format}
+use Rattle.pcap_items.specs.Reading.{HasCause, TakesAsked}
+use Rattle.pcap_items.specs.Writing.{AppendsPart}
 use Rattle.pcap_classic.specs.declared.pcap.header.PcapHeader.{PcapHeader}
 use Rattle.pcap_classic.specs.Packets.{format_under}
 use Rattle.pcap_classic.specs.PacketText.{Captured, packet_limit}

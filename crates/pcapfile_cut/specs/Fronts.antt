@@ -3,10 +3,10 @@ use Rattle.std.specs.Prelude.{⊤, ◌≡◌, ◌++◌, ◌⊎◌, ℕ, List, []
 use Rattle.std.specs.List.{AllZip, flat_map}
 use Rattle.std.specs.Option.{IsSomeAnd}
 use Rattle.std.specs.Io.KnownBytes.{Appends, Keeps}
-use Rattle.pcap_core.specs.Format.{Front, Texts}
+use Rattle.pcap_items.specs.Format.{Front, Texts}
 use Rattle.pcap_core.specs.declared.errors.PcapError.{PcapError}
 use Rattle.pcap_core.specs.Errors.{IsMemory, IsIo}
-use Rattle.pcap_core.specs.Reading.{HasCause, TakesAsked}
+use Rattle.pcap_items.specs.Reading.{HasCause, TakesAsked}
 use Rattle.pcap_classic.specs.declared.pcap.header.PcapHeader.{PcapHeader}
 use Rattle.pcap_classic.specs.PacketText.{Captured}
 use Rattle.pcapfile_cut.specs.declared.cutting.Outcome.{Outcome}

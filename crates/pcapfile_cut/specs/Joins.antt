@@ -1,7 +1,7 @@
 -- What the join of a part takes and writes.
 use Rattle.std.specs.Prelude.{◌≢◌, ℕ, List, Bool, Option, Err}
 use Rattle.std.specs.Io.KnownBytes.{Consumes, Keeps}
-use Rattle.pcap_core.specs.Reading.{ReadsTold}
+use Rattle.pcap_items.specs.Reading.{ReadsTold}
 use Rattle.pcap_classic.specs.HeaderText.{HeaderSays}
 use Rattle.pcapfile_cut.specs.declared.joining.Joined.{Joined}
 use Rattle.pcapfile_cut.specs.declared.joining.Joined.TheVariants.{Unopened, OtherHeader, Packets}

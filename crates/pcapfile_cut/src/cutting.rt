@@ -1,16 +1,16 @@
 //! Packets that are cut out of a classic capture.
 
 ghost use Rattle.std.specs.Prelude.{◌≡◌, ◌≤◌, ◌<◌, ◌+◌, ◌^◌, [], true, false, if◌then◌else◌, IsTrue, IfErr, IfOk, IfSome, OnOk, MatchResult};
-ghost use Rattle.pcap_core.specs.Held.{held_bytes};
-ghost use Rattle.pcap_core.specs.Writing.{WritesAll};
+ghost use Rattle.pcap_items.specs.Held.{held_bytes};
+ghost use Rattle.pcap_items.specs.Writing.{WritesAll};
 ghost use Rattle.pcap_classic.specs.Magic.{is_magic};
 ghost use Rattle.pcapfile_cut.specs.Cuts.{CutsBehind, CutsPart, IsNew, StepsCut, outcome_of};
 
 use crate::opening::Opening;
 use crate::wanted::Wanted;
 use pcap_classic::pcap::{PacketsUnder, PcapHeader};
-use pcap_core::stream::{Held, fill_item, put};
 use pcap_core::{PcapError, ResultParsing};
+use pcap_items::stream::{Held, fill_item, put};
 use std::alloc::Global;
 use std::io::{Read, Write};
 

@@ -4,11 +4,11 @@ ghost use Rattle.std.specs.Prelude.{◌≡◌, ◌↔◌, [], false, true, IsTru
 ghost use Rattle.std.specs.Io.KnownBytes.{Consumes};
 ghost use Rattle.pcap_classic.specs.HeaderText.{HeaderSays, HeaderText};
 ghost use Rattle.pcap_classic.specs.Magic.{is_magic};
-ghost use Rattle.pcap_core.specs.Reading.{ReadsTold};
+ghost use Rattle.pcap_items.specs.Reading.{ReadsTold};
 
 use pcap_classic::pcap::PcapHeader;
 use pcap_core::ResultParsing;
-use pcap_core::stream::fill_array;
+use pcap_items::stream::fill_array;
 use std::io::Read;
 
 /// The header of a classic capture, with its 24 bytes as they stood.

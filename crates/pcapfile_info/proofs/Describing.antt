@@ -16,10 +16,10 @@ use Rattle.pcap_core.specs.Errors.{IsMemory}
 use Rattle.pcap_blocks.specs.declared.block_type.BlockType.{BlockType}
 use Rattle.pcap_blocks.specs.InterfaceDescription.{Interface}
 use Rattle.pcap_blocks.specs.SectionHeader.{Section}
-use Rattle.pcap_file.specs.Blocks.{Item}
-use Rattle.pcap_file.specs.Frames.{Framed}
-use Rattle.pcap_file.specs.Placed.{interfaces_at}
-use Rattle.pcap_file.specs.State.{State, within}
+use Rattle.pcap_ng.specs.Blocks.{Item}
+use Rattle.pcap_ng.specs.Frames.{Framed}
+use Rattle.pcap_ng.specs.State.{interfaces_at}
+use Rattle.pcap_ng.specs.State.{State, within}
 use Rattle.pcapfile_run.specs.declared.checked.End.{End}
 use Rattle.pcapfile_run.specs.declared.checked.End.TheVariants.{Short, Breaks, NotUtf8, Unread, Memory}
 use Rattle.pcapfile_run.specs.Checks.{EndIs, FaultIs}

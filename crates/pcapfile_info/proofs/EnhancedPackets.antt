@@ -7,13 +7,13 @@ use Rattle.pcap_core.specs.Answer.{whole}
 use Rattle.pcap_blocks.specs.InterfaceDescription.{Interface}
 use Rattle.pcap_blocks.specs.ParsedBlock.{EnhancedBody}
 use Rattle.pcap_blocks.specs.SectionHeader.{Section}
-use Rattle.pcap_file.specs.declared.pcapng.enhanced.EnhancedNumbers.{EnhancedNumbers}
-use Rattle.pcap_file.specs.Blocks.{block_format}
-use Rattle.pcap_file.specs.Enhanced.{PacketText, enhanced_frame}
-use Rattle.pcap_file.specs.Frames.{FrameText}
-use Rattle.pcap_file.specs.State.{State, opening, within, order_at}
-use Rattle.pcap_file.proofs.BlockFormat.{blocks_lawful}
-use Rattle.pcap_file.proofs.EnhancedFrames.{enhanced_long, packet_item, packet_says}
+use Rattle.pcap_ng.specs.declared.pcapng.enhanced.EnhancedNumbers.{EnhancedNumbers}
+use Rattle.pcap_ng.specs.Blocks.{block_format}
+use Rattle.pcap_ng.specs.Enhanced.{PacketText, enhanced_frame}
+use Rattle.pcap_ng.specs.Frames.{FrameText}
+use Rattle.pcap_ng.specs.State.{State, opening, within, order_at}
+use Rattle.pcap_ng.proofs.BlockFormat.{blocks_lawful}
+use Rattle.pcap_ng.proofs.EnhancedFrames.{enhanced_long, packet_item, packet_says}
 use Rattle.pcapfile_run.proofs.Passing.{goes_after}
 use Rattle.pcapfile_info.specs.declared.clocks.Clocks.{Clocks}
 use Rattle.pcapfile_info.specs.declared.progress.Progress.{Progress}

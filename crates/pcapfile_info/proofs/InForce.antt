@@ -10,7 +10,7 @@ use Rattle.std.proofs.lemmas.Slice.Zip.{AllZip-left, AllZip-right}
 use Rattle.pcap_core.specs.declared.common.Endianness.{Endianness}
 use Rattle.pcap_core.specs.Answer.{number_in, whole}
 use Rattle.pcap_core.specs.Faults.{Fault}
-use Rattle.pcap_core.specs.Headed.{good, bad}
+use Rattle.pcap_items.specs.Headed.{good, bad}
 use Rattle.pcap_times.specs.declared.clock.Clock.{Clock}
 use Rattle.pcap_times.specs.declared.clock.Timestamp.{Timestamp}
 use Rattle.pcap_core.proofs.Kept.{zip_push}
@@ -21,11 +21,11 @@ use Rattle.pcap_blocks.specs.InterfaceDescription.{Interface, interface_of}
 use Rattle.pcap_blocks.specs.InterfaceTimes.{IsClockOf}
 use Rattle.pcap_blocks.specs.ParsedBlock.{Body, SectionBody, InterfaceBody, BodySays}
 use Rattle.pcap_blocks.specs.SectionHeader.{Section, magic_order}
-use Rattle.pcap_file.specs.Bodies.{SaysOfBody}
-use Rattle.pcap_file.specs.Blocks.{Item, block_format}
-use Rattle.pcap_file.specs.Frames.{Framed}
-use Rattle.pcap_file.specs.Opening.{OpeningSays}
-use Rattle.pcap_file.specs.State.{State, opening, within, is_kept, leads, or_big, order_at, MeansIf}
+use Rattle.pcap_ng.specs.Bodies.{SaysOfBody}
+use Rattle.pcap_ng.specs.Blocks.{Item, block_format}
+use Rattle.pcap_ng.specs.Frames.{Framed}
+use Rattle.pcap_ng.specs.Opening.{OpeningSays}
+use Rattle.pcap_ng.specs.State.{State, opening, within, is_kept, leads, or_big, order_at, MeansIf}
 use Rattle.pcapfile_info.specs.InForce.{IsClocked, LeadsOn, OrderAndClocks}
 use Rattle.pcapfile_info.specs.Sights.{IsTimeSeen}
 

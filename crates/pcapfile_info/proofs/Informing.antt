@@ -4,11 +4,11 @@ use Rattle.std.specs.Prelude.{⊤, IfSome, String}
 use Rattle.std.specs.Global.{Global}
 use Rattle.pcap_core.specs.declared.errors.PcapError.{PcapError}
 use Rattle.pcap_core.specs.Answer.{number_in, whole}
-use Rattle.pcap_core.specs.Format.{Format, Texts, IsLawful, state_after}
-use Rattle.pcap_core.specs.Reading.{Takes, ReadsTold}
-use Rattle.pcap_core.specs.Takes.{TakesTexts, TakesItems, Stops}
-use Rattle.pcap_core.proofs.Formats.{texts_more}
-use Rattle.pcap_core.proofs.Taking.{run_reads}
+use Rattle.pcap_items.specs.Format.{Format, Texts, IsLawful, state_after}
+use Rattle.pcap_items.specs.Reading.{Takes, ReadsTold}
+use Rattle.pcap_items.specs.Takes.{TakesTexts, TakesItems, Stops}
+use Rattle.pcap_items.proofs.Formats.{texts_more}
+use Rattle.pcap_items.proofs.Taking.{run_reads}
 use Rattle.pcap_classic.specs.declared.pcap.header.PcapHeader.{PcapHeader}
 use Rattle.pcap_classic.specs.HeaderText.{HeaderText, HeaderSays}
 use Rattle.pcap_classic.specs.Magic.{order_of, resolution_of}
@@ -17,11 +17,11 @@ use Rattle.pcap_classic.specs.PacketText.{packet_limit}
 use Rattle.pcap_classic.proofs.HeadedPackets.{packets_lawful}
 use Rattle.pcap_classic.proofs.Stable.{header_stable}
 use Rattle.pcap_classic.proofs.Texts.{header_length}
-use Rattle.pcap_file.specs.Blocks.{Item, block_format}
-use Rattle.pcap_file.specs.Lent.{TakesText}
-use Rattle.pcap_file.specs.Opening.{OpeningSays, RefusesOpening}
-use Rattle.pcap_file.specs.State.{State}
-use Rattle.pcap_file.proofs.BlockFormat.{blocks_lawful}
+use Rattle.pcap_ng.specs.Blocks.{Item, block_format}
+use Rattle.pcap_ng.specs.Lent.{TakesText}
+use Rattle.pcap_ng.specs.Opening.{OpeningSays, RefusesOpening}
+use Rattle.pcap_ng.specs.State.{State}
+use Rattle.pcap_ng.proofs.BlockFormat.{blocks_lawful}
 use Rattle.pcapfile_run.specs.declared.checked.Checked.{Checked}
 use Rattle.pcapfile_run.specs.declared.checked.End.{End}
 use Rattle.pcapfile_run.specs.declared.checked.Format.{Format as CaptureFormat}

@@ -7,9 +7,9 @@ use Rattle.pcap_core.specs.Errors.{IsMemory}
 use Rattle.pcap_blocks.specs.declared.block_type.BlockType.TheVariants as types
 use Rattle.pcap_blocks.specs.InterfaceDescription.{Interface}
 use Rattle.pcap_blocks.specs.SectionHeader.{Section}
-use Rattle.pcap_file.specs.Blocks.{Item}
-use Rattle.pcap_file.specs.Frames.{Framed}
-use Rattle.pcap_file.specs.State.{State, within}
+use Rattle.pcap_ng.specs.Blocks.{Item}
+use Rattle.pcap_ng.specs.Frames.{Framed}
+use Rattle.pcap_ng.specs.State.{State, within}
 use Rattle.pcapfile_info.specs.declared.progress.Progress.{Progress}
 use Rattle.pcapfile_info.specs.declared.seen.Sight.{Sight}
 use Rattle.pcapfile_info.specs.Describing.{AddsDescribed, SameDescribed, told_of}

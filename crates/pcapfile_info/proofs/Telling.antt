@@ -4,12 +4,12 @@ use Rattle.std.specs.Prelude.{sum_by}
 use Rattle.std.proofs.KnownBytes.{Consumes-nil, Consumes-trans}
 use Rattle.pcap_core.specs.declared.errors.PcapError.{PcapError}
 use Rattle.pcap_core.specs.Errors.{IsMemory}
-use Rattle.pcap_core.specs.Format.{Format, IsLawful}
-use Rattle.pcap_core.specs.Reading.{Takes, TakesAsked, no_memory}
-use Rattle.pcap_core.specs.Takes.{Stops}
-use Rattle.pcap_core.proofs.Asked.{asked_text}
+use Rattle.pcap_items.specs.Format.{Format, IsLawful}
+use Rattle.pcap_items.specs.Reading.{Takes, TakesAsked, no_memory}
+use Rattle.pcap_items.specs.Takes.{Stops}
+use Rattle.pcap_items.proofs.Asked.{asked_text}
 use Rattle.std.proofs.lemmas.List.Sums.{sum_by-cons}
-use Rattle.pcap_core.proofs.Formats.{state_push, texts_more, texts_push}
+use Rattle.pcap_items.proofs.Formats.{state_push, texts_more, texts_push}
 use Rattle.pcapfile_run.specs.Passing.{counted}
 use Rattle.pcapfile_run.proofs.Passing.{counted_more}
 use Rattle.pcapfile_info.specs.declared.progress.Progress.{Progress}

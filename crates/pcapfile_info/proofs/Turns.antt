@@ -6,9 +6,9 @@ use Rattle.std.specs.Prelude.{sum_by}
 use Rattle.std.proofs.KnownBytes.{Consumes-kept}
 use Rattle.pcap_core.specs.declared.errors.PcapError.{PcapError}
 use Rattle.pcap_core.specs.Answer.{whole}
-use Rattle.pcap_core.specs.Format.{Format, IsLawful}
-use Rattle.pcap_core.specs.Reading.{Takes}
-use Rattle.pcap_core.specs.Takes.{Stops}
+use Rattle.pcap_items.specs.Format.{Format, IsLawful}
+use Rattle.pcap_items.specs.Reading.{Takes}
+use Rattle.pcap_items.specs.Takes.{Stops}
 use Rattle.capcopy_run.proofs.Turns.{behind_shown, shown_split, shown_used, takes_shown}
 use Rattle.pcapfile_run.specs.Passing.{counted}
 use Rattle.pcapfile_info.specs.declared.progress.Progress.{Progress}

@@ -13,9 +13,9 @@ use Rattle.pcap_options.specs.Held.{first_under, string_in, under}
 use Rattle.pcap_blocks.specs.InterfaceDescription.{Interface}
 use Rattle.pcap_blocks.specs.SectionHeader.{Section, magic_order}
 use Rattle.pcap_options.specs.Values.{Entry}
-use Rattle.pcap_file.specs.Blocks.{Item}
-use Rattle.pcap_file.specs.Placed.{interfaces_at}
-use Rattle.pcap_file.specs.State.{State, opening, within}
+use Rattle.pcap_ng.specs.Blocks.{Item}
+use Rattle.pcap_ng.specs.State.{interfaces_at}
+use Rattle.pcap_ng.specs.State.{State, opening, within}
 use Rattle.pcapfile_run.specs.Passing.{counted}
 use Rattle.pcapfile_info.specs.declared.described.Described.{Described}
 use Rattle.pcapfile_info.specs.declared.described.Opened.{Opened}

@@ -10,7 +10,7 @@ use Rattle.pcap_blocks.specs.declared.block_type.BlockType.TheVariants as types
 use Rattle.pcap_blocks.specs.InterfaceDescription.{Interface}
 use Rattle.pcap_blocks.specs.InterfaceTimes.{IsClockOf}
 use Rattle.pcap_blocks.specs.SectionHeader.{Section}
-use Rattle.pcap_file.specs.State.{State, opening, within, order_at}
+use Rattle.pcap_ng.specs.State.{State, opening, within, order_at}
 use Rattle.pcapfile_info.specs.declared.clocks.Clocks.{Clocks}
 
 -- the order is that of the section in force, and each of its interfaces has its clock

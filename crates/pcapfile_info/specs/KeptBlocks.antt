@@ -1,8 +1,8 @@
 -- What is kept of blocks.
 use Rattle.std.specs.Prelude.{◌≡◌, ◌+◌, ◌⊎◌, List, Option, count_by}
 use Rattle.pcap_core.specs.declared.errors.PcapError.{PcapError}
-use Rattle.pcap_file.specs.Blocks.{Item}
-use Rattle.pcap_file.specs.State.{State}
+use Rattle.pcap_ng.specs.Blocks.{Item}
+use Rattle.pcap_ng.specs.State.{State}
 use Rattle.pcapfile_run.specs.Passing.{counted}
 use Rattle.pcapfile_info.specs.declared.progress.Progress.{Progress}
 use Rattle.pcapfile_info.specs.declared.seen.Sight.{Sight}

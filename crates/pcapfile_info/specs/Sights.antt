@@ -11,10 +11,11 @@ use Rattle.pcap_blocks.specs.declared.block_type.BlockType.TheVariants as types
 use Rattle.pcap_blocks.specs.InterfaceDescription.{Interface}
 use Rattle.pcap_blocks.specs.InterfaceTimes.{IsTimeAt}
 use Rattle.pcap_blocks.specs.ParsedBlock.{Body}
-use Rattle.pcap_file.specs.Blocks.{Item}
-use Rattle.pcap_file.specs.Bodies.{SaysOfBody}
-use Rattle.pcap_file.specs.Frames.{Framed}
-use Rattle.pcap_file.specs.Placed.{carried, interfaces_at, time_in}
+use Rattle.pcap_ng.specs.Blocks.{Item}
+use Rattle.pcap_ng.specs.Bodies.{SaysOfBody}
+use Rattle.pcap_ng.specs.Frames.{Framed}
+use Rattle.pcap_file.specs.Placed.{carried, time_in}
+use Rattle.pcap_ng.specs.State.{interfaces_at}
 use Rattle.pcapfile_run.specs.BlockPackets.{InBlock, packet_in}
 use Rattle.pcapfile_info.specs.declared.seen.Seen.{Seen}
 use Rattle.pcapfile_info.specs.declared.seen.Sight.{Sight}

@@ -1,8 +1,8 @@
 -- Items of which it is told what is seen, of any format.
 use Rattle.std.specs.Prelude.{⊤, ◌≡◌, ◌+◌, ℕ, List, [], ◌∷◌, length, Bool, true, false, Option, Some, None, Result, Ok, Err}
 use Rattle.pcap_core.specs.declared.errors.PcapError.{PcapError}
-use Rattle.pcap_core.specs.Format.{Format, state_after}
-use Rattle.pcap_core.specs.Takes.{TakesTexts, TakesItems}
+use Rattle.pcap_items.specs.Format.{Format, state_after}
+use Rattle.pcap_items.specs.Takes.{TakesTexts, TakesItems}
 use Rattle.pcapfile_run.specs.Passing.{counted}
 use Rattle.pcapfile_info.specs.declared.progress.Progress.{Progress}
 use Rattle.pcapfile_info.specs.declared.seen.Sight.{Sight}

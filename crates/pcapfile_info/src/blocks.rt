@@ -4,7 +4,7 @@ ghost use Rattle.std.specs.Prelude.{◌≡◌, map, length, option_map, slice_ge
 ghost use Rattle.pcap_core.specs.Errors.{IsMemory};
 ghost use Rattle.pcap_blocks.specs.InterfaceDescription.{interface_of};
 ghost use Rattle.pcap_blocks.specs.ParsedBlock.{body_of};
-ghost use Rattle.pcap_file.specs.Frames.{framed_of};
+ghost use Rattle.pcap_ng.specs.Frames.{framed_of};
 ghost use Rattle.pcapfile_run.specs.BlockPackets.{snaplen_of};
 ghost use Rattle.pcapfile_info.specs.Sights.{IsBodySight, IsFramedSight, IsStoredSight, IsTimeSeen, place_of};
 ghost use Rattle.pcapfile_info.specs.Totals.{IsBelow, IsWithin};

@@ -3,7 +3,7 @@
 ghost use Rattle.std.specs.Prelude.{◌≡◌, [], length, map, option_map, slice_get, IfOk};
 ghost use Rattle.pcap_blocks.specs.InterfaceDescription.{interface_of};
 ghost use Rattle.pcap_blocks.specs.SectionHeader.{magic_order, section_of};
-ghost use Rattle.pcap_file.specs.State.{State, or_big, within};
+ghost use Rattle.pcap_ng.specs.State.{State, or_big, within};
 ghost use Rattle.pcapfile_info.specs.InForce.{AreInForce, IsClocked, LeadsOn};
 ghost use Rattle.pcapfile_info.specs.Sights.{Sees, place_of};
 ghost use Rattle.pcapfile_info.specs.Totals.{IsBelow};

@@ -4,8 +4,8 @@ ghost use Rattle.std.specs.Prelude.{⊤, ◌≡◌, ◌+◌, ◌^◌, ◌<◌, �
 ghost use Rattle.std.specs.Io.KnownBytes.{prepend_known};
 ghost use Rattle.std.specs.Result.{result_err};
 ghost use Rattle.pcap_core.specs.Answer.{whole};
-ghost use Rattle.pcap_core.specs.Filling.{Stated};
-ghost use Rattle.pcap_core.specs.Held.{held_bytes};
+ghost use Rattle.pcap_items.specs.Filling.{Stated};
+ghost use Rattle.pcap_items.specs.Held.{held_bytes};
 ghost use Rattle.pcap_classic.specs.Magic.{is_magic};
 ghost use Rattle.pcap_classic.specs.Packets.{format_under, packet_format, reader_format};
 ghost use Rattle.pcap_classic.specs.StatedPackets.{KnowsHeader};
@@ -18,9 +18,9 @@ ghost use Rattle.pcapfile_info.specs.Totals.{AllAre, TotalsAre};
 use crate::progress::{MOST, Progress};
 use crate::shown::{Passes, pass_shown};
 use byteorder::{BigEndian, ByteOrder, LittleEndian};
-use pcap_core::stream::{Held, fill_item};
 use pcap_file::pcap::{Packet, PacketHeader, PacketsUnder, PcapHeader, packet_of};
 use pcap_file::{Endianness, PcapError, ResultParsing, TsResolution};
+use pcap_items::stream::{Held, fill_item};
 use std::alloc::Global;
 use std::io::{BufRead, Read};
 

@@ -6,8 +6,8 @@ ghost use Rattle.std.specs.Result.{result_err};
 ghost use Rattle.pcap_core.specs.Errors.{IsMemory};
 ghost use Rattle.pcap_blocks.specs.InterfaceDescription.{interface_of};
 ghost use Rattle.pcap_blocks.specs.SectionHeader.{section_of};
-ghost use Rattle.pcap_file.specs.Blocks.{block_format};
-ghost use Rattle.pcap_file.specs.Reader as ng;
+ghost use Rattle.pcap_ng.specs.Blocks.{block_format};
+ghost use Rattle.pcap_ng.specs.Reader as ng;
 ghost use Rattle.pcapfile_run.specs.Passing.{counted};
 ghost use Rattle.pcapfile_info.specs.declared.seen.Sight.TheVariants.{Packet};
 ghost use Rattle.pcapfile_info.specs.Describing.{AddsDescribed, SameDescribed, last_description, told_of};
@@ -151,8 +151,8 @@ fn tell_block<T: Read + Drop>(
 
 impl Passes for Clocks {
     ghost use Rattle.std.specs.Prelude.{⊤};
-    ghost use Rattle.pcap_file.specs.Blocks.{Item as BlockItem};
-    ghost use Rattle.pcap_file.specs.State.{State as BlockState};
+    ghost use Rattle.pcap_ng.specs.Blocks.{Item as BlockItem};
+    ghost use Rattle.pcap_ng.specs.State.{State as BlockState};
 
     ghost State = { BlockState };
 

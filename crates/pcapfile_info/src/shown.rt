@@ -2,7 +2,7 @@
 
 ghost use Rattle.std.specs.Prelude.{◌≡◌, ◌<◌, ◌≤◌, ℕ, List, Option, false, drop, length};
 ghost use Rattle.std.specs.Io.KnownBytes.{prepend_known};
-ghost use Rattle.pcap_core.specs.Format.{Format};
+ghost use Rattle.pcap_items.specs.Format.{Format};
 ghost use Rattle.pcapfile_info.specs.Describing.{SameDescribed};
 ghost use Rattle.pcapfile_info.specs.Telling.{GoesOn, TurnGives};
 

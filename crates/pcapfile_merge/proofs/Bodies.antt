@@ -15,7 +15,7 @@ use Rattle.pcap_blocks.specs.ParsedBlock.{Body, BodySays}
 use Rattle.pcap_blocks.specs.StoredBytes.{stored_len}
 use Rattle.pcap_blocks.specs.StoredPacket.{Stored, StoredText}
 use Rattle.pcap_options.specs.Values.{Kind}
-use Rattle.pcap_file.specs.Frames.{Framed}
+use Rattle.pcap_ng.specs.Frames.{Framed}
 use Rattle.pcap_file.specs.Placed.{is_packet}
 use Rattle.pcapfile_run.specs.BlockPackets.{HoldsPacket, InBlock, packet_in as packet_in_body, snaplen_of}
 use Rattle.pcapfile_merge.specs.declared.packet.Pending.{Pending}

@@ -3,11 +3,11 @@ use Rattle.std.proofs.Common.{◌≡◌, ℕ, List, [], Option, None, Some, sym,
 use Rattle.std.specs.Io.KnownBytes.{Consumes, IsAtEnd}
 use Rattle.std.proofs.lemmas.Bool.{true≢false}
 use Rattle.std.proofs.lemmas.List.{append-nil}
-use Rattle.pcap_core.specs.Format.{Front, Texts, state_after}
-use Rattle.pcap_core.proofs.Formats.{front_goes_on, has_front, nothing_no_text, texts_more}
-use Rattle.pcap_file.specs.Blocks.{Item, block_format}
+use Rattle.pcap_items.specs.Format.{Front, Texts, state_after}
+use Rattle.pcap_items.proofs.Formats.{front_goes_on, has_front, nothing_no_text, texts_more}
+use Rattle.pcap_ng.specs.Blocks.{Item, block_format}
 use Rattle.pcap_file.specs.Placing.{Source, TakesNone}
-use Rattle.pcap_file.proofs.BlockFormat.{blocks_lawful}
+use Rattle.pcap_ng.proofs.BlockFormat.{blocks_lawful}
 use Rattle.pcapfile_merge.specs.Fronts.{AreOfAll, AreOfFirst}
 use Rattle.pcapfile_merge.specs.Packets.{Packet}
 use Rattle.pcapfile_merge.specs.Sources.{BlocksGave}

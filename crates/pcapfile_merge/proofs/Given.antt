@@ -5,9 +5,9 @@ use Rattle.std.proofs.lemmas.List.{map-append, append-nil, length-take}
 use Rattle.pcap_file.specs.Placing.{Source}
 use Rattle.pcap_core.specs.declared.errors.PcapError.{PcapError}
 use Rattle.pcap_core.specs.Answer.{Verdict}
-use Rattle.pcap_core.specs.Reading.{NextGives, Takes}
-use Rattle.pcap_core.specs.Takes.{TakesTexts}
-use Rattle.pcap_core.proofs.Taking.{takes_more, takes_none}
+use Rattle.pcap_items.specs.Reading.{NextGives, Takes}
+use Rattle.pcap_items.specs.Takes.{TakesTexts}
+use Rattle.pcap_items.proofs.Taking.{takes_more, takes_none}
 use Rattle.pcap_classic.specs.declared.pcap.header.PcapHeader.{PcapHeader}
 use Rattle.pcap_classic.specs.declared.pcap.packet.PacketHeader.{PacketHeader}
 use Rattle.pcap_classic.specs.Packets.{reader_format}

@@ -8,8 +8,8 @@ use Rattle.std.proofs.Math.Seq.{take-append-add}
 use Rattle.std.proofs.lemmas.List.{length-take-le, take-append-drop}
 use Rattle.pcap_core.specs.declared.errors.PcapError.{PcapError}
 use Rattle.pcap_core.specs.Answer.{whole}
-use Rattle.pcap_core.specs.Filling.{Stated}
-use Rattle.pcap_core.specs.Reading.{NextGives}
+use Rattle.pcap_items.specs.Filling.{Stated}
+use Rattle.pcap_items.specs.Reading.{NextGives}
 use Rattle.pcap_classic.specs.declared.pcap.header.PcapHeader.{PcapHeader}
 use Rattle.pcap_classic.specs.declared.pcap.packet.PacketHeader.{PacketHeader}
 use Rattle.pcap_classic.specs.declared.pcap.reader.PcapReader.{PcapReader}

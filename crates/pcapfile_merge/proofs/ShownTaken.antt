@@ -8,18 +8,18 @@ use Rattle.pcap_core.specs.declared.errors.PcapError.{PcapError}
 use Rattle.pcap_blocks.specs.InterfaceDescription.{Interface}
 use Rattle.pcap_blocks.specs.ParsedBlock.{EnhancedBody}
 use Rattle.pcap_blocks.specs.SectionHeader.{Section, magic_order}
-use Rattle.pcap_file.specs.declared.pcapng.enhanced.EnhancedNumbers.{EnhancedNumbers}
-use Rattle.pcap_file.specs.declared.pcapng.reader.PcapNgReader.{PcapNgReader}
-use Rattle.pcap_file.specs.Blocks.{Item}
-use Rattle.pcap_file.specs.Enhanced.{PacketText, enhanced_frame}
-use Rattle.pcap_file.specs.Frames.{Framed, frame_format}
-use Rattle.pcap_file.specs.Lent.{body_in}
+use Rattle.pcap_ng.specs.declared.pcapng.enhanced.EnhancedNumbers.{EnhancedNumbers}
+use Rattle.pcap_ng.specs.declared.pcapng.reader.PcapNgReader.{PcapNgReader}
+use Rattle.pcap_ng.specs.Blocks.{Item}
+use Rattle.pcap_ng.specs.Enhanced.{PacketText, enhanced_frame}
+use Rattle.pcap_ng.specs.Frames.{Framed, frame_format}
+use Rattle.pcap_ng.specs.Lent.{body_in}
 use Rattle.pcap_file.specs.Placing as placing
 use Rattle.pcap_file.specs.Placing.{Source, TakesNext}
-use Rattle.pcap_file.specs.Reader.{body_of, interfaces_in_force, section_in_force, state_of, stream_of}
-use Rattle.pcap_file.specs.State.{or_big, order_at, within}
-use Rattle.pcap_file.proofs.EnhancedFrames.{packet_item, packet_says}
-use Rattle.pcap_file.proofs.Lent.{held_block}
+use Rattle.pcap_ng.specs.Reader.{body_of, interfaces_in_force, section_in_force, state_of, stream_of}
+use Rattle.pcap_ng.specs.State.{or_big, order_at, within}
+use Rattle.pcap_ng.proofs.EnhancedFrames.{packet_item, packet_says}
+use Rattle.pcap_ng.proofs.Lent.{held_block}
 use Rattle.pcapfile_run.specs.BlockPackets.{HoldsPacket, InBlock}
 use Rattle.pcapfile_merge.specs.declared.packet.Pending.{Pending}
 use Rattle.pcapfile_merge.specs.declared.reader.Interfaces.{Interfaces}

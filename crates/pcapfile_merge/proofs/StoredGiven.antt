@@ -6,19 +6,19 @@ use Rattle.std.proofs.lemmas.Bool.{true≢false}
 use Rattle.std.proofs.lemmas.List.Elements.{filter_map-append}
 use Rattle.std.proofs.lemmas.Slice.Zip.{all_zipped_more}
 use Rattle.pcap_core.specs.declared.errors.PcapError.{PcapError}
-use Rattle.pcap_core.specs.Format.{state_after}
-use Rattle.pcap_core.specs.Reading.{Takes}
-use Rattle.pcap_core.specs.Takes.{TakesTexts}
-use Rattle.pcap_core.proofs.Copying.{state_all}
-use Rattle.pcap_core.proofs.Formats.{state_push}
-use Rattle.pcap_core.proofs.Taking.{takes_all, takes_more, takes_none}
+use Rattle.pcap_items.specs.Format.{state_after}
+use Rattle.pcap_items.specs.Reading.{Takes}
+use Rattle.pcap_items.specs.Takes.{TakesTexts}
+use Rattle.pcap_items.proofs.Copying.{state_all}
+use Rattle.pcap_items.proofs.Formats.{state_push}
+use Rattle.pcap_items.proofs.Taking.{takes_all, takes_more, takes_none}
 use Rattle.pcap_blocks.specs.declared.block_type.BlockType.{BlockType}
 use Rattle.pcap_blocks.specs.declared.block_type.BlockType.TheVariants as types
-use Rattle.pcap_file.specs.Blocks.{Item, block_format}
+use Rattle.pcap_ng.specs.Blocks.{Item, block_format}
 use Rattle.pcap_file.specs.Placed.{is_packet}
 use Rattle.pcap_file.specs.Placing.{Source, TakesNext}
-use Rattle.pcap_file.specs.State.{State, is_kept}
-use Rattle.pcap_file.proofs.BlockFormat.{blocks_lawful}
+use Rattle.pcap_ng.specs.State.{State, is_kept}
+use Rattle.pcap_ng.proofs.BlockFormat.{blocks_lawful}
 use Rattle.pcapfile_run.proofs.Passing.{goes_after}
 use Rattle.pcapfile_merge.specs.declared.packet.Pending.{Pending}
 use Rattle.pcapfile_merge.specs.declared.reader.Interfaces.{Interfaces}

@@ -2,16 +2,16 @@
 use Rattle.std.proofs.Common.{◌≡◌, ◌⊎◌, ◌+◌, ℕ, List, [], ◌∷◌, ◌++◌, length, length-append, arith, refl, sym, ◌∙◌, subst, inl, inr}
 use Rattle.std.specs.Prelude.{Result}
 use Rattle.pcap_core.specs.declared.errors.PcapError.{PcapError}
-use Rattle.pcap_core.specs.Format.{state_after}
-use Rattle.pcap_core.specs.Reading.{Takes}
-use Rattle.pcap_core.proofs.Formats.{state_push}
-use Rattle.pcap_core.proofs.Taking.{takes_more, takes_none}
+use Rattle.pcap_items.specs.Format.{state_after}
+use Rattle.pcap_items.specs.Reading.{Takes}
+use Rattle.pcap_items.proofs.Formats.{state_push}
+use Rattle.pcap_items.proofs.Taking.{takes_more, takes_none}
 use Rattle.pcap_blocks.specs.InterfaceDescription.{Interface}
-use Rattle.pcap_file.specs.Blocks.{Item, block_format}
-use Rattle.pcap_file.specs.Frames.{Framed}
+use Rattle.pcap_ng.specs.Blocks.{Item, block_format}
+use Rattle.pcap_ng.specs.Frames.{Framed}
 use Rattle.pcap_file.specs.Placing.{RefusesNext, Source, TakesNext}
-use Rattle.pcap_file.specs.State.{State}
-use Rattle.pcap_file.proofs.BlockFormat.{blocks_lawful}
+use Rattle.pcap_ng.specs.State.{State}
+use Rattle.pcap_ng.proofs.BlockFormat.{blocks_lawful}
 use Rattle.pcapfile_run.proofs.Passing.{goes_after}
 use Rattle.pcapfile_merge.specs.declared.packet.Pending.{Pending}
 use Rattle.pcapfile_merge.specs.declared.reader.Interfaces.{Interfaces}

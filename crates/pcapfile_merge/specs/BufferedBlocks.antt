@@ -3,13 +3,13 @@ use Rattle.std.specs.Prelude.{◌≡◌, ℕ, List, [], take, Bool, Option, None
 use Rattle.std.specs.Io.Buffered.{reader_buffer}
 use Rattle.std.specs.declared.io.buffered.BufReader.{BufReader}
 use Rattle.pcap_blocks.specs.InterfaceDescription.{Interface}
-use Rattle.pcap_file.specs.declared.pcapng.enhanced.EnhancedNumbers.{EnhancedNumbers}
-use Rattle.pcap_file.specs.declared.pcapng.reader.PcapNgReader.{PcapNgReader}
-use Rattle.pcap_file.specs.Enhanced.{PacketText}
-use Rattle.pcap_file.specs.Lent.{body_in}
+use Rattle.pcap_ng.specs.declared.pcapng.enhanced.EnhancedNumbers.{EnhancedNumbers}
+use Rattle.pcap_ng.specs.declared.pcapng.reader.PcapNgReader.{PcapNgReader}
+use Rattle.pcap_ng.specs.Enhanced.{PacketText}
+use Rattle.pcap_ng.specs.Lent.{body_in}
 use Rattle.pcap_file.specs.Placing.{Source}
-use Rattle.pcap_file.specs.Reader as readers
-use Rattle.pcap_file.specs.State.{order_at}
+use Rattle.pcap_ng.specs.Reader as readers
+use Rattle.pcap_ng.specs.State.{order_at}
 use Rattle.pcapfile_merge.specs.declared.buffered_blocks.BufferedBlocks.{BufferedBlocks}
 use Rattle.pcapfile_merge.specs.Buffered.{left_behind, lent_of}
 

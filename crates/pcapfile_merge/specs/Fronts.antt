@@ -1,9 +1,9 @@
 -- What sources of blocks give of bytes that are known.
 use Rattle.std.specs.Prelude.{◌≡◌, ℕ, List, [], ◌++◌, filter_map, Option}
 use Rattle.std.specs.List.{AllZip}
-use Rattle.pcap_core.specs.Format.{Front}
-use Rattle.pcap_file.specs.Blocks.{Item, block_format}
-use Rattle.pcap_file.specs.State.{State}
+use Rattle.pcap_items.specs.Format.{Front}
+use Rattle.pcap_ng.specs.Blocks.{Item, block_format}
+use Rattle.pcap_ng.specs.State.{State}
 use Rattle.pcapfile_merge.specs.Packets.{Packet}
 use Rattle.pcapfile_merge.specs.TakingBlocks.{GivesIn}
 

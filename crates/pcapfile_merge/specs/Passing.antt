@@ -3,12 +3,12 @@ use Rattle.std.specs.Prelude.{◌≡◌, ◌⊎◌, ◌≤◌, ℕ, List, length
 use Rattle.pcap_core.specs.declared.errors.PcapError.{PcapError}
 use Rattle.pcap_blocks.specs.declared.block_type.BlockType.{BlockType}
 use Rattle.pcap_blocks.specs.InterfaceDescription.{Interface}
-use Rattle.pcap_file.specs.declared.pcapng.block_header.BlockHeader.{BlockHeader}
-use Rattle.pcap_file.specs.Blocks.{Item}
-use Rattle.pcap_file.specs.Frames.{Framed}
+use Rattle.pcap_ng.specs.declared.pcapng.block_header.BlockHeader.{BlockHeader}
+use Rattle.pcap_ng.specs.Blocks.{Item}
+use Rattle.pcap_ng.specs.Frames.{Framed}
 use Rattle.pcap_file.specs.Placed.{is_packet}
 use Rattle.pcap_file.specs.Placing.{HasMessage, RefusesNext, Source, TakesNext}
-use Rattle.pcap_file.specs.State.{is_kept}
+use Rattle.pcap_ng.specs.State.{is_kept}
 use Rattle.pcapfile_run.specs.BlockPackets.{InBlock}
 use Rattle.pcapfile_merge.specs.declared.packet.Pending.{Pending}
 use Rattle.pcapfile_merge.specs.declared.reader.Interfaces.{Interfaces}

@@ -3,16 +3,16 @@ use Rattle.std.specs.Prelude.{⊤, ◌≡◌, ◌≢◌, ℕ, List, [], ◌∷�
 use Rattle.std.specs.List.{AllByRecursion, AllZip}
 use Rattle.pcap_core.specs.declared.errors.PcapError.{PcapError}
 use Rattle.pcap_core.specs.Answer.{Verdict}
-use Rattle.pcap_core.specs.Format.{state_after}
-use Rattle.pcap_core.specs.Takes.{TakesTexts}
+use Rattle.pcap_items.specs.Format.{state_after}
+use Rattle.pcap_items.specs.Takes.{TakesTexts}
 use Rattle.pcap_classic.specs.Packets.{reader_format}
 use Rattle.pcap_classic.specs.PacketText.{Captured, packet_limit}
 use Rattle.pcapfile_merge.specs.declared.buffered.BufferedPackets.{BufferedPackets}
 use Rattle.pcapfile_merge.specs.declared.buffered_blocks.BufferedBlocks.{BufferedBlocks}
-use Rattle.pcap_file.specs.Blocks.{Item, block_format}
+use Rattle.pcap_ng.specs.Blocks.{Item, block_format}
 use Rattle.pcap_file.specs.Placed.{is_packet}
 use Rattle.pcap_file.specs.Placing as blocks
-use Rattle.pcap_file.specs.State.{is_kept}
+use Rattle.pcap_ng.specs.State.{is_kept}
 use Rattle.pcapfile_merge.specs.declared.packet.Pending.{Pending}
 use Rattle.pcapfile_merge.specs.declared.reader.Interfaces.TheVariants.{Closed}
 use Rattle.pcapfile_merge.specs.declared.reader.Reader.{Reader}

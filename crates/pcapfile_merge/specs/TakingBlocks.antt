@@ -3,19 +3,20 @@ use Rattle.std.specs.Prelude.{◌≡◌, ◌⊎◌, ◌<◌, ◌≤◌, ◌+◌,
 use Rattle.std.specs.List.{AllByRecursion, slice_get}
 use Rattle.pcap_core.specs.declared.errors.PcapError.{PcapError}
 use Rattle.pcap_core.specs.Answer.{lacks, faulty, Refuses}
-use Rattle.pcap_core.specs.Format.{state_after}
-use Rattle.pcap_core.specs.Takes.{TakesTexts}
+use Rattle.pcap_items.specs.Format.{state_after}
+use Rattle.pcap_items.specs.Takes.{TakesTexts}
 use Rattle.pcap_times.specs.declared.clock.Timestamp.{Timestamp}
 use Rattle.pcap_blocks.specs.declared.block_type.BlockType.{BlockType}
 use Rattle.pcap_blocks.specs.InterfaceDescription.{Interface}
 use Rattle.pcap_blocks.specs.InterfaceTimes.{IsTimeAt}
 use Rattle.pcap_file.specs.declared.run.unplaced.Unplaced.TheVariants.{InterfaceMissing}
-use Rattle.pcap_file.specs.Blocks.{Item, block_format}
-use Rattle.pcap_file.specs.Bodies.{GrowsInBody, SaysOfBody}
-use Rattle.pcap_file.specs.Frames.{Framed}
-use Rattle.pcap_file.specs.Placed.{interfaces_at, is_packet, unplaced_message}
+use Rattle.pcap_ng.specs.Blocks.{Item, block_format}
+use Rattle.pcap_ng.specs.Bodies.{GrowsInBody, SaysOfBody}
+use Rattle.pcap_ng.specs.Frames.{Framed}
+use Rattle.pcap_file.specs.Placed.{is_packet, unplaced_message}
+use Rattle.pcap_ng.specs.State.{interfaces_at}
 use Rattle.pcap_file.specs.Placing.{HasMessage, RefusesNext, Source, TakesNext, TakesNone}
-use Rattle.pcap_file.specs.State.{is_kept}
+use Rattle.pcap_ng.specs.State.{is_kept}
 use Rattle.pcapfile_run.specs.BlockPackets.{HoldsPacket, InBlock}
 use Rattle.pcapfile_merge.specs.declared.packet.Pending.{Pending}
 use Rattle.pcapfile_merge.specs.declared.reader.Interfaces.{Interfaces}

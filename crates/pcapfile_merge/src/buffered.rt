@@ -2,16 +2,16 @@
 
 ghost use Rattle.std.specs.Prelude.{◌≡◌, false, None, Some, Ok, IfSome, MatchOption};
 ghost use Rattle.std.specs.Io.Buffered.{reader_buffer, reader_remaining};
-ghost use Rattle.pcap_core.specs.Reading.{NextGives};
+ghost use Rattle.pcap_items.specs.Reading.{NextGives};
 ghost use Rattle.pcap_classic.specs.Packets.{reader_format};
 ghost use Rattle.pcap_classic.specs.PacketText.{packet_limit};
 ghost use Rattle.pcap_classic.specs.Reader as classic;
 ghost use Rattle.pcapfile_merge.specs.Buffered.{LiesWhole, StaysAt, data_of, has_failed, header_of, is_done, left_of, lent_packet};
 
 use crate::parts::{behind, front};
-use pcap_core::stream::HasHead;
 use pcap_file::pcap::{PacketHeader, PacketsUnder, PcapHeader};
 use pcap_file::{PcapReader, ResultParsing};
+use pcap_items::stream::HasHead;
 use std::io::{BufRead, BufReader, Read};
 
 /// How many bytes the header of a packet has.

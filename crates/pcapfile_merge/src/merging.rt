@@ -1,7 +1,7 @@
 //! Captures whose packets are merged.
 
 ghost use Rattle.std.specs.Prelude.{◌≡◌, ◌≤◌, ◌<◌, length, Some};
-ghost use Rattle.pcap_core.specs.Writing.{WritesAll};
+ghost use Rattle.pcap_items.specs.Writing.{WritesAll};
 ghost use Rattle.pcapfile_merge.specs.Choosing.{Chooses};
 ghost use Rattle.pcapfile_merge.specs.Holding.{Holds};
 ghost use Rattle.pcapfile_merge.specs.Merging.{MergesAt, MergesNext, MergesRun, outcome_of, texts};

@@ -2,11 +2,11 @@
 
 ghost use Rattle.std.specs.Prelude.{◌≡◌, ◌≤◌, ℕ, List, length, false, true, map, Some, IfOk, IfSome, MatchResult};
 ghost use Rattle.pcap_blocks.specs.InterfaceDescription.{interface_of};
-ghost use Rattle.pcap_file.specs.Frames.{framed_of};
+ghost use Rattle.pcap_ng.specs.Frames.{framed_of};
 ghost use Rattle.pcap_file.specs.Placed.{is_packet};
 ghost use Rattle.pcap_file.specs.Placing.{source_of};
-ghost use Rattle.pcap_file.specs.Reader.{body_of, is_done, lent_item};
-ghost use Rattle.pcap_file.specs.State.{is_kept};
+ghost use Rattle.pcap_ng.specs.Reader.{body_of, is_done, lent_item};
+ghost use Rattle.pcap_ng.specs.State.{is_kept};
 ghost use Rattle.pcapfile_run.specs.BlockPackets.{in_block};
 ghost use Rattle.pcapfile_merge.specs.Passing.{BarsType, PassesTo, TellsPending, TellsStored, TellsTaken, bytes_before, in_said};
 ghost use Rattle.pcapfile_merge.specs.BufferedBlocks as buffered;

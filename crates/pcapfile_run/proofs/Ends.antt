@@ -7,12 +7,12 @@ use Rattle.pcap_core.specs.declared.rules.Rule.{Rule}
 use Rattle.pcap_core.specs.Answer.{Verdict}
 use Rattle.pcap_core.specs.Errors.{IsIo, IsMemory}
 use Rattle.pcap_core.specs.Faults.{Fault, Invalid, Io, Utf8, Names, Shows}
-use Rattle.pcap_core.specs.Format.{Format, Texts, IsLawful, state_after}
-use Rattle.pcap_core.specs.Reading.{IsFaultOf, IsShort, IsTorn, HasCause, read_failed, no_memory, torn, refused}
-use Rattle.pcap_core.specs.Takes.{EndsFront, TakesTexts, TakesItems, Stops}
+use Rattle.pcap_items.specs.Format.{Format, Texts, IsLawful, state_after}
+use Rattle.pcap_items.specs.Reading.{IsFaultOf, IsShort, IsTorn, HasCause, read_failed, no_memory, torn, refused}
+use Rattle.pcap_items.specs.Takes.{EndsFront, TakesTexts, TakesItems, Stops}
 use Rattle.pcap_core.proofs.EachRule.{one_message}
-use Rattle.pcap_core.proofs.Formats.{texts_more}
-use Rattle.pcap_core.proofs.Taking.{run_reads}
+use Rattle.pcap_items.proofs.Formats.{texts_more}
+use Rattle.pcap_items.proofs.Taking.{run_reads}
 use Rattle.pcapfile_run.specs.declared.checked.Checked.{Checked}
 use Rattle.pcapfile_run.specs.declared.checked.End.{End}
 use Rattle.pcapfile_run.specs.declared.checked.End.TheVariants.{Whole, Most, Short, Breaks, NotUtf8, Unread, Memory}

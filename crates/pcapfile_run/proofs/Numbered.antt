@@ -3,10 +3,10 @@ use Rattle.std.proofs.Common.{ℕ, List, take, Bool, Option, None, Some, [], inl
 use Rattle.std.specs.Prelude.{IfSome}
 use Rattle.pcap_core.specs.declared.errors.PcapError.{PcapError}
 use Rattle.pcap_core.specs.Answer.{whole, faulty}
-use Rattle.pcap_core.specs.Early.{EarlyFault}
+use Rattle.pcap_items.specs.Early.{EarlyFault}
 use Rattle.pcap_core.specs.Faults.{Fault}
-use Rattle.pcap_core.specs.Format.{Format, IsLawful}
-use Rattle.pcap_core.specs.Reading.{IsShort, IsTorn, IsFaultOf, HasCause, read_failed, no_memory, torn, refused, Takes, TakesAsked}
+use Rattle.pcap_items.specs.Format.{Format, IsLawful}
+use Rattle.pcap_items.specs.Reading.{IsShort, IsTorn, IsFaultOf, HasCause, read_failed, no_memory, torn, refused, Takes, TakesAsked}
 use Rattle.pcap_core.proofs.Refusals.{shows_more}
 use Rattle.pcap_core.proofs.Verdicts.{one_made}
 use Rattle.pcapfile_run.specs.Numbered.{numbered, numbered_behind}

@@ -2,10 +2,10 @@
 use Rattle.std.proofs.Common.{◌≡◌, ◌<◌, ◌≤◌, ◌+◌, ◌^◌, ℕ, List, [], ◌∷◌, ◌++◌, length, Bool, Option, refl, sym, ap, ◌∙◌, subst, arith, length-append}
 use Rattle.pcap_core.specs.declared.errors.PcapError.{PcapError}
 use Rattle.pcap_core.specs.Answer.{number_in, whole}
-use Rattle.pcap_core.specs.Format.{Format, IsLawful}
-use Rattle.pcap_core.specs.Reading.{Takes}
-use Rattle.pcap_core.specs.Takes.{Stops}
-use Rattle.pcap_core.proofs.Formats.{state_push, texts_more, texts_push}
+use Rattle.pcap_items.specs.Format.{Format, IsLawful}
+use Rattle.pcap_items.specs.Reading.{Takes}
+use Rattle.pcap_items.specs.Takes.{Stops}
+use Rattle.pcap_items.proofs.Formats.{state_push, texts_more, texts_push}
 use Rattle.std.proofs.KnownBytes.{Consumes-nil, Consumes-trans}
 use Rattle.pcap_classic.specs.declared.pcap.header.PcapHeader.{PcapHeader}
 use Rattle.pcap_classic.specs.Magic.{order_of, resolution_of}
@@ -13,8 +13,8 @@ use Rattle.pcap_classic.specs.Packets.{packet_format, reader_format}
 use Rattle.pcap_classic.specs.PacketText.{packet_limit, Captured}
 use Rattle.pcap_classic.proofs.Packets.{reader_whole}
 use Rattle.pcap_classic.proofs.Texts.{packet_length}
-use Rattle.pcap_file.specs.Blocks.{Item, block_format}
-use Rattle.pcap_file.specs.State.{State}
+use Rattle.pcap_ng.specs.Blocks.{Item, block_format}
+use Rattle.pcap_ng.specs.State.{State}
 use Rattle.pcapfile_run.specs.declared.pass.Passed.{Passed}
 use Rattle.pcapfile_run.specs.Passing.{counted, Counts, Passing, PassesItems}
 

@@ -3,8 +3,8 @@ use Rattle.std.proofs.Common.{◌≡◌, ◌<◌, ◌^◌, ℕ, List, [], ◌++�
 use Rattle.std.specs.Prelude.{⊤, IfSome}
 use Rattle.pcap_core.specs.declared.errors.PcapError.{PcapError}
 use Rattle.pcap_core.specs.Answer.{number_in, whole}
-use Rattle.pcap_core.specs.Format.{Format}
-use Rattle.pcap_core.specs.Reading.{Takes, ReadsTold}
+use Rattle.pcap_items.specs.Format.{Format}
+use Rattle.pcap_items.specs.Reading.{Takes, ReadsTold}
 use Rattle.pcap_classic.specs.declared.pcap.header.PcapHeader.{PcapHeader}
 use Rattle.pcap_classic.specs.HeaderText.{HeaderText, HeaderSays}
 use Rattle.pcap_classic.specs.Magic.{order_of, resolution_of}
@@ -14,11 +14,11 @@ use Rattle.pcap_classic.proofs.Captures.{under_valid}
 use Rattle.pcap_classic.proofs.HeadedPackets.{packets_lawful}
 use Rattle.pcap_classic.proofs.Stable.{header_stable}
 use Rattle.pcap_classic.proofs.Texts.{header_length}
-use Rattle.pcap_file.specs.Blocks.{block_format}
-use Rattle.pcap_file.specs.Lent.{TakesText}
-use Rattle.pcap_file.specs.Opening.{OpeningSays, RefusesOpening}
-use Rattle.pcap_file.specs.State.{State, opening}
-use Rattle.pcap_file.proofs.BlockFormat.{blocks_lawful}
+use Rattle.pcap_ng.specs.Blocks.{block_format}
+use Rattle.pcap_ng.specs.Lent.{TakesText}
+use Rattle.pcap_ng.specs.Opening.{OpeningSays, RefusesOpening}
+use Rattle.pcap_ng.specs.State.{State, opening}
+use Rattle.pcap_ng.proofs.BlockFormat.{blocks_lawful}
 use Rattle.pcapfile_run.specs.declared.checked.Checked.{Checked}
 use Rattle.pcapfile_run.specs.declared.checked.End.{End}
 use Rattle.pcapfile_run.specs.declared.checked.Format.TheVariants.{Pcap, PcapNg}

@@ -5,8 +5,8 @@ use Rattle.pcap_core.specs.Answer.{whole}
 use Rattle.pcap_blocks.specs.InterfaceDescription.{Interface}
 use Rattle.pcap_blocks.specs.ParsedBlock.{Body, EnhancedBody, OldPacketBody, SimpleBody}
 use Rattle.pcap_blocks.specs.StoredBytes.{stored_len}
-use Rattle.pcap_file.specs.Bodies.{SaysOfBody}
-use Rattle.pcap_file.specs.Frames.{Framed}
+use Rattle.pcap_ng.specs.Bodies.{SaysOfBody}
+use Rattle.pcap_ng.specs.Frames.{Framed}
 use Rattle.pcapfile_run.specs.declared.block_packet.BlockPacket.{BlockPacket}
 
 -- A packet in a block, wherever its bytes lie: the number of its interface in its section, its time in the units of that

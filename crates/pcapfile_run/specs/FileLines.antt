@@ -4,17 +4,18 @@ use Rattle.std.specs.List.{slice_get}
 use Rattle.std.specs.Fmt.{decimal}
 use Rattle.pcap_core.specs.Answer.{whole, faulty}
 use Rattle.pcap_core.specs.Faults.{Fault}
-use Rattle.pcap_core.specs.Format.{Format}
+use Rattle.pcap_items.specs.Format.{Format}
 use Rattle.pcap_times.specs.declared.clock.Timestamp.{Timestamp}
 use Rattle.pcap_blocks.specs.InterfaceDescription.{Interface}
 use Rattle.pcap_blocks.specs.InterfaceTimes.{IsTimeAt}
 use Rattle.pcap_blocks.specs.ParsedBlock.{Body}
-use Rattle.pcap_file.specs.Blocks.{Item, block_format}
-use Rattle.pcap_file.specs.Bodies.{SaysOfBody}
-use Rattle.pcap_file.specs.Frames.{Framed}
-use Rattle.pcap_file.specs.Opening.{OpeningSays}
-use Rattle.pcap_file.specs.Placed.{interfaces_at, is_packet}
-use Rattle.pcap_file.specs.State.{State}
+use Rattle.pcap_ng.specs.Blocks.{Item, block_format}
+use Rattle.pcap_ng.specs.Bodies.{SaysOfBody}
+use Rattle.pcap_ng.specs.Frames.{Framed}
+use Rattle.pcap_ng.specs.Opening.{OpeningSays}
+use Rattle.pcap_file.specs.Placed.{is_packet}
+use Rattle.pcap_ng.specs.State.{interfaces_at}
+use Rattle.pcap_ng.specs.State.{State}
 use Rattle.capcopy_run.specs.declared.exit.Exit.{Exit}
 use Rattle.capcopy_run.specs.Listing.{Kind, ListsUntil}
 use Rattle.capcopy_run.specs.PacketLines.{nine_digits, packet_lines}

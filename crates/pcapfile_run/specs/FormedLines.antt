@@ -10,8 +10,8 @@ use Rattle.pcap_times.specs.declared.clock.Timestamp.{Timestamp}
 use Rattle.pcap_blocks.specs.InterfaceDescription.{Interface}
 use Rattle.pcap_blocks.specs.InterfaceTimes.{IsTimeAt}
 use Rattle.pcap_blocks.specs.ParsedBlock.{Body}
-use Rattle.pcap_file.specs.Bodies.{SaysOfBody}
-use Rattle.pcap_file.specs.Frames.{Framed}
+use Rattle.pcap_ng.specs.Bodies.{SaysOfBody}
+use Rattle.pcap_ng.specs.Frames.{Framed}
 use Rattle.capcopy_run.specs.Listing.{Kind}
 use Rattle.capcopy_run.specs.PacketLines.{packets_in}
 use Rattle.pcapfile_lines.specs.declared.form.Form.{Form}

@@ -1,7 +1,7 @@
 -- Items of a format, with the number that each has among those of one kind.
 use Rattle.std.specs.Prelude.{◌+◌, ℕ, Bool, true, false}
 use Rattle.pcap_core.specs.Answer.{Made}
-use Rattle.pcap_core.specs.Format.{Format}
+use Rattle.pcap_items.specs.Format.{Format}
 use Rattle.pcapfile_run.specs.Passing.{counted}
 
 -- an item, and how many of the kind there are up to it, itself among them

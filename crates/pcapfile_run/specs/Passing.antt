@@ -1,8 +1,8 @@
 -- Items that are passed and counted, of any format.
 use Rattle.std.specs.Prelude.{◌≡◌, ◌+◌, ◌-◌, ◌^◌, ℕ, List, Bool, Option, min, length}
 use Rattle.pcap_core.specs.declared.errors.PcapError.{PcapError}
-use Rattle.pcap_core.specs.Format.{Format, state_after}
-use Rattle.pcap_core.specs.Takes.{TakesTexts, TakesItems}
+use Rattle.pcap_items.specs.Format.{Format, state_after}
+use Rattle.pcap_items.specs.Takes.{TakesTexts, TakesItems}
 use Rattle.pcapfile_run.specs.declared.pass.Passed.{Passed}
 
 -- a number as it is counted: the largest of 64 bits stands for all above it

@@ -3,7 +3,7 @@
 ghost use Rattle.std.specs.Prelude.{map, IfOk, string_bytes};
 ghost use Rattle.pcap_blocks.specs.InterfaceDescription.{interface_of};
 ghost use Rattle.pcap_blocks.specs.ParsedBlock.{body_of};
-ghost use Rattle.pcap_file.specs.Frames.{framed_of};
+ghost use Rattle.pcap_ng.specs.Frames.{framed_of};
 ghost use Rattle.capcopy_run.specs.Lines.{WritesLine};
 ghost use Rattle.pcapfile_run.specs.FormedLines.{IsLineOfBlock, IsLineOfBody};
 

@@ -2,12 +2,12 @@
 
 ghost use Rattle.std.specs.Prelude.{⊤, ◌≡◌, ◌≤◌, ℕ, drop, map, Option, IfSome, MatchResult};
 ghost use Rattle.pcap_blocks.specs.InterfaceDescription.{interface_of};
-ghost use Rattle.pcap_file.specs.Blocks.{Item};
-ghost use Rattle.pcap_file.specs.Bodies.{GrowsInBody};
-ghost use Rattle.pcap_file.specs.Frames.{framed_of};
-ghost use Rattle.pcap_file.specs.Parser.{state_of};
+ghost use Rattle.pcap_ng.specs.Blocks.{Item};
+ghost use Rattle.pcap_ng.specs.Bodies.{GrowsInBody};
+ghost use Rattle.pcap_ng.specs.Frames.{framed_of};
+ghost use Rattle.pcap_ng.specs.Parser.{state_of};
 ghost use Rattle.pcap_file.specs.Placed.{is_packet};
-ghost use Rattle.pcap_file.specs.State.{State};
+ghost use Rattle.pcap_ng.specs.State.{State};
 ghost use Rattle.capcopy_run.specs.declared.exit.Exit.TheVariants as exits;
 ghost use Rattle.capcopy_run.specs.Exits.{exit_of};
 ghost use Rattle.capcopy_run.specs.Lines.{WritesLine};

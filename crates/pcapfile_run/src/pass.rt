@@ -4,8 +4,8 @@ ghost use Rattle.std.specs.Prelude.{◌≡◌, ◌+◌, ◌^◌, ◌<◌, false}
 ghost use Rattle.pcap_classic.specs.Packets.{reader_format};
 ghost use Rattle.pcap_classic.specs.PacketText.{packet_limit};
 ghost use Rattle.pcap_classic.specs.Reader.{stream_of, has_failed, is_done};
-ghost use Rattle.pcap_file.specs.Blocks.{block_format};
-ghost use Rattle.pcap_file.specs.Reader as ng;
+ghost use Rattle.pcap_ng.specs.Blocks.{block_format};
+ghost use Rattle.pcap_ng.specs.Reader as ng;
 ghost use Rattle.pcapfile_run.specs.Passing.{PassesItems, counted};
 
 use pcap_file::{PcapError, PcapNgReader, PcapReader};

@@ -3,10 +3,10 @@ use Rattle.std.proofs.Common.{◌≡◌, ℕ, List, [], ◌∷◌, length, refl,
 use Rattle.byteorder.specs.Endian.{big_number}
 use Rattle.pcap_core.specs.Answer.{Number}
 use Rattle.pcap_core.specs.Laws.{ExactlyOne}
-use Rattle.pcap_core.specs.Format.{IsLawful}
-use Rattle.pcap_core.specs.Headed.{HeadReading, good, bad}
+use Rattle.pcap_items.specs.Format.{IsLawful}
+use Rattle.pcap_items.specs.Headed.{HeadReading, good, bad}
 use Rattle.pcap_core.specs.Padded.{Behind}
-use Rattle.pcap_core.proofs.Headed.{headed_lawful}
+use Rattle.pcap_items.proofs.Headed.{headed_lawful}
 use Rattle.pcap_core.proofs.Numbers.{numbers_at, total}
 use Rattle.pcap_core.proofs.Texts.{number_same}
 use Rattle.test_formats.specs.declared.samples.Head.{Head}

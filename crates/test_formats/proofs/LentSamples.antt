@@ -2,7 +2,7 @@
 use Rattle.std.proofs.Common.{◌≡◌, ℕ, ◌<◌, ◌-◌, List, ◌++◌, length, refl, arith, inl, inr}
 use Rattle.pcap_core.specs.Answer.{whole, lacks, faulty}
 use Rattle.pcap_core.specs.Faults.{Fault}
-use Rattle.pcap_core.specs.Headed.{bad}
+use Rattle.pcap_items.specs.Headed.{bad}
 use Rattle.test_formats.specs.declared.samples.Head.{Head}
 use Rattle.test_formats.specs.Samples.{head_length, HeadReads, KnowsHead, item_with, sample_format}
 

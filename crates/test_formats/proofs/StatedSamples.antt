@@ -4,9 +4,9 @@ use Rattle.std.proofs.lemmas.List.{drop_at, nil_from_length}
 use Rattle.pcap_core.specs.declared.errors.PcapError.{PcapError}
 use Rattle.pcap_core.specs.Answer.{whole, lacks, faulty}
 use Rattle.pcap_core.specs.Faults.{Fault}
-use Rattle.pcap_core.specs.Headed.{bad}
-use Rattle.pcap_core.specs.Filling.{Stated, StatesRest, FillsHeaded, TakesStated, TakesHeaded}
-use Rattle.pcap_core.specs.Reading.{Takes}
+use Rattle.pcap_items.specs.Headed.{bad}
+use Rattle.pcap_items.specs.Filling.{Stated, StatesRest, FillsHeaded, TakesStated, TakesHeaded}
+use Rattle.pcap_items.specs.Reading.{Takes}
 use Rattle.test_formats.specs.declared.samples.Head.{Head}
 use Rattle.test_formats.specs.declared.samples.LogFault.{LogFault}
 use Rattle.test_formats.specs.Samples.{head_length, fault_of, HeadReads, KnowsHead, KnowsTold, item_with, held_item, sample_format, TakesBadHead}

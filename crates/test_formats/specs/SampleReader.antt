@@ -1,6 +1,6 @@
 -- What a reader of samples shows.
 use Rattle.std.specs.Prelude.{ℕ, List, Bool, drop}
-use Rattle.pcap_core.specs.Fill as fill
+use Rattle.pcap_items.specs.Fill as fill
 use Rattle.test_formats.specs.declared.samples.SampleReader.{SampleReader}
 
 -- the stream behind a reader

@@ -5,9 +5,9 @@ use Rattle.std.specs.Io.KnownBytes.{Consumes, Keeps, IsAtEnd}
 use Rattle.byteorder.specs.Endian.{big_number}
 use Rattle.pcap_core.specs.Answer.{Number, faulty}
 use Rattle.pcap_core.specs.Faults.{Fault, Own}
-use Rattle.pcap_core.specs.Format.{Format}
-use Rattle.pcap_core.specs.Headed.{HeadReading, good, bad, Headed, headed}
-use Rattle.pcap_core.specs.Reading.{HasCause, Takes, TakesAsked}
+use Rattle.pcap_items.specs.Format.{Format}
+use Rattle.pcap_items.specs.Headed.{HeadReading, good, bad, Headed, headed}
+use Rattle.pcap_items.specs.Reading.{HasCause, Takes, TakesAsked}
 use Rattle.test_formats.specs.declared.lent.Lent.{Lent}
 use Rattle.test_formats.specs.declared.samples.Head.{Head}
 use Rattle.test_formats.specs.declared.samples.Head.TheVariants as heads

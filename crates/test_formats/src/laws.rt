@@ -1,6 +1,6 @@
 //! Laws of the formats. Each contract is the law.
 
-ghost use Rattle.pcap_core.specs.Format.{IsLawful};
+ghost use Rattle.pcap_items.specs.Format.{IsLawful};
 ghost use Rattle.test_formats.specs.Samples.{sample_format};
 
 /// Samples are a format: under each size one thing is said of all bytes, more bytes change nothing, a text is its own, and a

@@ -3,7 +3,7 @@
 use crate::lent::parse_log;
 use crate::rows::{ITEMS, LOG};
 use crate::samples::{LogFault, SamplesOf};
-use pcap_core::run::Ended;
+use pcap_items::run::Ended;
 use std::alloc::{AllocError, Global};
 use std::test::Fail;
 use test_support::captures::front;

@@ -1,11 +1,11 @@
 //! The items of a log that lies in a slice, which lend their bytes from it.
 
 ghost use Rattle.std.specs.Prelude.{◌≡◌, ℕ, map, IfErr, IfOk};
-ghost use Rattle.pcap_core.specs.Items.{GrowsIn, RunsTo};
+ghost use Rattle.pcap_items.specs.Items.{GrowsIn, RunsTo};
 ghost use Rattle.test_formats.specs.Samples.{Item, item_of, sample_format, size_after, fault_of};
 
 use crate::samples::{Head, LogFault, SamplesOf, head_in, head_len};
-use pcap_core::run::{Found, ItemRun, Items, parse_items};
+use pcap_items::run::{Found, ItemRun, Items, parse_items};
 use std::alloc::{AllocError, Global};
 
 /// An item of a log, with the bytes after its head.

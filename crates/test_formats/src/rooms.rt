@@ -1,7 +1,7 @@
 //! How much room the filling offers and takes, and how many writes there are.
 
-use pcap_core::stream::{Told, put, take_bytes};
 use pcap_core::{PcapError, ResultParsing};
+use pcap_items::stream::{Told, put, take_bytes};
 use std::alloc::{AllocError, Global};
 use std::io::{ErrorKind, Read};
 use std::test::Fail;

@@ -2,7 +2,7 @@
 
 use crate::samples::{Head, LogError, LogFault, SampleReader, SamplesOf, take_next};
 use pcap_core::PcapError;
-use pcap_core::stream::{Fill, HasHead, Held, Told};
+use pcap_items::stream::{Fill, HasHead, Held, Told};
 use std::alloc::{AllocError, Global};
 use std::io::ErrorKind;
 use std::test::Fail;

@@ -8,14 +8,14 @@
 ghost use Rattle.std.specs.Prelude.{◌≡◌, ℕ, false, [], length, drop, OnOk};
 ghost use Rattle.byteorder.specs.Endian.{big_number};
 ghost use Rattle.pcap_core.specs.Answer.{Number};
-ghost use Rattle.pcap_core.specs.Fill.{held_of, stream_of as source_of, has_failed as source_failed};
-ghost use Rattle.pcap_core.specs.Held.{held_bytes};
+ghost use Rattle.pcap_items.specs.Fill.{held_of, stream_of as source_of, has_failed as source_failed};
+ghost use Rattle.pcap_items.specs.Held.{held_bytes};
 ghost use Rattle.test_formats.specs.Samples.{meaning, number_width, head_length, sample_format, held_item, item_with, size_behind, HeadTells, BytesTell, TakesSample, NextSample};
 
 use byteorder::BigEndian;
 use pcap_core::fields::{split_u16, split_u32};
-use pcap_core::stream::{Fill, HasHead, Held, Told, take_item};
 use pcap_core::{PcapError, ResultParsing};
+use pcap_items::stream::{Fill, HasHead, Held, Told, take_item};
 use std::alloc::Global;
 use std::io::Read;
 

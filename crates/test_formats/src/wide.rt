@@ -3,8 +3,8 @@
 use crate::lent::parse_log;
 use crate::rows::{gives_all, gives_cut, is_done, is_head, is_item, names, reader};
 use crate::samples::{Head, LogFault, SamplesOf, take_next};
-use pcap_core::run::Ended;
-use pcap_core::stream::{Fill, HasHead, Held, Told};
+use pcap_items::run::Ended;
+use pcap_items::stream::{Fill, HasHead, Held, Told};
 use std::alloc::{AllocError, Global};
 use std::test::Fail;
 use test_support::captures::{back, front};

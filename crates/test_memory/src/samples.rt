@@ -1,8 +1,8 @@
 //! Calls on a log of samples, whose items are filled from a stream as packets and blocks are.
 
 use crate::tell;
-use pcap_core::stream::Held;
 use pcap_core::{PcapError, ResultParsing};
+use pcap_items::stream::Held;
 use std::alloc::Global;
 use std::io::{self, Cursor};
 use test_formats::samples::{LogError, SampleReader, take_next};

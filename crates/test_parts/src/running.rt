@@ -2,9 +2,10 @@
 
 use crate::captures::{BLOCK_LENGTHS, between, five_packets, is_packet, three_sections};
 use pcap_classic::pcap::{Packet, PcapHeader};
-use pcap_core::{PcapError, Rest};
+use pcap_core::PcapError;
 use pcap_file::PcapNgParser;
 use pcap_file::pcapng::Block;
+use pcap_items::Rest;
 use pcap_parts::{NgCut, NgCuts, cut_pcap, cut_pcapng, parse_ng_part, parse_part, resume};
 use std::alloc::Global;
 use std::test::*;

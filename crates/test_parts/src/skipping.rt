@@ -2,8 +2,9 @@
 
 use crate::captures::{another_length, five_packets, refused_fourth, three_sections};
 use pcap_classic::pcap::PcapParser;
-use pcap_core::{PcapError, Rest};
+use pcap_core::PcapError;
 use pcap_file::PcapNgParser;
+use pcap_items::Rest;
 use pcap_parts::{Passed, skip_blocks, skip_packets};
 use std::alloc::Global;
 use std::test::*;

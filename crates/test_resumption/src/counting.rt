@@ -7,10 +7,10 @@ ghost use Rattle.pcap_classic.specs.PacketText.{packet_limit, Captured, content_
 ghost use Rattle.pcap_classic.specs.Packets.{capture_format};
 ghost use Rattle.pcap_classic.specs.Parser.{header_of};
 
-use pcap_core::run::{PieceParser, feed_pieces, pieces_fit};
 use pcap_core::{PcapError, ResultParsing};
 use pcap_file::PcapParser;
 use pcap_file::pcap::Packet;
+use pcap_items::run::{PieceParser, feed_pieces, pieces_fit};
 use std::alloc::{AllocError, Global};
 
 // A parser of packets that counts how often it was asked for one.

@@ -3,7 +3,7 @@
 use crate::blocks::told_end;
 use crate::run_rows::RUNS;
 use pcap_classic::run::pieces_fit;
-use pcap_core::Rest;
+use pcap_items::Rest;
 use pcap_tolerant_captures::{FlawedAt, NgRunAsIs, parse_pcapng_as_is, pieces_pcapng_as_is};
 use std::alloc::Global;
 use std::test::Fail;

@@ -2,7 +2,8 @@
 
 use crate::runs::behind_header;
 use pcap_classic::run::pieces_fit;
-use pcap_core::{PcapError, Rest};
+use pcap_core::PcapError;
+use pcap_items::Rest;
 use pcap_tolerant::{HeadAsIs, OwnedAsIs, OwnedRunAsIs, pieces_pcap_as_is};
 use std::alloc::Global;
 use std::test::Fail;

@@ -1,6 +1,7 @@
 //! Whole runs over packets as they stand. The captures were written by hand.
 
-use pcap_core::{PcapError, Rest};
+use pcap_core::PcapError;
+use pcap_items::Rest;
 use pcap_tolerant::parse_pcap_as_is;
 use std::alloc::Global;
 use std::test::Fail;

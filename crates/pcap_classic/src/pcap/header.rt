@@ -7,16 +7,16 @@ ghost use Rattle.pcap_classic.specs.Magic.{kind_of, is_magic, order_of, resoluti
 ghost use Rattle.pcap_classic.specs.HeaderText.{FieldsText, HeaderSays};
 ghost use Rattle.pcap_classic.specs.Defaults.{default_header};
 ghost use Rattle.pcap_core.specs.Errors.{IsMemory};
-ghost use Rattle.pcap_core.specs.Reading.{Reads, ReadsTold};
-ghost use Rattle.pcap_core.specs.Writing.{WritesAll};
+ghost use Rattle.pcap_items.specs.Reading.{Reads, ReadsTold};
+ghost use Rattle.pcap_items.specs.Writing.{WritesAll};
 ghost use Rattle.pcap_classic.specs.Written.{header_bytes};
 
 use crate::common::TsResolution;
 use byteorder::{BigEndian, ByteOrder, LittleEndian};
 use pcap_core::fields::{split_u16, split_u32};
 use pcap_core::rules::Rule;
-use pcap_core::stream::{fill_array, put};
 use pcap_core::{DataLink, Endianness, PcapError, ResultParsing};
+use pcap_items::stream::{fill_array, put};
 use std::alloc::Global;
 use std::io::{Read, Write};
 

@@ -3,16 +3,16 @@
 ghost use Rattle.std.specs.Prelude.{◌≡◌, ◌≤◌, max, false, [], OnOk, IfOk, IfNone, IfSome};
 ghost use Rattle.pcap_core.specs.Bytes.{IsBorrowed, IsOwned};
 ghost use Rattle.std.specs.Borrow.{sem, Lends};
-ghost use Rattle.pcap_core.specs.Held.{held_bytes, room_of};
+ghost use Rattle.pcap_items.specs.Held.{held_bytes, room_of};
 ghost use Rattle.pcap_classic.specs.Packets.{reader_format};
 ghost use Rattle.pcap_classic.specs.PacketText.{packet_limit, content_of};
 ghost use Rattle.pcap_classic.specs.StatedPackets.{held_packet};
-ghost use Rattle.pcap_core.specs.Reading.{NextGives, Pulls};
+ghost use Rattle.pcap_items.specs.Reading.{NextGives, Pulls};
 
 use crate::pcap::stated::PacketsUnder;
 use crate::pcap::{Packet, PacketHeader, PcapHeader};
-use pcap_core::stream::{Held, fill_item, take_item};
 use pcap_core::{CowBytes, ResultParsing};
+use pcap_items::stream::{Held, fill_item, take_item};
 use std::alloc::Global;
 use std::io::Read;
 

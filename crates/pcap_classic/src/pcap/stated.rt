@@ -2,19 +2,19 @@
 
 ghost use Rattle.std.specs.Prelude.{◌≡◌, false, [], length, OnOk};
 ghost use Rattle.pcap_core.specs.Answer.{Tells, number_in, whole};
-ghost use Rattle.pcap_core.specs.Fill.{held_of, stream_of, has_failed};
+ghost use Rattle.pcap_items.specs.Fill.{held_of, stream_of, has_failed};
 ghost use Rattle.pcap_classic.specs.Packets.{reader_format};
 ghost use Rattle.pcap_classic.specs.PacketText.{packet_limit, content_of, PacketHeaderSays};
-ghost use Rattle.pcap_core.specs.Reading.{Pulls};
-ghost use Rattle.pcap_core.specs.Filling.{Stated};
+ghost use Rattle.pcap_items.specs.Reading.{Pulls};
+ghost use Rattle.pcap_items.specs.Filling.{Stated};
 ghost use Rattle.pcap_classic.specs.StatedPackets.{KnowsHeader};
 
 use crate::common::TsResolution;
 use crate::pcap::{Packet, PacketHeader, PcapHeader};
 use byteorder::{BigEndian, LittleEndian};
 use pcap_core::rules::Rule;
-use pcap_core::stream::HasHead;
 use pcap_core::{CowBytes, Endianness, PcapError, ResultParsing};
+use pcap_items::stream::HasHead;
 
 /// The packets behind a header, as it stands.
 #[derive(Clone, Copy)]

@@ -9,14 +9,14 @@ ghost use Rattle.pcap_classic.specs.Magic.{is_magic, order_of, resolution_of};
 ghost use Rattle.pcap_classic.specs.PacketText.{content_of};
 ghost use Rattle.pcap_classic.specs.Writing.{stream_of, has_failed, OpensWriter, WritesPacket};
 ghost use Rattle.pcap_core.specs.Codec.{number_bytes};
-ghost use Rattle.pcap_core.specs.Writing.{WritesAll};
+ghost use Rattle.pcap_items.specs.Writing.{WritesAll};
 ghost use Rattle.pcap_classic.specs.Written.{written_header, written_under, packet_header_bytes};
 
 use crate::pcap::{Packet, PacketHeader, PcapHeader};
 use byteorder::{BigEndian, LittleEndian};
 use pcap_core::rules::Rule;
-use pcap_core::stream::put;
 use pcap_core::{Endianness, PcapError, ResultParsing};
+use pcap_items::stream::put;
 use std::io::Write;
 
 /// Writes a capture into a writer: its header, and then packets one by one.

@@ -2,13 +2,13 @@
 
 ghost use Rattle.std.specs.Prelude.{◌≤◌, IfSome};
 ghost use Rattle.std.specs.Result.{result_err};
-ghost use Rattle.pcap_core.specs.Copying.{NothingCopied};
+ghost use Rattle.pcap_items.specs.Copying.{NothingCopied};
 ghost use Rattle.pcap_classic.specs.Copies.{copied_of, CopyRun, CopyFront};
 
 use crate::run::copy::{PacketsAhead, UnderHeader, begin_copy, end_copy};
 use crate::run::{Copied, Under};
 use pcap_core::ResultParsing;
-use pcap_core::stream::{Held, Tally, copy_buffers};
+use pcap_items::stream::{Held, Tally, copy_buffers};
 use std::alloc::Global;
 use std::io::{BufRead, Write};
 

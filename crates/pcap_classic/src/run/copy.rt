@@ -1,8 +1,8 @@
 //! Copies of captures, from a reader to a writer.
 
 ghost use Rattle.std.specs.Prelude.{◌≡◌, ◌≤◌, ◌<◌, ◌+◌, ◌^◌, ◌↔◌, ℕ, List, [], true, false, IsTrue, IfSome, IfOk, OnOk, MatchResult};
-ghost use Rattle.pcap_core.specs.Filling.{Stated};
-ghost use Rattle.pcap_core.specs.Copying.{NothingCopied};
+ghost use Rattle.pcap_items.specs.Filling.{Stated};
+ghost use Rattle.pcap_items.specs.Copying.{NothingCopied};
 ghost use Rattle.std.specs.Result.{result_err};
 ghost use Rattle.pcap_classic.specs.StatedPackets.{KnowsHeader};
 ghost use Rattle.pcap_classic.specs.Copies.{BeginsCopy, CanBeUnder, CopiesBehind, copied_of, CopyRun, CopyFront, WritesHeld, header_under};
@@ -17,8 +17,8 @@ use crate::pcap::{
 };
 use crate::run::stretch::{Went, put_front};
 use pcap_core::rules::Rule;
-use pcap_core::stream::{Ahead, AheadShown, Held, Sent, Tally, copy_items, fill_item, put};
 use pcap_core::{Endianness, PcapError, ResultParsing};
+use pcap_items::stream::{Ahead, AheadShown, Held, Sent, Tally, copy_items, fill_item, put};
 use std::alloc::Global;
 use std::io::{Read, Write};
 
@@ -204,7 +204,7 @@ impl<P: PutsPacket> PacketsAhead<P> {
 }
 
 impl<P: PutsPacket> Ahead for PacketsAhead<P> {
-    ghost use Rattle.pcap_core.specs.Copying.{each_written};
+    ghost use Rattle.pcap_items.specs.Copying.{each_written};
     ghost use Rattle.pcap_classic.specs.Packets.{format_under};
     ghost use Rattle.pcap_classic.specs.PacketText.{Captured};
 

@@ -4,15 +4,15 @@ ghost use Rattle.std.specs.Prelude.{◌≡◌, ◌⊎◌, ◌++◌, ◌∷◌, [
 ghost use Rattle.pcap_core.specs.Answer.{Refuses};
 ghost use Rattle.pcap_core.specs.Bytes.{IsBorrowed};
 ghost use Rattle.pcap_core.specs.Errors.{IsMemory};
-ghost use Rattle.pcap_core.specs.Window.{bytes_of, shown_of, requests_made};
+ghost use Rattle.pcap_items.specs.Window.{bytes_of, shown_of, requests_made};
 ghost use Rattle.pcap_classic.specs.Exact.{IsExact};
 ghost use Rattle.pcap_classic.specs.HeaderText.{LacksHeader, HasHeaderFault};
 ghost use Rattle.pcap_classic.specs.Run.{HasPacket};
 
 use crate::pcap::PcapParser;
 use crate::run::{PcapRun, Rest, Window};
-use pcap_core::run::show_items;
 use pcap_core::{PcapError, ResultParsing};
+use pcap_items::run::show_items;
 use std::alloc::Global;
 
 /// How many bytes the header of a capture has.

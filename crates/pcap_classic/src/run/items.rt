@@ -1,7 +1,7 @@
 //! Packets as the items of runs.
 
 ghost use Rattle.pcap_core.specs.Bytes.{IsBorrowed};
-ghost use Rattle.pcap_core.specs.Items.{ShowsFault};
+ghost use Rattle.pcap_items.specs.Items.{ShowsFault};
 ghost use Rattle.pcap_classic.specs.declared.pcap.header.PcapHeader.{PcapHeader};
 ghost use Rattle.pcap_classic.specs.PacketText.{packet_limit, Captured, content_of};
 ghost use Rattle.pcap_classic.specs.Packets.{capture_format};
@@ -9,7 +9,7 @@ ghost use Rattle.pcap_classic.specs.Parser.{header_of};
 
 use crate::pcap::{Packet, PcapParser};
 use pcap_core::PcapError;
-use pcap_core::run::{Found, Items, found_in};
+use pcap_items::run::{Found, Items, found_in};
 use std::alloc::AllocError;
 
 impl<'a> Items<'a> for PcapParser {

@@ -3,7 +3,7 @@
 ghost use Rattle.std.specs.Prelude.{◌<◌, ◌^◌, [], ⊤, length, All, IfOk, IfErr};
 ghost use Rattle.pcap_core.specs.Answer.{Refuses};
 ghost use Rattle.pcap_core.specs.Bytes.{IsOwned};
-ghost use Rattle.pcap_core.specs.Pieces.{AfterEach, joined_pieces};
+ghost use Rattle.pcap_items.specs.Pieces.{AfterEach, joined_pieces};
 ghost use Rattle.pcap_classic.specs.declared.pcap.header.PcapHeader.{PcapHeader};
 ghost use Rattle.pcap_classic.specs.HeaderText.{HeaderSays, LacksHeader, HasHeaderFault};
 ghost use Rattle.pcap_classic.specs.PacketText.{packet_limit, Captured, content_of};
@@ -15,7 +15,7 @@ ghost use Rattle.pcap_classic.specs.Run.{IsRun};
 use crate::pcap::{Packet, PcapParser};
 use crate::run::PcapRun;
 use pcap_core::ResultParsing;
-use pcap_core::run::{PieceParser, feed_pieces};
+use pcap_items::run::{PieceParser, feed_pieces};
 use std::alloc::Global;
 
 impl PieceParser for PcapParser {

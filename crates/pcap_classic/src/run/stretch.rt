@@ -8,7 +8,7 @@ ghost use Rattle.pcap_classic.specs.Written.{written_under};
 
 use crate::pcap::{PcapHeader, packet_under, put_packet};
 use pcap_core::PcapError;
-use pcap_core::stream::{Torn, put_or_tear};
+use pcap_items::stream::{Torn, put_or_tear};
 use std::io::Write;
 
 // What of a buffer went out.

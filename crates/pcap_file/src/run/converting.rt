@@ -2,7 +2,7 @@
 
 ghost use Rattle.std.specs.Prelude.{◌≤◌};
 ghost use Rattle.std.specs.Result.{result_err};
-ghost use Rattle.pcap_core.specs.Copying.{NothingCopied};
+ghost use Rattle.pcap_items.specs.Copying.{NothingCopied};
 ghost use Rattle.pcap_classic.specs.Copies.{copied_of};
 ghost use Rattle.pcap_file.specs.Converted.{opening_blocks};
 ghost use Rattle.pcap_file.specs.Converts.{BeginsConversion, ConvertRun, MakesText};
@@ -11,8 +11,8 @@ use byteorder::LittleEndian;
 use pcap_blocks::{InterfaceDescriptionBlock, InterfaceDescriptionOption, SectionHeaderBlock};
 use pcap_classic::pcap::{PacketHeader, PcapHeader, packet_of, read_header};
 use pcap_classic::run::{Copied, PacketsAhead, PutsPacket, end_copy};
-use pcap_core::stream::{Tally, put};
 use pcap_core::{Endianness, ResultParsing};
+use pcap_items::stream::{Tally, put};
 use pcap_written::{encode, put_packet};
 use std::alloc::Global;
 use std::io::{Read, Write};

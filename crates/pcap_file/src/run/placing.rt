@@ -3,18 +3,18 @@
 ghost use Rattle.std.specs.Prelude.{◌≡◌, ◌≤◌, ◌<◌, ◌+◌, ◌^◌, false, true, map, IsTrue};
 ghost use Rattle.pcap_blocks.specs.InterfaceDescription.{interface_of};
 ghost use Rattle.pcap_classic.specs.Magic.{is_magic};
-ghost use Rattle.pcap_file.specs.Frames.{framed_of};
-ghost use Rattle.pcap_file.specs.Lent.{framed_around};
+ghost use Rattle.pcap_ng.specs.Frames.{framed_of};
+ghost use Rattle.pcap_ng.specs.Lent.{framed_around};
 ghost use Rattle.pcap_file.specs.Placed.{is_packet};
 ghost use Rattle.pcap_file.specs.Placing.{CountsBecame, IsNew, PlacesBlock, PlacesRun, PutsPlaced, StepsPlacing, outcome_of, sink_of, source_of};
-ghost use Rattle.pcap_file.specs.Reader.{body_of, interfaces_in_force};
+ghost use Rattle.pcap_ng.specs.Reader.{body_of, interfaces_in_force};
 
-use crate::pcapng::{Block, BlockHeader, PcapNgReader};
 use crate::run::unplaced::{PlacedPacket, Unplaced, holds_packet, place};
 use pcap_blocks::InterfaceDescriptionBlock;
 use pcap_classic::pcap::{Packet, PcapWriter};
 use pcap_core::rules::Rule;
 use pcap_core::{CowBytes, PcapError, ResultParsing};
+use pcap_ng::pcapng::{Block, BlockHeader, PcapNgReader};
 use std::alloc::Global;
 use std::io::{Read, Write};
 

@@ -2,7 +2,7 @@ use Rattle.std.proofs.Common.{ap, sym}
 use Rattle.std.proofs.KnownBytes.{Keeps-refl}
 use Rattle.std.proofs.lemmas.Result.{err_from_is_err_and}
 use Rattle.pcap_blocks.specs.SectionHeader.{section_of}
-use Rattle.pcap_file.specs.Parser.{state_of}
+use Rattle.pcap_ng.specs.Parser.{state_of}
 use Rattle.capcopy_run.specs.BlockLines.{block_lines, section_line}
 use Rattle.capcopy_run.proofs.Listing.{lists_none}
 use Rattle.capcopy_run.proofs.BlockLists.{section_torn, blocks_known}

@@ -1,5 +1,5 @@
 use Rattle.std.proofs.Common.{◌≡◌, ◌≤◌, [], length, rules, drop, drop_of_length-le}
-use Rattle.pcap_file.specs.Frames.{framed_of}
+use Rattle.pcap_ng.specs.Frames.{framed_of}
 use Rattle.capcopy_run.proofs.BlockLists.{block_line_made}
 use Rattle.capcopy_run.proofs.blocks.make_block_line.Goals as goal
 

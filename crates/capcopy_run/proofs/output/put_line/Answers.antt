@@ -1,5 +1,5 @@
 use Rattle.std.proofs.lemmas.List.{take_rest}
-use Rattle.pcap_core.proofs.Writing.{writes_more}
+use Rattle.pcap_items.proofs.Writing.{writes_more}
 use Rattle.capcopy_run.proofs.output.put_line.Goals as goal
 
 pub loop-rest-preserved : goal.loop-rest-preserved

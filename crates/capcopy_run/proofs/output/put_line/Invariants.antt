@@ -1,5 +1,5 @@
 use Rattle.std.proofs.Common.{length}
-use Rattle.pcap_core.specs.Writing.{Writes}
+use Rattle.pcap_items.specs.Writing.{Writes}
 use Rattle.capcopy_run.proofs.output.put_line.Given as goal
 
 abbrev pub invariant-loop-rest : goal.invariant-loop-rest

@@ -1,6 +1,6 @@
 use Rattle.pcap_classic.specs.Packets.{packet_format}
 use Rattle.pcap_classic.proofs.HeadedPackets.{packets_lawful}
-use Rattle.pcap_core.proofs.Requested.{requests_asked}
+use Rattle.pcap_items.proofs.Requested.{requests_asked}
 use Rattle.pcap_classic.proofs.laws.packet_requests_are_asked.Goals as goal
 
 pub returns : goal.returns

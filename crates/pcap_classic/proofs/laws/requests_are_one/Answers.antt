@@ -1,6 +1,6 @@
 use Rattle.pcap_classic.specs.Packets.{packet_format}
 use Rattle.pcap_classic.proofs.HeadedPackets.{packets_lawful}
-use Rattle.pcap_core.proofs.Requested.{run_one}
+use Rattle.pcap_items.proofs.Requested.{run_one}
 use Rattle.pcap_classic.proofs.laws.requests_are_one.Goals as goal
 
 pub returns : goal.returns

@@ -6,9 +6,9 @@ use Rattle.pcap_classic.specs.declared.pcap.header.PcapHeader.{PcapHeader}
 use Rattle.pcap_classic.specs.PacketText.{packet_limit, content_of}
 use Rattle.pcap_classic.specs.Packets.{reader_format}
 use Rattle.pcap_classic.specs.Reader.{stream_of}
-use Rattle.pcap_core.specs.Reading.{Takes}
+use Rattle.pcap_items.specs.Reading.{Takes}
 use Rattle.pcap_classic.proofs.Packets.{reader_lawful}
-use Rattle.pcap_core.proofs.Taking.{takes_more}
+use Rattle.pcap_items.proofs.Taking.{takes_more}
 use Rattle.pcap_classic.proofs.run.take_packets.Goals as goal
 
 pub loop-turn-preserved : goal.loop-turn-preserved

@@ -3,7 +3,7 @@ use Rattle.pcap_core.specs.Bytes.{IsOwned}
 use Rattle.pcap_classic.specs.PacketText.{packet_limit, content_of}
 use Rattle.pcap_classic.specs.Packets.{reader_format}
 use Rattle.pcap_classic.specs.Reader.{stream_of, has_failed, is_done}
-use Rattle.pcap_core.specs.Takes.{TakesTexts}
+use Rattle.pcap_items.specs.Takes.{TakesTexts}
 use Rattle.pcap_classic.proofs.run.take_packets.Given as goal
 
 abbrev pub invariant-loop-turn : goal.invariant-loop-turn

@@ -2,9 +2,9 @@ use Rattle.std.proofs.Common.{◌≡◌, ℕ, List, [], ◌∷◌, ◌++◌, dro
 use Rattle.std.proofs.lemmas.Result.{err_from_is_err_and}
 use Rattle.std.proofs.lemmas.List.{map-append}
 use Rattle.pcap_core.specs.Answer.{whole, lacks, faulty, Refuses}
-use Rattle.pcap_file.specs.Blocks.{BlockSays, MayGrow, item_of}
-use Rattle.pcap_file.specs.Opening.{OpeningSays}
-use Rattle.pcap_file.specs.Parser.{state_of}
+use Rattle.pcap_ng.specs.Blocks.{BlockSays, MayGrow, item_of}
+use Rattle.pcap_ng.specs.Opening.{OpeningSays}
+use Rattle.pcap_ng.specs.Parser.{state_of}
 use Rattle.pcap_parts.specs.Resume.{IsFed, RefusesNext, from_places}
 use Rattle.pcap_parts.proofs.Resumed.{fed_first, fed_more}
 use Rattle.pcap_parts.proofs.again.resume.Goals as goal

@@ -1,5 +1,5 @@
 use Rattle.std.proofs.Common.{◌≡◌, ℕ, List, ◌++◌, length, drop}
-use Rattle.pcap_file.specs.Parser.{state_of}
+use Rattle.pcap_ng.specs.Parser.{state_of}
 use Rattle.pcap_parts.specs.Resume.{IsFed, from_places}
 use Rattle.pcap_parts.proofs.again.resume.Given as goal
 

@@ -1,6 +1,6 @@
 use Rattle.std.proofs.Common.{length}
-use Rattle.pcap_file.specs.Blocks.{block_format}
-use Rattle.pcap_file.specs.Parser.{state_of}
+use Rattle.pcap_ng.specs.Blocks.{block_format}
+use Rattle.pcap_ng.specs.Parser.{state_of}
 use Rattle.pcap_parts.proofs.Passing.{Passing}
 use Rattle.pcap_parts.proofs.blocks.skip_blocks.Given as goal
 

@@ -1,7 +1,7 @@
 use Rattle.std.proofs.Common.{◌≤◌, length, drop}
 use Rattle.std.specs.List.{AllByRecursion}
-use Rattle.pcap_file.specs.Blocks.{block_format}
-use Rattle.pcap_file.specs.Parser.{state_of}
+use Rattle.pcap_ng.specs.Blocks.{block_format}
+use Rattle.pcap_ng.specs.Parser.{state_of}
 use Rattle.pcap_parts.specs.NgParts.{IsWalked, ResumesAt, bounds_of}
 use Rattle.pcap_parts.proofs.Parted.{PartedSoFar}
 use Rattle.pcap_parts.proofs.cut_ng.cut_blocks.Given as goal

@@ -1,5 +1,5 @@
 use Rattle.std.proofs.Common.{[], rules, ◌≡◌}
-use Rattle.pcap_file.specs.Parser.{state_of}
+use Rattle.pcap_ng.specs.Parser.{state_of}
 use Rattle.pcap_parts.proofs.NgCaptures.{ng_cut_by}
 use Rattle.pcap_parts.proofs.Walking.{walked_first}
 use Rattle.pcap_parts.proofs.cut_ng.cut_ng_by.Goals as goal

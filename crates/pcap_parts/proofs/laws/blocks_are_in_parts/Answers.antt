@@ -1,5 +1,5 @@
-use Rattle.pcap_file.specs.Blocks.{block_format}
-use Rattle.pcap_file.proofs.BlockFormat.{blocks_lawful}
+use Rattle.pcap_ng.specs.Blocks.{block_format}
+use Rattle.pcap_ng.proofs.BlockFormat.{blocks_lawful}
 use Rattle.pcap_parts.proofs.InParts.{in_parts}
 use Rattle.pcap_parts.proofs.laws.blocks_are_in_parts.Goals as goal
 

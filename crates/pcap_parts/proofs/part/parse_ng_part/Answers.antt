@@ -1,12 +1,12 @@
 use Rattle.std.proofs.Common.{map, refl, sym, subst}
-use Rattle.pcap_core.specs.Items.{ShowsFault}
-use Rattle.pcap_core.specs.Run.{IsRest}
-use Rattle.pcap_core.proofs.Items.{ended_rest, leads_front}
-use Rattle.pcap_file.specs.Blocks.{Item, block_format}
-use Rattle.pcap_file.specs.Frames.{framed_of}
-use Rattle.pcap_file.specs.Parser.{state_of}
-use Rattle.pcap_file.specs.State.{State}
-use Rattle.pcap_file.proofs.BlockFormat.{blocks_lawful}
+use Rattle.pcap_items.specs.Items.{ShowsFault}
+use Rattle.pcap_items.specs.Run.{IsRest}
+use Rattle.pcap_items.proofs.Items.{ended_rest, leads_front}
+use Rattle.pcap_ng.specs.Blocks.{Item, block_format}
+use Rattle.pcap_ng.specs.Frames.{framed_of}
+use Rattle.pcap_ng.specs.Parser.{state_of}
+use Rattle.pcap_ng.specs.State.{State}
+use Rattle.pcap_ng.proofs.BlockFormat.{blocks_lawful}
 use Rattle.pcap_parts.proofs.part.parse_ng_part.Goals as goal
 
 pub parse_items-requires : goal.parse_items-requires

@@ -1,6 +1,6 @@
 use Rattle.std.proofs.Common.{map, refl, ◌≡◌, ◌∷◌}
 use Rattle.std.proofs.lemmas.Result.{err_from_is_err_and}
-use Rattle.pcap_core.proofs.Items.{grows_some}
+use Rattle.pcap_items.proofs.Items.{grows_some}
 use Rattle.pcap_classic.specs.PacketText.{packet_limit, content_of}
 use Rattle.pcap_classic.specs.Packets.{capture_format}
 use Rattle.pcap_classic.specs.Parser.{header_of}

@@ -1,7 +1,7 @@
 use Rattle.std.proofs.Common.{arith, refl}
 use Rattle.pcap_core.specs.Answer.{whole}
-use Rattle.pcap_core.specs.Run.{rest_after}
-use Rattle.pcap_core.proofs.Fronts.{stops}
+use Rattle.pcap_items.specs.Run.{rest_after}
+use Rattle.pcap_items.proofs.Fronts.{stops}
 use Rattle.pcap_classic.specs.PacketText.{packet_limit}
 use Rattle.pcap_classic.specs.Packets.{packet_format}
 use Rattle.pcap_classic.proofs.HeadedPackets.{packets_lawful}

@@ -3,8 +3,8 @@ use Rattle.std.proofs.lemmas.Result.{err_from_is_err_and}
 use Rattle.std.proofs.KnownBytes.{Keeps-refl}
 use Rattle.pcap_core.specs.Answer.{faulty}
 use Rattle.pcap_core.specs.Faults.{Shows}
-use Rattle.pcap_core.proofs.Copying.{torn_write}
-use Rattle.pcap_core.proofs.Pulling.{array_told, array_refused}
+use Rattle.pcap_items.proofs.Copying.{torn_write}
+use Rattle.pcap_items.proofs.Pulling.{array_told, array_refused}
 use Rattle.pcap_core.proofs.Refusals.{refuses_shows}
 use Rattle.pcap_classic.specs.HeaderText.{HeaderSays, LacksHeader}
 use Rattle.pcap_classic.specs.Parser.{header_of}

@@ -1,5 +1,5 @@
 use Rattle.pcap_tolerant.specs.AsIs.{as_is_format}
-use Rattle.pcap_core.proofs.Formats.{front_one}
+use Rattle.pcap_items.proofs.Formats.{front_one}
 use Rattle.pcap_tolerant.proofs.AsIs.{as_is_lawful}
 use Rattle.pcap_tolerant.proofs.laws.packets_as_they_stand_have_one_front.Goals as goal
 

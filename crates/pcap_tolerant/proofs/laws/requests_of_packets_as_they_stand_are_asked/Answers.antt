@@ -1,5 +1,5 @@
 use Rattle.pcap_core.specs.Answer.{whole}
-use Rattle.pcap_core.proofs.Requested.{requests_asked}
+use Rattle.pcap_items.proofs.Requested.{requests_asked}
 use Rattle.pcap_tolerant.specs.AsIs.{as_is_format}
 use Rattle.pcap_tolerant.proofs.AsIs.{as_is_lawful, as_is_say}
 use Rattle.pcap_tolerant.proofs.laws.requests_of_packets_as_they_stand_are_asked.Goals as goal

@@ -1,6 +1,6 @@
 use Rattle.std.proofs.Common.{[]}
-use Rattle.pcap_core.specs.Pieces.{HoldsItems, joined_pieces}
-use Rattle.pcap_core.proofs.Pieces.{after_each_more}
+use Rattle.pcap_items.specs.Pieces.{HoldsItems, joined_pieces}
+use Rattle.pcap_items.proofs.Pieces.{after_each_more}
 use Rattle.pcap_tolerant.specs.declared.pieces.OwnedRunAsIs.{OwnedRunAsIs}
 use Rattle.pcap_tolerant.specs.Pieces.{HoldsAsIs, OpensUnder}
 use Rattle.pcap_tolerant.specs.Run.{any_as_is}

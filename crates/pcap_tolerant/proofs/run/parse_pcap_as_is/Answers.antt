@@ -1,7 +1,7 @@
 use Rattle.std.proofs.Common.{◌≡◌, map, refl, ap, arith}
 use Rattle.std.proofs.lemmas.Result.{err_from_is_err_and}
-use Rattle.pcap_core.specs.Items.{rest_of}
-use Rattle.pcap_core.proofs.Items.{ended_rest}
+use Rattle.pcap_items.specs.Items.{rest_of}
+use Rattle.pcap_items.proofs.Items.{ended_rest}
 use Rattle.pcap_classic.specs.Parser.{header_of}
 use Rattle.pcap_classic.proofs.Texts.{header_length}
 use Rattle.pcap_tolerant.specs.AsIs.{as_it_is}

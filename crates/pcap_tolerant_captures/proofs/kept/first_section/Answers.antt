@@ -1,7 +1,7 @@
 use Rattle.pcap_core.specs.declared.rules.Rule.TheVariants.{SectionMissing}
-use Rattle.pcap_core.specs.Headed.{bad}
+use Rattle.pcap_items.specs.Headed.{bad}
 use Rattle.pcap_core.proofs.Refusals.{named_refuses}
-use Rattle.pcap_file.specs.Frames.{framed_of}
+use Rattle.pcap_ng.specs.Frames.{framed_of}
 use Rattle.pcap_tolerant_captures.specs.State.{opening, Means, CanGrow}
 use Rattle.pcap_tolerant_captures.proofs.Refusing.{first_missing}
 use Rattle.pcap_tolerant_captures.proofs.kept.first_section.Goals as goal

@@ -1,6 +1,6 @@
 use Rattle.std.proofs.Common.{◌∷◌}
 use Rattle.pcap_core.specs.Answer.{whole}
-use Rattle.pcap_core.proofs.Formats.{asks_twice, asks_exact}
+use Rattle.pcap_items.proofs.Formats.{asks_twice, asks_exact}
 use Rattle.pcap_tolerant_captures.specs.Blocks.{as_is_format}
 use Rattle.pcap_tolerant_captures.proofs.Format.{as_is_lawful, as_is_said}
 use Rattle.pcap_tolerant_captures.proofs.laws.blocks_as_they_stand_are_asked_for_twice.Goals as goal

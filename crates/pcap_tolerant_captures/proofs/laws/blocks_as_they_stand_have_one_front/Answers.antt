@@ -1,4 +1,4 @@
-use Rattle.pcap_core.proofs.Formats.{front_one}
+use Rattle.pcap_items.proofs.Formats.{front_one}
 use Rattle.pcap_tolerant_captures.specs.Blocks.{as_is_format}
 use Rattle.pcap_tolerant_captures.proofs.Format.{as_is_lawful}
 use Rattle.pcap_tolerant_captures.proofs.laws.blocks_as_they_stand_have_one_front.Goals as goal

@@ -1,6 +1,6 @@
 use Rattle.std.proofs.Common.{[], ◌∷◌, List, subst}
-use Rattle.pcap_core.specs.Pieces.{HoldsItems, joined_pieces}
-use Rattle.pcap_core.proofs.Pieces.{after_each_more}
+use Rattle.pcap_items.specs.Pieces.{HoldsItems, joined_pieces}
+use Rattle.pcap_items.proofs.Pieces.{after_each_more}
 use Rattle.pcap_tolerant_captures.specs.declared.block.BlockAsIs.{BlockAsIs}
 use Rattle.pcap_tolerant_captures.specs.Pieces.{FirstSays, HoldsBlocksAsIs, kept_format}
 use Rattle.pcap_tolerant_captures.specs.Run.{IsFirstFlawed}

@@ -1,5 +1,5 @@
 use Rattle.std.proofs.lemmas.Result.{err_from_is_err_and}
-use Rattle.pcap_core.specs.Held.{held_bytes}
+use Rattle.pcap_items.specs.Held.{held_bytes}
 use Rattle.pcap_tolerant_captures.specs.HeldAsIs.{state_in}
 use Rattle.pcap_tolerant_captures.specs.State.{led_to}
 use Rattle.pcap_tolerant_captures.proofs.Format.{as_is_lawful}

@@ -1,6 +1,6 @@
 use Rattle.std.proofs.Common.{◌≡◌, ◌<◌, ◌-◌, length, refl, sym, subst, arith}
 use Rattle.pcap_core.specs.declared.common.Endianness.{Endianness}
-use Rattle.pcap_file.specs.Frames.{framed_of}
+use Rattle.pcap_ng.specs.Frames.{framed_of}
 use Rattle.pcap_tolerant_captures.specs.Resync.{FrameRow, HasRoom}
 use Rattle.pcap_tolerant_captures.proofs.FrameRows.{frames_down, frames_up, frames_end, frames_refused, no_room}
 use Rattle.pcap_tolerant_captures.proofs.resync.frames_stand.Goals as goal

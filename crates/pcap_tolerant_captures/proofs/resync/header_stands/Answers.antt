@@ -1,4 +1,4 @@
-use Rattle.pcap_file.specs.Frames.{framed_of}
+use Rattle.pcap_ng.specs.Frames.{framed_of}
 use Rattle.pcap_tolerant_captures.proofs.FrameRows.{header_is, no_header}
 use Rattle.pcap_tolerant_captures.proofs.resync.header_stands.Goals as goal
 

@@ -1,7 +1,7 @@
 use Rattle.std.proofs.Common.{◌∷◌, List, length, refl, subst, arith}
-use Rattle.pcap_core.specs.Items.{ShowsFault}
-use Rattle.pcap_core.proofs.Formats.{shorter}
-use Rattle.pcap_core.proofs.Items.{ended_no_text, ended_rest}
+use Rattle.pcap_items.specs.Items.{ShowsFault}
+use Rattle.pcap_items.proofs.Formats.{shorter}
+use Rattle.pcap_items.proofs.Items.{ended_no_text, ended_rest}
 use Rattle.pcap_tolerant_captures.specs.declared.block.BlockAsIs.{BlockAsIs}
 use Rattle.pcap_tolerant_captures.specs.Blocks.{as_is_format, opened_of}
 use Rattle.pcap_tolerant_captures.specs.Run.{IsFirstFlawed}

@@ -1,5 +1,5 @@
 use Rattle.std.proofs.Common.{sym, ap, ◌∙◌, Option}
-use Rattle.pcap_file.proofs.Refusing.{opening_order}
+use Rattle.pcap_ng.proofs.Refusing.{opening_order}
 use Rattle.pcap_tolerant_captures.specs.declared.parser.PcapNgParserAsIs.{PcapNgParserAsIs}
 use Rattle.pcap_tolerant_captures.specs.State.{order_at}
 use Rattle.pcap_tolerant_captures.specs.HeldAsIs.{state_in}

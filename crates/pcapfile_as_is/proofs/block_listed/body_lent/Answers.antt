@@ -2,7 +2,7 @@ use Rattle.std.proofs.Common.{ap}
 use Rattle.std.specs.Prelude.{option_map}
 use Rattle.std.specs.Global.{Vec}
 use Rattle.pcap_blocks.specs.ParsedBlock.{body_of as body_shown, EnhancedBody, OldPacketBody, SimpleBody}
-use Rattle.pcap_file.specs.Lent.{framed_around}
+use Rattle.pcap_ng.specs.Lent.{framed_around}
 use Rattle.pcap_tolerant_blocks.specs.declared.flaws.Flaw.{Flaw}
 use Rattle.pcap_tolerant_blocks.specs.EnhancedAsIs.{enhanced_in, flaws_said}
 use Rattle.pcap_tolerant_blocks.specs.PacketBlockAsIs.{packet_in as obsolete_in, flaws_said as obsolete_said}

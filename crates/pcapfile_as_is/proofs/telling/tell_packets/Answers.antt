@@ -1,7 +1,7 @@
 use Rattle.std.proofs.Common.{◌∙◌, ℕ, refl, subst, arith, None, Some, inl, inr, Ok, Err}
 use Rattle.std.proofs.KnownBytes.{Keeps-refl}
 use Rattle.std.proofs.lemmas.Result.{err_from_is_err_and}
-use Rattle.pcap_core.specs.Reading.{HasCause, Takes, TakesAsked}
+use Rattle.pcap_items.specs.Reading.{HasCause, Takes, TakesAsked}
 use Rattle.pcap_classic.specs.declared.pcap.header.PcapHeader.{PcapHeader}
 use Rattle.pcap_classic.specs.Magic.{resolution_of}
 use Rattle.pcap_tolerant.specs.ReaderAsIs.{stream_of, header_read, limit_of, has_failed, lent_packet}

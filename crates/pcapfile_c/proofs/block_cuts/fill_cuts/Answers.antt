@@ -1,6 +1,6 @@
 use Rattle.std.specs.Prelude.{⊤}
 use Rattle.std.proofs.Common.{◌≡◌, ◌≤◌, ℕ, List, length, refl, subst, inl, inr, rules}
-use Rattle.pcap_file.specs.Opening.{OpeningSays}
+use Rattle.pcap_ng.specs.Opening.{OpeningSays}
 use Rattle.pcap_parts.specs.declared.cut_ng.NgCut.{NgCut}
 use Rattle.pcapfile_c.specs.Cuts.{Fills}
 use Rattle.pcapfile_c.proofs.CutPlaces.{blocks_fit}

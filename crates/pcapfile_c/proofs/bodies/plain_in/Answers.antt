@@ -1,6 +1,6 @@
 use Rattle.std.proofs.Common.{refl}
-use Rattle.pcap_file.specs.Enhanced.{enhanced_with}
-use Rattle.pcap_file.proofs.EnhancedFrames.{parts_read}
+use Rattle.pcap_ng.specs.Enhanced.{enhanced_with}
+use Rattle.pcap_ng.proofs.EnhancedFrames.{parts_read}
 use Rattle.pcapfile_c.specs.EnhancedOptions.{OptionsText}
 use Rattle.pcapfile_c.proofs.bodies.plain_in.Goals as goal
 

@@ -1,5 +1,5 @@
 use Rattle.std.proofs.Common.{refl, w32, to_z, of_z}
-use Rattle.pcap_file.specs.Blocks.{BlockSays, MayGrow}
+use Rattle.pcap_ng.specs.Blocks.{BlockSays, MayGrow}
 use Rattle.pcapfile_c.proofs.Passing.{block_stops, first_puts, shows_state}
 use Rattle.pcapfile_c.proofs.Refused.{tells_refusal_where}
 use Rattle.pcapfile_c.proofs.push_packets.take_first.Goals as goal

@@ -1,6 +1,6 @@
 use Rattle.std.proofs.Common.{rules, ◌≡◌, [], refl, arith, ◌∙◌, w32, to_z, of_z}
-use Rattle.pcap_core.specs.Format.{state_after}
-use Rattle.pcap_file.specs.Blocks.{block_format}
+use Rattle.pcap_items.specs.Format.{state_after}
+use Rattle.pcap_ng.specs.Blocks.{block_format}
 use Rattle.pcapfile_c.proofs.Passing.{puts_more, walk_done}
 use Rattle.pcapfile_c.proofs.push_packets.take_packet.Goals as goal
 

@@ -1,5 +1,5 @@
 use Rattle.std.proofs.Common.{◌≡◌, ◌≤◌, length}
-use Rattle.pcap_file.specs.State.{State}
+use Rattle.pcap_ng.specs.State.{State}
 use Rattle.pcapfile_c.specs.PushPackets.{ShowsInForce}
 use Rattle.pcapfile_c.proofs.Passing.{PutsBlocks}
 use Rattle.pcapfile_c.proofs.push_packets.take_packet.Given as goal

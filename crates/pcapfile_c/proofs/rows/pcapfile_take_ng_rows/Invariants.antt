@@ -1,5 +1,5 @@
 use Rattle.std.proofs.Common.{◌≡◌, ◌≤◌, List, Option, length, take, drop}
-use Rattle.pcap_core.specs.Format.{Texts}
+use Rattle.pcap_items.specs.Format.{Texts}
 use Rattle.pcapfile_c.specs.declared.rows.PcapfileNgRow.{PcapfileNgRow}
 use Rattle.pcapfile_c.specs.Batches.{somes, EndsWithPacket}
 use Rattle.pcapfile_c.specs.Rows.{ng_row_format}

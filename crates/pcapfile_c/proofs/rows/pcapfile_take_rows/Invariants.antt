@@ -1,5 +1,5 @@
 use Rattle.std.proofs.Common.{◌≡◌, ◌≤◌, ◌-◌, length, take, drop}
-use Rattle.pcap_core.specs.Format.{Texts}
+use Rattle.pcap_items.specs.Format.{Texts}
 use Rattle.pcapfile_c.specs.Rows.{row_format}
 use Rattle.pcapfile_c.proofs.rows.pcapfile_take_rows.Given as goal
 

@@ -1,18 +1,18 @@
 use Rattle.std.proofs.Common.{◌∙◌, ◌≡◌, refl, inl, inr, [], List, ℕ, Bool, true, Err, rules, subst}
 use Rattle.std.proofs.lemmas.Result.{err_from_is_err_and}
 use Rattle.std.proofs.KnownBytes.{Keeps-refl}
-use Rattle.pcap_core.specs.Held.{held_bytes}
-use Rattle.pcap_core.specs.Format.{Format}
-use Rattle.pcap_core.specs.Reading.{HasCause, TakesAsked}
+use Rattle.pcap_items.specs.Held.{held_bytes}
+use Rattle.pcap_items.specs.Format.{Format}
+use Rattle.pcap_items.specs.Reading.{HasCause, TakesAsked}
 use Rattle.pcap_classic.specs.PacketText.{Captured, packet_limit}
 use Rattle.pcap_classic.specs.StatedPackets.{held_packet}
 use Rattle.pcap_classic.proofs.Captures.{under_valid}
-use Rattle.pcap_core.proofs.Copying.{torn_write}
+use Rattle.pcap_items.proofs.Copying.{torn_write}
 use Rattle.pcap_classic.proofs.Packets.{reader_lawful, reader_whole}
 use Rattle.pcap_classic.proofs.StatedPackets.{shown_stands}
 use Rattle.std.specs.Prelude.{if◌then◌else◌}
 use Rattle.std.specs.Io.KnownBytes.{Appends}
-use Rattle.pcap_core.specs.Writing.{WritesAll}
+use Rattle.pcap_items.specs.Writing.{WritesAll}
 use Rattle.pcapfile_cut.specs.Choice.{Stored}
 use Rattle.pcapfile_cut.proofs.cutting.cut_next.Goals as goal
 

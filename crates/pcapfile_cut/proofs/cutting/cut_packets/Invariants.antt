@@ -1,5 +1,5 @@
 use Rattle.std.proofs.Common.{◌≡◌, ◌-◌, ◌^◌, List, [], false}
-use Rattle.pcap_core.specs.Held.{held_bytes}
+use Rattle.pcap_items.specs.Held.{held_bytes}
 use Rattle.pcapfile_cut.specs.Choice.{Stored}
 use Rattle.pcapfile_cut.specs.Cuts.{Passes}
 use Rattle.pcapfile_cut.proofs.cutting.cut_packets.Given as goal

@@ -1,5 +1,5 @@
 use Rattle.std.proofs.Common.{◌∙◌, ap, length, refl, rules}
-use Rattle.pcap_file.specs.Reader.{state_of, stream_of, text_of, section_in_force, interfaces_in_force}
+use Rattle.pcap_ng.specs.Reader.{state_of, stream_of, text_of, section_in_force, interfaces_in_force}
 use Rattle.pcapfile_info.specs.Describing.{opened_of}
 use Rattle.pcapfile_info.proofs.InForce.{opens_bare}
 use Rattle.pcapfile_info.proofs.Informing.{blocks_refused, blocks_informed}

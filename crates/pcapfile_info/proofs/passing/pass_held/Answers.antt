@@ -1,9 +1,9 @@
 use Rattle.std.proofs.Common.{◌+◌, [], refl, arith, inl, None, Some}
 use Rattle.std.proofs.lemmas.Result.{err_from_is_err_and}
 use Rattle.pcap_core.specs.Answer.{number_in}
-use Rattle.pcap_core.specs.Format.{Format}
-use Rattle.pcap_core.specs.Held.{held_bytes}
-use Rattle.pcap_core.specs.Reading.{HasCause, TakesAsked}
+use Rattle.pcap_items.specs.Format.{Format}
+use Rattle.pcap_items.specs.Held.{held_bytes}
+use Rattle.pcap_items.specs.Reading.{HasCause, TakesAsked}
 use Rattle.pcap_classic.specs.Magic.{order_of, resolution_of}
 use Rattle.pcap_classic.specs.PacketText.{Captured, packet_limit}
 use Rattle.pcap_classic.specs.Packets.{format_under}

@@ -1,5 +1,5 @@
 use Rattle.std.proofs.Common.{◌≡◌, ◌≤◌, ◌-◌, [], false}
-use Rattle.pcap_core.specs.Held.{held_bytes}
+use Rattle.pcap_items.specs.Held.{held_bytes}
 use Rattle.pcap_classic.specs.PacketText.{packet_limit}
 use Rattle.pcap_classic.specs.Packets.{format_under}
 use Rattle.pcapfile_info.specs.Describing.{SameDescribed}

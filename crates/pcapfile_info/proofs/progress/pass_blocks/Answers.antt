@@ -1,8 +1,8 @@
 use Rattle.std.proofs.Common.{ℕ, refl, sym, subst, arith, inr, None}
 use Rattle.std.proofs.lemmas.Result.{err_from_is_err_and}
 use Rattle.std.proofs.KnownBytes.{Keeps-refl}
-use Rattle.pcap_file.specs.Blocks.{block_format}
-use Rattle.pcap_file.specs.Reader.{state_of, stream_of}
+use Rattle.pcap_ng.specs.Blocks.{block_format}
+use Rattle.pcap_ng.specs.Reader.{state_of, stream_of}
 use Rattle.pcapfile_info.specs.KeptBlocks.{EndsBlocks, KeepsBlocks}
 use Rattle.pcapfile_info.specs.Sights.{IsBlockSight}
 use Rattle.pcapfile_info.specs.Telling.{Telling}

@@ -1,6 +1,6 @@
 use Rattle.std.proofs.Common.{◌≡◌, ◌≤◌, ◌-◌, false}
-use Rattle.pcap_file.specs.Blocks.{block_format}
-use Rattle.pcap_file.specs.Reader.{is_done, state_of, stream_of}
+use Rattle.pcap_ng.specs.Blocks.{block_format}
+use Rattle.pcap_ng.specs.Reader.{is_done, state_of, stream_of}
 use Rattle.pcapfile_info.specs.KeptBlocks.{KeepsBlocks}
 use Rattle.pcapfile_info.specs.InForce.{AreInForce}
 use Rattle.pcapfile_info.specs.Sights.{IsBlockSight}

@@ -1,9 +1,9 @@
 use Rattle.std.proofs.Common.{◌∙◌, [], ℕ, length, refl, subst, arith, inl, None, Some}
 use Rattle.std.proofs.lemmas.Result.{err_from_is_err_and}
-use Rattle.pcap_file.specs.Blocks.{block_format}
-use Rattle.pcap_file.specs.Lent.{framed_around}
-use Rattle.pcap_file.specs.Reader.{body_of, state_of, stream_of, text_of, lent_item, section_in_force, interfaces_in_force}
-use Rattle.pcap_file.proofs.BlockFormat.{blocks_lawful}
+use Rattle.pcap_ng.specs.Blocks.{block_format}
+use Rattle.pcap_ng.specs.Lent.{framed_around}
+use Rattle.pcap_ng.specs.Reader.{body_of, state_of, stream_of, text_of, lent_item, section_in_force, interfaces_in_force}
+use Rattle.pcap_ng.proofs.BlockFormat.{blocks_lawful}
 use Rattle.pcapfile_run.proofs.Passing.{goes_after}
 use Rattle.pcapfile_info.specs.KeptBlocks.{EndsBlocks, KeepsBlocks}
 use Rattle.pcapfile_info.specs.Sights.{IsBlockSight}

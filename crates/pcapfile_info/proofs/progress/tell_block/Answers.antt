@@ -1,9 +1,9 @@
 use Rattle.std.proofs.Common.{ℕ, List, length, map, refl, ap, subst}
 use Rattle.std.proofs.lemmas.Result.{err_from_is_err_and}
 use Rattle.pcap_blocks.specs.InterfaceDescription.{Interface, interface_of}
-use Rattle.pcap_file.specs.Frames.{Framed}
-use Rattle.pcap_file.specs.Lent.{framed_around}
-use Rattle.pcap_file.specs.Reader.{body_of, interfaces_in_force, section_in_force}
+use Rattle.pcap_ng.specs.Frames.{Framed}
+use Rattle.pcap_ng.specs.Lent.{framed_around}
+use Rattle.pcap_ng.specs.Reader.{body_of, interfaces_in_force, section_in_force}
 use Rattle.pcapfile_info.specs.Sights.{IsFramedSight}
 use Rattle.pcapfile_info.specs.Telling.{AddsItem}
 use Rattle.pcapfile_info.proofs.Describing.{described_behind}

@@ -2,8 +2,8 @@ use Rattle.std.proofs.Common.{◌≡◌, [], length, arith, rules, refl, subst, 
 use Rattle.std.specs.Io.BufRead.{FillKeeps}
 use Rattle.std.proofs.BufReadLemmas.{Consumes_shown}
 use Rattle.std.proofs.KnownBytes.{Consumes-nil, Consumes-kept}
-use Rattle.pcap_core.specs.Reading.{read_failed}
-use Rattle.pcap_core.proofs.Copying.{shows_nothing}
+use Rattle.pcap_items.specs.Reading.{read_failed}
+use Rattle.pcap_items.proofs.Copying.{shows_nothing}
 use Rattle.pcapfile_info.proofs.Turns.{ends_here, goes_shown}
 use Rattle.pcapfile_info.proofs.shown.pass_shown.Goals as goal
 

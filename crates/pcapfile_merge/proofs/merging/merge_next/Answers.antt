@@ -1,6 +1,6 @@
 use Rattle.std.proofs.Common.{refl}
 use Rattle.std.proofs.lemmas.Result.{err_from_is_err_and}
-use Rattle.pcap_core.proofs.Copying.{torn_write}
+use Rattle.pcap_items.proofs.Copying.{torn_write}
 use Rattle.pcapfile_merge.proofs.merging.merge_next.Goals as goal
 
 pub returns-in_err-put_held : goal.returns-in_err-put_held

@@ -1,7 +1,7 @@
 use Rattle.std.proofs.Common.{arith, refl, sym, inl, inr, ◌∙◌}
 use Rattle.std.proofs.lemmas.Result.{err_from_is_err_and}
 use Rattle.pcap_file.specs.Placing.{source_of}
-use Rattle.pcap_file.specs.Reader.{lent_item}
+use Rattle.pcap_ng.specs.Reader.{lent_item}
 use Rattle.pcap_file.proofs.Placing.{gives_next, gives_none, gives_refused}
 use Rattle.pcapfile_merge.proofs.Turning.{passed_more, passed_none}
 use Rattle.pcapfile_merge.proofs.stored.pass_to_packet.Goals as goal

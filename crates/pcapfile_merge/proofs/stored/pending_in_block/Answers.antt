@@ -2,7 +2,7 @@ use Rattle.std.proofs.Common.{map, sym}
 use Rattle.std.proofs.lemmas.Result.{err_from_is_err_and}
 use Rattle.pcap_blocks.specs.InterfaceDescription.{interface_of}
 use Rattle.pcap_blocks.specs.ParsedBlock.{body_of}
-use Rattle.pcap_file.specs.Frames.{framed_of}
+use Rattle.pcap_ng.specs.Frames.{framed_of}
 use Rattle.pcapfile_run.specs.BlockPackets.{in_block}
 use Rattle.pcapfile_merge.specs.TakingBlocks.{body_refused}
 use Rattle.pcapfile_merge.proofs.Bodies.{stored_pending}

@@ -1,7 +1,7 @@
 use Rattle.std.proofs.Common.{◌≡◌, Err, Ok, inr}
 use Rattle.std.proofs.lemmas.Result.{err_from_is_err_and}
 use Rattle.pcap_file.specs.Placing.{source_of}
-use Rattle.pcap_file.specs.Reader.{interfaces_in_force, lent_item}
+use Rattle.pcap_ng.specs.Reader.{interfaces_in_force, lent_item}
 use Rattle.pcapfile_merge.specs.declared.reader.Interfaces.TheVariants.{Closed}
 use Rattle.pcapfile_merge.proofs.Turning.{barred, ends_wherever, tells_there}
 use Rattle.pcapfile_merge.proofs.stored.take_block.Goals as goal

@@ -1,5 +1,5 @@
 use Rattle.std.proofs.Common.{ap, length, rules}
-use Rattle.pcap_file.specs.Reader.{state_of, stream_of, has_failed, text_of}
+use Rattle.pcap_ng.specs.Reader.{state_of, stream_of, has_failed, text_of}
 use Rattle.pcapfile_run.proofs.Told.{blocks_refused, blocks_passed}
 use Rattle.pcapfile_run.proofs.captures.check_blocks.Goals as goal
 

@@ -1,6 +1,6 @@
 use Rattle.std.proofs.KnownBytes.{Keeps-refl}
 use Rattle.std.proofs.lemmas.Result.{err_from_is_err_and}
-use Rattle.pcap_file.specs.Parser.{state_of}
+use Rattle.pcap_ng.specs.Parser.{state_of}
 use Rattle.capcopy_run.proofs.Listing.{lists_none}
 use Rattle.pcapfile_run.specs.FileLines.{stored_lines}
 use Rattle.pcapfile_run.proofs.StoredLists.{stored_known}

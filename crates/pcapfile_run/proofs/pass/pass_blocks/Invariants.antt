@@ -1,6 +1,6 @@
 use Rattle.std.proofs.Common.{◌≡◌, false}
-use Rattle.pcap_file.specs.Blocks.{block_format}
-use Rattle.pcap_file.specs.Reader.{state_of, stream_of, has_failed, is_done}
+use Rattle.pcap_ng.specs.Blocks.{block_format}
+use Rattle.pcap_ng.specs.Reader.{state_of, stream_of, has_failed, is_done}
 use Rattle.pcapfile_run.specs.Passing.{Passing}
 use Rattle.pcapfile_run.proofs.pass.pass_blocks.Given as goal
 

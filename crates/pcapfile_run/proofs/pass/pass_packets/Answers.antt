@@ -1,6 +1,6 @@
 use Rattle.std.proofs.Common.{◌+◌, ◌∙◌, refl, subst, arith, None, Some, inl, inr}
 use Rattle.std.proofs.KnownBytes.{Keeps-refl}
-use Rattle.pcap_core.specs.Reading.{HasCause, Takes, TakesAsked}
+use Rattle.pcap_items.specs.Reading.{HasCause, Takes, TakesAsked}
 use Rattle.pcap_classic.specs.declared.pcap.header.PcapHeader.{PcapHeader}
 use Rattle.pcap_classic.specs.PacketText.{packet_limit}
 use Rattle.pcap_classic.specs.Packets.{reader_format}

@@ -1,6 +1,6 @@
 use Rattle.std.proofs.Common.{◌≤◌, ◌-◌}
-use Rattle.pcap_file.specs.Blocks.{block_format}
-use Rattle.pcap_file.specs.Parser.{state_of}
+use Rattle.pcap_ng.specs.Blocks.{block_format}
+use Rattle.pcap_ng.specs.Parser.{state_of}
 use Rattle.capcopy_run.specs.BlockLines.{IsItemLine}
 use Rattle.capcopy_run.proofs.Turns.{Walked}
 use Rattle.capcopy_run.proofs.blocks.PcapNgParserLister.list_shown.Given as goal

@@ -1,8 +1,8 @@
 use Rattle.std.proofs.KnownBytes.{Keeps-refl}
 use Rattle.std.proofs.lemmas.Result.{err_from_is_err_and}
-use Rattle.pcap_file.specs.Blocks.{item_of, block_format}
-use Rattle.pcap_file.specs.Parser.{state_of}
-use Rattle.pcap_file.proofs.BlockFormat.{blocks_lawful, goes_after}
+use Rattle.pcap_ng.specs.Blocks.{item_of, block_format}
+use Rattle.pcap_ng.specs.Parser.{state_of}
+use Rattle.pcap_ng.proofs.BlockFormat.{blocks_lawful, goes_after}
 use Rattle.capcopy_run.specs.BlockLines.{IsItemLine}
 use Rattle.capcopy_run.proofs.Listing.{ends_refused, asked_refused, ends_torn, any_torn}
 use Rattle.capcopy_run.proofs.Turns.{ends_here, turn_more}

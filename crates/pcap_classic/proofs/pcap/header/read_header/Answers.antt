@@ -7,7 +7,7 @@ use Rattle.pcap_classic.specs.HeaderText.{HeaderSays, HeaderText, LacksHeader}
 use Rattle.pcap_core.proofs.Refusals.{refuses_shows}
 use Rattle.pcap_classic.proofs.Texts.{header_length}
 use Rattle.pcap_classic.proofs.Stable.{header_stable}
-use Rattle.pcap_core.proofs.Pulling.{array_told, array_refused}
+use Rattle.pcap_items.proofs.Pulling.{array_told, array_refused}
 use Rattle.pcap_classic.proofs.pcap.header.read_header.Goals as goal
 
 pub returns : goal.returns

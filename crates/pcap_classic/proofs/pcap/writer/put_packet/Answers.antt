@@ -1,8 +1,8 @@
 use Rattle.std.proofs.Common.{ℕ, List, Err, subst}
 use Rattle.std.proofs.lemmas.Result.{err_from_is_err_and}
 use Rattle.pcap_core.specs.Bytes.{cow_bytes}
-use Rattle.pcap_core.specs.Writing.{WritesAll}
-use Rattle.pcap_core.proofs.Writing.{first_fails, second_ends}
+use Rattle.pcap_items.specs.Writing.{WritesAll}
+use Rattle.pcap_items.proofs.Writing.{first_fails, second_ends}
 use Rattle.pcap_classic.proofs.pcap.writer.put_packet.Goals as goal
 
 pub returns-in_err-put-clause-out : goal.returns-in_err-put-clause-out

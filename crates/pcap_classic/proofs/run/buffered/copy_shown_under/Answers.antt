@@ -1,6 +1,6 @@
 use Rattle.std.proofs.lemmas.Result.{err_from_is_err_and}
 use Rattle.std.specs.Result.{result_err}
-use Rattle.pcap_core.proofs.Copying.{each_writing}
+use Rattle.pcap_items.proofs.Copying.{each_writing}
 use Rattle.pcap_classic.specs.Written.{written_under}
 use Rattle.pcap_classic.proofs.Copied.{copies_run, lawful_under, not_begun}
 use Rattle.pcap_classic.proofs.run.buffered.copy_shown_under.Goals as goal

@@ -1,6 +1,6 @@
 use Rattle.std.proofs.Common.{◌≡◌, length, take, refl, arith}
 use Rattle.std.proofs.lemmas.Result.{err_from_is_err_and}
-use Rattle.pcap_core.specs.Window.{bytes_of, shown_of}
+use Rattle.pcap_items.specs.Window.{bytes_of, shown_of}
 use Rattle.pcap_classic.specs.PacketText.{packet_limit}
 use Rattle.pcap_classic.specs.Parser.{header_of}
 use Rattle.pcap_classic.proofs.CaptureFormat.{capture_lawful}

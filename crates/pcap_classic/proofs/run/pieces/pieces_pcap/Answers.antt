@@ -1,6 +1,6 @@
 use Rattle.std.proofs.Common.{[]}
-use Rattle.pcap_core.specs.Pieces.{HoldsItems, joined_pieces}
-use Rattle.pcap_core.proofs.Pieces.{after_each_more}
+use Rattle.pcap_items.specs.Pieces.{HoldsItems, joined_pieces}
+use Rattle.pcap_items.proofs.Pieces.{after_each_more}
 use Rattle.pcap_classic.specs.declared.run.PcapRun.{PcapRun}
 use Rattle.pcap_classic.specs.HeaderText.{HeaderSays}
 use Rattle.pcap_classic.specs.PacketText.{packet_limit}

@@ -2,7 +2,7 @@ use Rattle.std.proofs.Common.{◌∙◌, arith}
 use Rattle.pcap_core.specs.Answer.{number_in}
 use Rattle.pcap_classic.specs.Magic.{order_of, resolution_of}
 use Rattle.pcap_classic.specs.PacketText.{packet_limit, content_of}
-use Rattle.pcap_core.proofs.Copying.{torn_write}
+use Rattle.pcap_items.proofs.Copying.{torn_write}
 use Rattle.pcap_classic.proofs.Packets.{packets_say}
 use Rattle.pcap_classic.proofs.Stretched.{sends_more}
 use Rattle.pcap_classic.proofs.run.stretch.put_each.Goals as goal

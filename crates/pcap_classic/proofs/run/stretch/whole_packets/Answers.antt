@@ -3,7 +3,7 @@ use Rattle.pcap_core.specs.Answer.{number_in, whole}
 use Rattle.pcap_classic.specs.Magic.{order_of, resolution_of}
 use Rattle.pcap_classic.specs.Packets.{format_under}
 use Rattle.pcap_classic.specs.PacketText.{packet_limit, content_of}
-use Rattle.pcap_core.proofs.Formats.{texts_push}
+use Rattle.pcap_items.proofs.Formats.{texts_push}
 use Rattle.pcap_classic.proofs.Packets.{packets_say}
 use Rattle.pcap_classic.proofs.Stretched.{refused_none}
 use Rattle.pcap_classic.proofs.run.stretch.whole_packets.Goals as goal

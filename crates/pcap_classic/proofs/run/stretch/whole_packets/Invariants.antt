@@ -1,5 +1,5 @@
 use Rattle.std.proofs.Common.{◌≡◌, ◌≤◌, ◌-◌, List, length}
-use Rattle.pcap_core.specs.Format.{Texts}
+use Rattle.pcap_items.specs.Format.{Texts}
 use Rattle.pcap_classic.specs.Packets.{format_under}
 use Rattle.pcap_classic.specs.PacketText.{Captured, packet_limit}
 use Rattle.pcap_classic.proofs.run.stretch.whole_packets.Given as goal

@@ -1,8 +1,8 @@
 use Rattle.std.proofs.Common.{◌∙◌, List, ℕ, inr, subst}
 use Rattle.std.proofs.lemmas.Result.{err_from_is_err_and}
 use Rattle.std.specs.Io.KnownBytes.{Appends}
-use Rattle.pcap_core.specs.Writing.{AppendsPart}
-use Rattle.pcap_core.proofs.Copying.{torn_write}
+use Rattle.pcap_items.specs.Writing.{AppendsPart}
+use Rattle.pcap_items.proofs.Copying.{torn_write}
 use Rattle.pcap_file.proofs.run.converting.begin_conversion.Goals as goal
 
 pub returns-in_err-put : goal.returns-in_err-put

@@ -1,8 +1,8 @@
 use Rattle.std.proofs.Common.{List, subst}
 use Rattle.pcap_blocks.specs.InterfaceDescription.{Interface}
-use Rattle.pcap_file.specs.Frames.{Framed, framed_of}
+use Rattle.pcap_ng.specs.Frames.{Framed, framed_of}
 use Rattle.pcap_file.specs.Placing.{PlacesBlock, sink_of}
-use Rattle.pcap_file.specs.Reader.{interfaces_in_force}
+use Rattle.pcap_ng.specs.Reader.{interfaces_in_force}
 use Rattle.pcap_file.proofs.run.placing.convert_block.Goals as goal
 
 pub returns-clause-placed : goal.returns-clause-placed

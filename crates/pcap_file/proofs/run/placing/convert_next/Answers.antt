@@ -1,6 +1,6 @@
 use Rattle.std.proofs.Common.{refl}
 use Rattle.pcap_file.specs.Placing.{source_of}
-use Rattle.pcap_file.specs.Reader.{interfaces_in_force, lent_item}
+use Rattle.pcap_ng.specs.Reader.{interfaces_in_force, lent_item}
 use Rattle.pcap_file.proofs.Placing.{gives_next, turned}
 use Rattle.pcap_file.proofs.run.placing.convert_next.Goals as goal
 

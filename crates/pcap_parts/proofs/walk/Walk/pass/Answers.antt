@@ -1,8 +1,8 @@
 use Rattle.std.proofs.Common.{◌≡◌, ◌-◌, ◌∷◌, [], ℕ, length, drop, arith, rules, subst, sym}
 use Rattle.std.proofs.lemmas.List.{drop_all, drop-append-le}
 use Rattle.pcap_core.specs.Bytes.{IsBytes}
-use Rattle.pcap_file.specs.Blocks.{item_of}
-use Rattle.pcap_file.specs.Parser.{interfaces_in_force, section_in_force, state_of}
+use Rattle.pcap_ng.specs.Blocks.{item_of}
+use Rattle.pcap_ng.specs.Parser.{interfaces_in_force, section_in_force, state_of}
 use Rattle.pcap_parts.specs.NgParts.{IsWalked}
 use Rattle.pcap_parts.proofs.Walking.{goes_nowhere, not_kept, other_stays, place_of, slice_bytes, walked_interface, walked_other, walked_section}
 use Rattle.pcap_parts.proofs.walk.Walk.pass.Goals as goal

@@ -1,5 +1,5 @@
 use Rattle.std.proofs.Common.{refl}
-use Rattle.pcap_core.proofs.Fronts.{said_not_refused}
+use Rattle.pcap_items.proofs.Fronts.{said_not_refused}
 use Rattle.pcap_classic.specs.Parser.{header_of}
 use Rattle.pcap_tolerant.specs.AsIs.{as_it_is, as_is_format}
 use Rattle.pcap_tolerant.specs.Run.{as_is_under}

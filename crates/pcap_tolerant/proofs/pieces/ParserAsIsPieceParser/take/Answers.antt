@@ -1,6 +1,6 @@
 use Rattle.std.proofs.Common.{refl}
 use Rattle.std.proofs.lemmas.Result.{err_from_is_err_and}
-use Rattle.pcap_core.proofs.Pieces.{front_refused}
+use Rattle.pcap_items.proofs.Pieces.{front_refused}
 use Rattle.pcap_tolerant.specs.AsIs.{as_it_is, as_is_format}
 use Rattle.pcap_tolerant.specs.Pieces.{owned_as_is}
 use Rattle.pcap_tolerant.specs.Run.{any_as_is, setting_of}

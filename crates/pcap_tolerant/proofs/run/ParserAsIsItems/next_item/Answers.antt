@@ -1,5 +1,5 @@
 use Rattle.std.proofs.Common.{refl}
-use Rattle.pcap_core.proofs.Items.{on_err, tells_item}
+use Rattle.pcap_items.proofs.Items.{on_err, tells_item}
 use Rattle.pcap_tolerant.specs.AsIs.{as_it_is, as_is_format}
 use Rattle.pcap_tolerant.specs.Run.{any_as_is, setting_of}
 use Rattle.pcap_tolerant.proofs.run.ParserAsIsItems.next_item.Goals as goal

@@ -1,4 +1,4 @@
-use Rattle.pcap_core.specs.Held.{held_bytes}
+use Rattle.pcap_items.specs.Held.{held_bytes}
 use Rattle.pcap_tolerant_captures.specs.HeldAsIs.{state_in}
 use Rattle.pcap_tolerant_captures.proofs.Copied.{block_held}
 use Rattle.pcap_tolerant_captures.proofs.copy.BlocksHolding.hold_next.Goals as goal

@@ -1,4 +1,4 @@
-use Rattle.pcap_file.specs.Frames.{framed_of}
+use Rattle.pcap_ng.specs.Frames.{framed_of}
 use Rattle.pcap_tolerant_captures.specs.State.{section_in_force, interfaces_in_force}
 use Rattle.pcap_tolerant_captures.proofs.Copied.{none_opens, other_stands, passes_block, refused_stands}
 use Rattle.pcap_tolerant_captures.proofs.copy.BlocksHolding.pass.Goals as goal

@@ -1,6 +1,6 @@
 use Rattle.std.proofs.lemmas.Result.{err_from_is_err_and}
-use Rattle.pcap_file.specs.Frames.{framed_of, FrameText}
-use Rattle.pcap_file.proofs.Refusing.{opening_order}
+use Rattle.pcap_ng.specs.Frames.{framed_of, FrameText}
+use Rattle.pcap_ng.proofs.Refusing.{opening_order}
 use Rattle.pcap_tolerant_captures.specs.State.{opening, order_at}
 use Rattle.pcap_tolerant_captures.proofs.Refusing.{frame_refuses, body_refuses}
 use Rattle.pcap_tolerant_captures.proofs.parser.PcapNgParserAsIs.new.Goals as goal

@@ -1,6 +1,6 @@
 use Rattle.std.proofs.Common.{ap, Err}
 use Rattle.std.proofs.lemmas.Result.{err_from_is_err_and}
-use Rattle.pcap_core.proofs.Pieces.{tells_grown}
+use Rattle.pcap_items.proofs.Pieces.{tells_grown}
 use Rattle.pcap_tolerant_captures.specs.Blocks.{MayGrow, opened_of}
 use Rattle.pcap_tolerant_captures.specs.Pieces.{FirstSays, Kept, kept_of}
 use Rattle.pcap_tolerant_captures.specs.Run.{Seen}

@@ -1,6 +1,6 @@
 use Rattle.std.proofs.Common.{ap, refl}
 use Rattle.std.proofs.lemmas.Result.{err_from_is_err_and}
-use Rattle.pcap_core.proofs.Pieces.{front_refused}
+use Rattle.pcap_items.proofs.Pieces.{front_refused}
 use Rattle.pcap_tolerant_captures.specs.Blocks.{MayGrow, as_is_format, item_of}
 use Rattle.pcap_tolerant_captures.specs.Pieces.{Kept, kept_format, kept_of}
 use Rattle.pcap_tolerant_captures.specs.Run.{seen_in, seen_of}

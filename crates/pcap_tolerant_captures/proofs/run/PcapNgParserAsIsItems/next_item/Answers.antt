@@ -1,5 +1,5 @@
 use Rattle.std.proofs.Common.{refl}
-use Rattle.pcap_core.proofs.Items.{tells_item}
+use Rattle.pcap_items.proofs.Items.{tells_item}
 use Rattle.pcap_tolerant_captures.specs.Blocks.{MayGrow, as_is_format, item_of}
 use Rattle.pcap_tolerant_captures.specs.Run.{seen_in, seen_of}
 use Rattle.pcap_tolerant_captures.specs.State.{state_of}

@@ -1,7 +1,7 @@
 use Rattle.std.proofs.Common.{subst, arith}
 use Rattle.pcap_core.specs.declared.common.Endianness.{Endianness}
 use Rattle.pcap_core.specs.Answer.{lacks, faulty, Refuses}
-use Rattle.pcap_file.specs.Frames.{framed_of, FrameText, FrameSays}
+use Rattle.pcap_ng.specs.Frames.{framed_of, FrameText, FrameSays}
 use Rattle.pcap_tolerant_captures.specs.State.{order_at}
 use Rattle.pcap_tolerant_captures.specs.HeldAsIs.{state_in}
 use Rattle.pcap_tolerant_captures.specs.Blocks.{as_is_format}

@@ -1,6 +1,6 @@
 use Rattle.std.proofs.Common.{arith, inl, inr, refl, rules, subst, sym}
 use Rattle.pcap_core.specs.declared.common.Endianness.{Endianness}
-use Rattle.pcap_core.specs.Writing.{WritesAll}
+use Rattle.pcap_items.specs.Writing.{WritesAll}
 use Rattle.pcap_core.specs.Codec.{number_bytes}
 use Rattle.pcap_core.proofs.Codec.{codec}
 use Rattle.pcap_blocks.specs.ParsedBlock.{EnhancedBody}

@@ -1,6 +1,6 @@
 use Rattle.std.proofs.Common.{Err, refl, subst}
 use Rattle.std.proofs.lemmas.Result.{err_from_is_err_and}
-use Rattle.pcap_file.specs.RawBlocks.{raw_in}
+use Rattle.pcap_ng.specs.RawBlocks.{raw_in}
 use Rattle.pcap_tolerant_captures.specs.ReaderAsIs.{lent_item}
 use Rattle.pcap_written.specs.Raw.{Raw}
 use Rattle.pcapfile_mended.specs.Mended.{IsMended}

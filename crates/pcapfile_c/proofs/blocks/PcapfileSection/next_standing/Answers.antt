@@ -1,6 +1,6 @@
 use Rattle.std.proofs.lemmas.Result.{err_from_is_err_and}
 use Rattle.std.proofs.Common.{sym, ◌∙◌}
-use Rattle.pcap_file.specs.Frames.{framed_of, FrameText}
+use Rattle.pcap_ng.specs.Frames.{framed_of, FrameText}
 use Rattle.pcap_tolerant_captures.specs.State.{order_at}
 use Rattle.pcapfile_c.proofs.Standing.{order_stands, frame_refused, standing_refused}
 use Rattle.pcapfile_c.proofs.blocks.PcapfileSection.next_standing.Goals as goal

@@ -1,4 +1,4 @@
-use Rattle.pcap_file.specs.Frames.{framed_of}
+use Rattle.pcap_ng.specs.Frames.{framed_of}
 use Rattle.pcapfile_c.proofs.Standing.{section_stands}
 use Rattle.pcapfile_c.proofs.blocks.PcapfileSection.standing.Goals as goal
 

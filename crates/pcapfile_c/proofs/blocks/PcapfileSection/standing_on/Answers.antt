@@ -2,7 +2,7 @@ use Rattle.std.proofs.Common.{List, map, refl, subst}
 use Rattle.pcap_tolerant_blocks.specs.declared.flaws.Flaw.{Flaw}
 use Rattle.pcap_tolerant_blocks.specs.Flaws.{said_of}
 use Rattle.pcapfile_c.specs.BlocksAsIs.{FindsNothing}
-use Rattle.pcap_file.specs.Frames.{framed_of}
+use Rattle.pcap_ng.specs.Frames.{framed_of}
 use Rattle.pcapfile_c.proofs.Standing.{missing_stands, interface_stands, packet_stands, other_stands}
 use Rattle.pcapfile_c.proofs.blocks.PcapfileSection.standing_on.Goals as goal
 

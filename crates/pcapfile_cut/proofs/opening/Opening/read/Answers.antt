@@ -3,7 +3,7 @@ use Rattle.std.proofs.lemmas.Result.{err_from_is_err_and}
 use Rattle.std.proofs.lemmas.List.{nil_from_length}
 use Rattle.pcap_core.specs.Answer.{faulty}
 use Rattle.pcap_core.specs.Faults.{Shows}
-use Rattle.pcap_core.proofs.Pulling.{array_told, array_refused}
+use Rattle.pcap_items.proofs.Pulling.{array_told, array_refused}
 use Rattle.pcap_core.proofs.Refusals.{refuses_shows}
 use Rattle.pcap_classic.specs.declared.pcap.header.PcapHeader.{PcapHeader}
 use Rattle.pcap_classic.specs.HeaderText.{HeaderSays, HeaderText, LacksHeader}

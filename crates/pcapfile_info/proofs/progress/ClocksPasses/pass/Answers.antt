@@ -1,6 +1,6 @@
 use Rattle.std.proofs.Common.{refl, arith}
-use Rattle.pcap_file.specs.Blocks.{block_format}
-use Rattle.pcap_file.proofs.EnhancedFrames.{packet_within}
+use Rattle.pcap_ng.specs.Blocks.{block_format}
+use Rattle.pcap_ng.proofs.EnhancedFrames.{packet_within}
 use Rattle.pcapfile_info.specs.KeptBlocks.{KeepsBlocks}
 use Rattle.pcapfile_info.specs.Sights.{IsBlockSight}
 use Rattle.pcapfile_info.proofs.EnhancedPackets.{walk_on}

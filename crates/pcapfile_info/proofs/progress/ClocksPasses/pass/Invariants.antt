@@ -1,6 +1,6 @@
 use Rattle.std.proofs.Common.{◌≤◌, ◌-◌, length}
-use Rattle.pcap_file.specs.Blocks.{block_format}
-use Rattle.pcap_file.specs.State.{State}
+use Rattle.pcap_ng.specs.Blocks.{block_format}
+use Rattle.pcap_ng.specs.State.{State}
 use Rattle.pcapfile_info.specs.Describing.{SameDescribed}
 use Rattle.pcapfile_info.specs.KeptBlocks.{KeepsBlocks}
 use Rattle.pcapfile_info.specs.InForce.{AreInForce}

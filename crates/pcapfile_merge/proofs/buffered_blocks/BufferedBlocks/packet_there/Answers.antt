@@ -2,10 +2,10 @@ use Rattle.std.proofs.Common.{◌≡◌, ◌-◌, ℕ, List, [], length, take, a
 use Rattle.std.specs.Io.Buffered.{reader_buffer}
 use Rattle.pcap_core.specs.declared.common.Endianness.{Endianness}
 use Rattle.pcap_blocks.specs.SectionHeader.{section_of}
-use Rattle.pcap_file.specs.Enhanced.{PacketText}
-use Rattle.pcap_file.specs.Reader.{interfaces_in_force, section_in_force, state_of, stream_of}
-use Rattle.pcap_file.specs.State.{order_at}
-use Rattle.pcap_file.proofs.EnhancedFrames.{packet_alone, packet_within}
+use Rattle.pcap_ng.specs.Enhanced.{PacketText}
+use Rattle.pcap_ng.specs.Reader.{interfaces_in_force, section_in_force, state_of, stream_of}
+use Rattle.pcap_ng.specs.State.{order_at}
+use Rattle.pcap_ng.proofs.EnhancedFrames.{packet_alone, packet_within}
 use Rattle.pcapfile_merge.proofs.ShownTaken.{order_there}
 use Rattle.pcapfile_merge.proofs.buffered_blocks.BufferedBlocks.packet_there.Goals as goal
 

@@ -1,8 +1,8 @@
 use Rattle.std.proofs.Common.{◌≡◌, ◌+◌, map, rules, arith, Ok, Err, refl}
 use Rattle.std.proofs.lemmas.Result.{err_from_is_err_and}
 use Rattle.pcap_blocks.specs.InterfaceDescription.{interface_of}
-use Rattle.pcap_file.specs.Blocks.{item_of}
-use Rattle.pcap_file.specs.Parser.{state_of}
+use Rattle.pcap_ng.specs.Blocks.{item_of}
+use Rattle.pcap_ng.specs.Parser.{state_of}
 use Rattle.capcopy_run.proofs.Turns.{walked_none, walked_more, walked_refused, walked_torn, walked_used}
 use Rattle.pcapfile_run.specs.FileLines.{IsNumberedLine, is_packet_item, numbered_blocks}
 use Rattle.pcapfile_run.specs.Numbered.{numbered_behind}

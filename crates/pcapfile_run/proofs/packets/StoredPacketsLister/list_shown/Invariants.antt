@@ -1,5 +1,5 @@
 use Rattle.std.proofs.Common.{◌≡◌, ◌≤◌, ◌-◌}
-use Rattle.pcap_file.specs.Parser.{state_of}
+use Rattle.pcap_ng.specs.Parser.{state_of}
 use Rattle.capcopy_run.proofs.Turns.{Walked}
 use Rattle.pcapfile_run.specs.FileLines.{IsNumberedLine, numbered_blocks}
 use Rattle.pcapfile_run.proofs.packets.StoredPacketsLister.list_shown.Given as goal

@@ -1,8 +1,8 @@
 use Rattle.std.proofs.Common.{◌+◌, map, Ok, Err, refl}
 use Rattle.std.proofs.lemmas.Result.{err_from_is_err_and}
 use Rattle.pcap_blocks.specs.InterfaceDescription.{interface_of}
-use Rattle.pcap_file.specs.Blocks.{item_of}
-use Rattle.pcap_file.specs.Parser.{state_of}
+use Rattle.pcap_ng.specs.Blocks.{item_of}
+use Rattle.pcap_ng.specs.Parser.{state_of}
 use Rattle.capcopy_run.proofs.Listing.{ends_refused, asked_refused, ends_torn, any_torn}
 use Rattle.capcopy_run.proofs.Turns.{ends_here, turn_more}
 use Rattle.pcapfile_run.specs.FileLines.{IsNumberedLine, is_packet_item, numbered_blocks}

@@ -5,7 +5,7 @@ use Rattle.pcap_core.specs.Faults.{Shows}
 use Rattle.pcap_classic.specs.PacketText.{packet_limit, PacketHeaderSays, LacksHead}
 use Rattle.pcap_core.proofs.Refusals.{refuses_shows}
 use Rattle.pcap_classic.proofs.Stable.{packet_header_stable}
-use Rattle.pcap_core.proofs.Pulling.{array_told, array_refused, told_refuses}
+use Rattle.pcap_items.proofs.Pulling.{array_told, array_refused, told_refuses}
 use Rattle.pcap_classic.proofs.pcap.packet.PacketHeader.from_reader.Goals as goal
 
 pub returns-in_err-fill_array : goal.returns-in_err-fill_array

@@ -1,4 +1,4 @@
-use Rattle.pcap_core.proofs.Copying.{each_writing}
+use Rattle.pcap_items.proofs.Copying.{each_writing}
 use Rattle.pcap_classic.proofs.Copied.{lawful_under}
 use Rattle.pcap_classic.proofs.run.copy.PacketsAhead.copy.Goals as goal
 

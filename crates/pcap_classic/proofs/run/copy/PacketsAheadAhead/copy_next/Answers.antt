@@ -2,14 +2,14 @@ use Rattle.std.proofs.Common.{◌∙◌, arith, refl, sym, subst, inl, inr, [], 
 use Rattle.std.proofs.lemmas.Result.{err_from_is_err_and}
 use Rattle.std.specs.Io.KnownBytes.{Appends}
 use Rattle.std.proofs.KnownBytes.{Keeps-refl}
-use Rattle.pcap_core.specs.Copying.{each_written}
-use Rattle.pcap_core.specs.Held.{held_bytes}
-use Rattle.pcap_core.specs.Format.{Format}
-use Rattle.pcap_core.specs.Writing.{AppendsPart}
+use Rattle.pcap_items.specs.Copying.{each_written}
+use Rattle.pcap_items.specs.Held.{held_bytes}
+use Rattle.pcap_items.specs.Format.{Format}
+use Rattle.pcap_items.specs.Writing.{AppendsPart}
 use Rattle.pcap_classic.specs.Packets.{format_under}
 use Rattle.pcap_classic.specs.PacketText.{Captured, packet_limit}
-use Rattle.pcap_core.specs.Reading.{HasCause, TakesAsked}
-use Rattle.pcap_core.proofs.Copying.{each_writing, torn_write, step_fails, step_one}
+use Rattle.pcap_items.specs.Reading.{HasCause, TakesAsked}
+use Rattle.pcap_items.proofs.Copying.{each_writing, torn_write, step_fails, step_one}
 use Rattle.pcap_classic.proofs.Captures.{under_valid}
 use Rattle.pcap_classic.proofs.Packets.{reader_lawful, reader_whole}
 use Rattle.pcap_classic.proofs.run.copy.PacketsAheadAhead.copy_next.Goals as goal

@@ -1,5 +1,5 @@
 use Rattle.std.proofs.Common.{refl}
-use Rattle.pcap_core.proofs.Items.{on_err, tells_item}
+use Rattle.pcap_items.proofs.Items.{on_err, tells_item}
 use Rattle.pcap_classic.specs.PacketText.{packet_limit, content_of}
 use Rattle.pcap_classic.specs.Packets.{capture_format, packet_format}
 use Rattle.pcap_classic.specs.Parser.{header_of}

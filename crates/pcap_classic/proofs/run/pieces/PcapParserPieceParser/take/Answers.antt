@@ -1,6 +1,6 @@
 use Rattle.std.proofs.Common.{refl}
 use Rattle.std.proofs.lemmas.Result.{err_from_is_err_and}
-use Rattle.pcap_core.proofs.Pieces.{front_refused}
+use Rattle.pcap_items.proofs.Pieces.{front_refused}
 use Rattle.pcap_classic.specs.PacketText.{packet_limit, content_of}
 use Rattle.pcap_classic.specs.Packets.{capture_format, packet_format}
 use Rattle.pcap_classic.specs.Parser.{header_of}

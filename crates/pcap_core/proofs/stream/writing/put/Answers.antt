@@ -1,5 +1,0 @@
-use Rattle.pcap_core.proofs.Writing.{tears_all}
-use Rattle.pcap_core.proofs.stream.writing.put.Goals as goal
-
-pub returns-in-Err-clause-out : goal.returns-in-Err-clause-out
-returns-in-Err-clause-out g c = tears_all _ _ _ c.in-Err.torn c.in-Err.ensures.out

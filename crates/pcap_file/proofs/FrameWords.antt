@@ -1,9 +1,0 @@
--- The frame format by name says what frames say.
-use Rattle.std.proofs.Common.{ℕ, List}
-use Rattle.pcap_core.specs.declared.common.Endianness.{Endianness}
-use Rattle.pcap_core.specs.Answer.{Verdict}
-use Rattle.pcap_file.specs.Frames.{Framed, FrameSays, frame_format}
-
-pub frames_say : (e : Endianness) (s : List ℕ) (v : Verdict Framed) → FrameSays e s v → frame_format.says e s v
-unfolding frame_format
-frames_say e s v x = x

@@ -1,5 +1,0 @@
-use Rattle.pcap_file.proofs.AcceptedBlocks.{accepted_bytes}
-use Rattle.pcap_file.proofs.laws.accepted_capture_is_copied.Goals as goal
-
-pub returns : goal.returns
-returns c = accepted_bytes

@@ -1,5 +1,0 @@
-use Rattle.pcap_file.proofs.BlockFormat.{block_one}
-use Rattle.pcap_file.proofs.laws.block_is_one.Goals as goal
-
-pub returns : goal.returns
-returns c = block_one

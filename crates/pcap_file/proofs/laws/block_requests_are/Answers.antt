@@ -1,8 +1,0 @@
-use Rattle.pcap_core.proofs.Requested.{requests_asked}
-use Rattle.pcap_file.specs.Blocks.{block_format}
-use Rattle.pcap_file.proofs.BlockFormat.{blocks_lawful}
-use Rattle.pcap_file.proofs.laws.block_requests_are.Goals as goal
-
-pub returns : goal.returns
-unfolding block_format
-returns c = λ q item s rest ns text asked. requests_asked block_format blocks_lawful q s rest ns item text asked

@@ -1,5 +1,0 @@
-use Rattle.pcap_file.proofs.FedBlocks.{blocks_held_same}
-use Rattle.pcap_file.proofs.laws.blocks_held_are_one.Goals as goal
-
-pub returns : goal.returns
-returns c = blocks_held_same

@@ -1,5 +1,0 @@
-use Rattle.pcap_file.proofs.AcceptedBlocks.{copy_begins}
-use Rattle.pcap_file.proofs.laws.copy_is_a_beginning.Goals as goal
-
-pub returns : goal.returns
-returns c = copy_begins

@@ -1,5 +1,0 @@
-use Rattle.pcap_file.proofs.FirstBlock.{opening_one}
-use Rattle.pcap_file.proofs.laws.first_block_is_one.Goals as goal
-
-pub returns : goal.returns
-returns c = opening_one

@@ -1,5 +1,0 @@
-use Rattle.pcap_file.proofs.FirstBlock.{opening_stable}
-use Rattle.pcap_file.proofs.laws.first_block_is_stable.Goals as goal
-
-pub returns : goal.returns
-returns c = opening_stable

@@ -1,5 +1,0 @@
-use Rattle.pcap_file.proofs.HeadedFrames.{frame_one}
-use Rattle.pcap_file.proofs.laws.frame_is_one.Goals as goal
-
-pub returns : goal.returns
-returns c = frame_one

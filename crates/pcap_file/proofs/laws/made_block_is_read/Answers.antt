@@ -1,5 +1,0 @@
-use Rattle.pcap_file.proofs.WrittenAgain.{made_again}
-use Rattle.pcap_file.proofs.laws.made_block_is_read.Goals as goal
-
-pub returns : goal.returns
-returns c = made_again

@@ -1,5 +1,0 @@
-use Rattle.pcap_file.proofs.MixedAgain.{mixed_again}
-use Rattle.pcap_file.proofs.laws.mixed_capture_is_read.Goals as goal
-
-pub returns : goal.returns
-returns c = mixed_again

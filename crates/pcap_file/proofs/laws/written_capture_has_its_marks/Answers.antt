@@ -1,5 +1,0 @@
-use Rattle.pcap_file.proofs.WrittenAgain.{capture_marked}
-use Rattle.pcap_file.proofs.laws.written_capture_has_its_marks.Goals as goal
-
-pub returns : goal.returns
-returns c = capture_marked

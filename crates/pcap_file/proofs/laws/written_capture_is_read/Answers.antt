@@ -1,5 +1,0 @@
-use Rattle.pcap_file.proofs.WrittenAgain.{capture_again}
-use Rattle.pcap_file.proofs.laws.written_capture_is_read.Goals as goal
-
-pub returns : goal.returns
-returns c = capture_again

@@ -1,7 +1,0 @@
-use Rattle.std.proofs.Common.{refl}
-use Rattle.pcap_file.specs.RawBlocks.{framed_raw}
-use Rattle.pcap_file.proofs.RawAgain.{raw_again}
-use Rattle.pcap_file.proofs.laws.written_raw_block_is_read.Goals as goal
-
-pub returns : goal.returns
-returns c = λ at behind raw rest tells. (framed_raw raw, raw_again at behind raw.type_ raw.endianness raw.body rest tells, refl)

@@ -1,9 +1,0 @@
-use Rattle.pcap_core.proofs.Refusals.{found_tells}
-use Rattle.pcap_file.specs.Blocks.{MayGrow}
-use Rattle.pcap_file.specs.Opening.{OpeningSays}
-use Rattle.pcap_file.specs.Parser.{state_of}
-use Rattle.pcap_file.specs.State.{opening}
-use Rattle.pcap_file.proofs.run.find.find_first.Goals as goal
-
-pub returns : goal.returns
-returns c = rw c.found_in.ensures (found_tells (MayGrow opening c.args.slice.now) (OpeningSays c.args.slice.now) state_of c.new.result c.new.ensures.tells)

@@ -1,0 +1,17 @@
+pub mod Settling
+pub mod Fronts
+pub mod Formats
+pub mod Headed
+pub mod Writing
+pub mod StreamBytes
+pub mod Pulling
+pub mod Asked
+pub mod Taking
+pub mod Copying
+pub mod Accepted
+pub mod AsTheyCame
+pub mod Filled
+pub mod Requested
+pub mod Items
+pub mod Showing
+pub mod Pieces

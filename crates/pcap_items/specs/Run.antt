@@ -1,0 +1,19 @@
+-- What is said behind the last item of a run.
+use Rattle.std.specs.Prelude.{◌≡◌, ◌<◌, ℕ, List, [], length}
+use Rattle.pcap_core.specs.declared.errors.PcapError.{PcapError}
+use Rattle.pcap_core.specs.declared.errors.PcapError.TheVariants.{IncompleteBuffer}
+use Rattle.pcap_items.specs.declared.rest.Rest.{Rest}
+use Rattle.pcap_items.specs.declared.rest.Rest.TheVariants.{Clean, Needs, Refused}
+use Rattle.pcap_core.specs.Answer.{Verdict, lacks, faulty}
+use Rattle.pcap_core.specs.Faults.{Shows}
+
+-- what is said of the bytes behind the last item: nothing is there, or n bytes lack, or there is a fault
+abbrev pub IsRest : {V : Type 0} → (List ℕ → Verdict V → Type 0) → List ℕ → Rest → Type 0
+IsRest IsSaid left Clean = left ≡ []
+IsRest IsSaid left (Needs n) = IsSaid left (lacks n) × (0 < length left)
+IsRest IsSaid left (Refused error) = Shows (λ fault. IsSaid left (faulty fault)) error
+
+-- the rest at which an error came
+abbrev pub rest_after : PcapError → Rest
+rest_after (IncompleteBuffer n) = Needs n
+rest_after error = Refused error

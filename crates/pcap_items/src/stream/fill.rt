@@ -1,0 +1,143 @@
+//! A buffer that is filled from a stream as bytes are asked for.
+
+ghost use Rattle.std.specs.Prelude.{false, ◌≡◌, ◌<◌, ◌≤◌, ◌+◌, min, max, length, [], IfOk, IfErr, OnOk, OnErr};
+ghost use Rattle.std.specs.Borrow.{sem, Lends};
+ghost use Rattle.std.specs.Io.KnownBytes.{Keeps, IsAtEnd};
+ghost use Rattle.pcap_items.specs.contracts.stream.fill.Fill.{the_row as fill-row};
+ghost use Rattle.pcap_items.specs.Fill.{told_of, held_of, room_of, stream_of, has_failed};
+ghost use Rattle.pcap_items.specs.Format.{IsLawful};
+ghost use Rattle.pcap_items.specs.Filling.{FillsHeaded};
+ghost use Rattle.pcap_items.specs.LentStreams.{fill_with};
+ghost use Rattle.pcap_items.specs.Streams.{Adds, AddsFewer, TellsCause, FillGives, HasCauseToFill};
+
+use crate::stream::{HasHead, Held, Told, fill_item, read_exactly, read_once};
+use pcap_core::ResultParsing;
+use std::alloc::Global;
+use std::io::Read;
+
+/// Bytes of a stream, taken as they are asked for, and held until they are let go.
+#[derive(Debug, Drop)]
+pub struct Fill<T> {
+    pub(crate) told: Told<T>,
+    pub(crate) held: Held,
+}
+
+impl<T> Fill<T> {
+    /// Holds nothing of this stream yet.
+    pub fn new(alloc: Global, told: Told<T>) -> Fill<T>
+        ensures told { told_of result ≡ told }
+        ensures held { held_of result ≡ [] }
+        ensures room { room_of result ≡ 0 }
+    {
+        Fill {
+            told,
+            held: Held::new(alloc),
+        }
+    }
+
+    /// The bytes that are held.
+    pub fn held(&self) -> &[u8]
+        ensures { result.now ≡ held_of self.now }
+    {
+        self.held.as_slice()
+    }
+
+    /// Lets the held bytes go, and keeps their room.
+    pub fn clear(&mut self)
+        ensures held { held_of self.new ≡ [] }
+        ensures room { room_of self.new ≡ room_of self.old }
+        ensures told { told_of self.new ≡ told_of self.old }
+    {
+        self.held.clear();
+    }
+
+    /// Whether a read of the stream failed.
+    pub fn failed(&self) -> bool
+        ensures { result ≡ has_failed self.now }
+    {
+        self.told.failed()
+    }
+
+    /// The stream.
+    pub fn get_ref(&self) -> &T
+        ensures { result.now ≡ stream_of self.now }
+    {
+        self.told.get_ref()
+    }
+
+    /// The stream. What is read of it directly is lost to this buffer.
+    pub fn get_mut(&mut self) -> &mut T
+        ensures value { result.now ≡ stream_of self.old }
+        ensures* writes_back { sem 𝓛 (Lends (fill-row T.row) T.row self.entry result (fill_with self.old)) }
+    {
+        self.told.get_mut()
+    }
+
+    /// Gives the stream back. Held bytes are dropped.
+    pub fn into_inner(self) -> T
+        ensures { result ≡ stream_of self }
+    {
+        self.told.into_inner()
+    }
+}
+
+impl<T: Read> Fill<T> {
+    /// Makes one read of the stream, which is offered room for n bytes, or for 65536 if these are fewer, and answers how
+    /// many came: 0 at the end of the stream. `OutOfMemory` where there is no room for them, `IoError` where the read
+    /// failed; what is held stays then.
+    pub fn step(&mut self, n: usize) -> ResultParsing<usize>
+        requires { 0 < n }
+        ensures added { IfOk result (Adds (held_of self.old) (held_of self.new) (T.remaining (stream_of self.old)) (T.remaining (stream_of self.new))) }
+        ensures most { IfOk result (λ k. k ≤ min n 65536) }
+        ensures end { IfOk result (λ k. k ≡ 0 → IsAtEnd (T.remaining (stream_of self.new))) }
+        ensures told { OnOk result (has_failed self.new ≡ has_failed self.old) }
+        ensures held { OnErr result (held_of self.new ≡ held_of self.old) }
+        ensures kept { OnErr result (Keeps (T.remaining (stream_of self.old)) (T.remaining (stream_of self.new))) }
+        ensures cause { IfErr result (TellsCause (has_failed self.old) (has_failed self.new)) }
+        ensures room { room_of self.new ≤ max (room_of self.old) (length (held_of self.old) + min n 65536) }
+    {
+        read_once(
+            &mut self.told.inner,
+            &mut self.told.has_failed,
+            &mut self.held,
+            n,
+        )
+    }
+
+    /// Adds n bytes of the stream to those that are held. `Ok(false)` says that nothing was held and nothing is left.
+    /// `OutOfMemory` where there is no room, `IoError` where a read failed or the stream ended before n bytes; what came
+    /// before that is held too.
+    pub fn more(&mut self, n: usize) -> ResultParsing<bool>
+        requires { 0 < n }
+        ensures added { IfOk result (FillGives n (held_of self.old) (held_of self.new) (T.remaining (stream_of self.old)) (T.remaining (stream_of self.new))) }
+        ensures told { OnOk result (has_failed self.new ≡ has_failed self.old) }
+        ensures part { OnErr result (AddsFewer n (held_of self.old) (held_of self.new) (T.remaining (stream_of self.old)) (T.remaining (stream_of self.new))) }
+        ensures cause { IfErr result (HasCauseToFill n (held_of self.old) (T.remaining (stream_of self.old)) (has_failed self.old) (has_failed self.new)) }
+        ensures room { room_of self.new ≤ max (room_of self.old) (length (held_of self.old) + n) }
+        ensures ahead { room_of self.new ≤ max (room_of self.old) (length (held_of self.new) + 65536) }
+    {
+        read_exactly(
+            &mut self.told.inner,
+            &mut self.told.has_failed,
+            &mut self.held,
+            n,
+        )
+    }
+
+    /// Fills what is held with the next item: its head, and then as many bytes as this states. `None` exactly at the end of
+    /// the stream.
+    pub fn item<H: HasHead>(&mut self, item: &H) -> ResultParsing<Option<H::Head>>
+        requires lawful { IsLawful (H.format item.now) }
+        requires between { held_of self.old ≡ [] }
+        requires unfailed { has_failed self.old ≡ false }
+        ensures fills { FillsHeaded ((H.format item.now).says (H.state item.now)) (H.knows item.now) ((H.format item.now).head (H.state item.now)) (T.remaining (stream_of self.old)) (T.remaining (stream_of self.new)) (held_of self.new) (has_failed self.new) result }
+        ensures ahead { room_of self.new ≤ max (room_of self.old) (length (held_of self.new) + 65536) }
+    {
+        fill_item(
+            item,
+            &mut self.told.inner,
+            &mut self.told.has_failed,
+            &mut self.held,
+        )
+    }
+}

@@ -1,0 +1,83 @@
+//! Bytes that came from a stream.
+
+ghost use Rattle.std.specs.Prelude.{◌≡◌, ◌≤◌, ◌+◌, max, [], IfOk, IfErr, OnOk, vec_len};
+ghost use Rattle.pcap_core.specs.Errors.{IsMemory};
+
+use pcap_core::ResultParsing;
+use std::alloc::Global;
+
+/// Bytes that came from a stream, and behind them room that is cleared once and then used again.
+#[derive(Debug, Drop)]
+pub struct Held {
+    pub(crate) room: Vec<u8>,
+    pub(crate) len: usize,
+    pub ghost within: { len ≤ vec_len room },
+}
+
+impl Held {
+    ghost use Rattle.pcap_items.specs.Held.{held_bytes, room_of};
+
+    /// Nothing, which takes no memory.
+    pub fn new(alloc: Global) -> Held
+        ensures held { held_bytes result ≡ [] }
+        ensures room { room_of result ≡ 0 }
+    {
+        Held {
+            room: Vec::new(alloc),
+            len: 0,
+        }
+    }
+
+    // Nothing yet, with room for so many bytes.
+    #[inline(always)]
+    pub(crate) fn with_room(alloc: Global, n: usize) -> ResultParsing<Held>
+        ensures held { IfOk result (λ made. held_bytes made ≡ []) }
+        ensures room { IfOk result (λ made. room_of made ≡ n) }
+        ensures memory { IfErr result IsMemory }
+    {
+        let mut room = Vec::with_capacity(alloc, n)?;
+        room.resize(n, 0)?;
+        Ok(Held { room, len: 0 })
+    }
+
+    /// The bytes that are held.
+    pub fn as_slice(&self) -> &[u8]
+        ensures { result.now ≡ held_bytes self.now }
+    {
+        &self.room.as_slice()[..self.len]
+    }
+
+    /// The bytes that are held, as they are.
+    pub fn into_vec(self) -> Vec<u8>
+        ensures { result.items ≡ held_bytes self }
+    {
+        let Held { mut room, len } = self;
+        room.truncate(len);
+        room
+    }
+
+    /// Lets all bytes go, and keeps their room.
+    pub fn clear(&mut self)
+        ensures held { held_bytes self.new ≡ [] }
+        ensures room { room_of self.new ≡ room_of self.old }
+    {
+        self.len = 0;
+    }
+
+    // Makes room for so many bytes behind those that are held.
+    #[inline(always)]
+    pub(crate) fn make_room(&mut self, n: usize) -> ResultParsing<()>
+        requires { n ≤ 65536 }
+        ensures room { OnOk result (self.new.len + n ≤ room_of self.new) }
+        ensures most { room_of self.new ≤ max (room_of self.old) (self.old.len + n) }
+        ensures len { self.new.len ≡ self.old.len }
+        ensures held { held_bytes self.new ≡ held_bytes self.old }
+        ensures memory { IfErr result IsMemory }
+    {
+        let end = self.len + n;
+        if self.room.len() < end {
+            self.room.resize(end, 0)?;
+        }
+        Ok(())
+    }
+}

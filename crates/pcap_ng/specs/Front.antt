@@ -1,0 +1,15 @@
+-- What a PcapNg capture holds, up to a rest that is no block.
+use Rattle.std.specs.Prelude.{◌≡◌, ℕ, List, ◌∷◌, map}
+use Rattle.pcap_items.specs.Format.{Front, state_after}
+use Rattle.pcap_ng.specs.Frames.{Framed}
+use Rattle.pcap_ng.specs.State.{State, opening}
+use Rattle.pcap_ng.specs.Blocks.{Item, block_format}
+
+-- s is a first block, which is a section header, the texts of these blocks and rest, and no block's text begins rest; what is in
+-- force there is q
+pub record NgFront (q : State) (blocks : List Framed) (s rest : List ℕ) : Type 0 where
+  pub first : Item
+  pub items : List Item
+  pub front : Front block_format opening (first ∷ items) s rest
+  pub blocks_are : map (λ (item : Item). item.block) items ≡ blocks
+  pub in_force : state_after block_format opening (first ∷ items) ≡ q

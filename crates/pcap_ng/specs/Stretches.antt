@@ -1,0 +1,75 @@
+-- What of a buffer goes out in a copy of blocks.
+use Rattle.std.specs.Prelude.{◌≡◌, ◌<◌, ◌≤◌, ◌+◌, ◌++◌, ℕ, List, [], length, Bool, true, false, Option, None, Some, All}
+use Rattle.std.specs.Borrow.{Bor}
+use Rattle.std.specs.Io.KnownBytes.{Appends}
+use Rattle.pcap_core.specs.declared.common.Endianness.{Endianness}
+use Rattle.pcap_core.specs.declared.errors.PcapError.{PcapError}
+use Rattle.pcap_core.specs.Errors.{IsIo}
+use Rattle.pcap_items.specs.Format.{Texts}
+use Rattle.pcap_items.specs.Writing.{AppendsPart}
+use Rattle.pcap_ng.specs.Frames.{Framed, FrameText, frame_format}
+use Rattle.pcap_ng.specs.State.{is_kept}
+
+-- what is in force stays behind this block: it is no section header and no interface
+abbrev pub LeavesInForce : Framed → Type 0
+LeavesInForce b = is_kept b.type_ ≡ false
+
+-- each block that stands whole at the front of the bytes and leaves what is in force has fewer bytes than so many behind it
+abbrev pub NoneBefore : Endianness → ℕ → List ℕ → Type 0
+NoneBefore e n s = (b : Framed) (after : List ℕ) → FrameText e b s after → LeavesInForce b → length after < n
+
+-- what follows the block at the front of the bytes, where one stands there whole, leaves what is in force, and has so many bytes
+-- behind it
+abbrev pub PassesBlock : Endianness → ℕ → List ℕ → Option (Bor (List ℕ)) → Type 0
+PassesBlock e n s (Some after) = ((b : Framed) × FrameText e b s after.now × LeavesInForce b) × (n ≤ length after.now)
+PassesBlock e n s None = NoneBefore e n s
+
+-- the bytes are so many blocks one behind the other, which leave what is in force
+pub record IsStretch (e : Endianness) (bytes : List ℕ) (n : ℕ) : Type 0 where
+  pub blocks : List Framed
+  pub count : length blocks ≡ n
+  pub texts : Texts frame_format e blocks bytes []
+  pub leave : All LeavesInForce blocks
+
+-- so many such blocks stand at the front of the bytes
+pub record Passes (e : Endianness) (bytes rest : List ℕ) (n : ℕ) : Type 0 where
+  pub front : List ℕ
+  pub split : bytes ≡ front ++ rest
+  pub stretch : IsStretch e front n
+
+-- where so many bytes of a stretch are gone: so many blocks are gone whole, and of the next, behind which this many bytes were used, a
+-- part is left
+pub record TearsBlock (e : Endianness) (bytes : List ℕ) (gone used n : ℕ) : Type 0 where
+  pub front : List ℕ
+  pub text : List ℕ
+  pub back : List ℕ
+  pub split : bytes ≡ (front ++ text) ++ back
+  pub whole_ones : IsStretch e front n
+  pub block : Framed
+  pub next : FrameText e block text []
+  pub leaves : LeavesInForce block
+  pub used_is : used ≡ length front + length text
+  pub begun : length front ≤ gone
+  pub torn : gone < used
+
+-- these bytes are so many blocks, and went out
+pub record SendsWhole (e : Endianness) (bytes : List ℕ) (before after : Option (List ℕ)) (n : ℕ) : Type 0 where
+  pub stretch : IsStretch e bytes n
+  pub out : Appends before after bytes
+
+-- these bytes are so many blocks, which went out, and one more, in which a write failed
+pub record SendsTorn (e : Endianness) (bytes : List ℕ) (before after : Option (List ℕ)) (n : ℕ) : Type 0 where
+  pub front : List ℕ
+  pub text : List ℕ
+  pub split : bytes ≡ front ++ text
+  pub mid : Option (List ℕ)
+  pub whole_ones : SendsWhole e front before mid n
+  pub block : Framed
+  pub next : FrameText e block text []
+  pub leaves : LeavesInForce block
+  pub out : AppendsPart mid after text
+
+-- What of a buffer went out: whole blocks, at most so many; or these and a beginning of the next, where a write failed.
+abbrev pub Sends : Endianness → List ℕ → Option (List ℕ) → Option (List ℕ) → ℕ → ℕ → Bool → Bool → Option PcapError → Type 0
+Sends e bytes before after most n old new None = SendsWhole e bytes before after n × (n ≤ most) × (new ≡ old)
+Sends e bytes before after most n old new (Some error) = SendsTorn e bytes before after n × (n < most) × IsIo error × (new ≡ true)

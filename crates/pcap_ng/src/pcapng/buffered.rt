@@ -1,0 +1,57 @@
+//! Copies of captures of blocks, out of a reader's own buffer.
+
+ghost use Rattle.std.specs.Prelude.{◌≤◌};
+ghost use Rattle.std.specs.Result.{result_err};
+ghost use Rattle.pcap_items.specs.Copying.{NothingCopied};
+ghost use Rattle.pcap_ng.specs.Copies.{copied_of, CopyNgRun};
+
+use crate::pcapng::copying::{Blocks, NgCopied, copy_first};
+use pcap_core::ResultParsing;
+use pcap_items::stream::{Held, Tally, copy_buffers};
+use std::alloc::Global;
+use std::io::{BufRead, Write};
+
+/// Copies a PcapNg capture as `copy_pcapng` does, from a reader that shows its buffer: blocks that lie whole in it are written
+/// from there and never copied, all of them at once up to a section header or an interface description. These, and the block
+/// that ends outside of the buffer, are held, as all are by `copy_pcapng`. A reader that shows no byte is at its end; what its
+/// buffer holds and no block took stays in it.
+///
+/// It is refused as `copy_pcapng` is.
+pub fn copy_pcapng_buffered<R: BufRead, W: Write>(
+    alloc: Global,
+    reader: &mut R,
+    writer: &mut W,
+    most: u64,
+) -> NgCopied
+    ensures most { result.blocks ≤ most }
+    ensures run { CopyNgRun (R.remaining reader.old) (R.remaining reader.new) (W.contents writer.old) (W.contents writer.new) most result }
+{
+    let mut tally = Tally::none();
+    let fault = copy_all_shown(alloc, reader, writer, most, &mut tally).err();
+    NgCopied::of(&tally, fault)
+}
+
+// Copies the first block and those after it, and counts these.
+fn copy_all_shown<R: BufRead, W: Write>(
+    alloc: Global,
+    reader: &mut R,
+    writer: &mut W,
+    most: u64,
+    tally: &mut Tally,
+) -> ResultParsing<()>
+    requires { NothingCopied tally.old }
+    ensures { CopyNgRun (R.remaining reader.old) (R.remaining reader.new) (W.contents writer.old) (W.contents writer.new) most (copied_of tally.new (result_err result)) }
+{
+    let mut held = Held::new(alloc);
+    let mut in_force = copy_first(alloc, reader, writer, tally, &mut held)?;
+    copy_buffers(
+        alloc,
+        &Blocks,
+        &mut in_force,
+        reader,
+        writer,
+        most,
+        tally,
+        &mut held,
+    )
+}
