@@ -1,14 +1,14 @@
 -- The error that names a broken rule refuses the bytes that break it.
 use Rattle.std.proofs.Common.{ℕ, List, Result, Ok, Err}
 use Rattle.std.specs.Borrow.{Bor}
-use Rattle.std.specs.Prelude.{⊤}
+use Rattle.std.specs.Prelude.{◌≡◌, ⊤}
 use Rattle.std.specs.Result.{IsErrAnd}
 use Rattle.pcap_core.specs.declared.errors.PcapError.{PcapError}
 use Rattle.pcap_core.specs.declared.errors.PcapError.TheVariants as errors
 use Rattle.pcap_core.specs.declared.rules.Rule.{Rule}
 use Rattle.pcap_core.specs.Answer.{Verdict, lacks, faulty, Refuses, TellsWhere}
 use Rattle.pcap_core.specs.Errors.{IsMemory}
-use Rattle.pcap_core.specs.Faults.{Fault, Invalid, Io, Utf8, Names, Shows}
+use Rattle.pcap_core.specs.Faults.{Fault, Invalid, Io, Utf8, Own, Names, Shows}
 
 pub named_refuses : (M : Type 0) (L : ℕ → Type 0) (F : Fault → Type 0) (rule : Rule) (e : PcapError) → F (Invalid rule) → Names rule e → Refuses M L F e
 named_refuses M L F rule (errors.InvalidField text) stands named = (rule, named, stands)
@@ -42,6 +42,13 @@ shown_fault Stands (errors.InvalidField text) shown = (Invalid shown.0, shown.2)
 shown_fault Stands (errors.IoError e) shown = (Io, shown)
 shown_fault Stands (errors.Utf8Error e) shown = (Utf8, shown)
 shown_fault Stands _ shown = absurd shown
+
+-- no error shows a fault that a format has of its own
+pub own_unshown : (n : ℕ) (e : PcapError) → Shows (λ fault. fault ≡ Own n) e → ⊥
+own_unshown n (errors.InvalidField text) shown = let own = shown.2 in absurd cc
+own_unshown n (errors.IoError e) shown = absurd cc
+own_unshown n (errors.Utf8Error e) shown = absurd cc
+own_unshown n _ shown = absurd shown
 
 pub refuses_memory : (L : ℕ → Type 0) (F : Fault → Type 0) (e : PcapError) → IsMemory e → Refuses ⊤ L F e
 refuses_memory L F (errors.OutOfMemory memory) x = tt
