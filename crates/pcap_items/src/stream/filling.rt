@@ -30,6 +30,9 @@ pub trait HasHead {
         ensures { result ≡ (format self.now).head (state self.now) };
 
     /// What the head says that these bytes are, and how many bytes follow it, or the head's refusal.
+    ///
+    /// No error shows a fault of the format's own. Where `Head` is a `Result`, such a head is its `Err`, which no byte
+    /// follows; what fills gives it like any other head, and who called that makes an error of their own of it.
     fn stated(&self, bytes: &[u8]) -> ResultParsing<(Self::Head, usize)>
         requires { length bytes.now ≡ (format self.now).head (state self.now) }
         ensures { StatesRest ((format self.now).says (state self.now)) (knows self.now) bytes.now result };
