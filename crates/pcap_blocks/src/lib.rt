@@ -1,7 +1,7 @@
-//! Blocks of PcapNg captures: their bodies and options, read from slices.
+//! Bodies of PcapNg blocks, read from slices: their values, their options by name, times, and views of what is newer.
 //!
-//! The format is that of the IETF draft draft-ietf-opsawg-pcapng; names in quotes are sections of it. A list of options
-//! ends at its mark, the code 0, or without one where no byte is left ('Options'). Lengths are in bytes.
+//! The format is that of the IETF draft draft-ietf-opsawg-pcapng; names in quotes are sections of it. Lengths are in bytes.
+//! The options are those of `pcap_options`.
 #![tactic(auto)]
 
 mod block_type;
@@ -34,8 +34,7 @@ pub use pcap_options::{
     CustomBinaryOption, CustomUtf8Option, EnhancedPacketOption, HardwareAddress,
     InterfaceDescriptionOption, InterfaceStatisticsOption, Ipv4Record, Ipv6Record,
     NameResolutionOption, PacketOption, Record, SectionHeaderOption, UnknownOption, UnknownRecord,
-    enhanced_options, interface_options, name_options, packet_options, section_options,
-    statistics_options, str_from_u8_null_terminated,
+    str_from_u8_null_terminated,
 };
 pub use pcap_times::{Clock, TimeUnit, Timestamp};
 pub use section_header::SectionHeaderBlock;

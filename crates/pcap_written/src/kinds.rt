@@ -9,12 +9,12 @@ ghost use Rattle.pcap_options.specs.SectionOption.{section_header, section_entry
 
 use crate::form::Form;
 use crate::options::WrittenOption;
-use pcap_blocks::{
+use pcap_core::rules::Rule;
+use pcap_options::{
     EnhancedPacketOption, InterfaceDescriptionOption, InterfaceStatisticsOption,
     NameResolutionOption, PacketOption, SectionHeaderOption, enhanced_options, interface_options,
     name_options, packet_options, section_options, statistics_options,
 };
-use pcap_core::rules::Rule;
 
 // The code and the form of an option, over the rows of its kind.
 macro_rules! coded_option {
