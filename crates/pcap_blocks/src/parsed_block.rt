@@ -37,7 +37,7 @@ pub enum ParsedBlock<'a> {
 }
 
 // What was read as a body of this type, as one of any type.
-macro_rules! made {
+macro_rules! read_body {
     ($type:ident $read:expr) => {{
         let (rest, block) = $read;
         Ok((rest, ParsedBlock::$type(block)))
@@ -81,19 +81,20 @@ impl<'a> ParsedBlock<'a> {
     {
         match type_ {
             BlockType::SectionHeader =>
-                made!(SectionHeader SectionHeaderBlock::read(alloc, slice)?),
+                read_body!(SectionHeader SectionHeaderBlock::read(alloc, slice)?),
             BlockType::InterfaceDescription =>
-                made!(InterfaceDescription InterfaceDescriptionBlock::read::<B>(alloc, slice)?),
-            BlockType::Packet => made!(Packet PacketBlock::read::<B>(alloc, slice)?),
-            BlockType::SimplePacket => made!(SimplePacket SimplePacketBlock::read::<B>(slice)?),
+                read_body!(InterfaceDescription InterfaceDescriptionBlock::read::<B>(alloc, slice)?),
+            BlockType::Packet => read_body!(Packet PacketBlock::read::<B>(alloc, slice)?),
+            BlockType::SimplePacket =>
+                read_body!(SimplePacket SimplePacketBlock::read::<B>(slice)?),
             BlockType::NameResolution =>
-                made!(NameResolution NameResolutionBlock::read::<B>(alloc, slice)?),
+                read_body!(NameResolution NameResolutionBlock::read::<B>(alloc, slice)?),
             BlockType::InterfaceStatistics =>
-                made!(InterfaceStatistics InterfaceStatisticsBlock::read::<B>(alloc, slice)?),
+                read_body!(InterfaceStatistics InterfaceStatisticsBlock::read::<B>(alloc, slice)?),
             BlockType::EnhancedPacket =>
-                made!(EnhancedPacket EnhancedPacketBlock::read::<B>(alloc, slice)?),
+                read_body!(EnhancedPacket EnhancedPacketBlock::read::<B>(alloc, slice)?),
             BlockType::SystemdJournalExport =>
-                made!(SystemdJournalExport SystemdJournalExportBlock::read(slice)),
+                read_body!(SystemdJournalExport SystemdJournalExportBlock::read(slice)),
             BlockType::Unknown(_) => {
                 let Ok(len) = u32::try_from(slice.len()) else {
                     return Err(Refusal::Invalid(Rule::UnknownTooLong));
@@ -149,6 +150,9 @@ impl<'a> IntoStatic for ParsedBlock<'a> {
     ghost needs_no_memory = { ParsedNeedsNoMemory };
 
     fn into_static(self, alloc: Global) -> Result<ParsedBlock<'static>, AllocError> {
-        kept_body!(self alloc SectionHeader InterfaceDescription Packet SimplePacket NameResolution InterfaceStatistics EnhancedPacket SystemdJournalExport Unknown)
+        kept_body!(
+            self alloc SectionHeader InterfaceDescription Packet SimplePacket NameResolution InterfaceStatistics
+            EnhancedPacket SystemdJournalExport Unknown
+        )
     }
 }
