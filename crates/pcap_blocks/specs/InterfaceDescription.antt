@@ -7,7 +7,7 @@ use Rattle.pcap_core.specs.Faults.{Fault, Invalid}
 use Rattle.pcap_core.specs.Link.{Link}
 use Rattle.pcap_blocks.specs.declared.interface_description.InterfaceDescriptionBlock.{InterfaceDescriptionBlock}
 use Rattle.pcap_core.specs.Padded.{Behind}
-use Rattle.pcap_options.specs.Values.{Entry, number}
+use Rattle.pcap_options.specs.Values.{Entry}
 use Rattle.pcap_options.specs.Growth.{HoldsAfter}
 use Rattle.pcap_options.specs.Options.{may_end_with_body, OptionList, ListFault, OptionsMayGrow}
 use Rattle.pcap_options.specs.InterfaceOption.{interface_description, interface_entry, InterfaceOptionIsBorrowed, InterfaceOptionIsOwned}

@@ -2,7 +2,6 @@
 
 ghost use Rattle.std.specs.Prelude.{IfOk, IsOk, ◌≡◌, ◌≤◌, ◌+◌, ◌++◌, ◌↔◌, ℕ, List, [], ◌∷◌, length, map, All, IsTrue, Option, false};
 ghost use Rattle.std.specs.Io.KnownBytes.{Appends};
-ghost use Rattle.std.specs.List.{flat_map};
 ghost use Rattle.pcap_classic.specs.declared.pcap.header.PcapHeader.{PcapHeader};
 ghost use Rattle.pcap_classic.specs.declared.run.copy.Copied.{Copied};
 ghost use Rattle.pcap_classic.specs.declared.run.copy.Under.{Under};
@@ -11,7 +10,7 @@ ghost use Rattle.pcap_core.specs.Answer.{Order, number_in, whole, lacks};
 ghost use Rattle.pcap_core.specs.Bytes.{IsBytes};
 ghost use Rattle.pcap_core.specs.Codec.{number_bytes};
 ghost use Rattle.pcap_classic.specs.Copies.{CanBeUnder, CopyFront, CopiesAll, NothingFailed, header_under};
-ghost use Rattle.pcap_items.specs.Format.{Front, Texts, Asks, IsLawful};
+ghost use Rattle.pcap_items.specs.Format.{Front, Asks, IsLawful};
 ghost use Rattle.pcap_classic.specs.Front.{CaptureFront};
 ghost use Rattle.pcap_classic.specs.HeaderText.{HeaderSays, HeaderText};
 ghost use Rattle.pcap_core.specs.Laws.{ExactlyOne, IsStable};

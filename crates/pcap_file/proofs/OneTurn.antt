@@ -12,7 +12,7 @@ use Rattle.pcap_times.specs.declared.unit.TimeUnit.{TimeUnit}
 use Rattle.pcap_times.specs.Times.{nanoseconds_in}
 use Rattle.pcap_blocks.specs.InterfaceDescription.{Interface}
 use Rattle.pcap_blocks.specs.InterfaceTimes.{IsTimeAt}
-use Rattle.pcap_blocks.specs.ParsedBlock.{Body, SectionBody, InterfaceBody, OldPacketBody, SimpleBody, NamesBody, StatisticsBody, EnhancedBody, JournalBody, OtherBody}
+use Rattle.pcap_blocks.specs.ParsedBlock.{Body, OldPacketBody, EnhancedBody}
 use Rattle.pcap_file.specs.declared.run.unplaced.Unplaced.{Unplaced}
 use Rattle.pcap_file.specs.declared.run.unplaced.Unplaced.TheVariants as reasons
 use Rattle.pcap_ng.specs.Blocks.{Item}

@@ -8,7 +8,7 @@ use Rattle.pcap_classic.specs.declared.pcap.header.PcapHeader.{PcapHeader}
 use Rattle.pcap_classic.specs.PacketText.{Captured}
 use Rattle.pcap_classic.specs.Written.{IsWhole}
 use Rattle.pcap_blocks.specs.InterfaceDescription.{Interface}
-use Rattle.pcap_blocks.specs.ParsedBlock.{Body, SectionBody, InterfaceBody, OldPacketBody, SimpleBody, NamesBody, StatisticsBody, EnhancedBody, JournalBody, OtherBody}
+use Rattle.pcap_blocks.specs.ParsedBlock.{Body, OldPacketBody, EnhancedBody}
 use Rattle.pcap_ng.specs.Blocks.{Item}
 use Rattle.pcap_file.specs.Converted.{interface_for, packet_block}
 use Rattle.pcap_file.specs.Placed.{Becomes, PlacesBody, Turn, carried, no_packet, packets_of, placed, unplaced}

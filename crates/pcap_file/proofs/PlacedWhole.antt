@@ -20,7 +20,7 @@ use Rattle.pcap_classic.specs.Magic.{is_magic}
 use Rattle.pcap_classic.specs.PacketText.{Captured}
 use Rattle.pcap_classic.specs.Written.{written_under}
 use Rattle.pcap_blocks.specs.InterfaceDescription.{Interface}
-use Rattle.pcap_blocks.specs.ParsedBlock.{Body, SectionBody, InterfaceBody, OldPacketBody, SimpleBody, NamesBody, StatisticsBody, EnhancedBody, JournalBody, OtherBody}
+use Rattle.pcap_blocks.specs.ParsedBlock.{Body, SectionBody}
 use Rattle.pcap_written.specs.Bodies.{type_of}
 use Rattle.pcap_file.specs.declared.run.placing.IfUnplaced.{IfUnplaced}
 use Rattle.pcap_file.specs.declared.run.placing.IfUnplaced.TheVariants.{Refuse}

@@ -1,6 +1,6 @@
 //! Laws of options as they stand. Each contract is the law; `Kind` says how values are read, and raw options are of no kind.
 
-ghost use Rattle.std.specs.Prelude.{◌≡◌, ℕ, List, Option, None, Some, ◌⊎◌};
+ghost use Rattle.std.specs.Prelude.{◌≡◌, ℕ, List, None, Some, ◌⊎◌};
 ghost use Rattle.pcap_core.specs.Answer.{Order};
 ghost use Rattle.pcap_core.specs.Faults.{Fault, Invalid};
 ghost use Rattle.pcap_core.specs.Laws.{ExactlyOne};

@@ -1,6 +1,6 @@
 //! Units of time.
 
-ghost use Rattle.std.specs.Prelude.{◌≡◌, ◌-◌, ◌^◌, ◌<◌, ◌≤◌, SomeIff};
+ghost use Rattle.std.specs.Prelude.{◌≡◌, ◌^◌, ◌<◌, SomeIff};
 ghost use Rattle.pcap_times.specs.Times.{unit_of, units_in_second, nanoseconds_in, IsSplit};
 
 /// The nanoseconds in a second.

@@ -1,9 +1,8 @@
 //! Copies of captures whose packets may break rules, from a reader to a writer.
 
-ghost use Rattle.std.specs.Prelude.{◌≡◌, ◌≤◌, [], OnOk};
+ghost use Rattle.std.specs.Prelude.{◌≤◌};
 ghost use Rattle.std.specs.Result.{result_err};
 ghost use Rattle.pcap_items.specs.Copying.{NothingCopied};
-ghost use Rattle.pcap_items.specs.Held.{held_bytes};
 ghost use Rattle.pcap_classic.specs.Copies.{copied_of};
 ghost use Rattle.pcap_tolerant.specs.Copies.{BeginsAsIs, CopyRunAsIs};
 

@@ -1,6 +1,6 @@
 //! Laws of bodies as they stand. Each contract is the law.
 
-ghost use Rattle.std.specs.Prelude.{◌≡◌, List, ℕ, Option};
+ghost use Rattle.std.specs.Prelude.{List, ℕ, Option};
 ghost use Rattle.pcap_core.specs.Answer.{Order, Verdict};
 ghost use Rattle.pcap_core.specs.Laws.{ExactlyOne};
 ghost use Rattle.pcap_options.specs.Values.{Entry, Kind};

@@ -1,8 +1,8 @@
 //! Records of name resolution as they stand.
 
-ghost use Rattle.std.specs.Prelude.{◌≡◌, IfOk, IfErr, MatchOption};
+ghost use Rattle.std.specs.Prelude.{IfOk, IfErr, MatchOption};
 ghost use Rattle.pcap_core.specs.Answer.{Refuses};
-ghost use Rattle.pcap_options.specs.Record.{RecordFault, RecordMayGrow, name_record_of};
+ghost use Rattle.pcap_options.specs.Record.{RecordFault, RecordMayGrow};
 ghost use Rattle.pcap_tolerant_blocks.specs.Flaws.{fault_of};
 ghost use Rattle.pcap_tolerant_blocks.specs.NamesAsIs.{NoExtent, RawText, IsFound};
 

@@ -1,8 +1,6 @@
 //! Copies of captures whose blocks may have flaws, from a reader to a writer.
 
-ghost use Rattle.std.specs.Prelude.{◌≡◌, ◌≤◌, ◌↔◌, IsTrue};
-ghost use Rattle.std.specs.Result.{result_err};
-ghost use Rattle.pcap_items.specs.Copying.{NothingCopied};
+ghost use Rattle.std.specs.Prelude.{◌≡◌, ◌↔◌, IsTrue};
 ghost use Rattle.pcap_tolerant_captures.specs.Copies.{CopiesAsIs, copied_of};
 ghost use Rattle.pcap_tolerant_captures.specs.State.{leaves_all, role_of};
 

@@ -1,6 +1,6 @@
 //! A reader of the blocks of a stream, as they stand.
 
-ghost use Rattle.std.specs.Prelude.{◌≡◌, ⊤, false, [], IfOk, IfNone, IfSome, option_map};
+ghost use Rattle.std.specs.Prelude.{◌≡◌, false, [], IfOk, option_map};
 ghost use Rattle.pcap_items.specs.Held.{held_bytes};
 ghost use Rattle.pcap_items.specs.Reading.{NextGives, Pulls};
 ghost use Rattle.pcap_ng.specs.Frames.{framed_of};

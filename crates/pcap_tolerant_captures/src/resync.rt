@@ -1,7 +1,6 @@
 //! Where blocks stand again.
 
 ghost use Rattle.std.specs.Prelude.{◌≡◌, ◌≤◌, ◌↔◌, IsTrue, length};
-ghost use Rattle.pcap_core.specs.Bytes.{cow_bytes};
 ghost use Rattle.pcap_ng.specs.Frames.{framed_of};
 ghost use Rattle.pcap_tolerant_captures.specs.Resync.{BlocksResync, BlocksStand, FrameRow, HasRoom, HeaderStands, SectionResyncs};
 ghost use Rattle.pcap_tolerant_captures.specs.State.{order_at, state_of};

@@ -1,6 +1,6 @@
 //! Lists of options.
 
-ghost use Rattle.std.specs.Prelude.{◌≡◌, map};
+ghost use Rattle.std.specs.Prelude.{map};
 ghost use Rattle.pcap_options.specs.Values.{Entry, Kind};
 ghost use Rattle.pcap_written.specs.Text.{option_text, list_text};
 ghost use Rattle.pcap_written.specs.Fits.{IsFitOption, AreFit};

@@ -1,6 +1,6 @@
 //! What is seen of blocks.
 
-ghost use Rattle.std.specs.Prelude.{◌≡◌, map, length, option_map, slice_get, MatchResult};
+ghost use Rattle.std.specs.Prelude.{◌≡◌, map, option_map, slice_get, MatchResult};
 ghost use Rattle.pcap_core.specs.Errors.{IsMemory};
 ghost use Rattle.pcap_blocks.specs.InterfaceDescription.{interface_of};
 ghost use Rattle.pcap_blocks.specs.ParsedBlock.{body_of};

@@ -8,7 +8,6 @@ ghost use Rattle.pcap_blocks.specs.InterfaceDescription.{interface_of};
 ghost use Rattle.pcap_blocks.specs.SectionHeader.{section_of};
 ghost use Rattle.pcap_ng.specs.Blocks.{block_format};
 ghost use Rattle.pcap_ng.specs.Reader as ng;
-ghost use Rattle.pcapfile_run.specs.Passing.{counted};
 ghost use Rattle.pcapfile_info.specs.declared.seen.Sight.TheVariants.{Packet};
 ghost use Rattle.pcapfile_info.specs.Describing.{AddsDescribed, SameDescribed, last_description, told_of};
 ghost use Rattle.pcapfile_info.specs.KeptBlocks.{EndsBlocks, KeepsBlocks};

@@ -1,6 +1,6 @@
 //! What is counted of packets.
 
-ghost use Rattle.std.specs.Prelude.{◌≡◌, ◌<◌, ◌⊎◌, ◌++◌, ◌∷◌, [], ℕ, List, Some, IsTrue, ◌↔◌, IfSome};
+ghost use Rattle.std.specs.Prelude.{◌≡◌, ◌<◌, ◌++◌, ◌∷◌, [], ℕ, List, Some, IsTrue, ◌↔◌};
 ghost use Rattle.pcapfile_info.specs.declared.seen.Seen.{Seen};
 ghost use Rattle.pcapfile_info.specs.Tallies.{instant_of, IsAfter, IsBefore, IsFirstWith, IsSpread, IsSpreadWith, size_class, Tallies};
 

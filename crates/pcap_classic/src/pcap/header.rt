@@ -1,8 +1,7 @@
 //! The header of a capture.
 
-ghost use Rattle.std.specs.Prelude.{◌≡◌, ◌≤◌, ◌+◌, ◌↔◌, Some, false, length, IsTrue, IfOk, IfErr};
-ghost use Rattle.std.specs.Int.{w32, cast_signed};
-ghost use Rattle.pcap_core.specs.Answer.{Tells, Number};
+ghost use Rattle.std.specs.Prelude.{◌≡◌, ◌≤◌, ◌↔◌, Some, false, length, IsTrue, IfOk, IfErr};
+ghost use Rattle.pcap_core.specs.Answer.{Tells};
 ghost use Rattle.pcap_classic.specs.Magic.{kind_of, is_magic, order_of, resolution_of, magic_for};
 ghost use Rattle.pcap_classic.specs.HeaderText.{FieldsText, HeaderSays};
 ghost use Rattle.pcap_classic.specs.Defaults.{default_header};

@@ -1,6 +1,6 @@
 //! Packets.
 
-ghost use Rattle.std.specs.Prelude.{⊤, ◌≡◌, ◌≤◌, ◌<◌, ◌*◌, ◌+◌, ◌^◌, length, IsOk, IfOk, IfErr, MatchResult, IsTrue};
+ghost use Rattle.std.specs.Prelude.{⊤, ◌≡◌, ◌<◌, ◌*◌, ◌+◌, ◌^◌, length, IsOk, IfOk, IfErr, MatchResult, IsTrue};
 ghost use Rattle.std.specs.Duration.{as_nanos};
 ghost use Rattle.pcap_core.specs.Answer.{Tells, number_in};
 ghost use Rattle.pcap_core.specs.Faults.{Invalid};

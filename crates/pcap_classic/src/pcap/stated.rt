@@ -1,11 +1,9 @@
 //! Packets as items with a head.
 
-ghost use Rattle.std.specs.Prelude.{◌≡◌, false, [], length, OnOk};
+ghost use Rattle.std.specs.Prelude.{[]};
 ghost use Rattle.pcap_core.specs.Answer.{Tells, number_in, whole};
-ghost use Rattle.pcap_items.specs.Fill.{held_of, stream_of, has_failed};
 ghost use Rattle.pcap_classic.specs.Packets.{reader_format};
 ghost use Rattle.pcap_classic.specs.PacketText.{packet_limit, content_of, PacketHeaderSays};
-ghost use Rattle.pcap_items.specs.Reading.{Pulls};
 ghost use Rattle.pcap_items.specs.Filling.{Stated};
 ghost use Rattle.pcap_classic.specs.StatedPackets.{KnowsHeader};
 

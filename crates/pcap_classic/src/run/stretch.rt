@@ -1,7 +1,6 @@
 //! Whole packets that lie one behind the other in a buffer, and go out from there.
 
-ghost use Rattle.std.specs.Prelude.{◌≡◌, ◌≤◌, ◌<◌, ◌+◌, ◌-◌, length, take, IsTrue};
-ghost use Rattle.pcap_core.specs.Bytes.{IsBytes};
+ghost use Rattle.std.specs.Prelude.{IsTrue};
 ghost use Rattle.pcap_classic.specs.Magic.{is_magic};
 ghost use Rattle.pcap_classic.specs.Stretches.{TakesWhole, Sends};
 ghost use Rattle.pcap_classic.specs.Written.{written_under};

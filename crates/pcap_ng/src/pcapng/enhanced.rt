@@ -2,7 +2,6 @@
 
 ghost use Rattle.std.specs.Prelude.{◌≡◌, ◌+◌, ◌*◌, ◌^◌, MatchOption};
 ghost use Rattle.pcap_core.specs.Answer.{number_in};
-ghost use Rattle.pcap_core.specs.Bytes.{cow_bytes};
 ghost use Rattle.pcap_ng.specs.Enhanced.{BodyTells, EnhancedFrame, IsRefused, MayBeRefused, NoFrame, NonePlain, PacketText, PartsText};
 
 use byteorder::{BigEndian, ByteOrder, LittleEndian};

@@ -3,7 +3,6 @@
 ghost use Rattle.std.specs.Prelude.{◌≡◌, false, [], IfOk, IfSome, map, option_map, slice_get};
 ghost use Rattle.std.specs.Borrow.{sem, Lends};
 ghost use Rattle.pcap_core.specs.Bytes.{IsOwned};
-ghost use Rattle.pcap_items.specs.Held.{held_bytes};
 ghost use Rattle.pcap_items.specs.Reading.{NextGives};
 ghost use Rattle.pcap_blocks.specs.InterfaceDescription.{interface_of};
 ghost use Rattle.pcap_blocks.specs.SectionHeader.{section_of};
