@@ -1,6 +1,6 @@
 //! PcapNg captures as strangers write them: a parser that leaves no block out for what is wrong with its body.
 //!
-//! The strict parser of `pcap_file` ends at the first fault of a section or an interface. This one puts them in force as they stand,
+//! The strict parser of `pcap_ng` ends at the first fault of a section or an interface. This one puts them in force as they stand,
 //! and says what is wrong with them; blocks in their frames are read as strictly as there.
 #![tactic(auto)]
 
