@@ -38,7 +38,8 @@ pub record InterfaceText (order : Order) (interface : Interface) (s rest : List 
 -- the first fault of a body
 pub data InterfaceFault (order : Order) (s : List ℕ) : Fault → Type 0 where
   short : length s < 8 → InterfaceFault order s (Invalid rules.InterfaceTooShort)
-  in_options : (fault : Fault) (after : List ℕ) → Behind 8 s after → ListFault may_end_with_body order interface_description after fault → InterfaceFault order s fault
+  in_options : (fault : Fault) (after : List ℕ) → Behind 8 s after
+      → ListFault may_end_with_body order interface_description after fault → InterfaceFault order s fault
 
 -- what is said of bytes where the body of an interface is asked for
 abbrev pub InterfaceSays : Order → List ℕ → Verdict Interface → Type 0

@@ -28,7 +28,8 @@ pub record StatisticsText (order : Order) (statistics : Statistics) (s rest : Li
 -- the first fault of a body
 pub data StatisticsFault (order : Order) (s : List ℕ) : Fault → Type 0 where
   short : length s < 12 → StatisticsFault order s (Invalid StatisticsTooShort)
-  in_options : (fault : Fault) (after : List ℕ) → Behind 12 s after → ListFault may_end_with_body order interface_statistics after fault → StatisticsFault order s fault
+  in_options : (fault : Fault) (after : List ℕ) → Behind 12 s after
+      → ListFault may_end_with_body order interface_statistics after fault → StatisticsFault order s fault
 
 -- what is said of bytes where the body of statistics is asked for
 abbrev pub StatisticsSays : Order → List ℕ → Verdict Statistics → Type 0

@@ -23,7 +23,8 @@ pub record ResolutionText (order : Order) (b : Resolution) (s rest : List ℕ) :
 -- the first fault of a body
 pub data ResolutionFault (order : Order) (s : List ℕ) (fault : Fault) : Type 0 where
   in_records : RecordsFault order s fault → ResolutionFault order s fault
-  in_options : (records : List NameRecord) (after : List ℕ) → RecordsText order records s after → ListFault may_end_with_body order name_resolution after fault → ResolutionFault order s fault
+  in_options : (records : List NameRecord) (after : List ℕ) → RecordsText order records s after
+      → ListFault may_end_with_body order name_resolution after fault → ResolutionFault order s fault
 
 -- what is said of bytes where the body of a name resolution block is asked for
 abbrev pub ResolutionSays : Order → List ℕ → Verdict Resolution → Type 0
@@ -32,7 +33,8 @@ ResolutionSays order s = Says (λ b rest. ResolutionText order b s rest) (λ n. 
 -- a body has a record that is kept or has a name, or an option
 pub data ResolutionMayGrow (order : Order) (s : List ℕ) : Type 0 where
   with_record : RecordsMayGrow order s → ResolutionMayGrow order s
-  with_option : (records : List NameRecord) (after : List ℕ) → RecordsText order records s after → OptionsMayGrow order name_resolution after → ResolutionMayGrow order s
+  with_option : (records : List NameRecord) (after : List ℕ) → RecordsText order records s after
+      → OptionsMayGrow order name_resolution after → ResolutionMayGrow order s
 
 -- a block of the code
 abbrev pub names_of : NameResolutionBlock → Resolution

@@ -38,7 +38,8 @@ pub record StoredText (order : Order) (kind : Kind) (packet : Stored) (s rest : 
 -- the first fault of a stored packet
 pub data StoredFault (order : Order) (kind : Kind) (s : List ℕ) : Fault → Type 0 where
   short : length s < 16 → StoredFault order kind s (Invalid EnhancedTooShort)
-  cut : (packet : Stored) (after : List ℕ) → StoredHead order packet s after → length after < up_to_4 packet.captured_len → StoredFault order kind s (Invalid EnhancedCut)
+  cut : (packet : Stored) (after : List ℕ) → StoredHead order packet s after
+      → length after < up_to_4 packet.captured_len → StoredFault order kind s (Invalid EnhancedCut)
   in_options : (fault : Fault) (packet : Stored) (after after_bytes : List ℕ) → StoredHead order packet s after → length packet.bytes ≡ packet.captured_len
       → Padded packet.bytes after after_bytes → ListFault may_end_with_body order kind after_bytes fault → StoredFault order kind s fault
 

@@ -37,7 +37,8 @@ impl UnknownBlock<'_> {
     /// The secrets of a block of type 10 whose numbers are of this order. None of a block of another type, and where the
     /// secrets and their padding pass the body.
     pub fn decryption_secrets(&self, order: Endianness) -> Option<DecryptionSecrets<'_>>
-        ensures { MatchOption result ((type : ℕ) (secrets rest : List ℕ) → ¬ SecretsText (number_in order) self.now type secrets rest) (λ x. (rest : List ℕ) × SecretsText (number_in order) self.now x.secrets_type x.secrets.now rest) }
+        ensures { MatchOption result ((type : ℕ) (secrets rest : List ℕ) → ¬ SecretsText (number_in order) self.now type secrets rest)
+            (λ x. (rest : List ℕ) × SecretsText (number_in order) self.now x.secrets_type x.secrets.now rest) }
     {
         match order {
             Endianness::Big => self.secrets::<BigEndian>(),
@@ -46,7 +47,8 @@ impl UnknownBlock<'_> {
     }
 
     fn secrets<B: ByteOrder>(&self) -> Option<DecryptionSecrets<'_>>
-        ensures { MatchOption result ((type : ℕ) (secrets rest : List ℕ) → ¬ SecretsText B.number_of self.now type secrets rest) (λ x. (rest : List ℕ) × SecretsText B.number_of self.now x.secrets_type x.secrets.now rest) }
+        ensures { MatchOption result ((type : ℕ) (secrets rest : List ℕ) → ¬ SecretsText B.number_of self.now type secrets rest)
+            (λ x. (rest : List ℕ) × SecretsText B.number_of self.now x.secrets_type x.secrets.now rest) }
     {
         let value = self.value.as_slice();
         if self.type_ != BlockType::Unknown(10) || value.len() < 8 {

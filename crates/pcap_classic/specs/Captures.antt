@@ -17,4 +17,5 @@ pub record TakesCapture (known : Option (List ℕ)) (most : ℕ) (read : PcapRea
 -- the header is that of the bytes, and whatever failed, the packets are a beginning of the front's
 abbrev pub ReadsCapture : List ℕ → ℕ → PcapRead → Type 0
 ReadsCapture bytes most read =
-    (after : List ℕ) × HeaderText read.header bytes after × ReadsFront (format_under packet_limit read.header) tt after most (map content_of read.packets.items) read.fault read.failed
+    (after : List ℕ) × HeaderText read.header bytes after
+    × ReadsFront (format_under packet_limit read.header) tt after most (map content_of read.packets.items) read.fault read.failed

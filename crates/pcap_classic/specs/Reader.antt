@@ -40,5 +40,6 @@ LetsGo None lent = lent ≡ []
 -- ended early, or the header is refused
 abbrev pub OpensReader : {T : Type 0} → (T → Option (List ℕ)) → T → Result (PcapReader T) PcapError → Type 0
 OpensReader remaining stream (Ok reader) =
-    (is_done reader ≡ false) × (has_failed reader ≡ false) × Takes HeaderSays (remaining stream) (remaining (stream_of reader)) reader.header × (data_of reader ≡ [])
+    (is_done reader ≡ false)
+    × (has_failed reader ≡ false) × Takes HeaderSays (remaining stream) (remaining (stream_of reader)) reader.header × (data_of reader ≡ [])
 OpensReader remaining stream (Err e) = IsIo e ⊎ Shows (IsFaultOf HeaderSays (remaining stream)) e

@@ -16,4 +16,5 @@ pub record IsRun (run : PcapRun) (s : List ℕ) : Type 0 where
 
 -- a header and at least one packet stand in front of s
 abbrev pub HasPacket : List ℕ → Type 0
-HasPacket s = (header : PcapHeader) × (first : Captured) × (packets : List Captured) × (rest : List ℕ) × CaptureFront packet_limit header (first ∷ packets) s rest
+HasPacket s =
+    (header : PcapHeader) × (first : Captured) × (packets : List Captured) × (rest : List ℕ) × CaptureFront packet_limit header (first ∷ packets) s rest

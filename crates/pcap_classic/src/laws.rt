@@ -221,7 +221,8 @@ pub fn written_capture_is_read()
 
 /// A capture that is accepted whole is copied whole, where nothing fails: its header as it is asked for, and all its packets.
 pub fn accepted_capture_is_copied()
-    ensures { (under : Under) (header : PcapHeader) (packets : List Captured) (bytes : List ℕ) (now out_before out_now : Option (List ℕ)) (most : ℕ) (copied : Copied) →
+    ensures { (under : Under) (header : PcapHeader) (packets : List Captured)
+        (bytes : List ℕ) (now out_before out_now : Option (List ℕ)) (most : ℕ) (copied : Copied) →
         CaptureFront packet_limit header packets bytes [] → length packets ≤ most → NothingFailed copied → CanBeUnder under →
         CopyFront under bytes now out_before out_now most copied → CopiesAll (header_under under header) packets out_before out_now copied }
 {}

@@ -81,14 +81,18 @@ TellsPlaced interface link units original bytes (Err reason) = HasNoPlace interf
 
 -- a body is of this packet, where these interfaces are described
 abbrev pub PlacesBody : List Interface → DataLink → Body → Captured → Type 0
-PlacesBody interfaces link (EnhancedBody b) packet = Places (slice_get interfaces b.interface_id) link b.packet.timestamp b.packet.original_len b.packet.bytes packet
-PlacesBody interfaces link (OldPacketBody b) packet = Places (slice_get interfaces b.interface_id) link b.packet.timestamp b.packet.original_len b.packet.bytes packet
+PlacesBody interfaces link (EnhancedBody b) packet =
+    Places (slice_get interfaces b.interface_id) link b.packet.timestamp b.packet.original_len b.packet.bytes packet
+PlacesBody interfaces link (OldPacketBody b) packet =
+    Places (slice_get interfaces b.interface_id) link b.packet.timestamp b.packet.original_len b.packet.bytes packet
 PlacesBody interfaces link _ packet = ⊥
 
 -- why the packet of a body has no place; one without a time has none
 abbrev pub HasNoPlaceBody : List Interface → DataLink → Body → Unplaced → Type 0
-HasNoPlaceBody interfaces link (EnhancedBody b) reason = HasNoPlace (slice_get interfaces b.interface_id) link b.packet.timestamp b.packet.original_len b.packet.bytes reason
-HasNoPlaceBody interfaces link (OldPacketBody b) reason = HasNoPlace (slice_get interfaces b.interface_id) link b.packet.timestamp b.packet.original_len b.packet.bytes reason
+HasNoPlaceBody interfaces link (EnhancedBody b) reason =
+    HasNoPlace (slice_get interfaces b.interface_id) link b.packet.timestamp b.packet.original_len b.packet.bytes reason
+HasNoPlaceBody interfaces link (OldPacketBody b) reason =
+    HasNoPlace (slice_get interfaces b.interface_id) link b.packet.timestamp b.packet.original_len b.packet.bytes reason
 HasNoPlaceBody interfaces link _ reason = reason ≡ reasons.NoTime
 
 -- the packet of a body, or why it has no place
@@ -111,8 +115,10 @@ pub data Turn : Type 0 where
 
 -- what a block becomes in a classic capture of this link type, where these interfaces are described
 abbrev pub BecomesIn : List Interface → DataLink → Framed → Turn → Type 0
-BecomesIn interfaces link b (placed packet) = (is_packet b.type_ ≡ true) × (body : Body) × (rest : List ℕ) × SaysOfBody b (whole body rest) × PlacesBody interfaces link body packet
-BecomesIn interfaces link b (unplaced reason) = (is_packet b.type_ ≡ true) × (body : Body) × (rest : List ℕ) × SaysOfBody b (whole body rest) × HasNoPlaceBody interfaces link body reason
+BecomesIn interfaces link b (placed packet) =
+    (is_packet b.type_ ≡ true) × (body : Body) × (rest : List ℕ) × SaysOfBody b (whole body rest) × PlacesBody interfaces link body packet
+BecomesIn interfaces link b (unplaced reason) =
+    (is_packet b.type_ ≡ true) × (body : Body) × (rest : List ℕ) × SaysOfBody b (whole body rest) × HasNoPlaceBody interfaces link body reason
 BecomesIn interfaces link b no_packet = is_packet b.type_ ≡ false
 
 -- what a block of a capture becomes

@@ -45,7 +45,8 @@ pub record Source : Type 0 where
   pub done : Bool
 
 abbrev pub source_of : {T : Type 0} → (T → Option (List ℕ)) → PcapNgReader T → Source
-source_of remaining reader = record { state = readers.state_of reader; left = remaining (readers.stream_of reader); failed = readers.has_failed reader; done = readers.is_done reader }
+source_of remaining reader =
+    record { state = readers.state_of reader; left = remaining (readers.stream_of reader); failed = readers.has_failed reader; done = readers.is_done reader }
 
 -- what a writer shows: what it has written, and whether a write failed
 pub record Sink : Type 0 where
@@ -217,7 +218,8 @@ pub record IsNew (converted : NgConverted) : Type 0 where
 -- a write of the writer failed before, or its header has none of the four magic numbers
 abbrev pub CannotWrite : PcapHeader → Sink → Option PcapError → Type 0
 CannotWrite header c fault =
-    ((c.failed ≡ true) × (fault ≡ Some errors.WriterFailed)) ⊎ ((c.failed ≡ false) × (is_magic header.magic_number ≡ false) × IsSomeAnd fault (Names CaptureMagic))
+    ((c.failed ≡ true) × (fault ≡ Some errors.WriterFailed))
+    ⊎ ((c.failed ≡ false) × (is_magic header.magic_number ≡ false) × IsSomeAnd fault (Names CaptureMagic))
 
 -- the writer is of no use: nothing was taken, and nothing went out
 pub record RefusesWriter (header : PcapHeader) (a b : Source) (c d : Sink) (converted : NgConverted) : Type 0 where

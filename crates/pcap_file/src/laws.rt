@@ -85,10 +85,12 @@ pub fn converted_packet_converts_back()
 /// seconds among the nanoseconds stand with the seconds. The blocks before the packets have a text where the number of the link type
 /// has two bytes.
 pub fn converted_capture_converts_back()
-    ensures packets { (header : PcapHeader) (packets : List Captured) → All (IsFitIn Little) (opening_blocks header) → All IsWhole packets → All HasSecondsInside packets →
+    ensures packets { (header : PcapHeader) (packets : List Captured) →
+        All (IsFitIn Little) (opening_blocks header) → All IsWhole packets → All HasSecondsInside packets →
         BlocksBecome header.datalink (map carried packets) (little_texts (converted header packets)) }
     ensures same { (packet : Captured) → packet.header.ts_nsec < 10 ^ 9 → carried packet ≡ packet }
-    ensures begins { (header : PcapHeader) → IsPlain header.datalink → link_number header.datalink < 2 ^ 16 → header.snaplen < 2 ^ 32 → All (IsFitIn Little) (opening_blocks header) }
+    ensures begins { (header : PcapHeader) → IsPlain header.datalink
+        → link_number header.datalink < 2 ^ 16 → header.snaplen < 2 ^ 32 → All (IsFitIn Little) (opening_blocks header) }
 {}
 
 /// What a conversion to PcapNg wrote where no write failed becomes the packets that it read: all of the capture's front, or the
@@ -102,7 +104,8 @@ pub fn conversion_converts_back()
 /// that capture is converted to PcapNg; where the number of its link type has two bytes.
 pub fn placed_capture_converts_back()
     ensures { (header : PcapHeader) (items : List Item) (turns : List Turn) → IsWholeHeader header → link_number header.datalink < 2 ^ 16 →
-        AllZip (Becomes header.datalink) items turns → BlocksBecome header.datalink (packets_read header turns) (little_texts (converted header (packets_read header turns))) }
+        AllZip (Becomes header.datalink) items turns →
+        BlocksBecome header.datalink (packets_read header turns) (little_texts (converted header (packets_read header turns))) }
 {}
 
 /// A capture of blocks that are all whole is converted whole where nothing fails: exactly the packets go out that have a place, each
@@ -119,9 +122,12 @@ pub fn accepted_capture_is_placed()
 /// of these.
 pub fn placing_is_a_beginning()
     ensures begins { (header : PcapHeader) (choice : IfUnplaced) (bytes : List ℕ) (a b : Source) (c d : Sink) (most : ℕ) (converted : NgConverted) →
-        a.left ≡ Some bytes → PlacesRun header choice a b c d most converted → (gone : List ℕ) × Appends c.out d.out gone × BeginsPlaced header choice a.state bytes gone }
-    ensures whole { (header : PcapHeader) (choice : IfUnplaced) (turns : List Turn) (bytes : List ℕ) (a b : Source) (c d : Sink) (most : ℕ) (converted : NgConverted) →
-        a.left ≡ Some bytes → (row : PlacesRow header choice a.state bytes turns) → GoesNoFurther header choice row.others → PlacesRun header choice a b c d most converted →
+        a.left ≡ Some bytes → PlacesRun header choice a b c d most converted →
+        (gone : List ℕ) × Appends c.out d.out gone × BeginsPlaced header choice a.state bytes gone }
+    ensures whole { (header : PcapHeader) (choice : IfUnplaced)
+        (turns : List Turn) (bytes : List ℕ) (a b : Source) (c d : Sink) (most : ℕ) (converted : NgConverted) →
+        a.left ≡ Some bytes → (row : PlacesRow header choice a.state bytes turns) →
+        GoesNoFurther header choice row.others → PlacesRun header choice a b c d most converted →
         (gone rest : List ℕ) × (flat_map (written_under header) (packets_of turns) ≡ gone ++ rest) × Appends c.out d.out gone }
 {}
 
@@ -134,7 +140,9 @@ pub fn opened_reader_is_ready<T>()
 /// A capture whose blocks become these packets is converted to them where nothing fails: exactly these packets go out, so that a
 /// classic capture that was converted to PcapNg and back has the packets that it had.
 pub fn converted_capture_comes_back()
-    ensures { (header : PcapHeader) (choice : IfUnplaced) (packets : List Captured) (bytes : List ℕ) (a b : Source) (c d : Sink) (most : ℕ) (converted : NgConverted) →
-        (held : BlocksBecome header.datalink packets bytes) → length held.items ≤ most → IsOpened bytes a → AreReady header a c → whole_runs.NothingFailed b d converted →
+    ensures { (header : PcapHeader) (choice : IfUnplaced) (packets : List Captured)
+        (bytes : List ℕ) (a b : Source) (c d : Sink) (most : ℕ) (converted : NgConverted) →
+        (held : BlocksBecome header.datalink packets bytes) → length held.items ≤ most →
+        IsOpened bytes a → AreReady header a c → whole_runs.NothingFailed b d converted →
         PlacesRun header choice a b c d most converted → ComeBack header packets c d converted }
 {}

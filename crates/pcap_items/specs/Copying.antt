@@ -80,7 +80,8 @@ module _ {S V : Type 0} (f : Format S V) (written : List V → List ℕ → List
     pub count : m ≡ n + length items
 
   -- items were copied that leave the state, and then a fault came, before the most items
-  pub record FailsBehind (q : S) (before now out out_now : Option (List ℕ)) (n most m : ℕ) (fault : Option PcapError) (read_failed write_failed : Bool) : Type 0 where
+  pub record FailsBehind (q : S) (before now out out_now : Option (List ℕ))
+      (n most m : ℕ) (fault : Option PcapError) (read_failed write_failed : Bool) : Type 0 where
     pub left : Option (List ℕ)
     pub mid : Option (List ℕ)
     pub so_far : CopiesTo q q before left out mid n m
@@ -93,10 +94,12 @@ module _ {S V : Type 0} (f : Format S V) (written : List V → List ℕ → List
       CopiesTo q next before now out out_now n tally.items × (tally.items ≤ most) × (tally.read_failed ≡ false) × (tally.write_failed ≡ false)
   Steps q next before now out out_now n most tally (Ok false) =
       (tally.items ≡ n) × IsAtEnd before × EndsWhole before now out out_now None tally.read_failed tally.write_failed
-  Steps q next before now out out_now n most tally (Err e) = FailsBehind q before now out out_now n most tally.items (Some e) tally.read_failed tally.write_failed
+  Steps q next before now out out_now n most tally (Err e) =
+      FailsBehind q before now out out_now n most tally.items (Some e) tally.read_failed tally.write_failed
 
   -- so many items were copied under a state, until the copy ended with this fault, or none
-  pub record CopiesBehind (q : S) (before now out out_now : Option (List ℕ)) (most n : ℕ) (fault : Option PcapError) (read_failed write_failed : Bool) : Type 0 where
+  pub record CopiesBehind (q : S) (before now out out_now : Option (List ℕ))
+      (most n : ℕ) (fault : Option PcapError) (read_failed write_failed : Bool) : Type 0 where
     pub items : List V
     pub left : Option (List ℕ)
     pub mid : Option (List ℕ)

@@ -8,7 +8,8 @@ use Rattle.pcap_items.specs.Requested.{RunRequests}
 
 -- these parts are kept of the items in bytes from start on, which end where used bytes do, and lead from one state to the next; this is
 -- said of the rest; and the requests for all of it stand after the earlier ones, and a count that was first grew by their number
-pub record ExactItems {E S V W : Type 0} (f : Format S V) (part : V → W) (ShowsIt : E → Fault → Type 0) (q next : S) (ws : List W) (bytes : List ℕ) (start used : ℕ) (ended : Ended E)
+pub record ExactItems {E S V W : Type 0} (f : Format S V) (part : V → W)
+    (ShowsIt : E → Fault → Type 0) (q next : S) (ws : List W) (bytes : List ℕ) (start used : ℕ) (ended : Ended E)
     (earlier now : List ℕ) (first count : ℕ) : Type 0 where
   pub values : List V
   pub requests : List ℕ

@@ -29,7 +29,8 @@ IsAskedFor IsSaid s = (n : ℕ) → n < length s → IsShort IsSaid (take n s)
 
 -- a head that is known was taken and no more, with how many bytes it says follow it; or nothing is held at the end of the
 -- stream; or a refusal, and no more was taken than was asked for
-abbrev pub FillsHead : {H V : Type 0} → (List ℕ → Verdict V → Type 0) → (H → ℕ → List ℕ → Type 0) → ℕ → Option (List ℕ) → Option (List ℕ) → List ℕ → Bool → Result (Option (H × ℕ)) PcapError → Type 0
+abbrev pub FillsHead : {H V : Type 0} → (List ℕ → Verdict V → Type 0)
+    → (H → ℕ → List ℕ → Type 0) → ℕ → Option (List ℕ) → Option (List ℕ) → List ℕ → Bool → Result (Option (H × ℕ)) PcapError → Type 0
 FillsHead IsSaid Knows head before after held failed (Ok (Some x)) =
     (failed ≡ false) × (length held ≡ head) × StatesRest IsSaid Knows held (Ok x) × IsAskedFor IsSaid held × Consumes before after held
 FillsHead IsSaid Knows head before after held failed (Ok None) = (failed ≡ false) × (held ≡ []) × IsAtEnd before × Keeps before after
@@ -37,14 +38,16 @@ FillsHead IsSaid Knows head before after held failed (Err e) = HasCause IsSaid b
 
 -- the held bytes were taken and no more: a head that is known, and what it asked for; or nothing is held at the end of the
 -- stream; or a refusal, and no more was taken than was asked for
-abbrev pub FillsHeaded : {H V : Type 0} → (List ℕ → Verdict V → Type 0) → (H → ℕ → List ℕ → Type 0) → ℕ → Option (List ℕ) → Option (List ℕ) → List ℕ → Bool → Result (Option H) PcapError → Type 0
+abbrev pub FillsHeaded : {H V : Type 0} → (List ℕ → Verdict V → Type 0)
+    → (H → ℕ → List ℕ → Type 0) → ℕ → Option (List ℕ) → Option (List ℕ) → List ℕ → Bool → Result (Option H) PcapError → Type 0
 FillsHeaded IsSaid Knows head before after held failed (Ok (Some known)) =
     (failed ≡ false) × Stated Knows head known held × IsSettled (IsSaid held) × IsAskedFor IsSaid held × Consumes before after held
 FillsHeaded IsSaid Knows head before after held failed (Ok None) = (failed ≡ false) × (held ≡ []) × IsAtEnd before × Keeps before after
 FillsHeaded IsSaid Knows head before after held failed (Err e) = HasCause IsSaid before failed e × TakesAsked IsSaid before after
 
 -- exactly these bytes were taken: a head that is known, and this body, which it asked for
-pub record TakesStated {H V : Type 0} (IsSaid : List ℕ → Verdict V → Type 0) (Knows : H → ℕ → List ℕ → Type 0) (head : ℕ) (before after : Option (List ℕ)) (known : H) (body : List ℕ) : Type 0 where
+pub record TakesStated {H V : Type 0} (IsSaid : List ℕ → Verdict V → Type 0)
+    (Knows : H → ℕ → List ℕ → Type 0) (head : ℕ) (before after : Option (List ℕ)) (known : H) (body : List ℕ) : Type 0 where
   pub bytes : List ℕ
   pub stated : Stated Knows head known bytes
   pub body_is : stated.body ≡ body
@@ -54,7 +57,8 @@ pub record TakesStated {H V : Type 0} (IsSaid : List ℕ → Verdict V → Type 
 
 -- a head and its body were taken and no more; or the stream was at its end; or a refusal, and no more was taken than was
 -- asked for
-abbrev pub TakesHeaded : {H B V : Type 0} → (List ℕ → Verdict V → Type 0) → (H → ℕ → List ℕ → Type 0) → ℕ → (B → List ℕ) → Option (List ℕ) → Option (List ℕ) → Bool → Result (Option (H × B)) PcapError → Type 0
+abbrev pub TakesHeaded : {H B V : Type 0} → (List ℕ → Verdict V → Type 0)
+    → (H → ℕ → List ℕ → Type 0) → ℕ → (B → List ℕ) → Option (List ℕ) → Option (List ℕ) → Bool → Result (Option (H × B)) PcapError → Type 0
 TakesHeaded IsSaid Knows head body_of before after failed (Ok (Some x)) = (failed ≡ false) × TakesStated IsSaid Knows head before after x.0 (body_of x.1)
 TakesHeaded IsSaid Knows head body_of before after failed (Ok None) = (failed ≡ false) × IsAtEnd before × Keeps before after
 TakesHeaded IsSaid Knows head body_of before after failed (Err e) = HasCause IsSaid before failed e × TakesAsked IsSaid before after

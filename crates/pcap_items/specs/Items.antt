@@ -42,7 +42,8 @@ FoundAt f part view ShowsIt q next s after (found.Needs n) = (next ≡ q) × f.s
 FoundAt f part view ShowsIt q next s after (found.Refused error) = (next ≡ q) × ShowsSaid ShowsIt (f.says q s) error
 
 -- what a parser tells of bytes where an item is asked for; it finds no memory only where it grows something
-abbrev pub FindsItem : {X E S V W : Type 0} → Format S V → (V → W) → (X → W) → (E → Fault → Type 0) → (S → List ℕ → Type 0) → S → S → List ℕ → Result (Found (Bor (List ℕ) × X) E) AllocError → Type 0
+abbrev pub FindsItem : {X E S V W : Type 0} → Format S V → (V → W)
+    → (X → W) → (E → Fault → Type 0) → (S → List ℕ → Type 0) → S → S → List ℕ → Result (Found (Bor (List ℕ) × X) E) AllocError → Type 0
 FindsItem f part view ShowsIt Grows q next s (Ok told) = FoundAt f part (λ x. view x.1) ShowsIt q next s (λ x. x.0.now) told
 FindsItem f part view ShowsIt Grows q next s (Err error) = Grows q s
 
@@ -59,7 +60,8 @@ rest_of (Needs n) = rests.Needs n
 rest_of (Refused error) = rests.Refused error
 
 -- these are the parts of the items at the front of s, which end where so many bytes were used, and this is said of the rest
-pub record RunsTo {E S V W : Type 0} (f : Format S V) (part : V → W) (ShowsIt : E → Fault → Type 0) (q next : S) (ws : List W) (s : List ℕ) (used : ℕ) (ended : Ended E) : Type 0 where
+pub record RunsTo {E S V W : Type 0} (f : Format S V) (part : V → W)
+    (ShowsIt : E → Fault → Type 0) (q next : S) (ws : List W) (s : List ℕ) (used : ℕ) (ended : Ended E) : Type 0 where
   pub left : List ℕ
   pub leads : LeadsTo f part q next ws s left
   pub used_is : used + length left ≡ length s

@@ -62,7 +62,8 @@ Came opens f part state s (Before error) held ws = (held ≡ s) × (ws ≡ [])
 Came opens f part state s (Within parser rest) held ws = Reaches opens f part (state parser) ws s held
 
 -- s came, so many of its bytes were taken, q is the state then, and this is said of the bytes behind them
-pub record IsFedUpTo {S V W : Type 0} (opens : List ℕ → Verdict S → Type 0) (f : Format S V) (part : V → W) (q : S) (s : List ℕ) (rest : Rest) (used : ℕ) (ws : List W) : Type 0 where
+pub record IsFedUpTo {S V W : Type 0} (opens : List ℕ → Verdict S → Type 0)
+    (f : Format S V) (part : V → W) (q : S) (s : List ℕ) (rest : Rest) (used : ℕ) (ws : List W) : Type 0 where
   pub left : List ℕ
   pub reaches : Reaches opens f part q ws s left
   pub rest_is : IsRest (f.says q) left rest
@@ -72,7 +73,8 @@ pub record IsFedUpTo {S V W : Type 0} (opens : List ℕ → Verdict S → Type 0
 abbrev pub TakesPart : {S V W : Type 0} → Format S V → (V → W) → S → S → W → List ℕ → ℕ → Type 0
 TakesPart f part q next w s count = (after : List ℕ) × LeadsBy f part q next w s after × (length after ≡ count)
 
--- what a parser tells of bytes where an item is asked for: an item and what follows it; or n bytes lack, or there is a fault, and the state stays; or it found no memory
+-- what a parser tells of bytes where an item is asked for: an item and what follows it; or n bytes lack, or there is a
+-- fault, and the state stays; or it found no memory
 abbrev pub TakesFront : {X S V W : Type 0} → Format S V → (V → W) → (X → W) → S → S → List ℕ → Result (Bor (List ℕ) × X) PcapError → Type 0
 TakesFront f part view q next s (Ok x) = LeadsBy f part q next (view x.1) s x.0.now
 TakesFront f part view q next s (Err error) = Refuses ⊤ (λ n. (next ≡ q) × f.says q s (lacks n)) (λ fault. (next ≡ q) × f.says q s (faulty fault)) error
@@ -86,7 +88,8 @@ behind_of (Err (IncompleteBuffer n)) = Ok (Needs n)
 behind_of (Err (OutOfMemory e)) = Err (OutOfMemory e)
 behind_of (Err error) = Ok (Refused error)
 
--- what was found of bytes at whose front a capture opens: the parser after that, and how many bytes follow; or n bytes lack; or there is a fault; or no memory was found
+-- what was found of bytes at whose front a capture opens: the parser after that, and how many bytes follow; or n bytes lack;
+-- or there is a fault; or no memory was found
 abbrev pub OpensWith : {P S : Type 0} → (List ℕ → Verdict S → Type 0) → (P → S) → List ℕ → Result (Found (P × ℕ) PcapError) PcapError → Type 0
 OpensWith opens state s (Ok (Item x)) = (after : List ℕ) × opens s (whole (state x.0) after) × (length after ≡ x.1)
 OpensWith opens state s (Ok (Needs n)) = opens s (lacks n)

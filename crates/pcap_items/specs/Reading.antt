@@ -55,7 +55,8 @@ Pulls IsSaid view before after failed (Ok (Some x)) = (failed ≡ false) × Take
 Pulls IsSaid view before after failed (Err e) = HasCause IsSaid before failed e × TakesAsked IsSaid before after
 
 -- one call of a reader's next; after its first refusal it is None for good, and touches nothing
-abbrev pub NextGives : {X V : Type 0} → (List ℕ → Verdict V → Type 0) → (X → V) → Option (List ℕ) → Option (List ℕ) → Bool → Bool → Bool → Bool → Option (Result X PcapError) → Type 0
+abbrev pub NextGives : {X V : Type 0} → (List ℕ → Verdict V → Type 0)
+    → (X → V) → Option (List ℕ) → Option (List ℕ) → Bool → Bool → Bool → Bool → Option (Result X PcapError) → Type 0
 NextGives IsSaid view before after true done old new None = (done ≡ true) × (new ≡ old) × Keeps before after
 NextGives IsSaid view before after true done old new (Some r) = ⊥
 NextGives IsSaid view before after false done old new None = (done ≡ false) × (new ≡ false) × IsAtEnd before × Keeps before after

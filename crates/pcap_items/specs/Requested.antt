@@ -20,7 +20,8 @@ module _ {S V : Type 0} (f : Format S V) where
   abbrev pub ItemRequests : S → List V → List ℕ → List ℕ → List ℕ → Type 0
   ItemRequests q [] s rest ns = (s ≡ rest) × (ns ≡ [])
   ItemRequests q (v ∷ vs) s rest ns =
-      (after here further : List ℕ) × f.says q s (whole v after) × RequestsAt f q s here × ItemRequests (f.goes q v) vs after rest further × (ns ≡ here ++ further)
+      (after here further : List ℕ) × f.says q s (whole v after)
+      × RequestsAt f q s here × ItemRequests (f.goes q v) vs after rest further × (ns ≡ here ++ further)
 
   -- the requests at the rest after the last item: none where nothing is left
   abbrev pub RestRequests : S → List ℕ → List ℕ → Type 0

@@ -17,7 +17,8 @@ use Rattle.pcap_ng.specs.State.{opening, is_kept, Means}
 -- header and an interface description are refused, as their bodies are
 abbrev pub ChangeTells : Framed → Result Change PcapError → Type 0
 ChangeTells b (Ok (changes.Section section)) = (b.type_ ≡ types.SectionHeader) × (rest : List ℕ) × SectionSays b.body (whole (section_of section) rest)
-ChangeTells b (Ok (changes.Interface interface)) = (b.type_ ≡ types.InterfaceDescription) × (rest : List ℕ) × InterfaceSays (number_in b.endianness) b.body (whole (interface_of interface) rest)
+ChangeTells b (Ok (changes.Interface interface)) =
+    (b.type_ ≡ types.InterfaceDescription) × (rest : List ℕ) × InterfaceSays (number_in b.endianness) b.body (whole (interface_of interface) rest)
 ChangeTells b (Ok changes.Nothing) = is_kept b.type_ ≡ false
 ChangeTells b (Err e) = (is_kept b.type_ ≡ true) × Refuses (GrowsInBody b) (λ n. ⊥) (λ fault. SaysOfBody b (faulty fault)) e
 

@@ -68,7 +68,8 @@ pub record NoOrder (e : Endianness) (s : List ℕ) : Type 0 where
 pub data BreaksHead (e : Endianness) (s : List ℕ) : Rule → Type 0 where
   no_order : NoOrder e s → BreaksHead e s SectionMagic
   unaligned : (number len : ℕ) (own : Endianness) (after : List ℕ) → FrameHeadText e number own len s after → len % 4 ≢ 0 → BreaksHead e s BlockUnaligned
-  too_short : (number len : ℕ) (own : Endianness) (after : List ℕ) → FrameHeadText e number own len s after → len % 4 ≡ 0 → len < 12 → BreaksHead e s BlockTooShort
+  too_short : (number len : ℕ) (own : Endianness) (after : List ℕ)
+      → FrameHeadText e number own len s after → len % 4 ≡ 0 → len < 12 → BreaksHead e s BlockTooShort
 
 -- s is the body of a block of this length, the length that stands after it, and then rest
 pub record FrameTail (own : Endianness) (len : ℕ) (body : List ℕ) (trailer : ℕ) (s rest : List ℕ) : Type 0 where

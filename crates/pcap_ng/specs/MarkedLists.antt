@@ -32,9 +32,11 @@ pub record MarkedInterface (order : Order) (interface : Interface) (s rest : Lis
 
 -- where such a block leads
 pub data MarkedLeads (b : Framed) (next : State) : State → Type 0 where
-  to_section : (q : State) (section : Section) (rest : List ℕ) → b.type_ ≡ types.SectionHeader → MarkedSection section b.body rest → next ≡ within section [] → MarkedLeads b next q
+  to_section : (q : State) (section : Section) (rest : List ℕ)
+      → b.type_ ≡ types.SectionHeader → MarkedSection section b.body rest → next ≡ within section [] → MarkedLeads b next q
   to_interface : (section : Section) (interfaces : List Interface) (interface : Interface) (rest : List ℕ) → b.type_ ≡ types.InterfaceDescription
-      → MarkedInterface (number_in b.endianness) interface b.body rest → next ≡ within section (interfaces ++ interface ∷ []) → MarkedLeads b next (within section interfaces)
+      → MarkedInterface (number_in b.endianness) interface b.body rest
+      → next ≡ within section (interfaces ++ interface ∷ []) → MarkedLeads b next (within section interfaces)
   nowhere : (q : State) → is_read q b.type_ ≡ false → next ≡ q → MarkedLeads b next q
 
 -- s is such a block under this state, and then rest
@@ -44,4 +46,8 @@ pub record MarkedText (q : State) (item : Item) (s rest : List ℕ) : Type 0 whe
 
 -- such blocks; for a front only their texts count
 unfoldable pub marked_format : Format State Item
-marked_format = record { says = λ q s. Says (λ item rest. MarkedText q item s rest) (FrameLacks (order_at q) s) (FrameFault (order_at q) s); goes = λ q item. item.after; head = λ q. 12 }
+marked_format = record {
+  says = λ q s. Says (λ item rest. MarkedText q item s rest) (FrameLacks (order_at q) s) (FrameFault (order_at q) s);
+  goes = λ q item. item.after;
+  head = λ q. 12;
+}

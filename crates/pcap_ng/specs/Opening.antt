@@ -12,7 +12,8 @@ use Rattle.pcap_ng.specs.Blocks.{BlockText, BodyFault}
 
 -- what is said where the first block is asked for, which is a section header and gives the state after it
 abbrev pub OpeningSays : List ℕ → Verdict State → Type 0
-OpeningSays s = Says (λ q rest. (block : Framed) × BlockText opening (record { block = block; after = q }) s rest) (FrameLacks (order_at opening) s) (λ fault. FrameFault (order_at opening) s fault ⊎ BodyFault opening s fault)
+OpeningSays s = Says (λ q rest. (block : Framed) × BlockText opening (record { block = block; after = q }) s rest)
+    (FrameLacks (order_at opening) s) (λ fault. FrameFault (order_at opening) s fault ⊎ BodyFault opening s fault)
 
 -- what is in force after the first block that these bytes are, or their refusal
 abbrev pub OpensHeld : List ℕ → Result InForce PcapError → Type 0

@@ -13,7 +13,8 @@ use Rattle.pcap_ng.specs.Opening.{OpeningSays}
 use Rattle.pcap_ng.specs.Reader.{state_of, stream_of, has_failed}
 
 -- a run took these blocks, at most so many, and then stopped; this is in force after them
-pub record TakesBlocks (q reached : State) (before now : Option (List ℕ)) (failed : Bool) (most : ℕ) (blocks : List Framed) (fault : Option PcapError) : Type 0 where
+pub record TakesBlocks (q reached : State) (before now : Option (List ℕ))
+    (failed : Bool) (most : ℕ) (blocks : List Framed) (fault : Option PcapError) : Type 0 where
   pub items : List Item
   pub blocks_are : map (λ (item : Item). item.block) items ≡ blocks
   pub in_force : state_after block_format q items ≡ reached
@@ -24,7 +25,8 @@ pub record TakesNg {T : Type 0} (remaining : T → Option (List ℕ)) (known : O
   pub after : Option (List ℕ)
   pub first : State
   pub opened : Takes OpeningSays known after first
-  pub blocks : TakesBlocks first (state_of read.reader) after (remaining (stream_of read.reader)) (has_failed read.reader) most (map framed_of read.blocks.items) read.fault
+  pub blocks : TakesBlocks first (state_of read.reader) after
+      (remaining (stream_of read.reader)) (has_failed read.reader) most (map framed_of read.blocks.items) read.fault
 
 -- the first block is that of the bytes, and whatever failed, the blocks are a beginning of the front's
 pub record ReadsNg {T : Type 0} (bytes : List ℕ) (most : ℕ) (read : NgRead T) : Type 0 where

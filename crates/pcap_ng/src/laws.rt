@@ -147,7 +147,8 @@ pub fn written_capture_has_its_marks()
 pub fn mixed_capture_is_read()
     ensures { (at end : Place) (first : Written) (blocks : List Written) (bytes : List ℕ) → type_written first ≡ types.SectionHeader →
         All IsReadable (first ∷ blocks) → GoOut at (first ∷ blocks) bytes end →
-        (items : List Item) × Front block_format opening items bytes [] × AllZip IsReadAs items (first ∷ blocks) × StandsAt end (state_after block_format opening items) }
+        (items : List Item) × Front block_format opening items bytes []
+        × AllZip IsReadAs items (first ∷ blocks) × StandsAt end (state_after block_format opening items) }
 {}
 
 /// A block that was made of a value is read as it was, with the padding where its bytes are the rest of the block, and its text is

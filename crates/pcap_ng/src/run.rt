@@ -47,7 +47,8 @@ pub struct NgRun<'a> {
 pub fn parse_pcapng<'a>(alloc: Global, bytes: &'a [u8]) -> ResultParsing<NgRun<'a>>
     ensures front { IfOk result (λ run. IsRun run bytes.now) }
     ensures borrowed { IfOk result (λ run. All (λ block. IsBorrowed block.body) run.blocks.items) }
-    ensures refused { IfErr result (Refuses (MayGrow opening bytes.now) (λ n. OpeningSays bytes.now (lacks n)) (λ fault. OpeningSays bytes.now (faulty fault))) }
+    ensures refused { IfErr result
+        (Refuses (MayGrow opening bytes.now) (λ n. OpeningSays bytes.now (lacks n)) (λ fault. OpeningSays bytes.now (faulty fault))) }
 {
     let (after_first, mut parser) = PcapNgParser::new(alloc, bytes)?;
     let run = parse_items(alloc, &mut parser, after_first)?;

@@ -85,9 +85,11 @@ pub record RecordText (order : Order) (r : NameRecord) (s rest : List ℕ) : Typ
 pub data RecordFault (order : Order) (s : List ℕ) : Fault → Type 0 where
   short : length s < 4 → RecordFault order s Io
   cut : (type len : ℕ) (after : List ℕ) → CodeLengthText order type len s after → length after < len → RecordFault order s (Invalid RecordCut)
-  wrong : (fault : Fault) (type : ℕ) (v after more : List ℕ) → CodeLengthText order type (length v) s after → after ≡ v ++ more → RecordValueSays (form_of type) v (faulty fault)
+  wrong : (fault : Fault) (type : ℕ) (v after more : List ℕ) → CodeLengthText order type (length v) s after
+      → after ≡ v ++ more → RecordValueSays (form_of type) v (faulty fault)
       → RecordFault order s fault
-  unpadded : (r : NameRecord) (type : ℕ) (v after more : List ℕ) → CodeLengthText order type (length v) s after → after ≡ v ++ more → RecordValueSays (form_of type) v (whole r [])
+  unpadded : (r : NameRecord) (type : ℕ) (v after more : List ℕ)
+      → CodeLengthText order type (length v) s after → after ≡ v ++ more → RecordValueSays (form_of type) v (whole r [])
       → length after < up_to_4 (length v) → RecordFault order s (Invalid RecordUnpadded)
 
 -- what is said of bytes where a record is asked for

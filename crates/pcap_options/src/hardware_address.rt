@@ -18,7 +18,8 @@ impl UnknownRecord<'_> {
     /// The address of 6 bytes and the names of a record of type 3 (nrb_record_eui48). None of a record of another type,
     /// and of a value that is shorter.
     pub fn eui48(&self) -> Option<HardwareAddress<'_>>
-        ensures { MatchOption result ((address names : List ℕ) → ¬ AddressOf 3 6 self.now address names) (λ x. AddressOf 3 6 self.now x.address.now x.names.now) }
+        ensures { MatchOption result ((address names : List ℕ) → ¬ AddressOf 3 6 self.now address names)
+            (λ x. AddressOf 3 6 self.now x.address.now x.names.now) }
     {
         self.hardware(3, 6)
     }
@@ -26,13 +27,15 @@ impl UnknownRecord<'_> {
     /// The address of 8 bytes and the names of a record of type 4 (nrb_record_eui64). None of a record of another type,
     /// and of a value that is shorter.
     pub fn eui64(&self) -> Option<HardwareAddress<'_>>
-        ensures { MatchOption result ((address names : List ℕ) → ¬ AddressOf 4 8 self.now address names) (λ x. AddressOf 4 8 self.now x.address.now x.names.now) }
+        ensures { MatchOption result ((address names : List ℕ) → ¬ AddressOf 4 8 self.now address names)
+            (λ x. AddressOf 4 8 self.now x.address.now x.names.now) }
     {
         self.hardware(4, 8)
     }
 
     fn hardware(&self, type_: u16, width: usize) -> Option<HardwareAddress<'_>>
-        ensures { MatchOption result ((address names : List ℕ) → ¬ AddressOf type_ width self.now address names) (λ x. AddressOf type_ width self.now x.address.now x.names.now) }
+        ensures { MatchOption result ((address names : List ℕ) → ¬ AddressOf type_ width self.now address names)
+            (λ x. AddressOf type_ width self.now x.address.now x.names.now) }
     {
         let value = self.value.as_slice();
         if self.type_ != type_ || value.len() < width {

@@ -40,7 +40,8 @@ pub record IsPartRun (header : PcapHeader) (part : List ℕ) (run : PcapRun) : T
 -- no packet stands under a header of no valid magic number; else the part has a packet that can't be kept
 abbrev pub RefusesPart : PcapHeader → List ℕ → PcapError → Type 0
 RefusesPart header part (InvalidField text) = RefusesMagic header text.now
-RefusesPart header part (OutOfMemory e) = (first : Captured) × (others : List Captured) × (rest : List ℕ) × Front (format_under packet_limit header) tt (first ∷ others) part rest
+RefusesPart header part (OutOfMemory e) =
+    (first : Captured) × (others : List Captured) × (rest : List ℕ) × Front (format_under packet_limit header) tt (first ∷ others) part rest
 RefusesPart header part _ = ⊥
 
 -- the run has the blocks of the part from this state, and its parser has the state to which they lead

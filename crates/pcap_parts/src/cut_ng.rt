@@ -79,7 +79,8 @@ pub(crate) fn cut_blocks(
     requires walked { IsWalked bytes.now slice.now (state_of walk.old.parser) walk.old.header (drop walk.old.first walk.old.interfaces.items) }
     requires within { walk.old.first ≤ length walk.old.interfaces.items }
     requires some { AsksSome parting }
-    ensures cuts { IfOk result (λ cuts. AreCuts block_format (state_of walk.old.parser) slice.now (length bytes.now - length slice.now) (length bytes.now) (bounds_of cuts.items)) }
+    ensures cuts { IfOk result
+        (λ cuts. AreCuts block_format (state_of walk.old.parser) slice.now (length bytes.now - length slice.now) (length bytes.now) (bounds_of cuts.items)) }
     ensures asked { IfOk result (λ cuts. AreAskedFor block_format (state_of walk.old.parser) slice.now (length bytes.now) parting (bounds_of cuts.items)) }
     ensures resume { IfOk result (λ cuts. AllByRecursion (ResumesAt bytes.now walk.new.interfaces.items (state_of walk.old.parser) slice.now) cuts.items) }
 {

@@ -31,11 +31,14 @@ impl Walk {
     fn pass<'a>(&mut self, bytes: &[u8], left: &'a [u8]) -> ResultParsing<&'a [u8]>
         requires walked { IsWalked bytes.now left.now (state_of self.old.parser) self.old.header (drop self.old.first self.old.interfaces.items) }
         requires within { self.old.first ≤ length self.old.interfaces.items }
-        ensures walked { IfOk result (λ after. IsWalked bytes.now after.now (state_of self.new.parser) self.new.header (drop self.new.first self.new.interfaces.items)) }
+        ensures walked { IfOk result
+            (λ after. IsWalked bytes.now after.now (state_of self.new.parser) self.new.header (drop self.new.first self.new.interfaces.items)) }
         ensures within { IfOk result (λ _. self.new.first ≤ length self.new.interfaces.items) }
         ensures goes_on { GoesOn self.old.interfaces.items self.new.interfaces.items }
-        ensures passes { IfOk result (λ after. (item : Item) × BlockSays (state_of self.old.parser) left.now (whole item after.now) × (item.after ≡ state_of self.new.parser)) }
-        ensures refused { IfErr result (Refuses ⊤ (λ n. BlockSays (state_of self.old.parser) left.now (lacks n)) (λ fault. BlockSays (state_of self.old.parser) left.now (faulty fault))) }
+        ensures passes { IfOk result
+            (λ after. (item : Item) × BlockSays (state_of self.old.parser) left.now (whole item after.now) × (item.after ≡ state_of self.new.parser)) }
+        ensures refused { IfErr result
+            (Refuses ⊤ (λ n. BlockSays (state_of self.old.parser) left.now (lacks n)) (λ fault. BlockSays (state_of self.old.parser) left.now (faulty fault))) }
     {
         let place = bytes.len() - left.len();
         let (after, block) = self.parser.next_block(left)?;
@@ -62,7 +65,8 @@ impl Walk {
     ) -> Result<Passed<'a>, AllocError>
         requires walked { IsWalked bytes.now slice.now (state_of self.old.parser) self.old.header (drop self.old.first self.old.interfaces.items) }
         requires within { self.old.first ≤ length self.old.interfaces.items }
-        ensures walked { IfOk result (λ x. IfNone x.rest (IsWalked bytes.now x.after.now (state_of self.new.parser) self.new.header (drop self.new.first self.new.interfaces.items))) }
+        ensures walked { IfOk result
+            (λ x. IfNone x.rest (IsWalked bytes.now x.after.now (state_of self.new.parser) self.new.header (drop self.new.first self.new.interfaces.items))) }
         ensures within { IfOk result (λ x. IfNone x.rest (self.new.first ≤ length self.new.interfaces.items)) }
         ensures goes_on { GoesOn self.old.interfaces.items self.new.interfaces.items }
         ensures passes { IfOk result (λ x. Passes block_format (state_of self.old.parser) slice.now x.after.now at_least x.items x.rest) }

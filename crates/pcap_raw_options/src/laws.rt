@@ -16,11 +16,14 @@ pub fn options_before_the_fault_are_one()
 
 /// Where no fault stops the list it is the one that the strict reading gives, and where one does, it is the strict refusal.
 pub fn up_to_is_strict()
-    ensures whole { (ending : Ending) (order : Order) (kind : Kind) (s left : List ℕ) (options : List Entry) → ReadUpTo ending order kind (record { options = options; flaw = None; left = left }) s → OptionList ending order kind options s left }
-    ensures fault { (ending : Ending) (order : Order) (kind : Kind) (s left : List ℕ) (options : List Entry) (fault : Fault) → ReadUpTo ending order kind (record { options = options; flaw = Some fault; left = left }) s → ListFault ending order kind s fault }
+    ensures whole { (ending : Ending) (order : Order) (kind : Kind) (s left : List ℕ) (options : List Entry)
+        → ReadUpTo ending order kind (record { options = options; flaw = None; left = left }) s → OptionList ending order kind options s left }
+    ensures fault { (ending : Ending) (order : Order) (kind : Kind) (s left : List ℕ) (options : List Entry) (fault : Fault)
+        → ReadUpTo ending order kind (record { options = options; flaw = Some fault; left = left }) s → ListFault ending order kind s fault }
 {}
 
 /// Raw options end by two faults alone, V17 and V18: those that lose where the next option begins.
 pub fn raw_options_break_two_rules()
-    ensures { (ending : Ending) (order : Order) (s : List ℕ) (fault : Fault) → ListFault ending order no_kind s fault → (fault ≡ Invalid OptionTooShort) ⊎ (fault ≡ Invalid OptionCut) }
+    ensures { (ending : Ending) (order : Order) (s : List ℕ) (fault : Fault)
+        → ListFault ending order no_kind s fault → (fault ≡ Invalid OptionTooShort) ⊎ (fault ≡ Invalid OptionCut) }
 {}

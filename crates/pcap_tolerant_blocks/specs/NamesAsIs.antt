@@ -54,7 +54,8 @@ pub record KeptAsIs (order : Order) (r : Flawed NameRecord) (s rest : List ℕ) 
 -- behind records stands their end, whatever it states, and options as they stand, with these flaws, and then rest; or no next record
 -- is found, for which the strict reading refuses, and all is left
 pub data BehindRecords (order : Order) (s rest : List ℕ) : List Entry → List Said → Type 0 where
-  ended : (end : Flawed NameRecord) (after : List ℕ) (options : List Entry) (flaws : List Said) → TypedText order 0 end s after → OptionsAsIs order name_resolution options flaws after rest
+  ended : (end : Flawed NameRecord) (after : List ℕ) (options : List Entry) (flaws : List Said)
+      → TypedText order 0 end s after → OptionsAsIs order name_resolution options flaws after rest
       → BehindRecords order s rest options (end.flaws ++ flaws)
   cut : (fault : Fault) → NoExtent order s → RecordFault order s fault → rest ≡ s → BehindRecords order s rest [] (only fault)
 
@@ -111,9 +112,11 @@ IsFound order s (found.Cut flaw) = (fault : Fault) × NoExtent order s × Record
 
 -- s is records as they stand with these flaws, and then rest: behind their end, where that stands, or from where no next record is found
 pub data RecordsText (order : Order) (s : List ℕ) (records : List NameRecord) (flaws : List Said) (rest : List ℕ) : Bool → Type 0 where
-  with_end : (each : List (Flawed NameRecord)) (end : Flawed NameRecord) (stop : List ℕ) → Chain (KeptAsIs order) each s stop → TypedText order 0 end stop rest → records ≡ map record_in each
+  with_end : (each : List (Flawed NameRecord)) (end : Flawed NameRecord) (stop : List ℕ)
+      → Chain (KeptAsIs order) each s stop → TypedText order 0 end stop rest → records ≡ map record_in each
       → flaws ≡ flat_map flaws_of each ++ end.flaws → RecordsText order s records flaws rest true
-  without_end : (each : List (Flawed NameRecord)) (fault : Fault) → Chain (KeptAsIs order) each s rest → NoExtent order rest → RecordFault order rest fault → records ≡ map record_in each
+  without_end : (each : List (Flawed NameRecord)) (fault : Fault)
+      → Chain (KeptAsIs order) each s rest → NoExtent order rest → RecordFault order rest fault → records ≡ map record_in each
       → flaws ≡ flat_map flaws_of each ++ only fault → RecordsText order s records flaws rest false
 
 -- the records at the front of s as they stand, as the code holds them

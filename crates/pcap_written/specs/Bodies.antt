@@ -31,7 +31,8 @@ use Rattle.pcap_written.specs.Text.{padded_bytes, time_bytes, coded_bytes, list_
 
 -- the version and the length of a section, and its options ('Section Header Block')
 abbrev pub after_magic_text : Encoder → Section → List ℕ
-after_magic_text write s = write 2 s.major_version ++ (write 2 s.minor_version ++ (write 8 (cast_unsigned w64 s.section_length) ++ list_text write section_header s.options))
+after_magic_text write s =
+    write 2 s.major_version ++ (write 2 s.minor_version ++ (write 8 (cast_unsigned w64 s.section_length) ++ list_text write section_header s.options))
 
 -- a section: its magic number, high byte first, and what follows it
 abbrev pub section_text : Encoder → Section → List ℕ

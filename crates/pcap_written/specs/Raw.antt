@@ -68,7 +68,8 @@ TellsRaw at raw (Err flaw) = RawFlaw at raw flaw
 -- One call that writes such a block, which was not refused for an earlier failure. Something stands against the block, or memory
 -- ran out: nothing goes out. Else it went out whole, or a write failed behind a beginning of it.
 abbrev pub WritesRawGood : {W : Type 0} → (W → Option (List ℕ)) → PcapNgWriter W → PcapNgWriter W → Raw → Result (Unit {0}) PcapError → Type 0
-WritesRawGood contents old new raw (Err (errors.InvalidField message)) = IsKept contents old new × ((flaw : Unwritable) × (message.now ≡ flaw_message flaw) × RawFlaw (place_of old) raw flaw)
+WritesRawGood contents old new raw (Err (errors.InvalidField message)) =
+    IsKept contents old new × ((flaw : Unwritable) × (message.now ≡ flaw_message flaw) × RawFlaw (place_of old) raw flaw)
 WritesRawGood contents old new raw (Err (errors.OutOfMemory e)) = IsKept contents old new
 WritesRawGood contents old new raw (Err (errors.IoError e)) =
     (has_failed new ≡ true) × (place_of new ≡ place_of old) × IsFitRaw raw × IsPlaced (place_of old) (raw_head raw) raw.endianness
@@ -79,5 +80,6 @@ WritesRawGood contents old new raw (Ok u) =
 
 -- One call that writes such a block: an earlier write failed, and nothing goes out, or it is as above.
 abbrev pub WritesRaw : {W : Type 0} → (W → Option (List ℕ)) → PcapNgWriter W → PcapNgWriter W → Raw → Result (Unit {0}) PcapError → Type 0
-WritesRaw contents old new raw (Err errors.WriterFailed) = (has_failed old ≡ true) × (has_failed new ≡ true) × (place_of new ≡ place_of old) × Keeps (contents (stream_of old)) (contents (stream_of new))
+WritesRaw contents old new raw (Err errors.WriterFailed) =
+    (has_failed old ≡ true) × (has_failed new ≡ true) × (place_of new ≡ place_of old) × Keeps (contents (stream_of old)) (contents (stream_of new))
 WritesRaw contents old new raw result = (has_failed old ≡ false) × WritesRawGood contents old new raw result

@@ -109,11 +109,13 @@ pub record IsKept {W : Type 0} (contents : W → Option (List ℕ)) (old new : P
 -- One call that writes a block, which was not refused for an earlier failure. Something stands against the block, or memory ran
 -- out: nothing goes out. Else it went out whole, or a write failed behind a beginning of it.
 abbrev pub WritesGood : {W : Type 0} → (W → Option (List ℕ)) → PcapNgWriter W → PcapNgWriter W → Body → Result (Unit {0}) PcapError → Type 0
-WritesGood contents old new body (Err (errors.InvalidField message)) = IsKept contents old new × ((flaw : Unwritable) × (message.now ≡ flaw_message flaw) × BlockFlaw (place_of old) body flaw)
+WritesGood contents old new body (Err (errors.InvalidField message)) =
+    IsKept contents old new × ((flaw : Unwritable) × (message.now ≡ flaw_message flaw) × BlockFlaw (place_of old) body flaw)
 WritesGood contents old new body (Err (errors.OutOfMemory e)) = IsKept contents old new
 WritesGood contents old new body (Err (errors.IoError e)) =
     (has_failed new ≡ true) × (place_of new ≡ place_of old)
-    × ((order : Endianness) × IsWritable (place_of old) body order × AppendsPart (contents (stream_of old)) (contents (stream_of new)) (text_of (number_bytes order) body))
+    × ((order : Endianness) × IsWritable (place_of old) body order
+    × AppendsPart (contents (stream_of old)) (contents (stream_of new)) (text_of (number_bytes order) body))
 WritesGood contents old new body (Err _) = ⊥
 WritesGood contents old new body (Ok u) =
     (has_failed new ≡ false) × TellsPlace (place_of old) (head_of body) (Ok (place_of new)) × IsFitIn (place_of new).endianness body
@@ -121,7 +123,8 @@ WritesGood contents old new body (Ok u) =
 
 -- One call that writes a block: an earlier write failed, and nothing goes out, or it is as above.
 abbrev pub WritesBlock : {W : Type 0} → (W → Option (List ℕ)) → PcapNgWriter W → PcapNgWriter W → Body → Result (Unit {0}) PcapError → Type 0
-WritesBlock contents old new body (Err errors.WriterFailed) = (has_failed old ≡ true) × (has_failed new ≡ true) × (place_of new ≡ place_of old) × Keeps (contents (stream_of old)) (contents (stream_of new))
+WritesBlock contents old new body (Err errors.WriterFailed) =
+    (has_failed old ≡ true) × (has_failed new ≡ true) × (place_of new ≡ place_of old) × Keeps (contents (stream_of old)) (contents (stream_of new))
 WritesBlock contents old new body result = (has_failed old ≡ false) × WritesGood contents old new body result
 
 -- before its first section a capture has no interface; the order is the first section's
@@ -131,7 +134,8 @@ opening_place = record { endianness = Little; interfaces = 0 }
 -- One call that makes a writer: this section header went out, or something stands against it, or memory ran out, or a write
 -- failed.
 abbrev pub OpensWriter : {W : Type 0} → (W → Option (List ℕ)) → Body → W → Result (PcapNgWriter W) PcapError → Type 0
-OpensWriter contents body writer (Err (errors.InvalidField message)) = (flaw : Unwritable) × (message.now ≡ flaw_message flaw) × BlockFlaw opening_place body flaw
+OpensWriter contents body writer (Err (errors.InvalidField message)) =
+    (flaw : Unwritable) × (message.now ≡ flaw_message flaw) × BlockFlaw opening_place body flaw
 OpensWriter contents body writer (Err (errors.OutOfMemory e)) = Unit {0}
 OpensWriter contents body writer (Err (errors.IoError e)) = (order : Endianness) × IsWritable opening_place body order
 OpensWriter contents body writer (Err _) = ⊥

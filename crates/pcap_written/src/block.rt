@@ -65,7 +65,8 @@ pub trait PcapNgBlock {
 
     /// Puts its body behind other bytes, or says why it has no text.
     fn put_body<B: ByteOrder>(&self, out: &mut Vec<u8>) -> Result<(), Unput>
-        ensures { Puts (IsFitBody B.number_of B.bytes_of (sees self.now)) (BodyFlaw B.number_of B.bytes_of (sees self.now)) (body_text B.bytes_of (sees self.now)) out.old.items out.new.items result };
+        ensures { Puts (IsFitBody B.number_of B.bytes_of (sees self.now))
+            (BodyFlaw B.number_of B.bytes_of (sees self.now)) (body_text B.bytes_of (sees self.now)) out.old.items out.new.items result };
 }
 
 impl<'a> PcapNgBlock for SectionHeaderBlock<'a> {

@@ -81,7 +81,8 @@ fn put_address<B: ByteOrder>(
 ) -> Result<(), Unput>
     requires { kind.width ≤ 16 }
     ensures { let a : Address = record { bytes = address.now; names = map cow_str_bytes names.now } in
-        Puts (IsFitAddress kind.width a) (AddressFlaw kind.width kind.too_short a) (coded_bytes B.bytes_of kind.type_ (address_text a)) out.old.items out.new.items result }
+        Puts (IsFitAddress kind.width a) (AddressFlaw kind.width kind.too_short a)
+        (coded_bytes B.bytes_of kind.type_ (address_text a)) out.old.items out.new.items result }
 {
     if address.len() != kind.width as usize {
         return Err(Unput::Unfit(Unwritable::AddressLengthDiffers));

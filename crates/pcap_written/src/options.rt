@@ -27,7 +27,8 @@ pub trait WrittenOption {
 // Puts an option: its code, the length of its value, and the value with its padding.
 fn put_option<O: WrittenOption, B: ByteOrder>(out: &mut Vec<u8>, option: &O) -> Result<(), Unput>
     ensures { let o = O.view option.now in
-        Puts (IsFitOption B.number_of B.bytes_of O.kind o) (λ flaw. OptionFlaw B.number_of B.bytes_of O.kind flaw o) (option_text B.bytes_of O.kind o) out.old.items out.new.items result }
+        Puts (IsFitOption B.number_of B.bytes_of O.kind o) (λ flaw. OptionFlaw B.number_of B.bytes_of O.kind flaw o)
+        (option_text B.bytes_of O.kind o) out.old.items out.new.items result }
 {
     let Some((code, form)) = option.coded() else {
         return Err(Unput::Unfit(Unwritable::OptionMisplaced));
@@ -49,7 +50,8 @@ pub(crate) fn put_options<O: WrittenOption, B: ByteOrder>(
     options: &[O],
 ) -> Result<(), Unput>
     ensures { let os = map O.view options.now in
-        Puts (AreFit B.number_of B.bytes_of O.kind os) (ListFlaw B.number_of B.bytes_of O.kind os) (list_text B.bytes_of O.kind os) out.old.items out.new.items result }
+        Puts (AreFit B.number_of B.bytes_of O.kind os) (ListFlaw B.number_of B.bytes_of O.kind os)
+        (list_text B.bytes_of O.kind os) out.old.items out.new.items result }
 {
     if options.is_empty() {
         return Ok(());

@@ -23,7 +23,8 @@ pub fn put_packet<W: Write, B: ByteOrder>(
     original_len: u32,
 ) -> ResultParsing<()>
     requires { length bytes.now ≤ 4294967260 }
-    ensures out { WritesAll (W.contents writer.old) (W.contents writer.new) (text_of B.bytes_of (EnhancedBody (plain_packet interface_id timestamp original_len bytes.now))) result }
+    ensures out { WritesAll (W.contents writer.old) (W.contents writer.new)
+        (text_of B.bytes_of (EnhancedBody (plain_packet interface_id timestamp original_len bytes.now))) result }
     ensures told { MatchResult result (λ _. has_failed.new ≡ has_failed.old) (λ _. has_failed.new ≡ true) }
 {
     let captured_len = bytes.len() as u32;

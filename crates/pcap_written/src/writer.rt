@@ -288,7 +288,8 @@ pub fn encode<B: PcapNgBlock>(
     text: &mut Vec<u8>,
     block: &B,
 ) -> Result<(), Unput>
-    ensures { Puts (IsFitIn order (B.sees block.now)) (FlawIn order (B.sees block.now)) (text_of (number_bytes order) (B.sees block.now)) [] text.new.items result }
+    ensures { Puts (IsFitIn order (B.sees block.now)) (FlawIn order (B.sees block.now))
+        (text_of (number_bytes order) (B.sees block.now)) [] text.new.items result }
 {
     match order {
         Endianness::Big => encode_in::<B, BigEndian>(body, text, block),
@@ -302,7 +303,8 @@ fn encode_in<B: PcapNgBlock, O: ByteOrder>(
     text: &mut Vec<u8>,
     block: &B,
 ) -> Result<(), Unput>
-    ensures { Puts (IsFitBlock O.number_of O.bytes_of (B.sees block.now)) (FitFlaw O.number_of O.bytes_of (B.sees block.now)) (text_of O.bytes_of (B.sees block.now)) [] text.new.items result }
+    ensures { Puts (IsFitBlock O.number_of O.bytes_of (B.sees block.now))
+        (FitFlaw O.number_of O.bytes_of (B.sees block.now)) (text_of O.bytes_of (B.sees block.now)) [] text.new.items result }
 {
     body_in::<B, O>(body, block)?;
     frame_in::<O>(text, block.head().type_, body.as_slice())?;
@@ -330,7 +332,8 @@ pub fn encode_body<B: PcapNgBlock>(
 
 // Makes the body of a block, where the block's length has four bytes.
 fn body_in<B: PcapNgBlock, O: ByteOrder>(body: &mut Vec<u8>, block: &B) -> Result<(), Unput>
-    ensures { Puts (IsFitBlock O.number_of O.bytes_of (B.sees block.now)) (FitFlaw O.number_of O.bytes_of (B.sees block.now)) (body_text O.bytes_of (B.sees block.now)) [] body.new.items result }
+    ensures { Puts (IsFitBlock O.number_of O.bytes_of (B.sees block.now))
+        (FitFlaw O.number_of O.bytes_of (B.sees block.now)) (body_text O.bytes_of (B.sees block.now)) [] body.new.items result }
 {
     body.clear();
     block.put_body::<O>(body)?;

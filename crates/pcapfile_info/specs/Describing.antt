@@ -63,7 +63,8 @@ told_of described = record {
 
 -- what a section header says, where its magic number names an order
 abbrev pub opened_of : Section → Option Opened
-opened_of section = option_map (λ order. record { order = order; major_version = section.major_version; minor_version = section.minor_version }) (magic_order section.magic)
+opened_of section =
+    option_map (λ order. record { order = order; major_version = section.major_version; minor_version = section.minor_version }) (magic_order section.magic)
 
 -- what the section in force says
 abbrev pub opened_at : State → Option Opened

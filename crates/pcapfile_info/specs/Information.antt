@@ -24,7 +24,8 @@ use Rattle.pcapfile_info.specs.Telling.{AreSights}
 use Rattle.pcapfile_info.specs.Totals.{TotalsAre}
 
 -- s is what a check counts of it, and what is seen of the items that are counted is told; so many interfaces are known before them
-pub record InformsItems {S V : Type 0} (f : Format S V) (q : S) (IsSight : ℕ → V → Sight → Type 0) (first : ℕ) (s after : List ℕ) (before : ℕ) (checked : Checked) (totals : Totals) : Type 0 where
+pub record InformsItems {S V : Type 0} (f : Format S V) (q : S)
+    (IsSight : ℕ → V → Sight → Type 0) (first : ℕ) (s after : List ℕ) (before : ℕ) (checked : Checked) (totals : Totals) : Type 0 where
   pub checks : ChecksItems f q s after before most_passed checked
   pub sights : List Sight
   pub are_sights : AreSights IsSight first checks.items sights
@@ -45,4 +46,5 @@ InformsBlocks s checked told_header totals told_opening described comments =
     (checked.format ≡ PcapNg) × (told_header ≡ None)
     × ((FailsOpening ⊤ OpeningSays s checked × TotalsAre 0 [] totals × (told_opening ≡ None) × (described ≡ []) × (comments ≡ []))
     ⊎ ((first : State) × (after : List ℕ) × OpeningSays s (whole first after) × (told_opening ≡ opened_at first)
-    × (informs : InformsItems block_format first IsBlockSight 0 s after 1 checked totals) × ((checked.end ≡ Memory) ⊎ DescribesBlocks first informs.checks.items described comments)))
+    × (informs : InformsItems block_format first IsBlockSight 0 s after 1 checked totals)
+    × ((checked.end ≡ Memory) ⊎ DescribesBlocks first informs.checks.items described comments)))

@@ -18,7 +18,8 @@ HasRoom spread span = max spread.last span < min spread.first span + 64
 -- spans are a nanosecond wide, or of half their width two of these instants would lie 64 spans apart
 abbrev pub IsFine : List ℕ → ℕ → Type 0
 IsFine instants width =
-    (width ≡ 1) ⊎ ((half : ℕ) × (early : ℕ) × (late : ℕ) × (width ≡ half * 2) × Contains instants early × Contains instants late × (early / half + 64 ≤ late / half))
+    (width ≡ 1) ⊎ ((half : ℕ) × (early : ℕ) × (late : ℕ) × (width ≡ half * 2)
+    × Contains instants early × Contains instants late × (early / half + 64 ≤ late / half))
 
 -- each of these instants lies in a span from the first to the last, in each of which one lies, and the counts are those of the spans
 pub record Rows (instants : List ℕ) (spread : Spread) : Type 0 where

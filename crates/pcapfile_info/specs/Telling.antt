@@ -65,14 +65,16 @@ module _ {S V : Type 0} (f : Format S V) (IsSight : ℕ → V → Sight → Type
   -- whatever items were told of that lead here, others that lead there are told of too
   abbrev pub GoesOn : S → S → Option (List ℕ) → Option (List ℕ) → Progress → Progress → Type 0
   GoesOn here there left now mid new =
-      (q : S) (before : Option (List ℕ)) (old : Progress) → Telling f q IsSight first Kept here before left old mid mid.items → Telling f q IsSight first Kept there before now old new new.items
+      (q : S) (before : Option (List ℕ)) (old : Progress) → Telling f q IsSight first Kept here before left old mid mid.items
+      → Telling f q IsSight first Kept there before now old new new.items
 
   -- To is what is kept where a run ends with a fault, or none
   module _ (To : Option PcapError → S → List V → List Sight → Progress → Type 0) where
     -- whatever items were told of that lead here, the run ends so
     abbrev pub Ends : S → Option (List ℕ) → Option (List ℕ) → Bool → ℕ → Progress → Progress → Option PcapError → Type 0
     Ends here left now failed most mid new fault =
-        (q : S) (before : Option (List ℕ)) (old : Progress) → Telling f q IsSight first Kept here before left old mid mid.items → TellsItems f q IsSight first (To fault) before now failed most old new fault
+        (q : S) (before : Option (List ℕ)) (old : Progress) → Telling f q IsSight first Kept here before left old mid mid.items
+        → TellsItems f q IsSight first (To fault) before now failed most old new fault
 
     -- a turn over a stream: it says whether the run goes on, where no read failed
     abbrev pub TurnGives : S → S → Option (List ℕ) → Option (List ℕ) → Bool → ℕ → Progress → Progress → Result Bool PcapError → Type 0

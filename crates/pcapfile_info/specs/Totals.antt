@@ -59,7 +59,8 @@ pub record TotalsAre (first : ℕ) (sights : List Sight) (totals : Totals) : Typ
   pub all : Tallies (packets_of sights) totals.all
   pub undescribed : Tallies (filter is_undescribed (packets_of sights)) totals.undescribed
   pub described : length totals.interfaces.items ≡ first + sum_by interfaces_in sights
-  pub by_interface : (index : ℕ) (d : Tally) → index < length totals.interfaces.items → Tallies (filter (is_by index) (packets_of sights)) (slice_index_or totals.interfaces.items index d)
+  pub by_interface : (index : ℕ) (d : Tally) → index < length totals.interfaces.items
+      → Tallies (filter (is_by index) (packets_of sights)) (slice_index_or totals.interfaces.items index d)
   pub within : All (λ packet. IsBelow (length totals.interfaces.items) packet.interface) (packets_of sights)
   pub refused : totals.refused ≡ counted (count_by is_refused sights)
   pub sections : totals.sections ≡ counted (count_by is_section sights)

@@ -98,7 +98,8 @@ fn sight_of_stored(
     interfaces: &[InterfaceDescriptionBlock<'static>],
     block: &Block,
 ) -> ResultParsing<Sight>
-    ensures { MatchResult result (λ sight. IsStoredSight described (map interface_of interfaces.now) (framed_of block.now) sight × IsWithin described sight) IsMemory }
+    ensures { MatchResult result
+        (λ sight. IsStoredSight described (map interface_of interfaces.now) (framed_of block.now) sight × IsWithin described sight) IsMemory }
 {
     match block.parsed(alloc) {
         Ok(parsed) => Ok(sight_of_body(described, interfaces, &parsed)),
@@ -115,7 +116,8 @@ pub(crate) fn sight_of_block(
     interfaces: &[InterfaceDescriptionBlock<'static>],
     block: &Block,
 ) -> ResultParsing<Sight>
-    ensures { MatchResult result (λ sight. IsFramedSight described (map interface_of interfaces.now) (framed_of block.now) sight × IsWithin described sight) IsMemory }
+    ensures { MatchResult result
+        (λ sight. IsFramedSight described (map interface_of interfaces.now) (framed_of block.now) sight × IsWithin described sight) IsMemory }
 {
     match block.type_ {
         BlockType::SectionHeader => Ok(Sight::Section),

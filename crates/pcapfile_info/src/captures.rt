@@ -97,7 +97,8 @@ pub fn inform_packets<R: BufRead + Drop>(
 /// Tells what a capture of blocks that comes off a stream holds. No more than one block is held in memory, with the section and
 /// interfaces in force, and what is counted of each interface. `AllocError` where there is no room for comments on the section.
 pub fn inform_blocks<R: BufRead + Drop>(alloc: Global, input: R) -> Result<Information, AllocError>
-    ensures { IfOk result (λ told. IfSome (R.remaining input) (λ s. InformsBlocks s told.checked told.header told.totals told.opened told.described.items told.comments.items)) }
+    ensures { IfOk result
+        (λ told. IfSome (R.remaining input) (λ s. InformsBlocks s told.checked told.header told.totals told.opened told.described.items told.comments.items)) }
 {
     let format = Format::PcapNg;
     let totals = Totals::new(alloc);

@@ -66,7 +66,9 @@ impl Clocks {
         section: &SectionHeaderBlock<'static>,
         interfaces: &[InterfaceDescriptionBlock<'static>],
     ) -> Result<(), AllocError>
-        ensures { IfOk result (λ done. (before : State) → AreInForce self.old before → LeadsOn type_ before (within (section_of section.now) (map interface_of interfaces.now)) → AreInForce self.new (within (section_of section.now) (map interface_of interfaces.now))) }
+        ensures { IfOk result (λ done. (before : State) → AreInForce self.old before
+            → LeadsOn type_ before (within (section_of section.now) (map interface_of interfaces.now))
+            → AreInForce self.new (within (section_of section.now) (map interface_of interfaces.now))) }
     {
         match type_ {
             BlockType::SectionHeader => {

@@ -82,7 +82,8 @@ fn push_comment<O: Commenting>(
     comments: &mut Vec<String>,
     option: &O,
 ) -> Result<(), AllocError>
-    ensures { IfOk result (λ done. map string_bytes comments.new.items ≡ map string_bytes comments.old.items ++ option_to_list (under 1 string_in (O.entry option.now))) }
+    ensures { IfOk result
+        (λ done. map string_bytes comments.new.items ≡ map string_bytes comments.old.items ++ option_to_list (under 1 string_in (O.entry option.now))) }
 {
     let Some(text) = option.comment() else {
         return Ok(());
@@ -158,7 +159,8 @@ pub(crate) fn push_comments(
     comments: &mut Vec<String>,
     section: &SectionHeaderBlock<'static>,
 ) -> Result<(), AllocError>
-    ensures { IfOk result (λ done. map string_bytes comments.new.items ≡ map string_bytes comments.old.items ++ comments_among (section_of section.now).options) }
+    ensures { IfOk result
+        (λ done. map string_bytes comments.new.items ≡ map string_bytes comments.old.items ++ comments_among (section_of section.now).options) }
 {
     push_comments_among(alloc, comments, &section.options)
 }

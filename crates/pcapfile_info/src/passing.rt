@@ -34,7 +34,8 @@ fn pass_whole<B: ByteOrder>(
     ensures within { result ≤ length shown.now }
     ensures few { (progress.old.items ≤ progress.new.items) × (progress.new.items ≤ 18446744073709551614) }
     ensures same { SameDescribed progress.old progress.new }
-    ensures walks { (behind : Option (List ℕ)) → GoesOn (packet_format packet_limit B.number_of ts_resolution) IsPacketSight 1 (KeepsTotals AllAre) tt tt (prepend_known shown.now behind) (prepend_known (drop result shown.now) behind) progress.old progress.new }
+    ensures walks { (behind : Option (List ℕ)) → GoesOn (packet_format packet_limit B.number_of ts_resolution) IsPacketSight 1
+        (KeepsTotals AllAre) tt tt (prepend_known shown.now behind) (prepend_known (drop result shown.now) behind) progress.old progress.new }
 {
     let mut rest = shown;
     while progress.items < MOST {
@@ -77,7 +78,8 @@ impl Passes for PcapHeader {
 fn add_held(header: &PcapHeader, head: PacketHeader, held: &[u8], progress: &mut Progress)
     requires stated { Stated (KnowsHeader header.now) ((reader_format packet_limit header.now).head tt) head held.now }
     requires few { progress.old.items + 1 < 2 ^ 64 }
-    ensures adds { (packet : Captured) × (reader_format packet_limit header.now).says tt held.now (whole packet []) × AddsPacketAlone (captured_seen packet) (16 + packet.header.incl_len) progress.old progress.new }
+    ensures adds { (packet : Captured) × (reader_format packet_limit header.now).says tt held.now (whole packet [])
+        × AddsPacketAlone (captured_seen packet) (16 + packet.header.incl_len) progress.old progress.new }
     ensures same { SameDescribed progress.old progress.new }
 {
     let packet = packet_of(header, head, held);
@@ -99,7 +101,8 @@ fn pass_held<R: Read>(
     ensures between { OnOk result (held_bytes held.new ≡ []) }
     ensures counts { IfOk result (λ more. more ≡ true → progress.new.items ≡ progress.old.items + 1) }
     ensures same { SameDescribed progress.old progress.new }
-    ensures turn { TurnGives (format_under packet_limit header.now) IsPacketSight 1 (KeepsTotals AllAre) (λ fault. KeepsTotals AllAre) tt tt (R.remaining input.old) (R.remaining input.new) read_failed.new 18446744073709551614 progress.old progress.new result }
+    ensures turn { TurnGives (format_under packet_limit header.now) IsPacketSight 1 (KeepsTotals AllAre) (λ fault. KeepsTotals AllAre) tt tt
+        (R.remaining input.old) (R.remaining input.new) read_failed.new 18446744073709551614 progress.old progress.new result }
 {
     let Some(head) = fill_item(&PacketsUnder { header }, input, read_failed, held)? else {
         return Ok(false);
@@ -123,7 +126,8 @@ fn pass_packets<R: BufRead>(
     requires room { progress.old.bytes < 2 ^ 64 }
     requires nothing { AllAre [] progress.old.totals }
     ensures same { SameDescribed progress.old progress.new }
-    ensures tells { TellsItems (format_under packet_limit header.now) tt IsPacketSight 1 (KeepsTotals AllAre) (R.remaining input.old) (R.remaining input.new) read_failed.new 18446744073709551614 progress.old progress.new (result_err result) }
+    ensures tells { TellsItems (format_under packet_limit header.now) tt IsPacketSight 1 (KeepsTotals AllAre)
+        (R.remaining input.old) (R.remaining input.new) read_failed.new 18446744073709551614 progress.old progress.new (result_err result) }
 {
     let mut held = Held::new(alloc);
     while progress.items < MOST {
@@ -154,7 +158,8 @@ pub(crate) fn tell_packets<R: BufRead>(
     requires room { progress.old.bytes < 2 ^ 64 }
     requires nothing { TotalsAre 1 [] progress.old.totals }
     ensures same { SameDescribed progress.old progress.new }
-    ensures tells { TellsItems (format_under packet_limit header.now) tt IsPacketSight 1 (KeepsTotals (TotalsAre 1)) (R.remaining input.old) (R.remaining input.new) read_failed.new 18446744073709551614 progress.old progress.new result }
+    ensures tells { TellsItems (format_under packet_limit header.now) tt IsPacketSight 1
+        (KeepsTotals (TotalsAre 1)) (R.remaining input.old) (R.remaining input.new) read_failed.new 18446744073709551614 progress.old progress.new result }
 {
     let fault = pass_packets(alloc, header, input, read_failed, progress).err();
     progress.totals.give_to_the_interface();

@@ -80,7 +80,8 @@ impl Progress {
         ensures counts { SameCounts self.old self.new }
         ensures section { self.new.section ≡ self.old.section }
         ensures comments { self.new.comments ≡ self.old.comments }
-        ensures described { IfOk result (λ done. map told_of self.new.described.items ≡ map told_of self.old.described.items ++ option_to_list (last_description self.old.section (map interface_of interfaces.now))) }
+        ensures described { IfOk result (λ done. map told_of self.new.described.items
+            ≡ map told_of self.old.described.items ++ option_to_list (last_description self.old.section (map interface_of interfaces.now))) }
     {
         if let Some(described) = describe_last(alloc, self.section, interfaces)? {
             self.described.push(described)?;
@@ -137,8 +138,12 @@ fn tell_block<T: Read + Drop>(
     progress: &mut Progress,
 ) -> ResultParsing<()>
     requires { progress.old.items + 1 < 2 ^ 64 }
-    ensures counts { MatchResult result (λ done. (sight : Sight) × IsBlockSight (length progress.old.totals.interfaces.items) (ng.lent_item reader.now header) sight × AddsItem sight (length (ng.text_of reader.now)) progress.old progress.new) (λ e. IsMemory e × AddsNothing progress.old progress.new) }
-    ensures describes { IfOk result (λ done. AddsDescribed header.type_ (ng.section_in_force reader.now) (ng.interfaces_in_force reader.now) progress.old progress.new) }
+    ensures counts { MatchResult result
+        (λ done. (sight : Sight) × IsBlockSight (length progress.old.totals.interfaces.items) (ng.lent_item reader.now header) sight
+        × AddsItem sight (length (ng.text_of reader.now)) progress.old progress.new)
+        (λ e. IsMemory e × AddsNothing progress.old progress.new) }
+    ensures describes { IfOk result
+        (λ done. AddsDescribed header.type_ (ng.section_in_force reader.now) (ng.interfaces_in_force reader.now) progress.old progress.new) }
 {
     let described = progress.totals.interfaces.as_slice().len();
     let block = reader.block(header);
@@ -198,7 +203,8 @@ fn pass_next<T: Read + Drop>(
     ensures ready { OnOk result (ng.is_done reader.new ≡ false) }
     ensures clocks { OnOk result (AreInForce clocks.new (ng.state_of reader.new)) }
     ensures counts { IfOk result (λ more. more ≡ true → progress.new.items ≡ progress.old.items + 1) }
-    ensures turn { TurnGives block_format IsBlockSight 0 KeepsBlocks EndsBlocks (ng.state_of reader.old) (ng.state_of reader.new) (T.remaining (ng.stream_of reader.old)) (T.remaining (ng.stream_of reader.new)) read_failed.new 18446744073709551614 progress.old progress.new result }
+    ensures turn { TurnGives block_format IsBlockSight 0 KeepsBlocks EndsBlocks (ng.state_of reader.old) (ng.state_of reader.new)
+        (T.remaining (ng.stream_of reader.old)) (T.remaining (ng.stream_of reader.new)) read_failed.new 18446744073709551614 progress.old progress.new result }
 {
     let next = reader.next_header();
     *read_failed = reader.failed();
@@ -227,7 +233,8 @@ fn pass_blocks<T: BufRead + Drop>(
     requires none_yet { progress.old.items ≡ 0 }
     requires room { progress.old.bytes < 2 ^ 64 }
     requires nothing { KeepsBlocks (ng.state_of reader.old) [] [] progress.old }
-    ensures { TellsItems block_format (ng.state_of reader.old) IsBlockSight 0 (EndsBlocks (result_err result)) (T.remaining (ng.stream_of reader.old)) (T.remaining (ng.stream_of reader.new)) read_failed.new 18446744073709551614 progress.old progress.new (result_err result) }
+    ensures { TellsItems block_format (ng.state_of reader.old) IsBlockSight 0 (EndsBlocks (result_err result)) (T.remaining (ng.stream_of reader.old))
+        (T.remaining (ng.stream_of reader.new)) read_failed.new 18446744073709551614 progress.old progress.new (result_err result) }
 {
     while progress.items < MOST {
         if !pass_shown(clocks, reader.get_mut(), read_failed, progress)? {
@@ -256,7 +263,8 @@ pub(crate) fn tell_blocks<T: BufRead + Drop>(
     requires none_yet { progress.old.items ≡ 0 }
     requires room { progress.old.bytes < 2 ^ 64 }
     requires nothing { KeepsBlocks (ng.state_of reader.old) [] [] progress.old }
-    ensures { TellsItems block_format (ng.state_of reader.old) IsBlockSight 0 (EndsBlocks result) (T.remaining (ng.stream_of reader.old)) (T.remaining (ng.stream_of reader.new)) read_failed.new 18446744073709551614 progress.old progress.new result }
+    ensures { TellsItems block_format (ng.state_of reader.old) IsBlockSight 0 (EndsBlocks result)
+        (T.remaining (ng.stream_of reader.old)) (T.remaining (ng.stream_of reader.new)) read_failed.new 18446744073709551614 progress.old progress.new result }
 {
     let mut clocks = Clocks::new(alloc, reader.section());
     pass_blocks(alloc, reader, &mut clocks, read_failed, progress).err()

@@ -39,7 +39,8 @@ pub(crate) trait Passes {
         ensures within { result ≤ length shown.now }
         ensures few { (progress.old.items ≤ progress.new.items) × (progress.new.items ≤ 18446744073709551614) }
         ensures same { SameDescribed progress.old progress.new }
-        ensures walks { (q : State) → stands_for self.now q → (behind : Option (List ℕ)) → GoesOn (format self.now) is_sight first kept q q (prepend_known shown.now behind) (prepend_known (drop result shown.now) behind) progress.old progress.new };
+        ensures walks { (q : State) → stands_for self.now q → (behind : Option (List ℕ)) → GoesOn (format self.now) is_sight first kept q q
+            (prepend_known shown.now behind) (prepend_known (drop result shown.now) behind) progress.old progress.new };
 }
 
 /// Passes the items that lie whole in the input's buffer, and says whether anything lies there.
@@ -54,7 +55,8 @@ pub(crate) fn pass_shown<R: BufRead, P: Passes>(
     requires fewer { progress.old.items < 18446744073709551614 }
     ensures few { (progress.old.items ≤ progress.new.items) × (progress.new.items ≤ 18446744073709551614) }
     ensures same { SameDescribed progress.old progress.new }
-    ensures turn { (q : P.State) → P.stands_for ahead.now q → TurnGives (P.format ahead.now) P.is_sight P.first P.kept (λ fault. P.kept) q q (R.remaining input.old) (R.remaining input.new) read_failed.new 18446744073709551614 progress.old progress.new result }
+    ensures turn { (q : P.State) → P.stands_for ahead.now q → TurnGives (P.format ahead.now) P.is_sight P.first P.kept
+        (λ fault. P.kept) q q (R.remaining input.old) (R.remaining input.new) read_failed.new 18446744073709551614 progress.old progress.new result }
 {
     let shown = match input.fill_buf() {
         Ok(shown) => shown,

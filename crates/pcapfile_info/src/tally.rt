@@ -132,7 +132,8 @@ impl Tally {
     // The time of one packet more, where it has one.
     #[inline(always)]
     fn add_time(&mut self, time: Option<Timestamp>)
-        ensures same { (self.new.packets ≡ self.old.packets) × (self.new.stored ≡ self.old.stored) × (self.new.original ≡ self.old.original) × (self.new.sizes ≡ self.old.sizes) }
+        ensures same { (self.new.packets ≡ self.old.packets) × (self.new.stored ≡ self.old.stored)
+            × (self.new.original ≡ self.old.original) × (self.new.sizes ≡ self.old.sizes) }
         ensures earliest { IsFirstWith IsBefore self.old.earliest time self.new.earliest }
         ensures latest { IsFirstWith IsAfter self.old.latest time self.new.latest }
         ensures spread { IsSpreadWith self.old.spread time self.new.spread }

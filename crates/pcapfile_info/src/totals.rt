@@ -64,7 +64,8 @@ impl Totals {
     /// Gives what is counted of all packets to the one interface by which they came.
     pub(crate) fn give_to_the_interface(&mut self)
         requires { length self.old.interfaces.items ≡ 1 }
-        ensures { (packets : List Captured) (sights : List Sight) → AreSights IsPacketSight 1 packets sights → AllAre sights self.old → TotalsAre 1 sights self.new }
+        ensures { (packets : List Captured) (sights : List Sight)
+            → AreSights IsPacketSight 1 packets sights → AllAre sights self.old → TotalsAre 1 sights self.new }
     {
         self.interfaces[0] = self.all;
     }

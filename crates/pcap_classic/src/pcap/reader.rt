@@ -84,7 +84,8 @@ fn hold<T: Read>(
 ) -> ResultParsing<Option<PacketHeader>>
     requires between { held_bytes held.old ≡ [] }
     requires unfailed { has_failed.old ≡ false }
-    ensures pulls { Pulls ((reader_format packet_limit header.now).says tt) (held_packet (held_bytes held.new)) (T.remaining stream.old) (T.remaining stream.new) has_failed.new result }
+    ensures pulls { Pulls ((reader_format packet_limit header.now).says tt)
+        (held_packet (held_bytes held.new)) (T.remaining stream.old) (T.remaining stream.new) has_failed.new result }
     ensures none { IfOk result (λ head. IfNone head (held_bytes held.new ≡ [])) }
 {
     fill_item(&PacketsUnder { header }, stream, has_failed, held)
@@ -111,7 +112,8 @@ impl<T: Read + Drop> PcapReader<T> {
     /// inside the packet. `OutOfMemory` where its bytes can't be held: room grows with the bytes that come, and stays.
     pub fn next_header(&mut self) -> Option<ResultParsing<PacketHeader>>
         ensures header { self.new.header ≡ self.old.header }
-        ensures next { NextGives ((reader_format packet_limit self.old.header).says tt) (lent_packet self.new) (T.remaining (stream_of self.old)) (T.remaining (stream_of self.new)) (is_done self.old) (is_done self.new) (has_failed self.old) (has_failed self.new) result }
+        ensures next { NextGives ((reader_format packet_limit self.old.header).says tt) (lent_packet self.new) (T.remaining (stream_of self.old))
+            (T.remaining (stream_of self.new)) (is_done self.old) (is_done self.new) (has_failed self.old) (has_failed self.new) result }
         ensures let_go { LetsGo result (data_of self.new) }
     {
         self.lent.clear();
@@ -215,7 +217,8 @@ impl<T: Read + Drop> Iterator for PcapReader<T> {
     type Item = ResultParsing<Packet<'static>>;
 
     ghost next_gives = { λ s r t. (t.header ≡ s.header)
-        × NextGives ((reader_format packet_limit s.header).says tt) content_of (T.remaining (stream_of s)) (T.remaining (stream_of t)) (is_done s) (is_done t) (has_failed s) (has_failed t) r
+        × NextGives ((reader_format packet_limit s.header).says tt) content_of
+        (T.remaining (stream_of s)) (T.remaining (stream_of t)) (is_done s) (is_done t) (has_failed s) (has_failed t) r
         × IfSome r (λ given. IfOk given (λ packet. IsOwned packet.data_))
         × (data_of t ≡ data_of s) };
 

@@ -31,7 +31,8 @@ pub(crate) fn put_front<'a, W: Write>(
 ) -> Went<'a>
     requires read { IsTrue (is_magic header.now.magic_number) }
     requires written { IsTrue (is_magic out.now.magic_number) }
-    ensures { Sends header.now (written_under out.now) shown.now result.rest.now (W.contents writer.old) (W.contents writer.new) most result.packets has_failed.old has_failed.new result.fault }
+    ensures { Sends header.now (written_under out.now) shown.now result.rest.now
+        (W.contents writer.old) (W.contents writer.new) most result.packets has_failed.old has_failed.new result.fault }
 {
     if header.magic_number == out.magic_number {
         put_stretch(writer, has_failed, header, shown, most)
@@ -51,7 +52,8 @@ fn put_each<'a, W: Write>(
 ) -> Went<'a>
     requires read { IsTrue (is_magic header.now.magic_number) }
     requires written { IsTrue (is_magic out.now.magic_number) }
-    ensures { Sends header.now (written_under out.now) shown.now result.rest.now (W.contents writer.old) (W.contents writer.new) most result.packets has_failed.old has_failed.new result.fault }
+    ensures { Sends header.now (written_under out.now) shown.now result.rest.now
+        (W.contents writer.old) (W.contents writer.new) most result.packets has_failed.old has_failed.new result.fault }
 {
     let mut packets = 0;
     let mut rest = shown;
@@ -89,7 +91,8 @@ fn put_stretch<'a, W: Write>(
     most: u64,
 ) -> Went<'a>
     requires read { IsTrue (is_magic header.now.magic_number) }
-    ensures { Sends header.now (written_under header.now) shown.now result.rest.now (W.contents writer.old) (W.contents writer.new) most result.packets has_failed.old has_failed.new result.fault }
+    ensures { Sends header.now (written_under header.now) shown.now result.rest.now
+        (W.contents writer.old) (W.contents writer.new) most result.packets has_failed.old has_failed.new result.fault }
 {
     let (packets, rest) = whole_packets(header, shown, most);
     let stretch = &shown[..shown.len() - rest.len()];

@@ -50,7 +50,8 @@ fn convert<R: Read, W: Write>(
     tally: &mut Tally,
 ) -> ResultParsing<()>
     requires { NothingCopied tally.old }
-    ensures { ConvertRun (R.remaining reader.old) (R.remaining reader.new) (W.contents writer.old) (W.contents writer.new) most (copied_of tally.new (result_err result)) }
+    ensures { ConvertRun (R.remaining reader.old) (R.remaining reader.new)
+        (W.contents writer.old) (W.contents writer.new) most (copied_of tally.new (result_err result)) }
 {
     let header = begin_conversion(alloc, reader, writer, tally)?;
     let puts = PacketBlocks;

@@ -89,7 +89,8 @@ pub fn convert_to_pcap<R: Read + Drop, W: Write>(
 ) -> NgConverted
     ensures header { writer.new.header ≡ writer.old.header }
     ensures most { result.blocks ≤ most }
-    ensures run { PlacesRun writer.old.header unplaced (source_of R.remaining reader.old) (source_of R.remaining reader.new) (sink_of W.contents writer.old) (sink_of W.contents writer.new) most result }
+    ensures run { PlacesRun writer.old.header unplaced (source_of R.remaining reader.old)
+        (source_of R.remaining reader.new) (sink_of W.contents writer.old) (sink_of W.contents writer.new) most result }
 {
     let mut converted = NgConverted {
         blocks: 0,
@@ -113,7 +114,8 @@ fn convert_blocks<R: Read + Drop, W: Write>(
     requires { IsNew converted.old }
     ensures header { writer.new.header ≡ writer.old.header }
     ensures most { converted.new.blocks ≤ most }
-    ensures run { PlacesRun writer.old.header unplaced (source_of R.remaining reader.old) (source_of R.remaining reader.new) (sink_of W.contents writer.old) (sink_of W.contents writer.new) most (outcome_of converted.new result) }
+    ensures run { PlacesRun writer.old.header unplaced (source_of R.remaining reader.old)
+        (source_of R.remaining reader.new) (sink_of W.contents writer.old) (sink_of W.contents writer.new) most (outcome_of converted.new result) }
 {
     if writer.failed() {
         return Err(PcapError::WriterFailed);
@@ -143,7 +145,8 @@ fn convert_next<R: Read + Drop, W: Write>(
     requires packets { converted.old.packets ≤ converted.old.blocks }
     requires left_out { converted.old.left_out ≤ converted.old.blocks }
     ensures header { writer.new.header ≡ writer.old.header }
-    ensures steps { StepsPlacing writer.old.header unplaced (source_of R.remaining reader.old) (source_of R.remaining reader.new) (sink_of W.contents writer.old) (sink_of W.contents writer.new) converted.old converted.new result }
+    ensures steps { StepsPlacing writer.old.header unplaced (source_of R.remaining reader.old)
+        (source_of R.remaining reader.new) (sink_of W.contents writer.old) (sink_of W.contents writer.new) converted.old converted.new result }
 {
     let header = match reader.next_header() {
         None => return Ok(false),
@@ -166,7 +169,8 @@ fn convert_block<R: Read + Drop, W: Write>(
     requires valid { IsTrue (is_magic writer.old.header.magic_number) }
     requires no_write_failed { (sink_of W.contents writer.old).failed ≡ false }
     ensures header { writer.new.header ≡ writer.old.header }
-    ensures placed { PlacesBlock writer.old.header unplaced (interfaces_in_force reader.now) (framed_around header (body_of reader.now)) (sink_of W.contents writer.old) (sink_of W.contents writer.new) result }
+    ensures placed { PlacesBlock writer.old.header unplaced (interfaces_in_force reader.now)
+        (framed_around header (body_of reader.now)) (sink_of W.contents writer.old) (sink_of W.contents writer.new) result }
 {
     if !holds_packet(header.type_) {
         return Ok(Became::NoPacket);
@@ -192,7 +196,8 @@ fn convert_packet<W: Write>(
     requires valid { IsTrue (is_magic writer.old.header.magic_number) }
     requires no_write_failed { (sink_of W.contents writer.old).failed ≡ false }
     ensures header { writer.new.header ≡ writer.old.header }
-    ensures placed { PlacesBlock writer.old.header unplaced (map interface_of interfaces.now) (framed_of block.now) (sink_of W.contents writer.old) (sink_of W.contents writer.new) result }
+    ensures placed { PlacesBlock writer.old.header unplaced (map interface_of interfaces.now)
+        (framed_of block.now) (sink_of W.contents writer.old) (sink_of W.contents writer.new) result }
 {
     let parsed = block.parsed(alloc)?;
     let placed = place(&parsed, interfaces, writer.header.datalink);

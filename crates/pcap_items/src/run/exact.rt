@@ -26,7 +26,8 @@ pub fn show_items<'a, P: Items<'a>>(
     requires few { requests.old ≤ 2 }
     requires some { 12 ≤ shown_of window.old }
     ensures bytes { bytes_of window.new ≡ bytes_of window.old }
-    ensures items { IfOk result (λ run. ExactItems P.format P.part P.shows (P.state parser.old) (P.state parser.new) (map P.view run.items.items) (bytes_of window.old) (shown_of window.old)
+    ensures items { IfOk result (λ run. ExactItems P.format P.part P.shows
+        (P.state parser.old) (P.state parser.new) (map P.view run.items.items) (bytes_of window.old) (shown_of window.old)
         run.used run.ended (requests_made window.old) (requests_made window.new) requests.old requests.new) }
     ensures lent { IfOk result (λ run. All P.lent run.items.items) }
     ensures memory { IfErr result (λ _. GrowsIn P.format P.grows (P.state parser.old) (drop (shown_of window.old) (bytes_of window.old))) }
@@ -68,12 +69,15 @@ fn show_item<'a, P: Items<'a>>(
     requires lawful { IsLawful P.format }
     requires room { requests.old + 3 < 2 ^ 64 }
     ensures bytes { bytes_of window.new ≡ bytes_of window.old }
-    ensures asked { IfOk result (λ _. AsksItem P.format (P.state parser.old) (drop (shown_of window.old) (bytes_of window.old)) (requests_made window.old) (requests_made window.new)
+    ensures asked { IfOk result
+        (λ _. AsksItem P.format (P.state parser.old) (drop (shown_of window.old) (bytes_of window.old)) (requests_made window.old) (requests_made window.new)
         requests.old requests.new) }
-    ensures found { IfOk result (FoundAt P.format P.part P.view P.shows (P.state parser.old) (P.state parser.new) (drop (shown_of window.old) (bytes_of window.old))
+    ensures found { IfOk result
+        (FoundAt P.format P.part P.view P.shows (P.state parser.old) (P.state parser.new) (drop (shown_of window.old) (bytes_of window.old))
         (λ _. drop (shown_of window.new) (bytes_of window.old))) }
     ensures lent { IfOk result (IfItem P.lent) }
-    ensures memory { IfErr result (λ _. (t : List ℕ) × (more : List ℕ) × (drop (shown_of window.old) (bytes_of window.old) ≡ t ++ more) × P.grows (P.state parser.old) t) }
+    ensures memory { IfErr result
+        (λ _. (t : List ℕ) × (more : List ℕ) × (drop (shown_of window.old) (bytes_of window.old) ≡ t ++ more) × P.grows (P.state parser.old) t) }
 {
     let start = window.seen().len();
     'asking: loop {

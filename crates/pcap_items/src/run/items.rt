@@ -91,7 +91,8 @@ pub fn parse_items<'a, P: Items<'a>>(
     bytes: &'a [u8],
 ) -> Result<ItemRun<P::Item, P::Refusal>, AllocError>
     requires lawful { IsLawful P.format }
-    ensures front { IfOk result (λ run. RunsTo P.format P.part P.shows (P.state parser.old) (P.state parser.new) (map P.view run.items.items) bytes.now run.used run.ended) }
+    ensures front { IfOk result
+        (λ run. RunsTo P.format P.part P.shows (P.state parser.old) (P.state parser.new) (map P.view run.items.items) bytes.now run.used run.ended) }
     ensures lent { IfOk result (λ run. All P.lent run.items.items) }
     ensures memory { IfErr result (λ _. GrowsIn P.format P.grows (P.state parser.old) bytes.now) }
 {

@@ -90,10 +90,12 @@ pub fn feed_pieces<P: PieceParser>(
     requires lawful { IsLawful P.format }
     requires opening { IsOpening (P.opens setting) }
     requires fit { length (joined_pieces pieces.now) < 2 ^ 64 }
-    ensures fed { IfOk result (λ x. IsFedUpTo (P.opens setting) P.format P.part (P.state x.parser) (joined_pieces pieces.now) x.rest x.used (map P.view x.items.items)) }
+    ensures fed { IfOk result
+        (λ x. IsFedUpTo (P.opens setting) P.format P.part (P.state x.parser) (joined_pieces pieces.now) x.rest x.used (map P.view x.items.items)) }
     ensures numbers { IfOk result (λ x. AfterEach (HoldsItems (P.opens setting) P.format) [] pieces.now x.numbers.items) }
     ensures owned { IfOk result (λ x. All P.owned x.items.items) }
-    ensures refused { IfErr result (Refuses ⊤ (λ n. P.opens setting (joined_pieces pieces.now) (lacks n)) (λ fault. P.opens setting (joined_pieces pieces.now) (faulty fault))) }
+    ensures refused { IfErr result
+        (Refuses ⊤ (λ n. P.opens setting (joined_pieces pieces.now) (lacks n)) (λ fault. P.opens setting (joined_pieces pieces.now) (faulty fault))) }
 {
     let mut held = Vec::new(alloc);
     let mut items = Vec::new(alloc);
@@ -158,7 +160,8 @@ fn feed_piece<P: PieceParser>(
 ) -> ResultParsing<usize>
     requires lawful { IsLawful P.format }
     requires opening { IsOpening (P.opens setting) }
-    ensures waiting { IfOk result (λ due. (s : List ℕ) → IsWaiting (P.opens setting) P.format P.part P.state s (progress_with progress.old missing) held.old.items (map P.view items.old.items)
+    ensures waiting { IfOk result (λ due. (s : List ℕ)
+        → IsWaiting (P.opens setting) P.format P.part P.state s (progress_with progress.old missing) held.old.items (map P.view items.old.items)
         → IsWaiting (P.opens setting) P.format P.part P.state (s ++ piece.now) (progress_with progress.new due) held.new.items (map P.view items.new.items)) }
     ensures owned { IfOk result (λ _. All P.owned items.old.items → All P.owned items.new.items) }
     ensures memory { IfErr result IsMemory }
@@ -337,7 +340,8 @@ fn opened<P: PieceParser>(
 ) -> ResultParsing<Progress<P>>
     requires lawful { IsLawful P.format }
     requires opening { IsOpening (P.opens setting) }
-    ensures waiting { IfOk result (λ new. map P.view items.old.items ≡ [] → IsWaiting (P.opens setting) P.format P.part P.state held.old.items new held.new.items (map P.view items.new.items)) }
+    ensures waiting { IfOk result (λ new. map P.view items.old.items ≡ []
+        → IsWaiting (P.opens setting) P.format P.part P.state held.old.items new held.new.items (map P.view items.new.items)) }
     ensures owned { IfOk result (λ _. All P.owned items.old.items → All P.owned items.new.items) }
     ensures memory { IfErr result IsMemory }
 {
@@ -362,7 +366,8 @@ fn take_items<P: PieceParser>(
     items: &mut Vec<P::Item>,
 ) -> ResultParsing<Rest>
     requires lawful { IsLawful P.format }
-    ensures waiting { IfOk result (λ rest. (setting : P.Setting) (s : List ℕ) → Reaches (P.opens setting) P.format P.part (P.state parser.old) (map P.view items.old.items) s held.old.items
+    ensures waiting { IfOk result (λ rest. (setting : P.Setting) (s : List ℕ)
+        → Reaches (P.opens setting) P.format P.part (P.state parser.old) (map P.view items.old.items) s held.old.items
         → IsWaiting (P.opens setting) P.format P.part P.state s (Progress.Within parser.new rest) held.new.items (map P.view items.new.items)) }
     ensures owned { IfOk result (λ _. All P.owned items.old.items → All P.owned items.new.items) }
     ensures memory { IfErr result IsMemory }

@@ -36,7 +36,8 @@ pub trait Holding {
     ) -> ResultParsing<bool>
         requires between { held_bytes held.old ≡ [] }
         requires unfailed { has_failed.old ≡ false }
-        ensures { HoldsNext (format self.now) (state place.old) (state place.new) (R.remaining reader.old) (R.remaining reader.new) (held_bytes held.new) has_failed.new result };
+        ensures { HoldsNext (format self.now) (state place.old) (state place.new)
+            (R.remaining reader.old) (R.remaining reader.new) (held_bytes held.new) has_failed.new result };
 
     /// What follows the item at the front of the bytes, where one stands there whole that leaves what is in force.
     fn pass<'a>(&self, place: &Self::Place, bytes: &'a [u8]) -> Option<&'a [u8]>

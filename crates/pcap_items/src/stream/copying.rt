@@ -78,7 +78,8 @@ pub trait Ahead {
         requires no_read_failed { tally.old.read_failed ≡ false }
         requires no_write_failed { tally.old.write_failed ≡ false }
         requires between { held_bytes held.old ≡ [] }
-        ensures steps { Steps (format self.now) (written self.now) (state place.old) (state place.new) (R.remaining reader.old) (R.remaining reader.new) (W.contents writer.old) (W.contents writer.new) tally.old.items (tally.old.items + 1) tally.new result }
+        ensures steps { Steps (format self.now) (written self.now) (state place.old) (state place.new) (R.remaining reader.old)
+            (R.remaining reader.new) (W.contents writer.old) (W.contents writer.new) tally.old.items (tally.old.items + 1) tally.new result }
         ensures counts { IfOk result (λ is_copied. IsTrue is_copied → tally.new.items ≡ tally.old.items + 1) }
         ensures between { OnOk result (held_bytes held.new ≡ []) };
 }
@@ -96,7 +97,8 @@ pub trait AheadShown: Ahead {
     ) -> Sent
         requires stands { Self.stands self.now }
         ensures within { result.used ≤ length shown.now }
-        ensures sends { Sends (Self.format self.now) (Self.written self.now) (Self.state place.now) (take result.used shown.now) (W.contents writer.old) (W.contents writer.new) most result.items has_failed.old has_failed.new result.fault };
+        ensures sends { Sends (Self.format self.now) (Self.written self.now) (Self.state place.now)
+            (take result.used shown.now) (W.contents writer.old) (W.contents writer.new) most result.items has_failed.old has_failed.new result.fault };
 }
 
 /// Copies items until `most` are copied, each of them before the next one is read.
@@ -117,7 +119,8 @@ pub fn copy_items<A: Ahead, R: Read, W: Write>(
     requires stands { A.stands ahead.now }
     requires new { NothingCopied tally.old }
     requires between { held_bytes held.old ≡ [] }
-    ensures { CopiesBehind (A.format ahead.now) (A.written ahead.now) (A.state place.old) (R.remaining reader.old) (R.remaining reader.new) (W.contents writer.old) (W.contents writer.new) most
+    ensures { CopiesBehind (A.format ahead.now) (A.written ahead.now)
+        (A.state place.old) (R.remaining reader.old) (R.remaining reader.new) (W.contents writer.old) (W.contents writer.new) most
         tally.new.items (result_err result) tally.new.read_failed tally.new.write_failed }
 {
     while tally.items < most {
@@ -146,7 +149,8 @@ pub fn copy_buffers<A: AheadShown, R: BufRead, W: Write>(
     requires stands { A.stands ahead.now }
     requires new { NothingCopied tally.old }
     requires between { held_bytes held.old ≡ [] }
-    ensures { CopiesBehind (A.format ahead.now) (A.written ahead.now) (A.state place.old) (R.remaining reader.old) (R.remaining reader.new) (W.contents writer.old) (W.contents writer.new) most
+    ensures { CopiesBehind (A.format ahead.now) (A.written ahead.now)
+        (A.state place.old) (R.remaining reader.old) (R.remaining reader.new) (W.contents writer.old) (W.contents writer.new) most
         tally.new.items (result_err result) tally.new.read_failed tally.new.write_failed }
 {
     while tally.items < most {
@@ -177,7 +181,8 @@ fn copy_shown<A: AheadShown, R: BufRead, W: Write>(
     requires fewer { tally.old.items < most }
     requires no_read_failed { tally.old.read_failed ≡ false }
     requires no_write_failed { tally.old.write_failed ≡ false }
-    ensures { Steps (A.format ahead.now) (A.written ahead.now) (A.state place.now) (A.state place.now) (R.remaining reader.old) (R.remaining reader.new) (W.contents writer.old) (W.contents writer.new) tally.old.items most tally.new result }
+    ensures { Steps (A.format ahead.now) (A.written ahead.now) (A.state place.now) (A.state place.now)
+        (R.remaining reader.old) (R.remaining reader.new) (W.contents writer.old) (W.contents writer.new) tally.old.items most tally.new result }
 {
     let shown = match reader.fill_buf() {
         Ok(shown) => shown,

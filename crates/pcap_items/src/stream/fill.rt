@@ -130,7 +130,8 @@ impl<T: Read> Fill<T> {
         requires lawful { IsLawful (H.format item.now) }
         requires between { held_of self.old ≡ [] }
         requires unfailed { has_failed self.old ≡ false }
-        ensures fills { FillsHeaded ((H.format item.now).says (H.state item.now)) (H.knows item.now) ((H.format item.now).head (H.state item.now)) (T.remaining (stream_of self.old)) (T.remaining (stream_of self.new)) (held_of self.new) (has_failed self.new) result }
+        ensures fills { FillsHeaded ((H.format item.now).says (H.state item.now)) (H.knows item.now) ((H.format item.now).head (H.state item.now))
+            (T.remaining (stream_of self.old)) (T.remaining (stream_of self.new)) (held_of self.new) (has_failed self.new) result }
         ensures ahead { room_of self.new ≤ max (room_of self.old) (length (held_of self.new) + 65536) }
     {
         fill_item(

@@ -53,7 +53,8 @@ pub fn fill_item<H: HasHead, T: Read>(
     requires lawful { IsLawful (H.format item.now) }
     requires between { held_bytes held.old ≡ [] }
     requires unfailed { has_failed.old ≡ false }
-    ensures fills { FillsHeaded ((H.format item.now).says (H.state item.now)) (H.knows item.now) ((H.format item.now).head (H.state item.now)) (T.remaining stream.old) (T.remaining stream.new) (held_bytes held.new) has_failed.new result }
+    ensures fills { FillsHeaded ((H.format item.now).says (H.state item.now)) (H.knows item.now)
+        ((H.format item.now).head (H.state item.now)) (T.remaining stream.old) (T.remaining stream.new) (held_bytes held.new) has_failed.new result }
     ensures ahead { room_of held.new ≤ max (room_of held.old) (length (held_bytes held.new) + 65536) }
 {
     let Some((head, rest)) = fill_head(item, stream, has_failed, held)? else {
@@ -81,7 +82,8 @@ pub fn take_item<H: HasHead, T: Read>(
     requires lawful { IsLawful (H.format item.now) }
     requires between { held_bytes held.old ≡ [] }
     requires unfailed { has_failed.old ≡ false }
-    ensures takes { TakesHeaded ((H.format item.now).says (H.state item.now)) (H.knows item.now) ((H.format item.now).head (H.state item.now)) (λ body. body.items) (T.remaining stream.old) (T.remaining stream.new) has_failed.new result }
+    ensures takes { TakesHeaded ((H.format item.now).says (H.state item.now)) (H.knows item.now)
+        ((H.format item.now).head (H.state item.now)) (λ body. body.items) (T.remaining stream.old) (T.remaining stream.new) has_failed.new result }
     ensures between { OnOk result (held_bytes held.new ≡ []) }
     ensures room { room_of held.new ≤ max (room_of held.old) ((H.format item.now).head (H.state item.now)) }
 {
@@ -104,7 +106,8 @@ fn fill_head<H: HasHead, T: Read>(
     requires lawful { IsLawful (H.format item.now) }
     requires between { held_bytes held.old ≡ [] }
     requires unfailed { has_failed.old ≡ false }
-    ensures fills { FillsHead ((H.format item.now).says (H.state item.now)) (H.knows item.now) ((H.format item.now).head (H.state item.now)) (T.remaining stream.old) (T.remaining stream.new) (held_bytes held.new) has_failed.new result }
+    ensures fills { FillsHead ((H.format item.now).says (H.state item.now)) (H.knows item.now)
+        ((H.format item.now).head (H.state item.now)) (T.remaining stream.old) (T.remaining stream.new) (held_bytes held.new) has_failed.new result }
     ensures room { room_of held.new ≤ max (room_of held.old) ((H.format item.now).head (H.state item.now)) }
     ensures ahead { room_of held.new ≤ max (room_of held.old) (length (held_bytes held.new) + 65536) }
 {

@@ -83,8 +83,10 @@ impl<T: Read + Drop> PcapNgReader<T> {
     /// ```
     pub fn next_header(&mut self) -> Option<ResultParsing<BlockHeader>>
         ensures stays { StaysUnlessGiven (state_of self.old) (state_of self.new) result }
-        ensures next { NextGives (block_format.says (state_of self.old)) (lent_item self.new) (T.remaining (stream_of self.old)) (T.remaining (stream_of self.new)) (is_done self.old) (is_done self.new) (has_failed self.old) (has_failed self.new) result }
-        ensures text { LendsText (block_format.says (state_of self.old)) (lent_item self.new) (T.remaining (stream_of self.old)) (T.remaining (stream_of self.new)) (text_of self.new) result }
+        ensures next { NextGives (block_format.says (state_of self.old)) (lent_item self.new) (T.remaining (stream_of self.old))
+            (T.remaining (stream_of self.new)) (is_done self.old) (is_done self.new) (has_failed self.old) (has_failed self.new) result }
+        ensures text { LendsText (block_format.says (state_of self.old))
+            (lent_item self.new) (T.remaining (stream_of self.old)) (T.remaining (stream_of self.new)) (text_of self.new) result }
     {
         self.held.clear();
         if self.is_done {
@@ -208,7 +210,8 @@ impl<T: Read + Drop> Iterator for PcapNgReader<T> {
     type Item = ResultParsing<Block<'static>>;
 
     ghost next_gives = { λ s r t. StaysUnlessGiven (state_of s) (state_of t) r
-        × NextGives (block_format.says (state_of s)) (item_of (state_of t)) (T.remaining (stream_of s)) (T.remaining (stream_of t)) (is_done s) (is_done t) (has_failed s) (has_failed t) r
+        × NextGives (block_format.says (state_of s)) (item_of (state_of t))
+        (T.remaining (stream_of s)) (T.remaining (stream_of t)) (is_done s) (is_done t) (has_failed s) (has_failed t) r
         × (text_of t ≡ []) × IfSome r (λ given. IfOk given (λ block. IsOwned block.body)) };
 
     fn next(&mut self) -> Option<ResultParsing<Block<'static>>> {

@@ -34,7 +34,8 @@ pub(crate) fn pull<T: Read>(
 ) -> ResultParsing<Option<Block<'static>>>
     requires between { held_bytes held.old ≡ [] }
     requires unfailed { has_failed.old ≡ false }
-    ensures pulls { Pulls (block_format.says (state_in in_force.old)) (item_of (state_in in_force.new)) (T.remaining stream.old) (T.remaining stream.new) has_failed.new result }
+    ensures pulls { Pulls (block_format.says (state_in in_force.old))
+        (item_of (state_in in_force.new)) (T.remaining stream.old) (T.remaining stream.new) has_failed.new result }
     ensures stays { StaysUnlessTaken (state_in in_force.old) (state_in in_force.new) result }
     ensures owned { IfOk result (λ found. IfSome found (λ block. IsOwned block.body)) }
     ensures between { OnOk result (held_bytes held.new ≡ []) }
@@ -62,9 +63,11 @@ pub(crate) fn hold<T: Read>(
 ) -> ResultParsing<Option<BlockHeader>>
     requires between { held_bytes held.old ≡ [] }
     requires unfailed { has_failed.old ≡ false }
-    ensures pulls { Pulls (block_format.says (state_in in_force.old)) (held_item (state_in in_force.new) (held_bytes held.new)) (T.remaining stream.old) (T.remaining stream.new) has_failed.new result }
+    ensures pulls { Pulls (block_format.says (state_in in_force.old))
+        (held_item (state_in in_force.new) (held_bytes held.new)) (T.remaining stream.old) (T.remaining stream.new) has_failed.new result }
     ensures stays { StaysUnlessTaken (state_in in_force.old) (state_in in_force.new) result }
-    ensures text { HoldsText (block_format.says (state_in in_force.old)) (held_item (state_in in_force.new) (held_bytes held.new)) (T.remaining stream.old) (T.remaining stream.new) (held_bytes held.new) result }
+    ensures text { HoldsText (block_format.says (state_in in_force.old))
+        (held_item (state_in in_force.new) (held_bytes held.new)) (T.remaining stream.old) (T.remaining stream.new) (held_bytes held.new) result }
 {
     let order = in_force.order();
     let frames = FramesIn { order };
@@ -98,7 +101,8 @@ pub(crate) fn open<T: Read>(
 ) -> ResultParsing<InForce>
     requires between { held_bytes held.old ≡ [] }
     requires unfailed { has_failed.old ≡ false }
-    ensures takes { IfOk result (λ in_force. TakesText OpeningSays (T.remaining stream.old) (T.remaining stream.new) (held_bytes held.new) (state_in in_force)) }
+    ensures takes { IfOk result
+        (λ in_force. TakesText OpeningSays (T.remaining stream.old) (T.remaining stream.new) (held_bytes held.new) (state_in in_force)) }
     ensures refused { IfErr result (RefusesOpening (T.remaining stream.old)) }
     ensures asked { OnErr result (TakesAsked OpeningSays (T.remaining stream.old) (T.remaining stream.new)) }
     ensures unfailed { OnOk result (has_failed.new ≡ false) }

@@ -37,7 +37,8 @@ pub fn exact_pcapng<'a>(alloc: Global, window: &mut Window<'a>) -> ResultParsing
     ensures run { IfOk result (λ x. IsExact x.0 x.1 (bytes_of window.old) (requests_made window.old) (requests_made window.new)) }
     ensures borrowed { IfOk result (λ x. All (λ block. IsBorrowed block.body) x.0.blocks.items) }
     ensures asked { IfErr result (λ e. IsMemory e ⊎ AsksFirst (bytes_of window.old) (requests_made window.old) (requests_made window.new)) }
-    ensures refused { IfErr result (Refuses (MayGrow opening (bytes_of window.old)) (λ n. OpeningSays (bytes_of window.old) (lacks n)) (λ fault. OpeningSays (bytes_of window.old) (faulty fault))) }
+    ensures refused { IfErr result (Refuses (MayGrow opening (bytes_of window.old))
+        (λ n. OpeningSays (bytes_of window.old) (lacks n)) (λ fault. OpeningSays (bytes_of window.old) (faulty fault))) }
 {
     let mut requests = 0;
     match show_first(alloc, window, &mut requests)? {
@@ -65,7 +66,8 @@ fn show_first(
     requires none { shown_of window.old ≡ 0 }
     requires first { requests.old ≡ 0 }
     ensures bytes { bytes_of window.new ≡ bytes_of window.old }
-    ensures asked { IfOk result (λ found. AsksItem block_format opening (bytes_of window.old) (requests_made window.old) (requests_made window.new) 0 requests.new) }
+    ensures asked { IfOk result
+        (λ found. AsksItem block_format opening (bytes_of window.old) (requests_made window.old) (requests_made window.new) 0 requests.new) }
     ensures found { IfOk result (FoundBefore (OpeningSays (bytes_of window.old)) state_of (drop (shown_of window.new) (bytes_of window.old))) }
     ensures memory { IfErr result (λ _. MayGrow opening (bytes_of window.old)) }
 {

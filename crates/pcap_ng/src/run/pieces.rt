@@ -72,7 +72,8 @@ pub fn pieces_pcapng(alloc: Global, pieces: &[&[u8]]) -> ResultParsing<(NgRun<'s
     ensures run { IfOk result (λ x. IsRun x.0 (joined_pieces pieces.now)) }
     ensures numbers { IfOk result (λ x. AfterEach HoldsBlocks [] pieces.now x.1.items) }
     ensures owned { IfOk result (λ x. All (λ block. IsOwned block.body) x.0.blocks.items) }
-    ensures refused { IfErr result (Refuses ⊤ (λ n. OpeningSays (joined_pieces pieces.now) (lacks n)) (λ fault. OpeningSays (joined_pieces pieces.now) (faulty fault))) }
+    ensures refused { IfErr result
+        (Refuses ⊤ (λ n. OpeningSays (joined_pieces pieces.now) (lacks n)) (λ fault. OpeningSays (joined_pieces pieces.now) (faulty fault))) }
 {
     let fed = feed_pieces::<PcapNgParser>(alloc, (), pieces)?;
     let run = NgRun {
