@@ -28,7 +28,7 @@ pub(crate) fn stored_from_slice<'a, O: ListedOption<'a> + Drop, B: ByteOrder>(
     slice: &'a [u8],
 ) -> Result<(&'a [u8], StoredPacket<'a, O>), Refusal>
     requires { 16 ≤ length slice.now }
-    ensures tells { FindsWhere (StoredMayGrow B.number_of O.kind slice.now) (StoredSays B.number_of O.kind slice.now) (stored_of O.view) result }
+    ensures tells { FindsWhere (StoredMayGrow B.number_of O.kind slice.now) (StoredSays B.number_of O.kind slice.now) (stored_of O.entry) result }
     ensures borrowed { IfOk result (λ x. StoredIsBorrowed O.is_borrowed x.1) }
 {
     let (timestamp, rest) = split_time::<B>(slice);

@@ -7,14 +7,14 @@ ghost use Rattle.pcap_options.specs.EnhancedOption.{enhanced_packet, enhanced_en
 ghost use Rattle.pcap_core.specs.Errors.{IsMemory};
 
 use crate::enhanced_options;
-use crate::kinds::{kept_option, read_option};
+use crate::held::{Held, HeldValue, HoldsEntry};
+use crate::kinds::{held_option, kept_option, read_option};
 use crate::options::{
     CustomBinaryOption, CustomUtf8Option, ListedOption, PcapNgOption, UnknownOption,
     options_from_slice,
 };
 use crate::owned::IntoStatic;
 use crate::refusal::Refusal;
-use crate::values::{string_value, u32_value, u64_value};
 use byteorder::ByteOrder;
 use pcap_core::rules::Rule;
 use pcap_core::{CowBytes, ResultParsing};
@@ -72,10 +72,16 @@ impl<'a> EnhancedPacketOption<'a> {
     }
 }
 
+impl HoldsEntry for EnhancedPacketOption<'_> {
+    ghost entry = { enhanced_entry };
+
+    fn held(&self) -> Held<'_> {
+        enhanced_options!(held_option self)
+    }
+}
+
 impl<'a> PcapNgOption<'a> for EnhancedPacketOption<'a> {
     ghost kind = { enhanced_packet };
-
-    ghost view = { enhanced_entry };
 
     ghost is_borrowed = { EnhancedOptionIsBorrowed };
 

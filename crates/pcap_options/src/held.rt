@@ -4,24 +4,6 @@ ghost use Rattle.std.specs.Prelude.{◌≡◌, map};
 ghost use Rattle.std.specs.Option.{option_map};
 ghost use Rattle.pcap_options.specs.Values.{Entry};
 ghost use Rattle.pcap_options.specs.Held.{entry_held, string_in, number_in, unknown_in, under, first_under};
-ghost use Rattle.pcap_options.specs.SectionOption.{section_entry};
-ghost use Rattle.pcap_options.specs.InterfaceOption.{interface_entry};
-ghost use Rattle.pcap_options.specs.EnhancedOption.{enhanced_entry};
-ghost use Rattle.pcap_options.specs.PacketOption.{packet_entry};
-ghost use Rattle.pcap_options.specs.NameOption.{name_entry};
-ghost use Rattle.pcap_options.specs.StatisticsOption.{statistics_entry};
-
-use crate::enhanced_option::EnhancedPacketOption;
-use crate::interface_option::InterfaceDescriptionOption;
-use crate::kinds::held_option;
-use crate::name_option::NameResolutionOption;
-use crate::packet_option::PacketOption;
-use crate::section_option::SectionHeaderOption;
-use crate::statistics_option::InterfaceStatisticsOption;
-use crate::{
-    enhanced_options, interface_options, name_options, packet_options, section_options,
-    statistics_options,
-};
 
 /// An option, lent.
 #[derive(Clone, Copy)]
@@ -117,52 +99,4 @@ pub fn first_unknown<O: HoldsEntry>(options: &[O], code: u16) -> Option<&[u8]>
         }
     }
     None
-}
-
-impl HoldsEntry for InterfaceDescriptionOption<'_> {
-    ghost entry = { interface_entry };
-
-    fn held(&self) -> Held<'_> {
-        interface_options!(held_option self)
-    }
-}
-
-impl HoldsEntry for SectionHeaderOption<'_> {
-    ghost entry = { section_entry };
-
-    fn held(&self) -> Held<'_> {
-        section_options!(held_option self)
-    }
-}
-
-impl HoldsEntry for EnhancedPacketOption<'_> {
-    ghost entry = { enhanced_entry };
-
-    fn held(&self) -> Held<'_> {
-        enhanced_options!(held_option self)
-    }
-}
-
-impl HoldsEntry for PacketOption<'_> {
-    ghost entry = { packet_entry };
-
-    fn held(&self) -> Held<'_> {
-        packet_options!(held_option self)
-    }
-}
-
-impl HoldsEntry for NameResolutionOption<'_> {
-    ghost entry = { name_entry };
-
-    fn held(&self) -> Held<'_> {
-        name_options!(held_option self)
-    }
-}
-
-impl HoldsEntry for InterfaceStatisticsOption<'_> {
-    ghost entry = { statistics_entry };
-
-    fn held(&self) -> Held<'_> {
-        statistics_options!(held_option self)
-    }
 }

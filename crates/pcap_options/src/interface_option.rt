@@ -4,12 +4,12 @@ ghost use Rattle.std.specs.Prelude.{◌≡◌, IsOk, IfOk, IfErr};
 ghost use Rattle.pcap_options.specs.InterfaceOption.{interface_description, interface_entry, InterfaceOptionIsBorrowed, InterfaceOptionIsOwned};
 ghost use Rattle.pcap_core.specs.Errors.{IsMemory};
 
+use crate::held::{Held, HeldValue, HoldsEntry};
 use crate::interface_options;
-use crate::kinds::{kept_option, read_option};
+use crate::kinds::{held_option, kept_option, read_option};
 use crate::options::{CustomBinaryOption, CustomUtf8Option, PcapNgOption, UnknownOption};
 use crate::owned::IntoStatic;
 use crate::refusal::Refusal;
-use crate::values::{fixed_value, some_value, string_value, u8_value, u32_value, u64_value};
 use byteorder::ByteOrder;
 use pcap_core::rules::Rule;
 use pcap_core::{CowBytes, ResultParsing};
@@ -58,10 +58,16 @@ pub enum InterfaceDescriptionOption<'a> {
     Unknown(UnknownOption<'a>),
 }
 
+impl HoldsEntry for InterfaceDescriptionOption<'_> {
+    ghost entry = { interface_entry };
+
+    fn held(&self) -> Held<'_> {
+        interface_options!(held_option self)
+    }
+}
+
 impl<'a> PcapNgOption<'a> for InterfaceDescriptionOption<'a> {
     ghost kind = { interface_description };
-
-    ghost view = { interface_entry };
 
     ghost is_borrowed = { InterfaceOptionIsBorrowed };
 

@@ -4,12 +4,12 @@ ghost use Rattle.std.specs.Prelude.{IsOk, IfOk, ◌≡◌, IfErr};
 ghost use Rattle.pcap_options.specs.NameOption.{name_resolution, name_entry, NameOptionIsBorrowed, NameOptionIsOwned};
 ghost use Rattle.pcap_core.specs.Errors.{IsMemory};
 
-use crate::kinds::{kept_option, read_option};
+use crate::held::{Held, HeldValue, HoldsEntry};
+use crate::kinds::{held_option, kept_option, read_option};
 use crate::name_options;
 use crate::options::{CustomBinaryOption, CustomUtf8Option, PcapNgOption, UnknownOption};
 use crate::owned::IntoStatic;
 use crate::refusal::Refusal;
-use crate::values::{fixed_value, string_value};
 use byteorder::ByteOrder;
 use pcap_core::rules::Rule;
 use pcap_core::{CowBytes, ResultParsing};
@@ -35,10 +35,16 @@ pub enum NameResolutionOption<'a> {
     Unknown(UnknownOption<'a>),
 }
 
+impl HoldsEntry for NameResolutionOption<'_> {
+    ghost entry = { name_entry };
+
+    fn held(&self) -> Held<'_> {
+        name_options!(held_option self)
+    }
+}
+
 impl<'a> PcapNgOption<'a> for NameResolutionOption<'a> {
     ghost kind = { name_resolution };
-
-    ghost view = { name_entry };
 
     ghost is_borrowed = { NameOptionIsBorrowed };
 

@@ -4,11 +4,12 @@ ghost use Rattle.std.specs.Prelude.{◌≡◌, [], ◌∷◌, ◌++◌, length, 
 ghost use Rattle.std.specs.Option.{option_map};
 ghost use Rattle.pcap_core.specs.Answer.{TellsAll};
 ghost use Rattle.pcap_options.specs.Refusal.{Finds, FindsWhere, FindsAll};
-ghost use Rattle.pcap_options.specs.Values.{Entry, Kind, CustomBytes, CustomStr, Unknown, shape_at, custom_string, custom_bytes, EntrySays, value_bytes, integer_in};
+ghost use Rattle.pcap_options.specs.Values.{Kind, CustomBytes, CustomStr, Unknown, shape_at, custom_string, custom_bytes, EntrySays, value_bytes, integer_in};
 ghost use Rattle.pcap_options.specs.Options.{may_end_with_body, OptionSays, ListSays, OptionsMayGrow};
 ghost use Rattle.pcap_options.specs.CommonOptions.{unknown_entry, custom_bytes_entry, custom_string_entry, UnknownIsBorrowed, CustomBytesIsBorrowed, CustomStringIsBorrowed, UnknownIsOwned, CustomBytesIsOwned, CustomStringIsOwned};
 ghost use Rattle.pcap_core.specs.Errors.{IsMemory};
 
+use crate::held::HoldsEntry;
 use crate::kept_fields;
 use crate::owned::IntoStatic;
 use crate::refusal::Refusal;
@@ -236,12 +237,9 @@ impl<'a> CustomUtf8Option<'a> {
 }
 
 /// The options of one kind of block.
-pub trait PcapNgOption<'a>: Sized {
+pub trait PcapNgOption<'a>: HoldsEntry + Sized {
     // The shapes of the values, by their codes.
     ghost kind: { Kind };
-
-    // The option, wherever its bytes lie.
-    ghost view: { Self → Entry };
 
     // Its string or bytes are borrowed, where it has any.
     ghost is_borrowed: { Self → Type 0 };
@@ -249,7 +247,7 @@ pub trait PcapNgOption<'a>: Sized {
     /// The option of this code whose value is all of a slice, of this length.
     fn from_value<B: ByteOrder>(code: u16, len: u16, value: &'a [u8]) -> Result<Self, Refusal>
         requires { len ≡ length value.now }
-        ensures tells { FindsAll (EntrySays B.number_of (shape_at kind code) code value.now) view result }
+        ensures tells { FindsAll (EntrySays B.number_of (shape_at kind code) code value.now) Self.entry result }
         ensures borrowed { IfOk result is_borrowed };
 }
 
@@ -260,7 +258,7 @@ pub trait ListedOption<'a>: PcapNgOption<'a> {
         alloc: Global,
         slice: &'a [u8],
     ) -> Result<(&'a [u8], Vec<Self>), Refusal>
-        ensures tells { FindsWhere (OptionsMayGrow B.number_of Self.kind slice.now) (ListSays may_end_with_body B.number_of Self.kind slice.now) (λ options. map Self.view options.items) result }
+        ensures tells { FindsWhere (OptionsMayGrow B.number_of Self.kind slice.now) (ListSays may_end_with_body B.number_of Self.kind slice.now) (λ options. map Self.entry options.items) result }
         ensures borrowed { IfOk result (λ x. All Self.is_borrowed x.1.items) };
 }
 
@@ -269,7 +267,7 @@ pub trait ListedOption<'a>: PcapNgOption<'a> {
 fn option_from_slice<'a, O: PcapNgOption<'a>, B: ByteOrder>(
     slice: &'a [u8],
 ) -> Result<(&'a [u8], Option<O>), Refusal>
-    ensures tells { Finds (OptionSays B.number_of O.kind slice.now) (option_map O.view) result }
+    ensures tells { Finds (OptionSays B.number_of O.kind slice.now) (option_map O.entry) result }
     ensures borrowed { IfOk result (λ x. IfSome x.1 O.is_borrowed) }
 {
     if slice.len() < 4 {
@@ -306,7 +304,7 @@ pub fn options_from_slice<'a, O: PcapNgOption<'a> + Drop, B: ByteOrder>(
     alloc: Global,
     slice: &'a [u8],
 ) -> Result<(&'a [u8], Vec<O>), Refusal>
-    ensures tells { FindsWhere (OptionsMayGrow B.number_of O.kind slice.now) (ListSays may_end_with_body B.number_of O.kind slice.now) (λ options. map O.view options.items) result }
+    ensures tells { FindsWhere (OptionsMayGrow B.number_of O.kind slice.now) (ListSays may_end_with_body B.number_of O.kind slice.now) (λ options. map O.entry options.items) result }
     ensures borrowed { IfOk result (λ x. All O.is_borrowed x.1.items) }
 {
     let mut options = Vec::new(alloc);

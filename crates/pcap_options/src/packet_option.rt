@@ -6,7 +6,8 @@ ghost use Rattle.pcap_options.specs.Options.{may_end_with_body, ListSays, Option
 ghost use Rattle.pcap_options.specs.PacketOption.{packet_kind, packet_entry, PacketOptionIsBorrowed, PacketOptionIsOwned};
 ghost use Rattle.pcap_core.specs.Errors.{IsMemory};
 
-use crate::kinds::{kept_option, read_option};
+use crate::held::{Held, HeldValue, HoldsEntry};
+use crate::kinds::{held_option, kept_option, read_option};
 use crate::options::{
     CustomBinaryOption, CustomUtf8Option, ListedOption, PcapNgOption, UnknownOption,
     options_from_slice,
@@ -14,7 +15,6 @@ use crate::options::{
 use crate::owned::IntoStatic;
 use crate::packet_options;
 use crate::refusal::Refusal;
-use crate::values::{string_value, u32_value};
 use byteorder::ByteOrder;
 use pcap_core::rules::Rule;
 use pcap_core::{CowBytes, ResultParsing};
@@ -70,10 +70,16 @@ impl<'a> PacketOption<'a> {
     }
 }
 
+impl HoldsEntry for PacketOption<'_> {
+    ghost entry = { packet_entry };
+
+    fn held(&self) -> Held<'_> {
+        packet_options!(held_option self)
+    }
+}
+
 impl<'a> PcapNgOption<'a> for PacketOption<'a> {
     ghost kind = { packet_kind };
-
-    ghost view = { packet_entry };
 
     ghost is_borrowed = { PacketOptionIsBorrowed };
 

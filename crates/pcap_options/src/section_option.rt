@@ -4,12 +4,12 @@ ghost use Rattle.std.specs.Prelude.{◌≡◌, IsOk, IfOk, IfErr};
 ghost use Rattle.pcap_options.specs.SectionOption.{section_header, section_entry, SectionOptionIsBorrowed, SectionOptionIsOwned};
 ghost use Rattle.pcap_core.specs.Errors.{IsMemory};
 
-use crate::kinds::{kept_option, read_option};
+use crate::held::{Held, HeldValue, HoldsEntry};
+use crate::kinds::{held_option, kept_option, read_option};
 use crate::options::{CustomBinaryOption, CustomUtf8Option, PcapNgOption, UnknownOption};
 use crate::owned::IntoStatic;
 use crate::refusal::Refusal;
 use crate::section_options;
-use crate::values::string_value;
 use byteorder::ByteOrder;
 use pcap_core::ResultParsing;
 use std::alloc::{AllocError, Global};
@@ -34,10 +34,16 @@ pub enum SectionHeaderOption<'a> {
     Unknown(UnknownOption<'a>),
 }
 
+impl HoldsEntry for SectionHeaderOption<'_> {
+    ghost entry = { section_entry };
+
+    fn held(&self) -> Held<'_> {
+        section_options!(held_option self)
+    }
+}
+
 impl<'a> PcapNgOption<'a> for SectionHeaderOption<'a> {
     ghost kind = { section_header };
-
-    ghost view = { section_entry };
 
     ghost is_borrowed = { SectionOptionIsBorrowed };
 

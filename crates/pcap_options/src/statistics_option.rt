@@ -4,12 +4,12 @@ ghost use Rattle.std.specs.Prelude.{IsOk, IfOk, ◌≡◌, IfErr};
 ghost use Rattle.pcap_options.specs.StatisticsOption.{interface_statistics, statistics_entry, StatisticsOptionIsBorrowed, StatisticsOptionIsOwned};
 ghost use Rattle.pcap_core.specs.Errors.{IsMemory};
 
-use crate::kinds::{kept_option, read_option};
+use crate::held::{Held, HeldValue, HoldsEntry};
+use crate::kinds::{held_option, kept_option, read_option};
 use crate::options::{CustomBinaryOption, CustomUtf8Option, PcapNgOption, UnknownOption};
 use crate::owned::IntoStatic;
 use crate::refusal::Refusal;
 use crate::statistics_options;
-use crate::values::{first_number, first_time, string_value};
 use byteorder::ByteOrder;
 use pcap_core::ResultParsing;
 use std::alloc::{AllocError, Global};
@@ -42,10 +42,16 @@ pub enum InterfaceStatisticsOption<'a> {
     Unknown(UnknownOption<'a>),
 }
 
+impl HoldsEntry for InterfaceStatisticsOption<'_> {
+    ghost entry = { statistics_entry };
+
+    fn held(&self) -> Held<'_> {
+        statistics_options!(held_option self)
+    }
+}
+
 impl<'a> PcapNgOption<'a> for InterfaceStatisticsOption<'a> {
     ghost kind = { interface_statistics };
-
-    ghost view = { statistics_entry };
 
     ghost is_borrowed = { StatisticsOptionIsBorrowed };
 
