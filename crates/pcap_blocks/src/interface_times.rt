@@ -32,6 +32,7 @@ impl InterfaceDescriptionBlock<'_> {
 }
 
 // The byte of the first `IfTsResol`.
+#[tactic(auto, using(pcap_options::proofs::Found::found, pcap_options::proofs::Found::missed))]
 fn first_resolution(options: &[InterfaceDescriptionOption]) -> Option<u8>
     ensures { result ≡ first_under 9 number_in (map interface_entry options.now) }
 {

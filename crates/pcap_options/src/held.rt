@@ -66,6 +66,7 @@ pub trait HoldsEntry {
 }
 
 /// The number of the first option of this code that is one.
+#[tactic(auto, using(crate::proofs::Found::found, crate::proofs::Found::missed))]
 pub fn first_number<O: HoldsEntry>(options: &[O], code: u16) -> Option<u64>
     ensures { result ≡ first_under code number_in (map O.entry options.now) }
 {
@@ -78,6 +79,7 @@ pub fn first_number<O: HoldsEntry>(options: &[O], code: u16) -> Option<u64>
 }
 
 /// The string of the first option of this code that is one.
+#[tactic(auto, using(crate::proofs::Found::found, crate::proofs::Found::missed))]
 pub fn first_string<O: HoldsEntry>(options: &[O], code: u16) -> Option<&str>
     ensures { option_map (λ string. string.now) result ≡ first_under code string_in (map O.entry options.now) }
 {
@@ -90,6 +92,7 @@ pub fn first_string<O: HoldsEntry>(options: &[O], code: u16) -> Option<&str>
 }
 
 /// The value of the first unknown option of this code.
+#[tactic(auto, using(crate::proofs::Found::found, crate::proofs::Found::missed))]
 pub fn first_unknown<O: HoldsEntry>(options: &[O], code: u16) -> Option<&[u8]>
     ensures { option_map (λ value. value.now) result ≡ first_under code unknown_in (map O.entry options.now) }
 {
