@@ -15,11 +15,11 @@ macro_rules! read_option {
 macro_rules! read_value {
     (string $order:ident $value:ident) => { $crate::values::string_value($value)? };
     (bytes $order:ident $value:ident) => { CowBytes::Borrowed($value) };
-    (some_bytes $order:ident $value:ident $empty:ident) => { $crate::values::some_value($value, Rule::$empty)? };
-    (fixed_bytes $order:ident $value:ident $n:literal $wrong:ident) => { $crate::values::fixed_value($value, $n, Rule::$wrong)? };
-    (byte $order:ident $value:ident $wrong:ident) => { $crate::values::u8_value($value, Rule::$wrong)? };
-    (number4 $order:ident $value:ident $wrong:ident) => { $crate::values::u32_value::<$order>($value, Rule::$wrong)? };
-    (number8 $order:ident $value:ident $wrong:ident) => { $crate::values::u64_value::<$order>($value, Rule::$wrong)? };
+    (some_bytes $order:ident $value:ident $empty:ident) => { $crate::values::some_value($value, pcap_core::rules::Rule::$empty)? };
+    (fixed_bytes $order:ident $value:ident $n:literal $wrong:ident) => { $crate::values::fixed_value($value, $n, pcap_core::rules::Rule::$wrong)? };
+    (byte $order:ident $value:ident $wrong:ident) => { $crate::values::u8_value($value, pcap_core::rules::Rule::$wrong)? };
+    (number4 $order:ident $value:ident $wrong:ident) => { $crate::values::u32_value::<$order>($value, pcap_core::rules::Rule::$wrong)? };
+    (number8 $order:ident $value:ident $wrong:ident) => { $crate::values::u64_value::<$order>($value, pcap_core::rules::Rule::$wrong)? };
     (first_number $order:ident $value:ident) => { $crate::values::first_number::<$order>($value)? };
     (first_time $order:ident $value:ident) => { $crate::values::first_time::<$order>($value)? };
 }

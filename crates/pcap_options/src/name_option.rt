@@ -11,7 +11,6 @@ use crate::options::{CustomBinaryOption, CustomUtf8Option, PcapNgOption, Unknown
 use crate::owned::IntoStatic;
 use crate::refusal::Refusal;
 use byteorder::ByteOrder;
-use pcap_core::rules::Rule;
 use pcap_core::{CowBytes, ResultParsing};
 use std::alloc::{AllocError, Global};
 use std::borrow::CowStr;

@@ -16,7 +16,6 @@ use crate::owned::IntoStatic;
 use crate::packet_options;
 use crate::refusal::Refusal;
 use byteorder::ByteOrder;
-use pcap_core::rules::Rule;
 use pcap_core::{CowBytes, ResultParsing};
 use std::alloc::{AllocError, Global};
 use std::borrow::CowStr;
