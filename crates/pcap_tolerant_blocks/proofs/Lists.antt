@@ -1,16 +1,16 @@
 -- Options that are read one behind the other, as they stand.
-use Rattle.std.proofs.Common.{◌≡◌, ◌≢◌, ℕ, List, [], ◌∷◌, ◌++◌, map, Option, Some, None, refl, sym, ap, subst, ◌∙◌, append_assoc}
+use Rattle.std.proofs.Common.{◌≡◌, ◌≢◌, ℕ, List, [], ◌∷◌, ◌++◌, length, map, Option, Some, None, Err, refl, sym, ap, subst, ◌∙◌, append_assoc}
 use Rattle.std.proofs.lemmas.List.{append-nil, map-append}
 use Rattle.pcap_core.specs.Answer.{Order}
 use Rattle.pcap_core.specs.Faults.{Fault}
 use Rattle.pcap_core.specs.Padded.{Chain}
 use Rattle.pcap_core.proofs.Padded.{chain_more}
-use Rattle.pcap_options.specs.Values.{Entry, Kind}
+use Rattle.pcap_options.specs.Values.{Entry, Kind, Unknown}
 use Rattle.pcap_options.specs.Options.{may_end_with_body, OptionFault}
 use Rattle.pcap_raw_options.specs.UpTo.{StopsAt, no_kind}
 use Rattle.pcap_tolerant_blocks.specs.declared.flaws.Flaw.{Flaw}
 use Rattle.pcap_tolerant_blocks.specs.Flaws.{Said, said_of}
-use Rattle.pcap_tolerant_blocks.specs.OptionsAsIs.{Judged, JudgedText, entry_in, cut_by, flaws_in, OptionsAsIs}
+use Rattle.pcap_tolerant_blocks.specs.OptionsAsIs.{Judged, judged, JudgedText, entry_in, cut_by, flaws_in, OptionsAsIs}
 
 flaws_push : (each : List Judged) (option : Judged) → flaws_in (each ++ option ∷ []) [] ≡ flaws_in each [] ++ option.flaws
 flaws_push [] option = append-nil option.flaws
@@ -19,6 +19,11 @@ flaws_push (first ∷ each) option = ap (λ (l : List Said). first.flaws ++ l) (
 flaws_last : (each : List Judged) (last : List Said) → flaws_in each last ≡ flaws_in each [] ++ last
 flaws_last [] last = refl
 flaws_last (first ∷ each) last = ap (λ (l : List Said). first.flaws ++ l) (flaws_last each last) ∙ sym (append_assoc first.flaws (flaws_in each []) last)
+
+-- an option that is only its bytes, for the fault of its value
+pub only_bytes : (code len : ℕ) (v : List ℕ) (entry : Entry) (fault : Fault) → entry ≡ record { code = code; value = Unknown len v } → len ≡ length v
+    → record { entry = entry; flaws = record { code = Some code; fault = fault } ∷ [] } ≡ judged code v (Err fault)
+only_bytes code len v entry fault is long = rw (is, long) refl
 
 -- these options were read of s, and left is to be read
 pub record ReadSoFar (order : Order) (kind : Kind) (options : List Entry) (flaws : List Said) (s left : List ℕ) : Type 0 where

@@ -1,9 +1,8 @@
 -- What is wrong with a body, and what the strict reading says of the same bytes.
-use Rattle.std.specs.Prelude.{◌≡◌, ℕ, List, [], ◌∷◌, Option, Some, None, Result, Ok, Err}
+use Rattle.std.specs.Prelude.{◌≡◌, ℕ, List, [], ◌∷◌, Option, Some, None}
 use Rattle.pcap_core.specs.Answer.{Verdict, whole, faulty, Says}
 use Rattle.pcap_core.specs.Faults.{Fault, Invalid, Io, Utf8}
 use Rattle.pcap_core.specs.declared.rules.Rule.{Rule}
-use Rattle.pcap_options.specs.Values.{Value, Entry}
 use Rattle.pcap_tolerant_blocks.specs.declared.flaws.Broken.{Broken}
 use Rattle.pcap_tolerant_blocks.specs.declared.flaws.Broken.TheVariants as broken
 use Rattle.pcap_tolerant_blocks.specs.declared.flaws.Flaw.{Flaw}
@@ -44,16 +43,6 @@ IfRoomSays IsText NoRoom s = Says (λ x rest. IfRoom IsText NoRoom x.value x.fla
 -- something of s is kept in a list: it is no bare value without a flaw
 abbrev pub KeepsSome : {V : Type 0} → (V → List Said → List ℕ → List ℕ → Type 0) → (V → Type 0) → List ℕ → Type 0
 KeepsSome {V} IsText IsBare s = (value : V) (rest : List ℕ) → IsText value [] s rest → IsBare value → ⊥
-
--- what a call tells that reads a value: what it holds, or its fault
-abbrev pub IsRead : {X V : Type 0} → Result V Fault → (X → V) → Result X Broken → Type 0
-IsRead read view (Ok x) = read ≡ Ok (view x)
-IsRead read view (Err b) = read ≡ Err (fault_of b)
-
--- what a call tells that reads the value of an option of this code
-abbrev pub IsOption : {X : Type 0} → ℕ → Result Value Fault → (X → Entry) → Result X Broken → Type 0
-IsOption code read view (Ok x) = ((view x).code ≡ code) × (read ≡ Ok (view x).value)
-IsOption code read view (Err b) = read ≡ Err (fault_of b)
 
 -- what the strict reading says where this value with these flaws stands: that value and the same rest where it has no flaw, and
 -- else its first flaw

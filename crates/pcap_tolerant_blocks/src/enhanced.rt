@@ -2,14 +2,12 @@
 
 ghost use Rattle.std.specs.Prelude.{◌≡◌, None, IfOk, IfErr, IfSome};
 ghost use Rattle.pcap_core.specs.Bytes.{IsBorrowed};
-ghost use Rattle.pcap_options.specs.EnhancedOption.{enhanced_packet, enhanced_entry};
 ghost use Rattle.pcap_tolerant_blocks.specs.Flaws.{alone};
 ghost use Rattle.pcap_tolerant_blocks.specs.EnhancedAsIs.{EnhancedText, enhanced_in, flaws_said, EnhancedGrows};
 
-use crate::flaws::{Broken, Flaw};
-use crate::list::{ReadsValue, list_as_is};
+use crate::flaws::Flaw;
+use crate::list::{Unread, list_as_is};
 use crate::stored::split_stored;
-use crate::values::{custom_bytes_value, custom_string_value, string_value, u32_value, u64_value};
 use byteorder::ByteOrder;
 use pcap_blocks::{EnhancedPacketBlock, EnhancedPacketOption, UnknownOption};
 use pcap_core::CowBytes;
@@ -78,23 +76,7 @@ impl<'a> EnhancedAsIs<'a> {
     }
 }
 
-impl<'a> ReadsValue<'a> for EnhancedPacketOption<'a> {
-    ghost kind = { enhanced_packet };
-
-    ghost view = { enhanced_entry };
-
-    fn from_value<B: ByteOrder>(code: u16, len: u16, value: &'a [u8]) -> Result<Self, Broken> {
-        Ok(match code {
-            1 => Self::Comment(string_value(value)?),
-            2 => Self::Flags(u32_value::<B>(value, Rule::EnhancedFlagsLength)?),
-            3 => Self::Hash(CowBytes::Borrowed(value)),
-            4 => Self::DropCount(u64_value::<B>(value, Rule::EnhancedDropCountLength)?),
-            2988 | 19372 => Self::CustomUtf8(custom_string_value::<B>(code, value)?),
-            2989 | 19373 => Self::CustomBinary(custom_bytes_value::<B>(code, value)?),
-            _ => Self::Unknown(UnknownOption::new(code, len, value)),
-        })
-    }
-
+impl<'a> Unread<'a> for EnhancedPacketOption<'a> {
     fn unread(option: UnknownOption<'a>) -> Self {
         Self::Unknown(option)
     }

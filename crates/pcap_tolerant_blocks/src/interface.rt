@@ -1,15 +1,10 @@
 //! Interfaces as they stand.
 
 ghost use Rattle.std.specs.Prelude.{IfOk, IfErr};
-ghost use Rattle.pcap_options.specs.InterfaceOption.{interface_description, interface_entry};
 ghost use Rattle.pcap_tolerant_blocks.specs.InterfaceAsIs.{InterfaceText, interface_in, flaws_said, InterfaceGrows};
 
-use crate::flaws::{Broken, Flaw};
-use crate::list::{ReadsValue, list_as_is};
-use crate::values::{
-    custom_bytes_value, custom_string_value, fixed_value, some_value, string_value, u8_value,
-    u32_value, u64_value,
-};
+use crate::flaws::Flaw;
+use crate::list::{Unread, list_as_is};
 use byteorder::ByteOrder;
 use pcap_blocks::{InterfaceDescriptionBlock, InterfaceDescriptionOption, UnknownOption};
 use pcap_core::DataLink;
@@ -69,34 +64,7 @@ impl<'a> InterfaceAsIs<'a> {
     }
 }
 
-impl<'a> ReadsValue<'a> for InterfaceDescriptionOption<'a> {
-    ghost kind = { interface_description };
-
-    ghost view = { interface_entry };
-
-    fn from_value<B: ByteOrder>(code: u16, len: u16, value: &'a [u8]) -> Result<Self, Broken> {
-        Ok(match code {
-            1 => Self::Comment(string_value(value)?),
-            2 => Self::IfName(string_value(value)?),
-            3 => Self::IfDescription(string_value(value)?),
-            4 => Self::IfIpv4Addr(fixed_value(value, 8, Rule::InterfaceIpv4Length)?),
-            5 => Self::IfIpv6Addr(fixed_value(value, 17, Rule::InterfaceIpv6Length)?),
-            6 => Self::IfMacAddr(fixed_value(value, 6, Rule::InterfaceMacLength)?),
-            7 => Self::IfEuIAddr(u64_value::<B>(value, Rule::InterfaceEuiLength)?),
-            8 => Self::IfSpeed(u64_value::<B>(value, Rule::InterfaceSpeedLength)?),
-            9 => Self::IfTsResol(u8_value(value, Rule::InterfaceResolutionLength)?),
-            10 => Self::IfTzone(u32_value::<B>(value, Rule::InterfaceZoneLength)?),
-            11 => Self::IfFilter(some_value(value, Rule::InterfaceFilterEmpty)?),
-            12 => Self::IfOs(string_value(value)?),
-            13 => Self::IfFcsLen(u8_value(value, Rule::InterfaceFcsLength)?),
-            14 => Self::IfTsOffset(u64_value::<B>(value, Rule::InterfaceOffsetLength)?),
-            15 => Self::IfHardware(string_value(value)?),
-            2988 | 19372 => Self::CustomUtf8(custom_string_value::<B>(code, value)?),
-            2989 | 19373 => Self::CustomBinary(custom_bytes_value::<B>(code, value)?),
-            _ => Self::Unknown(UnknownOption::new(code, len, value)),
-        })
-    }
-
+impl<'a> Unread<'a> for InterfaceDescriptionOption<'a> {
     fn unread(option: UnknownOption<'a>) -> Self {
         Self::Unknown(option)
     }

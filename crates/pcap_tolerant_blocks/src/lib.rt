@@ -16,7 +16,6 @@ mod sound;
 mod statistics;
 mod stored;
 mod time;
-mod values;
 
 pub use enhanced::EnhancedAsIs;
 pub use flaws::{Broken, Flaw};

@@ -1,12 +1,13 @@
 //! Lists of options as they stand.
 
-ghost use Rattle.std.specs.Prelude.{◌≡◌, ◌≢◌, [], ◌∷◌, ◌++◌, length, map, IfOk, IfErr, OnOk, MatchResult, MatchOption};
-ghost use Rattle.pcap_core.specs.Faults.{Invalid};
-ghost use Rattle.pcap_options.specs.Values.{Entry, Kind, shape_at, value_of};
+ghost use Rattle.std.specs.Prelude.{◌≡◌, ◌≢◌, [], ◌∷◌, ◌++◌, length, map, Result, Err, IfOk, IfErr, OnOk, MatchResult, MatchOption};
+ghost use Rattle.pcap_core.specs.Faults.{Fault, Invalid};
+ghost use Rattle.pcap_options.specs.Values.{Value, shape_at, value_of};
+ghost use Rattle.pcap_options.specs.Refusal.{Denies};
 ghost use Rattle.pcap_options.specs.Options.{EndMark, OptionFault};
 ghost use Rattle.pcap_options.specs.CommonOptions.{unknown_entry};
 ghost use Rattle.pcap_raw_options.specs.UpTo.{no_kind};
-ghost use Rattle.pcap_tolerant_blocks.specs.Flaws.{IsOption, said_of};
+ghost use Rattle.pcap_tolerant_blocks.specs.Flaws.{said_of, fault_of};
 ghost use Rattle.pcap_tolerant_blocks.specs.OptionsAsIs.{judged, judged_of, JudgedText, ListsAsIs, OptionsGrow, flaws_or_none};
 
 use crate::flaws::{Broken, Flaw};
@@ -14,24 +15,14 @@ use byteorder::ByteOrder;
 use pcap_blocks::UnknownOption;
 use pcap_core::fields::{split_padded, split_u16};
 use pcap_core::rules::Rule;
+use pcap_options::{PcapNgOption, Refusal};
 use std::alloc::{AllocError, Global};
 
-// The options of one kind of block.
-pub(crate) trait ReadsValue<'a>: Sized {
-    // The shapes of the values, by their codes.
-    ghost kind: { Kind };
-
-    // The option, wherever its bytes lie.
-    ghost view: { Self → Entry };
-
-    // The option of this code whose value is all of a slice, of this length, or what stands against it.
-    fn from_value<B: ByteOrder>(code: u16, len: u16, value: &'a [u8]) -> Result<Self, Broken>
-        requires { len ≡ length value.now }
-        ensures tells { IsOption code (value_of B.number_of (shape_at kind code) value.now) view result };
-
+// The options of one kind of block, also where their values aren't read.
+pub(crate) trait Unread<'a>: PcapNgOption<'a> {
     // An option that is only its bytes.
     fn unread(option: UnknownOption<'a>) -> Self
-        ensures same { view result ≡ unknown_entry option.entry };
+        ensures same { Self.entry result ≡ unknown_entry option.entry };
 }
 
 // An option, and what is wrong with its value.
@@ -49,18 +40,29 @@ pub(crate) struct ListAsIs<'a, O> {
     pub(crate) left: &'a [u8],
 }
 
+// What stands against a value, by the refusal of a reading that takes no memory.
+fn broken_by(refusal: Refusal) -> Broken
+    ensures { (read : Result Value Fault) → Denies ⊥ (λ fault. read ≡ Err fault) refusal → read ≡ Err (fault_of result) }
+{
+    match refusal {
+        Refusal::Invalid(rule) => Broken::Rule(rule),
+        Refusal::Utf8(_e) => Broken::NotUtf8,
+        Refusal::Io | Refusal::Memory(_) => Broken::TooShort,
+    }
+}
+
 // The option of this code and bytes as it stands.
-fn judge<'a, O: ReadsValue<'a>, B: ByteOrder>(code: u16, len: u16, value: &'a [u8]) -> OptionAsIs<O>
+fn judge<'a, O: Unread<'a>, B: ByteOrder>(code: u16, len: u16, value: &'a [u8]) -> OptionAsIs<O>
     requires { len ≡ length value.now }
-    ensures { judged_of O.view result ≡ judged code value.now (value_of B.number_of (shape_at O.kind code) value.now) }
+    ensures { judged_of O.entry result ≡ judged code value.now (value_of B.number_of (shape_at O.kind code) value.now) }
 {
     match O::from_value::<B>(code, len, value) {
         Ok(option) => OptionAsIs { option, flaw: None },
-        Err(broken) => OptionAsIs {
+        Err(refusal) => OptionAsIs {
             option: O::unread(UnknownOption::new(code, len, value)),
             flaw: Some(Flaw {
                 code: Some(code),
-                broken,
+                broken: broken_by(refusal),
             }),
         },
     }
@@ -68,11 +70,11 @@ fn judge<'a, O: ReadsValue<'a>, B: ByteOrder>(code: u16, len: u16, value: &'a [u
 
 // The option at the front of a slice as it stands, or none at the mark that ends a list, and what follows it; else why there
 // is none.
-pub(crate) fn option_as_is<'a, O: ReadsValue<'a>, B: ByteOrder>(
+pub(crate) fn option_as_is<'a, O: Unread<'a>, B: ByteOrder>(
     slice: &'a [u8],
 ) -> Result<(&'a [u8], Option<OptionAsIs<O>>), Rule>
     ensures tells { MatchResult result
-        (λ x. MatchOption x.1 (EndMark B.number_of slice.now x.0.now) (λ o. JudgedText B.number_of O.kind (judged_of O.view o) slice.now x.0.now))
+        (λ x. MatchOption x.1 (EndMark B.number_of slice.now x.0.now) (λ o. JudgedText B.number_of O.kind (judged_of O.entry o) slice.now x.0.now))
         (λ rule. OptionFault B.number_of no_kind slice.now (Invalid rule)) }
 {
     if slice.len() < 4 {
@@ -116,11 +118,11 @@ fn keep<O: Drop>(
 }
 
 // The options at the front of a slice as they stand: to the mark, to the end of the slice, or to where no option can be found.
-pub(crate) fn list_as_is<'a, O: ReadsValue<'a> + Drop, B: ByteOrder>(
+pub(crate) fn list_as_is<'a, O: Unread<'a> + Drop, B: ByteOrder>(
     alloc: Global,
     slice: &'a [u8],
 ) -> Result<ListAsIs<'a, O>, AllocError>
-    ensures read { IfOk result (ListsAsIs B.number_of O.kind O.view slice.now) }
+    ensures read { IfOk result (ListsAsIs B.number_of O.kind O.entry slice.now) }
     ensures memory { IfErr result (λ _. OptionsGrow B.number_of O.kind slice.now) }
 {
     let mut options = Vec::new(alloc);

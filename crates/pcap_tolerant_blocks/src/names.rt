@@ -1,18 +1,15 @@
 //! Name resolution as it stands.
 
 ghost use Rattle.std.specs.Prelude.{◌≡◌, ◌≢◌, [], ◌++◌, map, IfOk, IfErr, OnOk};
-ghost use Rattle.pcap_options.specs.NameOption.{name_resolution, name_entry};
 ghost use Rattle.pcap_blocks.specs.NameResolution.{names_of};
 ghost use Rattle.pcap_tolerant_blocks.specs.Flaws.{said_of};
 ghost use Rattle.pcap_tolerant_blocks.specs.NamesAsIs.{NamesText, NamesGrow, RecordsRead, RecordsGrow, flaws_said};
 
-use crate::flaws::{Broken, Flaw};
-use crate::list::{ReadsValue, list_as_is, note};
+use crate::flaws::Flaw;
+use crate::list::{Unread, list_as_is, note};
 use crate::records::{RecordAsIs, record_as_is};
-use crate::values::{custom_bytes_value, custom_string_value, fixed_value, string_value};
 use byteorder::ByteOrder;
 use pcap_blocks::{NameResolutionBlock, NameResolutionOption, Record, UnknownOption};
-use pcap_core::rules::Rule;
 use std::alloc::{AllocError, Global};
 
 /// Names of addresses as they stand, and what is wrong with them.
@@ -125,23 +122,7 @@ fn records_as_is<'a, B: ByteOrder>(
     }
 }
 
-impl<'a> ReadsValue<'a> for NameResolutionOption<'a> {
-    ghost kind = { name_resolution };
-
-    ghost view = { name_entry };
-
-    fn from_value<B: ByteOrder>(code: u16, len: u16, value: &'a [u8]) -> Result<Self, Broken> {
-        Ok(match code {
-            1 => Self::Comment(string_value(value)?),
-            2 => Self::NsDnsName(string_value(value)?),
-            3 => Self::NsDnsIpv4Addr(fixed_value(value, 4, Rule::NameIpv4Length)?),
-            4 => Self::NsDnsIpv6Addr(fixed_value(value, 16, Rule::NameIpv6Length)?),
-            2988 | 19372 => Self::CustomUtf8(custom_string_value::<B>(code, value)?),
-            2989 | 19373 => Self::CustomBinary(custom_bytes_value::<B>(code, value)?),
-            _ => Self::Unknown(UnknownOption::new(code, len, value)),
-        })
-    }
-
+impl<'a> Unread<'a> for NameResolutionOption<'a> {
     fn unread(option: UnknownOption<'a>) -> Self {
         Self::Unknown(option)
     }

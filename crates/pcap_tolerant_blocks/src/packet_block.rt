@@ -2,14 +2,12 @@
 
 ghost use Rattle.std.specs.Prelude.{◌≡◌, None, IfOk, IfErr, IfSome};
 ghost use Rattle.pcap_core.specs.Bytes.{IsBorrowed};
-ghost use Rattle.pcap_options.specs.PacketOption.{packet_kind, packet_entry};
 ghost use Rattle.pcap_tolerant_blocks.specs.Flaws.{alone};
 ghost use Rattle.pcap_tolerant_blocks.specs.PacketBlockAsIs.{PacketBlockText, packet_in, flaws_said, PacketBlockGrows};
 
-use crate::flaws::{Broken, Flaw};
-use crate::list::{ReadsValue, list_as_is};
+use crate::flaws::Flaw;
+use crate::list::{Unread, list_as_is};
 use crate::stored::split_stored;
-use crate::values::{custom_bytes_value, custom_string_value, string_value, u32_value};
 use byteorder::ByteOrder;
 use pcap_blocks::{PacketBlock, PacketOption, UnknownOption};
 use pcap_core::CowBytes;
@@ -80,22 +78,7 @@ impl<'a> PacketBlockAsIs<'a> {
     }
 }
 
-impl<'a> ReadsValue<'a> for PacketOption<'a> {
-    ghost kind = { packet_kind };
-
-    ghost view = { packet_entry };
-
-    fn from_value<B: ByteOrder>(code: u16, len: u16, value: &'a [u8]) -> Result<Self, Broken> {
-        Ok(match code {
-            1 => Self::Comment(string_value(value)?),
-            2 => Self::Flags(u32_value::<B>(value, Rule::PacketFlagsLength)?),
-            3 => Self::Hash(CowBytes::Borrowed(value)),
-            2988 | 19372 => Self::CustomUtf8(custom_string_value::<B>(code, value)?),
-            2989 | 19373 => Self::CustomBinary(custom_bytes_value::<B>(code, value)?),
-            _ => Self::Unknown(UnknownOption::new(code, len, value)),
-        })
-    }
-
+impl<'a> Unread<'a> for PacketOption<'a> {
     fn unread(option: UnknownOption<'a>) -> Self {
         Self::Unknown(option)
     }

@@ -2,14 +2,12 @@
 
 ghost use Rattle.std.specs.Prelude.{◌≡◌, ◌≤◌, length, map, Some, IfOk, IfErr};
 ghost use Rattle.pcap_core.specs.Answer.{Refuses};
-ghost use Rattle.pcap_options.specs.SectionOption.{section_header, section_entry};
 ghost use Rattle.pcap_blocks.specs.SectionHeader.{section_of, magic_order};
 ghost use Rattle.pcap_tolerant_blocks.specs.Flaws.{said_of};
 ghost use Rattle.pcap_tolerant_blocks.specs.SectionAsIs.{AfterMagic, SectionText, NoSection, VersionGrows, SectionGrows};
 
-use crate::flaws::{Broken, Flaw};
-use crate::list::{ReadsValue, list_as_is};
-use crate::values::{custom_bytes_value, custom_string_value, string_value};
+use crate::flaws::Flaw;
+use crate::list::{Unread, list_as_is};
 use byteorder::{BigEndian, ByteOrder, LittleEndian};
 use pcap_blocks::{SectionHeaderBlock, SectionHeaderOption, UnknownOption};
 use pcap_core::fields::{split_u16, split_u32, split_u64};
@@ -79,23 +77,7 @@ fn behind_magic<'a, B: ByteOrder>(
     ))
 }
 
-impl<'a> ReadsValue<'a> for SectionHeaderOption<'a> {
-    ghost kind = { section_header };
-
-    ghost view = { section_entry };
-
-    fn from_value<B: ByteOrder>(code: u16, len: u16, value: &'a [u8]) -> Result<Self, Broken> {
-        Ok(match code {
-            1 => Self::Comment(string_value(value)?),
-            2 => Self::Hardware(string_value(value)?),
-            3 => Self::OS(string_value(value)?),
-            4 => Self::UserApplication(string_value(value)?),
-            2988 | 19372 => Self::CustomUtf8(custom_string_value::<B>(code, value)?),
-            2989 | 19373 => Self::CustomBinary(custom_bytes_value::<B>(code, value)?),
-            _ => Self::Unknown(UnknownOption::new(code, len, value)),
-        })
-    }
-
+impl<'a> Unread<'a> for SectionHeaderOption<'a> {
     fn unread(option: UnknownOption<'a>) -> Self {
         Self::Unknown(option)
     }

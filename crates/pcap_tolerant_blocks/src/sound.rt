@@ -6,7 +6,7 @@ ghost use Rattle.pcap_tolerant_blocks.specs.OptionsAsIs.{flaws_or_none};
 ghost use Rattle.pcap_tolerant_blocks.specs.SoundOptions.{SoundOptions, PutsSome, are_none, kind_of, text_if};
 
 use crate::flaws::Flaw;
-use crate::list::{ReadsValue, option_as_is};
+use crate::list::{Unread, option_as_is};
 use byteorder::{BigEndian, ByteOrder, LittleEndian};
 use pcap_blocks::{
     EnhancedPacketOption, InterfaceDescriptionOption, InterfaceStatisticsOption, PacketOption,
@@ -53,7 +53,7 @@ pub fn put_sound_options(
 }
 
 // Puts those of one kind.
-fn put_in<'a, O: ReadsValue<'a> + Drop>(
+fn put_in<'a, O: Unread<'a> + Drop>(
     order: Endianness,
     slice: &'a [u8],
     out: &mut Vec<u8>,
@@ -85,7 +85,7 @@ fn put_if_sound(
 }
 
 // Puts those of one kind in one order.
-fn put_sound<'a, O: ReadsValue<'a> + Drop, B: ByteOrder>(
+fn put_sound<'a, O: Unread<'a> + Drop, B: ByteOrder>(
     slice: &'a [u8],
     out: &mut Vec<u8>,
 ) -> Result<(), AllocError>

@@ -1,15 +1,11 @@
 //! Interface statistics as they stand.
 
 ghost use Rattle.std.specs.Prelude.{IfOk, IfErr};
-ghost use Rattle.pcap_options.specs.StatisticsOption.{interface_statistics, statistics_entry};
 ghost use Rattle.pcap_tolerant_blocks.specs.StatisticsAsIs.{StatisticsAsIsText, statistics_in, flaws_said, StatisticsGrow};
 
-use crate::flaws::{Broken, Flaw};
-use crate::list::{ReadsValue, list_as_is};
+use crate::flaws::Flaw;
+use crate::list::{Unread, list_as_is};
 use crate::time::split_time;
-use crate::values::{
-    custom_bytes_value, custom_string_value, first_number_value, first_time_value, string_value,
-};
 use byteorder::ByteOrder;
 use pcap_blocks::{InterfaceStatisticsBlock, InterfaceStatisticsOption, UnknownOption};
 use pcap_core::fields::split_u32;
@@ -64,27 +60,7 @@ impl<'a> StatisticsAsIs<'a> {
     }
 }
 
-impl<'a> ReadsValue<'a> for InterfaceStatisticsOption<'a> {
-    ghost kind = { interface_statistics };
-
-    ghost view = { statistics_entry };
-
-    fn from_value<B: ByteOrder>(code: u16, len: u16, value: &'a [u8]) -> Result<Self, Broken> {
-        Ok(match code {
-            1 => Self::Comment(string_value(value)?),
-            2 => Self::IsbStartTime(first_time_value::<B>(value)?),
-            3 => Self::IsbEndTime(first_time_value::<B>(value)?),
-            4 => Self::IsbIfRecv(first_number_value::<B>(value)?),
-            5 => Self::IsbIfDrop(first_number_value::<B>(value)?),
-            6 => Self::IsbFilterAccept(first_number_value::<B>(value)?),
-            7 => Self::IsbOsDrop(first_number_value::<B>(value)?),
-            8 => Self::IsbUsrDeliv(first_number_value::<B>(value)?),
-            2988 | 19372 => Self::CustomUtf8(custom_string_value::<B>(code, value)?),
-            2989 | 19373 => Self::CustomBinary(custom_bytes_value::<B>(code, value)?),
-            _ => Self::Unknown(UnknownOption::new(code, len, value)),
-        })
-    }
-
+impl<'a> Unread<'a> for InterfaceStatisticsOption<'a> {
     fn unread(option: UnknownOption<'a>) -> Self {
         Self::Unknown(option)
     }

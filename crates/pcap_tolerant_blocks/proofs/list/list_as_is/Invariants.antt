@@ -4,7 +4,7 @@ use Rattle.pcap_tolerant_blocks.proofs.Lists.{ReadSoFar}
 use Rattle.pcap_tolerant_blocks.proofs.list.list_as_is.Given as goal
 
 abbrev pub invariant-loop-left : goal.invariant-loop-left
-invariant-loop-left g l = ReadSoFar g.B.ByteOrder.number_of g.O.ReadsValue.kind (map g.O.ReadsValue.view l.options.items) (map said_of l.flaws.items) l.fn.slice l.left
+invariant-loop-left g l = ReadSoFar g.B.ByteOrder.number_of g.O.PcapNgOption.kind (map g.O.HoldsEntry.entry l.options.items) (map said_of l.flaws.items) l.fn.slice l.left
 
 abbrev pub decreases-loop-left : goal.decreases-loop-left
 decreases-loop-left g l = length l.left
