@@ -20,6 +20,29 @@ use pcap_tolerant_blocks::{
 };
 use std::alloc::{AllocError, Global};
 
+// What is read of a body, with what follows it, where the block is of this type; none where it is of another.
+macro_rules! of_type {
+    ($type:expr => $kind:ident, $read:expr) => {{
+        if !matches!($type, BlockType::$kind) {
+            return Ok(None);
+        }
+        let (_rest, body) = $read?;
+        Ok(Some(body))
+    }};
+}
+
+pub(crate) use of_type;
+
+// What a body is as it stands, in this order, and what follows it.
+macro_rules! in_order {
+    ($order:ident $body:ident $alloc:ident $slice:ident) => {
+        match $order {
+            Endianness::Big => $body::from_slice::<BigEndian>($alloc, $slice),
+            Endianness::Little => $body::from_slice::<LittleEndian>($alloc, $slice),
+        }
+    };
+}
+
 /// A block as it stands, and what is wrong with its body, where that is a section's or an interface's.
 #[derive(Debug, Drop)]
 pub struct BlockAsIs<'a> {
@@ -64,12 +87,7 @@ impl<'a> BlockAsIs<'a> {
     pub fn enhanced(&self, alloc: Global) -> Result<Option<EnhancedAsIs<'_>>, AllocError>
         ensures { IfOk result (IsPacketIn (framed_of self.now.block)) }
     {
-        if !matches!(self.block.type_, BlockType::EnhancedPacket) {
-            return Ok(None);
-        }
-        let body = self.block.body.as_slice();
-        let (_rest, packet) = packet_in(self.block.endianness(), alloc, body)?;
-        Ok(Some(packet))
+        of_type!(self.block.type_ => EnhancedPacket, packet_in(self.block.endianness(), alloc, self.block.body.as_slice()))
     }
 
     /// The simple packet that the body is as it stands, with what is wrong with it. None where the block is of another type.
@@ -78,12 +96,7 @@ impl<'a> BlockAsIs<'a> {
     pub fn simple(&self, alloc: Global) -> Result<Option<SimpleAsIs<'_>>, AllocError>
         ensures { IfOk result (IsSimpleIn (framed_of self.now.block)) }
     {
-        if !matches!(self.block.type_, BlockType::SimplePacket) {
-            return Ok(None);
-        }
-        let body = self.block.body.as_slice();
-        let (_rest, packet) = simple_in(self.block.endianness(), alloc, body)?;
-        Ok(Some(packet))
+        of_type!(self.block.type_ => SimplePacket, simple_in(self.block.endianness(), alloc, self.block.body.as_slice()))
     }
 
     /// The obsolete packet that the body is as it stands, with what is wrong with it. None where the block is of another type.
@@ -92,12 +105,7 @@ impl<'a> BlockAsIs<'a> {
     pub fn packet_block(&self, alloc: Global) -> Result<Option<PacketBlockAsIs<'_>>, AllocError>
         ensures { IfOk result (IsPacketBlockIn (framed_of self.now.block)) }
     {
-        if !matches!(self.block.type_, BlockType::Packet) {
-            return Ok(None);
-        }
-        let body = self.block.body.as_slice();
-        let (_rest, packet) = packet_block_in(self.block.endianness(), alloc, body)?;
-        Ok(Some(packet))
+        of_type!(self.block.type_ => Packet, packet_block_in(self.block.endianness(), alloc, self.block.body.as_slice()))
     }
 
     /// The interface statistics that the body is as they stand, with what is wrong with them. None where the block is of another type.
@@ -106,12 +114,7 @@ impl<'a> BlockAsIs<'a> {
     pub fn statistics(&self, alloc: Global) -> Result<Option<StatisticsAsIs<'_>>, AllocError>
         ensures { IfOk result (AreStatisticsIn (framed_of self.now.block)) }
     {
-        if !matches!(self.block.type_, BlockType::InterfaceStatistics) {
-            return Ok(None);
-        }
-        let body = self.block.body.as_slice();
-        let (_rest, statistics) = statistics_in(self.block.endianness(), alloc, body)?;
-        Ok(Some(statistics))
+        of_type!(self.block.type_ => InterfaceStatistics, statistics_in(self.block.endianness(), alloc, self.block.body.as_slice()))
     }
 
     /// The names of addresses that the body is as they stand, with what is wrong with them. None where the block is of another type.
@@ -120,12 +123,7 @@ impl<'a> BlockAsIs<'a> {
     pub fn names(&self, alloc: Global) -> Result<Option<NamesAsIs<'_>>, AllocError>
         ensures { IfOk result (AreNamesIn (framed_of self.now.block)) }
     {
-        if !matches!(self.block.type_, BlockType::NameResolution) {
-            return Ok(None);
-        }
-        let body = self.block.body.as_slice();
-        let (_rest, names) = names_in(self.block.endianness(), alloc, body)?;
-        Ok(Some(names))
+        of_type!(self.block.type_ => NameResolution, names_in(self.block.endianness(), alloc, self.block.body.as_slice()))
     }
 }
 
@@ -137,10 +135,7 @@ pub(crate) fn packet_in<'a>(
 ) -> Result<(&'a [u8], EnhancedAsIs<'a>), AllocError>
     ensures { IfOk result (λ x. EnhancedText (number_in order) (enhanced_in x.1) (flaws_said x.1) slice.now x.0.now) }
 {
-    match order {
-        Endianness::Big => EnhancedAsIs::from_slice::<BigEndian>(alloc, slice),
-        Endianness::Little => EnhancedAsIs::from_slice::<LittleEndian>(alloc, slice),
-    }
+    in_order!(order EnhancedAsIs alloc slice)
 }
 
 // The simple packet that a body is as it stands, in this order, and what follows it.
@@ -151,10 +146,7 @@ pub(crate) fn simple_in<'a>(
 ) -> Result<(&'a [u8], SimpleAsIs<'a>), AllocError>
     ensures { IfOk result (λ x. SimpleAsIsText (number_in order) (simple_of x.1) (simple_flaws x.1) slice.now x.0.now) }
 {
-    match order {
-        Endianness::Big => SimpleAsIs::from_slice::<BigEndian>(alloc, slice),
-        Endianness::Little => SimpleAsIs::from_slice::<LittleEndian>(alloc, slice),
-    }
+    in_order!(order SimpleAsIs alloc slice)
 }
 
 // The obsolete packet that a body is as it stands, in this order, and what follows it.
@@ -165,10 +157,7 @@ pub(crate) fn packet_block_in<'a>(
 ) -> Result<(&'a [u8], PacketBlockAsIs<'a>), AllocError>
     ensures { IfOk result (λ x. PacketBlockText (number_in order) (packet_of_block x.1) (packet_block_flaws x.1) slice.now x.0.now) }
 {
-    match order {
-        Endianness::Big => PacketBlockAsIs::from_slice::<BigEndian>(alloc, slice),
-        Endianness::Little => PacketBlockAsIs::from_slice::<LittleEndian>(alloc, slice),
-    }
+    in_order!(order PacketBlockAsIs alloc slice)
 }
 
 // The interface statistics that a body is as they stand, in this order, and what follows them.
@@ -179,10 +168,7 @@ pub(crate) fn statistics_in<'a>(
 ) -> Result<(&'a [u8], StatisticsAsIs<'a>), AllocError>
     ensures { IfOk result (λ x. StatisticsAsIsText (number_in order) (statistics_of x.1) (statistics_flaws x.1) slice.now x.0.now) }
 {
-    match order {
-        Endianness::Big => StatisticsAsIs::from_slice::<BigEndian>(alloc, slice),
-        Endianness::Little => StatisticsAsIs::from_slice::<LittleEndian>(alloc, slice),
-    }
+    in_order!(order StatisticsAsIs alloc slice)
 }
 
 // The names of addresses that a body is as they stand, in this order, and what follows them.
@@ -193,8 +179,5 @@ pub(crate) fn names_in<'a>(
 ) -> Result<(&'a [u8], NamesAsIs<'a>), AllocError>
     ensures { IfOk result (λ x. NamesText (number_in order) (names_of x.1.names) (names_flaws x.1) slice.now x.0.now) }
 {
-    match order {
-        Endianness::Big => NamesAsIs::from_slice::<BigEndian>(alloc, slice),
-        Endianness::Little => NamesAsIs::from_slice::<LittleEndian>(alloc, slice),
-    }
+    in_order!(order NamesAsIs alloc slice)
 }

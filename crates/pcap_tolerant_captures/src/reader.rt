@@ -8,7 +8,9 @@ ghost use Rattle.pcap_ng.specs.Lent.{header_of, framed_around, HoldsText};
 ghost use Rattle.pcap_tolerant_captures.specs.Blocks.{as_is_format};
 ghost use Rattle.pcap_tolerant_captures.specs.HeldAsIs.{state_in, held_item, LentTells, StaysUnlessTaken};
 
-use crate::block::{BlockAsIs, names_in, packet_block_in, packet_in, simple_in, statistics_in};
+use crate::block::{
+    BlockAsIs, names_in, of_type, packet_block_in, packet_in, simple_in, statistics_in,
+};
 use crate::parser::{OpenedAsIs, PcapNgParserAsIs};
 use crate::stated::BlocksAsIs;
 use pcap_blocks::BlockType;
@@ -190,11 +192,7 @@ impl<T> PcapNgReaderAsIs<T> {
     pub fn enhanced(&self, header: BlockHeader) -> Result<Option<EnhancedAsIs<'_>>, AllocError>
         ensures { IfOk result (IsPacketIn (framed_around header (body_of self.now))) }
     {
-        if !matches!(header.type_, BlockType::EnhancedPacket) {
-            return Ok(None);
-        }
-        let (_rest, packet) = packet_in(header.endianness, self.alloc, self.body())?;
-        Ok(Some(packet))
+        of_type!(header.type_ => EnhancedPacket, packet_in(header.endianness, self.alloc, self.body()))
     }
 
     /// The same of an obsolete packet block.
@@ -204,44 +202,28 @@ impl<T> PcapNgReaderAsIs<T> {
     ) -> Result<Option<PacketBlockAsIs<'_>>, AllocError>
         ensures { IfOk result (IsPacketBlockIn (framed_around header (body_of self.now))) }
     {
-        if !matches!(header.type_, BlockType::Packet) {
-            return Ok(None);
-        }
-        let (_rest, packet) = packet_block_in(header.endianness, self.alloc, self.body())?;
-        Ok(Some(packet))
+        of_type!(header.type_ => Packet, packet_block_in(header.endianness, self.alloc, self.body()))
     }
 
     /// The same of a simple packet.
     pub fn simple(&self, header: BlockHeader) -> Result<Option<SimpleAsIs<'_>>, AllocError>
         ensures { IfOk result (IsSimpleIn (framed_around header (body_of self.now))) }
     {
-        if !matches!(header.type_, BlockType::SimplePacket) {
-            return Ok(None);
-        }
-        let (_rest, packet) = simple_in(header.endianness, self.alloc, self.body())?;
-        Ok(Some(packet))
+        of_type!(header.type_ => SimplePacket, simple_in(header.endianness, self.alloc, self.body()))
     }
 
     /// The same of interface statistics.
     pub fn statistics(&self, header: BlockHeader) -> Result<Option<StatisticsAsIs<'_>>, AllocError>
         ensures { IfOk result (AreStatisticsIn (framed_around header (body_of self.now))) }
     {
-        if !matches!(header.type_, BlockType::InterfaceStatistics) {
-            return Ok(None);
-        }
-        let (_rest, statistics) = statistics_in(header.endianness, self.alloc, self.body())?;
-        Ok(Some(statistics))
+        of_type!(header.type_ => InterfaceStatistics, statistics_in(header.endianness, self.alloc, self.body()))
     }
 
     /// The same of names of addresses.
     pub fn names(&self, header: BlockHeader) -> Result<Option<NamesAsIs<'_>>, AllocError>
         ensures { IfOk result (AreNamesIn (framed_around header (body_of self.now))) }
     {
-        if !matches!(header.type_, BlockType::NameResolution) {
-            return Ok(None);
-        }
-        let (_rest, names) = names_in(header.endianness, self.alloc, self.body())?;
-        Ok(Some(names))
+        of_type!(header.type_ => NameResolution, names_in(header.endianness, self.alloc, self.body()))
     }
 
     /// The parser behind the blocks so far, which has the section in force and its interfaces. None before the first section header.
