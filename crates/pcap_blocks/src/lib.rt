@@ -40,5 +40,6 @@ pub use pcap_times::{Clock, TimeUnit, Timestamp};
 pub use section_header::SectionHeaderBlock;
 pub use simple_packet::SimplePacketBlock;
 pub use systemd_journal_export::SystemdJournalExportBlock;
+pub use time::split_time;
 pub use unknown_block::UnknownBlock;
 pub use views::{DecryptionSecrets, PacketVerdict};

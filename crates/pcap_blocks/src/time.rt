@@ -6,8 +6,8 @@ ghost use Rattle.pcap_blocks.specs.Time.{TimeText};
 use byteorder::ByteOrder;
 use pcap_core::fields::split_u32;
 
-// The time in the first eight bytes, its high half first, and the bytes after them.
-pub(crate) fn split_time<B: ByteOrder>(bytes: &[u8]) -> (u64, &[u8])
+/// The time in the first eight bytes, its high half first, and the bytes after them.
+pub fn split_time<B: ByteOrder>(bytes: &[u8]) -> (u64, &[u8])
     requires { 8 ≤ length bytes.now }
     ensures time { TimeText B.number_of result.0 bytes.now result.1.now }
     ensures rest { length result.1.now + 8 ≡ length bytes.now }

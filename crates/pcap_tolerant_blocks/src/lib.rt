@@ -15,7 +15,6 @@ mod simple;
 mod sound;
 mod statistics;
 mod stored;
-mod time;
 
 pub use enhanced::EnhancedAsIs;
 pub use flaws::{Broken, Flaw};

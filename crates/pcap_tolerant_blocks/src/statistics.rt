@@ -5,9 +5,8 @@ ghost use Rattle.pcap_tolerant_blocks.specs.StatisticsAsIs.{StatisticsAsIsText, 
 
 use crate::flaws::Flaw;
 use crate::list::{Unread, list_as_is};
-use crate::time::split_time;
 use byteorder::ByteOrder;
-use pcap_blocks::{InterfaceStatisticsBlock, InterfaceStatisticsOption, UnknownOption};
+use pcap_blocks::{InterfaceStatisticsBlock, InterfaceStatisticsOption, UnknownOption, split_time};
 use pcap_core::fields::split_u32;
 use pcap_core::rules::Rule;
 use std::alloc::{AllocError, Global};

@@ -3,8 +3,8 @@
 ghost use Rattle.std.specs.Prelude.{◌≤◌, length, MatchOption};
 ghost use Rattle.pcap_tolerant_blocks.specs.StoredAsIs.{NoBytes, HasBytes};
 
-use crate::time::split_time;
 use byteorder::ByteOrder;
+use pcap_blocks::split_time;
 use pcap_core::fields::{split_padded, split_u32};
 
 // A packet without its interface and its options.
