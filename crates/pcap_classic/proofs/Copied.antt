@@ -1,5 +1,5 @@
 -- Packets that are copied, one after another.
-use Rattle.std.proofs.Common.{◌≡◌, ◌≤◌, ℕ, List, [], ◌∷◌, ◌++◌, refl, sym, ◌∙◌, subst, arith, true, Some, None, inl, inr}
+use Rattle.std.proofs.Common.{◌≡◌, ℕ, List, [], ◌∷◌, ◌++◌, refl, sym, ◌∙◌, subst, true, Some, None, inl, inr}
 use Rattle.std.specs.Prelude.{Option, IfSome}
 use Rattle.std.specs.List.{flat_map}
 use Rattle.std.specs.Io.KnownBytes.{Appends}
@@ -48,17 +48,6 @@ copies_run under before behind now out_before out_behind out_now header out most
 pub not_begun : (under : Under) (before now out_before out_now : Option (List ℕ)) (most : ℕ) (copied : Copied) → Copies ⊥ under before now out_before out_now copied → CopyRun under before now out_before out_now most copied
 not_begun under before now out_before out_now most copied why =
     elim why [ inl given ↦ inl given | inr read ↦ elim read [ inl refused ↦ inr (inl refused) | inr went ↦ elim went [ inl tear ↦ inr (inr (inl tear)) | inr none ↦ absurd none ] ] ]
-
--- a copy went no further than it was told
-pub run_within : (under : Under) (before now out_before out_now : Option (List ℕ)) (most : ℕ) (copied : Copied) → CopyRun under before now out_before out_now most copied → copied.packets ≤ most
-run_within under before now out_before out_now most copied run =
-    elim run [
-      | inl given ↦ omega (arith, given.none)
-      | inr read ↦ elim read [
-        | inl refused ↦ omega (arith, refused.none)
-        | inr went ↦ elim went [ inl tear ↦ omega (arith, tear.none) | inr them ↦ them.packets.within ]
-      ]
-    ]
 
 -- the packet that a write tore is the next one of the front
 tore_next : (text : Captured → List ℕ) (header : PcapHeader) (more : List Captured) (left rest : List ℕ) (now mid out_now : Option (List ℕ)) (most : ℕ) (copied : Copied)

@@ -8,6 +8,8 @@ use Rattle.pcap_core.specs.declared.rules.Rule.TheVariants.{CaptureMagic}
 use Rattle.pcap_classic.specs.declared.run.copy.Copied.{Copied}
 use Rattle.pcap_classic.specs.declared.run.copy.Under.{Under}
 use Rattle.pcap_classic.specs.declared.run.copy.Under.TheVariants.{Same, Header, Order}
+use Rattle.pcap_classic.specs.declared.run.copy.PacketsAhead.{PacketsAhead}
+use Rattle.pcap_classic.specs.declared.run.copy.UnderHeader.{UnderHeader}
 use Rattle.pcap_items.specs.declared.stream.copying.Tally.{Tally}
 use Rattle.pcap_core.specs.Answer.{Verdict, whole}
 use Rattle.pcap_items.specs.Copying as core
@@ -117,9 +119,9 @@ pub record OpensCopy (under : Under) (before now out_before out_now : Option (Li
   pub magic_out : IsTrue (is_magic out.magic_number)
   pub new : NothingCopied tally
 
--- The beginning of a copy: its headers, or why it ends there.
-abbrev pub BeginsCopy : Under → Option (List ℕ) → Option (List ℕ) → Option (List ℕ) → Option (List ℕ) → Tally → Result (PcapHeader × PcapHeader) PcapError → Type 0
-BeginsCopy under before now out_before out_now tally (Ok x) = OpensCopy under before now out_before out_now x.0 x.1 tally
+-- The beginning of a copy: what stands ahead of it, or why it ends there.
+abbrev pub BeginsCopy : Under → Option (List ℕ) → Option (List ℕ) → Option (List ℕ) → Option (List ℕ) → Tally → Result (PacketsAhead UnderHeader) PcapError → Type 0
+BeginsCopy under before now out_before out_now tally (Ok ahead) = OpensCopy under before now out_before out_now ahead.header ahead.puts.out tally
 BeginsCopy under before now out_before out_now tally (Err e) = Copies ⊥ under before now out_before out_now (copied_of tally (Some e))
 
 -- What holds whether or not a stream tells its bytes.

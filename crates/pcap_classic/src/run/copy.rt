@@ -109,35 +109,21 @@ pub fn copy_pcap<R: Read, W: Write>(
     ensures run { CopyRun under (R.remaining reader.old) (R.remaining reader.new) (W.contents writer.old) (W.contents writer.new) most result }
     ensures front { IfSome (R.remaining reader.old) (λ bytes. CopyFront under bytes (R.remaining reader.new) (W.contents writer.old) (W.contents writer.new) most result) }
 {
-    let mut tally = Tally::none();
-    let fault = copy_under(alloc, reader, writer, under, most, &mut tally).err();
-    end_copy(&tally, fault)
+    let tally = &mut Tally::none();
+    let result = match begin_copy(reader, writer, under, tally) {
+        Ok(packets) => packets.copy(alloc, reader, writer, most, tally),
+        Err(e) => Err(e),
+    };
+    end_copy(tally, result.err())
 }
 
-// Copies the header and the packets, and counts these.
-fn copy_under<R: Read, W: Write>(
-    alloc: Global,
-    reader: &mut R,
-    writer: &mut W,
-    under: Under,
-    most: u64,
-    tally: &mut Tally,
-) -> ResultParsing<()>
-    requires { NothingCopied tally.old }
-    ensures { CopyRun under (R.remaining reader.old) (R.remaining reader.new) (W.contents writer.old) (W.contents writer.new) most (copied_of tally.new (result_err result)) }
-{
-    let (header, out) = begin_copy(reader, writer, under, tally)?;
-    let puts = UnderHeader { out };
-    PacketsAhead { header, puts }.copy(alloc, reader, writer, most, tally)
-}
-
-// Copies the header: the one that is read, and the one that goes out.
+// Copies the header, and gives the packets behind it.
 pub(crate) fn begin_copy<R: Read, W: Write>(
     reader: &mut R,
     writer: &mut W,
     under: Under,
     tally: &mut Tally,
-) -> ResultParsing<(PcapHeader, PcapHeader)>
+) -> ResultParsing<PacketsAhead<UnderHeader>>
     requires { NothingCopied tally.old }
     ensures { BeginsCopy under (R.remaining reader.old) (R.remaining reader.new) (W.contents writer.old) (W.contents writer.new) tally.new result }
 {
@@ -147,7 +133,8 @@ pub(crate) fn begin_copy<R: Read, W: Write>(
     let header = read_header(reader, &mut tally.read_failed)?;
     let out = under.header(header);
     put_header(writer, &mut tally.write_failed, &out)?;
-    Ok((header, out))
+    let puts = UnderHeader { out };
+    Ok(PacketsAhead { header, puts })
 }
 
 /// What writes the packets that bytes hold.
