@@ -1,12 +1,9 @@
 //! Copies of captures of blocks, out of a reader's own buffer.
 
 ghost use Rattle.std.specs.Prelude.{◌≤◌};
-ghost use Rattle.std.specs.Result.{result_err};
-ghost use Rattle.pcap_items.specs.Copying.{NothingCopied};
-ghost use Rattle.pcap_ng.specs.Copies.{copied_of, CopyNgRun};
+ghost use Rattle.pcap_ng.specs.Copies.{CopyNgRun};
 
 use crate::pcapng::copying::{Blocks, NgCopied, copy_first};
-use pcap_core::ResultParsing;
 use pcap_items::stream::{Held, Tally, copy_buffers};
 use std::alloc::Global;
 use std::io::{BufRead, Write};
@@ -26,32 +23,11 @@ pub fn copy_pcapng_buffered<R: BufRead, W: Write>(
     ensures most { result.blocks ≤ most }
     ensures run { CopyNgRun (R.remaining reader.old) (R.remaining reader.new) (W.contents writer.old) (W.contents writer.new) most result }
 {
-    let mut tally = Tally::none();
-    let fault = copy_all_shown(alloc, reader, writer, most, &mut tally).err();
-    NgCopied::of(&tally, fault)
-}
-
-// Copies the first block and those after it, and counts these.
-fn copy_all_shown<R: BufRead, W: Write>(
-    alloc: Global,
-    reader: &mut R,
-    writer: &mut W,
-    most: u64,
-    tally: &mut Tally,
-) -> ResultParsing<()>
-    requires { NothingCopied tally.old }
-    ensures { CopyNgRun (R.remaining reader.old) (R.remaining reader.new) (W.contents writer.old) (W.contents writer.new) most (copied_of tally.new (result_err result)) }
-{
-    let mut held = Held::new(alloc);
-    let mut in_force = copy_first(alloc, reader, writer, tally, &mut held)?;
-    copy_buffers(
-        alloc,
-        &Blocks,
-        &mut in_force,
-        reader,
-        writer,
-        most,
-        tally,
-        &mut held,
-    )
+    let tally = &mut Tally::none();
+    let held = &mut Held::new(alloc);
+    let result = match copy_first(alloc, reader, writer, tally, held) {
+        Ok(mut now) => copy_buffers(alloc, &Blocks, &mut now, reader, writer, most, tally, held),
+        Err(e) => Err(e),
+    };
+    NgCopied::of(tally, result.err())
 }

@@ -1,7 +1,6 @@
 //! Copies of captures of blocks, from a reader to a writer.
 
 ghost use Rattle.std.specs.Prelude.{◌≡◌, ◌≤◌, [], OnOk};
-ghost use Rattle.std.specs.Result.{result_err};
 ghost use Rattle.pcap_items.specs.Copying.{NothingCopied};
 ghost use Rattle.pcap_items.specs.Held.{held_bytes};
 ghost use Rattle.pcap_items.specs.Filling.{Stated};
@@ -63,34 +62,13 @@ pub fn copy_pcapng<R: Read, W: Write>(
     ensures most { result.blocks ≤ most }
     ensures run { CopyNgRun (R.remaining reader.old) (R.remaining reader.new) (W.contents writer.old) (W.contents writer.new) most result }
 {
-    let mut tally = Tally::none();
-    let fault = copy_all(alloc, reader, writer, most, &mut tally).err();
-    NgCopied::of(&tally, fault)
-}
-
-// Copies the first block and those after it, and counts these.
-fn copy_all<R: Read, W: Write>(
-    alloc: Global,
-    reader: &mut R,
-    writer: &mut W,
-    most: u64,
-    tally: &mut Tally,
-) -> ResultParsing<()>
-    requires { NothingCopied tally.old }
-    ensures { CopyNgRun (R.remaining reader.old) (R.remaining reader.new) (W.contents writer.old) (W.contents writer.new) most (copied_of tally.new (result_err result)) }
-{
-    let mut held = Held::new(alloc);
-    let mut in_force = copy_first(alloc, reader, writer, tally, &mut held)?;
-    copy_items(
-        alloc,
-        &Blocks,
-        &mut in_force,
-        reader,
-        writer,
-        most,
-        tally,
-        &mut held,
-    )
+    let tally = &mut Tally::none();
+    let held = &mut Held::new(alloc);
+    let result = match copy_first(alloc, reader, writer, tally, held) {
+        Ok(mut now) => copy_items(alloc, &Blocks, &mut now, reader, writer, most, tally, held),
+        Err(e) => Err(e),
+    };
+    NgCopied::of(tally, result.err())
 }
 
 // Copies the first block.
