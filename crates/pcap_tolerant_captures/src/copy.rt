@@ -102,19 +102,11 @@ pub fn copy_pcapng_as_is<R: Read, W: Write>(
 ) -> NgCopiedAsIs
     ensures { CopiesAsIs (R.remaining reader.old) (R.remaining reader.new) (W.contents writer.old) (W.contents writer.new) most result }
 {
-    let mut tally = Tally::none();
-    let fault = copy_items(
-        alloc,
-        &AsTheyCame { items: Blocks },
-        &mut None,
-        reader,
-        writer,
-        most,
-        &mut tally,
-        &mut Held::new(alloc),
-    )
-    .err();
-    copied(&tally, fault)
+    let tally = &mut Tally::none();
+    let held = &mut Held::new(alloc);
+    let blocks = AsTheyCame { items: Blocks };
+    let result = copy_items(alloc, &blocks, &mut None, reader, writer, most, tally, held);
+    copied(tally, result.err())
 }
 
 /// Copies a PcapNg capture as `copy_pcapng_as_is` does, from a reader that shows its buffer: blocks that lie whole in it are written
@@ -131,19 +123,11 @@ pub fn copy_pcapng_as_is_buffered<R: BufRead, W: Write>(
 ) -> NgCopiedAsIs
     ensures { CopiesAsIs (R.remaining reader.old) (R.remaining reader.new) (W.contents writer.old) (W.contents writer.new) most result }
 {
-    let mut tally = Tally::none();
-    let fault = copy_buffers(
-        alloc,
-        &AsTheyCame { items: Blocks },
-        &mut None,
-        reader,
-        writer,
-        most,
-        &mut tally,
-        &mut Held::new(alloc),
-    )
-    .err();
-    copied(&tally, fault)
+    let tally = &mut Tally::none();
+    let held = &mut Held::new(alloc);
+    let blocks = AsTheyCame { items: Blocks };
+    let result = copy_buffers(alloc, &blocks, &mut None, reader, writer, most, tally, held);
+    copied(tally, result.err())
 }
 
 // A copy that came so far, and ended with this fault, or none.

@@ -1,11 +1,11 @@
 use Rattle.pcap_tolerant_captures.proofs.Format.{as_is_lawful}
 use Rattle.pcap_tolerant_captures.proofs.copy.copy_pcapng_as_is_buffered.Goals as goal
 
-pub copy_buffers-requires-clause-lawful : goal.copy_buffers-requires-clause-lawful
-copy_buffers-requires-clause-lawful g c = as_is_lawful
+pub copy_buffers-result-requires-clause-lawful : goal.copy_buffers-result-requires-clause-lawful
+copy_buffers-result-requires-clause-lawful g c = as_is_lawful
 
-pub copy_buffers-requires-clause-stands : goal.copy_buffers-requires-clause-stands
-copy_buffers-requires-clause-stands g c = as_is_lawful
+pub copy_buffers-result-requires-clause-stands : goal.copy_buffers-result-requires-clause-stands
+copy_buffers-result-requires-clause-stands g c = as_is_lawful
 
 pub returns : goal.returns
-returns g c = rw (c.copied.ensures, c.err-fault.ensures.value) c.copy_buffers.ensures
+returns g c = rw (c.copied.ensures, c.err.ensures.value) c.copy_buffers-result.ensures
