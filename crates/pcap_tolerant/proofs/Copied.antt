@@ -1,5 +1,5 @@
 -- Captures of packets as they stand that are copied.
-use Rattle.std.proofs.Common.{◌≡◌, ◌≤◌, ℕ, List, [], length, subst, arith, inl, inr, refl, Ok, Some, None, Bool}
+use Rattle.std.proofs.Common.{◌≡◌, ℕ, List, [], length, subst, arith, refl, Ok, Some, None, Bool}
 use Rattle.std.specs.Prelude.{Option}
 use Rattle.std.specs.Option.{is_some}
 use Rattle.std.proofs.lemmas.List.{nil_from_length}
@@ -7,12 +7,10 @@ use Rattle.pcap_items.specs.AsTheyCame.{HoldsNext}
 use Rattle.pcap_items.specs.Filling.{FillsHeaded}
 use Rattle.pcap_classic.specs.declared.pcap.header.PcapHeader.{PcapHeader}
 use Rattle.pcap_classic.specs.declared.pcap.parser.PcapParser.{PcapParser}
-use Rattle.pcap_classic.specs.declared.run.copy.Copied.{Copied}
 use Rattle.pcap_classic.specs.HeaderText.{HeaderText}
 use Rattle.pcap_classic.specs.Parser.{header_of}
 use Rattle.pcap_classic.proofs.Texts.{header_length}
 use Rattle.pcap_tolerant.specs.declared.as_is.HeadAsIs.{HeadAsIs}
-use Rattle.pcap_tolerant.specs.Copies.{CopyRunAsIs}
 use Rattle.pcap_tolerant.specs.AsIs.{as_is_format}
 use Rattle.pcap_tolerant.specs.KnownHeads.{KnowsAsIs, held_as_is}
 use Rattle.pcap_tolerant.specs.Run.{as_is_under}
@@ -23,10 +21,6 @@ pub held_header : (parser : PcapParser) (bytes rest : List ℕ) → length bytes
 held_header parser bytes rest long text =
     let none : rest ≡ [] = nil_from_length rest (omega (arith, long, header_length (header_of parser) bytes rest text)) in
     subst (λ (l : List ℕ). HeaderText (header_of parser) bytes l) none text
-
--- a copy went no further than it was told
-pub run_within : (limit : ℕ) (before now out out_now : Option (List ℕ)) (most : ℕ) (copied : Copied) → CopyRunAsIs limit before now out out_now most copied → copied.packets ≤ most
-run_within limit before now out out_now most copied run = elim run [ inl failed ↦ omega (arith, failed.0) | inr copy ↦ copy.packets.within ]
 
 -- what was filled with is the next packet, or there is none
 pub packet_held : (limit : ℕ) (header : PcapHeader) (before after : Option (List ℕ)) (held : List ℕ) (failed : Bool) (found : Option HeadAsIs)

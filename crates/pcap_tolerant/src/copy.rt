@@ -1,9 +1,7 @@
 //! Copies of captures whose packets may break rules, from a reader to a writer.
 
 ghost use Rattle.std.specs.Prelude.{◌≤◌};
-ghost use Rattle.std.specs.Result.{result_err};
 ghost use Rattle.pcap_items.specs.Copying.{NothingCopied};
-ghost use Rattle.pcap_classic.specs.Copies.{copied_of};
 ghost use Rattle.pcap_tolerant.specs.Copies.{BeginsAsIs, CopyRunAsIs};
 
 use crate::as_is::next_packet_as_is;
@@ -75,9 +73,18 @@ pub fn copy_pcap_as_is<R: Read, W: Write>(
     ensures most { result.packets ≤ most }
     ensures run { CopyRunAsIs limit (R.remaining reader.old) (R.remaining reader.new) (W.contents writer.old) (W.contents writer.new) most result }
 {
-    let mut tally = Tally::none();
-    let fault = copy_all(alloc, reader, writer, limit, most, &mut tally).err();
-    end_copy(&tally, fault)
+    let tally = &mut Tally::none();
+    let held = &mut Held::new(alloc);
+    let result = match copy_header(reader, writer, tally) {
+        Ok(parser) => {
+            let parser = &parser;
+            let items = PacketsAsIs { parser, limit };
+            let packets = AsTheyCame { items };
+            copy_items(alloc, &packets, &mut (), reader, writer, most, tally, held)
+        }
+        Err(e) => Err(e),
+    };
+    end_copy(tally, result.err())
 }
 
 /// Copies a capture as `copy_pcap_as_is` does, from a reader that shows its buffer: packets that lie whole in it are written from
@@ -95,67 +102,18 @@ pub fn copy_pcap_as_is_buffered<R: BufRead, W: Write>(
     ensures most { result.packets ≤ most }
     ensures run { CopyRunAsIs limit (R.remaining reader.old) (R.remaining reader.new) (W.contents writer.old) (W.contents writer.new) most result }
 {
-    let mut tally = Tally::none();
-    let fault = copy_all_shown(alloc, reader, writer, limit, most, &mut tally).err();
-    end_copy(&tally, fault)
-}
-
-// Copies the header and the packets, and counts these.
-fn copy_all<R: Read, W: Write>(
-    alloc: Global,
-    reader: &mut R,
-    writer: &mut W,
-    limit: u32,
-    most: u64,
-    tally: &mut Tally,
-) -> ResultParsing<()>
-    requires { NothingCopied tally.old }
-    ensures { CopyRunAsIs limit (R.remaining reader.old) (R.remaining reader.new) (W.contents writer.old) (W.contents writer.new) most (copied_of tally.new (result_err result)) }
-{
-    let parser = copy_header(reader, writer, tally)?;
-    let items = PacketsAsIs {
-        parser: &parser,
-        limit,
+    let tally = &mut Tally::none();
+    let held = &mut Held::new(alloc);
+    let result = match copy_header(reader, writer, tally) {
+        Ok(parser) => {
+            let parser = &parser;
+            let items = PacketsAsIs { parser, limit };
+            let packets = AsTheyCame { items };
+            copy_buffers(alloc, &packets, &mut (), reader, writer, most, tally, held)
+        }
+        Err(e) => Err(e),
     };
-    copy_items(
-        alloc,
-        &AsTheyCame { items },
-        &mut (),
-        reader,
-        writer,
-        most,
-        tally,
-        &mut Held::new(alloc),
-    )
-}
-
-// The same out of the reader's own buffer.
-fn copy_all_shown<R: BufRead, W: Write>(
-    alloc: Global,
-    reader: &mut R,
-    writer: &mut W,
-    limit: u32,
-    most: u64,
-    tally: &mut Tally,
-) -> ResultParsing<()>
-    requires { NothingCopied tally.old }
-    ensures { CopyRunAsIs limit (R.remaining reader.old) (R.remaining reader.new) (W.contents writer.old) (W.contents writer.new) most (copied_of tally.new (result_err result)) }
-{
-    let parser = copy_header(reader, writer, tally)?;
-    let items = PacketsAsIs {
-        parser: &parser,
-        limit,
-    };
-    copy_buffers(
-        alloc,
-        &AsTheyCame { items },
-        &mut (),
-        reader,
-        writer,
-        most,
-        tally,
-        &mut Held::new(alloc),
-    )
+    end_copy(tally, result.err())
 }
 
 // Copies the header, and gives the parser of the packets behind it.
