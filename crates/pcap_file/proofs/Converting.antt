@@ -1,5 +1,5 @@
 -- Packets that are converted, one after another.
-use Rattle.std.proofs.Common.{◌≡◌, ◌≤◌, ℕ, List, [], sym, subst, arith, length, map, inl, inr}
+use Rattle.std.proofs.Common.{◌≡◌, ◌≤◌, ℕ, List, [], sym, subst, arith, length, map}
 use Rattle.std.specs.Prelude.{Any, Option, Result}
 use Rattle.std.specs.Io.KnownBytes.{Appends}
 use Rattle.std.proofs.KnownBytes.{Appends-trans}
@@ -13,7 +13,6 @@ use Rattle.pcap_core.specs.Answer.{whole}
 use Rattle.pcap_core.specs.Codec.{number_bytes}
 use Rattle.pcap_items.specs.Writing.{WritesAll}
 use Rattle.pcap_classic.specs.declared.pcap.header.PcapHeader.{PcapHeader}
-use Rattle.pcap_classic.specs.declared.run.copy.Copied.{Copied}
 use Rattle.pcap_classic.specs.Packets.{packet_format, reader_format}
 use Rattle.pcap_classic.specs.PacketText.{Captured, packet_limit}
 use Rattle.pcap_classic.proofs.Packets.{reader_whole}
@@ -26,7 +25,7 @@ use Rattle.pcap_written.specs.Plain.{plain_packet}
 use Rattle.pcap_written.specs.Puts.{IsShownAs, RefusesPut}
 use Rattle.pcap_written.specs.Writing.{FlawIn}
 use Rattle.pcap_file.specs.Converted.{converted, converted_text, little_text, little_texts, opening_blocks, packet_block}
-use Rattle.pcap_file.specs.Converts.{ConvertRun, RefusesBlocks}
+use Rattle.pcap_file.specs.Converts.{RefusesBlocks}
 
 -- what stands against one of some blocks
 pub block_refused : (blocks : List Body) (block : Body) → ((flaw : Unwritable) → FlawIn Little block flaw → Any (λ b. FlawIn Little b flaw) blocks)
@@ -61,14 +60,3 @@ blocks_out header packets a b c opening out =
     let blocks = map packet_block packets in
     let went = subst (λ (t : List ℕ). Appends b c t) (sym (flat_map-map little_text packet_block packets)) out in
     subst (λ (t : List ℕ). Appends a c t) (sym (flat_map-append little_text opens blocks)) (Appends-trans a b c (little_texts opens) (little_texts blocks) opening went)
-
--- a conversion goes no further than it is told
-pub converts_within : (before now out_before out_now : Option (List ℕ)) (most : ℕ) (copied : Copied) → ConvertRun before now out_before out_now most copied → copied.packets ≤ most
-converts_within before now out_before out_now most copied run =
-    elim run [
-      | inl ended ↦ elim ended [
-        | inl header ↦ omega (arith, header.none)
-        | inr opened ↦ elim opened [ inl refused ↦ omega (arith, refused.none) | inr tear ↦ omega (arith, tear.none) ]
-      ]
-      | inr them ↦ them.packets.within
-    ]

@@ -12,6 +12,7 @@ use Rattle.pcap_items.specs.Reading.{Takes}
 use Rattle.pcap_items.specs.Writing.{AppendsPart}
 use Rattle.pcap_classic.specs.declared.pcap.header.PcapHeader.{PcapHeader}
 use Rattle.pcap_classic.specs.declared.run.copy.Copied.{Copied}
+use Rattle.pcap_classic.specs.declared.run.copy.PacketsAhead.{PacketsAhead}
 use Rattle.pcap_classic.specs.declared.run.copy.Under.TheVariants.{Same}
 use Rattle.pcap_classic.specs.Copies.{CopiesBehind, RefusesHeader, copied_of}
 use Rattle.pcap_classic.specs.HeaderText.{HeaderSays}
@@ -19,6 +20,7 @@ use Rattle.pcap_written.specs.declared.unwritable.Unwritable.{Unwritable}
 use Rattle.pcap_blocks.specs.ParsedBlock.{Body}
 use Rattle.pcap_written.specs.Flaws.{flaw_message}
 use Rattle.pcap_written.specs.Writing.{IsFitIn, FlawIn}
+use Rattle.pcap_file.specs.declared.run.converting.PacketBlocks.{PacketBlocks}
 use Rattle.pcap_file.specs.Converted.{converted_text, little_texts, opening_blocks}
 
 -- why the blocks before the packets were not written: memory ran out, or something stands against one of them
@@ -79,7 +81,7 @@ abbrev pub ConvertRun : Option (List ℕ) → Option (List ℕ) → Option (List
 ConvertRun before now out_before out_now most copied =
     EndsBefore before now out_before out_now copied ⊎ ConvertsPackets before now out_before out_now most copied
 
--- The beginning of a conversion: the header, behind which its blocks went out, or why it ends there.
-abbrev pub BeginsConversion : Option (List ℕ) → Option (List ℕ) → Option (List ℕ) → Option (List ℕ) → Tally → Result PcapHeader PcapError → Type 0
-BeginsConversion before now out_before out_now tally (Ok header) = OpensConversion before now out_before out_now header × NothingCopied tally
+-- The beginning of a conversion: its blocks went out, and this stands ahead of it, or why it ends there.
+abbrev pub BeginsConversion : Option (List ℕ) → Option (List ℕ) → Option (List ℕ) → Option (List ℕ) → Tally → Result (PacketsAhead PacketBlocks) PcapError → Type 0
+BeginsConversion before now out_before out_now tally (Ok ahead) = OpensConversion before now out_before out_now ahead.header × NothingCopied tally
 BeginsConversion before now out_before out_now tally (Err e) = EndsBefore before now out_before out_now (copied_of tally (Some e))

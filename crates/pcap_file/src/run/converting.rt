@@ -1,9 +1,7 @@
 //! Classic captures that become PcapNg captures, from a reader to a writer.
 
 ghost use Rattle.std.specs.Prelude.{◌≤◌};
-ghost use Rattle.std.specs.Result.{result_err};
 ghost use Rattle.pcap_items.specs.Copying.{NothingCopied};
-ghost use Rattle.pcap_classic.specs.Copies.{copied_of};
 ghost use Rattle.pcap_file.specs.Converted.{opening_blocks};
 ghost use Rattle.pcap_file.specs.Converts.{BeginsConversion, ConvertRun, MakesText};
 
@@ -36,42 +34,29 @@ pub fn convert_to_pcapng<R: Read, W: Write>(
     ensures most { result.packets ≤ most }
     ensures run { ConvertRun (R.remaining reader.old) (R.remaining reader.new) (W.contents writer.old) (W.contents writer.new) most result }
 {
-    let mut tally = Tally::none();
-    let fault = convert(alloc, reader, writer, most, &mut tally).err();
-    end_copy(&tally, fault)
+    let tally = &mut Tally::none();
+    let result = match begin_conversion(alloc, reader, writer, tally) {
+        Ok(packets) => packets.copy(alloc, reader, writer, most, tally),
+        Err(e) => Err(e),
+    };
+    end_copy(tally, result.err())
 }
 
-// Converts the header and the packets, and counts these.
-fn convert<R: Read, W: Write>(
-    alloc: Global,
-    reader: &mut R,
-    writer: &mut W,
-    most: u64,
-    tally: &mut Tally,
-) -> ResultParsing<()>
-    requires { NothingCopied tally.old }
-    ensures { ConvertRun (R.remaining reader.old) (R.remaining reader.new)
-        (W.contents writer.old) (W.contents writer.new) most (copied_of tally.new (result_err result)) }
-{
-    let header = begin_conversion(alloc, reader, writer, tally)?;
-    let puts = PacketBlocks;
-    PacketsAhead { header, puts }.copy(alloc, reader, writer, most, tally)
-}
-
-// Reads the header, and writes the blocks before the packets.
+// Reads the header, writes the blocks before the packets, and gives these.
 fn begin_conversion<R: Read, W: Write>(
     alloc: Global,
     reader: &mut R,
     writer: &mut W,
     tally: &mut Tally,
-) -> ResultParsing<PcapHeader>
+) -> ResultParsing<PacketsAhead<PacketBlocks>>
     requires { NothingCopied tally.old }
     ensures { BeginsConversion (R.remaining reader.old) (R.remaining reader.new) (W.contents writer.old) (W.contents writer.new) tally.new result }
 {
     let header = read_header(reader, &mut tally.read_failed)?;
     let text = opening_text(alloc, &header)?;
     put(writer, &mut tally.write_failed, text.as_slice())?;
-    Ok(header)
+    let puts = PacketBlocks;
+    Ok(PacketsAhead { header, puts })
 }
 
 // The text of the section and of the interface.
