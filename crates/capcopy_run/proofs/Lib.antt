@@ -1,4 +1,5 @@
 mod BlockLists
+mod OfBlocks
 mod Lines
 pub mod Listing
 pub mod PacketLists

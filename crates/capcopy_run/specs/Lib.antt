@@ -5,6 +5,7 @@ pub mod Digits
 pub mod Exits
 pub mod Lines
 pub mod Listing
+pub mod OfBlocks
 pub mod PacketLines
 pub mod Runs
 pub mod Skipping

@@ -1,6 +1,6 @@
 //! The word `blocks`: a line for the first section of a PcapNg capture, and one for each of its blocks.
 
-ghost use Rattle.std.specs.Prelude.{⊤, ◌≡◌, ◌≤◌, ◌+◌, ◌++◌, [], drop, IfSome, IfErr, OnOk, IsSome, MatchResult, string_bytes};
+ghost use Rattle.std.specs.Prelude.{◌≡◌, ◌≤◌, ◌+◌, ◌++◌, [], drop, IfSome, IfErr, OnOk, IsSome, MatchResult, string_bytes};
 ghost use Rattle.pcap_blocks.specs.SectionHeader.{section_of, magic_order};
 ghost use Rattle.pcap_ng.specs.Blocks.{Item, block_format};
 ghost use Rattle.pcap_ng.specs.Bodies.{GrowsInBody};
@@ -12,11 +12,13 @@ ghost use Rattle.capcopy_run.specs.BlockLines.{order_of, section_line, kind_name
 ghost use Rattle.capcopy_run.specs.Exits.{IsOfKnownWord, exit_of};
 ghost use Rattle.capcopy_run.specs.Lines.{WritesLine};
 ghost use Rattle.capcopy_run.specs.Listing.{ListsUntil};
+ghost use Rattle.capcopy_run.specs.OfBlocks.{blocks_alone};
 ghost use Rattle.capcopy_run.specs.Words.{order_word};
 
 use crate::Exit;
-use crate::items::{Lister, list_items};
+use crate::items::list_items;
 use crate::line::{ROOM, put_byte, put_number, put_word};
+use crate::listed_blocks::{BlockLine, Blocks};
 use crate::output::put_line;
 use pcap_file::pcapng::{Block, BlockType, PcapNgParser, SectionHeaderBlock};
 use pcap_file::{Endianness, PcapError};
@@ -106,77 +108,48 @@ fn make_block_line(room: &mut [u8; ROOM], index: u64, block: &Block, word: &str)
     put_number(room, start, index)
 }
 
-// Writes the line of the block at this index.
-fn write_block<W: Write>(
-    alloc: Global,
-    output: &mut W,
-    room: &mut [u8; ROOM],
-    index: u64,
-    block: &Block,
-) -> Result<(), Exit>
-    ensures { WritesLine (IsBlockLine index (framed_of block.now)) (W.contents output.old) (W.contents output.new) result }
-{
-    let word = body_word(alloc, block)?;
-    let start = make_block_line(room, index, block, word);
-    put_line(output, &room[start..])
+// Lines that are made in room of their own.
+#[derive(Drop)]
+struct KindLines {
+    room: [u8; ROOM],
 }
 
-impl Lister for PcapNgParser {
+impl BlockLine for KindLines {
     ghost Setting = { Unit {0} };
 
-    ghost State = { State };
+    ghost Kept = { Unit {0} };
+
+    ghost Reached = { State };
 
     ghost Value = { Item };
 
-    ghost grows = { ⊤ };
+    ghost line = { λ setting. IsItemLine };
 
-    ghost is_line = { λ setting. IsItemLine };
+    ghost format = { block_format };
 
-    ghost format = { λ setting. block_format };
+    ghost reached = { λ q kept. q };
 
-    ghost setting = { λ parser. tt };
+    ghost value = { λ kept item. item };
 
-    ghost state = { state_of };
+    ghost behind = { λ kept item. kept };
 
-    fn list_shown<W: Write>(
+    ghost setting = { λ lines. tt };
+
+    ghost kept = { λ lines. tt };
+
+    ghost are_blocks = { blocks_alone };
+
+    fn write_line<W: Write>(
         &mut self,
         alloc: Global,
-        shown: &[u8],
         output: &mut W,
-        listed: &mut u64,
-        most: u64,
-    ) -> Result<usize, Exit> {
-        let mut room = [0; ROOM];
-        let mut rest = shown;
-        while *listed < most {
-            match self.next_block(rest) {
-                Ok((after, block)) => {
-                    write_block(alloc, output, &mut room, *listed + 1, &block)?;
-                    *listed += 1;
-                    rest = after;
-                }
-                Err(PcapError::OutOfMemory(_)) => return Err(Exit::Memory),
-                Err(_) => break,
-            }
-        }
-        Ok(shown.len() - rest.len())
-    }
-
-    fn list_torn<R: BufRead, W: Write>(
-        &mut self,
-        alloc: Global,
-        input: &mut R,
-        output: &mut W,
-        listed: &mut u64,
-        most: u64,
-    ) -> Result<bool, Exit> {
-        let Some(block) = self.read_block(input)? else {
-            return Ok(false);
-        };
-        let mut room = [0; ROOM];
-        write_block(alloc, output, &mut room, *listed + 1, &block)?;
-        *listed += 1;
-        Ok(true)
+        index: u64,
+        _parser: &PcapNgParser,
+        block: &Block,
+    ) -> Result<(), Exit> {
+        let word = body_word(alloc, block)?;
+        let start = make_block_line(&mut self.room, index, block, word);
+        put_line(output, &self.room[start..])
     }
 }
 
@@ -192,7 +165,8 @@ pub(crate) fn blocks<R: BufRead, W: Write>(
     ensures known { IfErr result IsOfKnownWord }
     ensures lists { IfSome (R.remaining input.old) (λ s. ListsUntil block_lines most s (R.remaining input.new) (W.contents output.old) (W.contents output.new) (exit_of result)) }
 {
-    let mut parser = PcapNgParser::from_reader(alloc, input)?;
+    let parser = PcapNgParser::from_reader(alloc, input)?;
     write_section(alloc, output, parser.section())?;
-    list_items(alloc, &mut parser, input, output, most)
+    let lines = KindLines { room: [0; ROOM] };
+    list_items(alloc, &mut Blocks { lines, parser }, input, output, most)
 }

@@ -1,5 +1,4 @@
 pub mod Ends
-mod Numbered
 mod PacketLines
 pub mod Passing
 mod StoredLists

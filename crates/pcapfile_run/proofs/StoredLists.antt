@@ -2,16 +2,12 @@
 use Rattle.std.proofs.Common.{◌≡◌, ℕ, List, Bool, Option, None, Some, Result, IfSome, refl, subst}
 use Rattle.std.specs.Io.KnownBytes.{Keeps}
 use Rattle.std.proofs.KnownBytes.{Appends-nil}
-use Rattle.pcap_core.specs.declared.errors.PcapError.{PcapError}
-use Rattle.pcap_core.specs.Answer.{whole}
-use Rattle.pcap_items.specs.Format.{IsLawful}
-use Rattle.pcap_items.specs.Reading.{HasCause, Takes, TakesAsked}
+use Rattle.pcap_items.specs.Reading.{Takes}
 use Rattle.pcap_blocks.specs.InterfaceDescription.{Interface}
-use Rattle.pcap_ng.specs.Blocks.{Item, BlockSays, block_format}
+use Rattle.pcap_ng.specs.Blocks.{Item}
 use Rattle.pcap_ng.specs.Opening.{OpeningSays}
 use Rattle.pcap_ng.specs.State.{interfaces_at}
 use Rattle.pcap_ng.specs.State.{State}
-use Rattle.pcap_ng.proofs.BlockFormat.{blocks_lawful, block_said}
 use Rattle.pcap_ng.proofs.FirstBlock.{opening_stable}
 use Rattle.capcopy_run.specs.declared.exit.Exit.{Exit}
 use Rattle.capcopy_run.specs.Exits.{exit_of}
@@ -22,50 +18,21 @@ use Rattle.pcapfile_lines.specs.declared.form.Form.{Form}
 use Rattle.pcapfile_run.specs.declared.checked.Format.{Format}
 use Rattle.pcapfile_run.specs.FileLines.{ListsAs, format_at, IsLineIf, IsNumberedLine, is_packet_item, numbered_blocks, stored_lines}
 use Rattle.pcapfile_run.specs.Numbered.{number_behind, numbered_behind}
-use Rattle.pcapfile_run.proofs.Numbered.{numbered_lawful, numbered_there, numbered_taken, cause_numbered, asked_numbered}
-
-pub stored_lawful : IsLawful numbered_blocks
-unfolding numbered_blocks
-stored_lawful = numbered_lawful block_format is_packet_item blocks_lawful
-
-module _ (q : State) (n : ℕ) where
-  -- a block at the front of bytes
-  pub stored_said : (item : Item) (s rest : List ℕ) → BlockSays q s (whole item rest) → numbered_blocks.says (q, n) s (whole (numbered_behind is_packet_item n item) rest)
-  unfolding numbered_blocks
-  stored_said item s rest text = numbered_there block_format is_packet_item q n s rest item (block_said q item s rest text)
-
-  -- where it leads
-  pub stored_goes : (m : ℕ) (item : Item) → m ≡ number_behind (is_packet_item item) n → numbered_blocks.goes (q, n) (numbered_behind is_packet_item n item) ≡ (item.after, m)
-  unfolding numbered_blocks block_format
-  stored_goes m item counts = rw counts refl
-
-  -- one that was taken off a stream, or that was refused there
-  pub stored_taken : (before after : Option (List ℕ)) (item : Item) → Takes (block_format.says q) before after item → Takes (numbered_blocks.says (q, n)) before after (numbered_behind is_packet_item n item)
-  unfolding numbered_blocks
-  stored_taken before after item took = numbered_taken block_format is_packet_item q n before after item took
-
-  pub stored_cause : (known : Option (List ℕ)) (failed : Bool) (e : PcapError) → HasCause (block_format.says q) known failed e → HasCause (numbered_blocks.says (q, n)) known failed e
-  unfolding numbered_blocks
-  stored_cause known failed e cause = cause_numbered block_format is_packet_item q n known failed e cause
-
-  pub stored_asked : (before after : Option (List ℕ)) → TakesAsked (block_format.says q) before after → TakesAsked (numbered_blocks.says (q, n)) before after
-  unfolding numbered_blocks
-  stored_asked before after asked = asked_numbered block_format is_packet_item q n before after asked
+use Rattle.pcapfile_run.specs.StoredBlocks.{stored_blocks}
 
 -- the line of a block behind n packets is that of its number
-pub stored_written : (form asked : Option Form) (index n m : ℕ) (item : Item) (interfaces : List Interface) (before now : Option (List ℕ)) (result : Result (Unit {0}) Exit) → form ≡ asked → m ≡ number_behind (is_packet_item item) n
+pub stored_written : (form : Option Form) (index n m : ℕ) (item : Item) (interfaces : List Interface) (before now : Option (List ℕ)) (result : Result (Unit {0}) Exit) → m ≡ number_behind (is_packet_item item) n
     → interfaces ≡ interfaces_at item.after → WritesLine (IsLineIf form (is_packet_item item) interfaces m item.block) before now result
-    → WritesLine (IsNumberedLine asked index (numbered_behind is_packet_item n item)) before now result
-stored_written form asked index n m item interfaces before now result same counts described writes =
-    let as_asked = subst (λ (f : Option Form). WritesLine (IsLineIf f (is_packet_item item) interfaces m item.block) before now result) same writes in
-    let numbered = subst (λ (k : ℕ). WritesLine (IsLineIf asked (is_packet_item item) interfaces k item.block) before now result) counts as_asked in
-    subst (λ (l : List Interface). WritesLine (IsLineIf asked (is_packet_item item) l (number_behind (is_packet_item item) n) item.block) before now result) described numbered
+    → WritesLine (IsNumberedLine form index (numbered_behind is_packet_item n item)) before now result
+stored_written form index n m item interfaces before now result counts described writes =
+    let numbered = subst (λ (k : ℕ). WritesLine (IsLineIf form (is_packet_item item) interfaces k item.block) before now result) counts writes in
+    subst (λ (l : List Interface). WritesLine (IsLineIf form (is_packet_item item) l (number_behind (is_packet_item item) n) item.block) before now result) described numbered
 
 -- a capture whose first block was taken, and whose packets were listed
 pub stored_known : (form : Option Form) (q : State) (bytes known before : Option (List ℕ)) → Takes OpeningSays bytes known q → (most : ℕ) (now after : Option (List ℕ)) (result : Result (Unit {0}) Exit)
     → ListsItems (IsNumberedLine form) numbered_blocks (q, 0) known now before after most result → IfSome bytes (λ s. ListsUntil (stored_lines form) most s now before after (exit_of result))
 stored_known form q bytes known before took most now after result run =
-    lists_known (stored_lines form) opening_stable q stored_lawful bytes known before before took (Appends-nil before) most now after result run
+    lists_known (stored_lines form) opening_stable q stored_blocks.lawful bytes known before before took (Appends-nil before) most now after result run
 
 -- a capture of this format that was listed behind its first byte, which was only looked at
 pub lists_told : (form : Option Form) (format : Format) (most : ℕ) (before mid now out_before out_now : Option (List ℕ)) (exit : Exit) → Keeps before mid → IfSome before (λ s. format ≡ format_at s)

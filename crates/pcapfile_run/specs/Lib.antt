@@ -4,4 +4,6 @@ pub mod FileLines
 pub mod FormedLines
 pub mod Lines
 pub mod Numbered
+pub mod NumberedLaws
 pub mod Passing
+pub mod StoredBlocks

@@ -1,11 +1,10 @@
 //! The packets of a capture of blocks, a line each.
 
-ghost use Rattle.std.specs.Prelude.{⊤, ◌≡◌, ◌≤◌, ℕ, drop, map, Option, IfSome, MatchResult};
+ghost use Rattle.std.specs.Prelude.{◌≡◌, ◌≤◌, ℕ, drop, map, Option, IfSome, MatchResult};
 ghost use Rattle.pcap_blocks.specs.InterfaceDescription.{interface_of};
 ghost use Rattle.pcap_ng.specs.Blocks.{Item};
 ghost use Rattle.pcap_ng.specs.Bodies.{GrowsInBody};
 ghost use Rattle.pcap_ng.specs.Frames.{framed_of};
-ghost use Rattle.pcap_ng.specs.Parser.{state_of};
 ghost use Rattle.pcap_file.specs.Placed.{is_packet};
 ghost use Rattle.pcap_ng.specs.State.{State};
 ghost use Rattle.capcopy_run.specs.declared.exit.Exit.TheVariants as exits;
@@ -13,13 +12,14 @@ ghost use Rattle.capcopy_run.specs.Exits.{exit_of};
 ghost use Rattle.capcopy_run.specs.Lines.{WritesLine};
 ghost use Rattle.capcopy_run.specs.Listing.{ListsUntil};
 ghost use Rattle.pcapfile_lines.specs.declared.form.Form.{Form};
-ghost use Rattle.pcapfile_run.specs.FileLines.{IsLineIf, IsNumberedLine, IsStoredIn, IsStoredLine, numbered_blocks, stored_lines};
-ghost use Rattle.pcapfile_run.specs.Numbered.{Numbered, number_behind};
+ghost use Rattle.pcapfile_run.specs.FileLines.{IsLineIf, IsNumberedLine, IsStoredIn, IsStoredLine, is_packet_item, numbered_blocks, stored_lines};
+ghost use Rattle.pcapfile_run.specs.Numbered.{Numbered, number_behind, numbered_behind};
+ghost use Rattle.pcapfile_run.specs.StoredBlocks.{packets_behind, reached_with, stored_blocks};
 
 use crate::block_packet::holds_packet;
 use crate::formed::write_formed;
 use crate::lines::{make_body_line, make_refused_line};
-use capcopy_run::{Exit, Lister, ROOM, list_items, put_line};
+use capcopy_run::{BlockLine, Blocks, Exit, ROOM, list_items, put_line};
 use pcap_file::PcapError;
 use pcap_file::pcapng::{Block, InterfaceDescriptionBlock, PcapNgParser};
 use pcapfile_lines::Form;
@@ -94,72 +94,55 @@ fn write_block<W: Write>(
     write_packet(alloc, output, form, *packets, interfaces, block)
 }
 
-// The packets of a capture of blocks, the form of their lines, and how many there were.
+// Lines of packets in this form, if one is asked for, and how many packets there were.
 #[derive(Drop)]
-struct StoredPackets {
+struct StoredLines {
     form: Option<Form>,
-    parser: PcapNgParser,
     packets: u64,
 }
 
-impl Lister for StoredPackets {
+impl BlockLine for StoredLines {
     ghost Setting = { Option Form };
 
-    ghost State = { State × ℕ };
+    ghost Kept = { ℕ };
+
+    ghost Reached = { State × ℕ };
 
     ghost Value = { Numbered Item };
 
-    ghost grows = { ⊤ };
+    ghost line = { IsNumberedLine };
 
-    ghost is_line = { IsNumberedLine };
+    ghost format = { numbered_blocks };
 
-    ghost format = { λ form. numbered_blocks };
+    ghost reached = { reached_with };
 
-    ghost setting = { λ stored. stored.form };
+    ghost value = { numbered_behind is_packet_item };
 
-    ghost state = { λ stored. (state_of stored.parser, stored.packets) };
+    ghost behind = { packets_behind };
 
-    fn list_shown<W: Write>(
+    ghost setting = { λ lines. lines.form };
+
+    ghost kept = { λ lines. lines.packets };
+
+    ghost are_blocks = { stored_blocks };
+
+    fn write_line<W: Write>(
         &mut self,
         alloc: Global,
-        shown: &[u8],
         output: &mut W,
-        listed: &mut u64,
-        most: u64,
-    ) -> Result<usize, Exit> {
-        let mut rest = shown;
-        while *listed < most {
-            match self.parser.next_block(rest) {
-                Ok((after, block)) => {
-                    let interfaces = self.parser.interfaces();
-                    let packets = &mut self.packets;
-                    write_block(alloc, output, self.form, packets, interfaces, &block)?;
-                    *listed += 1;
-                    rest = after;
-                }
-                Err(PcapError::OutOfMemory(_)) => return Err(Exit::Memory),
-                Err(_) => break,
-            }
-        }
-        Ok(shown.len() - rest.len())
-    }
-
-    fn list_torn<R: BufRead, W: Write>(
-        &mut self,
-        alloc: Global,
-        input: &mut R,
-        output: &mut W,
-        listed: &mut u64,
-        most: u64,
-    ) -> Result<bool, Exit> {
-        let Some(block) = self.parser.read_block(input)? else {
-            return Ok(false);
-        };
-        let interfaces = self.parser.interfaces();
-        let packets = &mut self.packets;
-        write_block(alloc, output, self.form, packets, interfaces, &block)?;
-        *listed += 1;
-        Ok(true)
+        _index: u64,
+        parser: &PcapNgParser,
+        block: &Block,
+    ) -> Result<(), Exit> {
+        let interfaces = parser.interfaces();
+        write_block(
+            alloc,
+            output,
+            self.form,
+            &mut self.packets,
+            interfaces,
+            block,
+        )
     }
 }
 
@@ -174,10 +157,6 @@ pub(crate) fn list_stored<R: BufRead, W: Write>(
     ensures { IfSome (R.remaining input.old) (λ s. ListsUntil (stored_lines form) most s (R.remaining input.new) (W.contents output.old) (W.contents output.new) (exit_of result)) }
 {
     let parser = PcapNgParser::from_reader(alloc, input)?;
-    let mut stored = StoredPackets {
-        form,
-        parser,
-        packets: 0,
-    };
-    list_items(alloc, &mut stored, input, output, most)
+    let lines = StoredLines { form, packets: 0 };
+    list_items(alloc, &mut Blocks { lines, parser }, input, output, most)
 }

@@ -1,12 +1,12 @@
 -- Items of a lawful format that are numbered.
-use Rattle.std.proofs.Common.{ℕ, List, take, Bool, Option, None, Some, [], inl, inr, ◌⊎◌, refl}
+use Rattle.std.proofs.Common.{ℕ, List, take, Bool, Option, None, Some, inl, inr, ◌⊎◌}
 use Rattle.std.specs.Prelude.{IfSome}
 use Rattle.pcap_core.specs.declared.errors.PcapError.{PcapError}
-use Rattle.pcap_core.specs.Answer.{whole, faulty}
+use Rattle.pcap_core.specs.Answer.{faulty}
 use Rattle.pcap_items.specs.Early.{EarlyFault}
 use Rattle.pcap_core.specs.Faults.{Fault}
 use Rattle.pcap_items.specs.Format.{Format, IsLawful}
-use Rattle.pcap_items.specs.Reading.{IsShort, IsTorn, IsFaultOf, HasCause, read_failed, no_memory, torn, refused, Takes, TakesAsked}
+use Rattle.pcap_items.specs.Reading.{IsShort, IsTorn, IsFaultOf, HasCause, read_failed, no_memory, torn, refused, TakesAsked}
 use Rattle.pcap_core.proofs.Refusals.{shows_more}
 use Rattle.pcap_core.proofs.Verdicts.{one_made}
 use Rattle.pcapfile_run.specs.Numbered.{numbered, numbered_behind}
@@ -29,13 +29,6 @@ module _ {S V : Type 0} (f : Format S V) (is_one : V → Bool) where
   }
 
   module _ (q : S) (n : ℕ) where
-    -- what stands there is an item with its number
-    pub numbered_there : (s rest : List ℕ) (item : V) → f.says q s (whole item rest) → (numbered f is_one).says (q, n) s (whole (numbered_behind is_one n item) rest)
-    numbered_there s rest item said = (item, refl, said)
-
-    pub numbered_taken : (before after : Option (List ℕ)) (item : V) → Takes (f.says q) before after item → Takes ((numbered f is_one).says (q, n)) before after (numbered_behind is_one n item)
-    numbered_taken before after item took = (took.0, numbered_there took.0 [] item took.1, took.2)
-
     -- what refuses it is the same
     short_numbered : (s : List ℕ) → IsShort (f.says q) s → IsShort ((numbered f is_one).says (q, n)) s
     short_numbered s x = record { n = x.n; lack = x.lack }
