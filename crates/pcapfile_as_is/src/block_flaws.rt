@@ -53,8 +53,13 @@ fn rule_line(
     format!(in alloc; "{place} breaks rule {number}{option}: {message}\n")
 }
 
-// The line of a rule that is broken in an option, or in none.
-fn rule_flaw(alloc: Global, place: &str, option: &str, rule: Rule) -> Result<String, AllocError>
+/// The line of a rule that is broken in an option, or in none.
+pub(crate) fn rule_flaw(
+    alloc: Global,
+    place: &str,
+    option: &str,
+    rule: Rule,
+) -> Result<String, AllocError>
     ensures { IfOk result (λ line. string_bytes line ≡ fault_line place.now option.now (Invalid rule)) }
 {
     rule_line(alloc, place, rule.number(), option, rule.text())

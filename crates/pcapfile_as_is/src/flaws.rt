@@ -1,8 +1,9 @@
 //! A line for each rule that a packet breaks.
 
 ghost use Rattle.std.specs.Prelude.{◌≡◌, [], IfOk, string_bytes, if◌then◌else◌};
-ghost use Rattle.pcapfile_as_is.specs.FlawLines.{place_text, rule_text, flaw_text, flaws_text};
+ghost use Rattle.pcapfile_as_is.specs.FlawLines.{place_text, flaw_text, flaws_text};
 
+use crate::block_flaws::rule_flaw;
 use crate::teller::Teller;
 use capcopy_run::{Exit, put_line};
 use pcap_classic::TsResolution;
@@ -26,13 +27,6 @@ fn place_of(alloc: Global, prefix: &str, number: u64, place: u64) -> Result<Stri
     format!(in alloc; "{prefix}packet {number} at byte {place}")
 }
 
-// The line of a rule of this number and message.
-fn line_of(alloc: Global, place: &str, number: u32, message: &str) -> Result<String, AllocError>
-    ensures { IfOk result (λ line. string_bytes line ≡ rule_text place.now number message.now) }
-{
-    format!(in alloc; "{place} breaks rule {number}: {message}\n")
-}
-
 // The line of a rule.
 fn flaw_line(
     alloc: Global,
@@ -44,7 +38,7 @@ fn flaw_line(
     ensures { IfOk result (λ line. string_bytes line ≡ flaw_text prefix.now number place rule) }
 {
     let place = place_of(alloc, prefix, number, place)?;
-    line_of(alloc, place.as_str(), rule.number(), rule.text())
+    rule_flaw(alloc, place.as_str(), "", rule)
 }
 
 // The line of a rule, where it is broken.
