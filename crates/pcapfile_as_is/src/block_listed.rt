@@ -1,6 +1,6 @@
 //! A line for each packet in a block as it stands.
 
-ghost use Rattle.std.specs.Prelude.{◌≡◌, ◌++◌, List, ℕ, map, take, codes, IfOk, string_bytes, option_map};
+ghost use Rattle.std.specs.Prelude.{◌≡◌, ◌++◌, List, ℕ, map, take, codes, IfOk, OnOk, string_bytes, option_map};
 ghost use Rattle.std.specs.List.{flat_map};
 ghost use Rattle.std.specs.Fmt.{decimal};
 ghost use Rattle.pcap_blocks.specs.InterfaceDescription.{interface_of};
@@ -29,6 +29,9 @@ use std::alloc::{AllocError, Global};
 use std::io::Write;
 use std::slice;
 
+/// Room for a line whose packet has a few flaws, in bytes.
+const LINE: usize = 2 * ROOM;
+
 /// Writes a line for each packet in a block: what `pcapfile list` writes of it, by its interface where that is known, and behind
 /// that ` !` and the number of each rule that its body breaks, ` !utf8` for what is no UTF-8, and ` !short` for a value that is too
 /// short. A packet for which its block has no room has the line `index refused` with the mark of its rule. Other blocks have no
@@ -43,40 +46,37 @@ struct BodyAsIs<'a> {
     flaws: Vec<Flaw>,
 }
 
+// What was read of a block of one kind, with its packet as the body that it is.
+macro_rules! body_of_kind {
+    ($read:ident, $Read:ident, $Body:ident) => {{
+        let $Read { packet, flaws } = $read;
+        let body = match packet {
+            None => None,
+            Some(packet) => Some(ParsedBlock::$Body(packet)),
+        };
+        BodyAsIs { body, flaws }
+    }};
+}
+
 fn of_enhanced(read: EnhancedAsIs<'_>) -> BodyAsIs<'_>
     ensures body { option_map body_shown result.body ≡ option_map EnhancedBody (enhanced_in read.entry) }
     ensures flaws { result.flaws ≡ read.entry.flaws }
 {
-    let EnhancedAsIs { packet, flaws } = read;
-    let body = match packet {
-        None => None,
-        Some(packet) => Some(ParsedBlock::EnhancedPacket(packet)),
-    };
-    BodyAsIs { body, flaws }
+    body_of_kind!(read, EnhancedAsIs, EnhancedPacket)
 }
 
 fn of_obsolete(read: PacketBlockAsIs<'_>) -> BodyAsIs<'_>
     ensures body { option_map body_shown result.body ≡ option_map OldPacketBody (obsolete_in read.entry) }
     ensures flaws { result.flaws ≡ read.entry.flaws }
 {
-    let PacketBlockAsIs { packet, flaws } = read;
-    let body = match packet {
-        None => None,
-        Some(packet) => Some(ParsedBlock::Packet(packet)),
-    };
-    BodyAsIs { body, flaws }
+    body_of_kind!(read, PacketBlockAsIs, Packet)
 }
 
 fn of_simple(read: SimpleAsIs<'_>) -> BodyAsIs<'_>
     ensures body { option_map body_shown result.body ≡ option_map SimpleBody (simple_in read.entry) }
     ensures flaws { result.flaws ≡ read.entry.flaws }
 {
-    let SimpleAsIs { packet, flaws } = read;
-    let body = match packet {
-        None => None,
-        Some(packet) => Some(ParsedBlock::SimplePacket(packet)),
-    };
-    BodyAsIs { body, flaws }
+    body_of_kind!(read, SimpleAsIs, SimplePacket)
 }
 
 // The body of the block that a reader lends, where that holds a packet.
@@ -141,19 +141,17 @@ fn mark_made(alloc: Global, broken: Broken) -> Result<String, AllocError>
     }
 }
 
-// The end of a line, which marks these flaws.
-fn ending_made(alloc: Global, flaws: &[Flaw]) -> Result<String, AllocError>
-    ensures { IfOk result (λ end. string_bytes end ≡ ending (map said_of flaws.now)) }
+// Puts the end of a line behind its front, which marks these flaws.
+fn push_ending(alloc: Global, line: &mut Vec<u8>, flaws: &[Flaw]) -> Result<(), AllocError>
+    ensures { OnOk result (line.new.items ≡ line.old.items ++ ending (map said_of flaws.now)) }
 {
-    let mut end = String::new(alloc);
     let mut marked = 0;
     while marked < flaws.len() {
         let mark = mark_made(alloc, flaws[marked].broken)?;
-        end.push_str(mark.as_str())?;
+        line.extend_from_slice(mark.as_bytes())?;
         marked += 1;
     }
-    end.push_str("\n")?;
-    Ok(end)
+    line.extend_from_slice(b"\n")
 }
 
 // The line of the packet of this number, which came by this interface, if it is known.
@@ -162,23 +160,25 @@ fn packet_line(
     number: u64,
     interface: Option<&InterfaceDescriptionBlock<'static>>,
     packet: BlockPacket,
-    end: &str,
+    flaws: &[Flaw],
 ) -> Result<Vec<u8>, AllocError>
-    ensures { IfOk result (λ line. IsPacketText (option_map (λ interface. interface_of interface.now) interface.entry) number (in_block packet.entry) end.now line.items) }
+    ensures { IfOk result (λ line. IsPacketText (option_map (λ interface. interface_of interface.now) interface.entry) number (in_block packet.entry) (ending (map said_of flaws.now)) line.items) }
 {
     let mut room = [0; ROOM];
     let start = put_packet(&mut room, ROOM, number, interface, packet);
-    let mut line = Vec::from_slice(alloc, &room[start..])?;
-    line.extend_from_slice(end.as_bytes())?;
+    let mut line = Vec::with_capacity(alloc, LINE)?;
+    line.extend_from_slice(&room[start..])?;
+    push_ending(alloc, &mut line, flaws)?;
     Ok(line)
 }
 
 // The line of the packet of this number for which its block has no room.
-fn refused_line(alloc: Global, number: u64, end: &str) -> Result<Vec<u8>, AllocError>
-    ensures { IfOk result (λ line. line.items ≡ decimal number ++ (codes " refused" ++ end.now)) }
+fn refused_line(alloc: Global, number: u64, flaws: &[Flaw]) -> Result<Vec<u8>, AllocError>
+    ensures { IfOk result (λ line. line.items ≡ decimal number ++ (codes " refused" ++ ending (map said_of flaws.now))) }
 {
-    let line = format!(in alloc; "{number} refused{end}")?;
-    Ok(line.into_bytes())
+    let mut line = format!(in alloc; "{number} refused")?.into_bytes();
+    push_ending(alloc, &mut line, flaws)?;
+    Ok(line)
 }
 
 // The line of the packet of this number in a body.
@@ -191,12 +191,12 @@ fn line_of<T>(
     ensures { let interfaces = described (state_of reader.now) in
         IfOk result (λ line. IsMarkedLine interfaces number (packet_as_is (known 0 interfaces) (option_map body_shown held.now.body)) (map said_of held.now.flaws.items) line.items) }
 {
-    let end = ending_made(alloc, held.flaws.as_slice())?;
+    let flaws = held.flaws.as_slice();
     match packet_of(interface_known(reader, 0), &held.body) {
-        None => refused_line(alloc, number, end.as_str()),
+        None => refused_line(alloc, number, flaws),
         Some(packet) => {
             let interface = interface_known(reader, packet.interface);
-            packet_line(alloc, number, interface, packet, end.as_str())
+            packet_line(alloc, number, interface, packet, flaws)
         }
     }
 }
