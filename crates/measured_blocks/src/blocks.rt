@@ -6,6 +6,7 @@ use pcap_file::run::{NgCopied, copy_pcapng, copy_pcapng_buffered};
 use pcap_tolerant_captures::{BlockAsIs, OpenedAsIs, PcapNgParserAsIs};
 use std::alloc::Global;
 use std::io::BufReader;
+use test_support::sum_of_passes;
 
 // The reader's buffer of `copy_pcapng_buffered`, in bytes.
 const ROOM: usize = 65536;
@@ -28,34 +29,30 @@ pub(crate) fn passes_of(
 
 fn copy(alloc: Global, passes: u64, bytes: &[u8]) -> ResultParsing<u64> {
     let mut out: Vec<u8> = Vec::with_capacity(alloc, bytes.len())?;
-    let mut sum = 0u64;
-    for _ in 0..passes {
+    sum_of_passes!(passes {
         out.clear();
         let mut input = bytes;
         let NgCopied { fault, .. } = copy_pcapng(alloc, &mut input, &mut out, u64::MAX);
         if let Some(error) = fault {
             return Err(error);
         }
-        sum = sum.wrapping_add(out.len() as u64);
-    }
-    Ok(sum)
+        out.len() as u64
+    })
 }
 
 // The reader's buffer is made anew for each pass.
 #[inline(never)]
 fn copy_out_of_a_buffer(alloc: Global, passes: u64, bytes: &[u8]) -> ResultParsing<u64> {
     let mut out: Vec<u8> = Vec::with_capacity(alloc, bytes.len())?;
-    let mut sum = 0u64;
-    for _ in 0..passes {
+    sum_of_passes!(passes {
         out.clear();
         let mut input = BufReader::with_capacity(alloc, ROOM, bytes)?;
         let NgCopied { fault, .. } = copy_pcapng_buffered(alloc, &mut input, &mut out, u64::MAX);
         if let Some(error) = fault {
             return Err(error);
         }
-        sum = sum.wrapping_add(out.len() as u64);
-    }
-    Ok(sum)
+        out.len() as u64
+    })
 }
 
 // How many bytes of data an enhanced packet has, whose body is read, and none where it is another block.
@@ -81,11 +78,7 @@ fn read_all(alloc: Global, bytes: &[u8]) -> ResultParsing<u64> {
 }
 
 fn blocks(alloc: Global, passes: u64, bytes: &[u8]) -> ResultParsing<u64> {
-    let mut sum = 0u64;
-    for _ in 0..passes {
-        sum = sum.wrapping_add(read_all(alloc, bytes)?);
-    }
-    Ok(sum)
+    sum_of_passes!(passes { read_all(alloc, bytes)? })
 }
 
 // How many bytes of data an enhanced packet has as it stands, whose body is read, and how many flaws it or the block has.
@@ -119,9 +112,5 @@ fn read_all_as_is(alloc: Global, bytes: &[u8]) -> ResultParsing<u64> {
 }
 
 fn blocks_as_they_stand(alloc: Global, passes: u64, bytes: &[u8]) -> ResultParsing<u64> {
-    let mut sum = 0u64;
-    for _ in 0..passes {
-        sum = sum.wrapping_add(read_all_as_is(alloc, bytes)?);
-    }
-    Ok(sum)
+    sum_of_passes!(passes { read_all_as_is(alloc, bytes)? })
 }

@@ -7,6 +7,7 @@ use pcap_classic::{DataLink, ResultParsing};
 use pcap_tolerant::next_packet_as_is;
 use pcap_written::PcapNgWriter;
 use std::alloc::Global;
+use test_support::sum_of_passes;
 
 // The sum over the values of all passes, or nothing where no call has this name.
 pub(crate) fn passes_of(
@@ -53,8 +54,7 @@ fn write_ng_packet(alloc: Global, passes: u64, bytes: &[u8]) -> ResultParsing<u6
         options: Vec::new(alloc),
     };
     let mut out: Vec<u8> = Vec::with_capacity(alloc, bytes.len())?;
-    let mut sum = 0u64;
-    for _ in 0..passes {
+    sum_of_passes!(passes {
         out.clear();
         {
             let mut writer = PcapNgWriter::new(alloc, &mut out)?;
@@ -65,7 +65,6 @@ fn write_ng_packet(alloc: Global, passes: u64, bytes: &[u8]) -> ResultParsing<u6
                 writer.write_packet(0, units, bytes, packet.header.orig_len)?;
             }
         }
-        sum = sum.wrapping_add(out.len() as u64);
-    }
-    Ok(sum)
+        out.len() as u64
+    })
 }

@@ -7,6 +7,7 @@ use pcap_blocks::{
 };
 use pcap_classic::ResultParsing;
 use std::alloc::Global;
+use test_support::sum_of_passes;
 
 // What the bodies are parsed as.
 #[derive(Clone, Copy)]
@@ -108,9 +109,5 @@ fn parse_all(alloc: Global, body: Body, bytes: &[u8]) -> ResultParsing<u64> {
 }
 
 pub(crate) fn parse(alloc: Global, body: Body, passes: u64, bytes: &[u8]) -> ResultParsing<u64> {
-    let mut sum = 0u64;
-    for _ in 0..passes {
-        sum = sum.wrapping_add(parse_all(alloc, body, bytes)?);
-    }
-    Ok(sum)
+    sum_of_passes!(passes { parse_all(alloc, body, bytes)? })
 }

@@ -5,6 +5,7 @@ use pcap_classic::pcap::{PcapParser, PcapReader, PcapWriter};
 use pcap_classic::run::{Copied, Under, copy_buffered, copy_pcap};
 use std::alloc::Global;
 use std::io::BufReader;
+use test_support::sum_of_passes;
 
 // The reader's buffer of `copy_buffered`, in bytes.
 const ROOM: usize = 65536;
@@ -68,11 +69,7 @@ fn read_all(alloc: Global, bytes: &[u8]) -> ResultParsing<u64> {
 }
 
 fn next(alloc: Global, passes: u64, bytes: &[u8]) -> ResultParsing<u64> {
-    let mut sum = 0u64;
-    for _ in 0..passes {
-        sum = sum.wrapping_add(read_all(alloc, bytes)?);
-    }
-    Ok(sum)
+    sum_of_passes!(passes { read_all(alloc, bytes)? })
 }
 
 // The length of the next packet, which is lent.
@@ -97,11 +94,7 @@ fn lend_all(alloc: Global, bytes: &[u8]) -> ResultParsing<u64> {
 }
 
 fn next_header(alloc: Global, passes: u64, bytes: &[u8]) -> ResultParsing<u64> {
-    let mut sum = 0u64;
-    for _ in 0..passes {
-        sum = sum.wrapping_add(lend_all(alloc, bytes)?);
-    }
-    Ok(sum)
+    sum_of_passes!(passes { lend_all(alloc, bytes)? })
 }
 
 fn write_packet(alloc: Global, passes: u64, bytes: &[u8]) -> ResultParsing<u64> {
@@ -117,8 +110,7 @@ fn write_packet(alloc: Global, passes: u64, bytes: &[u8]) -> ResultParsing<u64> 
     }
     let header = *parser.header();
     let mut out: Vec<u8> = Vec::with_capacity(alloc, bytes.len())?;
-    let mut sum = 0u64;
-    for _ in 0..passes {
+    sum_of_passes!(passes {
         out.clear();
         {
             let mut writer = PcapWriter::with_header(header, &mut out)?;
@@ -126,32 +118,28 @@ fn write_packet(alloc: Global, passes: u64, bytes: &[u8]) -> ResultParsing<u64> 
                 writer.write_packet(packet)?;
             }
         }
-        sum = sum.wrapping_add(out.len() as u64);
-    }
-    Ok(sum)
+        out.len() as u64
+    })
 }
 
 fn copy(alloc: Global, passes: u64, bytes: &[u8]) -> ResultParsing<u64> {
     let mut out: Vec<u8> = Vec::with_capacity(alloc, bytes.len())?;
-    let mut sum = 0u64;
-    for _ in 0..passes {
+    sum_of_passes!(passes {
         out.clear();
         let mut input = bytes;
         let Copied { fault, .. } = copy_pcap(alloc, &mut input, &mut out, Under::Same, u64::MAX);
         if let Some(error) = fault {
             return Err(error);
         }
-        sum = sum.wrapping_add(out.len() as u64);
-    }
-    Ok(sum)
+        out.len() as u64
+    })
 }
 
 // The reader's buffer is made anew for each pass.
 #[inline(never)]
 fn copy_out_of_a_buffer(alloc: Global, passes: u64, bytes: &[u8]) -> ResultParsing<u64> {
     let mut out: Vec<u8> = Vec::with_capacity(alloc, bytes.len())?;
-    let mut sum = 0u64;
-    for _ in 0..passes {
+    sum_of_passes!(passes {
         out.clear();
         let mut input = BufReader::with_capacity(alloc, ROOM, bytes)?;
         let Copied { fault, .. } = copy_buffered(
@@ -164,19 +152,16 @@ fn copy_out_of_a_buffer(alloc: Global, passes: u64, bytes: &[u8]) -> ResultParsi
         if let Some(error) = fault {
             return Err(error);
         }
-        sum = sum.wrapping_add(out.len() as u64);
-    }
-    Ok(sum)
+        out.len() as u64
+    })
 }
 
 // What is below all others: the bytes are copied, and nothing else is done.
 fn memcpy(alloc: Global, passes: u64, bytes: &[u8]) -> ResultParsing<u64> {
     let mut out: Vec<u8> = Vec::with_capacity(alloc, bytes.len())?;
-    let mut sum = 0u64;
-    for _ in 0..passes {
+    sum_of_passes!(passes {
         out.clear();
         out.extend_from_slice(bytes)?;
-        sum = sum.wrapping_add(out.len() as u64);
-    }
-    Ok(sum)
+        out.len() as u64
+    })
 }

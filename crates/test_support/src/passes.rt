@@ -49,3 +49,16 @@ pub fn tell(rt: &HostRuntime, sum: Option<ResultParsing<u64>>) -> io::Result<()>
         None => Err(unknown("no call has this name")),
     }
 }
+
+/// The sum over the values of all passes. Each is made by these lines, which stand in the function that names them, so that the calls
+/// that are counted are its own.
+#[macro_export]
+macro_rules! sum_of_passes {
+    ($passes:ident $value:block) => {{
+        let mut sum = 0u64;
+        for _ in 0..$passes {
+            sum = sum.wrapping_add($value);
+        }
+        Ok(sum)
+    }};
+}
