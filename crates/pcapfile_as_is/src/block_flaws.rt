@@ -1,6 +1,6 @@
 //! A line for each flaw of a block.
 
-ghost use Rattle.std.specs.Prelude.{◌≡◌, map, take, IfOk, string_bytes};
+ghost use Rattle.std.specs.Prelude.{◌≡◌, map, IfOk, string_bytes};
 ghost use Rattle.pcap_core.specs.Faults.{Invalid};
 ghost use Rattle.capcopy_run.specs.Lines.{WritesLine};
 ghost use Rattle.pcap_tolerant_blocks.specs.Flaws.{fault_of, said_of};

@@ -1,7 +1,6 @@
 //! A line for each packet in a block as it stands.
 
-ghost use Rattle.std.specs.Prelude.{◌≡◌, ◌++◌, List, ℕ, map, take, codes, IfOk, OnOk, string_bytes, option_map};
-ghost use Rattle.std.specs.List.{flat_map};
+ghost use Rattle.std.specs.Prelude.{◌≡◌, ◌++◌, map, codes, IfOk, OnOk, string_bytes, option_map};
 ghost use Rattle.std.specs.Fmt.{decimal};
 ghost use Rattle.pcap_blocks.specs.InterfaceDescription.{interface_of};
 ghost use Rattle.pcap_blocks.specs.ParsedBlock.{EnhancedBody, OldPacketBody, SimpleBody, body_of as body_shown};
@@ -16,7 +15,7 @@ ghost use Rattle.capcopy_run.specs.Lines.{WritesLine};
 ghost use Rattle.pcapfile_run.specs.BlockPackets.{in_block};
 ghost use Rattle.pcapfile_run.specs.FileLines.{IsPacketText};
 ghost use Rattle.pcapfile_as_is.specs.Texts.{WritesTold};
-ghost use Rattle.pcapfile_as_is.specs.BlockLists.{HoldsIf, IsListedBody, IsMarkedLine, described, ending, mark_of, packet_as_is, said_mark};
+ghost use Rattle.pcapfile_as_is.specs.BlockLists.{HoldsIf, IsListedBody, IsMarkedLine, described, ending, mark_of, packet_as_is};
 
 use crate::block_teller::BlockTeller;
 use crate::counted::Told;

@@ -14,7 +14,7 @@ ghost use Rattle.capcopy_run.specs.Listing.{ListsUntil};
 ghost use Rattle.pcapfile_lines.specs.declared.form.Form.{Form};
 ghost use Rattle.pcapfile_run.specs.FileLines.{IsLineIf, IsNumberedLine, IsStoredIn, IsStoredLine, is_packet_item, numbered_blocks, stored_lines};
 ghost use Rattle.pcapfile_run.specs.Numbered.{Numbered, number_behind, numbered_behind};
-ghost use Rattle.pcapfile_run.specs.StoredBlocks.{packets_behind, reached_with, stored_blocks};
+ghost use Rattle.pcapfile_run.specs.StoredBlocks.{stored_blocks};
 
 use crate::block_packet::holds_packet;
 use crate::formed::write_formed;
@@ -114,11 +114,11 @@ impl BlockLine for StoredLines {
 
     ghost format = { numbered_blocks };
 
-    ghost reached = { reached_with };
+    ghost reached = { λ q n. (q, n) };
 
     ghost value = { numbered_behind is_packet_item };
 
-    ghost behind = { packets_behind };
+    ghost behind = { λ n item. number_behind (is_packet_item item) n };
 
     ghost setting = { λ lines. lines.form };
 
