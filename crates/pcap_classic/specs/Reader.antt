@@ -5,18 +5,18 @@ use Rattle.pcap_classic.specs.declared.pcap.packet.PacketHeader.{PacketHeader}
 use Rattle.pcap_classic.specs.declared.pcap.reader.PcapReader.{PcapReader}
 use Rattle.pcap_core.specs.Errors.{IsIo}
 use Rattle.pcap_core.specs.Faults.{Shows}
-use Rattle.pcap_items.specs.Held.{held_bytes}
+use Rattle.pcap_items.specs.Fill.{held_of, stream_of as source_of, has_failed as source_failed}
 use Rattle.pcap_classic.specs.HeaderText.{HeaderSays}
 use Rattle.pcap_classic.specs.PacketText.{Captured}
 use Rattle.pcap_items.specs.Reading.{IsFaultOf, Takes}
 
 -- the stream behind a reader
 abbrev pub stream_of : {T : Type 0} → PcapReader T → T
-stream_of reader = reader.inner
+stream_of reader = source_of reader.fill
 
 -- a read of it failed
 abbrev pub has_failed : {T : Type 0} → PcapReader T → Bool
-has_failed reader = reader.has_failed
+has_failed reader = source_failed reader.fill
 
 -- the reader has refused something
 abbrev pub is_done : {T : Type 0} → PcapReader T → Bool
@@ -24,7 +24,7 @@ is_done reader = reader.is_done
 
 -- the data that a reader lends: what follows the header of the packet that it holds
 abbrev pub data_of : {T : Type 0} → PcapReader T → List ℕ
-data_of reader = drop 16 (held_bytes reader.lent)
+data_of reader = drop 16 (held_of reader.fill)
 
 -- the packet of this header and the data that a reader lends
 abbrev pub lent_packet : {T : Type 0} → PcapReader T → PacketHeader → Captured

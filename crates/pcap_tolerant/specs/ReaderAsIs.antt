@@ -3,7 +3,7 @@ use Rattle.std.specs.Prelude.{◌≡◌, ◌⊎◌, ℕ, List, [], drop, Bool, f
 use Rattle.pcap_core.specs.declared.errors.PcapError.{PcapError}
 use Rattle.pcap_core.specs.Errors.{IsIo}
 use Rattle.pcap_core.specs.Faults.{Shows}
-use Rattle.pcap_items.specs.Held.{held_bytes}
+use Rattle.pcap_items.specs.Fill.{held_of as held_in, stream_of as source_of, has_failed as source_failed}
 use Rattle.pcap_items.specs.Reading.{IsFaultOf, Takes}
 use Rattle.pcap_classic.specs.declared.pcap.header.PcapHeader.{PcapHeader}
 use Rattle.pcap_classic.specs.HeaderText.{HeaderSays}
@@ -14,7 +14,7 @@ use Rattle.pcap_tolerant.specs.AsIs.{AsIs, packet_with}
 
 -- the stream behind a reader
 abbrev pub stream_of : {T : Type 0} → ReaderAsIs T → T
-stream_of reader = reader.inner
+stream_of reader = source_of reader.fill
 
 -- the header of its capture
 abbrev pub header_read : {T : Type 0} → ReaderAsIs T → PcapHeader
@@ -26,7 +26,7 @@ limit_of reader = reader.limit
 
 -- a read of the stream failed
 abbrev pub has_failed : {T : Type 0} → ReaderAsIs T → Bool
-has_failed reader = reader.has_failed
+has_failed reader = source_failed reader.fill
 
 -- the reader has refused something
 abbrev pub is_done : {T : Type 0} → ReaderAsIs T → Bool
@@ -34,7 +34,7 @@ is_done reader = reader.is_done
 
 -- the bytes that it holds
 abbrev pub held_of : {T : Type 0} → ReaderAsIs T → List ℕ
-held_of reader = held_bytes reader.held
+held_of reader = held_in reader.fill
 
 -- the data that it lends: what follows the head of the packet that it holds
 abbrev pub data_of : {T : Type 0} → ReaderAsIs T → List ℕ

@@ -1,7 +1,7 @@
 //! Packets of a stream, as they stand.
 
 ghost use Rattle.std.specs.Prelude.{◌≡◌, false, [], IfOk, IfNone};
-ghost use Rattle.pcap_items.specs.Held.{held_bytes};
+ghost use Rattle.pcap_items.specs.Fill.{held_of as held_in, stream_of as source_of, has_failed as source_failed};
 ghost use Rattle.pcap_items.specs.Reading.{NextGives, Pulls};
 ghost use Rattle.pcap_classic.specs.Magic.{order_of, resolution_of};
 ghost use Rattle.pcap_classic.specs.Parser.{header_of};
@@ -14,7 +14,7 @@ use crate::stated::PacketsAsIs;
 use pcap_classic::TsResolution;
 use pcap_classic::pcap::{PcapHeader, PcapParser};
 use pcap_core::{Endianness, ResultParsing};
-use pcap_items::stream::{Held, fill_item};
+use pcap_items::stream::{Fill, Told};
 use std::alloc::Global;
 use std::io::Read;
 
@@ -29,11 +29,9 @@ use std::io::Read;
 pub struct ReaderAsIs<T> {
     parser: PcapParser,
     limit: u32,
-    inner: T,
-    has_failed: bool,
-    held: Held,
+    fill: Fill<T>,
     is_done: bool,
-    ghost unfailed: { is_done ≡ false → has_failed ≡ false },
+    ghost unfailed: { is_done ≡ false → source_failed fill ≡ false },
 }
 
 // Holds the next packet, its head too. Nothing is held before it, nor after a `None`.
@@ -41,16 +39,14 @@ pub struct ReaderAsIs<T> {
 fn hold<T: Read>(
     parser: &PcapParser,
     limit: u32,
-    stream: &mut T,
-    has_failed: &mut bool,
-    held: &mut Held,
+    fill: &mut Fill<T>,
 ) -> ResultParsing<Option<HeadAsIs>>
-    requires between { held_bytes held.old ≡ [] }
-    requires unfailed { has_failed.old ≡ false }
-    ensures pulls { Pulls ((as_is_under limit (header_of parser.now)).says tt) (held_as_is (held_bytes held.new)) (T.remaining stream.old) (T.remaining stream.new) has_failed.new result }
-    ensures none { IfOk result (λ head. IfNone head (held_bytes held.new ≡ [])) }
+    requires between { held_in fill.old ≡ [] }
+    requires unfailed { source_failed fill.old ≡ false }
+    ensures pulls { Pulls ((as_is_under limit (header_of parser.now)).says tt) (held_as_is (held_in fill.new)) (T.remaining (source_of fill.old)) (T.remaining (source_of fill.new)) (source_failed fill.new) result }
+    ensures none { IfOk result (λ head. IfNone head (held_in fill.new ≡ [])) }
 {
-    fill_item(&PacketsAsIs { parser, limit }, stream, has_failed, held)
+    fill.item(&PacketsAsIs { parser, limit })
 }
 
 impl<T: Read + Drop> ReaderAsIs<T> {
@@ -77,17 +73,11 @@ impl<T: Read + Drop> ReaderAsIs<T> {
         ensures next { NextGives ((as_is_under (limit_of self.old) (header_read self.old)).says tt) (lent_packet self.new) (T.remaining (stream_of self.old)) (T.remaining (stream_of self.new)) (is_done self.old) (is_done self.new) (has_failed self.old) (has_failed self.new) result }
         ensures let_go { IfNone result (data_of self.new ≡ []) }
     {
-        self.held.clear();
+        self.fill.clear();
         if self.is_done {
             return None;
         }
-        let head = hold(
-            &self.parser,
-            self.limit,
-            &mut self.inner,
-            &mut self.has_failed,
-            &mut self.held,
-        );
+        let head = hold(&self.parser, self.limit, &mut self.fill);
         self.is_done = head.is_err();
         head.transpose()
     }
@@ -108,9 +98,7 @@ impl<T> ReaderAsIs<T> {
         ReaderAsIs {
             parser,
             limit,
-            inner: stream,
-            has_failed: false,
-            held: Held::new(alloc),
+            fill: Fill::new(alloc, Told::new(stream)),
             is_done: false,
         }
     }
@@ -141,14 +129,14 @@ impl<T> ReaderAsIs<T> {
     pub fn held(&self) -> &[u8]
         ensures { result.now ≡ held_of self.now }
     {
-        self.held.as_slice()
+        self.fill.held()
     }
 
     /// The data of the packet whose head `next_header` gave last. Empty where the stream ended.
     pub fn data(&self) -> &[u8]
         ensures { result.now ≡ data_of self.now }
     {
-        let bytes = self.held.as_slice();
+        let bytes = self.held();
         if bytes.len() < 16 {
             return &[];
         }
@@ -167,20 +155,20 @@ impl<T> ReaderAsIs<T> {
     pub fn failed(&self) -> bool
         ensures { result ≡ has_failed self.now }
     {
-        self.has_failed
+        self.fill.failed()
     }
 
     /// The wrapped stream.
     pub fn get_ref(&self) -> &T
         ensures { result.now ≡ stream_of self.now }
     {
-        &self.inner
+        self.fill.get_ref()
     }
 
     /// Gives the wrapped stream back. Held bytes are dropped.
     pub fn into_reader(self) -> T
         ensures { result ≡ stream_of self }
     {
-        self.inner
+        self.fill.into_inner()
     }
 }

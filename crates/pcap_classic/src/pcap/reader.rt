@@ -4,6 +4,7 @@ ghost use Rattle.std.specs.Prelude.{◌≡◌, ◌≤◌, max, false, [], OnOk, 
 ghost use Rattle.pcap_core.specs.Bytes.{IsBorrowed, IsOwned};
 ghost use Rattle.std.specs.Borrow.{sem, Lends};
 ghost use Rattle.pcap_items.specs.Held.{held_bytes, room_of};
+ghost use Rattle.pcap_items.specs.Fill.{held_of, stream_of as source_of, has_failed as source_failed};
 ghost use Rattle.pcap_classic.specs.Packets.{reader_format};
 ghost use Rattle.pcap_classic.specs.PacketText.{packet_limit, content_of};
 ghost use Rattle.pcap_classic.specs.StatedPackets.{held_packet};
@@ -12,7 +13,7 @@ ghost use Rattle.pcap_items.specs.Reading.{NextGives, Pulls};
 use crate::pcap::stated::PacketsUnder;
 use crate::pcap::{Packet, PacketHeader, PcapHeader};
 use pcap_core::{CowBytes, ResultParsing};
-use pcap_items::stream::{Held, fill_item, take_item};
+use pcap_items::stream::{Fill, Held, Told};
 use std::alloc::Global;
 use std::io::Read;
 
@@ -39,56 +40,48 @@ pub struct PcapReader<T> {
     /// The header of the capture. Each packet is read under the header as it stands.
     pub header: PcapHeader,
     alloc: Global,
-    inner: T,
-    has_failed: bool,
-    held: Held,
-    lent: Held,
+    // what `next_header` lends
+    fill: Fill<T>,
+    // the head of what `next` takes
+    head: Held,
     is_done: bool,
-    ghost between: { is_done ≡ false → held_bytes held ≡ [] },
-    ghost unfailed: { is_done ≡ false → has_failed ≡ false },
-    ghost room: { room_of held ≤ 16 },
+    ghost between: { is_done ≡ false → held_bytes head ≡ [] },
+    ghost unfailed: { is_done ≡ false → source_failed fill ≡ false },
+    ghost room: { room_of head ≤ 16 },
 }
 
-// Takes the next packet. Nothing is held before it, nor after an `Ok`.
+// Takes the next packet. No head is held before it, nor after an `Ok`; what is lent stays.
 fn pull<T: Read>(
     alloc: Global,
     header: &PcapHeader,
-    stream: &mut T,
-    has_failed: &mut bool,
-    held: &mut Held,
+    fill: &mut Fill<T>,
+    head: &mut Held,
 ) -> ResultParsing<Option<Packet<'static>>>
-    requires between { held_bytes held.old ≡ [] }
-    requires unfailed { has_failed.old ≡ false }
-    ensures pulls { Pulls ((reader_format packet_limit header.now).says tt) content_of (T.remaining stream.old) (T.remaining stream.new) has_failed.new result }
+    requires between { held_bytes head.old ≡ [] }
+    requires unfailed { source_failed fill.old ≡ false }
+    ensures pulls { Pulls ((reader_format packet_limit header.now).says tt) content_of (T.remaining (source_of fill.old)) (T.remaining (source_of fill.new)) (source_failed fill.new) result }
     ensures owned { IfOk result (λ found. IfSome found (λ packet. IsOwned packet.data_)) }
-    ensures between { OnOk result (held_bytes held.new ≡ []) }
-    ensures room { room_of held.new ≤ max (room_of held.old) 16 }
+    ensures between { OnOk result (held_bytes head.new ≡ []) }
+    ensures room { room_of head.new ≤ max (room_of head.old) 16 }
+    ensures lent { held_of fill.new ≡ held_of fill.old }
 {
     let packets = PacketsUnder { header };
-    let Some((head, bytes)) = take_item(alloc, &packets, stream, has_failed, held)? else {
+    let Some((header, bytes)) = fill.take(alloc, &packets, head)? else {
         return Ok(None);
     };
-    Ok(Some(Packet {
-        header: head,
-        data_: CowBytes::Owned(bytes),
-    }))
+    let data_ = CowBytes::Owned(bytes);
+    Ok(Some(Packet { header, data_ }))
 }
 
 // Holds the next packet, its header too. Nothing is held before it, nor after a `None`.
 #[inline(always)]
-fn hold<T: Read>(
-    header: &PcapHeader,
-    stream: &mut T,
-    has_failed: &mut bool,
-    held: &mut Held,
-) -> ResultParsing<Option<PacketHeader>>
-    requires between { held_bytes held.old ≡ [] }
-    requires unfailed { has_failed.old ≡ false }
-    ensures pulls { Pulls ((reader_format packet_limit header.now).says tt)
-        (held_packet (held_bytes held.new)) (T.remaining stream.old) (T.remaining stream.new) has_failed.new result }
-    ensures none { IfOk result (λ head. IfNone head (held_bytes held.new ≡ [])) }
+fn hold<T: Read>(header: &PcapHeader, fill: &mut Fill<T>) -> ResultParsing<Option<PacketHeader>>
+    requires between { held_of fill.old ≡ [] }
+    requires unfailed { source_failed fill.old ≡ false }
+    ensures pulls { Pulls ((reader_format packet_limit header.now).says tt) (held_packet (held_of fill.new)) (T.remaining (source_of fill.old)) (T.remaining (source_of fill.new)) (source_failed fill.new) result }
+    ensures none { IfOk result (λ head. IfNone head (held_of fill.new ≡ [])) }
 {
-    fill_item(&PacketsUnder { header }, stream, has_failed, held)
+    fill.item(&PacketsUnder { header })
 }
 
 impl<T: Read + Drop> PcapReader<T> {
@@ -116,19 +109,14 @@ impl<T: Read + Drop> PcapReader<T> {
             (T.remaining (stream_of self.new)) (is_done self.old) (is_done self.new) (has_failed self.old) (has_failed self.new) result }
         ensures let_go { LetsGo result (data_of self.new) }
     {
-        self.lent.clear();
+        self.fill.clear();
         if self.is_done {
             return None;
         }
-        let head = hold(
-            &self.header,
-            &mut self.inner,
-            &mut self.has_failed,
-            &mut self.lent,
-        );
+        let head = hold(&self.header, &mut self.fill);
         self.is_done = head.is_err();
         if self.is_done {
-            self.lent.clear();
+            self.fill.clear();
         }
         head.transpose()
     }
@@ -143,7 +131,7 @@ impl<T> PcapReader<T> {
     pub fn data(&self) -> &[u8]
         ensures { result.now ≡ data_of self.now }
     {
-        let bytes = self.lent.as_slice();
+        let bytes = self.fill.held();
         if bytes.len() < 16 {
             return &[];
         }
@@ -173,10 +161,8 @@ impl<T> PcapReader<T> {
         PcapReader {
             header,
             alloc,
-            inner: stream,
-            has_failed: false,
-            held: Held::new(alloc),
-            lent: Held::new(alloc),
+            fill: Fill::new(alloc, Told::new(stream)),
+            head: Held::new(alloc),
             is_done: false,
         }
     }
@@ -185,14 +171,14 @@ impl<T> PcapReader<T> {
     pub fn into_reader(self) -> T
         ensures { result ≡ stream_of self }
     {
-        self.inner
+        self.fill.into_inner()
     }
 
     /// The wrapped stream.
     pub fn get_ref(&self) -> &T
         ensures { result.now ≡ stream_of self.now }
     {
-        &self.inner
+        self.fill.get_ref()
     }
 
     /// The wrapped stream. What is read of it directly is no packet of this reader's.
@@ -200,14 +186,14 @@ impl<T> PcapReader<T> {
         ensures value { result.now ≡ stream_of self.old }
         ensures* writes_back { sem 𝓛 (Lends (reader-row T.row) T.row self.entry result (reader_with self.old)) }
     {
-        &mut self.inner
+        self.fill.get_mut()
     }
 
     /// Whether a read of the wrapped stream failed.
     pub fn failed(&self) -> bool
         ensures { result ≡ has_failed self.now }
     {
-        self.has_failed
+        self.fill.failed()
     }
 }
 
@@ -226,13 +212,7 @@ impl<T: Read + Drop> Iterator for PcapReader<T> {
         if self.is_done {
             return None;
         }
-        let taken = pull(
-            self.alloc,
-            &self.header,
-            &mut self.inner,
-            &mut self.has_failed,
-            &mut self.held,
-        );
+        let taken = pull(self.alloc, &self.header, &mut self.fill, &mut self.head);
         match taken {
             Ok(None) => None,
             Ok(Some(packet)) => Some(Ok(packet)),

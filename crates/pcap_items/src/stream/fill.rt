@@ -6,11 +6,12 @@ ghost use Rattle.std.specs.Io.KnownBytes.{Keeps, IsAtEnd};
 ghost use Rattle.pcap_items.specs.contracts.stream.fill.Fill.{the_row as fill-row};
 ghost use Rattle.pcap_items.specs.Fill.{told_of, held_of, room_of, stream_of, has_failed};
 ghost use Rattle.pcap_items.specs.Format.{IsLawful};
-ghost use Rattle.pcap_items.specs.Filling.{FillsHeaded};
+ghost use Rattle.pcap_items.specs.Filling.{FillsHeaded, TakesHeaded};
+ghost use Rattle.pcap_items.specs.Held.{held_bytes, room_of as room_held};
 ghost use Rattle.pcap_items.specs.LentStreams.{fill_with};
 ghost use Rattle.pcap_items.specs.Streams.{Adds, AddsFewer, TellsCause, FillGives, HasCauseToFill};
 
-use crate::stream::{HasHead, Held, Told, fill_item, read_exactly, read_once};
+use crate::stream::{HasHead, Held, Told, fill_item, read_exactly, read_once, take_item};
 use pcap_core::ResultParsing;
 use std::alloc::Global;
 use std::io::Read;
@@ -126,6 +127,7 @@ impl<T: Read> Fill<T> {
 
     /// Fills what is held with the next item: its head, and then as many bytes as this states. `None` exactly at the end of
     /// the stream.
+    #[inline(always)]
     pub fn item<H: HasHead>(&mut self, item: &H) -> ResultParsing<Option<H::Head>>
         requires lawful { IsLawful (H.format item.now) }
         requires between { held_of self.old ≡ [] }
@@ -139,6 +141,33 @@ impl<T: Read> Fill<T> {
             &mut self.told.inner,
             &mut self.told.has_failed,
             &mut self.held,
+        )
+    }
+
+    /// Takes the next item: its head, which is held apart meanwhile, and as many bytes as this states, in a vector of their own.
+    /// `None` exactly at the end of the stream. What is held stays.
+    #[inline(always)]
+    pub fn take<H: HasHead>(
+        &mut self,
+        alloc: Global,
+        item: &H,
+        apart: &mut Held,
+    ) -> ResultParsing<Option<(H::Head, Vec<u8>)>>
+        requires lawful { IsLawful (H.format item.now) }
+        requires between { held_bytes apart.old ≡ [] }
+        requires unfailed { has_failed self.old ≡ false }
+        ensures takes { TakesHeaded ((H.format item.now).says (H.state item.now)) (H.knows item.now) ((H.format item.now).head (H.state item.now)) (λ body. body.items) (T.remaining (stream_of self.old)) (T.remaining (stream_of self.new)) (has_failed self.new) result }
+        ensures between { OnOk result (held_bytes apart.new ≡ []) }
+        ensures room { room_held apart.new ≤ max (room_held apart.old) ((H.format item.now).head (H.state item.now)) }
+        ensures held { held_of self.new ≡ held_of self.old }
+        ensures kept { room_of self.new ≡ room_of self.old }
+    {
+        take_item(
+            alloc,
+            item,
+            &mut self.told.inner,
+            &mut self.told.has_failed,
+            apart,
         )
     }
 }

@@ -2,8 +2,8 @@ use Rattle.pcap_classic.specs.Parser.{header_of}
 use Rattle.pcap_tolerant.proofs.KnownPackets.{under_lawful, as_is_held}
 use Rattle.pcap_tolerant.proofs.reader.hold.Goals as goal
 
-pub fill_item-requires-clause-lawful : goal.fill_item-requires-clause-lawful
-fill_item-requires-clause-lawful g c = under_lawful c.args.limit (header_of c.args.parser.now)
+pub item-requires-clause-lawful : goal.item-requires-clause-lawful
+item-requires-clause-lawful g c = under_lawful c.args.limit (header_of c.args.parser.now)
 
 pub returns-clause-pulls : goal.returns-clause-pulls
-returns-clause-pulls g c = as_is_held c.args.limit (header_of c.args.parser.now) _ _ _ _ c.fill_item.result c.fill_item.ensures.fills
+returns-clause-pulls g c = as_is_held c.args.limit (header_of c.args.parser.now) _ _ _ _ c.item.result c.item.ensures.fills

@@ -3,8 +3,8 @@ use Rattle.pcap_classic.proofs.Packets.{reader_lawful}
 use Rattle.pcap_classic.proofs.StatedPackets.{packet_held}
 use Rattle.pcap_classic.proofs.pcap.reader.hold.Goals as goal
 
-pub fill_item-requires-clause-lawful : goal.fill_item-requires-clause-lawful
-fill_item-requires-clause-lawful g c = reader_lawful packet_limit c.args.header.now
+pub item-requires-clause-lawful : goal.item-requires-clause-lawful
+item-requires-clause-lawful g c = reader_lawful packet_limit c.args.header.now
 
 pub returns-clause-pulls : goal.returns-clause-pulls
-returns-clause-pulls g c = packet_held c.args.header.now _ _ _ _ c.fill_item.result c.fill_item.ensures.fills
+returns-clause-pulls g c = packet_held c.args.header.now _ _ _ _ c.item.result c.item.ensures.fills
