@@ -65,7 +65,7 @@ $(OUT)/pages: $(FILES) packages/pages VERSION
 	mkdir -p $@
 	$(PYTHON) packages/pages $(FILES) $@
 
-$(PROVED): $(call sources_of,pcap_parts pcapfile_c)
+$(PROVED): $(call sources_of,pcapfile_values pcapfile_c)
 	cd crates/pcapfile_c && rt lib $(JOBS_OF_RT)
 	touch $@
 

@@ -8,11 +8,12 @@ use Rattle.pcap_ng.specs.Blocks.{Item}
 use Rattle.pcap_ng.specs.Sections.{Leaves}
 use Rattle.pcap_ng.specs.State.{State, opening, within}
 use Rattle.pcap_ng.proofs.Sections.{texts_leave}
+use Rattle.pcapfile_values.specs.declared.any_packets.PcapfileAnyPacket.{PcapfileAnyPacket}
+use Rattle.pcapfile_values.specs.declared.blocks.PcapfileSection.{PcapfileSection}
+use Rattle.pcapfile_values.specs.declared.bodies.PcapfileInterface.{PcapfileInterface}
+use Rattle.pcapfile_values.specs.declared.errors.PcapfileError.{PcapfileError}
+use Rattle.pcapfile_values.proofs.Leading.{zero_opens}
 use Rattle.pcapfile_c.specs.declared.any.PcapfileCapture.{PcapfileCapture}
-use Rattle.pcapfile_c.specs.declared.any_packets.PcapfileAnyPacket.{PcapfileAnyPacket}
-use Rattle.pcapfile_c.specs.declared.blocks.PcapfileSection.{PcapfileSection}
-use Rattle.pcapfile_c.specs.declared.bodies.PcapfileInterface.{PcapfileInterface}
-use Rattle.pcapfile_c.specs.declared.errors.PcapfileError.{PcapfileError}
 use Rattle.pcapfile_c.specs.AnyCalls.{AnyCall, AnyCalls, CameToEnd, IsFresh, Kept, NgFrontTaken, NgPacketsTaken}
 use Rattle.pcapfile_c.specs.AnyCalls.AnyCalls.{none, call, between}
 use Rattle.pcapfile_c.specs.AnyCaptures.{HasEnded, IsNg, TakesAnyNgPacket, TakesWithPlaces}
@@ -20,7 +21,6 @@ use Rattle.pcapfile_c.specs.PushPackets.{ReadSays, ShowsInForce, Stops}
 use Rattle.pcapfile_c.specs.RoomCalls.{under_status}
 use Rattle.pcapfile_c.specs.ReadBlocks.{ShowsThere, read_format}
 use Rattle.pcapfile_c.proofs.AnyTaken.{StartsNg}
-use Rattle.pcapfile_c.proofs.Leading.{zero_opens}
 use Rattle.pcapfile_c.proofs.PacketLaws.{in_force_keeps}
 use Rattle.pcapfile_c.proofs.PacketsCome.{PacketsCome, behind, come_all, front_comes, packets_among, state_all, state_same, stops_front}
 use Rattle.pcapfile_c.proofs.PushedNgPackets.{read_blocks}

@@ -11,20 +11,21 @@ use Rattle.pcap_classic.specs.HeaderText.{HeaderSays}
 use Rattle.pcap_classic.specs.Magic.{is_magic}
 use Rattle.pcap_classic.specs.Packets.{format_under}
 use Rattle.pcap_classic.specs.PacketText.{Captured, packet_limit}
+use Rattle.pcapfile_values.specs.declared.any_packets.PcapfileAnyPacket.{PcapfileAnyPacket}
+use Rattle.pcapfile_values.specs.declared.bodies.PcapfileInterface.{PcapfileInterface}
+use Rattle.pcapfile_values.specs.declared.blocks.PcapfileSection.{PcapfileSection}
+use Rattle.pcapfile_values.specs.declared.errors.PcapfileError.{PcapfileError}
+use Rattle.pcapfile_values.specs.declared.shown.PcapfileHeader.{PcapfileHeader}
+use Rattle.pcapfile_values.specs.AnyPackets.{ShowsCaptured}
+use Rattle.pcapfile_values.specs.Refusals.{TellsRefusal}
+use Rattle.pcapfile_values.specs.Shown.{shown_header}
 use Rattle.pcapfile_c.specs.declared.any.PcapfileCapture.{PcapfileCapture}
-use Rattle.pcapfile_c.specs.declared.any_packets.PcapfileAnyPacket.{PcapfileAnyPacket}
-use Rattle.pcapfile_c.specs.declared.bodies.PcapfileInterface.{PcapfileInterface}
-use Rattle.pcapfile_c.specs.declared.blocks.PcapfileSection.{PcapfileSection}
-use Rattle.pcapfile_c.specs.declared.errors.PcapfileError.{PcapfileError}
-use Rattle.pcapfile_c.specs.declared.shown.PcapfileHeader.{PcapfileHeader}
 use Rattle.pcapfile_c.specs.AnyCalls.{AnyCall, AnyCalls, CameToEnd, FrontTaken, IsFresh, Kept, NoHeader, NothingTaken, PacketsTaken, ShowAll}
 use Rattle.pcapfile_c.specs.AnyCalls.AnyCalls.{none, call, between}
-use Rattle.pcapfile_c.specs.AnyCaptures.{HasEnded, IsNg, ShowsCaptured, TakesAnyPacket, TakesCaptured}
+use Rattle.pcapfile_c.specs.AnyCaptures.{HasEnded, IsNg, TakesAnyPacket, TakesCaptured}
 use Rattle.pcapfile_c.specs.Calls.{PacketsSaid}
 use Rattle.pcapfile_c.specs.Push.{Opened}
 use Rattle.pcapfile_c.specs.RoomCalls.{under_status}
-use Rattle.pcapfile_c.specs.Refusals.{TellsRefusal}
-use Rattle.pcapfile_c.specs.Shown.{shown_header}
 use Rattle.pcapfile_c.proofs.Pushes.{HaveCome, no_packet, not_both, opened_comes, packet_comes}
 use Rattle.pcapfile_c.proofs.RoomLaws.{none_refused}
 

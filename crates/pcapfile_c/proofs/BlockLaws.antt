@@ -7,12 +7,12 @@ use Rattle.pcap_core.proofs.Kept.{zip_push}
 use Rattle.pcap_ng.specs.Blocks.{Item, BlockSays, MayGrow, block_format}
 use Rattle.pcap_ng.specs.State.{State, opening}
 use Rattle.pcap_ng.proofs.BlockFormat.{blocks_lawful, block_said}
-use Rattle.pcapfile_c.specs.declared.blocks.PcapfileBlock.{PcapfileBlock}
-use Rattle.pcapfile_c.specs.declared.blocks.PcapfileSection.{PcapfileSection}
-use Rattle.pcapfile_c.specs.declared.errors.PcapfileError.{PcapfileError}
+use Rattle.pcapfile_values.specs.declared.blocks.PcapfileBlock.{PcapfileBlock}
+use Rattle.pcapfile_values.specs.declared.blocks.PcapfileSection.{PcapfileSection}
+use Rattle.pcapfile_values.specs.declared.errors.PcapfileError.{PcapfileError}
+use Rattle.pcapfile_values.specs.declared.shown.PcapfileHeader.{PcapfileHeader}
+use Rattle.pcapfile_values.specs.Blocks.{ShowsState, ShowsBlock}
 use Rattle.pcapfile_c.specs.declared.push.PcapfilePush.{PcapfilePush}
-use Rattle.pcapfile_c.specs.declared.shown.PcapfileHeader.{PcapfileHeader}
-use Rattle.pcapfile_c.specs.Blocks.{ShowsState, ShowsBlock}
 use Rattle.pcapfile_c.specs.BlockPushes.{BlocksHaveEnded, GivesBlock, KeepsSection}
 use Rattle.pcapfile_c.specs.Push.{held_in}
 use Rattle.pcapfile_c.specs.PushBlocks.{TakesNextBlock}

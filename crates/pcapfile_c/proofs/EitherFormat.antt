@@ -1,15 +1,16 @@
 -- What the call gives that takes a packet of a capture of either format.
 use Rattle.std.proofs.Common.{◌≡◌, ℕ, ℤ, List, refl, ap, subst, inl, inr, pos, w32, of_z}
 use Rattle.pcap_classic.specs.HeaderText.{HeaderSays}
-use Rattle.pcapfile_c.specs.declared.any_packets.PcapfileAnyPacket.{PcapfileAnyPacket}
-use Rattle.pcapfile_c.specs.declared.errors.PcapfileError.{PcapfileError}
-use Rattle.pcapfile_c.specs.declared.shown.PcapfileHeader.{PcapfileHeader}
-use Rattle.pcapfile_c.specs.declared.shown.PcapfilePacket.{PcapfilePacket}
+use Rattle.pcapfile_values.specs.declared.any_packets.PcapfileAnyPacket.{PcapfileAnyPacket}
+use Rattle.pcapfile_values.specs.declared.errors.PcapfileError.{PcapfileError}
+use Rattle.pcapfile_values.specs.declared.shown.PcapfileHeader.{PcapfileHeader}
+use Rattle.pcapfile_values.specs.declared.shown.PcapfilePacket.{PcapfilePacket}
+use Rattle.pcapfile_values.specs.AnyPackets.{ShowsCaptured}
+use Rattle.pcapfile_values.specs.Shown.{captured}
 use Rattle.pcapfile_c.specs.declared.any.PcapfileCapture.{PcapfileCapture}
-use Rattle.pcapfile_c.specs.AnyCaptures.{EndTells, HasEnded, ShowsCaptured, TakesCaptured}
+use Rattle.pcapfile_c.specs.AnyCaptures.{EndTells, HasEnded, TakesCaptured}
 use Rattle.pcapfile_c.specs.Calls.{PacketsSaid}
 use Rattle.pcapfile_c.specs.Push.{TakesFront}
-use Rattle.pcapfile_c.specs.Shown.{captured}
 use Rattle.pcapfile_c.proofs.Refused.{refusal_not_0}
 
 -- a packet was taken, and is shown

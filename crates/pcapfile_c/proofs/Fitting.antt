@@ -1,9 +1,10 @@
 -- What is put is a block that is read as it was.
-use Rattle.std.proofs.Common.{◌≡◌, ◌≢◌, ℕ, ℤ, ◌+◌, ◌-◌, ◌<◌, ◌≤◌, ◌^◌, List, [], ◌∷◌, length, refl, sym, ap, subst, ◌∙◌, append-nil, arith, zero, suc, pos, negsuc, Some, None, inl, inr, w32, to_z, of_z}
+use Rattle.std.proofs.Common.{◌≡◌, ◌≢◌, ℕ, ℤ, ◌+◌, ◌-◌, ◌<◌, ◌≤◌, ◌^◌, List, [], ◌∷◌, length, take, drop, refl, sym, ap, subst, ◌∙◌, append-nil, arith, zero, suc, pos, negsuc, Some, None, inl, inr, w32, to_z, of_z}
 use Rattle.std.specs.Prelude.{◌==◌, if◌then◌else◌, Bool, false, FitsSigned}
 use Rattle.std.specs.Int.{w64, cast_unsigned}
 use Rattle.std.proofs.Math.Nat.{lt_of_not-le}
 use Rattle.std.proofs.lemmas.Bool.{ne_eqb}
+use Rattle.std.proofs.lemmas.List.{take_at, drop_at}
 use Rattle.std.proofs.lemmas.List.Elements.{All-nil, All-cons}
 use Rattle.std.proofs.lemmas.Option.{same_Some}
 use Rattle.pcap_core.specs.declared.common.Endianness.{Endianness}
@@ -18,15 +19,23 @@ use Rattle.pcap_options.specs.Values.{Entry, Integer}
 use Rattle.pcap_written.specs.Bodies.{text_of}
 use Rattle.pcap_written.specs.Fits.{AreFit, IsFitOption}
 use Rattle.pcap_written.proofs.Packets.{packet_fit}
-use Rattle.pcapfile_c.specs.declared.blocks.PcapfileSection.{PcapfileSection}
-use Rattle.pcapfile_c.specs.declared.bodies.PcapfileInterface.{PcapfileInterface}
-use Rattle.pcapfile_c.specs.declared.bodies.PcapfileNgPacket.{PcapfileNgPacket}
-use Rattle.pcapfile_c.specs.declared.errors.PcapfileError.{PcapfileError}
-use Rattle.pcapfile_c.specs.declared.reasons.Reason.{Reason}
-use Rattle.pcapfile_c.specs.Reasons.{IsRefused}
-use Rattle.pcapfile_c.specs.Putting.{Given, IsTextOf, PutsAt, PutsBlock, a_section, an_interface, a_packet, clock_options, section_block, interface_block, packet_block, resolution_byte}
-use Rattle.pcapfile_c.proofs.Parts.{clock_short, interface_long, section_long}
-use Rattle.pcapfile_c.proofs.Puts.{begins}
+use Rattle.pcapfile_values.specs.declared.blocks.PcapfileSection.{PcapfileSection}
+use Rattle.pcapfile_values.specs.declared.bodies.PcapfileInterface.{PcapfileInterface}
+use Rattle.pcapfile_values.specs.declared.bodies.PcapfileNgPacket.{PcapfileNgPacket}
+use Rattle.pcapfile_values.specs.declared.errors.PcapfileError.{PcapfileError}
+use Rattle.pcapfile_values.specs.declared.reasons.Reason.{Reason}
+use Rattle.pcapfile_values.specs.BlockTexts.{PutsAt, clock_options, section_block, interface_block, packet_block, resolution_byte}
+use Rattle.pcapfile_values.specs.Reasons.{IsRefused}
+use Rattle.pcapfile_values.proofs.Parts.{clock_short, interface_long, section_long}
+use Rattle.pcapfile_c.specs.Putting.{BeginsWith, Given, IsTextOf, PutsBlock, a_section, an_interface, a_packet}
+
+-- a text that is put at the front of a room begins it
+pub begins : {text room now : List ℕ} → (n : ℕ) → n ≡ length text → PutsAt 0 text room now → BeginsWith text room now n
+begins {text = text} {room = room} {now = now} n long p = record {
+  long = long;
+  front = ap (take n) p.is ∙ take_at text (drop (0 + length text) room) n (sym long);
+  others = ap (drop n) p.is ∙ drop_at text (drop (0 + length text) room) n (sym long) ∙ ap (λ (k : ℕ). drop k room) (omega (arith, long));
+}
 
 resolution_fit : (e : Endianness) (resolution : ℕ) → IsFitOption (number_in e) (number_bytes e) interface_description (record { code = 9; value = Integer resolution })
 resolution_fit e resolution = record { code = omega arith; no_mark = λ is. omega (arith, is); short = omega arith; kept = refl }

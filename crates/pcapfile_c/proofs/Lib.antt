@@ -1,6 +1,5 @@
 pub mod Refused
 pub mod Many
-pub mod Leading
 pub mod Passages
 pub mod Pushed
 pub mod PushedPackets
@@ -12,8 +11,6 @@ pub mod Passing
 pub mod PacketsCome
 pub mod PushedNgPackets
 pub mod PacketLaws
-pub mod Puts
-pub mod Parts
 pub mod Fitting
 pub mod PutsAgain
 pub mod CutPlaces

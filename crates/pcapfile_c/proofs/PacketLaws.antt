@@ -4,10 +4,10 @@ use Rattle.std.specs.List.{AllZip}
 use Rattle.pcap_items.specs.Format.{Front}
 use Rattle.pcap_ng.specs.Blocks.{Item}
 use Rattle.pcap_ng.specs.State.{State, opening, within}
-use Rattle.pcapfile_c.specs.declared.any_packets.PcapfileAnyPacket.{PcapfileAnyPacket}
-use Rattle.pcapfile_c.specs.declared.errors.PcapfileError.{PcapfileError}
+use Rattle.pcapfile_values.specs.declared.any_packets.PcapfileAnyPacket.{PcapfileAnyPacket}
+use Rattle.pcapfile_values.specs.declared.errors.PcapfileError.{PcapfileError}
+use Rattle.pcapfile_values.specs.declared.shown.PcapfileHeader.{PcapfileHeader}
 use Rattle.pcapfile_c.specs.declared.push.PcapfilePush.{PcapfilePush}
-use Rattle.pcapfile_c.specs.declared.shown.PcapfileHeader.{PcapfileHeader}
 use Rattle.pcapfile_c.specs.PacketPushes.{GivesUnder, InForceShown, KeepsInForce, PacketsHaveEnded}
 use Rattle.pcapfile_c.specs.Push.{held_in}
 use Rattle.pcapfile_c.specs.PushNgBatches.{TakesNextNgPackets}

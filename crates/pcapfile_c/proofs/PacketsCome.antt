@@ -12,18 +12,18 @@ use Rattle.pcap_blocks.proofs.OneBody.{body_one}
 use Rattle.pcap_ng.specs.Blocks.{Item, BlockText, block_format}
 use Rattle.pcap_ng.specs.Frames.{Framed, frame_format}
 use Rattle.pcap_ng.specs.State.{State, order_at}
-use Rattle.pcap_file.specs.Placed.{is_packet}
 use Rattle.pcap_ng.proofs.BlockFormat.{blocks_lawful}
 use Rattle.pcap_ng.proofs.HeadedFrames.{frames_lawful}
-use Rattle.pcapfile_c.specs.declared.any_packets.PcapfileAnyPacket.{PcapfileAnyPacket}
-use Rattle.pcapfile_c.specs.declared.blocks.PcapfileSection.{PcapfileSection}
-use Rattle.pcapfile_c.specs.declared.bodies.PcapfileInterface.{PcapfileInterface}
-use Rattle.pcapfile_c.specs.declared.errors.PcapfileError.{PcapfileError}
+use Rattle.pcapfile_values.specs.declared.any_packets.PcapfileAnyPacket.{PcapfileAnyPacket}
+use Rattle.pcapfile_values.specs.declared.blocks.PcapfileSection.{PcapfileSection}
+use Rattle.pcapfile_values.specs.declared.bodies.PcapfileInterface.{PcapfileInterface}
+use Rattle.pcapfile_values.specs.declared.errors.PcapfileError.{PcapfileError}
+use Rattle.pcapfile_values.specs.Refusals.{TellsRefusal}
+use Rattle.pcapfile_c.specs.Batches.{is_packet}
 use Rattle.pcapfile_c.specs.PushNgBatches.{PacketIsLast}
 use Rattle.pcapfile_c.specs.PushPackets.{EndsWalk, GivesPacket, ReadMayGrow, ReadSays, ReadText, ShowsInForce, Stops, TakesFrontPacket, is_packet_block}
 use Rattle.pcapfile_c.specs.RoomCalls.{under_status}
 use Rattle.pcapfile_c.specs.ReadBlocks.{ShowsThere, each_under, is_packet_there, read_format}
-use Rattle.pcapfile_c.specs.Refusals.{TellsRefusal}
 use Rattle.pcapfile_c.proofs.Pushes.{not_both}
 use Rattle.pcapfile_c.proofs.RoomLaws.{none_refused_where, not_for_memory}
 

@@ -26,25 +26,24 @@ use Rattle.pcap_ng.specs.Blocks.{Item, BlockSays, BlockText, MayGrow, block_form
 use Rattle.pcap_ng.specs.Bodies.{GrowsInBody, SaysOfBody}
 use Rattle.pcap_ng.specs.Frames.{Framed, FrameText, own_order}
 use Rattle.pcap_ng.specs.State.{State, opening, within, or_big, order_at, is_kept, leads, Means, MeansIf}
-use Rattle.pcap_file.specs.Placed.{is_packet}
 use Rattle.pcap_ng.proofs.BlockFormat.{block_said, blocks_lawful, good_in}
 use Rattle.pcap_ng.proofs.KeptBodies.{read_means}
 use Rattle.pcap_ng.proofs.Refusing.{body_refuses}
 use Rattle.pcap_ng.proofs.Sections.{bad_no_good}
-use Rattle.pcapfile_c.specs.declared.any_packets.PcapfileAnyPacket.{PcapfileAnyPacket}
-use Rattle.pcapfile_c.specs.declared.blocks.PcapfileSection.{PcapfileSection}
-use Rattle.pcapfile_c.specs.declared.bodies.PcapfileInterface.{PcapfileInterface}
-use Rattle.pcapfile_c.specs.declared.bodies.PcapfileNgPacket.{PcapfileNgPacket}
-use Rattle.pcapfile_c.specs.declared.errors.PcapfileError.{PcapfileError}
+use Rattle.pcapfile_values.specs.declared.any_packets.PcapfileAnyPacket.{PcapfileAnyPacket}
+use Rattle.pcapfile_values.specs.declared.blocks.PcapfileSection.{PcapfileSection}
+use Rattle.pcapfile_values.specs.declared.bodies.PcapfileInterface.{PcapfileInterface}
+use Rattle.pcapfile_values.specs.declared.bodies.PcapfileNgPacket.{PcapfileNgPacket}
+use Rattle.pcapfile_values.specs.declared.errors.PcapfileError.{PcapfileError}
+use Rattle.pcapfile_values.specs.AnyPackets.{ShowsAny}
+use Rattle.pcapfile_values.specs.Blocks.{ShowsState, TellsSection}
+use Rattle.pcapfile_values.specs.Bodies.{BodyTells, ShowsInterface, ShowsInterfaceOf, IsInterface}
+use Rattle.pcapfile_values.specs.Refusals.{ShowsError, TellsRefusalWhere}
+use Rattle.pcapfile_values.proofs.Leading.{body_faults, change_refuses, not_named, none_some, section_puts, section_refuses}
 use Rattle.pcapfile_c.specs.declared.push.PcapfilePush.{PcapfilePush}
-use Rattle.pcapfile_c.specs.AnyPackets.{ShowsAny}
-use Rattle.pcapfile_c.specs.Batches.{LeadingText, OtherText, PacketText, PacketFault, PacketMayGrow, PassageSays}
-use Rattle.pcapfile_c.specs.Blocks.{ShowsState, TellsSection}
-use Rattle.pcapfile_c.specs.Bodies.{BodyTells, ShowsInterface, ShowsInterfaceOf, IsInterface}
+use Rattle.pcapfile_c.specs.Batches.{LeadingText, OtherText, PacketText, PacketFault, PacketMayGrow, PassageSays, is_packet}
 use Rattle.pcapfile_c.specs.PushPackets.{ShowsInForce, ShowsFound, GivesPacket, PutsBlock, PutsTells, StepTells, EndsWalk, TakesFrontPacket, TakesNextPacket, is_packet_block, ReadSays, ReadMayGrow, LacksPlace, Stops}
-use Rattle.pcapfile_c.specs.Refusals.{ShowsError, TellsRefusalWhere}
 use Rattle.pcapfile_c.proofs.BlockLaws.{behind_push}
-use Rattle.pcapfile_c.proofs.Leading.{body_faults, change_refuses, not_named, none_some, section_puts, section_refuses}
 use Rattle.pcapfile_c.proofs.Pushed.{Found, held_says, with_rest}
 use Rattle.pcapfile_c.proofs.PushedBlocks.{block_ends}
 use Rattle.pcapfile_c.proofs.Refused.{tells_refusal_where}

@@ -10,14 +10,14 @@ use Rattle.pcap_classic.specs.PacketText.{Captured, packet_limit}
 use Rattle.pcap_classic.proofs.HeadedPackets.{packets_lawful}
 use Rattle.pcap_classic.proofs.Packets.{packets_say}
 use Rattle.pcap_classic.proofs.Pieces.{header_opening}
-use Rattle.pcapfile_c.specs.declared.errors.PcapfileError.{PcapfileError}
+use Rattle.pcap_items.proofs.Pieces.{after_is_drop}
+use Rattle.pcapfile_values.specs.declared.errors.PcapfileError.{PcapfileError}
+use Rattle.pcapfile_values.specs.declared.shown.PcapfileHeader.{PcapfileHeader}
+use Rattle.pcapfile_values.specs.declared.shown.PcapfilePacket.{PcapfilePacket}
+use Rattle.pcapfile_values.specs.Shown.{captured}
 use Rattle.pcapfile_c.specs.declared.push.PcapfilePush.{PcapfilePush}
-use Rattle.pcapfile_c.specs.declared.shown.PcapfileHeader.{PcapfileHeader}
-use Rattle.pcapfile_c.specs.declared.shown.PcapfilePacket.{PcapfilePacket}
 use Rattle.pcapfile_c.specs.Calls.{PacketsSaid}
 use Rattle.pcapfile_c.specs.Push.{LiesWithin, Opened, TakesFront, TakesNext, held_in}
-use Rattle.pcapfile_c.specs.Shown.{captured}
-use Rattle.pcap_items.proofs.Pieces.{after_is_drop}
 
 -- what lies between two places of a room
 pub between_same : (b e : ℕ) (room : List ℕ) → b ≤ e → take (e - b) (drop b room) ≡ drop b (take e room)

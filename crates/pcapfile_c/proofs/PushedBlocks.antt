@@ -5,11 +5,11 @@ use Rattle.pcap_core.specs.Answer.{whole}
 use Rattle.pcap_ng.specs.Blocks.{Item, BlockSays, block_format}
 use Rattle.pcap_ng.specs.State.{State}
 use Rattle.pcap_ng.proofs.BlockFormat.{blocks_lawful}
-use Rattle.pcapfile_c.specs.declared.blocks.PcapfileBlock.{PcapfileBlock}
-use Rattle.pcapfile_c.specs.declared.blocks.PcapfileSection.{PcapfileSection}
-use Rattle.pcapfile_c.specs.declared.errors.PcapfileError.{PcapfileError}
+use Rattle.pcapfile_values.specs.declared.blocks.PcapfileBlock.{PcapfileBlock}
+use Rattle.pcapfile_values.specs.declared.blocks.PcapfileSection.{PcapfileSection}
+use Rattle.pcapfile_values.specs.declared.errors.PcapfileError.{PcapfileError}
+use Rattle.pcapfile_values.specs.declared.shown.PcapfileBytes.{PcapfileBytes}
 use Rattle.pcapfile_c.specs.declared.push.PcapfilePush.{PcapfilePush}
-use Rattle.pcapfile_c.specs.declared.shown.PcapfileBytes.{PcapfileBytes}
 use Rattle.pcapfile_c.specs.Blocks.{TakesBlock, RefusesOrder}
 use Rattle.pcapfile_c.specs.Push.{held_in}
 use Rattle.pcapfile_c.specs.PushBlocks.{TakesFrontBlock, TakesNextBlock, RefusesNextBlock}

@@ -8,10 +8,10 @@ use Rattle.pcap_items.proofs.Formats.{texts_own}
 use Rattle.pcap_ng.specs.Blocks.{Item, block_format}
 use Rattle.pcap_ng.specs.State.{State}
 use Rattle.pcap_ng.proofs.BlockFormat.{blocks_lawful}
-use Rattle.pcapfile_c.specs.declared.any_packets.PcapfileAnyPacket.{PcapfileAnyPacket}
-use Rattle.pcapfile_c.specs.declared.blocks.PcapfileSection.{PcapfileSection}
-use Rattle.pcapfile_c.specs.declared.bodies.PcapfileInterface.{PcapfileInterface}
-use Rattle.pcapfile_c.specs.declared.errors.PcapfileError.{PcapfileError}
+use Rattle.pcapfile_values.specs.declared.any_packets.PcapfileAnyPacket.{PcapfileAnyPacket}
+use Rattle.pcapfile_values.specs.declared.blocks.PcapfileSection.{PcapfileSection}
+use Rattle.pcapfile_values.specs.declared.bodies.PcapfileInterface.{PcapfileInterface}
+use Rattle.pcapfile_values.specs.declared.errors.PcapfileError.{PcapfileError}
 use Rattle.pcapfile_c.specs.declared.push.PcapfilePush.{PcapfilePush}
 use Rattle.pcapfile_c.specs.PushNgBatches.{PacketIsLast, TakesFrontNgPackets, TakesNextNgPackets}
 use Rattle.pcapfile_c.specs.PushPackets.{ReadSays, Stops, TakesFrontPacket}

@@ -13,18 +13,18 @@ use Rattle.pcap_classic.specs.PacketText.{Captured, packet_limit}
 use Rattle.pcap_classic.proofs.HeadedPackets.{packets_lawful}
 use Rattle.pcap_classic.proofs.Packets.{packets_say}
 use Rattle.pcap_classic.proofs.Stable.{header_stable}
-use Rattle.pcapfile_c.specs.declared.errors.PcapfileError.{PcapfileError}
+use Rattle.pcapfile_values.specs.declared.errors.PcapfileError.{PcapfileError}
+use Rattle.pcapfile_values.specs.declared.shown.PcapfileHeader.{PcapfileHeader}
+use Rattle.pcapfile_values.specs.declared.shown.PcapfilePacket.{PcapfilePacket}
+use Rattle.pcapfile_values.specs.Refusals.{TellsRefusal}
+use Rattle.pcapfile_values.specs.Shown.{captured, shown_header}
 use Rattle.pcapfile_c.specs.declared.push.PcapfilePush.{PcapfilePush}
-use Rattle.pcapfile_c.specs.declared.shown.PcapfileHeader.{PcapfileHeader}
-use Rattle.pcapfile_c.specs.declared.shown.PcapfilePacket.{PcapfilePacket}
 use Rattle.pcapfile_c.specs.Calls.{PacketsSaid}
 use Rattle.pcapfile_c.specs.Push.{NextText, Opened, TakesFront, held_in}
 use Rattle.pcapfile_c.specs.PushBatches.{TakesFrontPackets}
 use Rattle.pcapfile_c.specs.Pushes.{GivesPackets, HaveEnded, KeepsNothing, TakingCall}
 use Rattle.pcapfile_c.specs.Pushes.TakingCall.{one, many}
-use Rattle.pcapfile_c.specs.Refusals.{TellsRefusal}
 use Rattle.pcapfile_c.specs.RoomCalls.{all_given, all_put, under_status}
-use Rattle.pcapfile_c.specs.Shown.{captured, shown_header}
 use Rattle.pcapfile_c.proofs.RoomLaws.{come_before, given_all, none_refused, put_all, refused_no_text, stays}
 
 -- packets under a magic number

@@ -22,10 +22,11 @@ use Rattle.pcap_ng.specs.Blocks.{Item, block_format}
 use Rattle.pcap_ng.specs.State.{opening}
 use Rattle.pcap_ng.specs.Written.{IsBodyOf}
 use Rattle.pcap_ng.proofs.WrittenAgain.{capture_again}
-use Rattle.pcapfile_c.specs.declared.blocks.PcapfileSection.{PcapfileSection}
-use Rattle.pcapfile_c.specs.declared.bodies.PcapfileInterface.{PcapfileInterface}
-use Rattle.pcapfile_c.specs.Bodies.{unit_shown}
-use Rattle.pcapfile_c.specs.Putting.{Given, IsBlockOf, MayStandAt, a_section, an_interface, a_packet, clock_options, interface_block, packet_block, resolution_byte, section_block}
+use Rattle.pcapfile_values.specs.declared.blocks.PcapfileSection.{PcapfileSection}
+use Rattle.pcapfile_values.specs.declared.bodies.PcapfileInterface.{PcapfileInterface}
+use Rattle.pcapfile_values.specs.BlockTexts.{clock_options, interface_block, packet_block, resolution_byte, section_block}
+use Rattle.pcapfile_values.specs.Bodies.{unit_shown}
+use Rattle.pcapfile_c.specs.Putting.{Given, IsBlockOf, MayStandAt, a_section, an_interface, a_packet}
 use Rattle.pcapfile_c.specs.PutsAgain.{ArePut, IsReadAs, IsShownBy, section_given}
 
 -- the unit of a byte is that of its base and exponent

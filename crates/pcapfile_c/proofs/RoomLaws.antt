@@ -5,11 +5,11 @@ use Rattle.pcap_core.specs.Answer.{Verdict, whole}
 use Rattle.pcap_core.specs.Faults.{Invalid, Io, Utf8}
 use Rattle.pcap_items.specs.Format.{Format, IsLawful}
 use Rattle.pcap_items.proofs.Formats.{lacks_no_text, fault_no_text}
-use Rattle.pcapfile_c.specs.declared.errors.PcapfileError.{PcapfileError}
+use Rattle.pcapfile_values.specs.declared.errors.PcapfileError.{PcapfileError}
+use Rattle.pcapfile_values.specs.declared.shown.PcapfileHeader.{PcapfileHeader}
+use Rattle.pcapfile_values.specs.Refusals.{TellsRefusal, TellsRefusalWhere}
 use Rattle.pcapfile_c.specs.declared.push.PcapfilePush.{PcapfilePush}
-use Rattle.pcapfile_c.specs.declared.shown.PcapfileHeader.{PcapfileHeader}
 use Rattle.pcapfile_c.specs.Push.{MakesSpace, held_in}
-use Rattle.pcapfile_c.specs.Refusals.{TellsRefusal, TellsRefusalWhere}
 use Rattle.pcapfile_c.specs.RoomCalls.{Ended, RoomCall, RoomCalls, all_given, all_put, under_status}
 use Rattle.pcapfile_c.specs.RoomCalls.RoomCall.{space, put, gives, between}
 

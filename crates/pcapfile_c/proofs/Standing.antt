@@ -25,13 +25,13 @@ use Rattle.pcap_tolerant_blocks.specs.SectionAsIs.{SectionText}
 use Rattle.pcap_tolerant_captures.specs.Blocks.{AsIsSays}
 use Rattle.pcap_tolerant_captures.specs.State.{State, opening, within, order_at, Role, leaves_all, role_of, Led, MeansFor, Means}
 use Rattle.pcap_tolerant_captures.proofs.Refusing.{refuses_more, first_missing}
-use Rattle.pcapfile_c.specs.declared.blocks.PcapfileBlock.{PcapfileBlock}
-use Rattle.pcapfile_c.specs.declared.blocks.PcapfileSection.{PcapfileSection}
+use Rattle.pcapfile_values.specs.declared.blocks.PcapfileBlock.{PcapfileBlock}
+use Rattle.pcapfile_values.specs.declared.blocks.PcapfileSection.{PcapfileSection}
+use Rattle.pcapfile_values.specs.Blocks.{ShowsBlock, ShowsSection, order_shown}
+use Rattle.pcapfile_values.proofs.Leading.{counted, or_some, order_of_section, zero_opens}
 use Rattle.pcapfile_c.specs.declared.blocks_as_is.FoundAsIs.{FoundAsIs}
 use Rattle.pcapfile_c.specs.declared.blocks_as_is.PcapfileBlockFlaw.{PcapfileBlockFlaw}
-use Rattle.pcapfile_c.specs.Blocks.{ShowsBlock, ShowsSection, order_shown}
 use Rattle.pcapfile_c.specs.BlocksAsIs.{ShowsStanding, shown_flaw, Reading, ReadsAs, ShowsReading, CanGrow, MayGrow, said_in, IsOf, TellsSection, FindsNothing, FindsInterface, FindsPacket, LeadsStanding}
-use Rattle.pcapfile_c.proofs.Leading.{counted, or_some, order_of_section, zero_opens}
 
 -- ---- flaws in places
 

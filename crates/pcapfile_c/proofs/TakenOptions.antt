@@ -12,10 +12,10 @@ use Rattle.pcap_options.specs.Record.{Address, AddressText, NameRecord, End, Rec
 use Rattle.pcap_blocks.specs.StoredPacket.{StoredHead}
 use Rattle.pcap_options.proofs.Naming.{split_parts}
 use Rattle.pcap_blocks.proofs.StoredPackets.{stored}
-use Rattle.pcapfile_c.specs.declared.errors.PcapfileError.{PcapfileError}
+use Rattle.pcapfile_values.specs.declared.errors.PcapfileError.{PcapfileError}
+use Rattle.pcapfile_values.specs.Refusals.{ShowsError, TellsRefusal}
 use Rattle.pcapfile_c.specs.declared.records.PcapfileRecord.{PcapfileRecord}
 use Rattle.pcapfile_c.specs.Records.{ShowsAddress, ShowsRecord}
-use Rattle.pcapfile_c.specs.Refusals.{ShowsError, TellsRefusal}
 use Rattle.pcapfile_c.proofs.Refused.{tells_refusal}
 
 -- an error that shows a fault refuses for it

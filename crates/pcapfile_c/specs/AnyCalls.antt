@@ -12,18 +12,19 @@ use Rattle.pcap_classic.specs.Packets.{format_under}
 use Rattle.pcap_classic.specs.PacketText.{Captured, packet_limit}
 use Rattle.pcap_ng.specs.Blocks.{Item}
 use Rattle.pcap_ng.specs.State.{State, opening}
+use Rattle.pcapfile_values.specs.declared.any_packets.PcapfileAnyPacket.{PcapfileAnyPacket}
+use Rattle.pcapfile_values.specs.declared.bodies.PcapfileInterface.{PcapfileInterface}
+use Rattle.pcapfile_values.specs.declared.errors.PcapfileError.{PcapfileError}
+use Rattle.pcapfile_values.specs.declared.shown.PcapfileHeader.{PcapfileHeader}
+use Rattle.pcapfile_values.specs.AnyPackets.{ShowsCaptured}
+use Rattle.pcapfile_values.specs.Refusals.{TellsRefusal}
+use Rattle.pcapfile_values.specs.Shown.{shown_header}
 use Rattle.pcapfile_c.specs.declared.any.PcapfileCapture.{PcapfileCapture}
-use Rattle.pcapfile_c.specs.declared.any_packets.PcapfileAnyPacket.{PcapfileAnyPacket}
-use Rattle.pcapfile_c.specs.declared.bodies.PcapfileInterface.{PcapfileInterface}
-use Rattle.pcapfile_c.specs.declared.errors.PcapfileError.{PcapfileError}
-use Rattle.pcapfile_c.specs.declared.shown.PcapfileHeader.{PcapfileHeader}
-use Rattle.pcapfile_c.specs.AnyCaptures.{IsNg, ShowsCaptured, TakesAnyNgPacket, TakesAnyPacket}
+use Rattle.pcapfile_c.specs.AnyCaptures.{IsNg, TakesAnyNgPacket, TakesAnyPacket}
 use Rattle.pcapfile_c.specs.Calls.{PacketsSaid}
 use Rattle.pcapfile_c.specs.PushPackets.{ReadSays, ShowsInForce}
 use Rattle.pcapfile_c.specs.RoomCalls.{under_status}
 use Rattle.pcapfile_c.specs.ReadBlocks.{ShowsThere, each_under, is_packet_there, read_format}
-use Rattle.pcapfile_c.specs.Refusals.{TellsRefusal}
-use Rattle.pcapfile_c.specs.Shown.{shown_header}
 
 -- what a walk keeps between two calls: what is in force, and the places of interfaces
 abbrev pub Kept : Type 0

@@ -6,33 +6,23 @@ use Rattle.pcap_classic.specs.HeaderText.{HeaderSays}
 use Rattle.pcap_classic.specs.Magic.{is_magic}
 use Rattle.pcap_classic.specs.PacketText.{Captured}
 use Rattle.pcap_ng.specs.State.{State}
+use Rattle.pcapfile_values.specs.declared.any_packets.PcapfileAnyPacket.{PcapfileAnyPacket}
+use Rattle.pcapfile_values.specs.declared.blocks.PcapfileSection.{PcapfileSection}
+use Rattle.pcapfile_values.specs.declared.bodies.PcapfileInterface.{PcapfileInterface}
+use Rattle.pcapfile_values.specs.declared.errors.PcapfileError.{PcapfileError}
+use Rattle.pcapfile_values.specs.declared.shown.PcapfileHeader.{PcapfileHeader}
+use Rattle.pcapfile_values.specs.AnyPackets.{ShowsCaptured}
+use Rattle.pcapfile_values.specs.Refusals.{ShowsRule, TellsRefusal}
 use Rattle.pcapfile_c.specs.declared.any.PcapfileCapture.{PcapfileCapture}
-use Rattle.pcapfile_c.specs.declared.any_packets.PcapfileAnyPacket.{PcapfileAnyPacket}
-use Rattle.pcapfile_c.specs.declared.blocks.PcapfileSection.{PcapfileSection}
-use Rattle.pcapfile_c.specs.declared.bodies.PcapfileInterface.{PcapfileInterface}
-use Rattle.pcapfile_c.specs.declared.errors.PcapfileError.{PcapfileError}
-use Rattle.pcapfile_c.specs.declared.shown.PcapfileHeader.{PcapfileHeader}
 use Rattle.pcapfile_c.specs.Calls.{PacketsSaid}
 use Rattle.pcapfile_c.specs.Push.{NextText, Opened}
 use Rattle.pcapfile_c.specs.PushPackets.{TakesFrontPacket}
-use Rattle.pcapfile_c.specs.Refusals.{ShowsRule, TellsRefusal}
 
 -- the capture is PcapNg: a section is in force, or else no header is, and the bytes begin as a section header does
 abbrev pub IsNg : PcapfileCapture → List ℕ → Type 0
 IsNg capture s =
     (capture.section.magic_number ≢ 0)
     ⊎ ((IsTrue (is_magic capture.header.magic_number) → ⊥) × IsTrue (starts_with (λ a b. a == b) s (0x0A ∷ 0x0D ∷ 0x0D ∷ 0x0A ∷ [])))
-
--- a struct that shows a packet of a pcap capture of this link type: it counts as one of the first interface, and has a time
-pub record ShowsCaptured (link : ℕ) (packet : Captured) (shown : PcapfileAnyPacket) : Type 0 where
-  pub link_is : shown.link ≡ link
-  pub interface_is : shown.interface_id ≡ 0
-  pub has_interface : shown.has_interface ≡ 1
-  pub has_time : shown.has_time ≡ 1
-  pub original_is : shown.orig_len ≡ packet.header.orig_len
-  pub seconds_are : shown.time.seconds ≡ pos packet.header.ts_sec
-  pub nanoseconds_are : shown.time.nanoseconds ≡ packet.header.ts_nsec
-  pub bytes_are : shown.bytes.now ≡ packet.bytes
 
 -- The packet at the front of s, behind the header in force or that which stands before it, and then rest. Status 0: the struct
 -- shows it. Another status: s begins no packet behind the header, which is in force now, or no header; and the struct is as it was.

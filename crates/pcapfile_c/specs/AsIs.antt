@@ -9,9 +9,9 @@ use Rattle.pcap_classic.specs.PacketText.{packet_limit, Head, nanoseconds}
 use Rattle.pcap_classic.specs.Packets.{packet_format}
 use Rattle.pcap_tolerant.specs.AsIs.{AsIs, AsIsSays, raised, rules_of, first_rule}
 use Rattle.pcap_tolerant.specs.Resync.{Resyncs, HasData}
+use Rattle.pcapfile_values.specs.declared.bodies.PcapfileTime.{PcapfileTime}
+use Rattle.pcapfile_values.specs.declared.errors.PcapfileError.{PcapfileError}
 use Rattle.pcapfile_c.specs.declared.as_is.PcapfilePacketAsIs.{PcapfilePacketAsIs}
-use Rattle.pcapfile_c.specs.declared.bodies.PcapfileTime.{PcapfileTime}
-use Rattle.pcapfile_c.specs.declared.errors.PcapfileError.{PcapfileError}
 
 -- what is said of bytes where a packet as it stands is asked for behind a header of this magic number, with this limit
 abbrev pub AsIsSaid : ℕ → ℕ → List ℕ → Verdict AsIs → Type 0

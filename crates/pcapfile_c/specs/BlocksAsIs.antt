@@ -24,18 +24,18 @@ use Rattle.pcap_tolerant_blocks.specs.InterfaceAsIs.{InterfaceText}
 use Rattle.pcap_tolerant_blocks.specs.SectionAsIs.{SectionText, SectionGrows, NoSection}
 use Rattle.pcap_tolerant_captures.specs.Blocks.{Item, AsIsSays}
 use Rattle.pcap_tolerant_captures.specs.State.{State, opening, within, order_at, Led, Means}
-use Rattle.pcapfile_c.specs.declared.blocks.PcapfileBlock.{PcapfileBlock}
-use Rattle.pcapfile_c.specs.declared.blocks.PcapfileSection.{PcapfileSection}
+use Rattle.pcapfile_values.specs.declared.blocks.PcapfileBlock.{PcapfileBlock}
+use Rattle.pcapfile_values.specs.declared.blocks.PcapfileSection.{PcapfileSection}
+use Rattle.pcapfile_values.specs.declared.bodies.PcapfileInterface.{PcapfileInterface}
+use Rattle.pcapfile_values.specs.declared.bodies.PcapfileNgPacket.{PcapfileNgPacket}
+use Rattle.pcapfile_values.specs.declared.errors.PcapfileError.{PcapfileError}
+use Rattle.pcapfile_values.specs.declared.shown.PcapfileBytes.{PcapfileBytes}
+use Rattle.pcapfile_values.specs.Blocks.{ShowsSection}
+use Rattle.pcapfile_values.specs.Bodies.{ShowsInterfaceOf, ShowsPacket}
+use Rattle.pcapfile_values.specs.Refusals.{ShowsRule, TellsRefusalWhere}
 use Rattle.pcapfile_c.specs.declared.blocks_as_is.FoundAsIs.{FoundAsIs}
 use Rattle.pcapfile_c.specs.declared.blocks_as_is.PcapfileBlockAsIs.{PcapfileBlockAsIs}
 use Rattle.pcapfile_c.specs.declared.blocks_as_is.PcapfileBlockFlaw.{PcapfileBlockFlaw}
-use Rattle.pcapfile_c.specs.declared.bodies.PcapfileInterface.{PcapfileInterface}
-use Rattle.pcapfile_c.specs.declared.bodies.PcapfileNgPacket.{PcapfileNgPacket}
-use Rattle.pcapfile_c.specs.declared.errors.PcapfileError.{PcapfileError}
-use Rattle.pcapfile_c.specs.declared.shown.PcapfileBytes.{PcapfileBytes}
-use Rattle.pcapfile_c.specs.Blocks.{ShowsSection}
-use Rattle.pcapfile_c.specs.Bodies.{ShowsInterfaceOf, ShowsPacket}
-use Rattle.pcapfile_c.specs.Refusals.{ShowsRule, TellsRefusalWhere}
 
 -- ---- what is in force
 

@@ -10,8 +10,8 @@ use Rattle.pcap_parts.specs.declared.parting.Parting.{Parting}
 use Rattle.pcap_parts.specs.declared.parting.Parting.TheVariants.{Equal, AtLeast}
 use Rattle.pcap_parts.specs.Captures.{IsCut, IsCutAtLeast, IsCutFairly}
 use Rattle.pcap_parts.specs.NgParts.{IsNgCut, IsNgCutAtLeast, IsNgCutFairly}
-use Rattle.pcapfile_c.specs.declared.errors.PcapfileError.{PcapfileError}
-use Rattle.pcapfile_c.specs.Refusals.{TellsRefusal, TellsRefusalWhere}
+use Rattle.pcapfile_values.specs.declared.errors.PcapfileError.{PcapfileError}
+use Rattle.pcapfile_values.specs.Refusals.{TellsRefusal, TellsRefusalWhere}
 
 -- the first places hold these values, so many, and all other places are as they were
 abbrev pub Fills : {A : Type 0} → List A → List A → List A → ℕ → Type 0

@@ -1,9 +1,6 @@
-pub mod Shown
-pub mod Refusals
 pub mod Calls
 pub mod Writing
 pub mod Blocks
-pub mod EnhancedOptions
 pub mod Bodies
 pub mod Batches
 pub mod Push
@@ -12,12 +9,10 @@ pub mod RoomCalls
 pub mod Pushes
 pub mod PushBlocks
 pub mod BlockPushes
-pub mod AnyPackets
 pub mod PushPackets
 pub mod ReadBlocks
 pub mod PushNgBatches
 pub mod PacketPushes
-pub mod Reasons
 pub mod Putting
 pub mod PutsAgain
 pub mod Cuts

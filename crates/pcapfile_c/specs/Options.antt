@@ -17,11 +17,11 @@ use Rattle.pcap_options.specs.Record.{NameRecord}
 use Rattle.pcap_blocks.specs.StoredPacket.{Stored, StoredHead}
 use Rattle.pcap_options.specs.Values.{Entry, Unknown}
 use Rattle.pcap_raw_options.specs.UpTo.{no_kind}
-use Rattle.pcapfile_c.specs.declared.blocks.PcapfileBlock.{PcapfileBlock}
-use Rattle.pcapfile_c.specs.declared.errors.PcapfileError.{PcapfileError}
+use Rattle.pcapfile_values.specs.declared.blocks.PcapfileBlock.{PcapfileBlock}
+use Rattle.pcapfile_values.specs.declared.errors.PcapfileError.{PcapfileError}
+use Rattle.pcapfile_values.specs.declared.shown.PcapfileBytes.{PcapfileBytes}
+use Rattle.pcapfile_values.specs.Refusals.{TellsRefusal}
 use Rattle.pcapfile_c.specs.declared.options.PcapfileOption.{PcapfileOption}
-use Rattle.pcapfile_c.specs.declared.shown.PcapfileBytes.{PcapfileBytes}
-use Rattle.pcapfile_c.specs.Refusals.{TellsRefusal}
 
 -- the option that a struct shows: its code, and its value as it stands
 abbrev pub option_shown : PcapfileOption → Entry

@@ -5,13 +5,13 @@ use Rattle.pcap_classic.specs.declared.pcap.header.PcapHeader.{PcapHeader}
 use Rattle.pcap_classic.specs.HeaderText.{HeaderSays, HeaderText}
 use Rattle.pcap_classic.specs.Magic.{is_magic}
 use Rattle.pcap_classic.specs.PacketText.{Captured}
-use Rattle.pcapfile_c.specs.declared.errors.PcapfileError.{PcapfileError}
+use Rattle.pcapfile_values.specs.declared.errors.PcapfileError.{PcapfileError}
+use Rattle.pcapfile_values.specs.declared.shown.PcapfileHeader.{PcapfileHeader}
+use Rattle.pcapfile_values.specs.declared.shown.PcapfilePacket.{PcapfilePacket}
+use Rattle.pcapfile_values.specs.Refusals.{TellsRefusal}
+use Rattle.pcapfile_values.specs.Shown.{captured, shown_header}
 use Rattle.pcapfile_c.specs.declared.push.PcapfilePush.{PcapfilePush}
-use Rattle.pcapfile_c.specs.declared.shown.PcapfileHeader.{PcapfileHeader}
-use Rattle.pcapfile_c.specs.declared.shown.PcapfilePacket.{PcapfilePacket}
 use Rattle.pcapfile_c.specs.Calls.{PacketsSaid}
-use Rattle.pcapfile_c.specs.Refusals.{TellsRefusal}
-use Rattle.pcapfile_c.specs.Shown.{captured, shown_header}
 
 -- the bytes of a room that are held: those that came, and that neither header nor packet has taken
 abbrev pub held_in : PcapfilePush → List ℕ → List ℕ

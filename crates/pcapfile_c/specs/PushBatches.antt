@@ -6,14 +6,14 @@ use Rattle.pcap_classic.specs.HeaderText.{HeaderSays}
 use Rattle.pcap_classic.specs.Magic.{is_magic, order_of, resolution_of}
 use Rattle.pcap_classic.specs.Packets.{packet_format}
 use Rattle.pcap_classic.specs.PacketText.{packet_limit}
-use Rattle.pcapfile_c.specs.declared.errors.PcapfileError.{PcapfileError}
+use Rattle.pcapfile_values.specs.declared.errors.PcapfileError.{PcapfileError}
+use Rattle.pcapfile_values.specs.declared.shown.PcapfileHeader.{PcapfileHeader}
+use Rattle.pcapfile_values.specs.declared.shown.PcapfilePacket.{PcapfilePacket}
+use Rattle.pcapfile_values.specs.Refusals.{TellsRefusal}
+use Rattle.pcapfile_values.specs.Shown.{captured}
 use Rattle.pcapfile_c.specs.declared.push.PcapfilePush.{PcapfilePush}
-use Rattle.pcapfile_c.specs.declared.shown.PcapfileHeader.{PcapfileHeader}
-use Rattle.pcapfile_c.specs.declared.shown.PcapfilePacket.{PcapfilePacket}
 use Rattle.pcapfile_c.specs.Calls.{PacketsSaid}
 use Rattle.pcapfile_c.specs.Push.{LiesWithin, LiesOutside, Opened, held_in}
-use Rattle.pcapfile_c.specs.Refusals.{TellsRefusal}
-use Rattle.pcapfile_c.specs.Shown.{captured}
 
 -- So many packets behind a header of this magic number stand at the front of s, before rest, and in the first places; all other
 -- places are as they were. Status 0: every place is filled. Another status: fewer are, and rest is refused.

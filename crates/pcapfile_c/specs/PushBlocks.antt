@@ -4,13 +4,13 @@ use Rattle.pcap_core.specs.declared.rules.Rule.TheVariants.{SectionMagic}
 use Rattle.pcap_core.specs.Answer.{whole}
 use Rattle.pcap_ng.specs.Blocks.{Item, BlockSays, MayGrow}
 use Rattle.pcap_ng.specs.State.{State}
-use Rattle.pcapfile_c.specs.declared.blocks.PcapfileBlock.{PcapfileBlock}
-use Rattle.pcapfile_c.specs.declared.blocks.PcapfileSection.{PcapfileSection}
-use Rattle.pcapfile_c.specs.declared.errors.PcapfileError.{PcapfileError}
+use Rattle.pcapfile_values.specs.declared.blocks.PcapfileBlock.{PcapfileBlock}
+use Rattle.pcapfile_values.specs.declared.blocks.PcapfileSection.{PcapfileSection}
+use Rattle.pcapfile_values.specs.declared.errors.PcapfileError.{PcapfileError}
+use Rattle.pcapfile_values.specs.Blocks.{ShowsState, ShowsBlock}
+use Rattle.pcapfile_values.specs.Refusals.{ShowsRule, TellsRefusalWhere}
 use Rattle.pcapfile_c.specs.declared.push.PcapfilePush.{PcapfilePush}
-use Rattle.pcapfile_c.specs.Blocks.{ShowsState, ShowsBlock}
 use Rattle.pcapfile_c.specs.Push.{LiesWithin, LiesOutside, held_in}
-use Rattle.pcapfile_c.specs.Refusals.{ShowsRule, TellsRefusalWhere}
 
 -- The block at the front of s under this state, and then rest. Status 0: the structs show it and what is in force after it.
 -- Another status: it is refused, and all else is as it was.

@@ -5,17 +5,17 @@ use Rattle.pcap_core.specs.declared.rules.Rule.TheVariants.{SectionMagic}
 use Rattle.pcap_items.specs.Format.{Texts, state_after}
 use Rattle.pcap_ng.specs.Blocks.{Item}
 use Rattle.pcap_ng.specs.State.{State}
-use Rattle.pcapfile_c.specs.declared.any_packets.PcapfileAnyPacket.{PcapfileAnyPacket}
-use Rattle.pcapfile_c.specs.declared.blocks.PcapfileSection.{PcapfileSection}
-use Rattle.pcapfile_c.specs.declared.bodies.PcapfileInterface.{PcapfileInterface}
-use Rattle.pcapfile_c.specs.declared.errors.PcapfileError.{PcapfileError}
+use Rattle.pcapfile_values.specs.declared.any_packets.PcapfileAnyPacket.{PcapfileAnyPacket}
+use Rattle.pcapfile_values.specs.declared.blocks.PcapfileSection.{PcapfileSection}
+use Rattle.pcapfile_values.specs.declared.bodies.PcapfileInterface.{PcapfileInterface}
+use Rattle.pcapfile_values.specs.declared.errors.PcapfileError.{PcapfileError}
+use Rattle.pcapfile_values.specs.Refusals.{ShowsRule}
 use Rattle.pcapfile_c.specs.declared.push.PcapfilePush.{PcapfilePush}
 use Rattle.pcapfile_c.specs.Push.{LiesWithin, held_in}
 use Rattle.pcapfile_c.specs.PushBatches.{FillsNone}
 use Rattle.pcapfile_c.specs.PushBlocks.{HoldsRest}
 use Rattle.pcapfile_c.specs.PushPackets.{MakesNoSense, ShowsInForce, Stops, is_packet_block}
 use Rattle.pcapfile_c.specs.ReadBlocks.{ShowsThere, each_under, is_packet_there, read_format}
-use Rattle.pcapfile_c.specs.Refusals.{ShowsRule}
 
 -- the last of these blocks, if there is one, is a packet
 abbrev pub PacketIsLast : List Item → Type 0

@@ -10,21 +10,20 @@ use Rattle.pcap_blocks.specs.ParsedBlock.{Body, BodySays}
 use Rattle.pcap_ng.specs.Blocks.{Item, BlockSays, BlockText, MayGrow, block_format}
 use Rattle.pcap_ng.specs.Frames.{FrameLacks}
 use Rattle.pcap_ng.specs.State.{State, opening, within, order_at}
-use Rattle.pcap_file.specs.Placed.{is_packet}
 use Rattle.pcap_ng.specs.State.{interfaces_at}
-use Rattle.pcapfile_c.specs.declared.any_packets.PcapfileAnyPacket.{PcapfileAnyPacket}
-use Rattle.pcapfile_c.specs.declared.blocks.PcapfileSection.{PcapfileSection}
-use Rattle.pcapfile_c.specs.declared.bodies.PcapfileInterface.{PcapfileInterface}
-use Rattle.pcapfile_c.specs.declared.bodies.PcapfileNgPacket.{PcapfileNgPacket}
-use Rattle.pcapfile_c.specs.declared.errors.PcapfileError.{PcapfileError}
+use Rattle.pcapfile_values.specs.declared.any_packets.PcapfileAnyPacket.{PcapfileAnyPacket}
+use Rattle.pcapfile_values.specs.declared.blocks.PcapfileSection.{PcapfileSection}
+use Rattle.pcapfile_values.specs.declared.bodies.PcapfileInterface.{PcapfileInterface}
+use Rattle.pcapfile_values.specs.declared.bodies.PcapfileNgPacket.{PcapfileNgPacket}
+use Rattle.pcapfile_values.specs.declared.errors.PcapfileError.{PcapfileError}
+use Rattle.pcapfile_values.specs.AnyPackets.{ShowsAny}
+use Rattle.pcapfile_values.specs.Blocks.{ShowsState}
+use Rattle.pcapfile_values.specs.Bodies.{ShowsInterfaceOf, ShowsPacket}
+use Rattle.pcapfile_values.specs.Refusals.{ShowsRule, TellsRefusalWhere}
 use Rattle.pcapfile_c.specs.declared.push.PcapfilePush.{PcapfilePush}
-use Rattle.pcapfile_c.specs.AnyPackets.{ShowsAny}
-use Rattle.pcapfile_c.specs.Batches.{PacketFault, PacketMayGrow}
-use Rattle.pcapfile_c.specs.Blocks.{ShowsState}
-use Rattle.pcapfile_c.specs.Bodies.{ShowsInterfaceOf, ShowsPacket}
+use Rattle.pcapfile_c.specs.Batches.{PacketFault, PacketMayGrow, is_packet}
 use Rattle.pcapfile_c.specs.Push.{LiesWithin, LiesOutside, held_in}
 use Rattle.pcapfile_c.specs.PushBlocks.{HoldsRest}
-use Rattle.pcapfile_c.specs.Refusals.{ShowsRule, TellsRefusalWhere}
 
 -- structs that show what is in force: the section, and in the first places its interfaces
 abbrev pub ShowsInForce : PcapfileSection → List PcapfileInterface → State → Type 0

@@ -2,13 +2,13 @@
 use Rattle.std.specs.Prelude.{◌≡◌, ◌≢◌, ⊤, ℕ, ℤ, pos, List, [], ◌∷◌, map, take, false, IsTrue}
 use Rattle.pcap_classic.specs.Magic.{is_magic}
 use Rattle.pcap_classic.specs.PacketText.{Captured}
-use Rattle.pcapfile_c.specs.declared.errors.PcapfileError.{PcapfileError}
+use Rattle.pcapfile_values.specs.declared.errors.PcapfileError.{PcapfileError}
+use Rattle.pcapfile_values.specs.declared.shown.PcapfilePacket.{PcapfilePacket}
+use Rattle.pcapfile_values.specs.Shown.{captured}
 use Rattle.pcapfile_c.specs.declared.push.PcapfilePush.{PcapfilePush}
-use Rattle.pcapfile_c.specs.declared.shown.PcapfilePacket.{PcapfilePacket}
 use Rattle.pcapfile_c.specs.Push.{TakesNext}
 use Rattle.pcapfile_c.specs.PushBatches.{TakesNextPackets}
 use Rattle.pcapfile_c.specs.RoomCalls.{Ended, under_status}
-use Rattle.pcapfile_c.specs.Shown.{captured}
 
 -- A call that takes packets, by this status that it answers: one packet, which it gives under 0, or many, of which it gives those
 -- that it took.

@@ -3,9 +3,9 @@ use Rattle.std.specs.Prelude.{◌≡◌, ℕ, List, [], ◌∷◌, ◌++◌}
 use Rattle.pcap_blocks.specs.ParsedBlock.{Body, SectionBody, InterfaceBody, EnhancedBody}
 use Rattle.pcap_ng.specs.Blocks.{Item}
 use Rattle.pcap_ng.specs.Written.{IsBodyOf}
-use Rattle.pcapfile_c.specs.declared.blocks.PcapfileSection.{PcapfileSection}
-use Rattle.pcapfile_c.specs.Blocks.{ShowsSection}
-use Rattle.pcapfile_c.specs.Bodies.{ShowsInterfaceOf, ShowsPacket}
+use Rattle.pcapfile_values.specs.declared.blocks.PcapfileSection.{PcapfileSection}
+use Rattle.pcapfile_values.specs.Blocks.{ShowsSection}
+use Rattle.pcapfile_values.specs.Bodies.{ShowsInterfaceOf, ShowsPacket}
 use Rattle.pcapfile_c.specs.Putting.{Given, IsTextOf, a_section, an_interface, a_packet}
 
 -- the struct that a call is given for the section: a section header's own, and else that of the section in force

@@ -1,54 +1,22 @@
 -- What the calls that put blocks answer.
-use Rattle.std.specs.Prelude.{◌≡◌, ◌<◌, ◌≤◌, ◌+◌, ◌^◌, ◌==◌, ◌⊎◌, ⊤, if◌then◌else◌, ℕ, ℤ, pos, negsuc, List, [], ◌∷◌, ◌++◌, length, take, drop, Some, None, FitsSigned}
-use Rattle.std.specs.Int.{w64, cast_unsigned}
+use Rattle.std.specs.Prelude.{◌≡◌, ◌<◌, ◌≤◌, ◌+◌, ◌^◌, ◌⊎◌, ⊤, ℕ, ℤ, pos, List, length, take, drop, Some, None, FitsSigned}
+use Rattle.std.specs.Int.{w64}
 use Rattle.pcap_core.specs.declared.link.DataLink.{DataLink}
 use Rattle.pcap_core.specs.declared.rules.Rule.TheVariants.{SectionMagic, InterfaceResolutionLength}
 use Rattle.pcap_core.specs.Link.{Link}
 use Rattle.pcap_core.specs.Padded.{up_to_4}
 use Rattle.pcap_blocks.specs.SectionHeader.{magic_order}
-use Rattle.pcap_blocks.specs.ParsedBlock.{Body, SectionBody, InterfaceBody, EnhancedBody}
-use Rattle.pcap_options.specs.Values.{Entry, Integer}
+use Rattle.pcap_blocks.specs.ParsedBlock.{Body}
 use Rattle.pcap_written.specs.declared.place.Place.{Place}
 use Rattle.pcap_written.specs.Capture.{IsWritten}
-use Rattle.pcap_written.specs.Plain.{plain_packet}
-use Rattle.pcapfile_c.specs.declared.blocks.PcapfileSection.{PcapfileSection}
-use Rattle.pcapfile_c.specs.declared.bodies.PcapfileInterface.{PcapfileInterface}
-use Rattle.pcapfile_c.specs.declared.bodies.PcapfileNgPacket.{PcapfileNgPacket}
-use Rattle.pcapfile_c.specs.declared.errors.PcapfileError.{PcapfileError}
-use Rattle.pcapfile_c.specs.declared.reasons.Reason.{Reason}
-use Rattle.pcapfile_c.specs.declared.reasons.Reason.TheVariants as reasons
-use Rattle.pcapfile_c.specs.Reasons.{IsRefused}
-
--- this text was put at this place, and all else is as it was
-pub record PutsAt (at : ℕ) (text old now : List ℕ) : Type 0 where
-  pub within : at + length text ≤ length old
-  pub is : now ≡ take at old ++ (text ++ drop (at + length text) old)
-
--- the section that a struct shows, without options; its length, -1, is not known ('Section Header Block')
-abbrev pub section_block : PcapfileSection → Body
-section_block s = SectionBody (record { magic = s.magic_number; major_version = s.version_major; minor_version = s.version_minor; section_length = negsuc 0; options = [] })
-
--- the byte of a unit of this base and exponent: a power of 2 has the highest bit set, and any other base is 10 (if_tsresol)
-abbrev pub resolution_byte : ℕ → ℕ → ℕ
-resolution_byte base exponent = if base == 2 then exponent + 128 else exponent
-
--- a unit by this byte, and an offset by its bits where they are not 0 (if_tsresol, if_tsoffset)
-abbrev pub clock_options : ℕ → ℕ → List Entry
-clock_options resolution offset =
-    record { code = 9; value = Integer resolution } ∷ (if offset == 0 then [] else record { code = 14; value = Integer offset } ∷ [])
-
--- how many bytes these options have with their mark
-abbrev pub clock_len : ℕ → ℕ
-clock_len offset = if offset == 0 then 12 else 24
-
--- the interface that a struct shows, with a link type of its number ('Interface Description Block')
-abbrev pub interface_block : DataLink → PcapfileInterface → Body
-interface_block link i =
-    InterfaceBody (record { linktype = link; reserved = 0; snaplen = i.snaplen; options = clock_options (resolution_byte i.ts_base i.ts_exponent) (cast_unsigned w64 i.ts_offset) })
-
--- the enhanced packet that a struct shows, without options ('Enhanced Packet Block')
-abbrev pub packet_block : PcapfileNgPacket → Body
-packet_block p = EnhancedBody (plain_packet p.interface_id p.timestamp p.orig_len p.bytes.now)
+use Rattle.pcapfile_values.specs.declared.blocks.PcapfileSection.{PcapfileSection}
+use Rattle.pcapfile_values.specs.declared.bodies.PcapfileInterface.{PcapfileInterface}
+use Rattle.pcapfile_values.specs.declared.bodies.PcapfileNgPacket.{PcapfileNgPacket}
+use Rattle.pcapfile_values.specs.declared.errors.PcapfileError.{PcapfileError}
+use Rattle.pcapfile_values.specs.declared.reasons.Reason.{Reason}
+use Rattle.pcapfile_values.specs.declared.reasons.Reason.TheVariants as reasons
+use Rattle.pcapfile_values.specs.BlockTexts.{section_block, interface_block, packet_block}
+use Rattle.pcapfile_values.specs.Reasons.{IsRefused}
 
 -- what a call is given to put
 pub data Given : Type 0 where

@@ -3,7 +3,7 @@ use Rattle.std.specs.Prelude.{List, [], ◌∷◌, Bool}
 use Rattle.pcap_items.specs.Format.{Format}
 use Rattle.pcap_ng.specs.Blocks.{Item}
 use Rattle.pcap_ng.specs.State.{State}
-use Rattle.pcapfile_c.specs.declared.any_packets.PcapfileAnyPacket.{PcapfileAnyPacket}
+use Rattle.pcapfile_values.specs.declared.any_packets.PcapfileAnyPacket.{PcapfileAnyPacket}
 use Rattle.pcapfile_c.specs.PushPackets.{ReadSays, ShowsItem, is_packet_block}
 
 -- blocks, of which the body of each packet is good

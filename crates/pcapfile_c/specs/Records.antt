@@ -8,10 +8,10 @@ use Rattle.pcap_core.specs.Answer.{Order, number_in, whole, faulty}
 use Rattle.pcap_core.specs.Faults.{Shows}
 use Rattle.pcap_options.specs.Names.{NameText, NameSays, NamesText, NamesSay}
 use Rattle.pcap_options.specs.Record.{Address, AddressSays, NameRecord, End, Ipv4, Ipv6, Other, Form, RecordValueSays, RecordText, RecordSays}
-use Rattle.pcapfile_c.specs.declared.errors.PcapfileError.{PcapfileError}
+use Rattle.pcapfile_values.specs.declared.errors.PcapfileError.{PcapfileError}
+use Rattle.pcapfile_values.specs.declared.shown.PcapfileBytes.{PcapfileBytes}
+use Rattle.pcapfile_values.specs.Refusals.{TellsRefusal}
 use Rattle.pcapfile_c.specs.declared.records.PcapfileRecord.{PcapfileRecord}
-use Rattle.pcapfile_c.specs.declared.shown.PcapfileBytes.{PcapfileBytes}
-use Rattle.pcapfile_c.specs.Refusals.{TellsRefusal}
 use Rattle.pcapfile_c.specs.Options.{BeginsTells}
 use Rattle.pcapfile_c.specs.Options as options
 

@@ -4,15 +4,15 @@ use Rattle.pcap_core.specs.declared.common.Endianness.{Endianness}
 use Rattle.pcap_core.specs.Answer.{Verdict, Says, whole, lacks, faulty}
 use Rattle.pcap_items.specs.Format.{Format, Texts}
 use Rattle.pcap_classic.specs.PacketText.{Captured}
-use Rattle.pcapfile_c.specs.declared.bodies.PcapfileNgPacket.{PcapfileNgPacket}
-use Rattle.pcapfile_c.specs.declared.errors.PcapfileError.{PcapfileError}
+use Rattle.pcapfile_values.specs.declared.bodies.PcapfileNgPacket.{PcapfileNgPacket}
+use Rattle.pcapfile_values.specs.declared.errors.PcapfileError.{PcapfileError}
+use Rattle.pcapfile_values.specs.declared.shown.PcapfileBytes.{PcapfileBytes}
+use Rattle.pcapfile_values.specs.declared.shown.PcapfileHeader.{PcapfileHeader}
+use Rattle.pcapfile_values.specs.Refusals.{TellsRefusal, TellsRefusalWhere}
 use Rattle.pcapfile_c.specs.declared.rows.PcapfileNgRow.{PcapfileNgRow}
 use Rattle.pcapfile_c.specs.declared.rows.PcapfileRow.{PcapfileRow}
-use Rattle.pcapfile_c.specs.declared.shown.PcapfileBytes.{PcapfileBytes}
-use Rattle.pcapfile_c.specs.declared.shown.PcapfileHeader.{PcapfileHeader}
 use Rattle.pcapfile_c.specs.Batches.{EndsWithPacket, Leading, OtherText, PacketMayGrow, PacketText, PassageSays, somes}
 use Rattle.pcapfile_c.specs.Calls.{PacketsSaid}
-use Rattle.pcapfile_c.specs.Refusals.{TellsRefusal, TellsRefusalWhere}
 
 -- how many bytes these are, up to the largest number
 abbrev pub stored_shown : List ℕ → ℕ

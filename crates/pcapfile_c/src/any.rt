@@ -1,21 +1,19 @@
 //! Captures of either format that lie in memory: their packets, by one call.
 
 ghost use Rattle.std.specs.Prelude.{◌≡◌, ◌↔◌, pos, None, IsTrue};
-ghost use Rattle.pcap_classic.specs.Magic.{is_magic};
 ghost use Rattle.pcap_ng.specs.State.{State};
-ghost use Rattle.pcapfile_c.specs.AnyCaptures.{IsNg, HasEnded, TakesAnyPacket, TakesAnyNgPacket, TakesHeaded, TakesSectioned, RefusesAnyPacket, TakesCaptured, TakesWithPlaces, RefusesWithPlaces, ShowsCaptured};
-ghost use Rattle.pcapfile_c.specs.Blocks.{order_shown};
+ghost use Rattle.pcapfile_values.specs.Blocks.{order_shown};
+ghost use Rattle.pcapfile_c.specs.AnyCaptures.{IsNg, HasEnded, TakesAnyPacket, TakesAnyNgPacket, TakesHeaded, TakesSectioned, RefusesAnyPacket, TakesCaptured, TakesWithPlaces, RefusesWithPlaces};
 ghost use Rattle.pcapfile_c.specs.PushPackets.{ShowsInForce};
-ghost use Rattle.pcapfile_c.specs.Shown.{captured};
 
-use crate::any_packets::PcapfileAnyPacket;
-use crate::blocks::PcapfileSection;
-use crate::bodies::{PcapfileInterface, PcapfileTime};
-use crate::errors::{PcapfileError, tell_broken};
 use crate::push::take_front;
 use crate::push_packets::take_packet;
-use crate::shown::{PcapfileBytes, PcapfileHeader, PcapfilePacket};
 use pcap_core::rules::Rule;
+use pcapfile_values::any_packets::PcapfileAnyPacket;
+use pcapfile_values::blocks::PcapfileSection;
+use pcapfile_values::bodies::PcapfileInterface;
+use pcapfile_values::errors::{PcapfileError, tell_broken};
+use pcapfile_values::shown::{PcapfileBytes, PcapfileHeader, PcapfilePacket};
 use std::alloc::Global;
 
 /// What a walk over the packets of a capture of either format keeps between two of them. In C: `pcapfile_capture`.
@@ -147,28 +145,5 @@ impl PcapfileCapture {
         status == 1
             && left.is_empty()
             && (self.section.magic_number != 0 || self.header.kind().is_some())
-    }
-}
-
-impl<'a> PcapfileAnyPacket<'a> {
-    // What C sees of a packet behind this header.
-    pub(crate) fn of_capture(
-        packet: &PcapfilePacket<'a>,
-        header: &PcapfileHeader,
-    ) -> PcapfileAnyPacket<'a>
-        ensures { ShowsCaptured header.now.link (captured packet.now) result }
-    {
-        PcapfileAnyPacket {
-            link: header.link,
-            interface_id: 0,
-            has_interface: 1,
-            has_time: 1,
-            orig_len: packet.orig_len,
-            time: PcapfileTime {
-                seconds: i64::from(packet.ts_sec),
-                nanoseconds: packet.ts_nsec,
-            },
-            bytes: packet.bytes,
-        }
     }
 }

@@ -8,14 +8,14 @@ ghost use Rattle.pcap_tolerant.specs.AsIs.{rules_of, first_rule, as_it_is};
 ghost use Rattle.pcapfile_c.specs.AsIs.{bits_of, number_or_0, ShowsAsIs, AsIsSaid, TellsPlace, PacketsStandAgain};
 ghost use Rattle.pcapfile_c.specs.Calls.{Takes, RefusesMagic};
 
-use crate::bodies::PcapfileTime;
-use crate::errors::{PcapfileError, tell, tell_broken};
-use crate::shown::{PcapfileBytes, PcapfileHeader};
 use pcap_classic::TsResolution;
 use pcap_classic::pcap::PcapParser;
 use pcap_core::rules::Rule;
 use pcap_tolerant::resync::resync;
 use pcap_tolerant::{Flaws, PacketAsIs, next_packet_as_is};
+use pcapfile_values::bodies::PcapfileTime;
+use pcapfile_values::errors::{PcapfileError, tell, tell_broken};
+use pcapfile_values::shown::{PcapfileBytes, PcapfileHeader};
 
 /// A packet as it stands; its bytes lie where its capture lies. In C: `pcapfile_packet_as_is`.
 #[repr(C)]
@@ -51,7 +51,7 @@ pub extern "C" fn pcapfile_take_packet_as_is<'a>(
         Takes (AsIsSaid limit header.now.magic_number) (ShowsAsIs (resolution_of header.now.magic_number)) left.old left.new packet.old packet.new error.old error.new result }
     ensures refused { is_magic header.now.magic_number ≡ false → RefusesMagic left.old left.new packet.old packet.new error.new result }
 {
-    let Some(parser) = header.parser() else {
+    let Some(parser) = parser_behind(header) else {
         return tell_broken(Rule::CaptureMagic, error);
     };
     match next_packet_as_is(&parser, left.bytes, limit) {
@@ -78,7 +78,7 @@ pub extern "C" fn pcapfile_resync(
         TellsPlace (PacketsStandAgain header.now.magic_number row bytes.now.bytes.now) place.old place.new error.old error.new result }
     ensures refused { is_magic header.now.magic_number ≡ false → RefusesMagic bytes.now bytes.now place.old place.new error.new result }
 {
-    let Some(parser) = header.parser() else {
+    let Some(parser) = parser_behind(header) else {
         return tell_broken(Rule::CaptureMagic, error);
     };
     match resync(&parser, bytes.bytes, row) {
@@ -90,14 +90,12 @@ pub extern "C" fn pcapfile_resync(
     }
 }
 
-impl PcapfileHeader {
-    // The parser of the packets behind it. None where its magic number is none of the four.
-    fn parser(&self) -> Option<PcapParser>
-        ensures { let magic = self.now.magic_number in
-            MatchOption result (is_magic magic ≡ false) (λ parser. IsTrue (is_magic magic) × ((header_of parser).magic_number ≡ magic)) }
-    {
-        PcapParser::with_header(self.header()).ok()
-    }
+// The parser of the packets behind a header. None where its magic number is none of the four.
+fn parser_behind(header: &PcapfileHeader) -> Option<PcapParser>
+    ensures { let magic = header.now.magic_number in
+        MatchOption result (is_magic magic ≡ false) (λ parser. IsTrue (is_magic magic) × ((header_of parser).magic_number ≡ magic)) }
+{
+    PcapParser::with_header(header.header()).ok()
 }
 
 impl<'a> PcapfilePacketAsIs<'a> {

@@ -7,10 +7,10 @@ ghost use Rattle.pcap_parts.specs.declared.parting.Parting.TheVariants as partin
 ghost use Rattle.pcap_parts.specs.Partings.{AsksSome};
 ghost use Rattle.pcapfile_c.specs.Cuts.{CutsBlocks, Fills, HasRoom, TellsBlockCuts};
 
-use crate::errors::{PcapfileError, tell};
-use crate::shown::PcapfileBytes;
-use pcap_file::ResultParsing;
+use pcap_core::ResultParsing;
 use pcap_parts::{NgCut, NgCuts, Parting, cut_pcapng, cut_pcapng_at_least};
+use pcapfile_values::errors::{PcapfileError, tell};
+use pcapfile_values::shown::PcapfileBytes;
 use std::alloc::Global;
 
 /// Where a capture can be cut into as many parts of equal length as there are places in `cuts`, but for less than a block each, so

@@ -11,18 +11,20 @@ ghost use Rattle.pcap_tolerant_blocks.specs.EnhancedAsIs.{EnhancedText, enhanced
 ghost use Rattle.pcap_tolerant_blocks.specs.Flaws.{said_of};
 ghost use Rattle.pcap_tolerant_blocks.specs.InterfaceAsIs.{InterfaceText, interface_in, flaws_said as interface_flaws};
 ghost use Rattle.pcap_tolerant_captures.specs.State.{State};
-ghost use Rattle.pcapfile_c.specs.Blocks.{order_shown};
+ghost use Rattle.pcapfile_values.specs.Blocks.{order_shown};
 ghost use Rattle.pcapfile_c.specs.BlocksAsIs.{ShowsStanding, shown_flaw, ShowsFlaws, ShowsReading, said_in, IsOf, TellsSection, FindsNothing, FindsInterface, FindsPacket, LeadsStanding, NextStands, TakesStanding, RefusesStanding};
 
-use crate::blocks::{PcapfileBlock, PcapfileSection};
-use crate::bodies::{PcapfileInterface, PcapfileNgPacket, enhanced_shown, interface_shown};
-use crate::errors::{PcapfileError, tell};
-use crate::shown::PcapfileBytes;
 use byteorder::{BigEndian, LittleEndian};
 use pcap_core::rules::Rule;
-use pcap_file::pcapng::{Block, BlockType};
-use pcap_file::{Endianness, PcapError, ResultParsing};
+use pcap_core::{Endianness, PcapError, ResultParsing};
+use pcap_ng::pcapng::{Block, BlockType};
 use pcap_tolerant_blocks::{Broken, EnhancedAsIs, Flaw, InterfaceAsIs, SectionAsIs};
+use pcapfile_values::blocks::{PcapfileBlock, PcapfileSection};
+use pcapfile_values::bodies::{
+    PcapfileInterface, PcapfileNgPacket, enhanced_shown, interface_shown,
+};
+use pcapfile_values::errors::{PcapfileError, tell};
+use pcapfile_values::shown::PcapfileBytes;
 use std::alloc::{AllocError, Global};
 
 /// What is wrong with the body of a block. In C: `pcapfile_block_flaw`.
@@ -70,7 +72,7 @@ pub extern "C" fn pcapfile_take_block_as_is<'a>(
     ensures refused { order_shown section.old.magic_number ≡ None →
         RefusesStanding section.old section.new left.old left.new block.old block.new flaws.old flaws.new error.new result }
 {
-    match section.next_standing(alloc, left.bytes) {
+    match next_standing(section, alloc, left.bytes) {
         Ok((rest, (found, next))) => {
             show_flaws(found.flaws.as_slice(), flaws);
             *block = found.shown;
@@ -89,73 +91,71 @@ struct FoundAsIs<'a> {
     flaws: Vec<Flaw>,
 }
 
-impl PcapfileSection {
-    // The block at the front of a slice as it stands, what is in force after it, and what follows it.
-    fn next_standing<'a>(
-        &self,
-        alloc: Global,
-        slice: &'a [u8],
-    ) -> ResultParsing<(&'a [u8], (FoundAsIs<'a>, PcapfileSection))>
-        ensures said { (q : State) → ShowsStanding self.now q → NextStands q slice.now result }
-        ensures refused { order_shown self.now.magic_number ≡ None → IsErrAnd result (Names SectionMagic) }
-    {
-        let Some(order) = self.order() else {
-            return Err(PcapError::from(Rule::SectionMagic));
-        };
-        let (rest, block) = Block::from_slice(order, slice)?;
-        let found = self.standing(alloc, block)?;
-        Ok((rest, found))
-    }
+// The block at the front of a slice as it stands, what is in force after it, and what follows it.
+fn next_standing<'a>(
+    section: &PcapfileSection,
+    alloc: Global,
+    slice: &'a [u8],
+) -> ResultParsing<(&'a [u8], (FoundAsIs<'a>, PcapfileSection))>
+    ensures said { (q : State) → ShowsStanding section.now q → NextStands q slice.now result }
+    ensures refused { order_shown section.now.magic_number ≡ None → IsErrAnd result (Names SectionMagic) }
+{
+    let Some(order) = section.order() else {
+        return Err(PcapError::from(Rule::SectionMagic));
+    };
+    let (rest, block) = Block::from_slice(order, slice)?;
+    let found = standing(section, alloc, block)?;
+    Ok((rest, found))
+}
 
-    // What is found of a block, and what is in force after it.
-    fn standing<'a>(
-        &self,
-        alloc: Global,
-        block: Block<'a>,
-    ) -> ResultParsing<(FoundAsIs<'a>, PcapfileSection)>
-        requires { IsBorrowed block.body }
-        ensures { (q : State) → ShowsStanding self.now q → LeadsStanding q (framed_of block.entry) result }
-    {
-        match block.type_ {
-            BlockType::SectionHeader => {
-                let lent = PcapfileBlock::new(block);
-                let (section, flaws) = section_standing(alloc, lent.body)?;
-                Ok((FoundAsIs::nothing(lent, flaws), section))
-            }
-            _ => self.standing_on(alloc, block),
+// What is found of a block, and what is in force after it.
+fn standing<'a>(
+    section: &PcapfileSection,
+    alloc: Global,
+    block: Block<'a>,
+) -> ResultParsing<(FoundAsIs<'a>, PcapfileSection)>
+    requires { IsBorrowed block.body }
+    ensures { (q : State) → ShowsStanding section.now q → LeadsStanding q (framed_of block.entry) result }
+{
+    match block.type_ {
+        BlockType::SectionHeader => {
+            let lent = PcapfileBlock::new(block);
+            let (opened, flaws) = section_standing(alloc, lent.body)?;
+            Ok((FoundAsIs::nothing(lent, flaws), opened))
         }
+        _ => standing_on(section, alloc, block),
     }
+}
 
-    // The same of a block that is no section.
-    fn standing_on<'a>(
-        &self,
-        alloc: Global,
-        block: Block<'a>,
-    ) -> ResultParsing<(FoundAsIs<'a>, PcapfileSection)>
-        requires other { block.type_ ≢ types.SectionHeader }
-        requires borrowed { IsBorrowed block.body }
-        ensures { (q : State) → ShowsStanding self.now q → LeadsStanding q (framed_of block.entry) result }
-    {
-        if self.magic_number == 0 {
-            return Err(PcapError::from(Rule::SectionMissing));
+// The same of a block that is no section.
+fn standing_on<'a>(
+    section: &PcapfileSection,
+    alloc: Global,
+    block: Block<'a>,
+) -> ResultParsing<(FoundAsIs<'a>, PcapfileSection)>
+    requires other { block.type_ ≢ types.SectionHeader }
+    requires borrowed { IsBorrowed block.body }
+    ensures { (q : State) → ShowsStanding section.now q → LeadsStanding q (framed_of block.entry) result }
+{
+    if section.magic_number == 0 {
+        return Err(PcapError::from(Rule::SectionMissing));
+    }
+    let (type_, order) = (block.type_, block.endianness());
+    let lent = PcapfileBlock::new(block);
+    match type_ {
+        BlockType::InterfaceDescription => {
+            let found = FoundAsIs::interface(alloc, order, lent)?;
+            let interfaces = section.interfaces.saturating_add(1);
+            Ok((
+                found,
+                PcapfileSection {
+                    interfaces,
+                    ..*section
+                },
+            ))
         }
-        let (type_, order) = (block.type_, block.endianness());
-        let lent = PcapfileBlock::new(block);
-        match type_ {
-            BlockType::InterfaceDescription => {
-                let found = FoundAsIs::interface(alloc, order, lent)?;
-                let interfaces = self.interfaces.saturating_add(1);
-                Ok((
-                    found,
-                    PcapfileSection {
-                        interfaces,
-                        ..*self
-                    },
-                ))
-            }
-            BlockType::EnhancedPacket => Ok((FoundAsIs::packet(alloc, order, lent)?, *self)),
-            _ => Ok((FoundAsIs::nothing(lent, Vec::new(alloc)), *self)),
-        }
+        BlockType::EnhancedPacket => Ok((FoundAsIs::packet(alloc, order, lent)?, *section)),
+        _ => Ok((FoundAsIs::nothing(lent, Vec::new(alloc)), *section)),
     }
 }
 

@@ -9,10 +9,10 @@ ghost use Rattle.pcap_parts.specs.Parts.{AreCuts};
 ghost use Rattle.pcap_parts.specs.Partings.{AreAskedFor, AsksSome};
 ghost use Rattle.pcapfile_c.specs.Cuts.{HasRoom, TellsCuts};
 
-use crate::errors::{PcapfileError, tell};
-use crate::shown::PcapfileBytes;
-use pcap_file::pcap::PcapParser;
+use pcap_classic::pcap::PcapParser;
 use pcap_parts::{Cut, Parting, Passed, skip_packets};
+use pcapfile_values::errors::{PcapfileError, tell};
+use pcapfile_values::shown::PcapfileBytes;
 
 /// Where a capture can be cut into as many parts of equal length as there are places, but for less than a packet each, so that no
 /// packet is torn. `count` says how many places are filled. The places are `pcapfile_cut` in C.

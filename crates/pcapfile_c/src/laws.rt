@@ -8,15 +8,16 @@ ghost use Rattle.pcap_classic.specs.Front.{CaptureFront};
 ghost use Rattle.pcap_classic.specs.PacketText.{Captured, packet_limit};
 ghost use Rattle.pcap_ng.specs.Blocks.{Item, block_format};
 ghost use Rattle.pcap_ng.specs.State.{opening};
-ghost use Rattle.pcapfile_c.specs.declared.blocks.PcapfileBlock.{PcapfileBlock};
-ghost use Rattle.pcapfile_c.specs.declared.blocks.PcapfileSection.{PcapfileSection};
+ghost use Rattle.pcapfile_values.specs.declared.blocks.PcapfileBlock.{PcapfileBlock};
+ghost use Rattle.pcapfile_values.specs.declared.blocks.PcapfileSection.{PcapfileSection};
+ghost use Rattle.pcapfile_values.specs.declared.errors.PcapfileError.{PcapfileError};
+ghost use Rattle.pcapfile_values.specs.declared.any_packets.PcapfileAnyPacket.{PcapfileAnyPacket};
+ghost use Rattle.pcapfile_values.specs.Blocks.{ShowsState, ShowsBlock};
+ghost use Rattle.pcapfile_values.specs.Shown.{shown_header};
 ghost use Rattle.pcapfile_c.specs.declared.push.PcapfilePush.{PcapfilePush};
-ghost use Rattle.pcapfile_c.specs.declared.errors.PcapfileError.{PcapfileError};
 ghost use Rattle.pcapfile_c.specs.AnyCalls.{AnyCall, AnyCalls, CameToEnd, FrontTaken, IsFresh, Kept, NgFrontTaken, NgPacketsTaken, NoHeader, NothingTaken, PacketsTaken};
 ghost use Rattle.pcapfile_c.specs.AnyCaptures.{IsNg};
-ghost use Rattle.pcapfile_c.specs.Blocks.{ShowsState, ShowsBlock};
 ghost use Rattle.pcapfile_c.specs.BlockPushes.{BlocksHaveEnded};
-ghost use Rattle.pcapfile_c.specs.declared.any_packets.PcapfileAnyPacket.{PcapfileAnyPacket};
 ghost use Rattle.pcapfile_c.specs.PacketPushes.{PacketsHaveEnded};
 ghost use Rattle.pcapfile_c.specs.Push.{held_in};
 ghost use Rattle.pcapfile_c.specs.Pushes.{HaveEnded};
@@ -24,7 +25,6 @@ ghost use Rattle.pcapfile_c.specs.Putting.{Given, a_section};
 ghost use Rattle.pcapfile_c.specs.PutsAgain.{ArePut, IsReadAs};
 ghost use Rattle.pcapfile_c.specs.RoomCalls.{all_given, all_put};
 ghost use Rattle.pcapfile_c.specs.ReadBlocks.{ShowsThere, each_under, is_packet_there, read_format};
-ghost use Rattle.pcapfile_c.specs.Shown.{shown_header};
 
 /// However a capture is cut, and whatever calls are made in any order, in any rooms in which C leaves what is held: where a call
 /// tells that no packet follows, the packets that were given are those of the front of all bytes that were put, and what is held

@@ -6,7 +6,6 @@
 #![tactic(auto)]
 
 mod any;
-mod any_packets;
 mod as_is;
 mod batches;
 mod block_cuts;
@@ -14,8 +13,6 @@ mod blocks;
 mod blocks_as_is;
 mod bodies;
 mod cuts;
-mod enhanced_options;
-mod errors;
 pub mod laws;
 mod options;
 mod pcap;
@@ -24,11 +21,8 @@ mod push_batches;
 mod push_blocks;
 mod push_packets;
 mod putting;
-mod reasons;
 mod records;
 mod rows;
 mod rule_texts;
-mod shown;
-mod texts;
 mod version;
 mod writing;

@@ -7,15 +7,15 @@ ghost use Rattle.pcap_blocks.specs.SectionHeader.{magic_order};
 ghost use Rattle.pcapfile_c.specs.Bodies.{RefusesSection};
 ghost use Rattle.pcapfile_c.specs.Options.{FindsOptions, TakesOption, OptionsTell, OptionTells, FixedTells, PacketTells};
 
-use crate::blocks::{PcapfileBlock, PcapfileSection};
-use crate::errors::{PcapfileError, tell, tell_broken};
 use crate::records::behind_records;
-use crate::shown::PcapfileBytes;
 use byteorder::{BigEndian, ByteOrder, LittleEndian};
 use pcap_blocks::BlockType;
 use pcap_core::fields::{split_padded, split_u16, split_u32};
 use pcap_core::rules::Rule;
 use pcap_core::{Endianness, PcapError, ResultParsing};
+use pcapfile_values::blocks::{PcapfileBlock, PcapfileSection};
+use pcapfile_values::errors::{PcapfileError, tell, tell_broken};
+use pcapfile_values::shown::PcapfileBytes;
 
 /// An option: its code, and its value, which lies in the capture. In C: `pcapfile_option`.
 #[repr(C)]

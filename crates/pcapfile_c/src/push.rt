@@ -4,9 +4,9 @@ ghost use Rattle.std.specs.Prelude.{◌≡◌, ◌≤◌, ◌↔◌, false, IsTr
 ghost use Rattle.pcap_classic.specs.Magic.{is_magic};
 ghost use Rattle.pcapfile_c.specs.Push.{LiesWithin, MakesSpace, MovesToFront, Puts, TakesFront, TakesNext};
 
-use crate::errors::PcapfileError;
 use crate::pcap::{next_packet, pcapfile_take_header, pcapfile_take_packet};
-use crate::shown::{PcapfileBytes, PcapfileHeader, PcapfilePacket};
+use pcapfile_values::errors::PcapfileError;
+use pcapfile_values::shown::{PcapfileBytes, PcapfileHeader, PcapfilePacket};
 
 /// What is kept between two calls of a capture that comes in pieces. Its bytes lie in room of the caller's, which each call is
 /// given anew. In C: `pcapfile_push`.

@@ -3,21 +3,21 @@
 ghost use Rattle.std.specs.Prelude.{◌≡◌, ◌≤◌, length, false, IsTrue, None};
 ghost use Rattle.pcap_classic.specs.Magic.{is_magic};
 ghost use Rattle.pcap_ng.specs.State.{State};
-ghost use Rattle.pcapfile_c.specs.Blocks.{order_shown};
+ghost use Rattle.pcapfile_values.specs.Blocks.{order_shown};
 ghost use Rattle.pcapfile_c.specs.PushBatches.{FillsPlaces, TakesFrontPackets, TakesNextPackets};
 ghost use Rattle.pcapfile_c.specs.PushNgBatches.{TakesFrontNgPackets, TakesNextNgPackets, RefusesNextNgPackets};
 ghost use Rattle.pcapfile_c.specs.PushPackets.{ShowsInForce};
 
-use crate::any_packets::PcapfileAnyPacket;
-use crate::blocks::PcapfileSection;
-use crate::bodies::PcapfileInterface;
-use crate::errors::{PcapfileError, tell, tell_broken};
 use crate::pcap::{pcapfile_take_header, pcapfile_take_packets};
 use crate::push::PcapfilePush;
 use crate::push_packets::take_packet;
-use crate::shown::{PcapfileBytes, PcapfileHeader, PcapfilePacket};
+use pcap_core::PcapError;
 use pcap_core::rules::Rule;
-use pcap_file::PcapError;
+use pcapfile_values::any_packets::PcapfileAnyPacket;
+use pcapfile_values::blocks::PcapfileSection;
+use pcapfile_values::bodies::PcapfileInterface;
+use pcapfile_values::errors::{PcapfileError, tell, tell_broken};
+use pcapfile_values::shown::{PcapfileBytes, PcapfileHeader, PcapfilePacket};
 use std::alloc::Global;
 
 /// Takes packets at the front of what is held until each place is filled or what is left is refused, and the capture's header

@@ -2,13 +2,14 @@
 
 ghost use Rattle.std.specs.Prelude.{◌≡◌, None};
 ghost use Rattle.pcap_ng.specs.State.{State};
-ghost use Rattle.pcapfile_c.specs.Blocks.{ShowsState, order_shown};
+ghost use Rattle.pcapfile_values.specs.Blocks.{ShowsState, order_shown};
 ghost use Rattle.pcapfile_c.specs.PushBlocks.{TakesNextBlock, RefusesNextBlock};
 
-use crate::blocks::{PcapfileBlock, PcapfileSection, pcapfile_take_block};
-use crate::errors::PcapfileError;
+use crate::blocks::pcapfile_take_block;
 use crate::push::PcapfilePush;
-use crate::shown::PcapfileBytes;
+use pcapfile_values::blocks::{PcapfileBlock, PcapfileSection};
+use pcapfile_values::errors::PcapfileError;
+use pcapfile_values::shown::PcapfileBytes;
 use std::alloc::Global;
 
 /// Takes the block at the front of what is held. `section` is what is in force before it, and then after it. The block's body

@@ -4,20 +4,20 @@ ghost use Rattle.std.specs.Prelude.{◌≡◌, ◌<◌, ◌≤◌, List, length,
 ghost use Rattle.pcap_blocks.specs.declared.block_type.BlockType.TheVariants as types;
 ghost use Rattle.pcap_blocks.specs.SectionHeader.{magic_order};
 ghost use Rattle.pcap_ng.specs.State.{State, order_at};
+ghost use Rattle.pcapfile_values.specs.Blocks.{order_shown};
 ghost use Rattle.pcapfile_c.specs.Batches.{LeadingText};
-ghost use Rattle.pcapfile_c.specs.Blocks.{order_shown};
 ghost use Rattle.pcapfile_c.specs.PushPackets.{ShowsInForce, LeavesFewer, PutsTells, StepTells, TakesFrontPacket, TakesNextPacket, RefusesNextPacket};
 
-use crate::any_packets::PcapfileAnyPacket;
-use crate::batches::Front;
-use crate::blocks::{PcapfileSection, section_in};
-use crate::bodies::{PcapfileInterface, interface_of};
-use crate::errors::{PcapfileError, tell, tell_broken};
+use crate::batches::{Front, front_of};
 use crate::push::PcapfilePush;
-use crate::shown::PcapfileBytes;
+use pcap_core::Endianness;
 use pcap_core::rules::Rule;
-use pcap_file::Endianness;
-use pcap_file::pcapng::BlockType;
+use pcap_ng::pcapng::BlockType;
+use pcapfile_values::any_packets::PcapfileAnyPacket;
+use pcapfile_values::blocks::{PcapfileSection, section_in};
+use pcapfile_values::bodies::{PcapfileInterface, interface_of};
+use pcapfile_values::errors::{PcapfileError, tell, tell_broken};
+use pcapfile_values::shown::PcapfileBytes;
 use std::alloc::Global;
 
 /// Takes the packet at the front of what is held, and the blocks before it: a section header is put into `section`, an interface
@@ -95,7 +95,7 @@ fn take_block<'a>(
     let Some(order) = section.endianness() else {
         return take_first(alloc, section, left, error);
     };
-    match section.front(alloc, order, left.bytes) {
+    match front_of(alloc, order, left.bytes) {
         Ok((rest, Front::Packet(found))) => {
             *packet = PcapfileAnyPacket::new(found, section, interfaces);
             left.bytes = rest;

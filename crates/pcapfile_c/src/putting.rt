@@ -3,13 +3,13 @@
 ghost use Rattle.std.specs.Prelude.{◌≡◌, ◌<◌, ◌^◌};
 ghost use Rattle.pcapfile_c.specs.Putting.{PacketFlaw, InterfaceFlaw, SectionFlaw, PutsBlock, a_section, an_interface, a_packet};
 
-use crate::blocks::PcapfileSection;
-use crate::bodies::{PcapfileInterface, PcapfileNgPacket};
-use crate::errors::PcapfileError;
-use crate::reasons::{Reason, need, refuse};
-use crate::texts::{interface_len, put_interface, put_packet, put_section};
+use pcap_core::DataLink;
 use pcap_core::rules::Rule;
-use pcap_file::DataLink;
+use pcapfile_values::blocks::PcapfileSection;
+use pcapfile_values::bodies::{PcapfileInterface, PcapfileNgPacket};
+use pcapfile_values::errors::PcapfileError;
+use pcapfile_values::reasons::{Reason, need, refuse};
+use pcapfile_values::texts::{interface_len, put_interface, put_packet, put_section};
 
 /// Puts a section header without options into the front of `room`: its magic number, which names the order of what follows, and
 /// its version. From then on the section has no interface.

@@ -8,14 +8,14 @@ ghost use Rattle.pcap_blocks.specs.SectionHeader.{magic_order};
 ghost use Rattle.pcapfile_c.specs.Bodies.{RefusesSection};
 ghost use Rattle.pcapfile_c.specs.Records.{TakesRecord, TakesName, RecordTells, RecordsTell, ValueTells, AddressTells, NamesTell};
 
-use crate::blocks::PcapfileSection;
-use crate::errors::{PcapfileError, tell, tell_broken};
-use crate::shown::PcapfileBytes;
 use byteorder::{BigEndian, ByteOrder, LittleEndian};
 use pcap_blocks::str_from_u8_null_terminated;
 use pcap_core::fields::{split_padded, split_u16};
 use pcap_core::rules::Rule;
 use pcap_core::{Endianness, PcapError, ResultParsing};
+use pcapfile_values::blocks::PcapfileSection;
+use pcapfile_values::errors::{PcapfileError, tell, tell_broken};
+use pcapfile_values::shown::PcapfileBytes;
 use std::io;
 
 /// A record of a name resolution block; its bytes lie in the capture. In C: `pcapfile_record`.

@@ -4,19 +4,19 @@ ghost use Rattle.std.specs.Prelude.{◌≡◌, ◌<◌, ◌+◌, ◌^◌, false,
 ghost use Rattle.pcap_core.specs.declared.common.Endianness.{Endianness};
 ghost use Rattle.pcap_blocks.specs.SectionHeader.{magic_order};
 ghost use Rattle.pcap_classic.specs.Magic.{is_magic};
+ghost use Rattle.pcapfile_values.specs.Shown.{captured};
 ghost use Rattle.pcapfile_c.specs.Bodies.{RefusesSection};
 ghost use Rattle.pcapfile_c.specs.Calls.{RefusesMagic};
 ghost use Rattle.pcapfile_c.specs.Rows.{ShowsRow, ShowsNgRow, TakesRows, TakesNgRows, data_place, stored_shown};
-ghost use Rattle.pcapfile_c.specs.Shown.{captured};
 
-use crate::batches::{Front, plain_packet};
-use crate::blocks::PcapfileSection;
-use crate::bodies::PcapfileNgPacket;
-use crate::errors::{PcapfileError, tell};
+use crate::batches::{Front, any_front, plain_packet};
 use crate::pcap::next_packet;
-use crate::shown::{PcapfileBytes, PcapfileHeader, PcapfilePacket};
+use pcap_core::PcapError;
 use pcap_core::rules::Rule;
-use pcap_file::PcapError;
+use pcapfile_values::blocks::PcapfileSection;
+use pcapfile_values::bodies::PcapfileNgPacket;
+use pcapfile_values::errors::{PcapfileError, tell};
+use pcapfile_values::shown::{PcapfileBytes, PcapfileHeader, PcapfilePacket};
 use std::alloc::Global;
 
 /// A packet of a classic capture in numbers. In C: `pcapfile_row`.
@@ -120,7 +120,7 @@ pub extern "C" fn pcapfile_take_ng_rows(
                 *taken += 1;
                 left.bytes = rest;
             }
-            None => match section.any_front(alloc, order, left.bytes) {
+            None => match any_front(alloc, order, left.bytes) {
                 Ok((rest, Front::Packet(packet))) => {
                     rows[*taken] = PcapfileNgRow::new(&packet, place);
                     *taken += 1;

@@ -2,7 +2,7 @@
 
 ghost use Rattle.std.specs.Prelude.{◌≡◌, codes};
 
-use crate::shown::PcapfileBytes;
+use pcapfile_values::shown::PcapfileBytes;
 
 /// The version of the library, in ASCII: numbers with points between them.
 #[unsafe(no_mangle)]

@@ -2,7 +2,7 @@ use Rattle.std.proofs.Common.{Ok, refl, subst, sym}
 use Rattle.pcap_core.specs.Answer.{Order}
 use Rattle.pcap_blocks.specs.ParsedBlock.{EnhancedBody}
 use Rattle.pcap_ng.specs.Enhanced.{enhanced_frame}
-use Rattle.pcapfile_c.specs.Bodies.{EnhancedTells}
+use Rattle.pcapfile_values.specs.Bodies.{EnhancedTells}
 use Rattle.pcapfile_c.proofs.batches.plain_packet_in.Goals as goal
 
 pub returns : goal.returns

@@ -1,6 +1,6 @@
 use Rattle.std.proofs.Common.{rules, ◌≡◌, ◌≤◌, ◌<◌, ◌-◌, ◌^◌, ◌⊎◌, length, Ok, Some, refl, inl, inr, arith}
 use Rattle.pcap_blocks.specs.declared.block_type.BlockType.TheVariants as types
-use Rattle.pcapfile_c.specs.Bodies.{BodyTells, ShowsInterface, IsInterface}
+use Rattle.pcapfile_values.specs.Bodies.{BodyTells, ShowsInterface, IsInterface}
 use Rattle.pcapfile_c.proofs.Passing.{found_lacks, found_puts, found_stops}
 use Rattle.pcapfile_c.proofs.push_packets.take_interface.Goals.{then-count-via-then-count, then-count-via-else-count+then-interfaces-count}
 use Rattle.pcapfile_c.proofs.push_packets.take_interface.Goals as goal

@@ -3,11 +3,12 @@ use Rattle.pcap_core.specs.declared.rules.Rule.TheVariants.{SectionMagic, Interf
 use Rattle.pcap_core.specs.Codec.{number_bytes}
 use Rattle.pcap_core.proofs.Codec.{codec}
 use Rattle.pcap_written.specs.Bodies.{text_of}
-use Rattle.pcapfile_c.specs.declared.errors.PcapfileError.{PcapfileError}
-use Rattle.pcapfile_c.specs.declared.reasons.Reason.TheVariants.{Breaks}
-use Rattle.pcapfile_c.specs.Putting.{InterfaceFlaw, an_interface, interface_block}
+use Rattle.pcapfile_values.specs.declared.errors.PcapfileError.{PcapfileError}
+use Rattle.pcapfile_values.specs.declared.reasons.Reason.TheVariants.{Breaks}
+use Rattle.pcapfile_values.specs.BlockTexts.{interface_block}
+use Rattle.pcapfile_values.proofs.Parts.{interface_text_long}
+use Rattle.pcapfile_c.specs.Putting.{InterfaceFlaw, an_interface}
 use Rattle.pcapfile_c.proofs.Fitting.{puts_whole, puts_nothing, puts_refused, interface_is_text}
-use Rattle.pcapfile_c.proofs.Parts.{interface_text_long}
 use Rattle.pcapfile_c.proofs.putting.pcapfile_put_interface.Goals as goal
 
 pub returns-in_default : goal.returns-in_default

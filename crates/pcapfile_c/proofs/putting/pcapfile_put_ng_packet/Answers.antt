@@ -3,11 +3,12 @@ use Rattle.pcap_core.specs.declared.rules.Rule.TheVariants.{SectionMagic}
 use Rattle.pcap_core.specs.Codec.{number_bytes}
 use Rattle.pcap_core.proofs.Codec.{codec}
 use Rattle.pcap_written.specs.Bodies.{text_of}
-use Rattle.pcapfile_c.specs.declared.errors.PcapfileError.{PcapfileError}
-use Rattle.pcapfile_c.specs.declared.reasons.Reason.TheVariants.{Breaks}
-use Rattle.pcapfile_c.specs.Putting.{PacketFlaw, a_packet, packet_block}
+use Rattle.pcapfile_values.specs.declared.errors.PcapfileError.{PcapfileError}
+use Rattle.pcapfile_values.specs.declared.reasons.Reason.TheVariants.{Breaks}
+use Rattle.pcapfile_values.specs.BlockTexts.{packet_block}
+use Rattle.pcapfile_values.proofs.Parts.{packet_text_long}
+use Rattle.pcapfile_c.specs.Putting.{PacketFlaw, a_packet}
 use Rattle.pcapfile_c.proofs.Fitting.{puts_whole, puts_nothing, puts_refused, packet_is_text}
-use Rattle.pcapfile_c.proofs.Parts.{packet_text_long}
 use Rattle.pcapfile_c.proofs.putting.pcapfile_put_ng_packet.Goals as goal
 
 pub returns-in_default : goal.returns-in_default

@@ -4,12 +4,13 @@ use Rattle.pcap_core.specs.Codec.{number_bytes}
 use Rattle.pcap_core.proofs.Codec.{codec}
 use Rattle.pcap_blocks.specs.SectionHeader.{magic_order}
 use Rattle.pcap_written.specs.Bodies.{text_of}
-use Rattle.pcapfile_c.specs.declared.blocks.PcapfileSection.{PcapfileSection}
-use Rattle.pcapfile_c.specs.declared.errors.PcapfileError.{PcapfileError}
-use Rattle.pcapfile_c.specs.declared.reasons.Reason.TheVariants.{Breaks}
-use Rattle.pcapfile_c.specs.Putting.{PutsAt, PutsBlock, SectionFlaw, a_section, section_block}
+use Rattle.pcapfile_values.specs.declared.blocks.PcapfileSection.{PcapfileSection}
+use Rattle.pcapfile_values.specs.declared.errors.PcapfileError.{PcapfileError}
+use Rattle.pcapfile_values.specs.declared.reasons.Reason.TheVariants.{Breaks}
+use Rattle.pcapfile_values.specs.BlockTexts.{PutsAt, section_block}
+use Rattle.pcapfile_values.proofs.Parts.{section_text_long}
+use Rattle.pcapfile_c.specs.Putting.{PutsBlock, SectionFlaw, a_section}
 use Rattle.pcapfile_c.proofs.Fitting.{puts_whole, puts_nothing, puts_refused, section_is_text}
-use Rattle.pcapfile_c.proofs.Parts.{section_text_long}
 use Rattle.pcapfile_c.proofs.putting.pcapfile_put_section.Goals as goal
 
 pub returns-in_default : goal.returns-in_default

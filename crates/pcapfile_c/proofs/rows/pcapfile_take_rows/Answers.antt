@@ -3,9 +3,9 @@ use Rattle.std.proofs.lemmas.Grind.{take-set_at}
 use Rattle.std.proofs.lemmas.List.{length-set}
 use Rattle.pcap_core.specs.declared.rules.Rule.TheVariants.{CaptureMagic}
 use Rattle.pcap_core.specs.Answer.{whole}
+use Rattle.pcapfile_values.specs.Shown.{captured}
 use Rattle.pcapfile_c.specs.Calls.{PacketsSaid}
 use Rattle.pcapfile_c.specs.Rows.{ShowsRow}
-use Rattle.pcapfile_c.specs.Shown.{captured}
 use Rattle.pcapfile_c.proofs.Many.{others_kept}
 use Rattle.pcapfile_c.proofs.Refused.{tells_named, took}
 use Rattle.pcapfile_c.proofs.RowTexts.{row_length, row_more}

@@ -1,0 +1,95 @@
+-- What C sees of interfaces, packets and times.
+use Rattle.std.specs.Prelude.{◌≡◌, ◌<◌, ◌⊎◌, ◌==◌, if◌then◌else◌, ⊤, ℕ, List, length, Option, Some, None, Result, Ok, Err, FitsSigned}
+use Rattle.std.specs.Int.{w64}
+use Rattle.pcap_core.specs.declared.common.Endianness.{Endianness}
+use Rattle.pcap_core.specs.declared.errors.PcapError.{PcapError}
+use Rattle.pcap_core.specs.Answer.{Order, number_in, whole, lacks, faulty, Refuses}
+use Rattle.pcap_core.specs.Link.{link_number}
+use Rattle.pcap_times.specs.declared.clock.Clock.{Clock}
+use Rattle.pcap_times.specs.declared.clock.Timestamp.{Timestamp}
+use Rattle.pcap_times.specs.declared.unit.TimeUnit.{TimeUnit}
+use Rattle.pcap_times.specs.declared.unit.TimeUnit.TheVariants.{Decimal, Binary}
+use Rattle.pcap_times.specs.Times.{IsTimeOf}
+use Rattle.pcap_blocks.specs.declared.block_type.BlockType.{BlockType}
+use Rattle.pcap_blocks.specs.EnhancedPacket.{Enhanced, EnhancedMayGrow, EnhancedSays}
+use Rattle.pcap_blocks.specs.InterfaceDescription.{Interface}
+use Rattle.pcap_blocks.specs.InterfaceTimes.{IsClockOf}
+use Rattle.pcap_blocks.specs.ParsedBlock.{Body, InterfaceBody, EnhancedBody, SimpleBody, OldPacketBody, BodySays, BodyMayGrow}
+use Rattle.pcap_ng.specs.declared.pcapng.enhanced.EnhancedParts.{EnhancedParts}
+use Rattle.pcap_ng.specs.Enhanced.{IsRefused, PartsText}
+use Rattle.pcapfile_values.specs.declared.bodies.PcapfileInterface.{PcapfileInterface}
+use Rattle.pcapfile_values.specs.declared.bodies.PcapfileNgPacket.{PcapfileNgPacket}
+use Rattle.pcapfile_values.specs.declared.bodies.PcapfileTime.{PcapfileTime}
+
+-- the unit of this base and exponent: a power of 2, or of 10 for any other base
+abbrev pub unit_shown : ℕ → ℕ → TimeUnit
+unit_shown base exponent = if base == 2 then Binary exponent else Decimal exponent
+
+-- the clock that a struct shows
+abbrev pub clock_shown : PcapfileInterface → Clock
+clock_shown shown = record { unit = unit_shown shown.ts_base shown.ts_exponent; offset = shown.ts_offset }
+
+-- a struct that shows an interface: its link type and snaplen, and how it counts time
+pub record ShowsInterfaceOf (interface : Interface) (shown : PcapfileInterface) : Type 0 where
+  pub link : shown.link ≡ link_number interface.linktype
+  pub snaplen : shown.snaplen ≡ interface.snaplen
+  pub clock : IsClockOf interface (clock_shown shown)
+
+-- a body is an interface, which a struct shows
+abbrev pub ShowsInterface : Body → PcapfileInterface → Type 0
+ShowsInterface (InterfaceBody interface) shown = ShowsInterfaceOf interface shown
+ShowsInterface _ shown = ⊥
+
+-- a body is an interface
+abbrev pub IsInterface : Body → Type 0
+IsInterface (InterfaceBody interface) = ⊤
+IsInterface _ = ⊥
+
+-- a struct that shows a packet: the number of its block's type, its interface, its time in units of that, its original length
+-- and its bytes
+pub record ShowsPacketOf (type interface timestamp original_len : ℕ) (bytes : List ℕ) (shown : PcapfileNgPacket) : Type 0 where
+  pub type_is : shown.type_ ≡ type
+  pub interface_is : shown.interface_id ≡ interface
+  pub timestamp_is : shown.timestamp ≡ timestamp
+  pub original_is : shown.orig_len ≡ original_len
+  pub bytes_are : shown.bytes.now ≡ bytes
+
+-- a body is a packet, which a struct shows; a simple one is of the first interface, and has no time
+abbrev pub ShowsPacket : Body → PcapfileNgPacket → Type 0
+ShowsPacket (EnhancedBody b) shown = ShowsPacketOf 6 b.interface_id b.packet.timestamp b.packet.original_len b.packet.bytes shown
+ShowsPacket (OldPacketBody b) shown = ShowsPacketOf 2 b.interface_id b.packet.timestamp b.packet.original_len b.packet.bytes shown
+ShowsPacket (SimpleBody b) shown = ShowsPacketOf 3 0 0 b.original_len b.bytes shown
+ShowsPacket _ shown = ⊥
+
+-- a body is a packet
+abbrev pub IsPacket : Body → Type 0
+IsPacket (EnhancedBody b) = ⊤
+IsPacket (OldPacketBody b) = ⊤
+IsPacket (SimpleBody b) = ⊤
+IsPacket _ = ⊥
+
+-- what is found in a body: it is such a value, and a struct shows it, or it is none
+abbrev pub Found : {S : Type 0} → (Body → S → Type 0) → (Body → Type 0) → Body → Option S → Type 0
+Found Shows IsSuch body (Some shown) = Shows body shown
+Found Shows IsSuch body None = IsSuch body → ⊥
+
+-- the body of a block of this type is read, and such a value is found in it or not; or it is refused
+abbrev pub BodyTells : {S : Type 0} → (Body → S → Type 0) → (Body → Type 0) → Endianness → BlockType → List ℕ → Result (Option S) PcapError → Type 0
+BodyTells Shows IsSuch e type body (Ok found) = (value : Body) × (rest : List ℕ) × Found Shows IsSuch value found × BodySays (number_in e) type body (whole value rest)
+BodyTells Shows IsSuch e type body (Err error) =
+    Refuses (BodyMayGrow (number_in e) type body) (λ n. BodySays (number_in e) type body (lacks n)) (λ fault. BodySays (number_in e) type body (faulty fault)) error
+
+-- the body of an enhanced packet is read, and a struct shows the packet; or it is refused
+abbrev pub EnhancedTells : Order → List ℕ → Result PcapfileNgPacket PcapError → Type 0
+EnhancedTells order body (Ok shown) = (packet : Enhanced) × (rest : List ℕ) × ShowsPacket (EnhancedBody packet) shown × EnhancedSays order body (whole packet rest)
+EnhancedTells order body (Err error) =
+    Refuses (EnhancedMayGrow order body) (λ n. EnhancedSays order body (lacks n)) (λ fault. EnhancedSays order body (faulty fault)) error
+
+-- a body is refused as that of an enhanced packet, or something follows the packet's bytes
+abbrev pub NotPlain : Order → List ℕ → Type 0
+NotPlain order body = IsRefused order body ⊎ ((parts : EnhancedParts) × PartsText order parts body × (0 < length parts.options.now))
+
+-- a struct shows the time at which a clock has counted so many units; or none does, since its seconds don't fit 64 bits
+abbrev pub ShowsTime : Clock → ℕ → Option PcapfileTime → Type 0
+ShowsTime clock units (Some shown) = (time : Timestamp) × IsTimeOf clock units time × (shown.seconds ≡ time.seconds) × (shown.nanoseconds ≡ time.nanoseconds)
+ShowsTime clock units None = (time : Timestamp) × IsTimeOf clock units time × (FitsSigned w64 time.seconds → ⊥)

@@ -1,0 +1,39 @@
+-- How C is told of an error.
+use Rattle.std.specs.Prelude.{◌≡◌, ◌⊎◌, ℤ, pos}
+use Rattle.pcap_core.specs.declared.errors.PcapError.{PcapError}
+use Rattle.pcap_core.specs.declared.errors.PcapError.TheVariants as errors
+use Rattle.pcap_core.specs.declared.rules.Rule.{Rule}
+use Rattle.pcap_core.specs.Answer.{Verdict, lacks, faulty}
+use Rattle.pcap_core.specs.Faults.{Invalid, Io, Utf8, rule_message}
+use Rattle.pcap_core.specs.Rules.{number_of}
+use Rattle.pcapfile_values.specs.declared.errors.PcapfileError.{PcapfileError}
+
+-- the struct says nothing more of the refusal
+abbrev pub SaysNoMore : PcapfileError → Type 0
+SaysNoMore told = (told.rule ≡ 0) × (told.missing ≡ 0)
+
+-- a status and a struct that show an error
+abbrev pub ShowsError : PcapError → PcapfileError → ℤ → Type 0
+ShowsError (errors.IncompleteBuffer n) told status = (status ≡ pos 1) × (told.rule ≡ 0) × (told.missing ≡ n)
+ShowsError (errors.IoError e) told status = (status ≡ pos 2) × SaysNoMore told
+ShowsError (errors.InvalidField text) told status =
+    (status ≡ pos 3) × ((rule : Rule) → text.now ≡ rule_message rule → told.rule ≡ number_of rule) × (told.missing ≡ 0)
+ShowsError (errors.Utf8Error e) told status = (status ≡ pos 4) × SaysNoMore told
+ShowsError (errors.FromUtf8Error e) told status = (status ≡ pos 5) × SaysNoMore told
+ShowsError (errors.OutOfMemory e) told status = (status ≡ pos 6) × SaysNoMore told
+ShowsError errors.WriterFailed told status = (status ≡ pos 7) × SaysNoMore told
+
+-- the struct shows this rule
+abbrev pub ShowsRule : Rule → PcapfileError → Type 0
+ShowsRule rule told = (told.rule ≡ number_of rule) × (told.missing ≡ 0)
+
+-- the status and the struct tell a verdict that gives no value: so many bytes lack, or a rule is broken, or another fault stands
+abbrev pub TellsRefusal : {V : Type 0} → (Verdict V → Type 0) → PcapfileError → ℤ → Type 0
+TellsRefusal IsSaid told status =
+    ((status ≡ pos 1) × (told.rule ≡ 0) × IsSaid (lacks told.missing))
+    ⊎ (((status ≡ pos 3) × (rule : Rule) × ShowsRule rule told × IsSaid (faulty (Invalid rule)))
+    ⊎ (((status ≡ pos 2) × SaysNoMore told × IsSaid (faulty Io)) ⊎ ((status ≡ pos 4) × SaysNoMore told × IsSaid (faulty Utf8))))
+
+-- the same of a call that takes memory, which may run out only under this condition
+abbrev pub TellsRefusalWhere : {V : Type 0} → Type 0 → (Verdict V → Type 0) → PcapfileError → ℤ → Type 0
+TellsRefusalWhere MayGrow IsSaid told status = TellsRefusal IsSaid told status ⊎ ((status ≡ pos 6) × SaysNoMore told × MayGrow)
