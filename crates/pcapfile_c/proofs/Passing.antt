@@ -1,14 +1,16 @@
 -- Blocks before a packet, and what they put in force, as structs show it.
 use Rattle.std.proofs.Common.{◌≡◌, ◌<◌, ◌≤◌, ◌+◌, ◌-◌, ◌^◌, ◌⊎◌, ℕ, ℤ, zero, suc, List, [], ◌∷◌, ◌++◌, length, min, take, Bool, if◌then◌else◌, true, false, Ok, Err, Option, Some, None, refl, sym, ap, subst, ◌∙◌, inl, inr, arith, w32, to_z, of_z, append_assoc}
 use Rattle.std.specs.Prelude.{IsSome, slice_set, filter}
-use Rattle.std.specs.List.{AllZip, slice_get}
+use Rattle.std.specs.List.{All, AllZip, slice_get}
 use Rattle.std.proofs.lemmas.Bool.{ne_eqb}
+use Rattle.std.proofs.lemmas.Bool.Decides.{eqb_tells}
 use Rattle.std.proofs.lemmas.Grind.{take-set_at}
 use Rattle.std.proofs.lemmas.List.{length-append, length-take-le}
-use Rattle.std.proofs.lemmas.List.Elements.{filter-append}
+use Rattle.std.proofs.lemmas.List.Elements.{All-nil, All-push, filter-append}
 use Rattle.std.proofs.lemmas.Option.{same_Some}
 use Rattle.std.proofs.lemmas.Slice.Zip.{AllZip-long}
 use Rattle.pcap_core.specs.declared.common.Endianness.{Endianness}
+use Rattle.pcap_core.specs.declared.common.Endianness.TheVariants.{Big}
 use Rattle.pcap_core.specs.declared.errors.PcapError.{PcapError}
 use Rattle.pcap_core.specs.Answer.{Order, Verdict, number_in, whole, lacks, faulty, Refuses}
 use Rattle.pcap_core.specs.Faults.{Fault, Invalid, Io, Utf8}
@@ -36,13 +38,13 @@ use Rattle.pcapfile_values.specs.declared.bodies.PcapfileInterface.{PcapfileInte
 use Rattle.pcapfile_values.specs.declared.bodies.PcapfileNgPacket.{PcapfileNgPacket}
 use Rattle.pcapfile_values.specs.declared.errors.PcapfileError.{PcapfileError}
 use Rattle.pcapfile_values.specs.AnyPackets.{ShowsAny}
-use Rattle.pcapfile_values.specs.Blocks.{ShowsState, TellsSection}
-use Rattle.pcapfile_values.specs.Bodies.{BodyTells, ShowsInterface, ShowsInterfaceOf, IsInterface}
+use Rattle.pcapfile_values.specs.Blocks.{ShowsState, TellsSection, order_shown}
+use Rattle.pcapfile_values.specs.Bodies.{BodyTells, HasBase, ShowsInterface, IsTakenFor, IsInterface}
 use Rattle.pcapfile_values.specs.Refusals.{ShowsError, TellsRefusalWhere}
 use Rattle.pcapfile_values.proofs.Leading.{body_faults, change_refuses, not_named, none_some, section_puts, section_refuses}
 use Rattle.pcapfile_c.specs.declared.push.PcapfilePush.{PcapfilePush}
 use Rattle.pcapfile_c.specs.Batches.{LeadingText, OtherText, PacketText, PacketFault, PacketMayGrow, PassageSays, is_packet}
-use Rattle.pcapfile_c.specs.PushPackets.{ShowsInForce, ShowsFound, GivesPacket, PutsBlock, PutsTells, StepTells, EndsWalk, TakesFrontPacket, TakesNextPacket, is_packet_block, ReadSays, ReadMayGrow, LacksPlace, Stops}
+use Rattle.pcapfile_c.specs.PushPackets.{HaveBases, ShowsInForce, ShowsFound, GivesPacket, PutsBlock, PutsTells, StepTells, EndsWalk, TakesFrontPacket, TakesNextPacket, is_packet_block, ReadSays, ReadMayGrow, LacksPlace, Stops}
 use Rattle.pcapfile_c.proofs.BlockLaws.{behind_push}
 use Rattle.pcapfile_c.proofs.Pushed.{Found, held_says, with_rest}
 use Rattle.pcapfile_c.proofs.PushedBlocks.{block_ends}
@@ -108,7 +110,7 @@ other_puts (within d interfaces) section places e s rest shows is x =
     let means : Means q x.block (good q) = subst (λ (t : Bool). MeansIf t q x.block (good q)) (sym x.unkept) refl in
     (record { block = x.block; after = q }, x.other, record { frame = frame; means = means }, shows)
 
-zip_found : (interfaces : List Interface) (shown : List PcapfileInterface) (k : ℕ) → AllZip ShowsInterfaceOf interfaces shown → ShowsFound (slice_get interfaces k) (slice_get shown k)
+zip_found : (interfaces : List Interface) (shown : List PcapfileInterface) (k : ℕ) → AllZip IsTakenFor interfaces shown → ShowsFound (slice_get interfaces k) (slice_get shown k)
 zip_found [] [] k x = tt
 zip_found [] (y ∷ ys) k x = absurd x
 zip_found (i ∷ is) [] k x = absurd x
@@ -151,7 +153,7 @@ packet_gives (within d interfaces) section places e s rest packet shown shows is
 fresh_section : (next : PcapfileSection) (places : List PcapfileInterface) (d : Section) → ShowsState next (within d []) → ShowsInForce next places (within d [])
 fresh_section next places d x =
     let none : next.interfaces ≡ 0 = omega (arith, x.1) in
-    (x, subst (λ (n : ℕ). AllZip ShowsInterfaceOf [] (take n places)) (sym none) tt)
+    (x, subst (λ (n : ℕ). AllZip IsTakenFor [] (take n places)) (sym none) tt)
 
 -- a first block that leads anywhere is a section header
 first_leads : (order : Order) (t : BlockType) (s rest : List ℕ) (body : Body) (after : State) → BodySays order t s (whole body rest) → leads opening body ≡ good after
@@ -171,6 +173,26 @@ first_puts opening section next places s rest item shows none says after =
     (item, ap is_packet led.0, says, there)
 first_puts (within d interfaces) section next places s rest item shows none says after =
     absurd (none_some (magic_order d.magic) (ap magic_order (sym shows.0.0.magic) ∙ none) shows.0.0.named)
+
+-- where a section has no interface, no place of one stands for another base
+pub no_bases : (next : PcapfileSection) (places : List PcapfileInterface) → next.interfaces ≡ 0 → HaveBases next places
+no_bases next places none = subst (λ (n : ℕ). All HasBase (take n places)) (sym none) (All-nil HasBase)
+
+none_behind_first : (next : PcapfileSection) (s rest : List ℕ) (item : Item) → BlockSays opening s (whole item rest) → ShowsState next item.after → next.interfaces ≡ 0
+none_behind_first next s rest item says after =
+    let b = item.block in
+    let m = says.means in
+    let led = first_leads (number_in b.endianness) b.type_ b.body m.1 m.0 item.after m.2 m.3 in
+    let here : ShowsState next (within led.1 []) = subst (λ (a : State). ShowsState next a) led.2 after in
+    omega (arith, here.1)
+
+-- nor behind the first block of a capture
+pub first_bases : (section next : PcapfileSection) (places : List PcapfileInterface) (s rest : List ℕ) → magic_order section.magic_number ≡ None → (order_shown section.magic_number ≡ None → ⊥)
+    → (section.magic_number ≡ 0 → (item : Item) × ShowsState next item.after × BlockSays opening s (whole item rest)) → HaveBases next places
+first_bases section next places s rest none not says = elim (eqb_tells section.magic_number 0) [
+  | inl naught ↦ let x = says naught.1 in no_bases next places (none_behind_first next s rest x.0 x.2 x.1)
+  | inr some ↦ absurd (not (ap (λ (t : Bool). if t then Some Big else magic_order section.magic_number) some.0 ∙ none))
+]
 
 -- a section header
 pub section_puts_block : (q : State) (next : PcapfileSection) (places : List PcapfileInterface) (body s rest : List ℕ) → LeadingText (order_at q) types.SectionHeader body s rest → TellsSection body (Ok next)
@@ -200,7 +222,7 @@ module _ (d : Section) (interfaces : List Interface) (section : PcapfileSection)
 
   -- an interface that leads on stands there
   abbrev InterfaceText : PcapfileInterface → Type 0
-  InterfaceText found = (i : Interface) × ShowsInterfaceOf i found × BlockText (within d interfaces) (record { block = text.block; after = within d (interfaces ++ i ∷ []) }) s rest
+  InterfaceText found = (i : Interface) × IsTakenFor i found × BlockText (within d interfaces) (record { block = text.block; after = within d (interfaces ++ i ∷ []) }) s rest
 
   interface_text : (found : PcapfileInterface) → BodyTells ShowsInterface IsInterface e types.InterfaceDescription body (Ok (Some found)) → InterfaceText found
   interface_text found told =
@@ -209,11 +231,11 @@ module _ (d : Section) (interfaces : List Interface) (section : PcapfileSection)
       let said : BodySays (number_in e) types.InterfaceDescription body (whole (InterfaceBody i) told.1) = (i, refl, told.3.2) in
       let there : BodySays (number_in b.endianness) b.type_ b.body (whole (InterfaceBody i) told.1) = rw (interface_order, text.type_is, sym text.body_is) said in
       let means = read_means (within d interfaces) b (good (within d (interfaces ++ i ∷ []))) (ap is_kept text.type_is) (InterfaceBody i, told.1, there, refl) in
-      (i, subst (λ (v : Body). ShowsInterface v found) told.3.1 told.2, record { frame = text.frame; means = means })
+      (i, (subst (λ (v : Body). ShowsInterface v found) told.3.1 told.2).taken, record { frame = text.frame; means = means })
 
   interface_counted : (i : Interface) → section.interfaces < length places → section.interfaces < 2 ^ 32 - 1 → section.interfaces + 1 ≡ min (length (interfaces ++ i ∷ [])) (2 ^ 32 - 1)
   interface_counted i within_places few =
-      let long : length interfaces ≡ length (take section.interfaces places) = sym (AllZip-long ShowsInterfaceOf interfaces (take section.interfaces places) shows.1) in
+      let long : length interfaces ≡ length (take section.interfaces places) = sym (AllZip-long IsTakenFor interfaces (take section.interfaces places) shows.1) in
       let count : length (take section.interfaces places) ≡ section.interfaces = length-take-le section.interfaces places (omega (arith, within_places)) in
       omega (arith, long, count, few, length-append interfaces (i ∷ []))
 
@@ -229,8 +251,20 @@ found_puts (within d interfaces) section next places e body s rest found shows i
     let counts = count ∙ interface_counted d interfaces section places e body s rest shows is text t.0 within_places few in
     let state : ShowsState next (within d all) = (record { magic = magic ∙ shows.0.0.magic; named = shows.0.0.named; major = major ∙ shows.0.0.major; minor = minor ∙ shows.0.0.minor }, counts) in
     let taken : take next.interfaces (slice_set places section.interfaces found) ≡ take section.interfaces places ++ found ∷ [] = take-set_at places section.interfaces next.interfaces found count within_places in
-    let zip : AllZip ShowsInterfaceOf all (take next.interfaces (slice_set places section.interfaces found)) = rw taken (zip_push ShowsInterfaceOf interfaces (take section.interfaces places) t.0 found shows.1 t.1) in
+    let zip : AllZip IsTakenFor all (take next.interfaces (slice_set places section.interfaces found)) = rw taken (zip_push IsTakenFor interfaces (take section.interfaces places) t.0 found shows.1 t.1) in
     (record { block = text.block; after = within d all }, ap is_packet text.type_is, t.2, (state, zip))
+
+shown_base : (body : Body) (found : PcapfileInterface) → ShowsInterface body found → HasBase found
+shown_base (InterfaceBody i) found shows = shows.base
+shown_base _ found shows = absurd shows
+
+-- which has the base of its unit
+pub found_bases : (section : PcapfileSection) (n : ℕ) (places : List PcapfileInterface) (e : Endianness) (body : List ℕ) (found : PcapfileInterface)
+    → BodyTells ShowsInterface IsInterface e types.InterfaceDescription body (Ok (Some found)) → section.interfaces < length places → n ≡ section.interfaces + 1
+    → HaveBases section places → All HasBase (take n (slice_set places section.interfaces found))
+found_bases section n places e body found told within_places count had =
+    let taken : take n (slice_set places section.interfaces found) ≡ take section.interfaces places ++ found ∷ [] = take-set_at places section.interfaces n found count within_places in
+    rw taken (All-push HasBase (take section.interfaces places) found had (shown_base told.0 found told.2))
 
 pub found_lacks : (q : State) (section : PcapfileSection) (places : List PcapfileInterface) (e : Endianness) (body s rest : List ℕ) (found : PcapfileInterface) → ShowsInForce section places q
     → magic_order section.magic_number ≡ Some e → LeadingText (order_at q) types.InterfaceDescription body s rest → BodyTells ShowsInterface IsInterface e types.InterfaceDescription body (Ok (Some found))

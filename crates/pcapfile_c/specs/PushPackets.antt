@@ -1,6 +1,6 @@
 -- What the call that takes a packet of a PcapNg capture in pieces answers.
 use Rattle.std.specs.Prelude.{◌≡◌, ◌<◌, ◌≤◌, ◌-◌, ◌^◌, ◌⊎◌, ⊤, ℕ, ℤ, pos, List, [], length, take, filter, Bool, true, false, Option, Some, None}
-use Rattle.std.specs.List.{AllZip, slice_get}
+use Rattle.std.specs.List.{All, AllZip, slice_get}
 use Rattle.pcap_core.specs.declared.rules.Rule.TheVariants.{SectionMagic}
 use Rattle.pcap_core.specs.Answer.{Verdict, Says, number_in, whole, faulty}
 use Rattle.pcap_items.specs.Format.{Texts, state_after}
@@ -18,21 +18,25 @@ use Rattle.pcapfile_values.specs.declared.bodies.PcapfileNgPacket.{PcapfileNgPac
 use Rattle.pcapfile_values.specs.declared.errors.PcapfileError.{PcapfileError}
 use Rattle.pcapfile_values.specs.AnyPackets.{ShowsAny}
 use Rattle.pcapfile_values.specs.Blocks.{ShowsState}
-use Rattle.pcapfile_values.specs.Bodies.{ShowsInterfaceOf, ShowsPacket}
+use Rattle.pcapfile_values.specs.Bodies.{HasBase, IsTakenFor, ShowsPacket}
 use Rattle.pcapfile_values.specs.Refusals.{ShowsRule, TellsRefusalWhere}
 use Rattle.pcapfile_c.specs.declared.push.PcapfilePush.{PcapfilePush}
 use Rattle.pcapfile_c.specs.Batches.{PacketFault, PacketMayGrow, is_packet}
 use Rattle.pcapfile_c.specs.Push.{LiesWithin, LiesOutside, held_in}
 use Rattle.pcapfile_c.specs.PushBlocks.{HoldsRest}
 
--- structs that show what is in force: the section, and in the first places its interfaces
+-- structs that show what is in force: the section, and in the first places what is taken for its interfaces
 abbrev pub ShowsInForce : PcapfileSection → List PcapfileInterface → State → Type 0
 ShowsInForce section places opening = section.magic_number ≡ 0
-ShowsInForce section places (within s interfaces) = ShowsState section (within s interfaces) × AllZip ShowsInterfaceOf interfaces (take section.interfaces places)
+ShowsInForce section places (within s interfaces) = ShowsState section (within s interfaces) × AllZip IsTakenFor interfaces (take section.interfaces places)
 
--- a struct that shows this interface, where there is one
+-- the structs in the places of the interfaces in force have the bases of their units: each 2 or 10
+abbrev pub HaveBases : PcapfileSection → List PcapfileInterface → Type 0
+HaveBases section places = All HasBase (take section.interfaces places)
+
+-- a struct that is taken for this interface, where there is one
 abbrev pub ShowsFound : Option Interface → Option PcapfileInterface → Type 0
-ShowsFound (Some interface) (Some shown) = ShowsInterfaceOf interface shown
+ShowsFound (Some interface) (Some shown) = IsTakenFor interface shown
 ShowsFound None None = ⊤
 ShowsFound _ _ = ⊥
 

@@ -4,7 +4,7 @@ ghost use Rattle.std.specs.Prelude.{◌≡◌, ◌↔◌, pos, None, IsTrue};
 ghost use Rattle.pcap_ng.specs.State.{State};
 ghost use Rattle.pcapfile_values.specs.Blocks.{order_shown};
 ghost use Rattle.pcapfile_c.specs.AnyCaptures.{IsNg, HasEnded, TakesAnyPacket, TakesAnyNgPacket, TakesHeaded, TakesSectioned, RefusesAnyPacket, TakesCaptured, TakesWithPlaces, RefusesWithPlaces};
-ghost use Rattle.pcapfile_c.specs.PushPackets.{ShowsInForce};
+ghost use Rattle.pcapfile_c.specs.PushPackets.{ShowsInForce, HaveBases};
 
 use crate::push::take_front;
 use crate::push_packets::take_packet;
@@ -46,6 +46,7 @@ pub extern "C" fn pcapfile_take_any<'a>(
         TakesAnyPacket capture.old capture.new interfaces.old interfaces.new left.old.bytes.now left.new.bytes.now packet.old packet.new error.old error.new result }
     ensures blocks { (q : State) → IsNg capture.old left.old.bytes.now → ShowsInForce capture.old.section interfaces.old q →
         TakesAnyNgPacket q capture.old capture.new interfaces.old interfaces.new left.old.bytes.now left.new.bytes.now packet.old packet.new error.old error.new result }
+    ensures bases { HaveBases capture.old.section interfaces.old → HaveBases capture.new.section interfaces.new }
     ensures refused { IsNg capture.old left.old.bytes.now → order_shown capture.old.section.magic_number ≡ None →
         RefusesAnyPacket capture.old capture.new interfaces.old interfaces.new left.old.bytes.now left.new.bytes.now packet.old packet.new error.old error.new result }
 {
@@ -71,6 +72,7 @@ fn take_either<'a>(
         TakesHeaded capture.old capture.new interfaces.old interfaces.new left.old.bytes.now left.new.bytes.now packet.old packet.new error.old error.new result }
     ensures blocks { (q : State) → IsNg capture.old left.old.bytes.now → ShowsInForce capture.old.section interfaces.old q →
         TakesSectioned q capture.old capture.new interfaces.old interfaces.new left.old.bytes.now left.new.bytes.now packet.old packet.new error.old error.new result }
+    ensures bases { HaveBases capture.old.section interfaces.old → HaveBases capture.new.section interfaces.new }
     ensures refused { IsNg capture.old left.old.bytes.now → order_shown capture.old.section.magic_number ≡ None →
         RefusesAnyPacket capture.old capture.new interfaces.old interfaces.new left.old.bytes.now left.new.bytes.now packet.old packet.new error.old error.new result }
 {
@@ -115,6 +117,7 @@ fn take_any_block<'a>(
 ) -> i32
     ensures taken { (q : State) → ShowsInForce section.old interfaces.old q →
         TakesWithPlaces q section.old section.new interfaces.old interfaces.new left.old.bytes.now left.new.bytes.now packet.old packet.new error.old error.new result }
+    ensures bases { HaveBases section.old interfaces.old → HaveBases section.new interfaces.new }
     ensures refused { order_shown section.old.magic_number ≡ None →
         RefusesWithPlaces section.old section.new interfaces.old interfaces.new left.old.bytes.now left.new.bytes.now packet.old packet.new error.old error.new result }
 {

@@ -6,7 +6,7 @@ ghost use Rattle.pcap_ng.specs.State.{State};
 ghost use Rattle.pcapfile_values.specs.Blocks.{order_shown};
 ghost use Rattle.pcapfile_c.specs.PushBatches.{FillsPlaces, TakesFrontPackets, TakesNextPackets};
 ghost use Rattle.pcapfile_c.specs.PushNgBatches.{TakesFrontNgPackets, TakesNextNgPackets, RefusesNextNgPackets};
-ghost use Rattle.pcapfile_c.specs.PushPackets.{ShowsInForce};
+ghost use Rattle.pcapfile_c.specs.PushPackets.{ShowsInForce, HaveBases};
 
 use crate::pcap::{pcapfile_take_header, pcapfile_take_packets};
 use crate::push::PcapfilePush;
@@ -115,6 +115,7 @@ pub extern "C" fn pcapfile_push_ng_packets<'a>(
 ) -> i32
     ensures taken { (q : State) → ShowsInForce section.old interfaces.old q →
         TakesNextNgPackets q push.old push.new section.old section.new interfaces.old interfaces.new room.now packets.old packets.new taken.new error.old error.new result }
+    ensures bases { HaveBases section.old interfaces.old → HaveBases section.new interfaces.new }
     ensures refused { order_shown section.old.magic_number ≡ None →
         RefusesNextNgPackets push.old push.new section.old section.new interfaces.old interfaces.new room.now packets.old packets.new taken.new error.old error.new result }
 {
@@ -147,6 +148,7 @@ fn take_ng_packets<'a>(
     requires { taken.old ≡ 0 }
     ensures taken { (q : State) → ShowsInForce section.old interfaces.old q →
         TakesFrontNgPackets q section.new interfaces.new left.old.bytes.now left.new.bytes.now packets.old packets.new taken.new error.old error.new result }
+    ensures bases { HaveBases section.old interfaces.old → HaveBases section.new interfaces.new }
     ensures fewer { length left.new.bytes.now ≤ length left.old.bytes.now }
 {
     while *taken < packets.len() {

@@ -6,7 +6,7 @@ ghost use Rattle.pcap_blocks.specs.SectionHeader.{magic_order};
 ghost use Rattle.pcap_ng.specs.State.{State, order_at};
 ghost use Rattle.pcapfile_values.specs.Blocks.{order_shown};
 ghost use Rattle.pcapfile_c.specs.Batches.{LeadingText};
-ghost use Rattle.pcapfile_c.specs.PushPackets.{ShowsInForce, LeavesFewer, PutsTells, StepTells, TakesFrontPacket, TakesNextPacket, RefusesNextPacket};
+ghost use Rattle.pcapfile_c.specs.PushPackets.{ShowsInForce, HaveBases, LeavesFewer, PutsTells, StepTells, TakesFrontPacket, TakesNextPacket, RefusesNextPacket};
 
 use crate::batches::{Front, front_of};
 use crate::push::PcapfilePush;
@@ -38,6 +38,7 @@ pub extern "C" fn pcapfile_push_ng_next<'a>(
 ) -> i32
     ensures taken { (q : State) → ShowsInForce section.old interfaces.old q →
         TakesNextPacket q push.old push.new section.old section.new interfaces.old interfaces.new room.now packet.old packet.new error.old error.new result }
+    ensures bases { HaveBases section.old interfaces.old → HaveBases section.new interfaces.new }
     ensures refused { order_shown section.old.magic_number ≡ None →
         RefusesNextPacket push.old push.new section.old section.new interfaces.old interfaces.new room.now packet.old packet.new error.old error.new result }
 {
@@ -68,6 +69,7 @@ pub(crate) fn take_packet<'a>(
 ) -> i32
     ensures taken { (q : State) → ShowsInForce section.old interfaces.old q →
         TakesFrontPacket q section.new interfaces.new left.old.bytes.now left.new.bytes.now packet.old packet.new error.old error.new result }
+    ensures bases { HaveBases section.old interfaces.old → HaveBases section.new interfaces.new }
     ensures fewer { length left.new.bytes.now ≤ length left.old.bytes.now }
 {
     loop {
@@ -90,6 +92,7 @@ fn take_block<'a>(
 ) -> Option<i32>
     ensures taken { (q : State) → ShowsInForce section.old interfaces.old q →
         StepTells q section.old section.new interfaces.old interfaces.new left.old.bytes.now left.new.bytes.now packet.old packet.new error.old error.new result }
+    ensures bases { HaveBases section.old interfaces.old → HaveBases section.new interfaces.new }
     ensures fewer { LeavesFewer left.old.bytes.now left.new.bytes.now result }
 {
     let Some(order) = section.endianness() else {
@@ -125,6 +128,7 @@ fn take_first(
     requires { magic_order section.old.magic_number ≡ None }
     ensures taken { (q : State) (places : List PcapfileInterface) → ShowsInForce section.old places q →
         PutsTells q section.old section.new places places left.old.bytes.now left.new.bytes.now error.old error.new result }
+    ensures bases { (places : List PcapfileInterface) → HaveBases section.old places → HaveBases section.new places }
     ensures fewer { LeavesFewer left.old.bytes.now left.new.bytes.now result }
 {
     match section.next_block(alloc, left.bytes) {
@@ -152,6 +156,7 @@ fn take_section<'a>(
     ensures taken { (q : State) (places : List PcapfileInterface) → ShowsInForce section.old places q →
         LeadingText (order_at q) types.SectionHeader body.now left.old.bytes.now rest.now →
         PutsTells q section.old section.new places places left.old.bytes.now left.new.bytes.now error.old error.new result }
+    ensures bases { (places : List PcapfileInterface) → HaveBases section.old places → HaveBases section.new places }
     ensures fewer { LeavesFewer left.old.bytes.now left.new.bytes.now result }
 {
     match section_in(alloc, body) {
@@ -182,6 +187,7 @@ fn take_interface<'a>(
     ensures taken { (q : State) → ShowsInForce section.old interfaces.old q →
         LeadingText (order_at q) types.InterfaceDescription body.now left.old.bytes.now rest.now →
         PutsTells q section.old section.new interfaces.old interfaces.new left.old.bytes.now left.new.bytes.now error.old error.new result }
+    ensures bases { HaveBases section.old interfaces.old → HaveBases section.new interfaces.new }
     ensures fewer { LeavesFewer left.old.bytes.now left.new.bytes.now result }
 {
     let found = match interface_of(alloc, order, BlockType::InterfaceDescription, body) {

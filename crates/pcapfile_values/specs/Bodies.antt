@@ -29,11 +29,25 @@ unit_shown base exponent = if base == 2 then Binary exponent else Decimal expone
 abbrev pub clock_shown : PcapfileInterface → Clock
 clock_shown shown = record { unit = unit_shown shown.ts_base shown.ts_exponent; offset = shown.ts_offset }
 
--- a struct that shows an interface: its link type and snaplen, and how it counts time
-pub record ShowsInterfaceOf (interface : Interface) (shown : PcapfileInterface) : Type 0 where
+-- the base of a unit: 2 where it counts by powers of 2, and 10 else
+abbrev pub base_of : TimeUnit → ℕ
+base_of (Binary exponent) = 2
+base_of (Decimal exponent) = 10
+
+-- a struct has the base of the unit that it shows: 2 or 10
+abbrev pub HasBase : PcapfileInterface → Type 0
+HasBase shown = shown.ts_base ≡ base_of (unit_shown shown.ts_base shown.ts_exponent)
+
+-- a struct that is taken for an interface: it has its link type and snaplen, and counts time as it does, whatever stands there for 10
+pub record IsTakenFor (interface : Interface) (shown : PcapfileInterface) : Type 0 where
   pub link : shown.link ≡ link_number interface.linktype
   pub snaplen : shown.snaplen ≡ interface.snaplen
   pub clock : IsClockOf interface (clock_shown shown)
+
+-- a struct that shows an interface: it is taken for it, and its base is 2 where the interface counts by powers of 2, and 10 else
+pub record ShowsInterfaceOf (interface : Interface) (shown : PcapfileInterface) : Type 0 where
+  pub taken : IsTakenFor interface shown
+  pub base : HasBase shown
 
 -- a body is an interface, which a struct shows
 abbrev pub ShowsInterface : Body → PcapfileInterface → Type 0

@@ -1,5 +1,5 @@
 -- How C is told of an error.
-use Rattle.std.specs.Prelude.{◌≡◌, ◌⊎◌, ℤ, pos}
+use Rattle.std.specs.Prelude.{◌≡◌, ◌≢◌, ◌⊎◌, ℤ, pos}
 use Rattle.pcap_core.specs.declared.errors.PcapError.{PcapError}
 use Rattle.pcap_core.specs.declared.errors.PcapError.TheVariants as errors
 use Rattle.pcap_core.specs.declared.rules.Rule.{Rule}
@@ -12,12 +12,15 @@ use Rattle.pcapfile_values.specs.declared.errors.PcapfileError.{PcapfileError}
 abbrev pub SaysNoMore : PcapfileError → Type 0
 SaysNoMore told = (told.rule ≡ 0) × (told.missing ≡ 0)
 
--- a status and a struct that show an error
+-- a status and a struct that show an error: a message that is no rule's has the number 0
 abbrev pub ShowsError : PcapError → PcapfileError → ℤ → Type 0
 ShowsError (errors.IncompleteBuffer n) told status = (status ≡ pos 1) × (told.rule ≡ 0) × (told.missing ≡ n)
 ShowsError (errors.IoError e) told status = (status ≡ pos 2) × SaysNoMore told
 ShowsError (errors.InvalidField text) told status =
-    (status ≡ pos 3) × ((rule : Rule) → text.now ≡ rule_message rule → told.rule ≡ number_of rule) × (told.missing ≡ 0)
+    (status ≡ pos 3)
+    × ((rule : Rule) → text.now ≡ rule_message rule → told.rule ≡ number_of rule)
+    × (told.missing ≡ 0)
+    × (((rule : Rule) → text.now ≢ rule_message rule) → told.rule ≡ 0)
 ShowsError (errors.Utf8Error e) told status = (status ≡ pos 4) × SaysNoMore told
 ShowsError (errors.FromUtf8Error e) told status = (status ≡ pos 5) × SaysNoMore told
 ShowsError (errors.OutOfMemory e) told status = (status ≡ pos 6) × SaysNoMore told

@@ -6,7 +6,7 @@ ghost use Rattle.pcap_core.specs.Answer.{TellsWhere, number_in};
 ghost use Rattle.pcap_blocks.specs.InterfaceDescription.{interface_of};
 ghost use Rattle.pcap_blocks.specs.ParsedBlock.{BodySays, BodyMayGrow, EnhancedBody, body_of, ParsedIsBorrowed};
 ghost use Rattle.pcap_blocks.specs.EnhancedPacket.{enhanced_of};
-ghost use Rattle.pcapfile_values.specs.Bodies.{unit_shown, clock_shown, Found, BodyTells, EnhancedTells, NotPlain, ShowsInterfaceOf, ShowsInterface, IsInterface, ShowsPacket, IsPacket, ShowsTime};
+ghost use Rattle.pcapfile_values.specs.Bodies.{unit_shown, clock_shown, base_of, Found, BodyTells, EnhancedTells, NotPlain, ShowsInterfaceOf, ShowsInterface, IsInterface, ShowsPacket, IsPacket, ShowsTime};
 
 use crate::enhanced_options::behind_options;
 use byteorder::{BigEndian, ByteOrder, LittleEndian};
@@ -159,7 +159,8 @@ impl PcapfileInterface {
 
 // The base and the exponent of a unit.
 fn unit_parts(unit: TimeUnit) -> (u8, u8)
-    ensures { unit_shown result.0 result.1 ≡ unit }
+    ensures unit { unit_shown result.0 result.1 ≡ unit }
+    ensures base { result.0 ≡ base_of unit }
 {
     match unit {
         TimeUnit::Decimal(exponent) => (10, exponent),

@@ -21,7 +21,8 @@ pub struct PcapfileError {
 
 // The number of the rule that an error names. 0 where it names none.
 fn rule_number(error: &PcapError) -> u32
-    ensures { (rule : Rule) → Names rule error.now → result ≡ number_of rule }
+    ensures named { (rule : Rule) → Names rule error.now → result ≡ number_of rule }
+    ensures unnamed { ((rule : Rule) → Names rule error.now → ⊥) → result ≡ 0 }
 {
     match error.rule() {
         Some(rule) => rule.number(),

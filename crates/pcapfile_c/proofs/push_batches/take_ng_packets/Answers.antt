@@ -7,7 +7,7 @@ use Rattle.pcapfile_c.proofs.PushedNgPackets.{none_fills, packet_fills}
 use Rattle.pcapfile_c.proofs.push_batches.take_ng_packets.Goals as goal
 
 pub loop-taken-init : goal.loop-taken-init
-loop-taken-init c = record { within = omega (arith, c.requires); passed = λ q shows. rw c.requires (([], refl, shows, tt), tt, refl); others = refl; fewer = omega arith }
+loop-taken-init c = record { within = omega (arith, c.requires); passed = λ q shows. rw c.requires (([], refl, shows, tt), tt, refl); bases = λ had. had; others = refl; fewer = omega arith }
 
 pub loop-taken-preserved : goal.loop-taken-preserved
 loop-taken-preserved c =
@@ -20,6 +20,7 @@ loop-taken-preserved c =
           let step = here.ensures.taken (behind q so_far.0.0) so_far.0.2 in
           let more = packet_fills q c.args.left.now.bytes.now l.left.bytes.now here.new.left.bytes.now l.section here.new.section l.interfaces here.new.interfaces l.packets l.taken _ here.new.packet l.error here.new.error here.result so_far.0 step c.loop-taken-test.true so_far.1 c.if-status-ne0.false in
           (more.0, more.1, more.2 ∙ so_far.2);
+      bases = λ had. here.ensures.bases (l.invariant.bases had);
       others = others_kept l.packets c.args.packets.now l.taken here.new.packet l.invariant.others;
       fewer = omega (arith, here.ensures.fewer, l.invariant.fewer);
     }

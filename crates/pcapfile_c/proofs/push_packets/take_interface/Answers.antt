@@ -1,7 +1,7 @@
 use Rattle.std.proofs.Common.{rules, ◌≡◌, ◌≤◌, ◌<◌, ◌-◌, ◌^◌, ◌⊎◌, length, Ok, Some, refl, inl, inr, arith}
 use Rattle.pcap_blocks.specs.declared.block_type.BlockType.TheVariants as types
 use Rattle.pcapfile_values.specs.Bodies.{BodyTells, ShowsInterface, IsInterface}
-use Rattle.pcapfile_c.proofs.Passing.{found_lacks, found_puts, found_stops}
+use Rattle.pcapfile_c.proofs.Passing.{found_bases, found_lacks, found_puts, found_stops}
 use Rattle.pcapfile_c.proofs.push_packets.take_interface.Goals.{then-count-via-then-count, then-count-via-else-count+then-interfaces-count}
 use Rattle.pcapfile_c.proofs.push_packets.take_interface.Goals as goal
 
@@ -36,3 +36,13 @@ returns-clause-taken c q shows text =
     let within_places : section.interfaces < length places = omega (arith, c.if-interfaces-count.false) in
     let few : section.interfaces < 2 ^ 32 - 1 = search rules in
     (refl, found_puts q section _ places e body c.args.left.now.bytes.now c.args.rest.now c.in-Ok-Some.found shows names text told within_places few refl refl refl refl)
+
+pub returns-clause-bases : goal.returns-clause-bases
+returns-clause-bases c had =
+    let e = c.args.order in
+    let section = c.args.section.now in
+    let places = c.args.interfaces.now in
+    let body = c.args.body.now in
+    let told : BodyTells ShowsInterface IsInterface e types.InterfaceDescription body (Ok (Some c.in-Ok-Some.found)) = rw c.in-Ok-Some.field-0-is at c.in-Ok-Some.ensures in
+    let within_places : section.interfaces < length places = omega (arith, c.if-interfaces-count.false) in
+    found_bases section _ places e body c.in-Ok-Some.found told within_places refl had

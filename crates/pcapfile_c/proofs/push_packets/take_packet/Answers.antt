@@ -5,7 +5,7 @@ use Rattle.pcapfile_c.proofs.Passing.{puts_more, walk_done}
 use Rattle.pcapfile_c.proofs.push_packets.take_packet.Goals as goal
 
 pub loop-status-init : goal.loop-status-init
-loop-status-init c = record { passed = λ q shows. (([], refl, refl, shows), refl, refl); fewer = omega arith }
+loop-status-init c = record { passed = λ q shows. (([], refl, refl, shows), refl, refl); bases = λ had. had; fewer = omega arith }
 
 pub loop-status-preserved : goal.loop-status-preserved
 loop-status-preserved c = record {
@@ -15,6 +15,7 @@ loop-status-preserved c = record {
       let step = c.in-None.ensures.taken (state_after block_format q so_far.0.0) so_far.0.3 in
       let more = puts_more q l.section c.take_block.new.section l.interfaces c.take_block.new.interfaces c.args.left.now.bytes.now l.left.bytes.now c.take_block.new.left.bytes.now so_far.0 step.2 in
       (more, step.1 ∙ so_far.1, step.0 ∙ so_far.2);
+  bases = λ had. c.in-None.ensures.bases (c.loop-status.invariant.bases had);
   fewer = omega (arith, c.in-None.ensures.fewer, c.loop-status.invariant.fewer);
 }
 
@@ -26,3 +27,6 @@ returns-in-Some-clause-taken c q shows =
     let z = c.in-Some.status in
     let same : to_z w32 (of_z w32 z) ≡ z = search rules in
     rw same (walk_done q l.section c.take_block.new.section l.interfaces c.take_block.new.interfaces c.args.left.now.bytes.now l.left.bytes.now c.take_block.new.left.bytes.now c.args.packet.now l.packet c.take_block.new.packet c.args.error.now l.error c.take_block.new.error z so_far.1 so_far.2 so_far.0 step)
+
+pub returns-in-Some-clause-bases : goal.returns-in-Some-clause-bases
+returns-in-Some-clause-bases c had = c.in-Some.ensures.bases (c.loop-status.invariant.bases had)
