@@ -7,18 +7,14 @@ mod items;
 mod pieces;
 mod stretch;
 
-ghost use Rattle.std.specs.Prelude.{◌≡◌, ◌⊎◌, ⊤, false, All, IfOk, IfErr, IfSome, map};
+ghost use Rattle.std.specs.Prelude.{◌⊎◌, ⊤, All, IfOk, IfErr, IfSome};
 ghost use Rattle.pcap_core.specs.Answer.{Refuses};
 ghost use Rattle.pcap_core.specs.Bytes.{IsBorrowed, IsOwned};
 ghost use Rattle.pcap_classic.specs.Captures.{TakesCapture, ReadsCapture};
 ghost use Rattle.pcap_core.specs.Errors.{IsMemory, IsIo};
 ghost use Rattle.pcap_core.specs.Faults.{Shows};
 ghost use Rattle.pcap_classic.specs.HeaderText.{LacksHeader, HasHeaderFault, HeaderSays};
-ghost use Rattle.pcap_classic.specs.Packets.{reader_format};
-ghost use Rattle.pcap_classic.specs.PacketText.{packet_limit, content_of};
-ghost use Rattle.pcap_classic.specs.Reader.{stream_of, has_failed, is_done};
 ghost use Rattle.pcap_items.specs.Reading.{IsFaultOf};
-ghost use Rattle.pcap_items.specs.Takes.{TakesItems};
 ghost use Rattle.pcap_classic.specs.Run.{IsRun, HasPacket};
 
 use crate::pcap::{Packet, PcapHeader, PcapParser, PcapReader};
@@ -27,7 +23,7 @@ pub use copy::{Copied, PacketsAhead, PutsPacket, Under, copy_pcap, end_copy};
 pub use exact::exact_pcap;
 use pcap_core::{PcapError, ResultParsing};
 pub use pcap_items::Rest;
-use pcap_items::run::parse_items;
+use pcap_items::run::{parse_items, read_items};
 pub use pcap_items::run::{Window, pieces_fit};
 pub use pieces::pieces_pcap;
 use std::alloc::Global;
@@ -89,38 +85,11 @@ pub fn read_pcap<R: Read + Drop>(alloc: Global, reader: R, most: u64) -> ResultP
     ensures refused { IfErr result (λ e. IsIo e ⊎ Shows (IsFaultOf HeaderSays (R.remaining reader)) e) }
 {
     let mut reader = PcapReader::new(alloc, reader)?;
-    let (packets, fault) = take_packets(alloc, &mut reader, most);
+    let (packets, fault) = read_items(alloc, &mut reader, most);
     Ok(PcapRead {
         header: reader.header,
         packets,
         fault,
         failed: reader.failed(),
     })
-}
-
-// Takes packets while there are fewer than `most`. Room for each is made before the stream is asked for it.
-fn take_packets<T: Read + Drop>(
-    alloc: Global,
-    reader: &mut PcapReader<T>,
-    most: u64,
-) -> (Vec<Packet<'static>>, Option<PcapError>)
-    requires ready { is_done reader.old ≡ false }
-    requires unfailed { has_failed reader.old ≡ false }
-    ensures header { reader.new.header ≡ reader.old.header }
-    ensures owned { All (λ packet. IsOwned packet.data_) result.0.items }
-    ensures taken { TakesItems (reader_format packet_limit reader.old.header) tt (T.remaining (stream_of reader.old)) (T.remaining (stream_of reader.new))
-        (has_failed reader.new) most (map content_of result.0.items) result.1 }
-{
-    let mut packets = Vec::new(alloc);
-    for turn in 0..most {
-        if let Err(e) = packets.reserve(1) {
-            return (packets, Some(PcapError::from(e)));
-        }
-        match reader.next() {
-            None => return (packets, None),
-            Some(Ok(packet)) => packets.push_reserved(packet),
-            Some(Err(e)) => return (packets, Some(e)),
-        }
-    }
-    (packets, None)
 }

@@ -1,6 +1,8 @@
 -- What a run over a stream takes, over any format.
-use Rattle.std.specs.Prelude.{◌≡◌, ◌<◌, ◌≤◌, ◌⊎◌, ℕ, List, [], ◌++◌, length, Bool, true, false, Option, None, Some}
+use Rattle.std.specs.Prelude.{◌≡◌, ◌<◌, ◌≤◌, ◌⊎◌, ℕ, List, [], ◌++◌, length, map, Bool, true, false, Option, None, Some, Result, Ok, Err}
+use Rattle.std.specs.Iterator.{Yields}
 use Rattle.std.specs.Io.KnownBytes.{Consumes, Keeps, IsAtEnd}
+use Rattle.std.specs.declared.alloc.AllocError.{AllocError}
 use Rattle.pcap_core.specs.declared.errors.PcapError.{PcapError}
 use Rattle.pcap_core.specs.Answer.{Verdict}
 use Rattle.pcap_core.specs.Errors.{IsMemory, IsIo}
@@ -41,3 +43,26 @@ module _ {S V : Type 0} (f : Format S V) where
     pub front : Front f q (vs ++ more) s rest
     pub within : length vs ≤ most
     pub ends : EndsFront (f.says (state_after f q vs)) rest more failed (length vs) most fault
+
+-- ---- runs over a reader, which gives an item a call
+
+-- why a run stopped where the reader was here: there were enough items, or the next call gave nothing; or memory was refused, or the next call refused
+abbrev pub StopsAt : {R X E : Type 0} → (R → Option (Result X E) → R → Type 0) → (AllocError → E → Type 0) → R → R → ℕ → ℕ → Option E → Type 0
+StopsAt gives from here now count most None = ((now ≡ here) × (count ≡ most)) ⊎ gives here None now
+StopsAt gives from here now count most (Some e) = (count < most) × (((now ≡ here) × (refused : AllocError) × from refused e) ⊎ gives here (Some (Err e)) now)
+
+-- a reader's calls gave these items, at most so many, and then the run stopped
+pub record GivesItems {R X E : Type 0} (gives : R → Option (Result X E) → R → Type 0) (from : AllocError → E → Type 0)
+    (old now : R) (most : ℕ) (items : List X) (fault : Option E) : Type 0 where
+  pub here : R
+  pub gave : Yields gives old (map (λ x. Ok x) items) here
+  pub within : length items ≤ most
+  pub stops : StopsAt gives from here now (length items) most fault
+
+-- a run took items of which these parts are kept, at most so many, and then stopped; they lead from one state to the next
+pub record TakesParts {S V W : Type 0} (f : Format S V) (part : V → W) (q next : S)
+    (before now : Option (List ℕ)) (failed : Bool) (most : ℕ) (ws : List W) (fault : Option PcapError) : Type 0 where
+  pub items : List V
+  pub parts : map part items ≡ ws
+  pub state_is : state_after f q items ≡ next
+  pub run : TakesItems f q before now failed most items fault

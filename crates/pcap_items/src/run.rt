@@ -4,6 +4,7 @@ mod exact;
 mod found;
 mod items;
 mod pieces;
+mod reads;
 mod requests;
 mod window;
 
@@ -11,5 +12,6 @@ pub use exact::show_items;
 pub use found::{Found, found_in};
 pub use items::{Ended, ItemRun, Items, parse_items};
 pub use pieces::{PieceParser, Pieces, feed_pieces, pieces_fit};
+pub use reads::read_items;
 pub use requests::{Request, Requests};
 pub use window::Window;

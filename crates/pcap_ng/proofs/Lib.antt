@@ -7,7 +7,6 @@ pub mod Refusing
 pub mod Opening
 pub mod KeptBodies
 pub mod FrameWords
-pub mod Taken
 pub mod ReadBlocks
 pub mod StatedFrames
 pub mod Lent

@@ -1,31 +1,22 @@
 -- What a run over a stream of blocks tells.
-use Rattle.std.specs.Prelude.{◌≡◌, ℕ, List, map, Bool, Option}
-use Rattle.pcap_core.specs.declared.errors.PcapError.{PcapError}
+use Rattle.std.specs.Prelude.{◌≡◌, ℕ, List, map, Option}
 use Rattle.pcap_items.specs.Format.{state_after}
 use Rattle.pcap_items.specs.Reading.{Takes}
 use Rattle.pcap_core.specs.Answer.{whole}
-use Rattle.pcap_items.specs.Takes.{TakesItems, ReadsFront}
+use Rattle.pcap_items.specs.Takes.{TakesParts, ReadsFront}
 use Rattle.pcap_ng.specs.declared.run.NgRead.{NgRead}
-use Rattle.pcap_ng.specs.Frames.{Framed, framed_of}
+use Rattle.pcap_ng.specs.Frames.{framed_of}
 use Rattle.pcap_ng.specs.State.{State}
 use Rattle.pcap_ng.specs.Blocks.{Item, block_format}
 use Rattle.pcap_ng.specs.Opening.{OpeningSays}
 use Rattle.pcap_ng.specs.Reader.{state_of, stream_of, has_failed}
-
--- a run took these blocks, at most so many, and then stopped; this is in force after them
-pub record TakesBlocks (q reached : State) (before now : Option (List ℕ))
-    (failed : Bool) (most : ℕ) (blocks : List Framed) (fault : Option PcapError) : Type 0 where
-  pub items : List Item
-  pub blocks_are : map (λ (item : Item). item.block) items ≡ blocks
-  pub in_force : state_after block_format q items ≡ reached
-  pub run : TakesItems block_format q before now failed most items fault
 
 -- the first block was taken, and then blocks up to a cause to stop
 pub record TakesNg {T : Type 0} (remaining : T → Option (List ℕ)) (known : Option (List ℕ)) (most : ℕ) (read : NgRead T) : Type 0 where
   pub after : Option (List ℕ)
   pub first : State
   pub opened : Takes OpeningSays known after first
-  pub blocks : TakesBlocks first (state_of read.reader) after
+  pub blocks : TakesParts block_format (λ (item : Item). item.block) first (state_of read.reader) after
       (remaining (stream_of read.reader)) (has_failed read.reader) most (map framed_of read.blocks.items) read.fault
 
 -- the first block is that of the bytes, and whatever failed, the blocks are a beginning of the front's

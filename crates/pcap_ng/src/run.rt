@@ -5,10 +5,9 @@ mod find;
 mod items;
 mod pieces;
 
-ghost use Rattle.std.specs.Prelude.{◌≡◌, false, All, IfOk, IfErr, IfNone, IfSome, map};
-ghost use Rattle.pcap_ng.specs.Frames.{framed_of};
-ghost use Rattle.pcap_ng.specs.Reader.{state_of, stream_of, has_failed, is_done};
-ghost use Rattle.pcap_ng.specs.Reads.{TakesBlocks, TakesNg, ReadsNg};
+ghost use Rattle.std.specs.Prelude.{◌≡◌, false, All, IfOk, IfErr, IfNone, IfSome};
+ghost use Rattle.pcap_ng.specs.Reader.{is_done};
+ghost use Rattle.pcap_ng.specs.Reads.{TakesNg, ReadsNg};
 ghost use Rattle.pcap_core.specs.Answer.{Refuses, lacks, faulty};
 ghost use Rattle.pcap_core.specs.Bytes.{IsBorrowed, IsOwned};
 ghost use Rattle.pcap_ng.specs.Opening.{OpeningSays, RefusesOpening};
@@ -22,7 +21,7 @@ use crate::pcapng::{Block, PcapNgParser, PcapNgReader};
 pub use exact::exact_pcapng;
 use pcap_core::{PcapError, ResultParsing};
 use pcap_items::Rest;
-use pcap_items::run::parse_items;
+use pcap_items::run::{parse_items, read_items};
 pub use pieces::pieces_pcapng;
 use std::alloc::Global;
 use std::io::Read;
@@ -83,37 +82,10 @@ pub fn read_pcapng<R: Read + Drop>(alloc: Global, reader: R, most: u64) -> Resul
     ensures refused { IfErr result (RefusesOpening (R.remaining reader)) }
 {
     let mut reader = PcapNgReader::new(alloc, reader)?;
-    let (blocks, fault) = take_blocks(alloc, &mut reader, most);
+    let (blocks, fault) = read_items(alloc, &mut reader, most);
     Ok(NgRead {
         blocks,
         reader,
         fault,
     })
-}
-
-// Takes blocks while there are fewer than `most`. Room for each is made before the stream is asked for it.
-fn take_blocks<T: Read + Drop>(
-    alloc: Global,
-    reader: &mut PcapNgReader<T>,
-    most: u64,
-) -> (Vec<Block<'static>>, Option<PcapError>)
-    requires ready { is_done reader.old ≡ false }
-    requires unfailed { has_failed reader.old ≡ false }
-    ensures owned { All (λ block. IsOwned block.body) result.0.items }
-    ensures goes_on { IfNone result.1 (is_done reader.new ≡ false) }
-    ensures takes { TakesBlocks (state_of reader.old) (state_of reader.new) (T.remaining (stream_of reader.old)) (T.remaining (stream_of reader.new))
-        (has_failed reader.new) most (map framed_of result.0.items) result.1 }
-{
-    let mut blocks = Vec::new(alloc);
-    for turn in 0..most {
-        if let Err(e) = blocks.reserve(1) {
-            return (blocks, Some(PcapError::from(e)));
-        }
-        match reader.next() {
-            None => return (blocks, None),
-            Some(Ok(block)) => blocks.push_reserved(block),
-            Some(Err(e)) => return (blocks, Some(e)),
-        }
-    }
-    (blocks, None)
 }

@@ -1,24 +1,16 @@
-use Rattle.std.proofs.Common.{map}
-use Rattle.pcap_classic.specs.PacketText.{packet_limit, content_of}
-use Rattle.pcap_classic.specs.Reader.{stream_of}
-use Rattle.pcap_classic.proofs.Captures.{packets_taken, packets_read}
+use Rattle.std.proofs.Common.{refl}
+use Rattle.pcap_classic.proofs.Captures.{capture_read, capture_taken, packets_given}
 use Rattle.pcap_classic.proofs.run.read_pcap.Goals as goal
 
 pub returns-clause-taken : goal.returns-clause-taken
 returns-clause-taken g c =
-    let took = c.in_ok-reader.ensures.2 in
-    let run = c.take_packets-packets in
-    let items = packets_taken packet_limit c.in_ok-reader.reader.header _ _ c.args.most (map content_of run.result.0.items) run.result.1 _ _ took run.ensures.taken in
-    record {
-      after = g.R.Read.remaining (stream_of c.in_ok-reader.reader);
-      now = g.R.Read.remaining (stream_of run.new.reader);
-      header = rw run.ensures.header took;
-      items = rw (run.ensures.header, c.failed.ensures) items;
-    }
+    let run = c.read_items-packets in
+    capture_taken g.R.Read.remaining c.args.most c.args.reader c.in_ok-reader.reader run.new.reader c.in_ok-reader.ensures _ run.ensures refl c.failed.ensures
 
 pub returns-clause-front : goal.returns-clause-front
-returns-clause-front g c =
-    let took = c.in_ok-reader.ensures.2 in
-    let run = c.take_packets-packets in
-    let items = packets_taken packet_limit c.in_ok-reader.reader.header _ _ c.args.most (map content_of run.result.0.items) run.result.1 _ _ took run.ensures.taken in
-    rw (run.ensures.header, c.failed.ensures) (packets_read packet_limit c.in_ok-reader.reader.header _ _ c.args.most (map content_of run.result.0.items) run.result.1 _ _ took items)
+returns-clause-front g c = capture_read (g.R.Read.remaining c.args.reader) c.args.most _ (returns-clause-taken g c)
+
+pub returns-clause-owned : goal.returns-clause-owned
+returns-clause-owned g c =
+    let run = c.read_items-packets in
+    (packets_given g.R.Read.remaining c.args.most c.args.reader c.in_ok-reader.reader run.new.reader c.in_ok-reader.ensures run.result.0.items run.result.1 run.ensures).2
