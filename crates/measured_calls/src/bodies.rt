@@ -1,5 +1,7 @@
 //! Calls on little-endian block bodies in memory, each behind its length in four bytes.
 
+ghost use Rattle.std.specs.Prelude.{◌<◌, length, IfSome};
+
 use byteorder::{ByteOrder, LittleEndian};
 use pcap_blocks::{
     EnhancedPacketBlock, EnhancedPacketOption, InterfaceDescriptionBlock, InterfaceStatisticsBlock,
@@ -83,7 +85,9 @@ fn number_in(alloc: Global, body: Body, bytes: &[u8]) -> ResultParsing<usize> {
 }
 
 // The next body, and what follows it.
-fn body_at(left: &[u8]) -> Option<(&[u8], &[u8])> {
+fn body_at(left: &[u8]) -> Option<(&[u8], &[u8])>
+    ensures { IfSome result (λ found. length found.1.now < length left.now) }
+{
     if left.len() < 4 {
         return None;
     }
@@ -98,10 +102,7 @@ fn body_at(left: &[u8]) -> Option<(&[u8], &[u8])> {
 fn parse_all(alloc: Global, body: Body, bytes: &[u8]) -> ResultParsing<u64> {
     let mut sum = 0u64;
     let mut left = bytes;
-    for _ in 0..u64::MAX {
-        let Some((front, rest)) = body_at(left) else {
-            break;
-        };
+    while let Some((front, rest)) = body_at(left) {
         sum = sum.wrapping_add(number_in(alloc, body, front)? as u64);
         left = rest;
     }

@@ -115,7 +115,7 @@ fn put_stretch<'a, W: Write>(
 }
 
 // The whole packets at the front of the bytes, at most so many: how many these are, and what follows them.
-#[inline(always)]
+#[inline(never)]
 fn whole_packets<'a>(header: &PcapHeader, bytes: &'a [u8], most: u64) -> (u64, &'a [u8])
     requires { IsTrue (is_magic header.now.magic_number) }
     ensures { TakesWhole header.now bytes.now result.1.now most result.0 }
