@@ -45,7 +45,7 @@ stop_same ending order kind good s (whole x a) (lacks n) h k = absurd k
 stop_same ending order kind good s (lacks n) w h k = absurd h
 stop_same ending order kind good s (faulty f) w h k = absurd h
 
-at_no_item : (ending : Ending) (order : Order) (kind : Kind) (good : List Entry) (s a : List ℕ) (f : Option Fault) (o : Entry) (b : List ℕ) → StopsAt ending order kind good f s a → OptionText order kind o s b → ⊥
+pub at_no_item : (ending : Ending) (order : Order) (kind : Kind) (good : List Entry) (s a : List ℕ) (f : Option Fault) (o : Entry) (b : List ℕ) → StopsAt ending order kind good f s a → OptionText order kind o s b → ⊥
 at_no_item ending order kind good s a None o b x k = mark_no_item ending order kind good s a o b x k
 at_no_item ending order kind good s a (Some f) o b x k = whole_no_fault (Some o) b f (option_same order kind s (faulty f) (whole (Some o) b) x.1 k)
 

@@ -1,5 +1,5 @@
 -- Where a list grows when bodies are read as they stand.
-use Rattle.std.proofs.Common.{◌≡◌, ◌≢◌, ℕ, List, [], ◌∷◌, map, Option, Some, None, refl, sym, ap, subst, ◌∙◌}
+use Rattle.std.proofs.Common.{◌≡◌, ◌≢◌, ◌≤◌, ℕ, List, [], ◌∷◌, length, map, Option, Some, None, refl, sym, ap, subst, ◌∙◌, arith}
 use Rattle.byteorder.specs.Endian.{big_number}
 use Rattle.pcap_core.specs.declared.common.Endianness.{Endianness}
 use Rattle.pcap_core.specs.Answer.{Order, Number, number_in, Verdict, whole}
@@ -16,7 +16,7 @@ use Rattle.pcap_options.proofs.OneList.{Ends, mark_no_fault, mark_no_item}
 use Rattle.pcap_raw_options.specs.UpTo.{StopsAt, no_kind}
 use Rattle.pcap_tolerant_blocks.specs.Flaws.{Said, Flawed, alone, KeepsSome}
 use Rattle.pcap_tolerant_blocks.specs.OptionsAsIs.{Judged, JudgedText, entry_in, cut_by, flaws_in, OptionsAsIs, OptionsAsIsSay, OptionsGrow}
-use Rattle.pcap_tolerant_blocks.specs.SectionAsIs.{AfterMagic, SectionGrows, VersionGrows}
+use Rattle.pcap_tolerant_blocks.specs.SectionAsIs.{AfterMagic, NoSection, SectionGrows, SectionText, VersionGrows, short_section, unnamed}
 use Rattle.pcap_tolerant_blocks.proofs.Lists.{ReadSoFar}
 use Rattle.pcap_tolerant_blocks.proofs.OneAsIs.{BodySays, raw_text, list_one}
 use Rattle.pcap_core.proofs.Verdicts.{whole_same}
@@ -94,11 +94,23 @@ grows_behind_version order section s after version grows = λ value rest text ba
     let length = number_same order 8 _ _ version.after_minor text.after_version after (subst (λ (t : List ℕ). Number order 8 v.length_bits t text.after_version) minor.1 v.length_number) version.length_number in
     grows value.options rest (subst (λ (t : List ℕ). OptionsAsIs order section_header value.options [] t rest) length.1 text.options_are) bare
 
+-- what begins with the magic number of an order is a section
+named_is_one : (magic : ℕ) (s after : List ℕ) (e : Endianness) → 16 ≤ length s → Number big_number 4 magic s after → magic_order magic ≡ Some e → (fault : Fault) → NoSection s fault → ⊥
+named_is_one magic s after e long number names fault (short_section lt) = omega (arith, long, lt)
+named_is_one magic s after e long number names fault (unnamed other behind _ there none) =
+    let same = number_same big_number 4 _ _ s behind after there number in
+    let no : None ≡ Some e = sym none ∙ ap magic_order same.0 ∙ names in
+    absurd cc
+
 -- a list grows behind a magic number
-pub grows_behind_magic : (magic : ℕ) (s after : List ℕ) (e : Endianness) → Number big_number 4 magic s after → magic_order magic ≡ Some e → VersionGrows (number_in e) after → SectionGrows s
-grows_behind_magic magic s after e number names grows = λ value rest text bare.
+keeps_behind_magic : (magic : ℕ) (s after : List ℕ) (e : Endianness) → Number big_number 4 magic s after → magic_order magic ≡ Some e → VersionGrows (number_in e) after → KeepsSome SectionText (λ x. x.options ≡ []) s
+keeps_behind_magic magic s after e number names grows = λ value rest text bare.
     let same = number_same big_number 4 _ _ s text.after_magic after text.magic_is number in
     let named : Some text.endianness ≡ Some e = sym text.names ∙ ap magic_order same.0 ∙ names in
     let order : text.endianness ≡ e = cc in
     let behind : AfterMagic (number_in e) value [] after rest = subst (λ (t : List ℕ). AfterMagic (number_in e) value [] t rest) same.1 (subst (λ (d : Endianness). AfterMagic (number_in d) value [] text.after_magic rest) order text.after) in
     grows value rest behind bare
+
+pub grows_behind_magic : (magic : ℕ) (s after : List ℕ) (e : Endianness) → 16 ≤ length s → Number big_number 4 magic s after → magic_order magic ≡ Some e → VersionGrows (number_in e) after → SectionGrows s
+grows_behind_magic magic s after e long number names grows =
+    record { is_one = named_is_one magic s after e long number names; keeps = keeps_behind_magic magic s after e number names grows }

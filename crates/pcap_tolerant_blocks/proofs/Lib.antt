@@ -9,3 +9,4 @@ pub mod Pieces
 pub mod RecordsAsIs
 pub mod StrictNames
 pub mod OneNames
+pub mod OneSound

@@ -16,7 +16,7 @@ use Rattle.pcap_options.specs.Options.{may_end_with_body, CodeLengthText}
 use Rattle.pcap_raw_options.specs.UpTo.{StopsAt, no_kind}
 use Rattle.pcap_tolerant_blocks.specs.Flaws.{Flawed}
 use Rattle.pcap_tolerant_blocks.specs.OptionsAsIs.{Judged, JudgedText, OptionsAsIsSay}
-use Rattle.pcap_tolerant_blocks.specs.SoundOptions.{Piece, IsPiece, SoundOptions, PutsSome, are_none, is_sound, text_if, text_in}
+use Rattle.pcap_tolerant_blocks.specs.SoundOptions.{Piece, IsPiece, PiecesSoFar, SoundOptions, PutsFirst, PutsSome, are_none, is_sound, text_if, text_in}
 use Rattle.pcap_tolerant_blocks.proofs.OneAsIs.{list_one, stops_any}
 
 three : (a b d rest : List ℕ) → (a ++ (b ++ d)) ++ rest ≡ a ++ (b ++ (d ++ rest))
@@ -46,18 +46,11 @@ module _ (order : Order) (kind : Kind) where
       code.text ∙ ap (λ (k : List ℕ). code.bytes ++ k) (len.text ∙ ap (λ (k : List ℕ). len.bytes ++ k) t.padded.text) ∙ sym (three code.bytes len.bytes pad after) in
       (record { option = option; text = text }, refl, again, whole)
 
-  -- these are the options so far, and left is to be read
-  pub record PiecesSoFar (s left kept : List ℕ) : Type 0 where
-    pub pieces : List Piece
-    pub are : All (IsPiece order kind) pieces
-    pub text : s ≡ flat_map text_in pieces ++ left
-    pub kept_are : kept ≡ flat_map text_in (filter is_sound pieces)
-
   one_kept : (piece : Piece) (sound : Bool) → are_none piece.option.flaws ≡ sound → flat_map text_in (filter is_sound (piece ∷ [])) ≡ text_if sound piece.text
   one_kept piece true e = rw e (append-nil piece.text)
   one_kept piece false e = rw e refl
 
-  pieces_more : (s left after kept : List ℕ) (piece : Piece) → PiecesSoFar s left kept → IsPiece order kind piece → left ≡ piece.text ++ after → PiecesSoFar s after (kept ++ text_if (are_none piece.option.flaws) piece.text)
+  pieces_more : (s left after kept : List ℕ) (piece : Piece) → PiecesSoFar order kind s left kept → IsPiece order kind piece → left ≡ piece.text ++ after → PiecesSoFar order kind s after (kept ++ text_if (are_none piece.option.flaws) piece.text)
   pieces_more s left after kept piece so_far is text =
       let ps = so_far.pieces in
       let one : flat_map text_in (piece ∷ []) ≡ piece.text = append-nil piece.text in
@@ -76,8 +69,8 @@ module _ (order : Order) (kind : Kind) where
   front_of n left text after count is = ap (λ (k : ℕ). take k left) count ∙ ap (take (length text)) is ∙ take-append_seam text after
 
   -- one option more, of which so many bytes of what was left are put
-  pub option_more : (s left after kept : List ℕ) (option : Judged) → PiecesSoFar s left kept → JudgedText order kind option left after
-      → PiecesSoFar s after (kept ++ text_if (are_none option.flaws) (take (length left - length after) left))
+  pub option_more : (s left after kept : List ℕ) (option : Judged) → PiecesSoFar order kind s left kept → JudgedText order kind option left after
+      → PiecesSoFar order kind s after (kept ++ text_if (are_none option.flaws) (take (length left - length after) left))
   option_more s left after kept option so_far is =
       let t = piece_there option left after is in
       let piece = t.0 in
@@ -85,33 +78,37 @@ module _ (order : Order) (kind : Kind) where
       let front = front_of (length left - length after) left piece.text after count t.3 in
       let flaws : are_none piece.option.flaws ≡ are_none option.flaws = ap (λ (o : Judged). are_none o.flaws) t.1 in
       let more = pieces_more s left after kept piece so_far t.2 t.3 in
-      let by_text = subst (λ (k : List ℕ). PiecesSoFar s after (kept ++ text_if (are_none piece.option.flaws) k)) (sym front) more in
-      subst (λ (b : Bool). PiecesSoFar s after (kept ++ text_if b (take (length left - length after) left))) flaws by_text
+      let by_text = subst (λ (k : List ℕ). PiecesSoFar order kind s after (kept ++ text_if (are_none piece.option.flaws) k)) (sym front) more in
+      subst (λ (b : Bool). PiecesSoFar order kind s after (kept ++ text_if b (take (length left - length after) left))) flaws by_text
 
-  pub pieces_end : (s left rest kept : List ℕ) (cut : Option Fault) → PiecesSoFar s left kept → StopsAt may_end_with_body order no_kind [] cut left rest → SoundOptions order kind s kept
+  pub pieces_end : (s left rest kept : List ℕ) (cut : Option Fault) → PiecesSoFar order kind s left kept → StopsAt may_end_with_body order no_kind [] cut left rest → SoundOptions order kind s kept
   pieces_end s left rest kept cut so_far stops = record { pieces = so_far.pieces; stop = left; cut = cut; rest = rest; are = so_far.are; text = so_far.text; stops = stops; kept_are = so_far.kept_are }
 
   -- the options that stand in what is left
-  pieces_on : (each : List Judged) (s left stop kept : List ℕ) → PiecesSoFar s left kept → Chain (JudgedText order kind) each left stop → (more : List ℕ) × PiecesSoFar s stop (kept ++ more)
-  pieces_on [] s left stop kept so_far are = ([], subst (λ (l : List ℕ). PiecesSoFar s l (kept ++ [])) are (subst (PiecesSoFar s left) (sym (append-nil kept)) so_far))
+  pieces_on : (each : List Judged) (s left stop kept : List ℕ) → PiecesSoFar order kind s left kept → Chain (JudgedText order kind) each left stop → (more : List ℕ) × PiecesSoFar order kind s stop (kept ++ more)
+  pieces_on [] s left stop kept so_far are = ([], subst (λ (l : List ℕ). PiecesSoFar order kind s l (kept ++ [])) are (subst (PiecesSoFar order kind s left) (sym (append-nil kept)) so_far))
   pieces_on (option ∷ each) s left stop kept so_far are =
       let put = text_if (are_none option.flaws) (take (length left - length are.0) left) in
       let on = pieces_on each s are.0 stop (kept ++ put) (option_more s left are.0 kept option so_far are.1) are.2 in
-      (put ++ on.0, subst (PiecesSoFar s stop) (append_assoc kept put on.0) on.1)
+      (put ++ on.0, subst (PiecesSoFar order kind s stop) (append_assoc kept put on.0) on.1)
 
-  pieces_all : (s left kept : List ℕ) → PiecesSoFar s left kept → (v : Verdict (Flawed (List Entry))) → OptionsAsIsSay order kind left v → (more : List ℕ) × SoundOptions order kind s (kept ++ more)
+  pub pieces_all : (s left kept : List ℕ) → PiecesSoFar order kind s left kept → (v : Verdict (Flawed (List Entry))) → OptionsAsIsSay order kind left v → (more : List ℕ) × SoundOptions order kind s (kept ++ more)
   pieces_all s left kept so_far (whole x rest) h =
       let on = pieces_on h.each s left h.stop kept so_far h.are in
       (on.0, pieces_end s h.stop rest (kept ++ on.0) h.cut on.1 (stops_any order kind x.value [] h.cut h.stop rest h.stops))
   pieces_all s left kept so_far _ h = absurd h
 
   -- an option without a flaw is put
-  pub puts_some : (s left after kept : List ℕ) (option : Judged) → PiecesSoFar s left kept → JudgedText order kind option left after → option.flaws ≡ [] → PutsSome order kind s
+  pub puts_some : (s left after kept : List ℕ) (option : Judged) → PiecesSoFar order kind s left kept → JudgedText order kind option left after → option.flaws ≡ [] → PutsSome order kind s
   puts_some s left after kept option so_far text none =
       let put = take (length left - length after) left in
       let sound : are_none option.flaws ≡ true = ap are_none none in
-      let next = subst (λ (b : Bool). PiecesSoFar s after (kept ++ text_if b put)) sound (option_more s left after kept option so_far text) in
+      let next = subst (λ (b : Bool). PiecesSoFar order kind s after (kept ++ text_if b put)) sound (option_more s left after kept option so_far text) in
       let list = list_one order kind after in
       let all = pieces_all s after (kept ++ put) next list.value list.holds in
       let less : length after < length left = omega (arith, head_length order text.code (length text.v) left text.after_head text.head, padded_length text.v text.after_head after text.padded) in
       record { kept = (kept ++ put) ++ all.0; are_put = all.1; some = λ e. omega (arith, less, ap length e, length-append (kept ++ put) all.0, length-append kept put, length-take (length left - length after) left) }
+
+  -- where nothing more can be put, the options so far are
+  pub puts_first : (s left kept before now after : List ℕ) → PiecesSoFar order kind s left kept → now ≡ before ++ kept → after ≡ now → PutsFirst order kind s before after
+  puts_first s left kept before now after so_far put stays = record { left = left; kept = kept; are_put = so_far; behind = stays ∙ put }

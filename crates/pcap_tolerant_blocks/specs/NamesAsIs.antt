@@ -4,10 +4,10 @@ use Rattle.std.specs.List.{flat_map}
 use Rattle.pcap_core.specs.Answer.{Order, Verdict, whole, faulty, Says}
 use Rattle.pcap_core.specs.Faults.{Fault}
 use Rattle.pcap_core.specs.Padded.{up_to_4, Padded, Chain}
-use Rattle.pcap_core.specs.Bytes.{cow_bytes}
+use Rattle.pcap_core.specs.Bytes.{cow_bytes, IsBorrowed}
 use Rattle.pcap_options.specs.Values.{Entry}
 use Rattle.pcap_options.specs.Options.{CodeLengthText}
-use Rattle.pcap_options.specs.Record.{NameRecord, Other, form_of, RecordValueSays, RecordFault, name_record_of}
+use Rattle.pcap_options.specs.Record.{NameRecord, Other, form_of, RecordIsBorrowed, RecordValueSays, RecordFault, name_record_of}
 use Rattle.pcap_options.specs.NameOption.{name_resolution}
 use Rattle.pcap_blocks.specs.NameResolution.{Resolution}
 use Rattle.pcap_options.specs.declared.record.UnknownRecord.{UnknownRecord}
@@ -99,16 +99,22 @@ flaws_said x = map said_of x.flaws.items
 abbrev pub judged_record : NameRecord → Option Flaw → Flawed NameRecord
 judged_record r flaw = record { value = r; flaws = flaws_or_none flaw }
 
--- a record of the code is one of an unknown type with the bytes of what stands at s, and then rest
+-- a record of the code is one of an unknown type with the bytes of what stands at s, borrowed, and then rest
 pub record RawText (order : Order) (r : UnknownRecord) (s rest : List ℕ) : Type 0 where
   pub text : Delimited order r.type_ (cow_bytes r.value) s rest
   pub length_is : r.length ≡ length (cow_bytes r.value)
+  pub borrowed : IsBorrowed r.value
 
 -- what the code found is at the front of s: a record, the end, or that there is none
 abbrev pub IsFound : Order → List ℕ → RecordAsIs → Type 0
 IsFound order s (found.Kept r flaw after) = KeptAsIs order (judged_record (name_record_of r) flaw) s after.now
 IsFound order s (found.End flaw after) = (end : NameRecord) × TypedText order 0 (judged_record end flaw) s after.now
 IsFound order s (found.Cut flaw) = (fault : Fault) × NoExtent order s × RecordFault order s fault × (said_of flaw ≡ record { code = None; fault = fault })
+
+-- what the record that the code found holds is borrowed
+abbrev pub FoundIsBorrowed : RecordAsIs → Type 0
+FoundIsBorrowed (found.Kept r flaw after) = RecordIsBorrowed r
+FoundIsBorrowed _ = Unit {0}
 
 -- s is records as they stand with these flaws, and then rest: behind their end, where that stands, or from where no next record is found
 pub data RecordsText (order : Order) (s : List ℕ) (records : List NameRecord) (flaws : List Said) (rest : List ℕ) : Bool → Type 0 where

@@ -29,14 +29,15 @@ pub record SectionText (section : Section) (flaws : List Said) (s rest : List �
 abbrev pub VersionGrows : Order → List ℕ → Type 0
 VersionGrows order = KeepsSome (AfterMagic order) (λ x. x.options ≡ [])
 
--- s is no section without flaws and options, so that a list grows
-abbrev pub SectionGrows : List ℕ → Type 0
-SectionGrows = KeepsSome SectionText (λ x. x.options ≡ [])
-
 -- why no order of bytes is known
 pub data NoSection (s : List ℕ) : Fault → Type 0 where
   short_section : length s < 16 → NoSection s (Invalid SectionTooShort)
   unnamed : (magic : ℕ) (after : List ℕ) → 16 ≤ length s → Number big_number 4 magic s after → magic_order magic ≡ None → NoSection s (Invalid SectionMagic)
+
+-- s is a section, with a flaw or an option, so that a list grows
+pub record SectionGrows (s : List ℕ) : Type 0 where
+  pub is_one : (fault : Fault) → NoSection s fault → ⊥
+  pub keeps : KeepsSome SectionText (λ x. x.options ≡ []) s
 
 -- what is said of bytes where a section as it stands is asked for
 abbrev pub SectionAsIsSays : List ℕ → Verdict (Flawed Section) → Type 0

@@ -51,6 +51,13 @@ abbrev pub text_if : Bool → List ℕ → List ℕ
 text_if true text = text
 text_if false text = []
 
+-- s begins with options as they stand, and left is what follows them; kept is the bytes of those whose values break no rule
+pub record PiecesSoFar (order : Order) (kind : Kind) (s left kept : List ℕ) : Type 0 where
+  pub pieces : List Piece
+  pub are : All (IsPiece order kind) pieces
+  pub text : s ≡ flat_map text_in pieces ++ left
+  pub kept_are : kept ≡ flat_map text_in (filter is_sound pieces)
+
 -- s is options as they stand, up to their mark, to the end, or to where no next one is found, and kept is the bytes of those whose
 -- values break no rule
 pub record SoundOptions (order : Order) (kind : Kind) (s kept : List ℕ) : Type 0 where
@@ -62,6 +69,13 @@ pub record SoundOptions (order : Order) (kind : Kind) (s kept : List ℕ) : Type
   pub text : s ≡ flat_map text_in pieces ++ stop
   pub stops : StopsAt may_end_with_body order no_kind [] cut stop rest
   pub kept_are : kept ≡ flat_map text_in (filter is_sound pieces)
+
+-- behind what was there stand the bytes of some first options of s whose values break no rule, each whole
+pub record PutsFirst (order : Order) (kind : Kind) (s before after : List ℕ) : Type 0 where
+  pub left : List ℕ
+  pub kept : List ℕ
+  pub are_put : PiecesSoFar order kind s left kept
+  pub behind : after ≡ before ++ kept
 
 -- some of s is put: it has an option whose value breaks no rule
 pub record PutsSome (order : Order) (kind : Kind) (s : List ℕ) : Type 0 where

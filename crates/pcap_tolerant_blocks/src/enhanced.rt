@@ -1,7 +1,8 @@
 //! Enhanced packets as they stand.
 
-ghost use Rattle.std.specs.Prelude.{◌≡◌, None, IfOk, IfErr, IfSome};
+ghost use Rattle.std.specs.Prelude.{◌≡◌, None, All, IfOk, IfErr, IfSome};
 ghost use Rattle.pcap_core.specs.Bytes.{IsBorrowed};
+ghost use Rattle.pcap_options.specs.EnhancedOption.{EnhancedOptionIsBorrowed};
 ghost use Rattle.pcap_tolerant_blocks.specs.Flaws.{alone};
 ghost use Rattle.pcap_tolerant_blocks.specs.EnhancedAsIs.{EnhancedText, enhanced_in, flaws_said, EnhancedGrows};
 
@@ -37,6 +38,7 @@ impl<'a> EnhancedAsIs<'a> {
         ensures read { IfOk result (λ x. EnhancedText B.number_of (enhanced_in x.1) (flaws_said x.1) slice.now x.0.now) }
         ensures memory { IfErr result (λ _. EnhancedGrows B.number_of slice.now) }
         ensures borrowed { IfOk result (λ x. IfSome x.1.packet (λ packet. IsBorrowed packet.data_)) }
+        ensures options { IfOk result (λ x. IfSome x.1.packet (λ packet. All EnhancedOptionIsBorrowed packet.options.items)) }
     {
         if slice.len() < 20 {
             return EnhancedAsIs::none(alloc, slice, Rule::EnhancedTooShort);

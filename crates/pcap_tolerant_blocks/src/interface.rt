@@ -1,6 +1,7 @@
 //! Interfaces as they stand.
 
-ghost use Rattle.std.specs.Prelude.{IfOk, IfErr};
+ghost use Rattle.std.specs.Prelude.{IfOk, IfErr, IfSome};
+ghost use Rattle.pcap_blocks.specs.InterfaceDescription.{InterfaceIsBorrowed};
 ghost use Rattle.pcap_tolerant_blocks.specs.InterfaceAsIs.{InterfaceText, interface_in, flaws_said, InterfaceGrows};
 
 use crate::flaws::Flaw;
@@ -33,6 +34,7 @@ impl<'a> InterfaceAsIs<'a> {
     ) -> Result<(&'a [u8], Self), AllocError>
         ensures read { IfOk result (λ x. InterfaceText B.number_of (interface_in x.1) (flaws_said x.1) slice.now x.0.now) }
         ensures memory { IfErr result (λ _. InterfaceGrows B.number_of slice.now) }
+        ensures borrowed { IfOk result (λ x. IfSome x.1.interface InterfaceIsBorrowed) }
     {
         if slice.len() < 8 {
             let flaws = Flaw::alone(alloc, Rule::InterfaceTooShort)?;

@@ -22,6 +22,7 @@ ghost use Rattle.pcap_tolerant_blocks.specs.SectionAsIs.{SectionText, NoSection,
 ghost use Rattle.pcap_tolerant_blocks.specs.Flaws.{Said, StrictIs, StrictIsWhere};
 ghost use Rattle.pcap_tolerant_blocks.specs.InterfaceAsIs.{InterfaceText, InterfaceAsIsSays};
 ghost use Rattle.pcap_tolerant_blocks.specs.OptionsAsIs.{OptionsAsIs, OptionsAsIsSay};
+ghost use Rattle.pcap_tolerant_blocks.specs.SoundOptions.{SoundOptions};
 
 /// What the strict reading says of the same options: the same list where it has no flaw, and else its first flaw.
 pub fn strict_options_are()
@@ -76,6 +77,11 @@ pub fn strict_names_are()
 /// Of all bytes exactly one thing is said as options as they stand: which options, with which flaws, and what follows them.
 pub fn options_as_they_stand_are_one()
     ensures { (order : Order) (kind : Kind) (s : List ℕ) → ExactlyOne (OptionsAsIsSay order kind s) }
+{}
+
+/// The bytes of the options whose values break no rule are one list of bytes, whatever stands there.
+pub fn sound_options_are_one()
+    ensures { (order : Order) (kind : Kind) (s : List ℕ) → ExactlyOne (SoundOptions order kind s) }
 {}
 
 /// The same as an interface as it stands.

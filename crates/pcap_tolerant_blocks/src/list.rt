@@ -1,11 +1,11 @@
 //! Lists of options as they stand.
 
-ghost use Rattle.std.specs.Prelude.{◌≡◌, ◌≢◌, [], ◌∷◌, ◌++◌, length, map, Result, Err, IfOk, IfErr, OnOk, MatchResult, MatchOption};
+ghost use Rattle.std.specs.Prelude.{◌≡◌, ◌≢◌, [], ◌∷◌, ◌++◌, length, map, All, Result, Err, IfOk, IfErr, IfSome, OnOk, MatchResult, MatchOption};
 ghost use Rattle.pcap_core.specs.Faults.{Fault, Invalid};
 ghost use Rattle.pcap_options.specs.Values.{Value, shape_at, value_of};
 ghost use Rattle.pcap_options.specs.Refusal.{Denies};
 ghost use Rattle.pcap_options.specs.Options.{EndMark, OptionFault};
-ghost use Rattle.pcap_options.specs.CommonOptions.{unknown_entry};
+ghost use Rattle.pcap_options.specs.CommonOptions.{unknown_entry, UnknownIsBorrowed};
 ghost use Rattle.pcap_raw_options.specs.UpTo.{no_kind};
 ghost use Rattle.pcap_tolerant_blocks.specs.Flaws.{said_of, fault_of};
 ghost use Rattle.pcap_tolerant_blocks.specs.OptionsAsIs.{judged, judged_of, JudgedText, ListsAsIs, OptionsGrow, flaws_or_none};
@@ -22,7 +22,8 @@ use std::alloc::{AllocError, Global};
 pub(crate) trait Unread<'a>: PcapNgOption<'a> {
     // An option that is only its bytes.
     fn unread(option: UnknownOption<'a>) -> Self
-        ensures same { Self.entry result ≡ unknown_entry option.entry };
+        ensures same { Self.entry result ≡ unknown_entry option.entry }
+        ensures borrowed { UnknownIsBorrowed option.entry → Self.is_borrowed result };
 }
 
 // An option, and what is wrong with its value.
@@ -54,7 +55,8 @@ fn broken_by(refusal: Refusal) -> Broken
 // The option of this code and bytes as it stands.
 fn judge<'a, O: Unread<'a>, B: ByteOrder>(code: u16, len: u16, value: &'a [u8]) -> OptionAsIs<O>
     requires { len ≡ length value.now }
-    ensures { judged_of O.entry result ≡ judged code value.now (value_of B.number_of (shape_at O.kind code) value.now) }
+    ensures judged { judged_of O.entry result ≡ judged code value.now (value_of B.number_of (shape_at O.kind code) value.now) }
+    ensures borrowed { O.is_borrowed result.option }
 {
     match O::from_value::<B>(code, len, value) {
         Ok(option) => OptionAsIs { option, flaw: None },
@@ -76,6 +78,7 @@ pub(crate) fn option_as_is<'a, O: Unread<'a>, B: ByteOrder>(
     ensures tells { MatchResult result
         (λ x. MatchOption x.1 (EndMark B.number_of slice.now x.0.now) (λ o. JudgedText B.number_of O.kind (judged_of O.entry o) slice.now x.0.now))
         (λ rule. OptionFault B.number_of no_kind slice.now (Invalid rule)) }
+    ensures borrowed { IfOk result (λ x. IfSome x.1 (λ o. O.is_borrowed o.option)) }
 {
     if slice.len() < 4 {
         return Err(Rule::OptionTooShort);
@@ -124,6 +127,7 @@ pub(crate) fn list_as_is<'a, O: Unread<'a> + Drop, B: ByteOrder>(
 ) -> Result<ListAsIs<'a, O>, AllocError>
     ensures read { IfOk result (ListsAsIs B.number_of O.kind O.entry slice.now) }
     ensures memory { IfErr result (λ _. OptionsGrow B.number_of O.kind slice.now) }
+    ensures borrowed { IfOk result (λ x. All O.is_borrowed x.options.items) }
 {
     let mut options = Vec::new(alloc);
     let mut flaws = Vec::new(alloc);

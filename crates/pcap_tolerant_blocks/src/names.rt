@@ -1,7 +1,8 @@
 //! Name resolution as it stands.
 
-ghost use Rattle.std.specs.Prelude.{◌≡◌, ◌≢◌, [], ◌++◌, map, IfOk, IfErr, OnOk};
-ghost use Rattle.pcap_blocks.specs.NameResolution.{names_of};
+ghost use Rattle.std.specs.Prelude.{◌≡◌, ◌≢◌, [], ◌++◌, map, All, IfOk, IfErr, OnOk};
+ghost use Rattle.pcap_options.specs.Record.{RecordIsBorrowed};
+ghost use Rattle.pcap_blocks.specs.NameResolution.{names_of, ResolutionIsBorrowed};
 ghost use Rattle.pcap_tolerant_blocks.specs.Flaws.{said_of};
 ghost use Rattle.pcap_tolerant_blocks.specs.NamesAsIs.{NamesText, NamesGrow, RecordsRead, RecordsGrow, flaws_said};
 
@@ -45,6 +46,7 @@ impl<'a> NamesAsIs<'a> {
     ) -> Result<(&'a [u8], Self), AllocError>
         ensures read { IfOk result (λ x. NamesText B.number_of (names_of x.1.names) (flaws_said x.1) slice.now x.0.now) }
         ensures memory { IfErr result (λ _. NamesGrow B.number_of slice.now) }
+        ensures borrowed { IfOk result (λ x. ResolutionIsBorrowed x.1.names) }
     {
         let read = records_as_is::<B>(alloc, slice)?;
         let RecordsAsIs {
@@ -89,6 +91,7 @@ fn records_as_is<'a, B: ByteOrder>(
 ) -> Result<RecordsAsIs<'a>, AllocError>
     ensures read { IfOk result (RecordsRead B.number_of slice.now) }
     ensures memory { IfErr result (λ _. RecordsGrow B.number_of slice.now) }
+    ensures borrowed { IfOk result (λ x. All RecordIsBorrowed x.records.items) }
 {
     let mut records = Vec::new(alloc);
     let mut flaws = Vec::new(alloc);

@@ -1,7 +1,8 @@
 //! Packet blocks as they stand, which enhanced packets have replaced.
 
-ghost use Rattle.std.specs.Prelude.{◌≡◌, None, IfOk, IfErr, IfSome};
+ghost use Rattle.std.specs.Prelude.{◌≡◌, None, All, IfOk, IfErr, IfSome};
 ghost use Rattle.pcap_core.specs.Bytes.{IsBorrowed};
+ghost use Rattle.pcap_options.specs.PacketOption.{PacketOptionIsBorrowed};
 ghost use Rattle.pcap_tolerant_blocks.specs.Flaws.{alone};
 ghost use Rattle.pcap_tolerant_blocks.specs.PacketBlockAsIs.{PacketBlockText, packet_in, flaws_said, PacketBlockGrows};
 
@@ -37,6 +38,7 @@ impl<'a> PacketBlockAsIs<'a> {
         ensures read { IfOk result (λ x. PacketBlockText B.number_of (packet_in x.1) (flaws_said x.1) slice.now x.0.now) }
         ensures memory { IfErr result (λ _. PacketBlockGrows B.number_of slice.now) }
         ensures borrowed { IfOk result (λ x. IfSome x.1.packet (λ packet. IsBorrowed packet.data_)) }
+        ensures options { IfOk result (λ x. IfSome x.1.packet (λ packet. All PacketOptionIsBorrowed packet.options.items)) }
     {
         if slice.len() < 20 {
             return PacketBlockAsIs::none(alloc, slice, Rule::EnhancedTooShort);

@@ -4,7 +4,7 @@ ghost use Rattle.std.specs.Prelude.{IfOk, IfErr, MatchOption};
 ghost use Rattle.pcap_core.specs.Answer.{Refuses};
 ghost use Rattle.pcap_options.specs.Record.{RecordFault, RecordMayGrow};
 ghost use Rattle.pcap_tolerant_blocks.specs.Flaws.{fault_of};
-ghost use Rattle.pcap_tolerant_blocks.specs.NamesAsIs.{NoExtent, RawText, IsFound};
+ghost use Rattle.pcap_tolerant_blocks.specs.NamesAsIs.{NoExtent, RawText, IsFound, FoundIsBorrowed};
 
 use crate::flaws::{Broken, Flaw};
 use byteorder::ByteOrder;
@@ -24,8 +24,8 @@ pub(crate) enum RecordAsIs<'a> {
     Cut(Flaw),
 }
 
-// The record at the front of a slice, whatever it says, as one of an unknown type, and what follows its padding. None where there
-// is no room for it.
+// The record at the front of a slice, whatever it says, as one of an unknown type whose bytes are borrowed, and what follows its
+// padding. None where there is no room for it.
 fn split_record<'a, B: ByteOrder>(slice: &'a [u8]) -> Option<(UnknownRecord<'a>, &'a [u8])>
     ensures { MatchOption result (NoExtent B.number_of slice.now) (λ x. RawText B.number_of x.0 slice.now x.1.now) }
 {
@@ -68,6 +68,7 @@ pub(crate) fn record_as_is<'a, B: ByteOrder>(
 ) -> Result<RecordAsIs<'a>, AllocError>
     ensures read { IfOk result (IsFound B.number_of slice.now) }
     ensures memory { IfErr result (λ _. RecordMayGrow B.number_of slice.now) }
+    ensures borrowed { IfOk result FoundIsBorrowed }
 {
     let broken = match Record::from_slice::<B>(alloc, slice) {
         Ok((after, record)) => {

@@ -2,7 +2,7 @@
 
 ghost use Rattle.std.specs.Prelude.{◌≡◌, ◌≤◌, length, map, Some, IfOk, IfErr};
 ghost use Rattle.pcap_core.specs.Answer.{Refuses};
-ghost use Rattle.pcap_blocks.specs.SectionHeader.{section_of, magic_order};
+ghost use Rattle.pcap_blocks.specs.SectionHeader.{section_of, magic_order, SectionIsBorrowed};
 ghost use Rattle.pcap_tolerant_blocks.specs.Flaws.{said_of};
 ghost use Rattle.pcap_tolerant_blocks.specs.SectionAsIs.{AfterMagic, SectionText, NoSection, VersionGrows, SectionGrows};
 
@@ -33,6 +33,7 @@ impl<'a> SectionAsIs<'a> {
     pub fn from_slice(alloc: Global, slice: &'a [u8]) -> ResultParsing<(&'a [u8], Self)>
         ensures read { IfOk result (λ x. SectionText (section_of x.1.section) (map said_of x.1.flaws.items) slice.now x.0.now) }
         ensures refused { IfErr result (Refuses (SectionGrows slice.now) (λ _. ⊥) (NoSection slice.now)) }
+        ensures borrowed { IfOk result (λ x. SectionIsBorrowed x.1.section) }
     {
         if slice.len() < 16 {
             return Err(PcapError::from(Rule::SectionTooShort));
@@ -56,6 +57,7 @@ fn behind_magic<'a, B: ByteOrder>(
     ensures magic { IfOk result (λ x. x.1.section.magic ≡ magic) }
     ensures read { IfOk result (λ x. AfterMagic B.number_of (section_of x.1.section) (map said_of x.1.flaws.items) slice.now x.0.now) }
     ensures memory { IfErr result (λ _. VersionGrows B.number_of slice.now) }
+    ensures borrowed { IfOk result (λ x. SectionIsBorrowed x.1.section) }
 {
     let (major_version, rest) = split_u16::<B>(slice);
     let (minor_version, rest) = split_u16::<B>(rest);

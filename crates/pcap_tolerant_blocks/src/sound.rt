@@ -1,9 +1,9 @@
 //! Options whose values break no rule, as their bytes stand.
 
-ghost use Rattle.std.specs.Prelude.{◌≡◌, ◌≤◌, ◌-◌, ◌++◌, ℕ, List, length, take, None, IfErr, OnOk};
+ghost use Rattle.std.specs.Prelude.{◌≡◌, ◌≤◌, ◌-◌, ◌++◌, ℕ, List, length, take, None, IfErr, OnOk, OnErr};
 ghost use Rattle.pcap_core.specs.Answer.{number_in};
 ghost use Rattle.pcap_tolerant_blocks.specs.OptionsAsIs.{flaws_or_none};
-ghost use Rattle.pcap_tolerant_blocks.specs.SoundOptions.{SoundOptions, PutsSome, are_none, kind_of, text_if};
+ghost use Rattle.pcap_tolerant_blocks.specs.SoundOptions.{SoundOptions, PutsFirst, PutsSome, are_none, kind_of, text_if};
 
 use crate::flaws::Flaw;
 use crate::list::{Unread, option_as_is};
@@ -33,7 +33,7 @@ pub enum OptionsOf {
 /// Puts the options at the front of a slice whose values break no rule behind other bytes, each with its bytes as they stand. The
 /// options end at their mark, which isn't put, with the slice, or where no next one can be found.
 ///
-/// `AllocError` where the bytes can't grow, and only where there is such an option.
+/// `AllocError` where the bytes can't grow, and only where there is such an option; those before it are then put.
 pub fn put_sound_options(
     of: OptionsOf,
     order: Endianness,
@@ -42,6 +42,7 @@ pub fn put_sound_options(
 ) -> Result<(), AllocError>
     ensures put { OnOk result ((kept : List ℕ) × SoundOptions (number_in order) (kind_of of) slice.now kept × (out.new.items ≡ out.old.items ++ kept)) }
     ensures memory { IfErr result (λ _. PutsSome (number_in order) (kind_of of) slice.now) }
+    ensures begun { OnErr result (PutsFirst (number_in order) (kind_of of) slice.now out.old.items out.new.items) }
 {
     match of {
         OptionsOf::Section => put_in::<SectionHeaderOption>(order, slice, out),
@@ -60,6 +61,7 @@ fn put_in<'a, O: Unread<'a> + Drop>(
 ) -> Result<(), AllocError>
     ensures put { OnOk result ((kept : List ℕ) × SoundOptions (number_in order) O.kind slice.now kept × (out.new.items ≡ out.old.items ++ kept)) }
     ensures memory { IfErr result (λ _. PutsSome (number_in order) O.kind slice.now) }
+    ensures begun { OnErr result (PutsFirst (number_in order) O.kind slice.now out.old.items out.new.items) }
 {
     match order {
         Endianness::Big => put_sound::<O, BigEndian>(slice, out),
@@ -77,6 +79,7 @@ fn put_if_sound(
     requires { length after.now ≤ length left.now }
     ensures put { OnOk result (out.new.items ≡ out.old.items ++ text_if (are_none (flaws_or_none flaw)) (take (length left.now - length after.now) left.now)) }
     ensures memory { IfErr result (λ _. flaw ≡ None) }
+    ensures stays { OnErr result (out.new.items ≡ out.old.items) }
 {
     match flaw {
         None => out.extend_from_slice(&left[..left.len() - after.len()]),
@@ -91,6 +94,7 @@ fn put_sound<'a, O: Unread<'a> + Drop, B: ByteOrder>(
 ) -> Result<(), AllocError>
     ensures put { OnOk result ((kept : List ℕ) × SoundOptions B.number_of O.kind slice.now kept × (out.new.items ≡ out.old.items ++ kept)) }
     ensures memory { IfErr result (λ _. PutsSome B.number_of O.kind slice.now) }
+    ensures begun { OnErr result (PutsFirst B.number_of O.kind slice.now out.old.items out.new.items) }
 {
     let mut left = slice;
     while !left.is_empty() {

@@ -1,6 +1,7 @@
 //! Interface statistics as they stand.
 
-ghost use Rattle.std.specs.Prelude.{IfOk, IfErr};
+ghost use Rattle.std.specs.Prelude.{IfOk, IfErr, IfSome};
+ghost use Rattle.pcap_blocks.specs.InterfaceStatistics.{StatisticsIsBorrowed};
 ghost use Rattle.pcap_tolerant_blocks.specs.StatisticsAsIs.{StatisticsAsIsText, statistics_in, flaws_said, StatisticsGrow};
 
 use crate::flaws::Flaw;
@@ -32,6 +33,7 @@ impl<'a> StatisticsAsIs<'a> {
     ) -> Result<(&'a [u8], Self), AllocError>
         ensures read { IfOk result (λ x. StatisticsAsIsText B.number_of (statistics_in x.1) (flaws_said x.1) slice.now x.0.now) }
         ensures memory { IfErr result (λ _. StatisticsGrow B.number_of slice.now) }
+        ensures borrowed { IfOk result (λ x. IfSome x.1.statistics StatisticsIsBorrowed) }
     {
         if slice.len() < 12 {
             let flaws = Flaw::alone(alloc, Rule::StatisticsTooShort)?;

@@ -11,3 +11,9 @@ returns-in-Little-clause-put g c = rw c.in-Little.is c.put_sound-in-Little.ensur
 
 pub returns-in-Little-clause-memory : goal.returns-in-Little-clause-memory
 returns-in-Little-clause-memory g c = rw c.in-Little.is c.put_sound-in-Little.ensures.memory
+
+pub returns-in-Big-clause-begun : goal.returns-in-Big-clause-begun
+returns-in-Big-clause-begun g c = rw c.in-Big.is c.put_sound.ensures.begun
+
+pub returns-in-Little-clause-begun : goal.returns-in-Little-clause-begun
+returns-in-Little-clause-begun g c = rw c.in-Little.is c.put_sound-in-Little.ensures.begun

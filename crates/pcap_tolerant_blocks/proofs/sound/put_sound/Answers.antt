@@ -2,8 +2,8 @@ use Rattle.std.proofs.Common.{◌-◌, ◌++◌, ◌∙◌, ℕ, List, length, t
 use Rattle.pcap_core.specs.Faults.{Invalid}
 use Rattle.pcap_options.proofs.ReadOptions.{not_empty}
 use Rattle.pcap_tolerant_blocks.specs.OptionsAsIs.{flaws_or_none, judged_of}
-use Rattle.pcap_tolerant_blocks.specs.SoundOptions.{PutsSome, are_none, text_if}
-use Rattle.pcap_tolerant_blocks.proofs.Pieces.{option_more, pieces_end, puts_some}
+use Rattle.pcap_tolerant_blocks.specs.SoundOptions.{PutsFirst, PutsSome, are_none, text_if}
+use Rattle.pcap_tolerant_blocks.proofs.Pieces.{option_more, pieces_end, puts_first, puts_some}
 use Rattle.pcap_tolerant_blocks.proofs.sound.put_sound.Goals as goal
 use Rattle.pcap_raw_options.proofs.RawRead.{holds_on_err}
 
@@ -36,3 +36,14 @@ returns-in_err-put_if_sound-clause-memory g c =
     let text = rw c.in-Some.is at c.in-Ok.ensures.tells in
     let some = puts_some order kind c.args.slice.now c.loop-left.left.now c.in-Ok.read.0.now so_far.0 (judged_of g.O.HoldsEntry.entry c.in-Some.read) so_far.1 text (ap flaws_or_none c.in_err-put_if_sound.ensures.memory) in
     holds_on_err (PutsSome order kind c.args.slice.now) some c.from_residual.result
+
+pub returns-in_err-put_if_sound-clause-begun : goal.returns-in_err-put_if_sound-clause-begun
+returns-in_err-put_if_sound-clause-begun g c =
+    let order = g.B.ByteOrder.number_of in
+    let kind = g.O.PcapNgOption.kind in
+    let so_far = c.loop-left.invariant in
+    let s = c.args.slice.now in
+    let before = c.args.out.now.items in
+    let after = c.put_if_sound.new.out.items in
+    let first = puts_first order kind s c.loop-left.left.now so_far.0 before c.loop-left.out.items after so_far.1 so_far.2 c.in_err-put_if_sound.ensures.stays in
+    holds_on_err (PutsFirst order kind s before after) first c.from_residual.result

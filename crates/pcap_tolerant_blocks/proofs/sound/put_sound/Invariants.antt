@@ -1,5 +1,5 @@
 use Rattle.std.proofs.Common.{◌≡◌, ◌++◌, ℕ, List, length}
-use Rattle.pcap_tolerant_blocks.proofs.Pieces.{PiecesSoFar}
+use Rattle.pcap_tolerant_blocks.specs.SoundOptions.{PiecesSoFar}
 use Rattle.pcap_tolerant_blocks.proofs.sound.put_sound.Given as goal
 
 abbrev pub invariant-loop-left : goal.invariant-loop-left

@@ -28,13 +28,13 @@ returns-in_default-clause-refused c =
 pub returns-in_err-behind_magic-in-439041101-clause-refused : goal.returns-in_err-behind_magic-in-439041101-clause-refused
 returns-in_err-behind_magic-in-439041101-clause-refused c =
     let s = c.args.slice.now in
-    let grows = grows_behind_magic _ s _ Big c.split_u32-magic.ensures.number (big_magic _ c.in-439041101.is) c.in_err-behind_magic-in-439041101.ensures.memory in
+    let grows = grows_behind_magic _ s _ Big (omega arith) c.split_u32-magic.ensures.number (big_magic _ c.in-439041101.is) c.in_err-behind_magic-in-439041101.ensures.memory in
     let told = err_from_is_err_and c.from_residual.result c.from_residual.ensures.1 in
     rw (told.1, told.2) grows
 
 pub returns-in_err-behind_magic-in-1295788826-clause-refused : goal.returns-in_err-behind_magic-in-1295788826-clause-refused
 returns-in_err-behind_magic-in-1295788826-clause-refused c =
     let s = c.args.slice.now in
-    let grows = grows_behind_magic _ s _ Little c.split_u32-magic.ensures.number (little_magic _ c.in-1295788826.is) c.in_err-behind_magic-in-1295788826.ensures.memory in
+    let grows = grows_behind_magic _ s _ Little (omega arith) c.split_u32-magic.ensures.number (little_magic _ c.in-1295788826.is) c.in_err-behind_magic-in-1295788826.ensures.memory in
     let told = err_from_is_err_and c.from_residual-in_err-behind_magic-in-1295788826.result c.from_residual-in_err-behind_magic-in-1295788826.ensures.1 in
     rw (told.1, told.2) grows
