@@ -1,5 +1,5 @@
--- What becomes of a block is taken by the strict reading.
-use Rattle.std.proofs.Common.{◌≡◌, ◌≢◌, ◌≤◌, ◌<◌, ◌+◌, ◌-◌, ℕ, List, [], ◌∷◌, ◌++◌, length, take, drop, Bool, true, false, Option, Some, None, Result, Ok, Err, refl, sym, ap, subst, ◌∙◌, arith, append_assoc, length-append}
+-- What becomes of a block is taken by the strict reading, and is one thing.
+use Rattle.std.proofs.Common.{◌≡◌, ◌≢◌, ◌≤◌, ◌<◌, ◌+◌, ◌-◌, ℕ, List, [], ◌∷◌, ◌++◌, length, take, drop, Bool, true, false, Option, Some, None, Result, Ok, Err, IfErr, refl, sym, ap, subst, ◌∙◌, arith, append_assoc, length-append}
 use Rattle.std.specs.Prelude.{All, filter, replicate}
 use Rattle.std.specs.List.{flat_map}
 use Rattle.std.proofs.lemmas.List.Elements.{All-head, All-tail}
@@ -40,8 +40,9 @@ use Rattle.pcap_tolerant_blocks.specs.OptionsAsIs.{JudgedText, judged}
 use Rattle.pcap_tolerant_blocks.specs.SoundOptions.{IsPiece, Piece, SoundOptions, are_none, is_sound, kind_of, text_in}
 use Rattle.pcap_tolerant_blocks.specs.declared.sound.OptionsOf.{OptionsOf}
 use Rattle.pcap_tolerant_blocks.specs.declared.sound.OptionsOf.TheVariants as kinds
+use Rattle.pcap_tolerant_blocks.proofs.OneSound.{sound_one}
 use Rattle.pcap_written.specs.Raw.{Raw}
-use Rattle.pcapfile_mended.specs.Mended.{Becomes, stays, has_body, is_left_out, IsTaken, IsTakenAfter, Mends, sound, stated, flawed, short, lost, OptionsAt, front_length, packet_front, unstated}
+use Rattle.pcapfile_mended.specs.Mended.{Becomes, stays, has_body, is_left_out, IsTaken, IsTakenAfter, MendGrows, Mends, sound, stated, flawed, short, lost, OptionsAt, SaysOfRaw, front_length, options_in, packet_front, unstated, with_options}
 
 -- ---- bytes behind others
 
@@ -334,3 +335,91 @@ sound_stays raw (has_body _) taken same (stated body rest says other) = absurd (
 sound_stays raw (has_body _) taken same (flawed fault of order kept says at x) = absurd (whole_or_not (number_in raw.endianness) raw.type_ raw.body taken.0 taken.1 fault taken.2 says)
 sound_stays raw (has_body _) taken same (short is lt) = absurd (short_refused raw.type_ (number_in raw.endianness) raw.body taken.0 taken.1 is lt taken.2)
 sound_stays raw is_left_out taken same (lost fault says none other) = absurd (whole_or_not (number_in raw.endianness) raw.type_ raw.body taken.0 taken.1 fault taken.2 says)
+
+-- ---- where something is left of a block
+
+-- a body that the strict reading takes isn't left out
+pub sound_is_left : (raw : Raw) → IsTaken (number_in raw.endianness) raw.type_ raw.body true → Mends raw is_left_out → ⊥
+sound_is_left raw taken (lost fault says none other) = whole_or_not (number_in raw.endianness) raw.type_ raw.body taken.0 taken.1 fault taken.2 says
+
+-- nor one whose options have a place
+pub options_are_left : (raw : Raw) (of : OptionsOf) (order : Endianness) → OptionsAt raw of order → Mends raw is_left_out → ⊥
+options_are_left raw of order at (lost fault says none other) = none of order at
+
+-- nor an interface
+pub interface_is_left : (raw : Raw) → raw.type_ ≡ types.InterfaceDescription → Mends raw is_left_out → ⊥
+interface_is_left raw is (lost fault says none other) = other is
+
+-- then memory may be wanted, as where a list of the body grows
+pub mend_grows : {A E : Type 0} (raw : Raw) → MendGrows raw → (r : Result A E) → IfErr r (λ _. MendGrows raw)
+mend_grows raw grows (Ok x) = tt
+mend_grows raw grows (Err e) = grows
+
+-- ---- one thing becomes of a block
+
+of_interface : (of : OptionsOf) → ◌≡◌ {A = Option OptionsOf} (Some kinds.Interface) (Some of) → (order : Order) (s : List ℕ) → front_length of order s ≡ 8
+of_interface of e order s = let is : kinds.Interface ≡ of = cc in rw (← is) refl
+
+-- an interface whose options have a place has room for its head
+no_short_at : (raw : Raw) (of : OptionsOf) (order : Endianness) → OptionsAt raw of order → raw.type_ ≡ types.InterfaceDescription → length raw.body < 8 → ⊥
+no_short_at raw of order at is lt =
+    let of_type : ◌≡◌ {A = Option OptionsOf} (Some kinds.Interface) (Some of) = rw is at at.of_type in
+    omega (arith, at.room, of_interface of of_type (number_in order) raw.body, lt)
+
+-- of these options in this order the same are kept
+kept_same : (raw : Raw) (of others : OptionsOf) (order second : Endianness) (kept more : List ℕ) → OptionsAt raw of order → OptionsAt raw others second
+    → SoundOptions (number_in order) (kind_of of) (options_in raw of order) kept → SoundOptions (number_in second) (kind_of others) (options_in raw others second) more
+    → has_body (with_options raw of order kept) ≡ has_body (with_options raw others second more)
+kept_same raw of others order second kept more at there x y =
+    let some_of : ◌≡◌ {A = Option OptionsOf} (Some others) (Some of) = sym there.of_type ∙ at.of_type in
+    let some_order : ◌≡◌ {A = Option Endianness} (Some second) (Some order) = sym there.named ∙ at.named in
+    let of_is : others ≡ of = cc in
+    let order_is : second ≡ order = cc in
+    let first = subst (λ (o : OptionsOf). SoundOptions (number_in second) (kind_of o) (options_in raw o second) more) of_is y in
+    let both = subst (λ (e : Endianness). SoundOptions (number_in e) (kind_of of) (options_in raw of e) more) order_is first in
+    let one = sound_one (number_in order) (kind_of of) (options_in raw of order) in
+    let same : kept ≡ more = one.only kept x ∙ sym (one.only more both) in
+    rw (of_is, order_is, same) refl
+
+module _ (raw : Raw) where
+  no_sound_fault : (body : Body) (rest : List ℕ) (fault : Fault) → SaysOfRaw raw (whole body rest) → SaysOfRaw raw (faulty fault) → ⊥
+  no_sound_fault body rest fault x y = whole_or_not (number_in raw.endianness) raw.type_ raw.body body rest fault x y
+
+  no_sound_short : (body : Body) (rest : List ℕ) → raw.type_ ≡ types.InterfaceDescription → length raw.body < 8 → SaysOfRaw raw (whole body rest) → ⊥
+  no_sound_short body rest is lt x = short_refused raw.type_ (number_in raw.endianness) raw.body body rest is lt x
+
+  stated_one : (becomes : Becomes) (body : Body) (rest : List ℕ) → SaysOfRaw raw (whole body rest) → unstated raw.type_ raw.body ≢ raw.body → Mends raw becomes → becomes ≡ has_body (unstated raw.type_ raw.body)
+  stated_one stays body rest x other (sound _ _ says same) = absurd (other same)
+  stated_one (has_body _) body rest x other (stated _ _ says _) = refl
+  stated_one (has_body _) body rest x other (flawed fault of order kept says at are) = absurd (no_sound_fault body rest fault x says)
+  stated_one (has_body _) body rest x other (short is lt) = absurd (no_sound_short body rest is lt x)
+  stated_one is_left_out body rest x other (lost fault says none _) = absurd (no_sound_fault body rest fault x says)
+
+  flawed_one : (becomes : Becomes) (fault : Fault) (of : OptionsOf) (order : Endianness) (kept : List ℕ) → SaysOfRaw raw (faulty fault) → OptionsAt raw of order
+      → SoundOptions (number_in order) (kind_of of) (options_in raw of order) kept → Mends raw becomes → becomes ≡ has_body (with_options raw of order kept)
+  flawed_one stays fault of order kept x at are (sound body rest says same) = absurd (no_sound_fault body rest fault says x)
+  flawed_one (has_body _) fault of order kept x at are (stated body rest says _) = absurd (no_sound_fault body rest fault says x)
+  flawed_one (has_body _) fault of order kept x at are (flawed _ others second more says there too) = kept_same raw others of second order more kept there at too are
+  flawed_one (has_body _) fault of order kept x at are (short is lt) = absurd (no_short_at raw of order at is lt)
+  flawed_one is_left_out fault of order kept x at are (lost _ says none other) = absurd (none of order at)
+
+  short_one : (becomes : Becomes) → raw.type_ ≡ types.InterfaceDescription → length raw.body < 8 → Mends raw becomes → becomes ≡ has_body (raw.body ++ replicate (8 - length raw.body) 0)
+  short_one stays is lt (sound body rest says same) = absurd (no_sound_short body rest is lt says)
+  short_one (has_body _) is lt (stated body rest says _) = absurd (no_sound_short body rest is lt says)
+  short_one (has_body _) is lt (flawed fault of order kept says at are) = absurd (no_short_at raw of order at is lt)
+  short_one (has_body _) is lt (short _ _) = refl
+  short_one is_left_out is lt (lost fault says none other) = absurd (other is)
+
+  lost_one : (becomes : Becomes) → Mends raw is_left_out → Mends raw becomes → becomes ≡ is_left_out
+  lost_one stays left (sound body rest says same) = absurd (sound_is_left raw (body, rest, says) left)
+  lost_one (has_body _) left (stated body rest says _) = absurd (sound_is_left raw (body, rest, says) left)
+  lost_one (has_body _) left (flawed fault of order kept says at are) = absurd (options_are_left raw of order at left)
+  lost_one (has_body _) left (short is lt) = absurd (interface_is_left raw is left)
+  lost_one is_left_out left x = refl
+
+  pub mended_one : (becomes other : Becomes) → Mends raw becomes → Mends raw other → other ≡ becomes
+  mended_one stays other (sound body rest says same) x = sound_stays raw other (body, rest, says) same x
+  mended_one (has_body _) other (stated body rest says others) x = stated_one other body rest says others x
+  mended_one (has_body _) other (flawed fault of order kept says at are) x = flawed_one other fault of order kept says at are x
+  mended_one (has_body _) other (short is lt) x = short_one other is lt x
+  mended_one is_left_out other left x = lost_one other left x

@@ -1,12 +1,12 @@
 -- What blocks as they stand become, so that the strict reading takes them.
-use Rattle.std.specs.Prelude.{◌≡◌, ◌≢◌, ◌≤◌, ◌<◌, ◌+◌, ◌-◌, ℕ, List, [], ◌++◌, length, take, drop, replicate, Bool, true, false, Option, Some, None, ⊤}
+use Rattle.std.specs.Prelude.{◌≡◌, ◌≢◌, ◌≤◌, ◌<◌, ◌+◌, ◌-◌, ℕ, List, [], ◌++◌, length, take, drop, replicate, ◌⊎◌, Bool, true, false, Option, Some, None, ⊤}
 use Rattle.pcap_core.specs.declared.common.Endianness.{Endianness}
 use Rattle.pcap_core.specs.Answer.{Order, Verdict, whole, faulty, number_in}
 use Rattle.pcap_core.specs.Faults.{Fault}
 use Rattle.pcap_core.specs.Padded.{up_to_4}
 use Rattle.pcap_blocks.specs.declared.block_type.BlockType.{BlockType}
 use Rattle.pcap_blocks.specs.declared.block_type.BlockType.TheVariants as types
-use Rattle.pcap_blocks.specs.ParsedBlock.{Body, BodySays}
+use Rattle.pcap_blocks.specs.ParsedBlock.{Body, BodyMayGrow, BodySays}
 use Rattle.pcap_written.specs.Bodies.{order_under}
 use Rattle.pcap_written.specs.Raw.{Raw, magic_at, raw_text}
 use Rattle.pcap_tolerant_blocks.specs.declared.sound.OptionsOf.{OptionsOf}
@@ -85,6 +85,10 @@ pub data Mends (raw : Raw) : Becomes → Type 0 where
       → SoundOptions (number_in order) (kind_of of) (options_in raw of order) kept → Mends raw (has_body (with_options raw of order kept))
   short : raw.type_ ≡ types.InterfaceDescription → length raw.body < 8 → Mends raw (has_body (raw.body ++ replicate (8 - length raw.body) 0))
   lost : (fault : Fault) → SaysOfRaw raw (faulty fault) → ((of : OptionsOf) (order : Endianness) → OptionsAt raw of order → ⊥) → raw.type_ ≢ types.InterfaceDescription → Mends raw is_left_out
+
+-- mending a block may take memory: its body has something that is kept in a list, or something is left of it
+abbrev pub MendGrows : Raw → Type 0
+MendGrows raw = BodyMayGrow (number_in raw.endianness) raw.type_ raw.body ⊎ (Mends raw is_left_out → ⊥)
 
 -- the strict reading takes what becomes of a block, unless that is left out
 abbrev pub IsTakenAfter : Raw → Becomes → Type 0

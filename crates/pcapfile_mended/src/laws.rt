@@ -18,6 +18,11 @@ pub fn mended_blocks_are_taken()
     ensures { (raw : Raw) (becomes : Becomes) → Mends raw becomes → IsTakenAfter raw becomes }
 {}
 
+/// One thing alone becomes of a block.
+pub fn mended_blocks_are_one()
+    ensures { (raw : Raw) (becomes other : Becomes) → Mends raw becomes → Mends raw other → other ≡ becomes }
+{}
+
 /// A block whose body the strict reading takes stays what it is, but for a section that states its length.
 pub fn sound_blocks_stay()
     ensures { (raw : Raw) (becomes : Becomes) → IsTaken (number_in raw.endianness) raw.type_ raw.body true → unstated raw.type_ raw.body ≡ raw.body → Mends raw becomes → becomes ≡ stays }

@@ -1,12 +1,13 @@
 //! Blocks that are mended.
 
-ghost use Rattle.std.specs.Prelude.{◌≡◌, ◌≤◌, ◌<◌, ◌+◌, ◌-◌, ◌^◌, ◌++◌, true, false, length, replicate, IfOk, OnOk};
+ghost use Rattle.std.specs.Prelude.{◌≡◌, ◌≤◌, ◌<◌, ◌+◌, ◌-◌, ◌^◌, ◌++◌, true, false, length, replicate, IfOk, IfErr, OnOk};
 ghost use Rattle.pcap_core.specs.Answer.{number_in};
 ghost use Rattle.pcap_core.specs.declared.common.Endianness.{Endianness};
 ghost use Rattle.pcap_blocks.specs.declared.block_type.BlockType.TheVariants as types;
+ghost use Rattle.pcap_blocks.specs.ParsedBlock.{BodyMayGrow};
 ghost use Rattle.pcap_tolerant_blocks.specs.declared.sound.OptionsOf.{OptionsOf};
 ghost use Rattle.pcap_written.specs.Raw.{raw_of, raw_text};
-ghost use Rattle.pcapfile_mended.specs.Mended.{IsMended, IsStated, IsTaken, OptionsAt, front_length, unstated, with_body};
+ghost use Rattle.pcapfile_mended.specs.Mended.{IsMended, IsStated, IsTaken, MendGrows, OptionsAt, front_length, unstated, with_body};
 ghost use Rattle.pcapfile_mended.specs.declared.mending.Mended.TheVariants as shown;
 
 use crate::front::{Front, front_of};
@@ -33,7 +34,8 @@ const NO_LENGTH: [u8; 8] = [255; 8];
 
 // Whether the strict reading takes the body of a block of this type, in one order.
 fn is_taken<B: ByteOrder>(alloc: Global, type_: BlockType, body: &[u8]) -> Result<bool, AllocError>
-    ensures { IfOk result (IsTaken B.number_of type_ body.now) }
+    ensures taken { IfOk result (IsTaken B.number_of type_ body.now) }
+    ensures memory { IfErr result (λ _. BodyMayGrow B.number_of type_ body.now) }
 {
     match ParsedBlock::from_slice::<B>(alloc, type_, body) {
         Ok(_read) => Ok(true),
@@ -44,7 +46,8 @@ fn is_taken<B: ByteOrder>(alloc: Global, type_: BlockType, body: &[u8]) -> Resul
 
 // Whether the strict reading takes a block's body.
 fn is_sound(alloc: Global, block: RawBlock<'_>) -> Result<bool, AllocError>
-    ensures { IfOk result (IsTaken (number_in block.entry.endianness) block.entry.type_ block.entry.body.now) }
+    ensures taken { IfOk result (IsTaken (number_in block.entry.endianness) block.entry.type_ block.entry.body.now) }
+    ensures memory { IfErr result (λ _. BodyMayGrow (number_in block.entry.endianness) block.entry.type_ block.entry.body.now) }
 {
     match block.endianness {
         Endianness::Big => is_taken::<BigEndian>(alloc, block.type_, block.body),
@@ -151,7 +154,8 @@ fn put_rest(
 ) -> Result<Mended, AllocError>
     requires refused { IsTaken (number_in block.endianness) block.type_ block.body.now false }
     requires none { (of : OptionsOf) (order : Endianness) → OptionsAt (raw_of block) of order → ⊥ }
-    ensures { IfOk result (λ mended. IsMended (raw_of block.entry) mended text.new.items) }
+    ensures mended { IfOk result (λ mended. IsMended (raw_of block.entry) mended text.new.items) }
+    ensures memory { IfErr result (λ _. block.entry.type_ ≡ types.InterfaceDescription) }
 {
     match block.type_ {
         BlockType::InterfaceDescription => {
@@ -173,7 +177,8 @@ fn put_rest(
 /// for its head is filled up with zeros. Any other body that has no room for what stands before its options is left out, and
 /// so is each that has none.
 ///
-/// `AllocError` where the text, the room or a list of options can't grow.
+/// `AllocError` where the text, the room or a list can't grow, and only where something is left of the block, or its body has
+/// something that is kept in a list.
 pub fn mend(
     alloc: Global,
     block: RawBlock<'_>,
@@ -181,7 +186,8 @@ pub fn mend(
     text: &mut Vec<u8>,
 ) -> Result<Mended, AllocError>
     requires { length block.body.now + 12 < 2 ^ 32 }
-    ensures { IfOk result (λ mended. IsMended (raw_of block.entry) mended text.new.items) }
+    ensures mended { IfOk result (λ mended. IsMended (raw_of block.entry) mended text.new.items) }
+    ensures memory { IfErr result (λ _. MendGrows (raw_of block.entry)) }
 {
     if is_sound(alloc, block)? {
         return put_sound(block, body, text);

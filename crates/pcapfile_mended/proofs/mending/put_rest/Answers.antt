@@ -17,13 +17,13 @@ put_changed-requires c =
     let put : c.as_slice.result.now ≡ s ++ replicate (8 - length s) 0 = c.as_slice.ensures.value ∙ c.in_ok-put_filled-in-InterfaceDescription.ensures in
     omega (arith, lt, ap length put, length-append s (replicate (8 - length s) 0), zeros)
 
-pub returns-in_ok-put_filled-in-InterfaceDescription : goal.returns-in_ok-put_filled-in-InterfaceDescription
-returns-in_ok-put_filled-in-InterfaceDescription c =
+pub returns-in_ok-put_filled-in-InterfaceDescription-clause-mended : goal.returns-in_ok-put_filled-in-InterfaceDescription-clause-mended
+returns-in_ok-put_filled-in-InterfaceDescription-clause-mended c =
     let raw = raw_of c.args.block in
     let s = raw.body in
     let is = c.in-InterfaceDescription.is in
     changed raw (s ++ replicate (8 - length s) 0) c.as_slice.result.now c.put_changed.new.text.items c.put_changed.result (c.as_slice.ensures.value ∙ c.in_ok-put_filled-in-InterfaceDescription.ensures)
     (short is (short_interface raw c.requires.none is)) c.put_changed.ensures
 
-pub returns-in_default : goal.returns-in_default
-returns-in_default c = left_out (raw_of c.args.block) c.clear.new.self.items c.requires.refused c.requires.none c.in_default.not-InterfaceDescription c.clear.ensures.items
+pub returns-in_default-clause-mended : goal.returns-in_default-clause-mended
+returns-in_default-clause-mended c = left_out (raw_of c.args.block) c.clear.new.self.items c.requires.refused c.requires.none c.in_default.not-InterfaceDescription c.clear.ensures.items
