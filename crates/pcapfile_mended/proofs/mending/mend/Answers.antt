@@ -13,11 +13,7 @@ returns-then-branch-clause-memory c =
     mend_grows (raw_of c.args.block) (inr (sound_is_left (raw_of c.args.block) taken)) c.put_sound.result
 
 pub returns-in-Some-clause-memory : goal.returns-in-Some-clause-memory
-returns-in-Some-clause-memory c =
-    let raw = raw_of c.args.block in
-    mend_grows raw (inr (options_are_left raw c.in-Some.front.of c.in-Some.front.order c.in-Some.ensures.none)) c.put_with_options.result
+returns-in-Some-clause-memory c = mend_grows (raw_of c.args.block) (inr (options_are_left (raw_of c.args.block) _ _ c.in-Some.ensures.none)) c.put_with_options.result
 
 pub returns-in-None-clause-memory : goal.returns-in-None-clause-memory
-returns-in-None-clause-memory c =
-    let raw = raw_of c.args.block in
-    on_err_weaker c.put_rest.result (λ is. inr (interface_is_left raw is)) c.put_rest.ensures.memory
+returns-in-None-clause-memory c = on_err_weaker c.put_rest.result (λ is. inr (interface_is_left (raw_of c.args.block) is)) c.put_rest.ensures.memory
