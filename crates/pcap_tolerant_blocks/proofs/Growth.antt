@@ -95,7 +95,8 @@ grows_behind_version order section s after version grows = λ value rest text ba
     grows value.options rest (subst (λ (t : List ℕ). OptionsAsIs order section_header value.options [] t rest) length.1 text.options_are) bare
 
 -- what begins with the magic number of an order is a section
-named_is_one : (magic : ℕ) (s after : List ℕ) (e : Endianness) → 16 ≤ length s → Number big_number 4 magic s after → magic_order magic ≡ Some e → (fault : Fault) → NoSection s fault → ⊥
+named_is_one : (magic : ℕ) (s after : List ℕ) (e : Endianness) → 16 ≤ length s → Number big_number 4 magic s after → magic_order magic ≡ Some e
+    → (fault : Fault) → NoSection s fault → ⊥
 named_is_one magic s after e long number names fault (short_section lt) = omega (arith, long, lt)
 named_is_one magic s after e long number names fault (unnamed other behind _ there none) =
     let same = number_same big_number 4 _ _ s behind after there number in
@@ -111,6 +112,7 @@ keeps_behind_magic magic s after e number names grows = λ value rest text bare.
     let behind : AfterMagic (number_in e) value [] after rest = subst (λ (t : List ℕ). AfterMagic (number_in e) value [] t rest) same.1 (subst (λ (d : Endianness). AfterMagic (number_in d) value [] text.after_magic rest) order text.after) in
     grows value rest behind bare
 
-pub grows_behind_magic : (magic : ℕ) (s after : List ℕ) (e : Endianness) → 16 ≤ length s → Number big_number 4 magic s after → magic_order magic ≡ Some e → VersionGrows (number_in e) after → SectionGrows s
+pub grows_behind_magic : (magic : ℕ) (s after : List ℕ) (e : Endianness) → 16 ≤ length s → Number big_number 4 magic s after → magic_order magic ≡ Some e
+    → VersionGrows (number_in e) after → SectionGrows s
 grows_behind_magic magic s after e long number names grows =
     record { is_one = named_is_one magic s after e long number names; keeps = keeps_behind_magic magic s after e number names grows }

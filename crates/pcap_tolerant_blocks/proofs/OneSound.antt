@@ -48,12 +48,14 @@ module _ (order : Order) (kind : Kind) where
       let whole : s ≡ p.text ++ behind = e ∙ append_assoc p.text (flat_map text_in ps) a in
       (whole, subst (λ (t : List ℕ). JudgedText order kind p.option t behind) (sym whole) (All-head (IsPiece order kind) p ps are behind))
 
-  both_kept : (p q : Piece) (ps qs : List Piece) (sound : Bool) → is_sound p ≡ sound → is_sound q ≡ sound → p.text ≡ q.text → flat_map text_in (filter is_sound ps) ≡ flat_map text_in (filter is_sound qs)
+  both_kept : (p q : Piece) (ps qs : List Piece) (sound : Bool) → is_sound p ≡ sound → is_sound q ≡ sound → p.text ≡ q.text
+      → flat_map text_in (filter is_sound ps) ≡ flat_map text_in (filter is_sound qs)
       → flat_map text_in (filter is_sound (p ∷ ps)) ≡ flat_map text_in (filter is_sound (q ∷ qs))
   both_kept p q ps qs true e f text more = rw (e, f, text, more) refl
   both_kept p q ps qs false e f text more = rw (e, f) more
 
-  pieces_same : (ps qs : List Piece) (s a b : List ℕ) → AllPieces ps → AllPieces qs → s ≡ flat_map text_in ps ++ a → s ≡ flat_map text_in qs ++ b → NoOption a → NoOption b
+  pieces_same : (ps qs : List Piece) (s a b : List ℕ) → AllPieces ps → AllPieces qs → s ≡ flat_map text_in ps ++ a → s ≡ flat_map text_in qs ++ b
+      → NoOption a → NoOption b
       → flat_map text_in (filter is_sound ps) ≡ flat_map text_in (filter is_sound qs)
   unfolding NoOption AllPieces
   pieces_same [] [] s a b ps_are qs_are e f none nothing = refl

@@ -50,7 +50,8 @@ module _ (order : Order) (kind : Kind) where
   one_kept piece true e = rw e (append-nil piece.text)
   one_kept piece false e = rw e refl
 
-  pieces_more : (s left after kept : List ℕ) (piece : Piece) → PiecesSoFar order kind s left kept → IsPiece order kind piece → left ≡ piece.text ++ after → PiecesSoFar order kind s after (kept ++ text_if (are_none piece.option.flaws) piece.text)
+  pieces_more : (s left after kept : List ℕ) (piece : Piece) → PiecesSoFar order kind s left kept → IsPiece order kind piece → left ≡ piece.text ++ after
+      → PiecesSoFar order kind s after (kept ++ text_if (are_none piece.option.flaws) piece.text)
   pieces_more s left after kept piece so_far is text =
       let ps = so_far.pieces in
       let one : flat_map text_in (piece ∷ []) ≡ piece.text = append-nil piece.text in
@@ -81,25 +82,29 @@ module _ (order : Order) (kind : Kind) where
       let by_text = subst (λ (k : List ℕ). PiecesSoFar order kind s after (kept ++ text_if (are_none piece.option.flaws) k)) (sym front) more in
       subst (λ (b : Bool). PiecesSoFar order kind s after (kept ++ text_if b (take (length left - length after) left))) flaws by_text
 
-  pub pieces_end : (s left rest kept : List ℕ) (cut : Option Fault) → PiecesSoFar order kind s left kept → StopsAt may_end_with_body order no_kind [] cut left rest → SoundOptions order kind s kept
+  pub pieces_end : (s left rest kept : List ℕ) (cut : Option Fault) → PiecesSoFar order kind s left kept
+      → StopsAt may_end_with_body order no_kind [] cut left rest → SoundOptions order kind s kept
   pieces_end s left rest kept cut so_far stops = record { pieces = so_far.pieces; stop = left; cut = cut; rest = rest; are = so_far.are; text = so_far.text; stops = stops; kept_are = so_far.kept_are }
 
   -- the options that stand in what is left
-  pieces_on : (each : List Judged) (s left stop kept : List ℕ) → PiecesSoFar order kind s left kept → Chain (JudgedText order kind) each left stop → (more : List ℕ) × PiecesSoFar order kind s stop (kept ++ more)
+  pieces_on : (each : List Judged) (s left stop kept : List ℕ) → PiecesSoFar order kind s left kept → Chain (JudgedText order kind) each left stop
+      → (more : List ℕ) × PiecesSoFar order kind s stop (kept ++ more)
   pieces_on [] s left stop kept so_far are = ([], subst (λ (l : List ℕ). PiecesSoFar order kind s l (kept ++ [])) are (subst (PiecesSoFar order kind s left) (sym (append-nil kept)) so_far))
   pieces_on (option ∷ each) s left stop kept so_far are =
       let put = text_if (are_none option.flaws) (take (length left - length are.0) left) in
       let on = pieces_on each s are.0 stop (kept ++ put) (option_more s left are.0 kept option so_far are.1) are.2 in
       (put ++ on.0, subst (PiecesSoFar order kind s stop) (append_assoc kept put on.0) on.1)
 
-  pub pieces_all : (s left kept : List ℕ) → PiecesSoFar order kind s left kept → (v : Verdict (Flawed (List Entry))) → OptionsAsIsSay order kind left v → (more : List ℕ) × SoundOptions order kind s (kept ++ more)
+  pub pieces_all : (s left kept : List ℕ) → PiecesSoFar order kind s left kept → (v : Verdict (Flawed (List Entry))) → OptionsAsIsSay order kind left v
+      → (more : List ℕ) × SoundOptions order kind s (kept ++ more)
   pieces_all s left kept so_far (whole x rest) h =
       let on = pieces_on h.each s left h.stop kept so_far h.are in
       (on.0, pieces_end s h.stop rest (kept ++ on.0) h.cut on.1 (stops_any order kind x.value [] h.cut h.stop rest h.stops))
   pieces_all s left kept so_far _ h = absurd h
 
   -- an option without a flaw is put
-  pub puts_some : (s left after kept : List ℕ) (option : Judged) → PiecesSoFar order kind s left kept → JudgedText order kind option left after → option.flaws ≡ [] → PutsSome order kind s
+  pub puts_some : (s left after kept : List ℕ) (option : Judged) → PiecesSoFar order kind s left kept → JudgedText order kind option left after
+      → option.flaws ≡ [] → PutsSome order kind s
   puts_some s left after kept option so_far text none =
       let put = take (length left - length after) left in
       let sound : are_none option.flaws ≡ true = ap are_none none in
@@ -110,5 +115,6 @@ module _ (order : Order) (kind : Kind) where
       record { kept = (kept ++ put) ++ all.0; are_put = all.1; some = λ e. omega (arith, less, ap length e, length-append (kept ++ put) all.0, length-append kept put, length-take (length left - length after) left) }
 
   -- where nothing more can be put, the options so far are
-  pub puts_first : (s left kept before now after : List ℕ) → PiecesSoFar order kind s left kept → now ≡ before ++ kept → after ≡ now → PutsFirst order kind s before after
+  pub puts_first : (s left kept before now after : List ℕ) → PiecesSoFar order kind s left kept → now ≡ before ++ kept → after ≡ now
+      → PutsFirst order kind s before after
   puts_first s left kept before now after so_far put stays = record { left = left; kept = kept; are_put = so_far; behind = stays ∙ put }

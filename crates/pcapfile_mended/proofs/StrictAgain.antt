@@ -368,7 +368,8 @@ no_short_at raw of order at is lt =
 
 -- of these options in this order the same are kept
 kept_same : (raw : Raw) (of others : OptionsOf) (order second : Endianness) (kept more : List ℕ) → OptionsAt raw of order → OptionsAt raw others second
-    → SoundOptions (number_in order) (kind_of of) (options_in raw of order) kept → SoundOptions (number_in second) (kind_of others) (options_in raw others second) more
+    → SoundOptions (number_in order) (kind_of of) (options_in raw of order) kept
+    → SoundOptions (number_in second) (kind_of others) (options_in raw others second) more
     → has_body (with_options raw of order kept) ≡ has_body (with_options raw others second more)
 kept_same raw of others order second kept more at there x y =
     let some_of : ◌≡◌ {A = Option OptionsOf} (Some others) (Some of) = sym there.of_type ∙ at.of_type in
@@ -388,7 +389,8 @@ module _ (raw : Raw) where
   no_sound_short : (body : Body) (rest : List ℕ) → raw.type_ ≡ types.InterfaceDescription → length raw.body < 8 → SaysOfRaw raw (whole body rest) → ⊥
   no_sound_short body rest is lt x = short_refused raw.type_ (number_in raw.endianness) raw.body body rest is lt x
 
-  stated_one : (becomes : Becomes) (body : Body) (rest : List ℕ) → SaysOfRaw raw (whole body rest) → unstated raw.type_ raw.body ≢ raw.body → Mends raw becomes → becomes ≡ has_body (unstated raw.type_ raw.body)
+  stated_one : (becomes : Becomes) (body : Body) (rest : List ℕ) → SaysOfRaw raw (whole body rest) → unstated raw.type_ raw.body ≢ raw.body
+      → Mends raw becomes → becomes ≡ has_body (unstated raw.type_ raw.body)
   stated_one stays body rest x other (sound _ _ says same) = absurd (other same)
   stated_one (has_body _) body rest x other (stated _ _ says _) = refl
   stated_one (has_body _) body rest x other (flawed fault of order kept says at are) = absurd (no_sound_fault body rest fault x says)
@@ -403,7 +405,8 @@ module _ (raw : Raw) where
   flawed_one (has_body _) fault of order kept x at are (short is lt) = absurd (no_short_at raw of order at is lt)
   flawed_one is_left_out fault of order kept x at are (lost _ says none other) = absurd (none of order at)
 
-  short_one : (becomes : Becomes) → raw.type_ ≡ types.InterfaceDescription → length raw.body < 8 → Mends raw becomes → becomes ≡ has_body (raw.body ++ replicate (8 - length raw.body) 0)
+  short_one : (becomes : Becomes) → raw.type_ ≡ types.InterfaceDescription → length raw.body < 8 → Mends raw becomes
+      → becomes ≡ has_body (raw.body ++ replicate (8 - length raw.body) 0)
   short_one stays is lt (sound body rest says same) = absurd (no_sound_short body rest is lt says)
   short_one (has_body _) is lt (stated body rest says _) = absurd (no_sound_short body rest is lt says)
   short_one (has_body _) is lt (flawed fault of order kept says at are) = absurd (no_short_at raw of order at is lt)
