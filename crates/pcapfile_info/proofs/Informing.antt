@@ -36,8 +36,8 @@ use Rattle.pcapfile_info.specs.declared.described.Opened.{Opened}
 use Rattle.pcapfile_info.specs.declared.progress.Progress.{Progress}
 use Rattle.pcapfile_info.specs.declared.seen.Sight.{Sight}
 use Rattle.pcapfile_info.specs.declared.totals.Totals.{Totals}
-use Rattle.pcapfile_info.specs.Describing.{DescribesBlocks, opened_at}
-use Rattle.pcapfile_info.specs.Information.{InformsItems, InformsPackets, InformsBlocks}
+use Rattle.pcapfile_info.specs.Describing.{DescribesBlocks, DescribesFront, opened_at, section_comments}
+use Rattle.pcapfile_info.specs.Information.{InformsItems, InformsPackets, InformsBlocks, OpensCommented}
 use Rattle.pcapfile_info.specs.KeptBlocks.{EndsBlocks}
 use Rattle.pcapfile_info.specs.Sights.{IsPacketSight, IsBlockSight}
 use Rattle.pcapfile_info.specs.Telling.{AreSights, KeepsTotals, TellsItems}
@@ -149,5 +149,16 @@ blocks_informed told (Some s) (Some after) now text first n long room failed old
     let informs = items_informed block_format blocks_lawful first IsBlockSight 0 s text after took.1 now failed old new fault checked 1 counts items start (omega arith) refl is in
     let same : DescribesBlocks first tells.items new.described.items new.comments.items → DescribesBlocks first informs.0.checks.items new.described.items new.comments.items =
     λ d. subst (λ (items : List Item). DescribesBlocks first items new.described.items new.comments.items) (sym informs.1) d in
-    let ended = described_to_end fault failed (new.items + 1) 18446744073709551615 end (DescribesBlocks first tells.items new.described.items new.comments.items) tells.kept.described is in
-    (refl, refl, inr (first, after, opens, opens_as, informs.0, elim ended [ inl memory ↦ inl memory | inr d ↦ inr (same d) ]))
+    let begun : DescribesFront first tells.items new.described.items new.comments.items → DescribesFront first informs.0.checks.items new.described.items new.comments.items =
+    λ d. subst (λ (items : List Item). DescribesFront first items new.described.items new.comments.items) (sym informs.1) d in
+    let ended = described_to_end fault failed (new.items + 1) 18446744073709551615 end (DescribesFront first tells.items new.described.items new.comments.items)
+    (DescribesBlocks first tells.items new.described.items new.comments.items) tells.kept.described is in
+    (refl, refl, inr (first, after, opens, opens_as, informs.0, elim ended [ inl memory ↦ inl (memory.0, begun memory.1) | inr d ↦ inr (same d) ]))
+
+-- the first block is read, and there is a comment on it
+pub opens_commented : (known after : Option (List ℕ)) (text : List ℕ) (first : State) → TakesText OpeningSays known after text first → 0 < length (section_comments first)
+    → IfSome known OpensCommented
+opens_commented None after text first took some = tt
+opens_commented (Some s) None text first took some = absurd took.1
+opens_commented (Some s) (Some after) text first took some =
+    (first, after, subst (λ (l : List ℕ). OpeningSays l (whole first after)) (sym took.1) (opened_more text after first took.0), some)

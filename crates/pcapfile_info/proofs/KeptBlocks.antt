@@ -12,11 +12,11 @@ use Rattle.pcap_ng.specs.Frames.{Framed}
 use Rattle.pcap_ng.specs.State.{State, within}
 use Rattle.pcapfile_info.specs.declared.progress.Progress.{Progress}
 use Rattle.pcapfile_info.specs.declared.seen.Sight.{Sight}
-use Rattle.pcapfile_info.specs.Describing.{AddsDescribed, SameDescribed, told_of}
+use Rattle.pcapfile_info.specs.Describing.{AddsDescribed, LosesNone, SameDescribed, told_of}
 use Rattle.pcapfile_info.specs.KeptBlocks.{EndsBlocks, KeepsBlocks}
 use Rattle.pcapfile_info.specs.Telling.{AddsNothing}
 use Rattle.pcapfile_info.specs.Totals.{Adds}
-use Rattle.pcapfile_info.proofs.Describing.{described_behind, described_more, section_more}
+use Rattle.pcapfile_info.proofs.Describing.{described_behind, described_more, front_kept, section_more}
 
 -- one block more
 pub kept_more : (block : Framed) (section : Section) (interfaces : List Interface) (sight : Sight) (old new : Progress) → Adds sight old.totals new.totals → AddsDescribed block.type_ section interfaces old new
@@ -38,5 +38,5 @@ pub kept_ends : (fault : Option PcapError) (first : State) (items : List Item) (
 kept_ends fault first items sights progress kept = record { totals = kept.totals; described = inr kept.described }
 
 -- or for want of memory with what is counted
-pub counted_ends : (e : PcapError) → IsMemory e → (old new : Progress) → AddsNothing old new → (first : State) (items : List Item) (sights : List Sight) → KeepsBlocks first items sights old → EndsBlocks (Some e) first items sights new
-counted_ends e memory old new nothing first items sights kept = record { totals = nothing.2 0 sights kept.totals; described = inl memory }
+pub counted_ends : (e : PcapError) → IsMemory e → (old new : Progress) → AddsNothing old new → LosesNone old new → (first : State) (items : List Item) (sights : List Sight) → KeepsBlocks first items sights old → EndsBlocks (Some e) first items sights new
+counted_ends e memory old new nothing loses first items sights kept = record { totals = nothing.2 0 sights kept.totals; described = inl (memory, front_kept first items old new kept.described loses) }

@@ -1,5 +1,5 @@
 -- How sections and interfaces are described.
-use Rattle.std.specs.Prelude.{◌≡◌, ◌+◌, ◌-◌, ◌++◌, ℕ, List, [], ◌∷◌, length, map, flat_map, Bool, true, false, Option, Some, None, String, if◌then◌else◌}
+use Rattle.std.specs.Prelude.{◌≡◌, ◌<◌, ◌+◌, ◌-◌, ◌++◌, ℕ, List, [], ◌∷◌, length, map, flat_map, Bool, true, false, Option, Some, None, String, if◌then◌else◌}
 use Rattle.std.specs.List.{filter_map, slice_get}
 use Rattle.std.specs.Option.{option_map, option_to_list}
 use Rattle.std.specs.String.{string_bytes}
@@ -108,6 +108,14 @@ descriptions n (item ∷ items) = described_by item.block.type_ (counted n) (int
 abbrev pub comments_in : List Item → List (List ℕ)
 comments_in = flat_map (λ item. commented_by item.block.type_ item.after)
 
+-- there is a comment among these options
+abbrev pub HasComment : List Entry → Type 0
+HasComment options = 0 < length (comments_among options)
+
+-- all that was told before is told, and maybe more behind it
+abbrev pub TellsMore : {X : Type 0} → List X → List X → Type 0
+TellsMore {X} before after = (more : List X) × (after ≡ before ++ more)
+
 -- what is kept of descriptions and comments stays
 abbrev pub SameDescribed : Progress → Progress → Type 0
 SameDescribed old new = (new.section ≡ old.section) × (new.described ≡ old.described) × (new.comments ≡ old.comments)
@@ -122,6 +130,11 @@ pub record AddsDescribed (type : BlockType) (section : Section) (interfaces : Li
   pub described_are : map told_of new.described.items ≡ map told_of old.described.items ++ described_by type old.section interfaces
   pub comments_are : map string_bytes new.comments.items ≡ map string_bytes old.comments.items ++ commented_by type (within section interfaces)
 
+-- no description and no comment that was kept is lost
+pub record LosesNone (old new : Progress) : Type 0 where
+  pub described_begin : TellsMore (map told_of old.described.items) (map told_of new.described.items)
+  pub comments_begin : TellsMore (map string_bytes old.comments.items) (map string_bytes new.comments.items)
+
 -- memory ran out
 abbrev pub LacksMemory : Option PcapError → Type 0
 LacksMemory None = ⊥
@@ -131,3 +144,8 @@ LacksMemory (Some e) = IsMemory e
 pub record DescribesBlocks (first : State) (items : List Item) (described : List Described) (comments : List (String Global)) : Type 0 where
   pub described_are : map told_of described ≡ descriptions 1 items
   pub comments_are : map string_bytes comments ≡ section_comments first ++ comments_in items
+
+-- the same, and maybe more, of a block behind them
+pub record DescribesFront (first : State) (items : List Item) (described : List Described) (comments : List (String Global)) : Type 0 where
+  pub described_begin : TellsMore (descriptions 1 items) (map told_of described)
+  pub comments_begin : TellsMore (section_comments first ++ comments_in items) (map string_bytes comments)

@@ -1,5 +1,5 @@
 -- What is told of a capture.
-use Rattle.std.specs.Prelude.{⊤, ◌≡◌, ◌⊎◌, ℕ, List, [], Option, None, Some, String}
+use Rattle.std.specs.Prelude.{⊤, ◌≡◌, ◌<◌, ◌⊎◌, ℕ, List, [], length, Option, None, Some, String}
 use Rattle.std.specs.Global.{Global}
 use Rattle.pcap_core.specs.Answer.{whole}
 use Rattle.pcap_items.specs.Format.{Format}
@@ -18,7 +18,7 @@ use Rattle.pcapfile_info.specs.declared.described.Described.{Described}
 use Rattle.pcapfile_info.specs.declared.described.Opened.{Opened}
 use Rattle.pcapfile_info.specs.declared.seen.Sight.{Sight}
 use Rattle.pcapfile_info.specs.declared.totals.Totals.{Totals}
-use Rattle.pcapfile_info.specs.Describing.{DescribesBlocks, opened_at}
+use Rattle.pcapfile_info.specs.Describing.{DescribesBlocks, DescribesFront, opened_at, section_comments}
 use Rattle.pcapfile_info.specs.Sights.{IsPacketSight, IsBlockSight}
 use Rattle.pcapfile_info.specs.Telling.{AreSights}
 use Rattle.pcapfile_info.specs.Totals.{TotalsAre}
@@ -39,12 +39,17 @@ InformsPackets s checked told_header totals =
     ⊎ ((header : PcapHeader) × (after : List ℕ) × HeaderText header s after × (told_header ≡ Some header)
     × InformsItems (format_under packet_limit header) tt IsPacketSight 1 s after 0 checked totals))
 
--- and of a capture of blocks: what is seen of the blocks behind its first section header, what that says, and unless memory ran
--- out how interfaces are described and which comments stand on sections
+-- and of a capture of blocks: what is seen of the blocks behind its first section header, what that says, how interfaces are
+-- described and which comments stand on sections, and where memory ran out maybe some of the block behind these
 abbrev pub InformsBlocks : List ℕ → Checked → Option PcapHeader → Totals → Option Opened → List Described → List (String Global) → Type 0
 InformsBlocks s checked told_header totals told_opening described comments =
     (checked.format ≡ PcapNg) × (told_header ≡ None)
     × ((FailsOpening ⊤ OpeningSays s checked × TotalsAre 0 [] totals × (told_opening ≡ None) × (described ≡ []) × (comments ≡ []))
     ⊎ ((first : State) × (after : List ℕ) × OpeningSays s (whole first after) × (told_opening ≡ opened_at first)
     × (informs : InformsItems block_format first IsBlockSight 0 s after 1 checked totals)
-    × ((checked.end ≡ Memory) ⊎ DescribesBlocks first informs.checks.items described comments)))
+    × (((checked.end ≡ Memory) × DescribesFront first informs.checks.items described comments)
+    ⊎ DescribesBlocks first informs.checks.items described comments)))
+
+-- s has a first section header, on which there is a comment
+abbrev pub OpensCommented : List ℕ → Type 0
+OpensCommented s = (first : State) × (after : List ℕ) × OpeningSays s (whole first after) × (0 < length (section_comments first))

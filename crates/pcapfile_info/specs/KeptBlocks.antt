@@ -6,7 +6,7 @@ use Rattle.pcap_ng.specs.State.{State}
 use Rattle.pcapfile_run.specs.Passing.{counted}
 use Rattle.pcapfile_info.specs.declared.progress.Progress.{Progress}
 use Rattle.pcapfile_info.specs.declared.seen.Sight.{Sight}
-use Rattle.pcapfile_info.specs.Describing.{DescribesBlocks, LacksMemory, is_begin}
+use Rattle.pcapfile_info.specs.Describing.{DescribesBlocks, DescribesFront, LacksMemory, is_begin}
 use Rattle.pcapfile_info.specs.Totals.{TotalsAre}
 
 -- what is seen of blocks behind a first section is counted, the section in force is numbered, and descriptions and comments are told
@@ -15,7 +15,8 @@ pub record KeepsBlocks (first : State) (items : List Item) (sights : List Sight)
   pub section : progress.section ≡ counted (1 + count_by is_begin items)
   pub described : DescribesBlocks first items progress.described.items progress.comments.items
 
--- where a run ends with this fault, or none: it is counted, and unless memory ran out descriptions and comments are told
+-- where a run ends with this fault, or none: it is counted, and descriptions and comments are told; where memory ran out there may be more
 pub record EndsBlocks (fault : Option PcapError) (first : State) (items : List Item) (sights : List Sight) (progress : Progress) : Type 0 where
   pub totals : TotalsAre 0 sights progress.totals
-  pub described : LacksMemory fault ⊎ DescribesBlocks first items progress.described.items progress.comments.items
+  pub described : (LacksMemory fault × DescribesFront first items progress.described.items progress.comments.items)
+      ⊎ DescribesBlocks first items progress.described.items progress.comments.items

@@ -11,6 +11,10 @@ lies_in width span instant = instant / width == span
 abbrev pub is_at : ℕ → ℕ → ℕ → Bool
 is_at width slot instant = instant / width % 64 == slot
 
+-- how many packets a row tells in the span of this number, which is one of the row
+abbrev pub count_at : Spread → ℕ → ℕ
+count_at spread span = slice_index spread.packets (span % 64)
+
 -- the span of this number is less than 64 from the first and the last of the row
 abbrev pub HasRoom : Spread → ℕ → Type 0
 HasRoom spread span = max spread.last span < min spread.first span + 64

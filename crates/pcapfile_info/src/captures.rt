@@ -1,7 +1,7 @@
 //! What whole captures hold.
 
-ghost use Rattle.std.specs.Prelude.{◌≡◌, [], None, IfSome, IfOk};
-ghost use Rattle.pcapfile_info.specs.Information.{InformsPackets, InformsBlocks};
+ghost use Rattle.std.specs.Prelude.{◌≡◌, [], None, IfSome, IfOk, IfErr};
+ghost use Rattle.pcapfile_info.specs.Information.{InformsPackets, InformsBlocks, OpensCommented};
 
 use crate::described::{Described, Opened, opened_by, push_comments};
 use crate::passing::tell_packets;
@@ -97,8 +97,9 @@ pub fn inform_packets<R: BufRead + Drop>(
 /// Tells what a capture of blocks that comes off a stream holds. No more than one block is held in memory, with the section and
 /// interfaces in force, and what is counted of each interface. `AllocError` where there is no room for comments on the section.
 pub fn inform_blocks<R: BufRead + Drop>(alloc: Global, input: R) -> Result<Information, AllocError>
-    ensures { IfOk result
+    ensures informs { IfOk result
         (λ told. IfSome (R.remaining input) (λ s. InformsBlocks s told.checked told.header told.totals told.opened told.described.items told.comments.items)) }
+    ensures no_room { IfErr result (λ e. IfSome (R.remaining input) OpensCommented) }
 {
     let format = Format::PcapNg;
     let totals = Totals::new(alloc);

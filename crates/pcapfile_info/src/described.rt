@@ -1,6 +1,6 @@
 //! How sections and interfaces are described.
 
-ghost use Rattle.std.specs.Prelude.{◌≡◌, ◌++◌, map, IfOk};
+ghost use Rattle.std.specs.Prelude.{⊤, ◌≡◌, ◌++◌, map, IfOk, IsSomeAnd, MatchResult};
 ghost use Rattle.std.specs.Option.{option_map, option_to_list};
 ghost use Rattle.std.specs.String.{string_bytes};
 ghost use Rattle.pcap_options.specs.Held.{string_in, under};
@@ -9,7 +9,7 @@ ghost use Rattle.pcap_blocks.specs.InterfaceDescription.{interface_of};
 ghost use Rattle.pcap_options.specs.SectionOption.{section_entry};
 ghost use Rattle.pcap_blocks.specs.SectionHeader.{section_of};
 ghost use Rattle.pcap_options.specs.Values.{Entry};
-ghost use Rattle.pcapfile_info.specs.Describing.{comments_among, last_description, opened_of, told_of};
+ghost use Rattle.pcapfile_info.specs.Describing.{comments_among, HasComment, last_description, opened_of, TellsMore, told_of};
 
 use pcap_file::pcapng::{
     InterfaceDescriptionBlock, InterfaceDescriptionOption, SectionHeaderBlock, SectionHeaderOption,
@@ -82,8 +82,9 @@ fn push_comment<O: Commenting>(
     comments: &mut Vec<String>,
     option: &O,
 ) -> Result<(), AllocError>
-    ensures { IfOk result
-        (λ done. map string_bytes comments.new.items ≡ map string_bytes comments.old.items ++ option_to_list (under 1 string_in (O.entry option.now))) }
+    ensures { MatchResult result
+        (λ done. map string_bytes comments.new.items ≡ map string_bytes comments.old.items ++ option_to_list (under 1 string_in (O.entry option.now)))
+        (λ e. (comments.new.items ≡ comments.old.items) × IsSomeAnd (under 1 string_in (O.entry option.now)) (λ text. ⊤)) }
 {
     let Some(text) = option.comment() else {
         return Ok(());
@@ -98,7 +99,9 @@ fn push_comments_among<O: Commenting>(
     comments: &mut Vec<String>,
     options: &[O],
 ) -> Result<(), AllocError>
-    ensures { IfOk result (λ done. map string_bytes comments.new.items ≡ map string_bytes comments.old.items ++ comments_among (map O.entry options.now)) }
+    ensures { MatchResult result
+        (λ done. map string_bytes comments.new.items ≡ map string_bytes comments.old.items ++ comments_among (map O.entry options.now))
+        (λ e. TellsMore (map string_bytes comments.old.items) (map string_bytes comments.new.items) × HasComment (map O.entry options.now)) }
 {
     for option in options {
         push_comment(alloc, comments, option)?;
@@ -153,14 +156,15 @@ pub(crate) fn describe_last(
     }))
 }
 
-/// Keeps the comments on a section.
+/// Keeps the comments on a section. An `Err` leaves those that were there, and comes only where there is one.
 pub(crate) fn push_comments(
     alloc: Global,
     comments: &mut Vec<String>,
     section: &SectionHeaderBlock<'static>,
 ) -> Result<(), AllocError>
-    ensures { IfOk result
-        (λ done. map string_bytes comments.new.items ≡ map string_bytes comments.old.items ++ comments_among (section_of section.now).options) }
+    ensures { MatchResult result
+        (λ done. map string_bytes comments.new.items ≡ map string_bytes comments.old.items ++ comments_among (section_of section.now).options)
+        (λ e. TellsMore (map string_bytes comments.old.items) (map string_bytes comments.new.items) × HasComment (section_of section.now).options) }
 {
     push_comments_among(alloc, comments, &section.options)
 }

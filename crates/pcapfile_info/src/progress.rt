@@ -9,7 +9,7 @@ ghost use Rattle.pcap_blocks.specs.SectionHeader.{section_of};
 ghost use Rattle.pcap_ng.specs.Blocks.{block_format};
 ghost use Rattle.pcap_ng.specs.Reader as ng;
 ghost use Rattle.pcapfile_info.specs.declared.seen.Sight.TheVariants.{Packet};
-ghost use Rattle.pcapfile_info.specs.Describing.{AddsDescribed, SameDescribed, last_description, told_of};
+ghost use Rattle.pcapfile_info.specs.Describing.{AddsDescribed, LosesNone, SameDescribed, last_description, told_of};
 ghost use Rattle.pcapfile_info.specs.KeptBlocks.{EndsBlocks, KeepsBlocks};
 ghost use Rattle.pcapfile_info.specs.InForce.{AreInForce};
 ghost use Rattle.pcapfile_info.specs.Sights.{IsBlockSight, captured_as, captured_seen};
@@ -80,8 +80,10 @@ impl Progress {
         ensures counts { SameCounts self.old self.new }
         ensures section { self.new.section ≡ self.old.section }
         ensures comments { self.new.comments ≡ self.old.comments }
-        ensures described { IfOk result (λ done. map told_of self.new.described.items
-            ≡ map told_of self.old.described.items ++ option_to_list (last_description self.old.section (map interface_of interfaces.now))) }
+        ensures described { MatchResult result
+            (λ done. map told_of self.new.described.items
+            ≡ map told_of self.old.described.items ++ option_to_list (last_description self.old.section (map interface_of interfaces.now)))
+            (λ e. self.new.described.items ≡ self.old.described.items) }
     {
         if let Some(described) = describe_last(alloc, self.section, interfaces)? {
             self.described.push(described)?;
@@ -89,7 +91,7 @@ impl Progress {
         Ok(())
     }
 
-    // Keeps what a block of this type adds to how sections and interfaces are described.
+    // Keeps what a block of this type adds to how sections and interfaces are described. An `Err` leaves what was kept.
     fn keep(
         &mut self,
         alloc: Global,
@@ -98,7 +100,9 @@ impl Progress {
         interfaces: &[InterfaceDescriptionBlock<'static>],
     ) -> Result<(), AllocError>
         ensures counts { SameCounts self.old self.new }
-        ensures adds { IfOk result (λ done. AddsDescribed type_ (section_of section.now) (map interface_of interfaces.now) self.old self.new) }
+        ensures adds { MatchResult result
+            (λ done. AddsDescribed type_ (section_of section.now) (map interface_of interfaces.now) self.old self.new)
+            (λ e. LosesNone self.old self.new) }
     {
         match type_ {
             BlockType::InterfaceDescription => self.describe(alloc, interfaces),
@@ -141,7 +145,7 @@ fn tell_block<T: Read + Drop>(
     ensures counts { MatchResult result
         (λ done. (sight : Sight) × IsBlockSight (length progress.old.totals.interfaces.items) (ng.lent_item reader.now header) sight
         × AddsItem sight (length (ng.text_of reader.now)) progress.old progress.new)
-        (λ e. IsMemory e × AddsNothing progress.old progress.new) }
+        (λ e. IsMemory e × AddsNothing progress.old progress.new × LosesNone progress.old progress.new) }
     ensures describes { IfOk result
         (λ done. AddsDescribed header.type_ (ng.section_in_force reader.now) (ng.interfaces_in_force reader.now) progress.old progress.new) }
 {

@@ -2,7 +2,7 @@
 
 ghost use Rattle.std.specs.Prelude.{◌≡◌, ◌+◌, ◌*◌, ◌/◌, ◌%◌, ◌^◌, ◌<◌, ◌≤◌, ◌↔◌, ◌++◌, ◌∷◌, [], ℕ, List, count_by, IsTrue};
 ghost use Rattle.pcapfile_run.specs.Passing.{counted};
-ghost use Rattle.pcapfile_info.specs.Spreads.{HasRoom, IsFine, lies_in, Rows, Spreads};
+ghost use Rattle.pcapfile_info.specs.Spreads.{count_at, HasRoom, IsFine, lies_in, Rows, Spreads};
 
 use crate::spread::{SPANS, Spread};
 
@@ -40,9 +40,11 @@ impl Spread {
         }
     }
 
-    /// How many packets lie in the span of this number.
+    /// How many packets lie in the span of this number. None lie beyond the row.
     pub fn packets_in(&self, span: u64) -> u64
-        ensures { (instants : List ℕ) → Rows instants self.now → result ≡ counted (count_by (lies_in self.now.width span) instants) }
+        ensures within { self.now.first ≤ span → span ≤ self.now.last → result ≡ count_at self.now span }
+        ensures beyond { ((self.now.first ≤ span) × (span ≤ self.now.last) → ⊥) → result ≡ 0 }
+        ensures counts { (instants : List ℕ) → Rows instants self.now → result ≡ counted (count_by (lies_in self.now.width span) instants) }
     {
         if self.first <= span && span <= self.last {
             self.packets[slot_of(span)]

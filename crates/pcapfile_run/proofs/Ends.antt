@@ -100,7 +100,7 @@ module _ {V : Type 0} (IsSaid : List ℕ → Verdict V → Type 0) (rest : List 
   stops_at more n m before most count within None failed Whole ends is =
       elim ends.1 [ inl all ↦ all | inr full ↦ absurd (omega (arith, full, count, is)) ]
   stops_at more n m before most count within None failed Most ends is = omega (arith, count, is, within)
-  stops_at more n m before most count within (Some e) failed (Unread error) ends is = tt
+  stops_at more n m before most count within (Some e) failed (Unread error) ends is = subst IsIo (sym is.0) is.1
   stops_at more n m before most count within (Some e) failed Memory ends is = tt
   stops_at more n m before most count within (Some e) failed Short ends is = short_at more e failed is.0 is.1 ends.1
   stops_at more n m before most count within (Some e) failed (Breaks rule) ends is =
@@ -137,7 +137,7 @@ module _ {V : Type 0} (MayGrow : Type 0) (IsSaid : List ℕ → Verdict V → Ty
   fails_at e failed (Breaks rule) why is =
       named_fault (IsFaultOf IsSaid (Some s)) rule e is (unopened_fault failed e (named_no_io rule e is) (named_no_growth rule e is) why)
   fails_at e failed NotUtf8 why is = other_fault (IsFaultOf IsSaid (Some s)) e is.0 is.2 (unopened_fault failed e is.0 is.1 why)
-  fails_at e failed (Unread error) why is = tt
+  fails_at e failed (Unread error) why is = subst IsIo (sym is.0) is.1
   fails_at e failed Memory why is = unopened_memory failed e is why
   fails_at e failed _ why is = absurd is
 

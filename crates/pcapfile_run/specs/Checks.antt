@@ -20,12 +20,12 @@ use Rattle.pcapfile_run.specs.declared.checked.End.TheVariants.{Whole, Most, Sho
 use Rattle.pcapfile_run.specs.declared.checked.Format.TheVariants.{Pcap, PcapNg}
 use Rattle.pcapfile_run.specs.Passing.{counted}
 
--- the end of a run that stopped with this fault, which says whether a read failed
+-- the end of a run that stopped with this fault, which says whether a read failed; what can't be read is told with the fault itself
 abbrev pub FaultIs : PcapError → Bool → End → Type 0
 FaultIs e failed Short = IsIo e × (failed ≡ false)
 FaultIs e failed (Breaks rule) = Names rule e
 FaultIs e failed NotUtf8 = (IsIo e → ⊥) × (IsMemory e → ⊥) × ((rule : Rule) → Names rule e → ⊥)
-FaultIs e failed (Unread error) = IsIo e × (failed ≡ true)
+FaultIs e failed (Unread error) = (error ≡ e) × IsIo e × (failed ≡ true)
 FaultIs e failed Memory = IsMemory e
 FaultIs e failed end = ⊥
 
@@ -44,7 +44,7 @@ FailsAt MayGrow IsSaid s Most = ⊥
 FailsAt MayGrow IsSaid s Short = IsShort IsSaid s ⊎ IsFaultOf IsSaid (Some s) Io
 FailsAt MayGrow IsSaid s (Breaks rule) = IsFaultOf IsSaid (Some s) (Invalid rule)
 FailsAt MayGrow IsSaid s NotUtf8 = IsFaultOf IsSaid (Some s) Utf8
-FailsAt MayGrow IsSaid s (Unread error) = ⊤
+FailsAt MayGrow IsSaid s (Unread error) = IsIo error
 FailsAt MayGrow IsSaid s Memory = MayGrow
 
 -- why no item follows n items, behind which are more of the front and then a rest: there are no more, and nothing is left, or it
@@ -55,7 +55,7 @@ StopsAt IsSaid more rest n most Most = n ≡ most
 StopsAt IsSaid more rest n most Short = (more ≡ []) × (IsTorn IsSaid rest ⊎ IsFaultOf IsSaid (Some rest) Io)
 StopsAt IsSaid more rest n most (Breaks rule) = (more ≡ []) × IsFaultOf IsSaid (Some rest) (Invalid rule)
 StopsAt IsSaid more rest n most NotUtf8 = (more ≡ []) × IsFaultOf IsSaid (Some rest) Utf8
-StopsAt IsSaid more rest n most (Unread error) = ⊤
+StopsAt IsSaid more rest n most (Unread error) = IsIo error
 StopsAt IsSaid more rest n most Memory = ⊤
 
 -- s is what is counted, the texts of more items, and a rest that no item begins; so many items were counted before the first

@@ -7,6 +7,7 @@ use Rattle.pcap_ng.proofs.BlockFormat.{blocks_lawful}
 use Rattle.pcapfile_run.proofs.Passing.{goes_after}
 use Rattle.pcapfile_info.specs.KeptBlocks.{EndsBlocks, KeepsBlocks}
 use Rattle.pcapfile_info.specs.Sights.{IsBlockSight}
+use Rattle.pcapfile_info.proofs.Describing.{same_loses}
 use Rattle.pcapfile_info.proofs.InForce.{taken_leads}
 use Rattle.pcapfile_info.proofs.KeptBlocks.{counted_ends, kept_ends, kept_more}
 use Rattle.pcapfile_info.proofs.Telling.{nothing_same, telling_lacks}
@@ -23,7 +24,7 @@ returns-in_err-follow-in-Some-Ok-clause-turn g c =
     let nothing = nothing_same mid mid (refl, refl, refl) in
     rw (p.1, p.2, c.failed.ensures) (λ first before old so_far.
     telling_lacks block_format first IsBlockSight 0 KeepsBlocks blocks_lawful (EndsBlocks _) here before (g.T.Read.remaining (stream_of c.args.reader.now)) (g.T.Read.remaining (stream_of reader)) _ 18446744073709551614 old mid mid mid.items (lent_item reader c.in-Some-Ok.header) _
-    so_far c.requires.fewer next.2 next.1 tt nothing (λ items sights kept. counted_ends _ tt mid mid nothing first items sights kept))
+    so_far c.requires.fewer next.2 next.1 tt nothing (λ items sights kept. counted_ends _ tt mid mid nothing (same_loses mid mid refl refl) first items sights kept))
 
 pub returns-in_err-tell_block-in-Some-Ok-clause-turn : goal.returns-in_err-tell_block-in-Some-Ok-clause-turn
 returns-in_err-tell_block-in-Some-Ok-clause-turn g c =
@@ -37,7 +38,7 @@ returns-in_err-tell_block-in-Some-Ok-clause-turn g c =
     let e = told.field-0.0 in
     rw (p.1, p.2, c.failed.ensures) (λ first before old so_far.
     telling_lacks block_format first IsBlockSight 0 KeepsBlocks blocks_lawful (EndsBlocks (Some e)) here before (g.T.Read.remaining (stream_of c.args.reader.now)) (g.T.Read.remaining (stream_of reader)) _ 18446744073709551614 old mid new mid.items (lent_item reader c.in-Some-Ok.header) e
-    so_far c.requires.fewer next.2 next.1 told.ensures.counts.0 told.ensures.counts.1 (λ items sights kept. counted_ends e told.ensures.counts.0 mid new told.ensures.counts.1 first items sights kept))
+    so_far c.requires.fewer next.2 next.1 told.ensures.counts.0 told.ensures.counts.1 (λ items sights kept. counted_ends e told.ensures.counts.0 mid new told.ensures.counts.1 told.ensures.counts.2 first items sights kept))
 
 pub returns-in-None-clause-turn : goal.returns-in-None-clause-turn
 returns-in-None-clause-turn g c =

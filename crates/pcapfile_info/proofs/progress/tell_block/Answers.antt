@@ -6,24 +6,26 @@ use Rattle.pcap_ng.specs.Lent.{framed_around}
 use Rattle.pcap_ng.specs.Reader.{body_of, interfaces_in_force, section_in_force}
 use Rattle.pcapfile_info.specs.Sights.{IsFramedSight}
 use Rattle.pcapfile_info.specs.Telling.{AddsItem}
-use Rattle.pcapfile_info.proofs.Describing.{described_behind}
+use Rattle.pcapfile_info.proofs.Describing.{adds_loses, described_behind, same_loses}
 use Rattle.pcapfile_info.proofs.Telling.{nothing_same, nothing_behind, item_behind}
 use Rattle.pcapfile_info.proofs.progress.tell_block.Goals as goal
 
 pub returns-in_err-sight-clause-counts : goal.returns-in_err-sight-clause-counts
 returns-in_err-sight-clause-counts g c =
     let p = err_from_is_err_and c.from_residual.result c.from_residual.ensures.1 in
-    rw (p.1, p.2) (c.in_err-sight.ensures, nothing_same c.args.progress.now c.args.progress.now (refl, refl, refl))
+    rw (p.1, p.2) (c.in_err-sight.ensures, nothing_same c.args.progress.now c.args.progress.now (refl, refl, refl), same_loses c.args.progress.now c.args.progress.now refl refl)
 
 pub returns-in_err-keep-clause-counts : goal.returns-in_err-keep-clause-counts
 returns-in_err-keep-clause-counts g c =
     let p = err_from_is_err_and c.from_residual-in_err-keep.result c.from_residual-in_err-keep.ensures.1 in
-    rw (p.1, p.2) (tt, nothing_same c.args.progress.now c.keep.new.self c.keep.ensures.counts)
+    rw (p.1, p.2) (tt, nothing_same c.args.progress.now c.keep.new.self c.keep.ensures.counts, c.in_err-keep.ensures.adds)
 
 pub returns-in_err-add-clause-counts : goal.returns-in_err-add-clause-counts
 returns-in_err-add-clause-counts g c =
     let p = err_from_is_err_and c.from_residual-in_err-add.result c.from_residual-in_err-add.ensures.1 in
-    rw (p.1, p.2) (tt, nothing_behind c.args.progress.now c.keep.new.self c.add.new.self c.keep.ensures.counts c.in_err-add.ensures.adds)
+    let keeps = rw (c.section.ensures, c.interfaces-2.ensures) at c.in_ok-keep.ensures.adds in
+    let loses = adds_loses c.args.header.type_ (section_in_force c.args.reader.now) (interfaces_in_force c.args.reader.now) c.args.progress.now c.keep.new.self c.add.new.self keeps c.add.ensures.same in
+    rw (p.1, p.2) (tt, nothing_behind c.args.progress.now c.keep.new.self c.add.new.self c.keep.ensures.counts c.in_err-add.ensures.adds, loses)
 
 pub returns-clause-counts : goal.returns-clause-counts
 returns-clause-counts g c =

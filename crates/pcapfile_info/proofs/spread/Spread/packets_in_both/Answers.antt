@@ -11,4 +11,4 @@ returns-then-span-self c = λ instants rows.
 pub returns : goal.returns
 returns c = λ instants rows.
     let s = c.args.self.now in
-    c.saturating_add.ensures ∙ counted_both c.packets_in.result c.packets_in-2.result _ _ (c.packets_in.ensures instants rows) (c.packets_in-2.ensures instants rows) ∙ ap counted (sym (count_both s.width c.args.span instants))
+    c.saturating_add.ensures ∙ counted_both c.packets_in.result c.packets_in-2.result _ _ (c.packets_in.ensures.counts instants rows) (c.packets_in-2.ensures.counts instants rows) ∙ ap counted (sym (count_both s.width c.args.span instants))
