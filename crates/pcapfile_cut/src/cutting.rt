@@ -1,6 +1,6 @@
 //! Packets that are cut out of a classic capture.
 
-ghost use Rattle.std.specs.Prelude.{◌≡◌, ◌≤◌, ◌<◌, ◌+◌, ◌^◌, [], true, false, if◌then◌else◌, IsTrue, IfErr, IfOk, IfSome, OnOk, MatchResult};
+ghost use Rattle.std.specs.Prelude.{◌≡◌, ◌<◌, ◌+◌, ◌^◌, [], true, false, if◌then◌else◌, IsTrue, IfErr, OnOk, MatchResult};
 ghost use Rattle.pcap_items.specs.Held.{held_bytes};
 ghost use Rattle.pcap_items.specs.Writing.{WritesAll};
 ghost use Rattle.pcap_classic.specs.Magic.{is_magic};

@@ -1,7 +1,6 @@
 //! Laws of captures that are cut and joined. What is proved of each call stands at it.
 
-ghost use Rattle.std.specs.Prelude.{◌≡◌, ◌≤◌, ◌++◌, ℕ, List, ◌∷◌, length, Option, None, Some, [], map};
-ghost use Rattle.std.specs.Io.KnownBytes.{Consumes};
+ghost use Rattle.std.specs.Prelude.{◌≡◌, ◌≤◌, ◌++◌, ℕ, List, ◌∷◌, length, Option, None, Some, []};
 ghost use Rattle.pcap_classic.specs.declared.pcap.header.PcapHeader.{PcapHeader};
 ghost use Rattle.pcapfile_cut.specs.declared.cutting.Outcome.{Outcome};
 ghost use Rattle.pcapfile_cut.specs.declared.opening.Opening.{Opening};

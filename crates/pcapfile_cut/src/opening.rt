@@ -1,6 +1,6 @@
 //! The opening of a classic capture.
 
-ghost use Rattle.std.specs.Prelude.{◌≡◌, ◌↔◌, [], false, true, IsTrue, IfOk};
+ghost use Rattle.std.specs.Prelude.{◌≡◌, ◌↔◌, [], false, IsTrue, IfOk};
 ghost use Rattle.std.specs.Io.KnownBytes.{Consumes};
 ghost use Rattle.pcap_classic.specs.HeaderText.{HeaderSays, HeaderText};
 ghost use Rattle.pcap_classic.specs.Magic.{is_magic};
