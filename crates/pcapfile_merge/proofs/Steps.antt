@@ -1,5 +1,5 @@
 -- A merge that goes on.
-use Rattle.std.proofs.Common.{◌≡◌, ◌+◌, ◌<◌, ℕ, List, [], ◌∷◌, ◌++◌, map, length, get_or, Option, None, Some, Result, Ok, Err, refl, sym, ap, ◌∙◌, subst, arith}
+use Rattle.std.proofs.Common.{◌≡◌, ◌+◌, ◌<◌, ℕ, List, [], ◌∷◌, ◌++◌, map, length, get_or, Option, None, Some, Result, Ok, Err, refl, sym, ap, ◌∙◌, subst, arith, append_assoc}
 use Rattle.std.specs.List.{AllByRecursion}
 use Rattle.std.specs.Io.KnownBytes.{Appends}
 use Rattle.std.proofs.KnownBytes.{Appends-nil, Appends-trans}
@@ -19,7 +19,7 @@ use Rattle.pcapfile_merge.specs.Merges.{ComesLater, IsNotBefore}
 use Rattle.pcapfile_merge.specs.Merging.{EndsMerge, Input, Merging, MergesAt, MergesRun, held_of, packets_in, text_of, texts}
 use Rattle.pcapfile_merge.specs.Packets.{Packet, IsEarlier}
 use Rattle.pcapfile_merge.specs.Holding.{Holds, bytes_in, held_by}
-use Rattle.pcapfile_merge.specs.Sources.{Advances, GaveBy, pending_of}
+use Rattle.pcapfile_merge.specs.Sources.{Advances, Gave, GaveBy, pending_of}
 use Rattle.pcapfile_merge.specs.Taking.{packet_in}
 use Rattle.pcapfile_merge.proofs.Given.{gave_more}
 use Rattle.pcapfile_merge.proofs.Merges.{GoesOn, all_of_map, goes_next, goes_none, goes_so_far, map_join, map_split}
@@ -53,7 +53,13 @@ chosen_holds nows place p x first is = some_held x x.taken.next p refl (ap pendi
 
 module _ {R : Type 0} (remaining : R → Option (List ℕ)) where
   fresh : Source R → Input remaining
-  fresh source = record { start = source; now = source; gone = []; gave = λ from gave. gave }
+  fresh source = record {
+    start = source;
+    now = source;
+    based = refl;
+    gone = [];
+    gave = λ from earlier gave. subst (λ (l : List Packet). Gave remaining from source l) (sym (append-nil earlier)) gave;
+  }
 
   fresh_starts : (sources : List (Source R)) → map (λ (input : Input remaining). input.start) (map fresh sources) ≡ sources
   unfolding fresh
@@ -87,10 +93,13 @@ module _ {R : Type 0} (remaining : R → Option (List ℕ)) where
     record {
       start = s.start;
       now = new;
+      based = advances.0 ∙ s.based;
       gone = s.gone ++ pending_of s.now;
-      gave = λ from gave.
-          let more = gave_more remaining s.now.base from s.now.reader new.reader (s.gone ++ pending_of s.now) s.now.taken new.taken n is (s.gave from gave) advances.1 in
-          subst (λ (base : ℕ). GaveBy remaining base from new.reader ((s.gone ++ pending_of s.now) ++ pending_of new) new.taken) (sym advances.0) more;
+      gave = λ from earlier gave.
+          let given = (earlier ++ s.gone) ++ pending_of s.now in
+          let more = gave_more remaining s.now.base from s.now.reader new.reader given s.now.taken new.taken n is (s.gave from earlier gave) advances.1 in
+          let there = subst (λ (base : ℕ). GaveBy remaining base from new.reader (given ++ pending_of new) new.taken) (sym advances.0) more in
+          subst (λ (l : List Packet). Gave remaining from new l) (append_assoc earlier s.gone (pending_of s.now)) there;
     },
     refl,
     refl,

@@ -1,5 +1,5 @@
 -- What a merge of sources takes and writes.
-use Rattle.std.specs.Prelude.{◌≡◌, ◌⊎◌, ◌<◌, ℕ, List, [], ◌++◌, map, length, Option, None, Some, Result, Ok, Err}
+use Rattle.std.specs.Prelude.{◌≡◌, ◌⊎◌, ◌<◌, ℕ, List, ◌++◌, map, length, Option, None, Some, Result, Ok, Err}
 use Rattle.std.specs.Result.{result_err}
 use Rattle.std.specs.List.{flat_map, slice_index_or, slice_set}
 use Rattle.std.specs.Io.KnownBytes.{Appends}
@@ -42,12 +42,13 @@ abbrev pub MergesAt : {R : Type 0} → (R → Option (List ℕ)) → ℕ → Lis
 MergesAt {R} remaining place olds news before after result =
     (old : Source R) × (new : Source R) × (old ≡ slice_index_or olds place old) × (news ≡ slice_set olds place new) × MergesNext remaining old new before after result
 
--- An input of a merge: its source before and after, and the packets that it gave, behind all that it had taken before, from wherever.
+-- An input of a merge: its source before and after, and the packets that it gave, behind all that it gave before, from wherever.
 pub record Input {R : Type 0} (remaining : R → Option (List ℕ)) : Type 0 where
   pub start : Source R
   pub now : Source R
+  pub based : now.base ≡ start.base
   pub gone : List Packet
-  pub gave : (from : Reader R) → Gave remaining from start [] → Gave remaining from now gone
+  pub gave : (from : Reader R) (earlier : List Packet) → Gave remaining from start earlier → Gave remaining from now (earlier ++ gone)
 
 module _ {R : Type 0} {remaining : R → Option (List ℕ)} where
   -- the packet that an input holds

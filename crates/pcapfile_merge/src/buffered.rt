@@ -40,6 +40,7 @@ impl<R: Read + Drop> BufferedPackets<R> {
         ensures header { header_of result ≡ reader.header }
         ensures left { left_of R.remaining result ≡ reader_remaining R.remaining (classic.stream_of reader) }
         ensures done { is_done result ≡ classic.is_done reader }
+        ensures failed { has_failed result ≡ classic.has_failed reader }
     {
         BufferedPackets {
             reader,
