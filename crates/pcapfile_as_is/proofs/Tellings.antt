@@ -138,9 +138,9 @@ module _ {S V : Type 0} (f : Format S V) (q : S) (size : V → ℕ) (IsTold : �
       }
 
   -- it stops
-  pub telling_stops : (p : S) (before left now out_before out : Option (List ℕ)) (failed : Bool) (most : ℕ) (old here : Counted) (n : ℕ) (fault : Option PcapError) → Telling f q size IsTold p before left out_before out old here n
-      → n ≤ most → Stops (f.says p) left now failed n most fault → TellsItems f q size IsTold before now out_before out failed most old here fault
-  telling_stops p before left now out_before out failed most old here n fault so_far within stops =
+  pub telling_stops : (p reached : S) (before left now out_before out : Option (List ℕ)) (failed : Bool) (most : ℕ) (old here : Counted) (n : ℕ) (fault : Option PcapError) → Telling f q size IsTold p before left out_before out old here n
+      → reached ≡ p → n ≤ most → Stops (f.says p) left now failed n most fault → TellsItems f q size IsTold reached before now out_before out failed most old here fault
+  telling_stops p reached before left now out_before out failed most old here n fault so_far stays within stops =
       let many : length (map item_in so_far.rows) ≡ n = length-map so_far.rows item_in ∙ so_far.count in
       record {
         rows = so_far.rows;
@@ -151,6 +151,7 @@ module _ {S V : Type 0} (f : Format S V) (q : S) (size : V → ℕ) (IsTold : �
           stops = subst (λ (u : S). Stops (f.says u) left now failed (length (map item_in so_far.rows)) most fault) (sym so_far.leads)
               (subst (λ (k : ℕ). Stops (f.says p) left now failed k most fault) (sym many) stops);
         };
+        leads = so_far.leads ∙ sym stays;
         long = so_far.long;
         told = so_far.told;
         counts = so_far.counts;
@@ -158,9 +159,10 @@ module _ {S V : Type 0} (f : Format S V) (q : S) (size : V → ℕ) (IsTold : �
       }
 
   -- a write failed in the text of the next item, or there was no memory to make it
-  pub telling_torn : (p : S) (before left now out_before mid out_now : Option (List ℕ)) (old here : Counted) (n number : ℕ) (item : V) (exit : Exit) → Telling f q size IsTold p before left out_before mid old here n
-      → Takes (f.says p) left now item → number ≡ counted (here.items + 1) → WritesTold (IsTold number here.bytes item) mid out_now (Err exit) → TellsTorn f q size IsTold before now out_before out_now old exit
-  telling_torn p before left now out_before mid out_now old here n number item exit so_far took number_is torn =
+  pub telling_torn : (p reached : S) (before left now out_before mid out_now : Option (List ℕ)) (old here : Counted) (n number : ℕ) (item : V) (exit : Exit) → Telling f q size IsTold p before left out_before mid old here n
+      → f.goes p item ≡ reached → Takes (f.says p) left now item → number ≡ counted (here.items + 1) → WritesTold (IsTold number here.bytes item) mid out_now (Err exit)
+      → TellsTorn f q size IsTold reached before now out_before out_now old here exit
+  telling_torn p reached before left now out_before mid out_now old here n number item exit so_far goes took number_is torn =
       let rows = so_far.rows in
       let there : number ≡ counted (old.items + 1 + count_by has_number rows) = omega (arith, so_far.counts.items_are, number_is) in
       let line = subst (λ (k : ℕ). WritesLine (IsTold k here.bytes item torn.0) mid out_now (Err exit)) there torn.1 in
@@ -171,7 +173,9 @@ module _ {S V : Type 0} (f : Format S V) (q : S) (size : V → ℕ) (IsTold : �
         left = left;
         took = so_far.took;
         took_next = subst (λ (u : S). Takes (f.says u) left now item) (sym so_far.leads) took;
+        leads = ap (λ (u : S). f.goes u item) so_far.leads ∙ goes;
         told = so_far.told;
+        counts = so_far.counts;
         mid = mid;
         out = so_far.out;
         torn = subst (λ (k : ℕ). WritesLine (IsTold (counted (old.items + 1 + count_by has_number rows)) k item torn.0) mid out_now (Err exit)) so_far.counts.bytes_are line;

@@ -76,24 +76,27 @@ module _ {S V : Type 0} (f : Format S V) (q : S) (size : V → ℕ) (IsTold : �
     pub counts : Counts old new rows
     pub out : Appends out_before out_now (flat_map text_in rows)
 
-  -- items were taken up to a cause to stop, at most so many, they are counted, and their texts went out
-  pub record TellsItems (before now out_before out_now : Option (List ℕ)) (failed : Bool) (most : ℕ) (old new : Counted) (fault : Option PcapError) : Type 0 where
+  -- items were taken up to a cause to stop, at most so many, they lead to this state, they are counted, and their texts went out
+  pub record TellsItems (reached : S) (before now out_before out_now : Option (List ℕ)) (failed : Bool) (most : ℕ) (old new : Counted) (fault : Option PcapError) : Type 0 where
     pub rows : List (Row V)
     pub run : TakesItems f q before now failed most (map item_in rows) fault
+    pub leads : state_after f q (map item_in rows) ≡ reached
     pub long : length run.took.bytes ≡ sum_by (size_in size) rows
     pub told : AreTold size IsTold (old.items + 1) old.bytes rows
     pub counts : Counts old new rows
     pub out : Appends out_before out_now (flat_map text_in rows)
 
-  -- items were taken, and the texts of all but the last went out, whose own ended so
-  pub record TellsTorn (before now out_before out_now : Option (List ℕ)) (old : Counted) (exit : Exit) : Type 0 where
+  -- items were taken, which lead to this state, all but the last are counted, and their texts went out, and the last one's ended so
+  pub record TellsTorn (reached : S) (before now out_before out_now : Option (List ℕ)) (old new : Counted) (exit : Exit) : Type 0 where
     pub rows : List (Row V)
     pub next : V
     pub told_next : Told
     pub left : Option (List ℕ)
     pub took : TakesTexts f q (map item_in rows) before left
     pub took_next : Takes (f.says (state_after f q (map item_in rows))) left now next
+    pub leads : f.goes (state_after f q (map item_in rows)) next ≡ reached
     pub told : AreTold size IsTold (old.items + 1) old.bytes rows
+    pub counts : Counts old new rows
     pub mid : Option (List ℕ)
     pub out : Appends out_before mid (flat_map text_in rows)
     pub torn : WritesLine (IsTold (counted (old.items + 1 + count_by has_number rows)) (counted (old.bytes + sum_by (size_in size) rows)) next told_next) mid out_now (Err exit)

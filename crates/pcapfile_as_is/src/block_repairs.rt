@@ -106,7 +106,9 @@ fn change_of(block: RawBlock<'_>, has_flaws: bool) -> &'static str {
 
 impl<E: Write> BlockRepairs<E> {
     // Says what became of the block of this number, which stands behind so many bytes.
-    fn tell(&mut self, number: u64, place: u64, mended: Mended, change: &str) {
+    fn tell(&mut self, number: u64, place: u64, mended: Mended, change: &str)
+        ensures { self.new.prefix ≡ self.old.prefix }
+    {
         let prefix = self.prefix.as_str();
         let what = match mended {
             Mended::Stays => return,
@@ -118,11 +120,12 @@ impl<E: Write> BlockRepairs<E> {
 }
 
 impl<E: Write> BlockTeller for BlockRepairs<E> {
+    ghost use Rattle.std.specs.Prelude.{ℕ, List, string_bytes};
     ghost use Rattle.pcapfile_as_is.specs.MendedBlocks.{TellsMended};
 
-    ghost Setting = { Unit {0} };
+    ghost Setting = { List ℕ };
 
-    ghost setting = { λ repairs. tt };
+    ghost setting = { λ repairs. string_bytes repairs.prefix };
 
     ghost is_told = { λ setting number place item. TellsMended (raw_in item.block) };
 

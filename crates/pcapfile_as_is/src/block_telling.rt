@@ -1,6 +1,6 @@
 //! Blocks as they stand that are taken off a stream, and told one after the other.
 
-ghost use Rattle.std.specs.Prelude.{◌≡◌, ◌<◌, ◌^◌, false, MatchResult, IfOk, IfNone};
+ghost use Rattle.std.specs.Prelude.{◌≡◌, ◌<◌, ◌^◌, false, true, MatchResult, IfOk, IfErr, IfNone, IfSome};
 ghost use Rattle.pcap_tolerant_captures.specs.Blocks.{as_is_format};
 ghost use Rattle.pcap_tolerant_captures.specs.ReaderAsIs.{state_of, stream_of, has_failed, is_done};
 ghost use Rattle.pcapfile_as_is.specs.Counts.{block_size};
@@ -15,7 +15,7 @@ use std::alloc::Global;
 use std::io::{Read, Write};
 
 /// Writes the text of each block of a reader, `most` of them at most, counts it, and gives what refuses the next one. The errors
-/// are those of the teller.
+/// are those of the teller: the block that it could not tell is taken and not counted, and the reader goes on behind it.
 pub fn tell_blocks<P: BlockTeller, T: Read + Drop, W: Write>(
     alloc: Global,
     teller: &mut P,
@@ -31,10 +31,12 @@ pub fn tell_blocks<P: BlockTeller, T: Read + Drop, W: Write>(
     requires bytes { counted.old.bytes < 2 ^ 64 }
     ensures same { P.setting teller.new ≡ P.setting teller.old }
     ensures ready { IfOk result (λ fault. IfNone fault ((is_done reader.new ≡ false) × (has_failed reader.new ≡ false))) }
+    ensures refused { IfOk result (λ fault. IfSome fault (λ error. is_done reader.new ≡ true)) }
+    ensures readable { IfErr result (λ exit. (is_done reader.new ≡ false) × (has_failed reader.new ≡ false)) }
     ensures told { let tells = P.is_told (P.setting teller.old) in
         MatchResult result
-        (λ fault. TellsItems as_is_format (state_of reader.old) block_size tells (T.remaining (stream_of reader.old)) (T.remaining (stream_of reader.new)) (W.contents output.old) (W.contents output.new) (has_failed reader.new) most counted.old counted.new fault)
-        (λ exit. TellsTorn as_is_format (state_of reader.old) block_size tells (T.remaining (stream_of reader.old)) (T.remaining (stream_of reader.new)) (W.contents output.old) (W.contents output.new) counted.old exit) }
+        (λ fault. TellsItems as_is_format (state_of reader.old) block_size tells (state_of reader.new) (T.remaining (stream_of reader.old)) (T.remaining (stream_of reader.new)) (W.contents output.old) (W.contents output.new) (has_failed reader.new) most counted.old counted.new fault)
+        (λ exit. TellsTorn as_is_format (state_of reader.old) block_size tells (state_of reader.new) (T.remaining (stream_of reader.old)) (T.remaining (stream_of reader.new)) (W.contents output.old) (W.contents output.new) counted.old counted.new exit) }
 {
     for turn in 0..most {
         match reader.next_header() {

@@ -1,6 +1,6 @@
 //! Laws of repaired packets. Each contract is the law.
 
-ghost use Rattle.std.specs.Prelude.{◌≡◌, ◌<◌, ◌^◌, ℕ, List, [], length, map, All, false};
+ghost use Rattle.std.specs.Prelude.{◌≡◌, ◌<◌, ◌^◌, ℕ, List, [], map, All, false};
 ghost use Rattle.pcap_core.specs.Answer.{Order};
 ghost use Rattle.pcap_classic.specs.declared.common.TsResolution.{TsResolution};
 ghost use Rattle.pcap_classic.specs.declared.pcap.header.PcapHeader.{PcapHeader};

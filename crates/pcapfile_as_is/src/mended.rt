@@ -1,6 +1,6 @@
 //! Packets without a flaw that are made of packets as they stand.
 
-ghost use Rattle.std.specs.Prelude.{◌≡◌, ◌<◌, ◌^◌};
+ghost use Rattle.std.specs.Prelude.{◌≡◌};
 ghost use Rattle.pcap_classic.specs.PacketText.{content_of};
 ghost use Rattle.pcap_tolerant.specs.AsIs.{as_it_is};
 ghost use Rattle.pcapfile_as_is.specs.Repaired.{repaired_of, repaired_time};

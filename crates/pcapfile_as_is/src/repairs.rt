@@ -66,7 +66,8 @@ fn put_made<W: Write>(
 impl<E: Write> Repairs<E> {
     // Says what the packet of this number, which stands behind so many bytes, became.
     fn tell(&mut self, number: u64, place: u64, packet: &PacketAsIs<'_>, made: &Packet<'_>)
-        ensures { self.new.order ≡ self.old.order }
+        ensures order { self.new.order ≡ self.old.order }
+        ensures prefix { self.new.prefix ≡ self.old.prefix }
     {
         if !packet.flaws.is_broken() {
             return;
@@ -98,13 +99,14 @@ impl<E: Write> Repairs<E> {
 }
 
 impl<E: Write> Teller for Repairs<E> {
+    ghost use Rattle.std.specs.Prelude.{ℕ, List, string_bytes};
     ghost use Rattle.pcap_core.specs.declared.common.Endianness.{Endianness as Order};
 
-    ghost Setting = { Order };
+    ghost Setting = { Order × List ℕ };
 
-    ghost setting = { λ repairs. repairs.order };
+    ghost setting = { λ repairs. (repairs.order, string_bytes repairs.prefix) };
 
-    ghost text = { λ order r number place packet. record_bytes (number_bytes order) r (repaired_of r packet) };
+    ghost text = { λ setting r number place packet. record_bytes (number_bytes setting.0) r (repaired_of r packet) };
 
     fn put<W: Write>(
         &mut self,

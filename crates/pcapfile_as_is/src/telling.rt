@@ -1,6 +1,6 @@
 //! Packets as they stand that are taken off a stream, and told one after the other.
 
-ghost use Rattle.std.specs.Prelude.{◌≡◌, ◌<◌, ◌^◌, false, MatchResult, IfOk, IfNone};
+ghost use Rattle.std.specs.Prelude.{◌≡◌, ◌<◌, ◌^◌, false, true, MatchResult, IfOk, IfErr, IfNone, IfSome};
 ghost use Rattle.pcap_classic.specs.Magic.{resolution_of};
 ghost use Rattle.pcap_tolerant.specs.ReaderAsIs.{stream_of, header_read, limit_of, has_failed, is_done};
 ghost use Rattle.pcap_tolerant.specs.Run.{as_is_under};
@@ -16,7 +16,7 @@ use std::alloc::Global;
 use std::io::{Read, Write};
 
 /// Writes the text of each packet of a reader, `most` of them at most, counts it, and gives what refuses the next one. The errors
-/// are those of the teller.
+/// are those of the teller: the packet that it could not tell is taken and not counted, and the reader goes on behind it.
 pub fn tell_packets<P: Teller, T: Read + Drop, W: Write>(
     alloc: Global,
     teller: &mut P,
@@ -31,12 +31,16 @@ pub fn tell_packets<P: Teller, T: Read + Drop, W: Write>(
     requires flawed { counted.old.flawed < 2 ^ 64 }
     requires bytes { counted.old.bytes < 2 ^ 64 }
     ensures same { P.setting teller.new ≡ P.setting teller.old }
+    ensures header { header_read reader.new ≡ header_read reader.old }
+    ensures limit { limit_of reader.new ≡ limit_of reader.old }
     ensures ready { IfOk result (λ fault. IfNone fault ((is_done reader.new ≡ false) × (has_failed reader.new ≡ false))) }
+    ensures refused { IfOk result (λ fault. IfSome fault (λ error. is_done reader.new ≡ true)) }
+    ensures readable { IfErr result (λ exit. (is_done reader.new ≡ false) × (has_failed reader.new ≡ false)) }
     ensures told { let f = as_is_under (limit_of reader.old) (header_read reader.old) in
         let tells = TellsBy has_flaw (P.text (P.setting teller.old) (resolution_of (header_read reader.old).magic_number)) in
         MatchResult result
-        (λ fault. TellsItems f tt size_of tells (T.remaining (stream_of reader.old)) (T.remaining (stream_of reader.new)) (W.contents output.old) (W.contents output.new) (has_failed reader.new) most counted.old counted.new fault)
-        (λ exit. TellsTorn f tt size_of tells (T.remaining (stream_of reader.old)) (T.remaining (stream_of reader.new)) (W.contents output.old) (W.contents output.new) counted.old exit) }
+        (λ fault. TellsItems f tt size_of tells tt (T.remaining (stream_of reader.old)) (T.remaining (stream_of reader.new)) (W.contents output.old) (W.contents output.new) (has_failed reader.new) most counted.old counted.new fault)
+        (λ exit. TellsTorn f tt size_of tells tt (T.remaining (stream_of reader.old)) (T.remaining (stream_of reader.new)) (W.contents output.old) (W.contents output.new) counted.old counted.new exit) }
 {
     let ts_resolution = reader.ts_resolution();
     for turn in 0..most {

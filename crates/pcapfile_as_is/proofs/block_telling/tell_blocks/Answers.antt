@@ -20,22 +20,23 @@ loop-turn-init g c = record {
 pub returns-in-None-clause-told : goal.returns-in-None-clause-told
 returns-in-None-clause-told g c =
     let next = rw c.loop-turn.invariant.ready at c.in-None.ensures.next in
-    telling_stops as_is_format (state_of c.args.reader.now) block_size _ (state_of c.loop-turn.reader) _ (g.T.Read.remaining (stream_of c.loop-turn.reader)) (g.T.Read.remaining (stream_of c.next_header.new.self)) _ _ (has_failed c.next_header.new.self) c.args.most c.args.counted.now c.loop-turn.counted c.loop-turn.turn None
-    c.loop-turn.invariant.telling (omega (arith, c.loop-turn-test.true)) (next.1, next.3, inl next.2)
+    telling_stops as_is_format (state_of c.args.reader.now) block_size _ (state_of c.loop-turn.reader) (state_of c.next_header.new.self) _ (g.T.Read.remaining (stream_of c.loop-turn.reader)) (g.T.Read.remaining (stream_of c.next_header.new.self)) _ _ (has_failed c.next_header.new.self) c.args.most c.args.counted.now c.loop-turn.counted c.loop-turn.turn None
+    c.loop-turn.invariant.telling c.in-None.ensures.stays (omega (arith, c.loop-turn-test.true)) (next.1, next.3, inl next.2)
 
 pub returns-in-Some-Err-clause-told : goal.returns-in-Some-Err-clause-told
 returns-in-Some-Err-clause-told g c =
     let next = rw (c.loop-turn.invariant.ready, c.in-Some-Err.field-0-is) at c.in-Some-Err.ensures.next in
-    telling_stops as_is_format (state_of c.args.reader.now) block_size _ (state_of c.loop-turn.reader) _ (g.T.Read.remaining (stream_of c.loop-turn.reader)) (g.T.Read.remaining (stream_of c.next_header.new.self)) _ _ (has_failed c.next_header.new.self) c.args.most c.args.counted.now c.loop-turn.counted c.loop-turn.turn (Some c.in-Some-Err.error)
-    c.loop-turn.invariant.telling (omega (arith, c.loop-turn-test.true)) (c.loop-turn-test.true, next.1, next.2)
+    telling_stops as_is_format (state_of c.args.reader.now) block_size _ (state_of c.loop-turn.reader) (state_of c.next_header.new.self) _ (g.T.Read.remaining (stream_of c.loop-turn.reader)) (g.T.Read.remaining (stream_of c.next_header.new.self)) _ _ (has_failed c.next_header.new.self) c.args.most c.args.counted.now c.loop-turn.counted c.loop-turn.turn (Some c.in-Some-Err.error)
+    c.loop-turn.invariant.telling (rw c.in-Some-Err.field-0-is at c.in-Some-Err.ensures.stays) (omega (arith, c.loop-turn-test.true)) (c.loop-turn-test.true, next.1, next.2)
 
 pub returns-clause-told : goal.returns-clause-told
 returns-clause-told g c =
     let left = g.T.Read.remaining (stream_of c.loop-turn.reader) in
-    telling_stops as_is_format (state_of c.args.reader.now) block_size _ (state_of c.loop-turn.reader) _ left left _ _ (has_failed c.loop-turn.reader) c.args.most c.args.counted.now c.loop-turn.counted c.loop-turn.turn None
-    c.loop-turn.invariant.telling (omega (arith, c.loop-turn.auto.turn-end)) (c.loop-turn.invariant.unfailed, Keeps-refl left, inr (omega (arith, c.loop-turn.auto.turn-end, c.loop-turn-test.false)))
+    telling_stops as_is_format (state_of c.args.reader.now) block_size _ (state_of c.loop-turn.reader) (state_of c.loop-turn.reader) _ left left _ _ (has_failed c.loop-turn.reader) c.args.most c.args.counted.now c.loop-turn.counted c.loop-turn.turn None
+    c.loop-turn.invariant.telling refl (omega (arith, c.loop-turn.auto.turn-end)) (c.loop-turn.invariant.unfailed, Keeps-refl left, inr (omega (arith, c.loop-turn.auto.turn-end, c.loop-turn-test.false)))
 
 pub returns-in_err-told-in-Some-Ok-clause-told : goal.returns-in_err-told-in-Some-Ok-clause-told
+unfolding as_is_format
 returns-in_err-told-in-Some-Ok-clause-told g c =
     let is_told = g.P.BlockTeller.is_told in
     let setting = g.P.BlockTeller.setting c.args.teller.now in
@@ -49,8 +50,8 @@ returns-in_err-told-in-Some-Ok-clause-told g c =
     let mid = g.W.Write.contents c.loop-turn.output in
     let out = g.W.Write.contents c.put.new.output in
     let torn = subst (λ s. WritesTold (is_told s number c.loop-turn.counted.bytes item) mid out (Err exit)) c.loop-turn.invariant.setting c.in_err-told-in-Some-Ok.ensures.writes in
-    rw (p.1, p.2) (telling_torn as_is_format (state_of c.args.reader.now) block_size (is_told setting) (state_of c.loop-turn.reader) _ left now _ mid out c.args.counted.now c.loop-turn.counted c.loop-turn.turn number item exit
-    c.loop-turn.invariant.telling next.2 (omega (arith, c.saturating_add-number.ensures)) torn)
+    rw (p.1, p.2) (telling_torn as_is_format (state_of c.args.reader.now) block_size (is_told setting) (state_of c.loop-turn.reader) (state_of c.next_header.new.self) _ left now _ mid out c.args.counted.now c.loop-turn.counted c.loop-turn.turn number item exit
+    c.loop-turn.invariant.telling refl next.2 (omega (arith, c.saturating_add-number.ensures)) torn)
 
 pub loop-turn-preserved : goal.loop-turn-preserved
 unfolding as_is_format

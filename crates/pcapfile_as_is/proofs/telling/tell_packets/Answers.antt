@@ -26,8 +26,8 @@ loop-turn-init g c = record {
 pub returns-in-None-clause-told : goal.returns-in-None-clause-told
 returns-in-None-clause-told g c =
     let next = rw c.loop-turn.invariant.ready at c.in-None.ensures.next in
-    telling_stops _ tt size_of _ tt _ (g.T.Read.remaining (stream_of c.loop-turn.reader)) (g.T.Read.remaining (stream_of c.next_header.new.self)) _ _ (has_failed c.next_header.new.self) c.args.most c.args.counted.now c.loop-turn.counted c.loop-turn.turn None
-    c.loop-turn.invariant.telling (omega (arith, c.loop-turn-test.true)) (next.1, next.3, inl next.2)
+    telling_stops _ tt size_of _ tt tt _ (g.T.Read.remaining (stream_of c.loop-turn.reader)) (g.T.Read.remaining (stream_of c.next_header.new.self)) _ _ (has_failed c.next_header.new.self) c.args.most c.args.counted.now c.loop-turn.counted c.loop-turn.turn None
+    c.loop-turn.invariant.telling refl (omega (arith, c.loop-turn-test.true)) (next.1, next.3, inl next.2)
 
 pub returns-in-Some-Err-clause-told : goal.returns-in-Some-Err-clause-told
 returns-in-Some-Err-clause-told g c =
@@ -39,14 +39,14 @@ returns-in-Some-Err-clause-told g c =
     let next = rw (c.loop-turn.invariant.ready, c.in-Some-Err.field-0-is) at c.in-Some-Err.ensures.next in
     let under = subst (λ (h : PcapHeader). HasCause ((as_is_under (limit_of c.loop-turn.reader) h).says tt) left failed e × TakesAsked ((as_is_under (limit_of c.loop-turn.reader) h).says tt) left now) c.loop-turn.invariant.header (next.1, next.2) in
     let refused = subst (λ (l : ℕ). HasCause ((as_is_under l (header_read reader)).says tt) left failed e × TakesAsked ((as_is_under l (header_read reader)).says tt) left now) c.loop-turn.invariant.limit under in
-    telling_stops _ tt size_of _ tt _ left now _ _ failed c.args.most c.args.counted.now c.loop-turn.counted c.loop-turn.turn (Some e)
-    c.loop-turn.invariant.telling (omega (arith, c.loop-turn-test.true)) (c.loop-turn-test.true, refused.0, refused.1)
+    telling_stops _ tt size_of _ tt tt _ left now _ _ failed c.args.most c.args.counted.now c.loop-turn.counted c.loop-turn.turn (Some e)
+    c.loop-turn.invariant.telling refl (omega (arith, c.loop-turn-test.true)) (c.loop-turn-test.true, refused.0, refused.1)
 
 pub returns-clause-told : goal.returns-clause-told
 returns-clause-told g c =
     let left = g.T.Read.remaining (stream_of c.loop-turn.reader) in
-    telling_stops _ tt size_of _ tt _ left left _ _ (has_failed c.loop-turn.reader) c.args.most c.args.counted.now c.loop-turn.counted c.loop-turn.turn None
-    c.loop-turn.invariant.telling (omega (arith, c.loop-turn.auto.turn-end)) (c.loop-turn.invariant.unfailed, Keeps-refl left, inr (omega (arith, c.loop-turn.auto.turn-end, c.loop-turn-test.false)))
+    telling_stops _ tt size_of _ tt tt _ left left _ _ (has_failed c.loop-turn.reader) c.args.most c.args.counted.now c.loop-turn.counted c.loop-turn.turn None
+    c.loop-turn.invariant.telling refl (omega (arith, c.loop-turn.auto.turn-end)) (c.loop-turn.invariant.unfailed, Keeps-refl left, inr (omega (arith, c.loop-turn.auto.turn-end, c.loop-turn-test.false)))
 
 pub returns-in_err-put-in-Some-Ok-clause-told : goal.returns-in_err-put-in-Some-Ok-clause-told
 returns-in_err-put-in-Some-Ok-clause-told g c =
@@ -64,8 +64,8 @@ returns-in_err-put-in-Some-Ok-clause-told g c =
     let told = numbered (has_flaw packet) in
     let torn = put_as g.P.Teller.text (g.P.Teller.setting c.loop-turn.teller) (g.P.Teller.setting c.args.teller.now) c.ts_resolution-ts_resolution.result r number c.loop-turn.counted.bytes (as_it_is c.packet-packet.result) packet
     (g.W.Write.contents c.loop-turn.output) (g.W.Write.contents c.put.new.output) (Err c.in_err-put-in-Some-Ok.field-0.0) c.loop-turn.invariant.setting c.ts_resolution-ts_resolution.ensures c.packet-packet.ensures c.in_err-put-in-Some-Ok.ensures.writes in
-    rw (p.1, p.2) (telling_torn (as_is_under (limit_of reader) (header_read reader)) tt size_of (TellsBy has_flaw text) tt _ left now _ (g.W.Write.contents c.loop-turn.output) (g.W.Write.contents c.put.new.output) c.args.counted.now c.loop-turn.counted c.loop-turn.turn number packet c.in_err-put-in-Some-Ok.field-0.0
-    c.loop-turn.invariant.telling took (omega (arith, c.saturating_add-number.ensures)) (told, tells_by has_flaw text number c.loop-turn.counted.bytes packet told (g.W.Write.contents c.loop-turn.output) (g.W.Write.contents c.put.new.output) (Err c.in_err-put-in-Some-Ok.field-0.0) refl torn))
+    rw (p.1, p.2) (telling_torn (as_is_under (limit_of reader) (header_read reader)) tt size_of (TellsBy has_flaw text) tt tt _ left now _ (g.W.Write.contents c.loop-turn.output) (g.W.Write.contents c.put.new.output) c.args.counted.now c.loop-turn.counted c.loop-turn.turn number packet c.in_err-put-in-Some-Ok.field-0.0
+    c.loop-turn.invariant.telling refl took (omega (arith, c.saturating_add-number.ensures)) (told, tells_by has_flaw text number c.loop-turn.counted.bytes packet told (g.W.Write.contents c.loop-turn.output) (g.W.Write.contents c.put.new.output) (Err c.in_err-put-in-Some-Ok.field-0.0) refl torn))
 
 pub loop-turn-preserved : goal.loop-turn-preserved
 loop-turn-preserved g c =

@@ -12,5 +12,5 @@ returns-clause-writes g c =
     let before = g.W.Write.contents c.args.output.now in
     let now = g.W.Write.contents c.put_made.new.output in
     let result = c.put_made.result in
-    let order = subst (λ (o : Endianness). WritesLine (λ line. line ≡ record_bytes (number_bytes o) r (content_of c.repaired-made.result)) before now result) c.tell.ensures c.put_made.ensures in
+    let order = subst (λ (o : Endianness). WritesLine (λ line. line ≡ record_bytes (number_bytes o) r (content_of c.repaired-made.result)) before now result) c.tell.ensures.order c.put_made.ensures in
     subst (λ (x : Captured). WritesLine (λ line. line ≡ record_bytes (number_bytes c.args.self.now.order) r x) before now result) c.repaired-made.ensures order
