@@ -12,9 +12,8 @@ use Rattle.pcap_ng.specs.Blocks.{block_format}
 use Rattle.pcap_ng.specs.Enhanced.{PacketText, enhanced_frame}
 use Rattle.pcap_ng.specs.Frames.{FrameText}
 use Rattle.pcap_ng.specs.State.{State, opening, within, order_at}
-use Rattle.pcap_ng.proofs.BlockFormat.{blocks_lawful}
+use Rattle.pcap_ng.proofs.BlockFormat.{blocks_lawful, goes_after}
 use Rattle.pcap_ng.proofs.EnhancedFrames.{enhanced_long, packet_item, packet_says}
-use Rattle.pcapfile_run.proofs.Passing.{goes_after}
 use Rattle.pcapfile_info.specs.declared.clocks.Clocks.{Clocks}
 use Rattle.pcapfile_info.specs.declared.progress.Progress.{Progress}
 use Rattle.pcapfile_info.specs.declared.seen.Seen.{Seen}

@@ -18,8 +18,7 @@ use Rattle.pcap_ng.specs.Blocks.{Item, block_format}
 use Rattle.pcap_file.specs.Placed.{is_packet}
 use Rattle.pcap_file.specs.Placing.{Source, TakesNext}
 use Rattle.pcap_ng.specs.State.{State, is_kept}
-use Rattle.pcap_ng.proofs.BlockFormat.{blocks_lawful}
-use Rattle.pcapfile_run.proofs.Passing.{goes_after}
+use Rattle.pcap_ng.proofs.BlockFormat.{blocks_lawful, goes_after}
 use Rattle.pcapfile_merge.specs.declared.packet.Pending.{Pending}
 use Rattle.pcapfile_merge.specs.declared.reader.Interfaces.{Interfaces}
 use Rattle.pcapfile_merge.specs.declared.reader.Interfaces.TheVariants.{Closed, Open}

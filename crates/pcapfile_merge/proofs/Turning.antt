@@ -11,8 +11,7 @@ use Rattle.pcap_ng.specs.Blocks.{Item, block_format}
 use Rattle.pcap_ng.specs.Frames.{Framed}
 use Rattle.pcap_file.specs.Placing.{RefusesNext, Source, TakesNext}
 use Rattle.pcap_ng.specs.State.{State}
-use Rattle.pcap_ng.proofs.BlockFormat.{blocks_lawful}
-use Rattle.pcapfile_run.proofs.Passing.{goes_after}
+use Rattle.pcap_ng.proofs.BlockFormat.{blocks_lawful, goes_after}
 use Rattle.pcapfile_merge.specs.declared.packet.Pending.{Pending}
 use Rattle.pcapfile_merge.specs.declared.reader.Interfaces.{Interfaces}
 use Rattle.pcapfile_merge.specs.declared.reader.Interfaces.TheVariants.{Closed}

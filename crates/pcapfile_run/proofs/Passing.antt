@@ -13,8 +13,6 @@ use Rattle.pcap_classic.specs.Packets.{packet_format, reader_format}
 use Rattle.pcap_classic.specs.PacketText.{packet_limit, Captured}
 use Rattle.pcap_classic.proofs.Packets.{reader_whole}
 use Rattle.pcap_classic.proofs.Texts.{packet_length}
-use Rattle.pcap_ng.specs.Blocks.{Item, block_format}
-use Rattle.pcap_ng.specs.State.{State}
 use Rattle.pcapfile_run.specs.declared.pass.Passed.{Passed}
 use Rattle.pcapfile_run.specs.Passing.{counted, Counts, Passing, PassesItems}
 
@@ -76,8 +74,3 @@ unfolding packet_format
 packet_long header s packet says =
     let text = (reader_whole packet_limit header s [] packet says).1 in
     omega (arith, packet_length (number_in (order_of header.magic_number)) packet_limit (resolution_of header.magic_number) packet s [] text)
-
--- where a block leads
-pub goes_after : (here : State) (item : Item) → block_format.goes here item ≡ item.after
-unfolding block_format
-goes_after here item = refl

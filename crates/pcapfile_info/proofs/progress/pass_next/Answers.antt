@@ -3,8 +3,7 @@ use Rattle.std.proofs.lemmas.Result.{err_from_is_err_and}
 use Rattle.pcap_ng.specs.Blocks.{block_format}
 use Rattle.pcap_ng.specs.Lent.{framed_around}
 use Rattle.pcap_ng.specs.Reader.{body_of, state_of, stream_of, text_of, lent_item, section_in_force, interfaces_in_force}
-use Rattle.pcap_ng.proofs.BlockFormat.{blocks_lawful}
-use Rattle.pcapfile_run.proofs.Passing.{goes_after}
+use Rattle.pcap_ng.proofs.BlockFormat.{blocks_lawful, goes_after}
 use Rattle.pcapfile_info.specs.KeptBlocks.{EndsBlocks, KeepsBlocks}
 use Rattle.pcapfile_info.specs.Sights.{IsBlockSight}
 use Rattle.pcapfile_info.proofs.Describing.{same_loses}

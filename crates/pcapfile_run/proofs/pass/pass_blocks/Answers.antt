@@ -2,8 +2,8 @@ use Rattle.std.proofs.Common.{length, sym, ap, arith, None, Some, inl, inr}
 use Rattle.std.proofs.KnownBytes.{Keeps-refl}
 use Rattle.pcap_ng.specs.Blocks.{block_format}
 use Rattle.pcap_ng.specs.Reader.{state_of, stream_of, has_failed, text_of, lent_item}
-use Rattle.pcap_ng.proofs.BlockFormat.{blocks_lawful}
-use Rattle.pcapfile_run.proofs.Passing.{passing_none, passing_more, passing_stops, goes_after}
+use Rattle.pcap_ng.proofs.BlockFormat.{blocks_lawful, goes_after}
+use Rattle.pcapfile_run.proofs.Passing.{passing_none, passing_more, passing_stops}
 use Rattle.pcapfile_run.proofs.pass.pass_blocks.Goals as goal
 
 pub loop-turn-init : goal.loop-turn-init
