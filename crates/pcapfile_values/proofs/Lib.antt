@@ -1,3 +1,5 @@
 pub mod Leading
 pub mod Puts
 pub mod Parts
+pub mod Passed
+pub mod Plain

@@ -1,5 +1,5 @@
 -- What C sees of interfaces, packets and times.
-use Rattle.std.specs.Prelude.{◌≡◌, ◌<◌, ◌⊎◌, ◌==◌, if◌then◌else◌, ⊤, ℕ, List, length, Option, Some, None, Result, Ok, Err, FitsSigned}
+use Rattle.std.specs.Prelude.{◌≡◌, ◌==◌, if◌then◌else◌, ⊤, ℕ, List, All, Option, Some, None, Result, Ok, Err, FitsSigned}
 use Rattle.std.specs.Int.{w64}
 use Rattle.pcap_core.specs.declared.common.Endianness.{Endianness}
 use Rattle.pcap_core.specs.declared.errors.PcapError.{PcapError}
@@ -11,12 +11,11 @@ use Rattle.pcap_times.specs.declared.unit.TimeUnit.{TimeUnit}
 use Rattle.pcap_times.specs.declared.unit.TimeUnit.TheVariants.{Decimal, Binary}
 use Rattle.pcap_times.specs.Times.{IsTimeOf}
 use Rattle.pcap_blocks.specs.declared.block_type.BlockType.{BlockType}
-use Rattle.pcap_blocks.specs.EnhancedPacket.{Enhanced, EnhancedMayGrow, EnhancedSays}
+use Rattle.pcap_blocks.specs.EnhancedPacket.{Enhanced, EnhancedMayGrow, EnhancedSays, EnhancedText}
 use Rattle.pcap_blocks.specs.InterfaceDescription.{Interface}
 use Rattle.pcap_blocks.specs.InterfaceTimes.{IsClockOf}
 use Rattle.pcap_blocks.specs.ParsedBlock.{Body, InterfaceBody, EnhancedBody, SimpleBody, OldPacketBody, BodySays, BodyMayGrow}
-use Rattle.pcap_ng.specs.declared.pcapng.enhanced.EnhancedParts.{EnhancedParts}
-use Rattle.pcap_ng.specs.Enhanced.{IsRefused, PartsText}
+use Rattle.pcapfile_values.specs.EnhancedOptions.{IsPassed}
 use Rattle.pcapfile_values.specs.declared.bodies.PcapfileInterface.{PcapfileInterface}
 use Rattle.pcapfile_values.specs.declared.bodies.PcapfileNgPacket.{PcapfileNgPacket}
 use Rattle.pcapfile_values.specs.declared.bodies.PcapfileTime.{PcapfileTime}
@@ -99,9 +98,18 @@ EnhancedTells order body (Ok shown) = (packet : Enhanced) × (rest : List ℕ) �
 EnhancedTells order body (Err error) =
     Refuses (EnhancedMayGrow order body) (λ n. EnhancedSays order body (lacks n)) (λ fault. EnhancedSays order body (faulty fault)) error
 
--- a body is refused as that of an enhanced packet, or something follows the packet's bytes
+-- a body is this enhanced packet, and then rest, and each of its options is passed over
+pub record PlainText (order : Order) (packet : Enhanced) (body rest : List ℕ) : Type 0 where
+  pub text : EnhancedText order packet body rest
+  pub passed : All (λ option. IsPassed option.code) packet.packet.options
+
+-- a body is an enhanced packet whose options are all passed over, and a struct shows it
+abbrev pub PlainTells : Order → List ℕ → PcapfileNgPacket → Type 0
+PlainTells order body shown = (packet : Enhanced) × (rest : List ℕ) × ShowsPacket (EnhancedBody packet) shown × PlainText order packet body rest
+
+-- a body is refused as that of an enhanced packet, or one of its options is not passed over
 abbrev pub NotPlain : Order → List ℕ → Type 0
-NotPlain order body = IsRefused order body ⊎ ((parts : EnhancedParts) × PartsText order parts body × (0 < length parts.options.now))
+NotPlain order body = (packet : Enhanced) (rest : List ℕ) → PlainText order packet body rest → ⊥
 
 -- a struct shows the time at which a clock has counted so many units; or none does, since its seconds don't fit 64 bits
 abbrev pub ShowsTime : Clock → ℕ → Option PcapfileTime → Type 0

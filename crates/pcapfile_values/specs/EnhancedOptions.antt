@@ -1,19 +1,33 @@
 -- Options of enhanced packets that are passed over.
-use Rattle.std.specs.Prelude.{◌≡◌, ℕ, List, length, Ok}
+use Rattle.std.specs.Prelude.{◌≡◌, ◌≤◌, ℕ, List, length, All, Ok}
 use Rattle.pcap_core.specs.Answer.{Order}
 use Rattle.pcap_core.specs.Padded.{Padded}
 use Rattle.pcap_options.specs.EnhancedOption.{enhanced_packet}
 use Rattle.pcap_options.specs.Options.{OptionList, may_end_with_body}
 use Rattle.pcap_options.specs.Values.{Entry, Value, shape_at, value_of}
 
--- s is a list of an enhanced packet's options, and then rest
-abbrev pub OptionsText : Order → List ℕ → List ℕ → Type 0
-OptionsText order s rest = (options : List Entry) × OptionList may_end_with_body order enhanced_packet options s rest
+-- options of this code are passed over: those of flags, 2, of a hash, 3, and of a count of lost packets, 4
+abbrev pub IsPassed : ℕ → Type 0
+IsPassed code = (2 ≤ code) × (code ≤ 4)
 
--- s is the value of an enhanced packet's option of this code and length, with its padding, and then rest
+-- s is a list of an enhanced packet's options, and then rest, and each of them is passed over
+pub record OptionsText (order : Order) (options : List Entry) (s rest : List ℕ) : Type 0 where
+  pub list : OptionList may_end_with_body order enhanced_packet options s rest
+  pub passed : All (λ option. IsPassed option.code) options
+
+-- a list of options is refused, or one of them is not passed over
+abbrev pub NoOptions : Order → List ℕ → Type 0
+NoOptions order s = (options : List Entry) (rest : List ℕ) → OptionsText order options s rest → ⊥
+
+-- s is the value of an option that is passed over, of this code and length, with its padding, and then rest
 pub record ValueText (order : Order) (code len : ℕ) (s rest : List ℕ) : Type 0 where
   pub bytes : List ℕ
   pub value : Value
   pub length_is : length bytes ≡ len
   pub padded : Padded bytes s rest
   pub value_is : value_of order (shape_at enhanced_packet code) bytes ≡ Ok value
+  pub passed : IsPassed code
+
+-- s is no such value: it is refused, or the option is not passed over
+abbrev pub NoValue : Order → ℕ → ℕ → List ℕ → Type 0
+NoValue order code len s = (rest : List ℕ) → ValueText order code len s rest → ⊥

@@ -1,12 +1,12 @@
 //! Interfaces, packets and times of PcapNg as C sees them.
 
-ghost use Rattle.std.specs.Prelude.{◌≡◌, Ok, IfOk, MatchOption};
+ghost use Rattle.std.specs.Prelude.{◌≡◌, IfOk, MatchOption};
 ghost use Rattle.pcap_core.specs.Bytes.{IsBorrowed, cow_bytes};
 ghost use Rattle.pcap_core.specs.Answer.{TellsWhere, number_in};
 ghost use Rattle.pcap_blocks.specs.InterfaceDescription.{interface_of};
 ghost use Rattle.pcap_blocks.specs.ParsedBlock.{BodySays, BodyMayGrow, EnhancedBody, body_of, ParsedIsBorrowed};
 ghost use Rattle.pcap_blocks.specs.EnhancedPacket.{enhanced_of};
-ghost use Rattle.pcapfile_values.specs.Bodies.{unit_shown, clock_shown, base_of, Found, BodyTells, EnhancedTells, NotPlain, ShowsInterfaceOf, ShowsInterface, IsInterface, ShowsPacket, IsPacket, ShowsTime};
+ghost use Rattle.pcapfile_values.specs.Bodies.{unit_shown, clock_shown, base_of, Found, BodyTells, EnhancedTells, PlainTells, NotPlain, ShowsInterfaceOf, ShowsInterface, IsInterface, ShowsPacket, IsPacket, ShowsTime};
 
 use crate::enhanced_options::behind_options;
 use byteorder::{BigEndian, ByteOrder, LittleEndian};
@@ -233,10 +233,11 @@ fn enhanced_in<'a, B: ByteOrder>(
     }
 }
 
-/// The packet that the body of an enhanced packet is. None where an option behind its bytes has to be read, or it is refused.
+/// The packet that the body of an enhanced packet is, where its options are flags, hashes or counts of lost packets, or it has none.
+/// None where it has another one, or is refused.
 #[inline(always)]
 pub fn plain_in<B: ByteOrder>(body: &[u8]) -> Option<PcapfileNgPacket<'_>>
-    ensures { MatchOption result (NotPlain B.number_of body.now) (λ shown. EnhancedTells B.number_of body.now (Ok shown)) }
+    ensures { MatchOption result (NotPlain B.number_of body.now) (PlainTells B.number_of body.now) }
 {
     let parts = split_body::<B>(body)?;
     let _behind = behind_options::<B>(parts.options)?;

@@ -1,8 +1,9 @@
 //! Options of enhanced packets that are passed over, where a packet alone is shown.
 
-ghost use Rattle.std.specs.Prelude.{◌<◌, length, IfSome, MatchOption};
+ghost use Rattle.std.specs.Prelude.{◌<◌, List, length, MatchOption};
 ghost use Rattle.pcap_options.specs.Options.{CodeLengthText};
-ghost use Rattle.pcapfile_values.specs.EnhancedOptions.{OptionsText, ValueText};
+ghost use Rattle.pcap_options.specs.Values.{Entry};
+ghost use Rattle.pcapfile_values.specs.EnhancedOptions.{NoOptions, NoValue, OptionsText, ValueText};
 
 use byteorder::ByteOrder;
 use pcap_core::fields::{split_padded, split_u16};
@@ -17,7 +18,7 @@ const DROP_COUNT: u16 = 4;
 // What follows the options at the front of a slice. None where they are refused, or one of them has to be read.
 #[inline(always)]
 pub(crate) fn behind_options<B: ByteOrder>(slice: &[u8]) -> Option<&[u8]>
-    ensures { MatchOption result (0 < length slice.now) (λ rest. OptionsText B.number_of slice.now rest.now) }
+    ensures { MatchOption result (NoOptions B.number_of slice.now) (λ rest. (options : List Entry) × OptionsText B.number_of options slice.now rest.now) }
 {
     if slice.is_empty() {
         Some(slice)
@@ -29,7 +30,7 @@ pub(crate) fn behind_options<B: ByteOrder>(slice: &[u8]) -> Option<&[u8]>
 // The same where there are options: out of line, as most packets have none.
 #[inline(never)]
 fn behind_some<B: ByteOrder>(slice: &[u8]) -> Option<&[u8]>
-    ensures { MatchOption result (0 < length slice.now) (λ rest. OptionsText B.number_of slice.now rest.now) }
+    ensures { MatchOption result (NoOptions B.number_of slice.now) (λ rest. (options : List Entry) × OptionsText B.number_of options slice.now rest.now) }
 {
     let mut left = slice;
     while !left.is_empty() {
@@ -45,7 +46,7 @@ fn behind_some<B: ByteOrder>(slice: &[u8]) -> Option<&[u8]>
 // The code and the length of the option, or of the mark, at the front of a slice, and what follows them.
 #[inline(always)]
 fn option_head<B: ByteOrder>(slice: &[u8]) -> Option<(u16, u16, &[u8])>
-    ensures { IfSome result (λ x. CodeLengthText B.number_of x.0 x.1 slice.now x.2.now) }
+    ensures { MatchOption result (length slice.now < 4) (λ x. CodeLengthText B.number_of x.0 x.1 slice.now x.2.now) }
 {
     if slice.len() < 4 {
         return None;
@@ -58,7 +59,7 @@ fn option_head<B: ByteOrder>(slice: &[u8]) -> Option<(u16, u16, &[u8])>
 // What follows the value of an option of this code and length at the front of a slice. None where it has to be read.
 #[inline(always)]
 fn behind_value<B: ByteOrder>(code: u16, len: u16, slice: &[u8]) -> Option<&[u8]>
-    ensures { IfSome result (λ rest. ValueText B.number_of code len slice.now rest.now) }
+    ensures { MatchOption result (NoValue B.number_of code len slice.now) (λ rest. ValueText B.number_of code len slice.now rest.now) }
 {
     let (_value, rest) = split_padded(slice, len as usize)?;
     match code {
