@@ -25,7 +25,7 @@ use Rattle.pcap_ng.proofs.WrittenAgain.{capture_again}
 use Rattle.pcapfile_values.specs.declared.blocks.PcapfileSection.{PcapfileSection}
 use Rattle.pcapfile_values.specs.declared.bodies.PcapfileInterface.{PcapfileInterface}
 use Rattle.pcapfile_values.specs.BlockTexts.{clock_options, interface_block, packet_block, resolution_byte, section_block}
-use Rattle.pcapfile_values.specs.Bodies.{unit_shown}
+use Rattle.pcapfile_values.specs.Bodies.{base_of, unit_shown}
 use Rattle.pcapfile_c.specs.Putting.{Given, IsBlockOf, MayStandAt, a_section, an_interface, a_packet}
 use Rattle.pcapfile_c.specs.PutsAgain.{ArePut, IsReadAs, IsShownBy, section_given}
 
@@ -42,6 +42,15 @@ byte_unit base exponent small = elim (eqb_tells base 2) [
       let said : Decimal exponent ≡ unit_of exponent = rw low refl in
       subst (λ (is : Bool). (if is then Binary exponent else Decimal exponent) ≡ unit_of (if is then exponent + 128 else exponent)) (sym ten.0) said
 ]
+
+-- the base of a unit has the same unit
+same_unit : (base exponent : ℕ) → unit_shown (base_of (unit_shown base exponent)) exponent ≡ unit_shown base exponent
+same_unit base exponent =
+    let Same : Bool → Type 0 = λ is. unit_shown (base_of (if is then Binary exponent else Decimal exponent)) exponent ≡ (if is then Binary exponent else Decimal exponent) in
+    elim (eqb_tells base 2) [
+      | inl two ↦ subst Same (sym two.0) refl
+      | inr ten ↦ subst Same (sym ten.0) refl
+    ]
 
 -- the number under a code, of a unit and an offset
 offset_again : (resolution : ℕ) (z : ℤ) → FitsSigned w64 z → z ≡ cast_signed w64 (unwrap_or (first_under 14 number_in (clock_options resolution (cast_unsigned w64 z))) 0)
@@ -60,10 +69,14 @@ offset_again resolution z fits =
 
 interface_shown : (i : PcapfileInterface) (body : Body) → IsBlockOf (an_interface i) body → IsShownBy body (an_interface i)
 interface_shown i body (link, link_is, small, offset, is) =
+    let same = same_unit i.ts_base i.ts_exponent in
     let shown : IsShownBy (interface_block link i) (an_interface i) = record {
-      link = sym link_is.number;
-      snaplen = refl;
-      clock = record { unit = byte_unit i.ts_base i.ts_exponent small; offset = offset_again (resolution_byte i.ts_base i.ts_exponent) i.ts_offset offset };
+      taken = record {
+        link = sym link_is.number;
+        snaplen = refl;
+        clock = record { unit = same ∙ byte_unit i.ts_base i.ts_exponent small; offset = offset_again (resolution_byte i.ts_base i.ts_exponent) i.ts_offset offset };
+      };
+      base = ap base_of (sym same);
     } in
     subst (λ (b : Body). IsShownBy b (an_interface i)) (sym is) shown
 

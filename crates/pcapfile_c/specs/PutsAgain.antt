@@ -4,8 +4,9 @@ use Rattle.pcap_blocks.specs.ParsedBlock.{Body, SectionBody, InterfaceBody, Enha
 use Rattle.pcap_ng.specs.Blocks.{Item}
 use Rattle.pcap_ng.specs.Written.{IsBodyOf}
 use Rattle.pcapfile_values.specs.declared.blocks.PcapfileSection.{PcapfileSection}
+use Rattle.pcapfile_values.specs.declared.bodies.PcapfileInterface.{PcapfileInterface}
 use Rattle.pcapfile_values.specs.Blocks.{ShowsSection}
-use Rattle.pcapfile_values.specs.Bodies.{IsTakenFor, ShowsPacket}
+use Rattle.pcapfile_values.specs.Bodies.{ShowsInterfaceOf, ShowsPacket, base_of, unit_shown}
 use Rattle.pcapfile_c.specs.Putting.{Given, IsTextOf, a_section, an_interface, a_packet}
 
 -- the struct that a call is given for the section: a section header's own, and else that of the section in force
@@ -19,10 +20,14 @@ ArePut section [] bytes = bytes ≡ []
 ArePut section (given ∷ others) bytes =
     (next : PcapfileSection) × (text : List ℕ) × (more : List ℕ) × IsTextOf given (section_given section given) next text × (bytes ≡ text ++ more) × ArePut next others more
 
--- a body is shown by the struct that was given: a section's, one that is taken for the interface, or that of an enhanced packet
+-- the struct of an interface with the base of its unit: 2, or 10 for any other
+abbrev pub with_base : PcapfileInterface → PcapfileInterface
+with_base shown = record shown { ts_base = base_of (unit_shown shown.ts_base shown.ts_exponent) }
+
+-- a body is shown by the struct that was given: a section's; an interface's, with its base; or that of an enhanced packet
 abbrev pub IsShownBy : Body → Given → Type 0
 IsShownBy (SectionBody section) (a_section shown) = ShowsSection shown section
-IsShownBy (InterfaceBody interface) (an_interface shown) = IsTakenFor interface shown
+IsShownBy (InterfaceBody interface) (an_interface shown) = ShowsInterfaceOf interface (with_base shown)
 IsShownBy (EnhancedBody b) (a_packet p) = ShowsPacket (EnhancedBody b) (record p { type_ = 6 })
 IsShownBy _ _ = ⊥
 
