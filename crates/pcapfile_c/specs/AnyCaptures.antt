@@ -69,6 +69,11 @@ abbrev pub RefusesAnyPacket : PcapfileCapture → PcapfileCapture → List Pcapf
 RefusesAnyPacket before capture places now s rest old shown error told status =
     (capture.header ≡ before.header) × RefusesWithPlaces before.section capture.section places now s rest old shown error told status
 
+-- places lack, and nothing changed
+abbrev pub LeavesAnyPacket : PcapfileCapture → PcapfileCapture → List PcapfileInterface → List PcapfileInterface → List ℕ → List ℕ → PcapfileAnyPacket → PcapfileAnyPacket → PcapfileError → PcapfileError → ℤ → Type 0
+LeavesAnyPacket before capture places now s rest old shown error told status =
+    (capture.header ≡ before.header) × LacksPlaces before.section capture.section places now s rest old shown error told status
+
 -- nothing is left of a capture that has begun: a section is in force, or a header
 abbrev pub HasEnded : PcapfileCapture → List ℕ → Type 0
 HasEnded capture rest = (rest ≡ []) × ((capture.section.magic_number ≢ 0) ⊎ IsTrue (is_magic capture.header.magic_number))

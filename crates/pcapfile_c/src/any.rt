@@ -1,9 +1,9 @@
 //! Captures of either format that lie in memory: their packets, by one call.
 
-ghost use Rattle.std.specs.Prelude.{◌≡◌, ◌↔◌, pos, None, IsTrue};
+ghost use Rattle.std.specs.Prelude.{◌≡◌, ◌<◌, ◌↔◌, length, pos, None, IsTrue};
 ghost use Rattle.pcap_ng.specs.State.{State};
 ghost use Rattle.pcapfile_values.specs.Blocks.{order_shown};
-ghost use Rattle.pcapfile_c.specs.AnyCaptures.{IsNg, HasEnded, TakesAnyPacket, TakesAnyNgPacket, TakesHeaded, TakesSectioned, RefusesAnyPacket, TakesCaptured, TakesWithPlaces, RefusesWithPlaces};
+ghost use Rattle.pcapfile_c.specs.AnyCaptures.{IsNg, HasEnded, TakesAnyPacket, TakesAnyNgPacket, TakesHeaded, TakesSectioned, RefusesAnyPacket, LeavesAnyPacket, TakesCaptured, TakesWithPlaces, RefusesWithPlaces, LacksPlaces};
 ghost use Rattle.pcapfile_c.specs.PushPackets.{ShowsInForce, HaveBases};
 
 use crate::push::take_front;
@@ -49,6 +49,8 @@ pub extern "C" fn pcapfile_take_any<'a>(
     ensures bases { HaveBases capture.old.section interfaces.old → HaveBases capture.new.section interfaces.new }
     ensures refused { IsNg capture.old left.old.bytes.now → order_shown capture.old.section.magic_number ≡ None →
         RefusesAnyPacket capture.old capture.new interfaces.old interfaces.new left.old.bytes.now left.new.bytes.now packet.old packet.new error.old error.new result }
+    ensures lacking { IsNg capture.old left.old.bytes.now → length interfaces.old < capture.old.section.interfaces →
+        LeavesAnyPacket capture.old capture.new interfaces.old interfaces.new left.old.bytes.now left.new.bytes.now packet.old packet.new error.old error.new result }
 {
     let before = *error;
     let status = take_either(alloc, capture, left, interfaces, packet, error);
@@ -75,6 +77,8 @@ fn take_either<'a>(
     ensures bases { HaveBases capture.old.section interfaces.old → HaveBases capture.new.section interfaces.new }
     ensures refused { IsNg capture.old left.old.bytes.now → order_shown capture.old.section.magic_number ≡ None →
         RefusesAnyPacket capture.old capture.new interfaces.old interfaces.new left.old.bytes.now left.new.bytes.now packet.old packet.new error.old error.new result }
+    ensures lacking { IsNg capture.old left.old.bytes.now → length interfaces.old < capture.old.section.interfaces →
+        LeavesAnyPacket capture.old capture.new interfaces.old interfaces.new left.old.bytes.now left.new.bytes.now packet.old packet.new error.old error.new result }
 {
     if capture.is_ng(left.bytes) {
         take_any_block(alloc, &mut capture.section, left, interfaces, packet, error)
@@ -120,6 +124,8 @@ fn take_any_block<'a>(
     ensures bases { HaveBases section.old interfaces.old → HaveBases section.new interfaces.new }
     ensures refused { order_shown section.old.magic_number ≡ None →
         RefusesWithPlaces section.old section.new interfaces.old interfaces.new left.old.bytes.now left.new.bytes.now packet.old packet.new error.old error.new result }
+    ensures lacking { length interfaces.old < section.old.interfaces →
+        LacksPlaces section.old section.new interfaces.old interfaces.new left.old.bytes.now left.new.bytes.now packet.old packet.new error.old error.new result }
 {
     if interfaces.len() < section.interfaces as usize {
         return 10;

@@ -1,11 +1,11 @@
 //! PcapNg captures that lie in memory: where they can be cut into parts, and what is in force there.
 
-ghost use Rattle.std.specs.Prelude.{◌≡◌, ◌≤◌, ⊤, length, max, IfErr, IfOk};
+ghost use Rattle.std.specs.Prelude.{◌≡◌, ◌≤◌, ⊤, pos, length, max, IfErr, IfOk};
 ghost use Rattle.pcap_core.specs.Answer.{Refuses, faulty, lacks};
 ghost use Rattle.pcap_ng.specs.Opening.{OpeningSays};
 ghost use Rattle.pcap_parts.specs.declared.parting.Parting.TheVariants as partings;
 ghost use Rattle.pcap_parts.specs.Partings.{AsksSome};
-ghost use Rattle.pcapfile_c.specs.Cuts.{CutsBlocks, Fills, HasRoom, TellsBlockCuts};
+ghost use Rattle.pcapfile_c.specs.Cuts.{CutsBlocks, Fills, HasRoom, MayLackPlaces, TellsBlockCuts};
 
 use pcap_core::ResultParsing;
 use pcap_parts::{NgCut, NgCuts, Parting, cut_pcapng, cut_pcapng_at_least};
@@ -26,7 +26,8 @@ pub extern "C" fn pcapfile_cut_blocks(
     known: &mut usize,
     error: &mut PcapfileError,
 ) -> i32
-    ensures { TellsBlockCuts (partings.Equal (length cuts.old)) capture.now.bytes.now cuts.old cuts.new count.new interfaces.old interfaces.new known.new error.old error.new result }
+    ensures told { TellsBlockCuts (partings.Equal (length cuts.old)) capture.now.bytes.now cuts.old cuts.new count.new interfaces.old interfaces.new known.new error.old error.new result }
+    ensures lacking { MayLackPlaces (partings.Equal (length cuts.old)) capture.now.bytes.now cuts.old → (result ≡ pos 11) × (known.new ≡ 0) }
 {
     *count = 0;
     *known = 0;
@@ -59,7 +60,8 @@ pub extern "C" fn pcapfile_cut_blocks_at_least(
     known: &mut usize,
     error: &mut PcapfileError,
 ) -> i32
-    ensures { TellsBlockCuts (partings.AtLeast (max at_least 1)) capture.now.bytes.now cuts.old cuts.new count.new interfaces.old interfaces.new known.new error.old error.new result }
+    ensures told { TellsBlockCuts (partings.AtLeast (max at_least 1)) capture.now.bytes.now cuts.old cuts.new count.new interfaces.old interfaces.new known.new error.old error.new result }
+    ensures lacking { MayLackPlaces (partings.AtLeast (max at_least 1)) capture.now.bytes.now cuts.old → (result ≡ pos 11) × (known.new ≡ 0) }
 {
     *count = 0;
     *known = 0;

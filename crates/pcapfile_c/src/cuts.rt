@@ -1,13 +1,13 @@
 //! Classic captures that lie in memory: where they can be cut into parts.
 
-ghost use Rattle.std.specs.Prelude.{◌≡◌, ◌≤◌, ◌-◌, length, max, take, drop};
+ghost use Rattle.std.specs.Prelude.{◌≡◌, ◌≤◌, ◌-◌, pos, length, max, take, drop};
 ghost use Rattle.pcap_classic.specs.PacketText.{packet_limit};
 ghost use Rattle.pcap_classic.specs.Packets.{format_under};
 ghost use Rattle.pcap_classic.specs.Parser.{header_of};
 ghost use Rattle.pcap_parts.specs.declared.parting.Parting.TheVariants as partings;
 ghost use Rattle.pcap_parts.specs.Parts.{AreCuts};
 ghost use Rattle.pcap_parts.specs.Partings.{AreAskedFor, AsksSome};
-ghost use Rattle.pcapfile_c.specs.Cuts.{HasRoom, TellsCuts};
+ghost use Rattle.pcapfile_c.specs.Cuts.{HasRoom, MayLackPlaces, TellsCuts};
 
 use pcap_classic::pcap::PcapParser;
 use pcap_parts::{Cut, Parting, Passed, skip_packets};
@@ -23,7 +23,8 @@ pub extern "C" fn pcapfile_cut_packets(
     count: &mut usize,
     error: &mut PcapfileError,
 ) -> i32
-    ensures { TellsCuts (partings.Equal (length cuts.old)) capture.now.bytes.now cuts.old cuts.new count.new error.old error.new result }
+    ensures told { TellsCuts (partings.Equal (length cuts.old)) capture.now.bytes.now cuts.old cuts.new count.new error.old error.new result }
+    ensures lacking { MayLackPlaces (partings.Equal (length cuts.old)) capture.now.bytes.now cuts.old → result ≡ pos 11 }
 {
     *count = 0;
     if cuts.is_empty() {
@@ -42,7 +43,8 @@ pub extern "C" fn pcapfile_cut_packets_at_least(
     count: &mut usize,
     error: &mut PcapfileError,
 ) -> i32
-    ensures { TellsCuts (partings.AtLeast (max at_least 1)) capture.now.bytes.now cuts.old cuts.new count.new error.old error.new result }
+    ensures told { TellsCuts (partings.AtLeast (max at_least 1)) capture.now.bytes.now cuts.old cuts.new count.new error.old error.new result }
+    ensures lacking { MayLackPlaces (partings.AtLeast (max at_least 1)) capture.now.bytes.now cuts.old → result ≡ pos 11 }
 {
     *count = 0;
     let wanted = at_least.max(1);

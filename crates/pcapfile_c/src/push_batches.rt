@@ -5,8 +5,8 @@ ghost use Rattle.pcap_classic.specs.Magic.{is_magic};
 ghost use Rattle.pcap_ng.specs.State.{State};
 ghost use Rattle.pcapfile_values.specs.Blocks.{order_shown};
 ghost use Rattle.pcapfile_c.specs.PushBatches.{FillsPlaces, TakesFrontPackets, TakesNextPackets};
-ghost use Rattle.pcapfile_c.specs.PushNgBatches.{TakesFrontNgPackets, TakesNextNgPackets, RefusesNextNgPackets};
-ghost use Rattle.pcapfile_c.specs.PushPackets.{ShowsInForce, HaveBases};
+ghost use Rattle.pcapfile_c.specs.PushNgBatches.{TakesFrontNgPackets, TakesNextNgPackets, RefusesNextNgPackets, LeavesNgPackets};
+ghost use Rattle.pcapfile_c.specs.PushPackets.{ShowsInForce, HaveBases, MakesNoSense};
 
 use crate::pcap::{pcapfile_take_header, pcapfile_take_packets};
 use crate::push::PcapfilePush;
@@ -118,6 +118,8 @@ pub extern "C" fn pcapfile_push_ng_packets<'a>(
     ensures bases { HaveBases section.old interfaces.old → HaveBases section.new interfaces.new }
     ensures refused { order_shown section.old.magic_number ≡ None →
         RefusesNextNgPackets push.old push.new section.old section.new interfaces.old interfaces.new room.now packets.old packets.new taken.new error.old error.new result }
+    ensures nonsense { MakesNoSense push.old section.old interfaces.old room.now →
+        LeavesNgPackets push.old push.new section.old section.new interfaces.old interfaces.new packets.old packets.new taken.new error.old error.new result }
 {
     *taken = 0;
     let Some(held) = room.get(push.begin..push.end) else {

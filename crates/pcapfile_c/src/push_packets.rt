@@ -6,7 +6,7 @@ ghost use Rattle.pcap_blocks.specs.SectionHeader.{magic_order};
 ghost use Rattle.pcap_ng.specs.State.{State, order_at};
 ghost use Rattle.pcapfile_values.specs.Blocks.{order_shown};
 ghost use Rattle.pcapfile_c.specs.Batches.{LeadingText};
-ghost use Rattle.pcapfile_c.specs.PushPackets.{ShowsInForce, HaveBases, LeavesFewer, PutsTells, StepTells, TakesFrontPacket, TakesNextPacket, RefusesNextPacket};
+ghost use Rattle.pcapfile_c.specs.PushPackets.{ShowsInForce, HaveBases, LeavesFewer, PutsTells, StepTells, TakesFrontPacket, TakesNextPacket, RefusesNextPacket, MakesNoSense, LeavesPackets};
 
 use crate::batches::{Front, front_of};
 use crate::push::PcapfilePush;
@@ -41,6 +41,8 @@ pub extern "C" fn pcapfile_push_ng_next<'a>(
     ensures bases { HaveBases section.old interfaces.old → HaveBases section.new interfaces.new }
     ensures refused { order_shown section.old.magic_number ≡ None →
         RefusesNextPacket push.old push.new section.old section.new interfaces.old interfaces.new room.now packet.old packet.new error.old error.new result }
+    ensures nonsense { MakesNoSense push.old section.old interfaces.old room.now →
+        LeavesPackets push.old push.new section.old section.new interfaces.old interfaces.new packet.old packet.new error.old error.new result }
 {
     let Some(held) = room.get(push.begin..push.end) else {
         return 10;
