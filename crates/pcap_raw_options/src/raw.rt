@@ -1,11 +1,11 @@
 //! Options as they stand.
 
-ghost use Rattle.std.specs.Prelude.{IfOk, IfErr, MatchResult};
+ghost use Rattle.std.specs.Prelude.{All, IfOk, IfErr, IfSome, MatchResult};
 ghost use Rattle.std.specs.Option.{option_map};
 ghost use Rattle.pcap_core.specs.Answer.{whole};
 ghost use Rattle.pcap_core.specs.Faults.{Invalid};
 ghost use Rattle.pcap_options.specs.Options.{may_end_with_body, OptionFault, OptionSays, OptionsMayGrow};
-ghost use Rattle.pcap_options.specs.CommonOptions.{unknown_entry};
+ghost use Rattle.pcap_options.specs.CommonOptions.{UnknownIsBorrowed, unknown_entry};
 ghost use Rattle.pcap_raw_options.specs.UpTo.{ReadUpTo, no_kind, up_to_of};
 
 use byteorder::ByteOrder;
@@ -33,6 +33,7 @@ fn raw_option<'a, B: ByteOrder>(
     ensures tells { MatchResult result
         (λ x. OptionSays B.number_of no_kind slice.now (whole (option_map unknown_entry x.1) x.0.now))
         (λ rule. OptionFault B.number_of no_kind slice.now (Invalid rule)) }
+    ensures borrowed { IfOk result (λ x. IfSome x.1 UnknownIsBorrowed) }
 {
     if slice.len() < 4 {
         return Err(Rule::OptionTooShort);
@@ -57,6 +58,7 @@ pub fn raw_options<'a, B: ByteOrder>(
     slice: &'a [u8],
 ) -> Result<RawOptions<'a>, AllocError>
     ensures read { IfOk result (λ x. ReadUpTo may_end_with_body B.number_of no_kind (up_to_of x) slice.now) }
+    ensures borrowed { IfOk result (λ x. All UnknownIsBorrowed x.options.items) }
     ensures memory { IfErr result (λ _. OptionsMayGrow B.number_of no_kind slice.now) }
 {
     let mut options = Vec::new(alloc);
