@@ -1,6 +1,7 @@
 //! Laws that hold of times.
 
-ghost use Rattle.std.specs.Prelude.{◌≡◌, ◌↔◌, ◌⊎◌, ◌<◌, ◌<ℤ◌, IsTrue};
+ghost use Rattle.pcap_times.specs.Times.{unit_of, units_in_second};
+ghost use Rattle.std.specs.Prelude.{◌≡◌, ◌↔◌, ◌⊎◌, ◌^◌, ◌<◌, ◌<ℤ◌, IsTrue};
 
 use crate::{Clock, TimeUnit, Timestamp};
 
@@ -30,4 +31,12 @@ pub fn times_are_ordered(left: Timestamp, right: Timestamp) -> bool
     ensures { IsTrue result ↔ ((left.seconds <ℤ right.seconds) ⊎ ((left.seconds ≡ right.seconds) × (left.nanoseconds < right.nanoseconds))) }
 {
     left < right
+}
+
+/// A microsecond is the unit that the byte 6 names, and a million of them are a second.
+pub fn microsecond_is_a_millionth() -> TimeUnit
+    ensures named { result ≡ unit_of 6 }
+    ensures million { units_in_second result ≡ 10 ^ 6 }
+{
+    TimeUnit::MICROSECOND
 }
