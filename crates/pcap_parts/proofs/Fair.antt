@@ -29,6 +29,7 @@ module _ {S V : Type 0} (f : Format S V) (q : S) (s : List ℕ) (total front par
   -- Cuts that are fair as far as bytes were passed.
   pub record FairSoFar (passed : ℕ) (cuts : List Cut) : Type 0 where
     pub wanted : AllByRecursion (EndsShares f q s total front parts) cuts
+    pub followed : AllByRecursion (λ (cut : Cut). (cut.offset ≡ front) ⊎ (cut.offset < total)) cuts
     pub served : (k : ℕ) (cut : Cut) → k ≤ parts - 1 → k * share_of (length s) parts ≤ passed → FirstBound f q s total (front + k * share_of (length s) parts) cut → Contains cuts cut
     pub done : ℕ
     pub few : length cuts ≤ done + 1
@@ -129,6 +130,7 @@ module _ {S V : Type 0} (f : Format S V) (laws : IsLawful f) (q : S) (s : List �
         let here : (other : Cut) (y : Bound f q s total other) → first.offset ≤ other.offset = λ other y. omega (arith, b.place, y.place, all, texts_long f laws q y.items s y.rest y.texts) in
         record {
           wanted = (record { shares = 0; not_all = omega arith; first_bound = record { bound = b; behind = omega (arith, place); first = λ other y less. here other y } }, tt);
+          followed = (inl place, tt);
           served = λ k cut most le x.
               let e : first ≡ cut = bound_same first cut b x.bound (omega (arith, here cut x.bound, x.first first b (omega (arith, place, le)))) in
               subst (λ (c : Cut). Contains (first ∷ []) c) e (Contains-push [] first);
@@ -151,15 +153,16 @@ module _ {S V : Type 0} (f : Format S V) (laws : IsLawful f) (q : S) (s : List �
 
     pub fair_more : (us : List V) (left after : List ℕ) (n count k : ℕ) (cuts : List Cut) (x : Cut) → FairSoFar f q s total front parts (length s - length left) cuts
         → Texts f q us s left → Passes f (state_after f q us) left after n count None → k < parts - 1 → k * share ≤ length s - length left
-        → length s - length left + n ≡ suc k * share → 0 < n → front + length s ≡ total → length left ≤ length s → (b : Bound f q s total x) → length b.rest ≡ length after
+        → length s - length left + n ≡ suc k * share → 0 < n → front + length s ≡ total → 0 < length after → length left ≤ length s → (b : Bound f q s total x) → length b.rest ≡ length after
         → FairSoFar f q s total front parts (length s - length after) (cuts ++ x ∷ [])
-    fair_more us left after n count k cuts x so_far texts p most le e some at fits b same =
+    fair_more us left after n count k cuts x so_far texts p most le e some at bytes fits b same =
         let place = front + suc k * share in
         let here : FirstBound f q s total place x = passed_first us left after n count place x texts p some (omega (arith, e, at, fits)) b same in
         let there : suc k * share ≤ length s - length after = omega (arith, here.behind, b.place, same, at) in
         let less : length after ≤ length left = omega (arith, p.stops) in
         record {
           wanted = each_push (EndsShares f q s total front parts) cuts x so_far.wanted (record { shares = suc k; not_all = omega (arith, most); first_bound = here });
+          followed = each_push (λ (cut : Cut). (cut.offset ≡ front) ⊎ (cut.offset < total)) cuts x so_far.followed (inr (omega (arith, b.place, same, bytes)));
           served = λ j cut j_most j_le y. served_by j cut (cases_lt k j) place here so_far j_most j_le y le b same at;
           done = suc k;
           few = omega (arith, length-append cuts (x ∷ []), so_far.few, up_to k so_far.done (length s - length left) n so_far.behind e some);
@@ -182,6 +185,7 @@ module _ {S V : Type 0} (f : Format S V) (laws : IsLawful f) (q : S) (s : List �
         → ((k : ℕ) (cut : Cut) → k ≤ parts - 1 → FirstBound f q s total (front + k * share) cut → cut.offset < total → k * share ≤ passed) → AreFair f q s total front parts cuts
     fair_all passed cuts so_far none = record {
       wanted = so_far.wanted;
+      followed = so_far.followed;
       all = λ cut ends less. so_far.served ends.shares cut ends.not_all (none ends.shares cut ends.not_all ends.first_bound less) ends.first_bound;
       few = omega (arith, so_far.few, so_far.not_all);
     }

@@ -8,6 +8,7 @@ mod Fair
 pub mod Stepping
 pub mod Parted
 mod Walking
+mod Placing
 pub mod NgCaptures
 mod Asking
 mod Joining

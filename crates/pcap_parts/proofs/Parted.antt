@@ -46,7 +46,7 @@ module _ {S V : Type 0} (f : Format S V) (laws : IsLawful f) (q : S) (s : List �
       → IsWantedBehind f q s total how left (Some n) → Passes f (state_after f q us) left after n count None → 0 < length after → length left ≤ length s → (b : Bound f q s total x) → length b.rest ≡ length after
       → MadeSoFar f q s total how after (cuts ++ x ∷ [])
   made_more (Equal parts) some us left after n count cuts x made texts wanted p bytes within b same =
-      fair_more f laws q s total (total - length s) parts us left after n count wanted.0 cuts x made texts p wanted.1 wanted.2 wanted.3 wanted.4 (omega (arith, fits)) within b same
+      fair_more f laws q s total (total - length s) parts us left after n count wanted.0 cuts x made texts p wanted.1 wanted.2 wanted.3 wanted.4 (omega (arith, fits)) bytes within b same
   made_more (AtLeast least) some us left after n count cuts x made texts wanted p bytes within b same =
       let is = same_Some n least wanted in
       step_push f q s total least (StandsBefore f q s total least left) (StandsBefore f q s total least after) cuts x made

@@ -1,13 +1,14 @@
 -- Items that are passed over one by one.
 use Rattle.std.proofs.Common.{◌≡◌, ◌<◌, ◌≤◌, ◌+◌, ◌-◌, ℕ, List, [], ◌∷◌, ◌++◌, length, refl, sym, ap, subst, ◌∙◌, arith, length-append, inl, inr}
 use Rattle.std.proofs.lemmas.List.{nil_from_length}
-use Rattle.std.specs.Prelude.{Option, Some, None, Result, Ok, Err}
+use Rattle.std.specs.Prelude.{Option, Some, None, Result, Ok, Err, ◌⊎◌}
 use Rattle.std.specs.declared.alloc.AllocError.{AllocError}
 use Rattle.pcap_core.specs.declared.errors.PcapError.{PcapError}
 use Rattle.pcap_items.specs.declared.rest.Rest.{Rest}
 use Rattle.pcap_core.specs.declared.errors.PcapError.TheVariants as errors
 use Rattle.pcap_items.specs.declared.rest.Rest.TheVariants.{Needs, Refused}
 use Rattle.pcap_core.specs.Answer.{whole, lacks, faulty, Refuses}
+use Rattle.pcap_core.specs.Errors.{IsMemory}
 use Rattle.pcap_items.specs.Format.{Format, Texts, state_after, IsLawful}
 use Rattle.pcap_items.specs.Run.{IsRest}
 use Rattle.pcap_items.proofs.Formats.{state_push, texts_push, shorter}
@@ -90,3 +91,9 @@ module _ {S V : Type 0} (f : Format S V) (q : S) (left : List ℕ) (Grows : Type
   rest_is (errors.IncompleteBuffer n) said some refuses e = subst (λ (r : Rest). IsRest (f.says q) left r) (ok_same (Needs n) said e) (refuses, some)
   rest_is (errors.OutOfMemory x) said some refuses e = absurd (no_ok x said e)
   rest_is error said some refuses e = subst (λ (r : Rest). IsRest (f.says q) left r) (ok_same (Refused error) said e) refuses
+
+-- what holds where it isn't memory that is wanted holds where the rest is told
+pub but_for_memory : (P : Type 0) (e : PcapError) (said : Rest) → IsMemory e ⊎ P → rest_or_memory_of e ≡ Ok said → P
+but_for_memory P e said (inr p) is = p
+but_for_memory P (errors.OutOfMemory x) said (inl m) is = absurd (no_ok x said is)
+but_for_memory P _ said (inl m) is = absurd m

@@ -40,12 +40,13 @@ module _ {S V : Type 0} (f : Format S V) where
     pub passes : Passes q s rest at_least n said
     pub leads : state_after f q passes.items ≡ reached
 
-  -- items stand at the front of s, and lead to this state, under which the next one has to be kept
-  pub record KeepsNext (Grows : S → List ℕ → Type 0) (q reached : S) (s : List ℕ) : Type 0 where
+  -- items stand at the front of s, and lead to this state, under which the next one, without which fewer bytes are passed, has to be kept
+  pub record KeepsNext (Grows : S → List ℕ → Type 0) (q reached : S) (s : List ℕ) (at_least : ℕ) : Type 0 where
     pub items : List V
     pub left : List ℕ
     pub texts : Texts f q items s left
     pub leads : state_after f q items ≡ reached
+    pub needed : length s < at_least + length left
     pub grows : Grows reached left
 
   -- a bound of the items of s, which end at `total`: so many items stand before it, and it has this place
@@ -130,9 +131,10 @@ module _ {S V : Type 0} (f : Format S V) (q : S) (s : List ℕ) (total : ℕ) wh
     pub not_all : shares ≤ parts - 1
     pub first_bound : FirstBound (front + shares * share_of (length s) parts) cut
 
-  -- parts begin at the first bound at or behind the end of each share, where bytes follow, and nowhere else
+  -- parts begin at the front, and at the first bound at or behind the end of each share, where bytes follow, and nowhere else
   pub record AreFair (front parts : ℕ) (cuts : List Cut) : Type 0 where
     pub wanted : AllByRecursion (EndsShares front parts) cuts
+    pub followed : AllByRecursion (λ (cut : Cut). (cut.offset ≡ front) ⊎ (cut.offset < total)) cuts
     pub all : (cut : Cut) → EndsShares front parts cut → cut.offset < total → Contains cuts cut
     pub few : length cuts ≤ parts - 1 + 1
 

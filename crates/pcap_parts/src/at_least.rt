@@ -5,6 +5,7 @@ ghost use Rattle.pcap_core.specs.Answer.{Refuses, lacks, faulty};
 ghost use Rattle.pcap_ng.specs.Opening.{OpeningSays};
 ghost use Rattle.pcap_parts.specs.Captures.{IsCut, IsCutAtLeast};
 ghost use Rattle.pcap_parts.specs.NgParts.{IsNgCut, IsNgCutAtLeast};
+ghost use Rattle.pcap_parts.specs.Places.{TellAllPlaces};
 ghost use Rattle.std.specs.Prelude.{⊤, max, IfOk, IfErr};
 
 use crate::cut::{Cuts, cut_packets};
@@ -51,6 +52,7 @@ pub fn cut_pcap_at_least(alloc: Global, bytes: &[u8], at_least: usize) -> Result
 pub fn cut_pcapng_at_least(alloc: Global, bytes: &[u8], at_least: usize) -> ResultParsing<NgCuts>
     ensures cut { IfOk result (λ cuts. IsNgCut cuts bytes.now) }
     ensures steps { IfOk result (λ cuts. IsNgCutAtLeast (max at_least 1) cuts.cuts.items bytes.now) }
+    ensures places { IfOk result (λ cuts. TellAllPlaces bytes.now cuts.interfaces.items cuts.cuts.items) }
     ensures refused { IfErr result (Refuses ⊤ (λ n. OpeningSays bytes.now (lacks n)) (λ fault. OpeningSays bytes.now (faulty fault))) }
 {
     cut_ng_by(alloc, bytes, Parting::AtLeast(at_least.max(1)))

@@ -35,7 +35,7 @@ pub fn skip_blocks<'a>(
 ) -> Result<Passed<'a>, AllocError>
     ensures passes { IfOk result (λ x. PassesTo block_format (state_of parser.old) (state_of parser.new) slice.now x.after.now at_least x.items x.rest) }
     ensures few { IfOk result (λ x. x.items + length x.after.now ≤ length slice.now) }
-    ensures memory { OnErr result (KeepsNext block_format MayGrow (state_of parser.old) (state_of parser.new) slice.now) }
+    ensures memory { OnErr result (KeepsNext block_format MayGrow (state_of parser.old) (state_of parser.new) slice.now at_least) }
 {
     let last = slice.len().saturating_sub(at_least);
     let mut items = 0;

@@ -7,6 +7,7 @@ ghost use Rattle.pcap_ng.specs.Parser.{state_of};
 ghost use Rattle.pcap_parts.specs.NgParts.{IsNgCut, IsNgCutBy, IsNgCutFairly, IsWalked, ResumesAt, bounds_of, places_at};
 ghost use Rattle.pcap_parts.specs.Partings.{AreAskedFor, AsksSome};
 ghost use Rattle.pcap_parts.specs.Parts.{AreCuts};
+ghost use Rattle.pcap_parts.specs.Places.{IsPlaced, TellAllPlaces};
 ghost use Rattle.std.specs.List.{AllByRecursion};
 ghost use Rattle.std.specs.Prelude.{◌≡◌, ◌≤◌, ◌-◌, ⊤, length, drop, IfOk, IfErr};
 
@@ -78,11 +79,13 @@ pub(crate) fn cut_blocks(
 ) -> Result<Vec<NgCut>, AllocError>
     requires walked { IsWalked bytes.now slice.now (state_of walk.old.parser) walk.old.header (drop walk.old.first walk.old.interfaces.items) }
     requires within { walk.old.first ≤ length walk.old.interfaces.items }
+    requires placed { IsPlaced bytes.now slice.now (state_of walk.old.parser) walk.old.header walk.old.first walk.old.interfaces.items }
     requires some { AsksSome parting }
     ensures cuts { IfOk result
         (λ cuts. AreCuts block_format (state_of walk.old.parser) slice.now (length bytes.now - length slice.now) (length bytes.now) (bounds_of cuts.items)) }
     ensures asked { IfOk result (λ cuts. AreAskedFor block_format (state_of walk.old.parser) slice.now (length bytes.now) parting (bounds_of cuts.items)) }
     ensures resume { IfOk result (λ cuts. AllByRecursion (ResumesAt bytes.now walk.new.interfaces.items (state_of walk.old.parser) slice.now) cuts.items) }
+    ensures places { IfOk result (λ cuts. TellAllPlaces bytes.now walk.new.interfaces.items cuts.items) }
 {
     let mut cuts = Vec::new(alloc);
     cuts.push(cut_at(walk, bytes.len() - slice.len(), 0))?;
@@ -105,6 +108,7 @@ pub(crate) fn cut_ng_by(alloc: Global, bytes: &[u8], parting: Parting) -> Result
     requires some { AsksSome parting }
     ensures cut { IfOk result (λ cuts. IsNgCut cuts bytes.now) }
     ensures asked { IfOk result (λ cuts. IsNgCutBy parting cuts.cuts.items bytes.now) }
+    ensures places { IfOk result (λ cuts. TellAllPlaces bytes.now cuts.interfaces.items cuts.cuts.items) }
     ensures refused { IfErr result (Refuses ⊤ (λ n. OpeningSays bytes.now (lacks n)) (λ fault. OpeningSays bytes.now (faulty fault))) }
 {
     let (after, parser) = PcapNgParser::new(alloc, bytes)?;
@@ -132,6 +136,7 @@ pub(crate) fn cut_ng_by(alloc: Global, bytes: &[u8], parting: Parting) -> Result
 pub fn cut_pcapng(alloc: Global, bytes: &[u8], parts: usize) -> ResultParsing<NgCuts>
     ensures cut { IfOk result (λ cuts. IsNgCut cuts bytes.now) }
     ensures fair { IfOk result (λ cuts. IsNgCutFairly parts cuts.cuts.items bytes.now) }
+    ensures places { IfOk result (λ cuts. TellAllPlaces bytes.now cuts.interfaces.items cuts.cuts.items) }
     ensures refused { IfErr result (Refuses ⊤ (λ n. OpeningSays bytes.now (lacks n)) (λ fault. OpeningSays bytes.now (faulty fault))) }
 {
     cut_ng_by(alloc, bytes, Parting::Equal(parts))

@@ -1,5 +1,6 @@
 //! Runs over one part of a capture.
 
+ghost use Rattle.pcap_classic.specs.Writing.{IsWritable};
 ghost use Rattle.pcap_core.specs.Bytes.{IsBorrowed};
 ghost use Rattle.pcap_items.specs.Items.{GrowsIn};
 ghost use Rattle.pcap_ng.specs.Blocks.{MayGrow, block_format};
@@ -27,6 +28,7 @@ pub fn parse_part<'a>(
 ) -> ResultParsing<PcapRun<'a>>
     ensures runs { IfOk result (λ run. IsPartRun header part.now run) }
     ensures borrowed { IfOk result (λ run. All (λ packet. IsBorrowed packet.data_) run.packets.items) }
+    ensures valid { IfOk result (λ _. IsWritable header) }
     ensures refused { IfErr result (RefusesPart header part.now) }
 {
     let mut parser = PcapParser::with_header(header)?;

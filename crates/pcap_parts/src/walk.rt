@@ -1,11 +1,13 @@
 //! A walk over the blocks of a capture that keeps the places of what is in force.
 
 ghost use Rattle.pcap_core.specs.Answer.{Refuses, whole, lacks, faulty};
+ghost use Rattle.pcap_core.specs.Errors.{IsMemory};
 ghost use Rattle.pcap_ng.specs.Blocks.{Item, BlockSays, block_format};
 ghost use Rattle.pcap_ng.specs.Parser.{state_of};
 ghost use Rattle.pcap_parts.specs.NgParts.{GoesOn, IsWalked};
 ghost use Rattle.pcap_parts.specs.Parts.{Passes};
-ghost use Rattle.std.specs.Prelude.{◌≡◌, ◌≤◌, ◌+◌, ⊤, length, drop, IfOk, IfErr, IfNone};
+ghost use Rattle.pcap_parts.specs.Places.{IsPlaced};
+ghost use Rattle.std.specs.Prelude.{◌≡◌, ◌≤◌, ◌+◌, ◌⊎◌, ⊤, length, drop, IfOk, IfErr, IfNone};
 
 use crate::blocks::rest_or_memory;
 use crate::skip::{Passed, rest_of_all};
@@ -31,9 +33,13 @@ impl Walk {
     fn pass<'a>(&mut self, bytes: &[u8], left: &'a [u8]) -> ResultParsing<&'a [u8]>
         requires walked { IsWalked bytes.now left.now (state_of self.old.parser) self.old.header (drop self.old.first self.old.interfaces.items) }
         requires within { self.old.first ≤ length self.old.interfaces.items }
+        requires placed { IsPlaced bytes.now left.now (state_of self.old.parser) self.old.header self.old.first self.old.interfaces.items }
         ensures walked { IfOk result
             (λ after. IsWalked bytes.now after.now (state_of self.new.parser) self.new.header (drop self.new.first self.new.interfaces.items)) }
         ensures within { IfOk result (λ _. self.new.first ≤ length self.new.interfaces.items) }
+        ensures placed { IfOk result (λ after. IsPlaced bytes.now after.now (state_of self.new.parser) self.new.header self.new.first self.new.interfaces.items) }
+        ensures stays { IfErr result
+            (λ error. IsMemory error ⊎ IsPlaced bytes.now left.now (state_of self.new.parser) self.new.header self.new.first self.new.interfaces.items) }
         ensures goes_on { GoesOn self.old.interfaces.items self.new.interfaces.items }
         ensures passes { IfOk result
             (λ after. (item : Item) × BlockSays (state_of self.old.parser) left.now (whole item after.now) × (item.after ≡ state_of self.new.parser)) }
@@ -65,9 +71,11 @@ impl Walk {
     ) -> Result<Passed<'a>, AllocError>
         requires walked { IsWalked bytes.now slice.now (state_of self.old.parser) self.old.header (drop self.old.first self.old.interfaces.items) }
         requires within { self.old.first ≤ length self.old.interfaces.items }
+        requires placed { IsPlaced bytes.now slice.now (state_of self.old.parser) self.old.header self.old.first self.old.interfaces.items }
         ensures walked { IfOk result
             (λ x. IfNone x.rest (IsWalked bytes.now x.after.now (state_of self.new.parser) self.new.header (drop self.new.first self.new.interfaces.items))) }
         ensures within { IfOk result (λ x. IfNone x.rest (self.new.first ≤ length self.new.interfaces.items)) }
+        ensures placed { IfOk result (λ x. IsPlaced bytes.now x.after.now (state_of self.new.parser) self.new.header self.new.first self.new.interfaces.items) }
         ensures goes_on { GoesOn self.old.interfaces.items self.new.interfaces.items }
         ensures passes { IfOk result (λ x. Passes block_format (state_of self.old.parser) slice.now x.after.now at_least x.items x.rest) }
         ensures few { IfOk result (λ x. x.items + length x.after.now ≤ length slice.now) }

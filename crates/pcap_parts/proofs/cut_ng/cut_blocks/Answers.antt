@@ -1,4 +1,4 @@
-use Rattle.std.proofs.Common.{◌≡◌, ◌<◌, ◌≤◌, ◌∷◌, [], length, drop, refl, sym, arith, rules}
+use Rattle.std.proofs.Common.{◌≡◌, ◌<◌, ◌≤◌, ◌+◌, ◌∷◌, [], length, drop, refl, sym, arith, rules}
 use Rattle.std.specs.Prelude.{None}
 use Rattle.std.proofs.lemmas.List.{map-append}
 use Rattle.pcap_ng.specs.Blocks.{block_format}
@@ -9,6 +9,8 @@ use Rattle.pcap_parts.specs.NgParts.{IsWalked, ResumesAt, bounds_of}
 use Rattle.pcap_parts.proofs.Parted.{parted_begin, parted_enough, parted_more, parted_stops}
 use Rattle.pcap_parts.proofs.Cutting.{each_push}
 use Rattle.pcap_parts.proofs.Walking.{all_resume_further, passes_behind, place_of, resumes_here}
+use Rattle.pcap_parts.specs.Places.{IsPlaced, TellsPlaces}
+use Rattle.pcap_parts.proofs.Placing.{all_tell_further, stand_before, tell_all, tells_here}
 use Rattle.pcap_parts.proofs.cut_ng.cut_blocks.Goals as goal
 
 pub overflow_sub-bytes : goal.overflow_sub-bytes
@@ -26,10 +28,15 @@ loop-wanted-init c =
     let here : ResumesAt bytes walk.interfaces.items q s cut =
     resumes_here bytes q s s q walk.interfaces.items [] walk.header (drop walk.first walk.interfaces.items) cut c.requires.walked walked refl (sym c.cut_at.ensures.at.1)
     (omega (arith, c.cut_at.ensures.at.0, fits)) (omega (arith, c.cut_at.ensures.interfaces.0, c.requires.within)) (omega (arith, c.cut_at.ensures.interfaces.0, c.cut_at.ensures.interfaces.1)) in
+    let placed : IsPlaced bytes s q cut.header cut.first walk.interfaces.items = rw (c.cut_at.ensures.header, c.cut_at.ensures.interfaces.0) c.requires.placed in
+    let tells = tells_here bytes s walk.interfaces.items q cut placed (omega (arith, c.cut_at.ensures.at.0, fits)) (omega (arith, c.cut_at.ensures.interfaces.0, c.cut_at.ensures.interfaces.1)) in
     record {
       so_far = rw (c.in_ok-push.ensures.items, c.new-cuts.ensures.items) (parted_begin block_format blocks_lawful q s (length bytes) fits c.args.parting c.requires.some cut.at c.cut_at.ensures.at.0 c.cut_at.ensures.at.1);
       walked = c.requires.walked;
       inside = c.requires.within;
+      placed = c.requires.placed;
+      before = rw (c.in_ok-push.ensures.items, c.new-cuts.ensures.items) (omega (arith, c.cut_at.ensures.at.0, fits), tt);
+      each = rw (c.in_ok-push.ensures.items, c.new-cuts.ensures.items) (tells, tt);
       resume = rw (c.in_ok-push.ensures.items, c.new-cuts.ensures.items) (here, tt);
     }
 
@@ -85,10 +92,16 @@ loop-wanted-preserved c =
     resumes_here bytes q s after (state_of then.parser) then.interfaces.items more.cutting.items walk.header (drop walk.first walk.interfaces.items) x c.requires.walked there more.cutting.texts (omega (arith, more.cutting.count, at.at.1))
     (omega (arith, at.at.0, (place_of bytes after walked.items walked.texts).1)) (omega (arith, at.interfaces.0, inside)) (omega (arith, at.interfaces.0, at.interfaces.1)) in
     let before = all_resume_further bytes q s now.interfaces.items then.interfaces.items cuts c.skip.ensures.goes_on inv.resume in
+    let told = all_tell_further bytes q s now.interfaces.items then.interfaces.items cuts c.skip.ensures.goes_on inv.resume inv.each in
+    let place : x.at.offset + length after ≡ length bytes = omega (arith, at.at.0, (place_of bytes after walked.items walked.texts).1) in
+    let placed : IsPlaced bytes after (state_of then.parser) x.header x.first then.interfaces.items = rw (at.header, at.interfaces.0) tells.placed in
     record {
       so_far = rw (c.in_ok-push-2.ensures.items, map-append (λ (k : NgCut). k.at) cuts (x ∷ [])) more;
       walked = walked;
       inside = inside;
+      placed = tells.placed;
+      before = rw c.in_ok-push-2.ensures.items (each_push (λ (k : NgCut). k.at.offset + length after ≤ length bytes) cuts x (stand_before bytes left after cuts (omega (arith, tells.few)) inv.before) (omega (arith, place)));
+      each = rw c.in_ok-push-2.ensures.items (each_push (TellsPlaces bytes then.interfaces.items) cuts x told (tells_here bytes after then.interfaces.items (state_of then.parser) x placed place (omega (arith, at.interfaces.0, at.interfaces.1))));
       resume = rw c.in_ok-push-2.ensures.items (each_push (ResumesAt bytes then.interfaces.items q s) cuts x before one);
     }
 
@@ -98,3 +111,21 @@ returns-clause-asked c =
     let fits = (place_of bytes c.args.slice.now c.requires.walked.items c.requires.walked.texts).1 in
     parted_enough block_format blocks_lawful (state_of c.args.walk.now.parser) c.args.slice.now (length bytes) fits c.args.parting c.loop-wanted.left.now c.loop-wanted.before (bounds_of c.loop-wanted.cuts.items)
     c.loop-wanted.invariant.so_far c.in_default.ensures
+
+pub returns-then-is_some-clause-places : goal.returns-then-is_some-clause-places
+returns-then-is_some-clause-places c =
+    let bytes = c.args.bytes.now in
+    let now = c.loop-wanted.walk in
+    let then = c.skip.new.self in
+    let inv = c.loop-wanted.invariant in
+    let cuts = c.loop-wanted.cuts.items in
+    let after = c.in_ok-items.field-0.after.now in
+    tell_all bytes after (state_of then.parser) then.header then.first then.interfaces.items cuts c.in_ok-items.ensures.placed
+    (stand_before bytes c.loop-wanted.left.now after cuts (omega (arith, c.in_ok-items.ensures.few)) inv.before)
+    (all_tell_further bytes (state_of c.args.walk.now.parser) c.args.slice.now now.interfaces.items then.interfaces.items cuts c.skip.ensures.goes_on inv.resume inv.each)
+
+pub returns-clause-places : goal.returns-clause-places
+returns-clause-places c =
+    let now = c.loop-wanted.walk in
+    let inv = c.loop-wanted.invariant in
+    tell_all c.args.bytes.now c.loop-wanted.left.now (state_of now.parser) now.header now.first now.interfaces.items c.loop-wanted.cuts.items inv.placed inv.before inv.each

@@ -5,6 +5,8 @@ use Rattle.pcap_ng.specs.Blocks.{item_of}
 use Rattle.pcap_ng.specs.Parser.{interfaces_in_force, section_in_force, state_of}
 use Rattle.pcap_parts.specs.NgParts.{IsWalked}
 use Rattle.pcap_parts.proofs.Walking.{goes_nowhere, not_kept, other_stays, place_of, slice_bytes, walked_interface, walked_other, walked_section}
+use Rattle.pcap_parts.proofs.Placing.{no_interface, no_section, placed_interface, placed_other, placed_section}
+use Rattle.pcap_parts.specs.Places.{IsPlaced}
 use Rattle.pcap_parts.proofs.walk.Walk.pass.Goals as goal
 
 pub overflow_sub-place : goal.overflow_sub-place
@@ -46,3 +48,33 @@ returns-clause-walked c =
 
 pub returns-clause-goes_on : goal.returns-clause-goes_on
 returns-clause-goes_on c = goes_nowhere c.args.self.now.interfaces.items
+
+pub returns-in-SectionHeader-clause-placed : goal.returns-in-SectionHeader-clause-placed
+returns-in-SectionHeader-clause-placed c =
+    let self = c.args.self.now in
+    let places = self.interfaces.items in
+    let item = item_of (state_of c.next_block.new.self) c.in_ok-after.block in
+    let all : c.len-self.result ≡ length places = search rules in
+    let here = length c.args.bytes.now - length c.args.left.now in
+    let after = c.in_ok-after.after.now in
+    subst (λ (n : ℕ). IsPlaced c.args.bytes.now after (state_of c.next_block.new.self) here n places) (sym all)
+    (placed_section c.args.bytes.now c.args.left.now after (state_of self.parser) self.header self.first places item c.requires.placed c.in_ok-after.ensures.tells c.in-SectionHeader.is)
+
+pub returns-in-InterfaceDescription-clause-placed : goal.returns-in-InterfaceDescription-clause-placed
+returns-in-InterfaceDescription-clause-placed c =
+    let self = c.args.self.now in
+    let item = item_of (state_of c.next_block.new.self) c.in_ok-after.block in
+    rw c.in_ok-push-in-InterfaceDescription.ensures.items
+    (placed_interface c.args.bytes.now c.args.left.now c.in_ok-after.after.now (state_of self.parser) self.header self.first self.interfaces.items item c.requires.placed c.in_ok-after.ensures.tells c.requires.within
+    c.in-InterfaceDescription.is)
+
+pub returns-clause-placed : goal.returns-clause-placed
+returns-clause-placed c =
+    let self = c.args.self.now in
+    let item = item_of (state_of c.next_block.new.self) c.in_ok-after.block in
+    let type = c.in_ok-after.block.type_ in
+    placed_other c.args.bytes.now c.args.left.now c.in_ok-after.after.now (state_of self.parser) self.header self.first self.interfaces.items item c.requires.placed c.in_ok-after.ensures.tells
+    (no_section type c.in_default.not-SectionHeader) (no_interface type c.in_default.not-InterfaceDescription)
+
+pub returns-in_err-push-in-InterfaceDescription-clause-goes_on : goal.returns-in_err-push-in-InterfaceDescription-clause-goes_on
+returns-in_err-push-in-InterfaceDescription-clause-goes_on c = rw c.in_err-push-in-InterfaceDescription.ensures.items (goes_nowhere c.args.self.now.interfaces.items)

@@ -4,7 +4,8 @@ use Rattle.pcap_ng.specs.Blocks.{block_format}
 use Rattle.pcap_ng.specs.Parser.{state_of}
 use Rattle.pcap_ng.proofs.BlockFormat.{blocks_lawful}
 use Rattle.pcap_parts.specs.NgParts.{IsWalked, rest_or_memory_of}
-use Rattle.pcap_parts.proofs.Passing.{passing_ends, passing_more, passing_none, passing_rest, rest_is}
+use Rattle.pcap_parts.specs.Places.{IsPlaced}
+use Rattle.pcap_parts.proofs.Passing.{but_for_memory, passing_ends, passing_more, passing_none, passing_rest, rest_is}
 use Rattle.pcap_parts.proofs.Walking.{goes_further, goes_nowhere, on_none}
 use Rattle.pcap_parts.proofs.walk.Walk.skip.Goals as goal
 
@@ -13,6 +14,7 @@ loop-after-init c = record {
   passing = passing_none block_format blocks_lawful (state_of c.args.self.now.parser) c.args.slice.now c.args.at_least;
   walked = c.requires.walked;
   within = c.requires.within;
+  placed = c.requires.placed;
   goes_on = goes_nowhere c.args.self.now.interfaces.items;
 }
 
@@ -26,6 +28,7 @@ loop-after-preserved c =
           c.in-Ok.next.now c.loop-after.items inv.passing passes.1 passes.2 (omega (arith, c.loop-after-test.true, c.saturating_sub-most_left.ensures));
       walked = c.in-Ok.ensures.walked;
       within = c.in-Ok.ensures.within;
+      placed = c.in-Ok.ensures.placed;
       goes_on = goes_further c.args.self.now.interfaces.items c.loop-after.self.interfaces.items c.pass.new.self.interfaces.items inv.goes_on c.pass.ensures.goes_on;
     }
 
@@ -52,3 +55,9 @@ pub returns-clause-walked : goal.returns-clause-walked
 returns-clause-walked c =
     let self = c.loop-after.self in
     on_none (IsWalked c.args.bytes.now c.loop-after.after.now (state_of self.parser) self.header (drop self.first self.interfaces.items)) c.loop-after.invariant.walked c.rest_of_all.result
+
+pub returns-in-Err-clause-placed : goal.returns-in-Err-clause-placed
+returns-in-Err-clause-placed c =
+    let then = c.pass.new.self in
+    let told : rest_or_memory_of c.in-Err.error ≡ Ok c.in_ok-rest_or_memory-in-Err.field-0 = search rules in
+    but_for_memory (IsPlaced c.args.bytes.now c.loop-after.after.now (state_of then.parser) then.header then.first then.interfaces.items) c.in-Err.error c.in_ok-rest_or_memory-in-Err.field-0 c.in-Err.ensures.stays told
