@@ -1,5 +1,6 @@
 -- Where the blocks of a walk stand.
-use Rattle.std.proofs.Common.{◌≡◌, ◌≤◌, ◌+◌, ◌-◌, ℕ, List, [], ◌∷◌, ◌++◌, length, map, take, drop, refl, sym, ap, subst, ◌∙◌, arith, length-append, append-nil, append_assoc, length-drop, Bool, true, false}
+use Rattle.std.proofs.Common.{◌≡◌, ◌≤◌, ◌+◌, ◌-◌, ℕ, List, [], ◌∷◌, ◌++◌, length, map, take, drop, Bool, true, false}
+use Rattle.std.proofs.Common.{refl, sym, ap, subst, ◌∙◌, arith, length-append, append-nil, append_assoc, length-drop}
 use Rattle.std.specs.Prelude.{if◌then◌else◌}
 use Rattle.std.specs.List.{AllByRecursion}
 use Rattle.std.proofs.lemmas.List.{drop-append-le, drop_all, map-append, take-append-le, take_all}
@@ -32,7 +33,9 @@ block_bytes : (e : Endianness) (b : Framed) (s rest : List ℕ) → FrameText e 
 block_bytes e b s rest t =
     let tail = t.tail in
     let sum : length t.after ≡ length b.body + length tail.after_body = ap length tail.body_is ∙ length-append b.body tail.after_body in
-    omega (arith, head_long e t.number b.initial_len b.endianness s t.after t.head, sum, tail.length_is, number_long (number_in b.endianness) 4 b.trailer_len tail.after_body rest tail.trailer_is)
+    let head : length s ≡ 8 + length t.after = head_long e t.number b.initial_len b.endianness s t.after t.head in
+    let last : length tail.after_body ≡ 4 + length rest = number_long (number_in b.endianness) 4 b.trailer_len tail.after_body rest tail.trailer_is in
+    omega (arith, head, sum, tail.length_is, last)
 
 -- blocks take the bytes before what is left
 blocks_bytes : (q : State) (items : List Item) (s rest : List ℕ) → Texts block_format q items s rest → length s ≡ bytes_of (map block_in items) + length rest
@@ -46,7 +49,8 @@ bytes_all [] cs = omega arith
 bytes_all (b ∷ bs) cs = omega (arith, bytes_all bs cs)
 
 -- one more block is an interface description behind those before it, or none
-interfaces_push : (place : ℕ) (bs : List Framed) (b : Framed) → interfaces_from place (bs ++ b ∷ []) ≡ interfaces_from place bs ++ one_at (is_interface b.type_) (place + bytes_of bs)
+interfaces_push : (place : ℕ) (bs : List Framed) (b : Framed)
+    → interfaces_from place (bs ++ b ∷ []) ≡ interfaces_from place bs ++ one_at (is_interface b.type_) (place + bytes_of bs)
 interfaces_push place [] b =
     let here : place ≡ place + 0 = omega arith in
     append-nil (one_at (is_interface b.type_) place) ∙ ap (λ (n : ℕ). one_at (is_interface b.type_) n) here
@@ -84,7 +88,8 @@ stands_push blocks b header first places x none =
     }
 
 -- a section header alone is in force
-stands_alone : (blocks : List Framed) (b : Framed) (header first : ℕ) (places : List ℕ) → is_section b.type_ ≡ true → header ≡ bytes_of blocks → first ≡ length (interfaces_from 0 blocks) → places ≡ []
+stands_alone : (blocks : List Framed) (b : Framed) (header first : ℕ) (places : List ℕ) → is_section b.type_ ≡ true → header ≡ bytes_of blocks
+    → first ≡ length (interfaces_from 0 blocks) → places ≡ []
     → StandsInForce (blocks ++ b ∷ []) header first places
 stands_alone blocks b header first places is here count none = record {
   before = blocks;
@@ -110,7 +115,8 @@ pub no_interface : (t : BlockType) → (t ≡ types.InterfaceDescription → ⊥
 no_interface types.InterfaceDescription none = absurd (none refl)
 no_interface _ none = refl
 
-module _ (bytes left after : List ℕ) (q : State) (header first : ℕ) (places : List ℕ) (item : Item) (placed : IsPlaced bytes left q header first places) (text : BlockSays q left (whole item after)) where
+module _ (bytes left after : List ℕ) (q : State) (header first : ℕ) (places : List ℕ) (item : Item)
+    (placed : IsPlaced bytes left q header first places) (text : BlockSays q left (whole item after)) where
   abbrev blocks : List Framed
   blocks = map block_in placed.items
 
@@ -123,13 +129,16 @@ module _ (bytes left after : List ℕ) (q : State) (header first : ℕ) (places 
   placed_to : (header_now first_now : ℕ) (now : List ℕ) → StandsInForce (blocks ++ item.block ∷ []) header_now first_now (drop first_now now)
       → now ≡ places ++ one_at (is_interface item.block.type_) (bytes_of blocks) → IsPlaced bytes after item.after header_now first_now now
   unfolding block_format
-  placed_to header_now first_now now stands is = record {
-    items = placed.items ++ item ∷ [];
-    texts = texts_push block_format opening placed.items item bytes left after placed.texts (subst (λ (p : State). block_format.says p left (whole item after)) (sym placed.leads) text);
-    leads = state_push block_format opening placed.items item;
-    in_force = subst (λ (l : List Framed). StandsInForce l header_now first_now (drop first_now now)) (sym more) stands;
-    all = is ∙ ap (λ (l : List ℕ). l ++ one_at (is_interface item.block.type_) (bytes_of blocks)) placed.all ∙ sym (all_push blocks item.block) ∙ ap (λ (l : List Framed). interfaces_from 0 l) (sym more);
-  }
+  placed_to header_now first_now now stands is =
+      let here = subst (λ (p : State). block_format.says p left (whole item after)) (sym placed.leads) text in
+      let known = ap (λ (l : List ℕ). l ++ one_at (is_interface item.block.type_) (bytes_of blocks)) placed.all in
+      record {
+        items = placed.items ++ item ∷ [];
+        texts = texts_push block_format opening placed.items item bytes left after placed.texts here;
+        leads = state_push block_format opening placed.items item;
+        in_force = subst (λ (l : List Framed). StandsInForce l header_now first_now (drop first_now now)) (sym more) stands;
+        all = is ∙ known ∙ sym (all_push blocks item.block) ∙ ap (λ (l : List Framed). interfaces_from 0 l) (sym more);
+      }
 
   -- a section header is in force at its place
   pub placed_section : item.block.type_ ≡ types.SectionHeader → IsPlaced bytes after item.after (length bytes - length left) (length places) places
@@ -137,12 +146,15 @@ module _ (bytes left after : List ℕ) (q : State) (header first : ℕ) (places 
       let section : is_section item.block.type_ ≡ true = ap is_section is in
       let none : is_interface item.block.type_ ≡ false = ap is_interface is in
       let nothing : one_at (is_interface item.block.type_) (bytes_of blocks) ≡ [] = ap (λ (b : Bool). one_at b (bytes_of blocks)) none in
-      placed_to (length bytes - length left) (length places) places
-      (stands_alone blocks item.block (length bytes - length left) (length places) (drop (length places) places) section here (ap length placed.all) (drop_all (length places) places (omega arith)))
+      let place = length bytes - length left in
+      let count = length places in
+      placed_to place count places
+      (stands_alone blocks item.block place count (drop count places) section here (ap length placed.all) (drop_all count places (omega arith)))
       (sym (ap (λ (l : List ℕ). places ++ l) nothing ∙ append-nil places))
 
   -- an interface is in force at its place
-  pub placed_interface : first ≤ length places → item.block.type_ ≡ types.InterfaceDescription → IsPlaced bytes after item.after header first (places ++ (length bytes - length left) ∷ [])
+  pub placed_interface : first ≤ length places → item.block.type_ ≡ types.InterfaceDescription
+      → IsPlaced bytes after item.after header first (places ++ (length bytes - length left) ∷ [])
   placed_interface inside is =
       let section : is_section item.block.type_ ≡ false = ap is_section is in
       let one : one_at (is_interface item.block.type_) (bytes_of blocks) ≡ (length bytes - length left) ∷ [] =
@@ -151,16 +163,19 @@ module _ (bytes left after : List ℕ) (q : State) (header first : ℕ) (places 
       let there : drop first places ++ one_at (is_interface item.block.type_) (bytes_of blocks) ≡ drop first (places ++ place) =
       ap (λ (l : List ℕ). drop first places ++ l) one ∙ sym (drop-append-le first places place inside) in
       placed_to header first (places ++ place)
-      (subst (λ (l : List ℕ). StandsInForce (blocks ++ item.block ∷ []) header first l) there (stands_push blocks item.block header first (drop first places) placed.in_force section))
+      (subst (λ (l : List ℕ). StandsInForce (blocks ++ item.block ∷ []) header first l) there
+      (stands_push blocks item.block header first (drop first places) placed.in_force section))
       (ap (λ (l : List ℕ). places ++ l) (sym one))
 
   -- any other block leaves what is in force
   pub placed_other : is_section item.block.type_ ≡ false → is_interface item.block.type_ ≡ false → IsPlaced bytes after item.after header first places
   placed_other section none =
       let nothing : one_at (is_interface item.block.type_) (bytes_of blocks) ≡ [] = ap (λ (b : Bool). one_at b (bytes_of blocks)) none in
-      let there : drop first places ++ one_at (is_interface item.block.type_) (bytes_of blocks) ≡ drop first places = ap (λ (l : List ℕ). drop first places ++ l) nothing ∙ append-nil (drop first places) in
+      let there : drop first places ++ one_at (is_interface item.block.type_) (bytes_of blocks) ≡ drop first places =
+      ap (λ (l : List ℕ). drop first places ++ l) nothing ∙ append-nil (drop first places) in
       placed_to header first places
-      (subst (λ (l : List ℕ). StandsInForce (blocks ++ item.block ∷ []) header first l) there (stands_push blocks item.block header first (drop first places) placed.in_force section))
+      (subst (λ (l : List ℕ). StandsInForce (blocks ++ item.block ∷ []) header first l) there
+      (stands_push blocks item.block header first (drop first places) placed.in_force section))
       (sym (ap (λ (l : List ℕ). places ++ l) nothing ∙ append-nil places))
 
 -- a list of one block has its section header there
@@ -189,10 +204,12 @@ placed_first bytes after q x =
 
 module _ (bytes : List ℕ) where
   -- where a walk stands, its places are those of the cut
-  pub tells_here : (left places : List ℕ) (p : State) (cut : NgCut) → IsPlaced bytes left p cut.header cut.first places → cut.at.offset + length left ≡ length bytes → cut.interfaces ≡ length places - cut.first
+  pub tells_here : (left places : List ℕ) (p : State) (cut : NgCut) → IsPlaced bytes left p cut.header cut.first places
+      → cut.at.offset + length left ≡ length bytes → cut.interfaces ≡ length places - cut.first
       → TellsPlaces bytes places cut
   tells_here left places p cut placed place all =
-      let these : places_at places cut ≡ drop cut.first places = take_all cut.interfaces (drop cut.first places) (omega (arith, all, length-drop cut.first places)) in
+      let these : places_at places cut ≡ drop cut.first places =
+      take_all cut.interfaces (drop cut.first places) (omega (arith, all, length-drop cut.first places)) in
       record {
         items = placed.items;
         rest = left;
@@ -201,10 +218,14 @@ module _ (bytes : List ℕ) where
         in_force = subst (λ (l : List ℕ). StandsInForce (map block_in placed.items) cut.header cut.first l) (sym these) placed.in_force;
       }
 
-  tells_further : (places now : List ℕ) (cut : NgCut) → GoesOn places now → cut.first + cut.interfaces ≤ length places → TellsPlaces bytes places cut → TellsPlaces bytes now cut
+  tells_further : (places now : List ℕ) (cut : NgCut) → GoesOn places now → cut.first + cut.interfaces ≤ length places → TellsPlaces bytes places cut
+      → TellsPlaces bytes now cut
   tells_further places now cut on inside x =
-      let behind : drop cut.first now ≡ drop cut.first places ++ on.0 = ap (λ (l : List ℕ). drop cut.first l) on.1 ∙ drop-append-le cut.first places on.0 (omega (arith, inside)) in
-      let these : places_at now cut ≡ places_at places cut = ap (λ (l : List ℕ). take cut.interfaces l) behind ∙ take-append-le cut.interfaces (drop cut.first places) on.0 (omega (arith, inside, length-drop cut.first places)) in
+      let behind : drop cut.first now ≡ drop cut.first places ++ on.0 =
+      ap (λ (l : List ℕ). drop cut.first l) on.1 ∙ drop-append-le cut.first places on.0 (omega (arith, inside)) in
+      let these : places_at now cut ≡ places_at places cut =
+      ap (λ (l : List ℕ). take cut.interfaces l) behind
+      ∙ take-append-le cut.interfaces (drop cut.first places) on.0 (omega (arith, inside, length-drop cut.first places)) in
       record {
         items = x.items;
         rest = x.rest;
@@ -214,18 +235,23 @@ module _ (bytes : List ℕ) where
       }
 
   -- the places of cuts stay where a list of places goes on
-  pub all_tell_further : (q : State) (s places now : List ℕ) (cuts : List NgCut) → GoesOn places now → AllByRecursion (ResumesAt bytes places q s) cuts → AllByRecursion (TellsPlaces bytes places) cuts
+  pub all_tell_further : (q : State) (s places now : List ℕ) (cuts : List NgCut) → GoesOn places now → AllByRecursion (ResumesAt bytes places q s) cuts
+      → AllByRecursion (TellsPlaces bytes places) cuts
       → AllByRecursion (TellsPlaces bytes now) cuts
   all_tell_further q s places now [] on resume all = tt
-  all_tell_further q s places now (c ∷ cs) on resume all = (tells_further places now c on resume.0.within all.0, all_tell_further q s places now cs on resume.1 all.1)
+  all_tell_further q s places now (c ∷ cs) on resume all =
+      (tells_further places now c on resume.0.within all.0, all_tell_further q s places now cs on resume.1 all.1)
 
   -- cuts stand before what is left, and before less
-  pub stand_before : (left after : List ℕ) (cuts : List NgCut) → length after ≤ length left → AllByRecursion (λ (cut : NgCut). cut.at.offset + length left ≤ length bytes) cuts
+  pub stand_before : (left after : List ℕ) (cuts : List NgCut) → length after ≤ length left
+      → AllByRecursion (λ (cut : NgCut). cut.at.offset + length left ≤ length bytes) cuts
       → AllByRecursion (λ (cut : NgCut). cut.at.offset + length after ≤ length bytes) cuts
   stand_before left after [] less all = tt
   stand_before left after (c ∷ cs) less all = (omega (arith, less, all.0), stand_before left after cs less all.1)
 
   -- where a walk ends, all places are told
   pub tell_all : (left : List ℕ) (p : State) (header first : ℕ) (places : List ℕ) (cuts : List NgCut) → IsPlaced bytes left p header first places
-      → AllByRecursion (λ (cut : NgCut). cut.at.offset + length left ≤ length bytes) cuts → AllByRecursion (TellsPlaces bytes places) cuts → TellAllPlaces bytes places cuts
-  tell_all left p header first places cuts placed far each = record { items = placed.items; rest = left; texts = placed.texts; all = placed.all; as_far = far; each = each }
+      → AllByRecursion (λ (cut : NgCut). cut.at.offset + length left ≤ length bytes) cuts → AllByRecursion (TellsPlaces bytes places) cuts
+      → TellAllPlaces bytes places cuts
+  tell_all left p header first places cuts placed far each =
+      record { items = placed.items; rest = left; texts = placed.texts; all = placed.all; as_far = far; each = each }

@@ -37,7 +37,8 @@ impl Walk {
         ensures walked { IfOk result
             (λ after. IsWalked bytes.now after.now (state_of self.new.parser) self.new.header (drop self.new.first self.new.interfaces.items)) }
         ensures within { IfOk result (λ _. self.new.first ≤ length self.new.interfaces.items) }
-        ensures placed { IfOk result (λ after. IsPlaced bytes.now after.now (state_of self.new.parser) self.new.header self.new.first self.new.interfaces.items) }
+        ensures placed { IfOk result
+            (λ after. IsPlaced bytes.now after.now (state_of self.new.parser) self.new.header self.new.first self.new.interfaces.items) }
         ensures stays { IfErr result
             (λ error. IsMemory error ⊎ IsPlaced bytes.now left.now (state_of self.new.parser) self.new.header self.new.first self.new.interfaces.items) }
         ensures goes_on { GoesOn self.old.interfaces.items self.new.interfaces.items }
