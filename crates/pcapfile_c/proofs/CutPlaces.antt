@@ -48,8 +48,8 @@ cut_as_asked (AtLeast n) header cuts bytes after text front asked = record { aft
 
 -- the cuts of blocks fit into their places
 pub blocks_fit : (how : Parting) (cuts : NgCuts) (bytes : List ℕ) (places : ℕ) → CutsBlocks how bytes cuts → HasRoom how (length bytes) places → length cuts.cuts.items ≤ places
-blocks_fit (Equal parts) cuts bytes places (cut, fair) room = omega (arith, fair.fair.few, length-map cuts.cuts.items (λ (c : NgCut). c.at), room.0, room.1)
-blocks_fit (AtLeast n) cuts bytes places (cut, steps) room =
+blocks_fit (Equal parts) cuts bytes places (cut, fair, told) room = omega (arith, fair.fair.few, length-map cuts.cuts.items (λ (c : NgCut). c.at), room.0, room.1)
+blocks_fit (AtLeast n) cuts bytes places (cut, steps, told) room =
     let bounds = bounds_of cuts.cuts.items in
     let same = opening_same bytes steps.first cut.first steps.after cut.after steps.opens cut.opens in
     let all : AreCuts block_format steps.first steps.after (length bytes - length cut.after) (length bytes) bounds = rw (same.0, same.1) cut.cuts_are in

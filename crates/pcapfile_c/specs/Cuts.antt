@@ -10,6 +10,7 @@ use Rattle.pcap_parts.specs.declared.parting.Parting.{Parting}
 use Rattle.pcap_parts.specs.declared.parting.Parting.TheVariants.{Equal, AtLeast}
 use Rattle.pcap_parts.specs.Captures.{IsCut, IsCutAtLeast, IsCutFairly}
 use Rattle.pcap_parts.specs.NgParts.{IsNgCut, IsNgCutAtLeast, IsNgCutFairly}
+use Rattle.pcap_parts.specs.Places.{TellAllPlaces}
 use Rattle.pcapfile_values.specs.declared.errors.PcapfileError.{PcapfileError}
 use Rattle.pcapfile_values.specs.Refusals.{TellsRefusal, TellsRefusalWhere}
 
@@ -49,8 +50,10 @@ TellsCuts how bytes before after count error told status =
 
 -- these are the cuts of a PcapNg capture that are asked for, with the places of its interfaces
 abbrev pub CutsBlocks : Parting → List ℕ → NgCuts → Type 0
-CutsBlocks (Equal parts) bytes cuts = IsNgCut cuts bytes × IsNgCutFairly parts cuts.cuts.items bytes
-CutsBlocks (AtLeast n) bytes cuts = IsNgCut cuts bytes × IsNgCutAtLeast n cuts.cuts.items bytes
+CutsBlocks (Equal parts) bytes cuts =
+    IsNgCut cuts bytes × IsNgCutFairly parts cuts.cuts.items bytes × TellAllPlaces bytes cuts.interfaces.items cuts.cuts.items
+CutsBlocks (AtLeast n) bytes cuts =
+    IsNgCut cuts bytes × IsNgCutAtLeast n cuts.cuts.items bytes × TellAllPlaces bytes cuts.interfaces.items cuts.cuts.items
 
 -- There may be too few places for cuts, or the capture has more interfaces than there are places: so many, up to the last cut at
 -- least.
