@@ -14,7 +14,7 @@ use Rattle.pcap_classic.specs.PacketText.{RecordHeadText, LacksHead}
 use Rattle.pcap_classic.proofs.Stable.{head_more}
 use Rattle.pcap_tolerant.specs.declared.as_is.HeadAsIs.{HeadAsIs}
 use Rattle.pcap_tolerant.specs.AsIs.{raised, numbers_of, packet_with, HasLongHead, as_is_format}
-use Rattle.pcap_tolerant.specs.KnownHeads.{KnowsAsIs, held_as_is}
+use Rattle.pcap_tolerant.specs.KnownHeads.{KnowsAsIs, HoldsTaken, held_as_is}
 use Rattle.pcap_tolerant.specs.Run.{as_is_under}
 use Rattle.pcap_tolerant.proofs.AsIs.{as_is_lawful}
 
@@ -76,3 +76,11 @@ module _ (limit : ℕ) (header : PcapHeader) where
   as_is_held before after held failed (Ok (Some head)) x = (x.0, (held, held_stands head held x.1, x.4))
   as_is_held before after held failed (Ok None) x = (x.0, x.2, x.3)
   as_is_held before after held failed (Err e) x = x
+
+  -- and it is what is held
+  pub as_is_text : (before after : Option (List ℕ)) (held : List ℕ) (failed : Bool) (result : Result (Option HeadAsIs) PcapError)
+      → FillsHeaded ((as_is_under limit header).says tt) (KnowsAsIs limit header) ((as_is_under limit header).head tt) before after held failed result
+      → HoldsTaken ((as_is_under limit header).says tt) (held_as_is held) before after held result
+  as_is_text before after held failed (Ok (Some head)) x = (held_stands head held x.1, x.4)
+  as_is_text before after held failed (Ok None) x = x.1
+  as_is_text before after held failed (Err e) x = tt

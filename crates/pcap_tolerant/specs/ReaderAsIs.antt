@@ -1,6 +1,7 @@
 -- What a reader of packets as they stand shows.
-use Rattle.std.specs.Prelude.{◌≡◌, ◌⊎◌, ℕ, List, [], drop, Bool, false, Option, Result, Ok, Err}
+use Rattle.std.specs.Prelude.{◌≡◌, ◌⊎◌, ⊤, ℕ, List, [], drop, Bool, false, Option, None, Some, Result, Ok, Err}
 use Rattle.pcap_core.specs.declared.errors.PcapError.{PcapError}
+use Rattle.pcap_core.specs.Answer.{Verdict}
 use Rattle.pcap_core.specs.Errors.{IsIo}
 use Rattle.pcap_core.specs.Faults.{Shows}
 use Rattle.pcap_items.specs.Fill.{held_of as held_in, stream_of as source_of, has_failed as source_failed}
@@ -11,6 +12,7 @@ use Rattle.pcap_classic.specs.Parser.{header_of}
 use Rattle.pcap_tolerant.specs.declared.as_is.HeadAsIs.{HeadAsIs}
 use Rattle.pcap_tolerant.specs.declared.reader.ReaderAsIs.{ReaderAsIs}
 use Rattle.pcap_tolerant.specs.AsIs.{AsIs, packet_with}
+use Rattle.pcap_tolerant.specs.KnownHeads.{TakesText}
 
 -- the stream behind a reader
 abbrev pub stream_of : {T : Type 0} → ReaderAsIs T → T
@@ -43,6 +45,13 @@ data_of reader = drop 16 (held_of reader)
 -- the packet of this head and the data that a reader lends
 abbrev pub lent_packet : {T : Type 0} → ReaderAsIs T → HeadAsIs → AsIs
 lent_packet reader head = packet_with head (data_of reader)
+
+-- where a call gave a packet, these bytes are its text, head and data, and exactly they were taken; where the stream ended, there are none
+abbrev pub HoldsGiven : {X V : Type 0} → (List ℕ → Verdict V → Type 0)
+    → (X → V) → Option (List ℕ) → Option (List ℕ) → List ℕ → Option (Result X PcapError) → Type 0
+HoldsGiven IsSaid view before after text (Some (Ok x)) = TakesText IsSaid before after text (view x)
+HoldsGiven IsSaid view before after text (Some (Err e)) = ⊤
+HoldsGiven IsSaid view before after text None = text ≡ []
 
 -- one call that makes a reader: the header's text was taken and no more, and nothing failed; or a read failed or the stream
 -- ended early, or the header is refused

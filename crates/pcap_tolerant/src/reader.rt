@@ -6,7 +6,7 @@ ghost use Rattle.pcap_items.specs.Reading.{NextGives, Pulls};
 ghost use Rattle.pcap_classic.specs.Magic.{order_of, resolution_of};
 ghost use Rattle.pcap_classic.specs.Parser.{header_of};
 ghost use Rattle.pcap_tolerant.specs.AsIs.{as_it_is};
-ghost use Rattle.pcap_tolerant.specs.KnownHeads.{held_as_is};
+ghost use Rattle.pcap_tolerant.specs.KnownHeads.{held_as_is, HoldsTaken};
 ghost use Rattle.pcap_tolerant.specs.Run.{as_is_under};
 
 use crate::as_is::{HeadAsIs, PacketAsIs};
@@ -45,12 +45,13 @@ fn hold<T: Read>(
     requires unfailed { source_failed fill.old ≡ false }
     ensures pulls { Pulls ((as_is_under limit (header_of parser.now)).says tt) (held_as_is (held_in fill.new)) (T.remaining (source_of fill.old)) (T.remaining (source_of fill.new)) (source_failed fill.new) result }
     ensures none { IfOk result (λ head. IfNone head (held_in fill.new ≡ [])) }
+    ensures text { HoldsTaken ((as_is_under limit (header_of parser.now)).says tt) (held_as_is (held_in fill.new)) (T.remaining (source_of fill.old)) (T.remaining (source_of fill.new)) (held_in fill.new) result }
 {
     fill.item(&PacketsAsIs { parser, limit })
 }
 
 impl<T: Read + Drop> ReaderAsIs<T> {
-    ghost use Rattle.pcap_tolerant.specs.ReaderAsIs.{stream_of, header_read, limit_of, has_failed, is_done, data_of, lent_packet, OpensAsIs};
+    ghost use Rattle.pcap_tolerant.specs.ReaderAsIs.{stream_of, header_read, limit_of, has_failed, is_done, held_of, data_of, lent_packet, HoldsGiven, OpensAsIs};
 
     /// Reads the header of a capture off a stream, and makes a reader of the packets behind it. A refused call drops the stream.
     ///
@@ -72,6 +73,7 @@ impl<T: Read + Drop> ReaderAsIs<T> {
         ensures limit { limit_of self.new ≡ limit_of self.old }
         ensures next { NextGives ((as_is_under (limit_of self.old) (header_read self.old)).says tt) (lent_packet self.new) (T.remaining (stream_of self.old)) (T.remaining (stream_of self.new)) (is_done self.old) (is_done self.new) (has_failed self.old) (has_failed self.new) result }
         ensures let_go { IfNone result (data_of self.new ≡ []) }
+        ensures text { HoldsGiven ((as_is_under (limit_of self.old) (header_read self.old)).says tt) (lent_packet self.new) (T.remaining (stream_of self.old)) (T.remaining (stream_of self.new)) (held_of self.new) result }
     {
         self.fill.clear();
         if self.is_done {
