@@ -1,9 +1,12 @@
 -- Blocks as they stand of a capture that comes in pieces.
-use Rattle.std.proofs.Common.{◌≡◌, ◌≤◌, ℕ, List, [], ◌∷◌, length, map, refl, sym, ap, subst, ◌∙◌, arith, inl, inr}
+use Rattle.std.proofs.Common.{◌≡◌, ◌≤◌, ℕ, List, [], ◌∷◌, length, map, refl, sym, ap, subst, ◌∙◌, arith, inl, inr, Bool, true}
 use Rattle.std.specs.Prelude.{sum_by}
 use Rattle.std.proofs.lemmas.List.{length-map}
 use Rattle.pcap_items.specs.declared.rest.Rest.{Rest}
+use Rattle.pcap_core.specs.declared.common.CowBytes.{CowBytes}
+use Rattle.pcap_core.specs.declared.common.CowBytes.TheVariants.{Borrowed, Owned}
 use Rattle.pcap_core.specs.Answer.{whole}
+use Rattle.pcap_core.specs.Bytes.{IsOwned}
 use Rattle.pcap_items.specs.Format.{IsLawful, Texts, state_after}
 use Rattle.pcap_items.specs.Items.{LeadsTo}
 use Rattle.pcap_items.specs.Pieces.{HoldsItems, IsFedUpTo, IsOpening, OpensNone}
@@ -13,7 +16,7 @@ use Rattle.pcap_items.proofs.Showing.{rest_no_text}
 use Rattle.pcap_tolerant_captures.specs.declared.block.BlockAsIs.{BlockAsIs}
 use Rattle.pcap_tolerant_captures.specs.declared.parser.OpenedAsIs.{OpenedAsIs}
 use Rattle.pcap_tolerant_captures.specs.Blocks.{Item, AsIsSays, as_is_format}
-use Rattle.pcap_tolerant_captures.specs.Pieces.{FirstSays, HoldsBlocksAsIs, Kept, kept_by, kept_format, kept_of}
+use Rattle.pcap_tolerant_captures.specs.Pieces.{FirstSays, HoldsBlocksAsIs, Kept, is_owned, kept_by, kept_format, kept_of}
 use Rattle.pcap_tolerant_captures.specs.Run.{Seen, seen_in, seen_of, size_of, NgFrontAsIs}
 use Rattle.pcap_tolerant_captures.specs.State.{State, opening, state_of}
 use Rattle.pcap_tolerant_captures.proofs.FirstFlaw.{blocks_size, item_front}
@@ -46,6 +49,18 @@ state_kept q (item ∷ items) = state_kept (kept_format.goes q item) items
 first_kept : (q : Kept) (items : List Item) → (state_after kept_format q items).first ≡ q.first
 first_kept q [] = refl
 first_kept q (item ∷ items) = first_kept (kept_format.goes q item) items
+
+owned_kept : (q : Kept) (items : List Item) → (state_after kept_format q items).owned ≡ q.owned
+owned_kept q [] = refl
+owned_kept q (item ∷ items) = owned_kept (kept_format.goes q item) items
+
+pub owned_true : (bytes : CowBytes) → IsOwned bytes → is_owned bytes ≡ true
+owned_true (Borrowed s) owned = absurd owned
+owned_true (Owned v) owned = refl
+
+true_owned : (bytes : CowBytes) → is_owned bytes ≡ true → IsOwned bytes
+true_owned (Borrowed s) owned = absurd cc
+true_owned (Owned v) owned = tt
 
 texts_kept : (q : Kept) (items : List Item) (s rest : List ℕ) → Texts kept_format q items s rest → Texts as_is_format q.state items s rest
 texts_kept q [] s rest texts = texts
@@ -98,3 +113,8 @@ module _ (s : List ℕ) (opened : OpenedAsIs) (blocks : List BlockAsIs) (used : 
 
   pub fed_used : sum_by size_of (opened.first ∷ blocks) ≤ used
   fed_used = omega (arith, blocks_size (state_of opened.parser) (opened.first ∷ blocks) s x.left fed_front, x.used_is)
+
+  pub fed_owned : IsOwned opened.first.block.body
+  fed_owned =
+      let r = x.reaches in
+      true_owned opened.first.block.body (sym (ap (λ (p : Kept). p.owned) r.leads.state_is) ∙ owned_kept r.first r.leads.values ∙ ap (λ (p : Kept). p.owned) r.opening.1)

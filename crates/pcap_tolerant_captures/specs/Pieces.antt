@@ -1,5 +1,7 @@
 -- What a run tells over a capture that comes in pieces, with blocks as they stand.
-use Rattle.std.specs.Prelude.{◌≡◌, ◌⊎◌, ℕ, List, ◌∷◌, length}
+use Rattle.std.specs.Prelude.{◌≡◌, ◌⊎◌, ℕ, List, ◌∷◌, length, Bool, true, false}
+use Rattle.pcap_core.specs.declared.common.CowBytes.{CowBytes}
+use Rattle.pcap_core.specs.declared.common.CowBytes.TheVariants.{Borrowed, Owned}
 use Rattle.pcap_core.specs.Answer.{Verdict, Made}
 use Rattle.pcap_items.specs.Format.{Format}
 use Rattle.pcap_items.specs.Pieces.{OpensNone}
@@ -8,18 +10,24 @@ use Rattle.pcap_tolerant_captures.specs.Blocks.{Item, AsIsSays, as_is_format}
 use Rattle.pcap_tolerant_captures.specs.Run.{Seen, seen_in, seen_of, NgFrontAsIs}
 use Rattle.pcap_tolerant_captures.specs.State.{State, opening, state_of}
 
--- the section and interfaces in force, and the first block of the capture
+-- the bytes are owned
+abbrev pub is_owned : CowBytes → Bool
+is_owned (Borrowed s) = false
+is_owned (Owned v) = true
+
+-- the section and interfaces in force, the first block of the capture, and whether that has a body of its own
 pub record Kept : Type 0 where
   pub state : State
   pub first : Seen
+  pub owned : Bool
 
--- those behind a first block
+-- those behind a first block, whose body is its own
 abbrev pub kept_by : Item → Kept
-kept_by item = record { state = item.led.after; first = seen_in item }
+kept_by item = record { state = item.led.after; first = seen_in item; owned = true }
 
 -- those of the code
 abbrev pub kept_of : OpenedAsIs → Kept
-kept_of x = record { state = state_of x.parser; first = seen_of x.first }
+kept_of x = record { state = state_of x.parser; first = seen_of x.first; owned = is_owned x.first.block.body }
 
 -- what is said of bytes where the first block is asked for, which is kept
 abbrev pub FirstSays : List ℕ → Verdict Kept → Type 0
@@ -27,7 +35,11 @@ FirstSays s = Made kept_by (AsIsSays opening s)
 
 -- blocks as they stand behind a first one, which is kept
 abbrev pub kept_format : Format Kept Item
-kept_format = record { says = λ q. as_is_format.says q.state; goes = λ q item. record { state = as_is_format.goes q.state item; first = q.first }; head = λ q. as_is_format.head q.state }
+kept_format = record {
+  says = λ q. as_is_format.says q.state;
+  goes = λ q item. record { state = as_is_format.goes q.state item; first = q.first; owned = q.owned };
+  head = λ q. as_is_format.head q.state;
+}
 
 -- the front of s has n blocks as they stand after the first, or no section header begins s, and n is 0
 abbrev pub HoldsBlocksAsIs : List ℕ → ℕ → Type 0

@@ -6,7 +6,7 @@ ghost use Rattle.pcap_core.specs.Bytes.{IsOwned};
 ghost use Rattle.pcap_items.specs.Pieces.{AfterEach, joined_pieces};
 ghost use Rattle.pcap_tolerant_captures.specs.Blocks.{AsIsSays, Item as BlockItem};
 ghost use Rattle.pcap_tolerant_captures.specs.Pieces.{FirstSays, HoldsBlocksAsIs, Kept, kept_format, kept_of};
-ghost use Rattle.pcap_tolerant_captures.specs.Run.{IsRunAsIs, Seen, seen_in, seen_of};
+ghost use Rattle.pcap_tolerant_captures.specs.Run.{IsRunAsIs, Seen, all_of, seen_in, seen_of};
 ghost use Rattle.pcap_tolerant_captures.specs.State.{opening};
 
 use crate::block::BlockAsIs;
@@ -76,7 +76,7 @@ pub fn pieces_pcapng_as_is(
     requires { length (joined_pieces pieces.now) < 2 ^ 64 }
     ensures run { IfOk result (λ x. IsRunAsIs x.0 (joined_pieces pieces.now)) }
     ensures numbers { IfOk result (λ x. AfterEach HoldsBlocksAsIs [] pieces.now x.1.items) }
-    ensures owned { IfOk result (λ x. All (λ block. IsOwned block.block.body) x.0.blocks.items) }
+    ensures owned { IfOk result (λ x. All (λ block. IsOwned block.block.body) (all_of x.0)) }
     ensures refused { IfErr result (Refuses ⊤ (λ n. AsIsSays opening (joined_pieces pieces.now) (lacks n)) (λ fault. AsIsSays opening (joined_pieces pieces.now) (faulty fault))) }
 {
     let fed = feed_pieces::<OpenedAsIs>(alloc, (), pieces)?;

@@ -1,14 +1,18 @@
-use Rattle.std.proofs.Common.{ap, Err}
+use Rattle.std.proofs.Common.{◌≡◌, ◌∙◌, ap, Bool, true, Err}
 use Rattle.std.proofs.lemmas.Result.{err_from_is_err_and}
 use Rattle.pcap_items.proofs.Pieces.{tells_grown}
 use Rattle.pcap_tolerant_captures.specs.Blocks.{MayGrow, opened_of}
 use Rattle.pcap_tolerant_captures.specs.Pieces.{FirstSays, Kept, kept_of}
 use Rattle.pcap_tolerant_captures.specs.Run.{Seen}
-use Rattle.pcap_tolerant_captures.specs.State.{opening}
+use Rattle.pcap_tolerant_captures.specs.State.{State, opening}
+use Rattle.pcap_tolerant_captures.proofs.FedBlocks.{owned_true}
 use Rattle.pcap_tolerant_captures.proofs.pieces.OpenedAsIsPieceParser.open.Goals as goal
 
-kept_with : Kept → Seen → Kept
-kept_with kept seen = record { state = kept.state; first = seen }
+kept_with : State → Seen → Bool → Kept
+kept_with state first owned = record { state = state; first = first; owned = owned }
+
+kept_same : (state : State) (a b : Seen) (owned : Bool) → a ≡ b → owned ≡ true → kept_with state a owned ≡ kept_with state b true
+kept_same state a b owned same is = ap (λ (seen : Seen). kept_with state seen owned) same ∙ ap (kept_with state b) is
 
 pub returns-in_err-after : goal.returns-in_err-after
 returns-in_err-after c =
@@ -20,4 +24,5 @@ pub returns : goal.returns
 unfolding kept_with
 returns c =
     let opened = c.in_ok-after.opened in
-    (opened_of opened, ap (kept_with (kept_of opened)) c.in_ok-first.ensures.same, c.in_ok-after.ensures.tells)
+    let first = c.in_ok-first.ensures in
+    (opened_of opened, kept_same (kept_of opened).state _ _ _ first.same (owned_true _ first.owned), c.in_ok-after.ensures.tells)

@@ -8,7 +8,7 @@ use Rattle.pcap_tolerant_captures.specs.State.{State, state_of}
 use Rattle.pcap_tolerant_captures.proofs.pieces.OpenedAsIsPieceParser.take.Goals as goal
 
 kept_at : Kept → State → Kept
-kept_at kept state = record { state = state; first = kept.first }
+kept_at kept state = record { state = state; first = kept.first; owned = kept.owned }
 
 pub returns-in_err-after-clause-takes : goal.returns-in_err-after-clause-takes
 unfolding as_is_format kept_at
