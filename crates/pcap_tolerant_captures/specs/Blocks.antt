@@ -1,5 +1,5 @@
 -- Blocks as they stand, under the section and interfaces in force.
-use Rattle.std.specs.Prelude.{◌≡◌, ◌≢◌, ◌⊎◌, ℕ, List, map, Option, Some, None}
+use Rattle.std.specs.Prelude.{◌≡◌, ◌≢◌, ◌<◌, ◌⊎◌, ℕ, List, length, map, Option, Some, None}
 use Rattle.pcap_core.specs.Answer.{Order, Verdict, Says, number_in}
 use Rattle.pcap_core.specs.Faults.{Fault}
 use Rattle.pcap_items.specs.Format.{Format}
@@ -9,19 +9,19 @@ use Rattle.pcap_blocks.specs.declared.block_type.BlockType.{BlockType}
 use Rattle.pcap_blocks.specs.declared.block_type.BlockType.TheVariants as types
 use Rattle.pcap_ng.specs.Frames.{Framed, framed_of, FrameText, FrameLacks, FrameFault}
 use Rattle.pcap_tolerant_blocks.specs.declared.enhanced.EnhancedAsIs.{EnhancedAsIs}
-use Rattle.pcap_tolerant_blocks.specs.EnhancedAsIs.{EnhancedText, enhanced_in, flaws_said}
+use Rattle.pcap_tolerant_blocks.specs.EnhancedAsIs.{EnhancedText, EnhancedGrows, enhanced_in, flaws_said}
 use Rattle.pcap_tolerant_blocks.specs.Flaws.{Said, said_of}
 use Rattle.pcap_tolerant_blocks.specs.declared.names.NamesAsIs.{NamesAsIs}
-use Rattle.pcap_tolerant_blocks.specs.NamesAsIs.{NamesText}
+use Rattle.pcap_tolerant_blocks.specs.NamesAsIs.{NamesText, NamesGrow}
 use Rattle.pcap_tolerant_blocks.specs.NamesAsIs as names
 use Rattle.pcap_tolerant_blocks.specs.declared.packet_block.PacketBlockAsIs.{PacketBlockAsIs}
-use Rattle.pcap_tolerant_blocks.specs.PacketBlockAsIs.{PacketBlockText, packet_in}
+use Rattle.pcap_tolerant_blocks.specs.PacketBlockAsIs.{PacketBlockText, PacketBlockGrows, packet_in}
 use Rattle.pcap_tolerant_blocks.specs.PacketBlockAsIs as packet_block
 use Rattle.pcap_tolerant_blocks.specs.declared.simple.SimpleAsIs.{SimpleAsIs}
 use Rattle.pcap_tolerant_blocks.specs.SimpleAsIs.{SimpleAsIsText, simple_in}
 use Rattle.pcap_tolerant_blocks.specs.SimpleAsIs as simple
 use Rattle.pcap_tolerant_blocks.specs.declared.statistics.StatisticsAsIs.{StatisticsAsIs}
-use Rattle.pcap_tolerant_blocks.specs.StatisticsAsIs.{StatisticsAsIsText, statistics_in}
+use Rattle.pcap_tolerant_blocks.specs.StatisticsAsIs.{StatisticsAsIsText, StatisticsGrow, statistics_in}
 use Rattle.pcap_tolerant_blocks.specs.StatisticsAsIs as statistics
 use Rattle.pcap_tolerant_captures.specs.declared.block.BlockAsIs.{BlockAsIs}
 use Rattle.pcap_tolerant_captures.specs.declared.parser.OpenedAsIs.{OpenedAsIs}
@@ -92,3 +92,27 @@ AreStatisticsIn = IsBodyOf types.InterfaceStatistics StatisticsAsIsText statisti
 abbrev pub AreNamesIn : Framed → Option NamesAsIs → Type 0
 AreNamesIn b None = b.type_ ≢ types.NameResolution
 AreNamesIn b (Some x) = (b.type_ ≡ types.NameResolution) × ((rest : List ℕ) × NamesText (number_in b.endianness) (names_of x.names) (names.flaws_said x) b.body rest)
+
+-- a list grows where a body of this type is read: the block is of this type, and something of its body is kept in one
+abbrev pub GrowsIn : BlockType → (Order → List ℕ → Type 0) → Framed → Type 0
+GrowsIn type Grows b = (b.type_ ≡ type) × Grows (number_in b.endianness) b.body
+
+-- an enhanced packet is read that has a flaw or an option
+abbrev pub PacketGrowsIn : Framed → Type 0
+PacketGrowsIn = GrowsIn types.EnhancedPacket EnhancedGrows
+
+-- a simple packet is asked for, and has no room for its length
+abbrev pub SimpleGrowsIn : Framed → Type 0
+SimpleGrowsIn = GrowsIn types.SimplePacket (λ order s. length s < 4)
+
+-- an obsolete packet is read that has a flaw or an option
+abbrev pub PacketBlockGrowsIn : Framed → Type 0
+PacketBlockGrowsIn = GrowsIn types.Packet PacketBlockGrows
+
+-- statistics are read that have a flaw or an option
+abbrev pub StatisticsGrowIn : Framed → Type 0
+StatisticsGrowIn = GrowsIn types.InterfaceStatistics StatisticsGrow
+
+-- names are read that have a flaw, a record or an option
+abbrev pub NamesGrowIn : Framed → Type 0
+NamesGrowIn = GrowsIn types.NameResolution NamesGrow

@@ -1,15 +1,17 @@
 //! Blocks as they stand.
 
-ghost use Rattle.std.specs.Prelude.{◌≡◌, IfOk};
+ghost use Rattle.std.specs.Prelude.{◌≡◌, ◌<◌, length, IfOk, IfErr, IfSome};
 ghost use Rattle.pcap_core.specs.Answer.{number_in};
+ghost use Rattle.pcap_core.specs.Bytes.{IsBorrowed};
 ghost use Rattle.pcap_ng.specs.Frames.{framed_of};
-ghost use Rattle.pcap_tolerant_blocks.specs.EnhancedAsIs.{EnhancedText, enhanced_in, flaws_said};
-ghost use Rattle.pcap_tolerant_blocks.specs.PacketBlockAsIs.{PacketBlockText, packet_in as packet_of_block, flaws_said as packet_block_flaws};
+ghost use Rattle.pcap_tolerant_blocks.specs.EnhancedAsIs.{EnhancedText, EnhancedGrows, enhanced_in, flaws_said};
+ghost use Rattle.pcap_tolerant_blocks.specs.PacketBlockAsIs.{PacketBlockText, PacketBlockGrows, packet_in as packet_of_block, flaws_said as packet_block_flaws};
 ghost use Rattle.pcap_blocks.specs.NameResolution.{names_of};
-ghost use Rattle.pcap_tolerant_blocks.specs.NamesAsIs.{NamesText, flaws_said as names_flaws};
+ghost use Rattle.pcap_blocks.specs.SimplePacket.{SimpleIsBorrowed};
+ghost use Rattle.pcap_tolerant_blocks.specs.NamesAsIs.{NamesText, NamesGrow, flaws_said as names_flaws};
 ghost use Rattle.pcap_tolerant_blocks.specs.SimpleAsIs.{SimpleAsIsText, simple_in as simple_of, flaws_said as simple_flaws};
-ghost use Rattle.pcap_tolerant_blocks.specs.StatisticsAsIs.{StatisticsAsIsText, statistics_in as statistics_of, flaws_said as statistics_flaws};
-ghost use Rattle.pcap_tolerant_captures.specs.Blocks.{IsPacketIn, IsSimpleIn, IsPacketBlockIn, AreStatisticsIn, AreNamesIn};
+ghost use Rattle.pcap_tolerant_blocks.specs.StatisticsAsIs.{StatisticsAsIsText, StatisticsGrow, statistics_in as statistics_of, flaws_said as statistics_flaws};
+ghost use Rattle.pcap_tolerant_captures.specs.Blocks.{IsPacketIn, IsSimpleIn, IsPacketBlockIn, AreStatisticsIn, AreNamesIn, PacketGrowsIn, SimpleGrowsIn, PacketBlockGrowsIn, StatisticsGrowIn, NamesGrowIn};
 
 use byteorder::{BigEndian, LittleEndian};
 use pcap_blocks::BlockType;
@@ -81,47 +83,58 @@ impl<'a> BlockAsIs<'a> {
         })
     }
 
-    /// The enhanced packet that the body is as it stands, with what is wrong with it. None where the block is of another type.
+    /// The enhanced packet that the body is as it stands, with what is wrong with it. None where the block is of another type. Its
+    /// bytes are borrowed from the body.
     ///
-    /// `AllocError` where a list can't grow.
+    /// `AllocError` where a list can't grow, and only where the block is of this type and there is a flaw or an option.
     pub fn enhanced(&self, alloc: Global) -> Result<Option<EnhancedAsIs<'_>>, AllocError>
-        ensures { IfOk result (IsPacketIn (framed_of self.now.block)) }
+        ensures body { IfOk result (IsPacketIn (framed_of self.now.block)) }
+        ensures memory { IfErr result (λ _. PacketGrowsIn (framed_of self.now.block)) }
+        ensures borrowed { IfOk result (λ x. IfSome x (λ body. IfSome body.packet (λ packet. IsBorrowed packet.data_))) }
     {
         of_type!(self.block.type_ => EnhancedPacket, packet_in(self.block.endianness(), alloc, self.block.body.as_slice()))
     }
 
-    /// The simple packet that the body is as it stands, with what is wrong with it. None where the block is of another type.
+    /// The simple packet that the body is as it stands, with what is wrong with it. None where the block is of another type. Its
+    /// bytes are borrowed from the body.
     ///
-    /// `AllocError` where a list can't grow.
+    /// `AllocError` where a list can't grow, and only where the block is of this type and there is no packet.
     pub fn simple(&self, alloc: Global) -> Result<Option<SimpleAsIs<'_>>, AllocError>
-        ensures { IfOk result (IsSimpleIn (framed_of self.now.block)) }
+        ensures body { IfOk result (IsSimpleIn (framed_of self.now.block)) }
+        ensures memory { IfErr result (λ _. SimpleGrowsIn (framed_of self.now.block)) }
+        ensures borrowed { IfOk result (λ x. IfSome x (λ body. IfSome body.packet SimpleIsBorrowed)) }
     {
         of_type!(self.block.type_ => SimplePacket, simple_in(self.block.endianness(), alloc, self.block.body.as_slice()))
     }
 
-    /// The obsolete packet that the body is as it stands, with what is wrong with it. None where the block is of another type.
+    /// The obsolete packet that the body is as it stands, with what is wrong with it. None where the block is of another type. Its
+    /// bytes are borrowed from the body.
     ///
-    /// `AllocError` where a list can't grow.
+    /// `AllocError` where a list can't grow, and only where the block is of this type and there is a flaw or an option.
     pub fn packet_block(&self, alloc: Global) -> Result<Option<PacketBlockAsIs<'_>>, AllocError>
-        ensures { IfOk result (IsPacketBlockIn (framed_of self.now.block)) }
+        ensures body { IfOk result (IsPacketBlockIn (framed_of self.now.block)) }
+        ensures memory { IfErr result (λ _. PacketBlockGrowsIn (framed_of self.now.block)) }
+        ensures borrowed { IfOk result (λ x. IfSome x (λ body. IfSome body.packet (λ packet. IsBorrowed packet.data_))) }
     {
         of_type!(self.block.type_ => Packet, packet_block_in(self.block.endianness(), alloc, self.block.body.as_slice()))
     }
 
     /// The interface statistics that the body is as they stand, with what is wrong with them. None where the block is of another type.
     ///
-    /// `AllocError` where a list can't grow.
+    /// `AllocError` where a list can't grow, and only where the block is of this type and there is a flaw or an option.
     pub fn statistics(&self, alloc: Global) -> Result<Option<StatisticsAsIs<'_>>, AllocError>
-        ensures { IfOk result (AreStatisticsIn (framed_of self.now.block)) }
+        ensures body { IfOk result (AreStatisticsIn (framed_of self.now.block)) }
+        ensures memory { IfErr result (λ _. StatisticsGrowIn (framed_of self.now.block)) }
     {
         of_type!(self.block.type_ => InterfaceStatistics, statistics_in(self.block.endianness(), alloc, self.block.body.as_slice()))
     }
 
     /// The names of addresses that the body is as they stand, with what is wrong with them. None where the block is of another type.
     ///
-    /// `AllocError` where a list can't grow.
+    /// `AllocError` where a list can't grow, and only where the block is of this type and there is a flaw, a record or an option.
     pub fn names(&self, alloc: Global) -> Result<Option<NamesAsIs<'_>>, AllocError>
-        ensures { IfOk result (AreNamesIn (framed_of self.now.block)) }
+        ensures body { IfOk result (AreNamesIn (framed_of self.now.block)) }
+        ensures memory { IfErr result (λ _. NamesGrowIn (framed_of self.now.block)) }
     {
         of_type!(self.block.type_ => NameResolution, names_in(self.block.endianness(), alloc, self.block.body.as_slice()))
     }
@@ -133,7 +146,9 @@ pub(crate) fn packet_in<'a>(
     alloc: Global,
     slice: &'a [u8],
 ) -> Result<(&'a [u8], EnhancedAsIs<'a>), AllocError>
-    ensures { IfOk result (λ x. EnhancedText (number_in order) (enhanced_in x.1) (flaws_said x.1) slice.now x.0.now) }
+    ensures read { IfOk result (λ x. EnhancedText (number_in order) (enhanced_in x.1) (flaws_said x.1) slice.now x.0.now) }
+    ensures memory { IfErr result (λ _. EnhancedGrows (number_in order) slice.now) }
+    ensures borrowed { IfOk result (λ x. IfSome x.1.packet (λ packet. IsBorrowed packet.data_)) }
 {
     in_order!(order EnhancedAsIs alloc slice)
 }
@@ -144,7 +159,9 @@ pub(crate) fn simple_in<'a>(
     alloc: Global,
     slice: &'a [u8],
 ) -> Result<(&'a [u8], SimpleAsIs<'a>), AllocError>
-    ensures { IfOk result (λ x. SimpleAsIsText (number_in order) (simple_of x.1) (simple_flaws x.1) slice.now x.0.now) }
+    ensures read { IfOk result (λ x. SimpleAsIsText (number_in order) (simple_of x.1) (simple_flaws x.1) slice.now x.0.now) }
+    ensures memory { IfErr result (λ _. length slice.now < 4) }
+    ensures borrowed { IfOk result (λ x. IfSome x.1.packet SimpleIsBorrowed) }
 {
     in_order!(order SimpleAsIs alloc slice)
 }
@@ -155,7 +172,9 @@ pub(crate) fn packet_block_in<'a>(
     alloc: Global,
     slice: &'a [u8],
 ) -> Result<(&'a [u8], PacketBlockAsIs<'a>), AllocError>
-    ensures { IfOk result (λ x. PacketBlockText (number_in order) (packet_of_block x.1) (packet_block_flaws x.1) slice.now x.0.now) }
+    ensures read { IfOk result (λ x. PacketBlockText (number_in order) (packet_of_block x.1) (packet_block_flaws x.1) slice.now x.0.now) }
+    ensures memory { IfErr result (λ _. PacketBlockGrows (number_in order) slice.now) }
+    ensures borrowed { IfOk result (λ x. IfSome x.1.packet (λ packet. IsBorrowed packet.data_)) }
 {
     in_order!(order PacketBlockAsIs alloc slice)
 }
@@ -166,7 +185,8 @@ pub(crate) fn statistics_in<'a>(
     alloc: Global,
     slice: &'a [u8],
 ) -> Result<(&'a [u8], StatisticsAsIs<'a>), AllocError>
-    ensures { IfOk result (λ x. StatisticsAsIsText (number_in order) (statistics_of x.1) (statistics_flaws x.1) slice.now x.0.now) }
+    ensures read { IfOk result (λ x. StatisticsAsIsText (number_in order) (statistics_of x.1) (statistics_flaws x.1) slice.now x.0.now) }
+    ensures memory { IfErr result (λ _. StatisticsGrow (number_in order) slice.now) }
 {
     in_order!(order StatisticsAsIs alloc slice)
 }
@@ -177,7 +197,8 @@ pub(crate) fn names_in<'a>(
     alloc: Global,
     slice: &'a [u8],
 ) -> Result<(&'a [u8], NamesAsIs<'a>), AllocError>
-    ensures { IfOk result (λ x. NamesText (number_in order) (names_of x.1.names) (names_flaws x.1) slice.now x.0.now) }
+    ensures read { IfOk result (λ x. NamesText (number_in order) (names_of x.1.names) (names_flaws x.1) slice.now x.0.now) }
+    ensures memory { IfErr result (λ _. NamesGrow (number_in order) slice.now) }
 {
     in_order!(order NamesAsIs alloc slice)
 }

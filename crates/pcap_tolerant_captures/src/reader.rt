@@ -142,7 +142,10 @@ impl<T: Read + Drop> PcapNgReaderAsIs<T> {
 }
 
 impl<T> PcapNgReaderAsIs<T> {
-    ghost use Rattle.pcap_tolerant_captures.specs.Blocks.{IsPacketIn, IsSimpleIn, IsPacketBlockIn, AreStatisticsIn, AreNamesIn};
+    ghost use Rattle.std.specs.Prelude.{IfErr, IfSome};
+    ghost use Rattle.pcap_core.specs.Bytes.{IsBorrowed};
+    ghost use Rattle.pcap_blocks.specs.SimplePacket.{SimpleIsBorrowed};
+    ghost use Rattle.pcap_tolerant_captures.specs.Blocks.{IsPacketIn, IsSimpleIn, IsPacketBlockIn, AreStatisticsIn, AreNamesIn, PacketGrowsIn, SimpleGrowsIn, PacketBlockGrowsIn, StatisticsGrowIn, NamesGrowIn};
     ghost use Rattle.pcap_tolerant_captures.specs.State.{opening};
     ghost use Rattle.pcap_tolerant_captures.specs.ReaderAsIs.{state_of, stream_of, parser_of, has_failed, is_done, text_of, body_of};
 
@@ -186,11 +189,13 @@ impl<T> PcapNgReaderAsIs<T> {
     }
 
     /// The enhanced packet that the body is as it stands, with what is wrong with it, of the block whose header `next_header` gave
-    /// last. None where the block is of another type.
+    /// last. None where the block is of another type. Its bytes are borrowed from the body.
     ///
-    /// `AllocError` where a list can't grow.
+    /// `AllocError` where a list can't grow, and only where the block is of this type and there is a flaw or an option.
     pub fn enhanced(&self, header: BlockHeader) -> Result<Option<EnhancedAsIs<'_>>, AllocError>
-        ensures { IfOk result (IsPacketIn (framed_around header (body_of self.now))) }
+        ensures body { IfOk result (IsPacketIn (framed_around header (body_of self.now))) }
+        ensures memory { IfErr result (λ _. PacketGrowsIn (framed_around header (body_of self.now))) }
+        ensures borrowed { IfOk result (λ x. IfSome x (λ body. IfSome body.packet (λ packet. IsBorrowed packet.data_))) }
     {
         of_type!(header.type_ => EnhancedPacket, packet_in(header.endianness, self.alloc, self.body()))
     }
@@ -200,28 +205,34 @@ impl<T> PcapNgReaderAsIs<T> {
         &self,
         header: BlockHeader,
     ) -> Result<Option<PacketBlockAsIs<'_>>, AllocError>
-        ensures { IfOk result (IsPacketBlockIn (framed_around header (body_of self.now))) }
+        ensures body { IfOk result (IsPacketBlockIn (framed_around header (body_of self.now))) }
+        ensures memory { IfErr result (λ _. PacketBlockGrowsIn (framed_around header (body_of self.now))) }
+        ensures borrowed { IfOk result (λ x. IfSome x (λ body. IfSome body.packet (λ packet. IsBorrowed packet.data_))) }
     {
         of_type!(header.type_ => Packet, packet_block_in(header.endianness, self.alloc, self.body()))
     }
 
-    /// The same of a simple packet.
+    /// The same of a simple packet. `AllocError` only where the block is of this type and there is no packet.
     pub fn simple(&self, header: BlockHeader) -> Result<Option<SimpleAsIs<'_>>, AllocError>
-        ensures { IfOk result (IsSimpleIn (framed_around header (body_of self.now))) }
+        ensures body { IfOk result (IsSimpleIn (framed_around header (body_of self.now))) }
+        ensures memory { IfErr result (λ _. SimpleGrowsIn (framed_around header (body_of self.now))) }
+        ensures borrowed { IfOk result (λ x. IfSome x (λ body. IfSome body.packet SimpleIsBorrowed)) }
     {
         of_type!(header.type_ => SimplePacket, simple_in(header.endianness, self.alloc, self.body()))
     }
 
     /// The same of interface statistics.
     pub fn statistics(&self, header: BlockHeader) -> Result<Option<StatisticsAsIs<'_>>, AllocError>
-        ensures { IfOk result (AreStatisticsIn (framed_around header (body_of self.now))) }
+        ensures body { IfOk result (AreStatisticsIn (framed_around header (body_of self.now))) }
+        ensures memory { IfErr result (λ _. StatisticsGrowIn (framed_around header (body_of self.now))) }
     {
         of_type!(header.type_ => InterfaceStatistics, statistics_in(header.endianness, self.alloc, self.body()))
     }
 
-    /// The same of names of addresses.
+    /// The same of names of addresses. `AllocError` also where there is a record.
     pub fn names(&self, header: BlockHeader) -> Result<Option<NamesAsIs<'_>>, AllocError>
-        ensures { IfOk result (AreNamesIn (framed_around header (body_of self.now))) }
+        ensures body { IfOk result (AreNamesIn (framed_around header (body_of self.now))) }
+        ensures memory { IfErr result (λ _. NamesGrowIn (framed_around header (body_of self.now))) }
     {
         of_type!(header.type_ => NameResolution, names_in(header.endianness, self.alloc, self.body()))
     }
