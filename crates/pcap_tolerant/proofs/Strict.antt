@@ -10,7 +10,7 @@ use Rattle.pcap_core.specs.Faults.{Fault, Invalid}
 use Rattle.pcap_classic.specs.PacketText.{packet_limit, Head, RecordHeadText, IsGood, head_fault, nanoseconds, spelled_header, Captured, PacketSays, LacksData, HasHeadFault}
 use Rattle.pcap_classic.proofs.HeadedPackets.{packet_one}
 use Rattle.pcap_tolerant.specs.AsIs.{flaws_of, rules_of, where_broken, AsIs, strict_of, AsIsText, LacksStored, HasLongHead, AsIsSays}
-use Rattle.pcap_tolerant.specs.Strict.{MatchFirst, StrictIs}
+use Rattle.pcap_tolerant.specs.Strict.{MatchFirst, BreaksFirst, StrictIs}
 
 -- ---- the first fault of a head is the first rule that it breaks
 
@@ -53,7 +53,7 @@ flawed_fault order r head s after rule rules text x = record { head = head; afte
 -- ---- the strict verdict
 
 abbrev There : Order → TsResolution → List ℕ → Verdict AsIs → Type 0
-There order r s a = (v : Verdict Captured) × PacketSays packet_limit order r s v × StrictIs r a v
+There order r s a = (v : Verdict Captured) × PacketSays packet_limit order r s v × StrictIs order r s a v
 
 match_first : (rules : List Rule) (N : Type 0) (F : Rule → Type 0) → rules ≡ [] → N → MatchFirst rules N F
 match_first rules N F e n = subst (λ (l : List Rule). MatchFirst l N F) (sym e) n
@@ -91,7 +91,11 @@ module _ (limit : ℕ) (order : Order) (r : TsResolution) where
               missing = x.missing;
             } in
             (lacks n, inr lack, inl refl)
-        | inr some ↦ (faulty (Invalid some.0), flawed_fault order r x.head s x.after some.0 some.1 x.text some.2, inr (some.0, refl))
+        | inr some ↦
+            let v : Verdict Captured = faulty (Invalid some.0) in
+            let First : Rule → Type 0 = λ rule. v ≡ faulty (Invalid rule) in
+            let first = match_rule (rules_of (flaws_of r x.head)) some.1 some.0 ⊥ First some.2 refl in
+            (v, flawed_fault order r x.head s x.after some.0 some.1 x.text some.2, inr (record { head = x.head; after = x.after; text = x.text; first = first }))
       ]
 
   long_rule : (s : List ℕ) (f : Fault) (x : HasLongHead limit order s f) (a : Bool) → nat_lt 4294967295 (nanoseconds r x.head.fraction) ≡ a → nat_lt packet_limit x.head.included ≡ true → There order r s (faulty f)
@@ -113,8 +117,8 @@ module _ (limit : ℕ) (order : Order) (r : TsResolution) where
   strict_there le s (lacks n) (inr x) = stored_there s n x
   strict_there le s (faulty f) x = long_there le s f x
 
-  pub strict_is : packet_limit ≤ limit → (s : List ℕ) (a : Verdict AsIs) (v : Verdict Captured) → AsIsSays limit order r s a → PacketSays packet_limit order r s v → StrictIs r a v
+  pub strict_is : packet_limit ≤ limit → (s : List ℕ) (a : Verdict AsIs) (v : Verdict Captured) → AsIsSays limit order r s a → PacketSays packet_limit order r s v → StrictIs order r s a v
   strict_is le s a v x y =
       let t = strict_there le s a x in
       let one = packet_one packet_limit order r s in
-      subst (λ (w : Verdict Captured). StrictIs r a w) (one.only t.0 t.1 ∙ sym (one.only v y)) t.2
+      subst (λ (w : Verdict Captured). StrictIs order r s a w) (one.only t.0 t.1 ∙ sym (one.only v y)) t.2

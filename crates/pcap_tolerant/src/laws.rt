@@ -18,10 +18,10 @@ pub fn packets_as_they_stand_are_lawful()
 {}
 
 /// What the strict reading says of the same bytes: the same packet where it has no flaw, and else its first flaw; the same
-/// request, unless the head breaks a rule; V2 or V3 where the stored length is above the limit.
+/// request, unless the head breaks a rule, of which it names the first; V2 or V3 where the stored length is above the limit.
 pub fn strict_reading_is()
     ensures { (limit : ℕ) (order : Order) (r : TsResolution) (s : List ℕ) (a : Verdict AsIs) (v : Verdict Captured) →
-        AsIsSays (raised limit) order r s a → PacketSays packet_limit order r s v → StrictIs r a v }
+        AsIsSays (raised limit) order r s a → PacketSays packet_limit order r s v → StrictIs order r s a v }
 {}
 
 /// Of each slice exactly one thing is said.
