@@ -37,6 +37,10 @@ module _ {S V : Type 0} (f : Format S V) (laws : IsLawful f) (q : S) where
     asked = rw adds.added (asked_more f laws q n held adds.taken ask (omega (arith, adds.count)) b.asked);
   }
 
+  -- a request was not met, and what came is held
+  pub unmet_held : (held new : List ℕ) (before mid after : Option (List ℕ)) (n : ℕ) → Begins f laws q before mid held → AddsFewer n held new mid after → Consumes before after new
+  unmet_held held new before mid after n b part = held_more held new before mid after part.0 b.came part.2
+
   -- a request was not met
   pub unmet : (e : PcapError) (held new : List ℕ) (before mid after : Option (List ℕ)) (old failed : Bool) (n : ℕ) → Begins f laws q before mid held → f.says q held (lacks n)
       → old ≡ false → AddsFewer n held new mid after → HasCauseToFill n held mid old failed e

@@ -1,5 +1,5 @@
 -- What is known of a packet as it stands once its head is read.
-use Rattle.std.specs.Prelude.{◌≡◌, ⊤, ℕ, List, [], drop, Option, None, Some, Result, Ok, Err}
+use Rattle.std.specs.Prelude.{◌≡◌, ℕ, List, [], drop, Option, None, Some, Result, Ok, Err}
 use Rattle.std.specs.Io.KnownBytes.{Consumes}
 use Rattle.pcap_core.specs.declared.errors.PcapError.{PcapError}
 use Rattle.pcap_core.specs.Answer.{Verdict, whole, number_in}
@@ -21,9 +21,9 @@ held_as_is bytes head = packet_with head (drop 16 bytes)
 abbrev pub TakesText : {V : Type 0} → (List ℕ → Verdict V → Type 0) → Option (List ℕ) → Option (List ℕ) → List ℕ → V → Type 0
 TakesText IsSaid before after text v = IsSaid text (whole v []) × Consumes before after text
 
--- where a packet was taken, these bytes are its text; where none came, there are none
+-- where a packet was taken, these bytes are its text; where none came, there are none; behind a refusal they are what was taken
 abbrev pub HoldsTaken : {X V : Type 0} → (List ℕ → Verdict V → Type 0)
     → (X → V) → Option (List ℕ) → Option (List ℕ) → List ℕ → Result (Option X) PcapError → Type 0
 HoldsTaken IsSaid view before after text (Ok (Some x)) = TakesText IsSaid before after text (view x)
 HoldsTaken IsSaid view before after text (Ok None) = text ≡ []
-HoldsTaken IsSaid view before after text (Err e) = ⊤
+HoldsTaken IsSaid view before after text (Err e) = Consumes before after text

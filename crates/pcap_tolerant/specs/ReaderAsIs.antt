@@ -1,5 +1,6 @@
 -- What a reader of packets as they stand shows.
-use Rattle.std.specs.Prelude.{◌≡◌, ◌⊎◌, ⊤, ℕ, List, [], drop, Bool, false, Option, None, Some, Result, Ok, Err}
+use Rattle.std.specs.Prelude.{◌≡◌, ◌⊎◌, ℕ, List, [], drop, Bool, false, Option, None, Some, Result, Ok, Err}
+use Rattle.std.specs.Io.KnownBytes.{Consumes}
 use Rattle.pcap_core.specs.declared.errors.PcapError.{PcapError}
 use Rattle.pcap_core.specs.Answer.{Verdict}
 use Rattle.pcap_core.specs.Errors.{IsIo}
@@ -46,11 +47,12 @@ data_of reader = drop 16 (held_of reader)
 abbrev pub lent_packet : {T : Type 0} → ReaderAsIs T → HeadAsIs → AsIs
 lent_packet reader head = packet_with head (data_of reader)
 
--- where a call gave a packet, these bytes are its text, head and data, and exactly they were taken; where the stream ended, there are none
+-- where a call gave a packet, these bytes are its text, head and data, and exactly they were taken; behind a refusal they are what
+-- was taken; where the stream ended, there are none
 abbrev pub HoldsGiven : {X V : Type 0} → (List ℕ → Verdict V → Type 0)
     → (X → V) → Option (List ℕ) → Option (List ℕ) → List ℕ → Option (Result X PcapError) → Type 0
 HoldsGiven IsSaid view before after text (Some (Ok x)) = TakesText IsSaid before after text (view x)
-HoldsGiven IsSaid view before after text (Some (Err e)) = ⊤
+HoldsGiven IsSaid view before after text (Some (Err e)) = Consumes before after text
 HoldsGiven IsSaid view before after text None = text ≡ []
 
 -- one call that makes a reader: the header's text was taken and no more, and nothing failed; or a read failed or the stream

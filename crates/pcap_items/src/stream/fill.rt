@@ -2,7 +2,7 @@
 
 ghost use Rattle.std.specs.Prelude.{false, ◌≡◌, ◌<◌, ◌≤◌, ◌+◌, min, max, length, [], IfOk, IfErr, OnOk, OnErr};
 ghost use Rattle.std.specs.Borrow.{sem, Lends};
-ghost use Rattle.std.specs.Io.KnownBytes.{Keeps, IsAtEnd};
+ghost use Rattle.std.specs.Io.KnownBytes.{Consumes, Keeps, IsAtEnd};
 ghost use Rattle.pcap_items.specs.contracts.stream.fill.Fill.{the_row as fill-row};
 ghost use Rattle.pcap_items.specs.Fill.{told_of, held_of, room_of, stream_of, has_failed};
 ghost use Rattle.pcap_items.specs.Format.{IsLawful};
@@ -126,7 +126,7 @@ impl<T: Read> Fill<T> {
     }
 
     /// Fills what is held with the next item: its head, and then as many bytes as this states. `None` exactly at the end of
-    /// the stream.
+    /// the stream. Where it fails, what came before that is held.
     #[inline(always)]
     pub fn item<H: HasHead>(&mut self, item: &H) -> ResultParsing<Option<H::Head>>
         requires lawful { IsLawful (H.format item.now) }
@@ -134,6 +134,7 @@ impl<T: Read> Fill<T> {
         requires unfailed { has_failed self.old ≡ false }
         ensures fills { FillsHeaded ((H.format item.now).says (H.state item.now)) (H.knows item.now) ((H.format item.now).head (H.state item.now))
             (T.remaining (stream_of self.old)) (T.remaining (stream_of self.new)) (held_of self.new) (has_failed self.new) result }
+        ensures part { OnErr result (Consumes (T.remaining (stream_of self.old)) (T.remaining (stream_of self.new)) (held_of self.new)) }
         ensures ahead { room_of self.new ≤ max (room_of self.old) (length (held_of self.new) + 65536) }
     {
         fill_item(

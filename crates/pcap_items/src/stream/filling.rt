@@ -1,6 +1,7 @@
 //! One way to fill, for every format whose items have a head.
 
-ghost use Rattle.std.specs.Prelude.{◌≡◌, ◌≤◌, ◌+◌, max, ℕ, List, [], false, length, OnOk};
+ghost use Rattle.std.specs.Prelude.{◌≡◌, ◌≤◌, ◌+◌, max, ℕ, List, [], false, length, OnOk, OnErr};
+ghost use Rattle.std.specs.Io.KnownBytes.{Consumes};
 ghost use Rattle.pcap_items.specs.Held.{held_bytes, room_of};
 ghost use Rattle.pcap_items.specs.Format.{Format, IsLawful};
 ghost use Rattle.pcap_items.specs.Filling.{StatesRest, FillsHead, FillsHeaded, TakesHeaded};
@@ -42,7 +43,7 @@ pub trait HasHead {
 /// stream. Nothing is held before it, nor where it answers `None`.
 ///
 /// The head's refusal where its bytes are refused. `OutOfMemory` where there is no room, `IoError` where a read failed or the
-/// stream ended early.
+/// stream ended early. What came before that is held too.
 #[inline(always)]
 pub fn fill_item<H: HasHead, T: Read>(
     item: &H,
@@ -55,6 +56,7 @@ pub fn fill_item<H: HasHead, T: Read>(
     requires unfailed { has_failed.old ≡ false }
     ensures fills { FillsHeaded ((H.format item.now).says (H.state item.now)) (H.knows item.now)
         ((H.format item.now).head (H.state item.now)) (T.remaining stream.old) (T.remaining stream.new) (held_bytes held.new) has_failed.new result }
+    ensures part { OnErr result (Consumes (T.remaining stream.old) (T.remaining stream.new) (held_bytes held.new)) }
     ensures ahead { room_of held.new ≤ max (room_of held.old) (length (held_bytes held.new) + 65536) }
 {
     let Some((head, rest)) = fill_head(item, stream, has_failed, held)? else {
@@ -109,6 +111,7 @@ fn fill_head<H: HasHead, T: Read>(
     ensures fills { FillsHead ((H.format item.now).says (H.state item.now)) (H.knows item.now)
         ((H.format item.now).head (H.state item.now)) (T.remaining stream.old) (T.remaining stream.new) (held_bytes held.new) has_failed.new result }
     ensures room { room_of held.new ≤ max (room_of held.old) ((H.format item.now).head (H.state item.now)) }
+    ensures part { OnErr result (Consumes (T.remaining stream.old) (T.remaining stream.new) (held_bytes held.new)) }
     ensures ahead { room_of held.new ≤ max (room_of held.old) (length (held_bytes held.new) + 65536) }
 {
     if !read_exactly(stream, has_failed, held, item.head())? {
