@@ -8,6 +8,7 @@ pub mod Fill
 pub mod Streams
 pub mod Reading
 pub mod Takes
+pub mod Lent
 pub mod LentStreams
 pub mod Writing
 pub mod Copying

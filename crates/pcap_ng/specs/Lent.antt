@@ -1,8 +1,5 @@
 -- Blocks that a reader lends ('General Block Structure').
-use Rattle.std.specs.Prelude.{⊤, ◌≡◌, ◌-◌, ℕ, List, [], length, take, drop, Option, None, Some, Result, Ok, Err}
-use Rattle.std.specs.Io.KnownBytes.{Consumes}
-use Rattle.pcap_core.specs.declared.errors.PcapError.{PcapError}
-use Rattle.pcap_core.specs.Answer.{Verdict, whole}
+use Rattle.std.specs.Prelude.{◌-◌, ℕ, List, length, take, drop}
 use Rattle.pcap_ng.specs.declared.pcapng.block_header.BlockHeader.{BlockHeader}
 use Rattle.pcap_ng.specs.Blocks.{Item}
 use Rattle.pcap_ng.specs.Frames.{Framed}
@@ -29,21 +26,3 @@ body_in s = take (length s - 12) (drop 8 s)
 -- the block of this header that these bytes are, and this is in force after it
 abbrev pub held_item : State → List ℕ → BlockHeader → Item
 held_item after s header = record { block = framed_around header (body_in s); after = after }
-
--- these bytes are the text of this value, and exactly they were taken
-abbrev pub TakesText : {V : Type 0} → (List ℕ → Verdict V → Type 0) → Option (List ℕ) → Option (List ℕ) → List ℕ → V → Type 0
-TakesText IsSaid before after text v = IsSaid text (whole v []) × Consumes before after text
-
--- where a block was taken, these bytes are its text; where none came, there are none
-abbrev pub HoldsText : {X V : Type 0} → (List ℕ → Verdict V → Type 0)
-    → (X → V) → Option (List ℕ) → Option (List ℕ) → List ℕ → Result (Option X) PcapError → Type 0
-HoldsText IsSaid view before after text (Ok (Some x)) = TakesText IsSaid before after text (view x)
-HoldsText IsSaid view before after text (Ok None) = text ≡ []
-HoldsText IsSaid view before after text (Err e) = ⊤
-
--- where a call gave a block, these bytes are its text; where it gave none, no bytes are lent
-abbrev pub LendsText : {X V : Type 0} → (List ℕ → Verdict V → Type 0)
-    → (X → V) → Option (List ℕ) → Option (List ℕ) → List ℕ → Option (Result X PcapError) → Type 0
-LendsText IsSaid view before after text (Some (Ok x)) = TakesText IsSaid before after text (view x)
-LendsText IsSaid view before after text (Some (Err e)) = text ≡ []
-LendsText IsSaid view before after text None = text ≡ []

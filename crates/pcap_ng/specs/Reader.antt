@@ -7,7 +7,8 @@ use Rattle.pcap_blocks.specs.InterfaceDescription.{Interface, interface_of}
 use Rattle.pcap_ng.specs.declared.pcapng.reader.PcapNgReader.{PcapNgReader}
 use Rattle.pcap_ng.specs.declared.pcapng.block_header.BlockHeader.{BlockHeader}
 use Rattle.pcap_ng.specs.Blocks.{Item}
-use Rattle.pcap_ng.specs.Lent.{body_in, held_item, TakesText}
+use Rattle.pcap_items.specs.Lent.{TakesText}
+use Rattle.pcap_ng.specs.Lent.{body_in, held_item}
 use Rattle.pcap_ng.specs.State.{State, within}
 use Rattle.pcap_ng.specs.Opening.{OpeningSays, RefusesOpening}
 

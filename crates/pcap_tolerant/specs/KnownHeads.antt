@@ -2,7 +2,8 @@
 use Rattle.std.specs.Prelude.{◌≡◌, ℕ, List, [], drop, Option, None, Some, Result, Ok, Err}
 use Rattle.std.specs.Io.KnownBytes.{Consumes}
 use Rattle.pcap_core.specs.declared.errors.PcapError.{PcapError}
-use Rattle.pcap_core.specs.Answer.{Verdict, whole, number_in}
+use Rattle.pcap_core.specs.Answer.{Verdict, number_in}
+use Rattle.pcap_items.specs.Lent.{TakesText}
 use Rattle.pcap_classic.specs.declared.pcap.header.PcapHeader.{PcapHeader}
 use Rattle.pcap_classic.specs.Magic.{order_of, resolution_of}
 use Rattle.pcap_tolerant.specs.declared.as_is.HeadAsIs.{HeadAsIs}
@@ -16,10 +17,6 @@ pub record KnowsAsIs (limit : ℕ) (header : PcapHeader) (head : HeadAsIs) (n : 
 -- the packet of this head whose head and data these bytes are
 abbrev pub held_as_is : List ℕ → HeadAsIs → AsIs
 held_as_is bytes head = packet_with head (drop 16 bytes)
-
--- these bytes are the text of this value, and exactly they were taken
-abbrev pub TakesText : {V : Type 0} → (List ℕ → Verdict V → Type 0) → Option (List ℕ) → Option (List ℕ) → List ℕ → V → Type 0
-TakesText IsSaid before after text v = IsSaid text (whole v []) × Consumes before after text
 
 -- where a packet was taken, these bytes are its text; where none came, there are none; behind a refusal they are what was taken
 abbrev pub HoldsTaken : {X V : Type 0} → (List ℕ → Verdict V → Type 0)

@@ -6,6 +6,7 @@ use Rattle.pcap_core.specs.Answer.{Verdict}
 use Rattle.pcap_core.specs.Errors.{IsIo}
 use Rattle.pcap_core.specs.Faults.{Shows}
 use Rattle.pcap_items.specs.Fill.{held_of as held_in, stream_of as source_of, has_failed as source_failed}
+use Rattle.pcap_items.specs.Lent.{TakesText}
 use Rattle.pcap_items.specs.Reading.{IsFaultOf, Takes}
 use Rattle.pcap_classic.specs.declared.pcap.header.PcapHeader.{PcapHeader}
 use Rattle.pcap_classic.specs.HeaderText.{HeaderSays}
@@ -13,7 +14,6 @@ use Rattle.pcap_classic.specs.Parser.{header_of}
 use Rattle.pcap_tolerant.specs.declared.as_is.HeadAsIs.{HeadAsIs}
 use Rattle.pcap_tolerant.specs.declared.reader.ReaderAsIs.{ReaderAsIs}
 use Rattle.pcap_tolerant.specs.AsIs.{AsIs, packet_with}
-use Rattle.pcap_tolerant.specs.KnownHeads.{TakesText}
 
 -- the stream behind a reader
 abbrev pub stream_of : {T : Type 0} → ReaderAsIs T → T

@@ -13,7 +13,7 @@ use Rattle.pcap_items.proofs.Fronts.{said_not_refused}
 use Rattle.pcap_blocks.specs.InterfaceDescription.{Interface}
 use Rattle.pcap_blocks.specs.SectionHeader.{Section}
 use Rattle.pcap_ng.specs.Frames.{Framed, FrameText, FrameSays, frame_format}
-use Rattle.pcap_ng.specs.Lent.{HoldsText}
+use Rattle.pcap_items.specs.Lent.{HoldsText}
 use Rattle.pcap_ng.proofs.HeadedFrames.{frames_lawful}
 use Rattle.pcap_tolerant_captures.specs.declared.parser.PcapNgParserAsIs.{PcapNgParserAsIs}
 use Rattle.pcap_tolerant_captures.specs.declared.reader.LentAsIs.{LentAsIs}

@@ -4,7 +4,8 @@ ghost use Rattle.std.specs.Prelude.{◌≡◌, false, [], IfOk, option_map};
 ghost use Rattle.pcap_items.specs.Held.{held_bytes};
 ghost use Rattle.pcap_items.specs.Reading.{NextGives, Pulls};
 ghost use Rattle.pcap_ng.specs.Frames.{framed_of};
-ghost use Rattle.pcap_ng.specs.Lent.{header_of, framed_around, HoldsText};
+ghost use Rattle.pcap_items.specs.Lent.{HoldsText};
+ghost use Rattle.pcap_ng.specs.Lent.{header_of, framed_around};
 ghost use Rattle.pcap_tolerant_captures.specs.Blocks.{as_is_format};
 ghost use Rattle.pcap_tolerant_captures.specs.HeldAsIs.{state_in, held_item, LentTells, StaysUnlessTaken};
 
@@ -95,9 +96,11 @@ pub(crate) fn hold<T: Read>(
 ) -> ResultParsing<Option<LentAsIs>>
     requires between { held_bytes held.old ≡ [] }
     requires unfailed { has_failed.old ≡ false }
-    ensures pulls { Pulls (as_is_format.says (state_in parser.old)) (held_item (state_in parser.new) (held_bytes held.new)) (T.remaining stream.old) (T.remaining stream.new) has_failed.new result }
+    ensures pulls { Pulls (as_is_format.says (state_in parser.old)) (held_item (state_in parser.new) (held_bytes held.new))
+        (T.remaining stream.old) (T.remaining stream.new) has_failed.new result }
     ensures stays { StaysUnlessTaken (state_in parser.old) (state_in parser.new) result }
-    ensures text { HoldsText (as_is_format.says (state_in parser.old)) (held_item (state_in parser.new) (held_bytes held.new)) (T.remaining stream.old) (T.remaining stream.new) (held_bytes held.new) result }
+    ensures text { HoldsText (as_is_format.says (state_in parser.old)) (held_item (state_in parser.new) (held_bytes held.new))
+        (T.remaining stream.old) (T.remaining stream.new) (held_bytes held.new) result }
 {
     let Some(_head) = fill_item(&BlocksAsIs { parser }, stream, has_failed, held)? else {
         return Ok(None);
@@ -107,7 +110,7 @@ pub(crate) fn hold<T: Read>(
 }
 
 impl<T: Read + Drop> PcapNgReaderAsIs<T> {
-    ghost use Rattle.pcap_ng.specs.Lent.{LendsText};
+    ghost use Rattle.pcap_items.specs.Lent.{LendsText};
     ghost use Rattle.pcap_tolerant_captures.specs.ReaderAsIs.{state_of, stream_of, has_failed, is_done, text_of, lent_item, StaysUnlessGiven};
 
     /// The header of the next block, whose body the reader lends from then on (`body`, `text`, `enhanced` and its like), until it is called again,
@@ -119,8 +122,11 @@ impl<T: Read + Drop> PcapNgReaderAsIs<T> {
     /// stays.
     pub fn next_header(&mut self) -> Option<ResultParsing<LentAsIs>>
         ensures stays { StaysUnlessGiven (state_of self.old) (state_of self.new) result }
-        ensures next { NextGives (as_is_format.says (state_of self.old)) (lent_item self.new) (T.remaining (stream_of self.old)) (T.remaining (stream_of self.new)) (is_done self.old) (is_done self.new) (has_failed self.old) (has_failed self.new) result }
-        ensures text { LendsText (as_is_format.says (state_of self.old)) (lent_item self.new) (T.remaining (stream_of self.old)) (T.remaining (stream_of self.new)) (text_of self.new) result }
+        ensures next { NextGives (as_is_format.says (state_of self.old)) (lent_item self.new)
+            (T.remaining (stream_of self.old)) (T.remaining (stream_of self.new)) (is_done self.old) (is_done self.new)
+            (has_failed self.old) (has_failed self.new) result }
+        ensures text { LendsText (as_is_format.says (state_of self.old)) (lent_item self.new)
+            (T.remaining (stream_of self.old)) (T.remaining (stream_of self.new)) (text_of self.new) result }
     {
         self.held.clear();
         if self.is_done {
@@ -145,7 +151,8 @@ impl<T> PcapNgReaderAsIs<T> {
     ghost use Rattle.std.specs.Prelude.{IfErr, IfSome};
     ghost use Rattle.pcap_core.specs.Bytes.{IsBorrowed};
     ghost use Rattle.pcap_blocks.specs.SimplePacket.{SimpleIsBorrowed};
-    ghost use Rattle.pcap_tolerant_captures.specs.Blocks.{IsPacketIn, IsSimpleIn, IsPacketBlockIn, AreStatisticsIn, AreNamesIn, PacketGrowsIn, SimpleGrowsIn, PacketBlockGrowsIn, StatisticsGrowIn, NamesGrowIn};
+    ghost use Rattle.pcap_tolerant_captures.specs.Blocks.{IsPacketIn, IsSimpleIn, IsPacketBlockIn, AreStatisticsIn, AreNamesIn, PacketGrowsIn};
+    ghost use Rattle.pcap_tolerant_captures.specs.Blocks.{SimpleGrowsIn, PacketBlockGrowsIn, StatisticsGrowIn, NamesGrowIn};
     ghost use Rattle.pcap_tolerant_captures.specs.State.{opening};
     ghost use Rattle.pcap_tolerant_captures.specs.ReaderAsIs.{state_of, stream_of, parser_of, has_failed, is_done, text_of, body_of};
 

@@ -18,7 +18,7 @@ use Rattle.pcap_classic.proofs.HeadedPackets.{packets_lawful}
 use Rattle.pcap_classic.proofs.Stable.{header_stable}
 use Rattle.pcap_classic.proofs.Texts.{header_length}
 use Rattle.pcap_ng.specs.Blocks.{Item, block_format}
-use Rattle.pcap_ng.specs.Lent.{TakesText}
+use Rattle.pcap_items.specs.Lent.{TakesText}
 use Rattle.pcap_ng.specs.Opening.{OpeningSays, RefusesOpening}
 use Rattle.pcap_ng.specs.State.{State}
 use Rattle.pcap_ng.proofs.BlockFormat.{blocks_lawful}

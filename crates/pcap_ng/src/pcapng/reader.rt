@@ -38,7 +38,7 @@ pub struct PcapNgReader<T> {
 }
 
 impl<T: Read + Drop> PcapNgReader<T> {
-    ghost use Rattle.pcap_ng.specs.Lent.{LendsText};
+    ghost use Rattle.pcap_items.specs.Lent.{LendsText};
     ghost use Rattle.pcap_ng.specs.Reader.{state_of, stream_of, has_failed, is_done, text_of, lent_item, OpensReader, StaysUnlessGiven};
 
     /// Reads the first block off a stream, which has to be a section header, and makes a reader of the blocks after it, which

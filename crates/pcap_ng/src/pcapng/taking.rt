@@ -10,7 +10,8 @@ ghost use Rattle.pcap_items.specs.Reading.{Pulls, TakesAsked};
 ghost use Rattle.pcap_ng.specs.Blocks.{item_of, block_format};
 ghost use Rattle.pcap_ng.specs.Opening.{OpeningSays, OpensHeld, RefusesOpening};
 ghost use Rattle.pcap_ng.specs.Frames.{frame_format};
-ghost use Rattle.pcap_ng.specs.Lent.{held_item, HoldsText, TakesText};
+ghost use Rattle.pcap_items.specs.Lent.{HoldsText, TakesText};
+ghost use Rattle.pcap_ng.specs.Lent.{held_item};
 ghost use Rattle.pcap_ng.specs.StatedFrames.{KnowsFrame};
 ghost use Rattle.pcap_ng.specs.State.{state_in, StaysUnlessTaken};
 
