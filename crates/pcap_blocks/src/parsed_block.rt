@@ -47,9 +47,12 @@ macro_rules! read_body {
 // A body that is kept, of one of these types.
 macro_rules! kept_body {
     ($body:tt $alloc:ident $($type:ident)*) => {
-        Ok(match $body {
-            $(ParsedBlock::$type(held) => ParsedBlock::$type(held.into_static($alloc)?),)*
-        })
+        match $body {
+            $(ParsedBlock::$type(held) => match held.into_static($alloc) {
+                Ok(kept) => Ok(ParsedBlock::$type(kept)),
+                Err(error) => Err(error),
+            },)*
+        }
     };
 }
 

@@ -26,18 +26,23 @@ macro_rules! read_value {
 
 // An option, lent.
 macro_rules! held_option {
-    ($option:tt; $kind:ident; $($name:ident $number:literal $shape:ident $(($($of:tt)*))?;)*) => {{
-        let (code, value) = match $option {
-            $(Self::$name(held) => ($number, $crate::kinds::held_value!($shape held)),)*
-            Self::CustomBinary(held) => (
-                held.code(),
-                HeldValue::CustomBytes(held.pen(), held.value()),
-            ),
-            Self::CustomUtf8(held) => (held.code(), HeldValue::CustomStr(held.pen(), held.value())),
-            Self::Unknown(held) => (held.code(), HeldValue::Unknown(held.length(), held.value())),
-        };
-        Held { code, value }
-    }};
+    ($option:tt; $kind:ident; $($name:ident $number:literal $shape:ident $(($($of:tt)*))?;)*) => {
+        match $option {
+            $(Self::$name(held) => Held { code: $number, value: $crate::kinds::held_value!($shape held) },)*
+            Self::CustomBinary(held) => Held {
+                code: held.code(),
+                value: HeldValue::CustomBytes(held.pen(), held.value()),
+            },
+            Self::CustomUtf8(held) => Held {
+                code: held.code(),
+                value: HeldValue::CustomStr(held.pen(), held.value()),
+            },
+            Self::Unknown(held) => Held {
+                code: held.code(),
+                value: HeldValue::Unknown(held.length(), held.value()),
+            },
+        }
+    };
 }
 
 macro_rules! held_value {
@@ -50,24 +55,35 @@ macro_rules! held_value {
     ($bytes:ident $held:ident) => { HeldValue::Bytes($held.as_slice()) };
 }
 
+// The option of this variant with the value that a call kept, or the call's error. An arm that ends so leaves by the one exit of its
+// `match`, where each `?` would have an exit of its own to be proved.
+macro_rules! with_value {
+    ($variant:path, $value:expr) => {
+        match $value {
+            Ok(value) => Ok($variant(value)),
+            Err(error) => Err(error),
+        }
+    };
+}
+
 // An option that owns its string or bytes.
 macro_rules! kept_option {
     ($option:tt $alloc:ident; $kind:ident; $($name:ident $number:literal $shape:ident $(($($of:tt)*))?;)*) => {
-        Ok(match $option {
-            $($kind::$name(held) => $kind::$name($crate::kinds::kept_value!($shape held $alloc)),)*
-            $kind::CustomBinary(held) => $kind::CustomBinary(held.into_static($alloc)?),
-            $kind::CustomUtf8(held) => $kind::CustomUtf8(held.into_static($alloc)?),
-            $kind::Unknown(held) => $kind::Unknown(held.into_static($alloc)?),
-        })
+        match $option {
+            $($kind::$name(held) => $crate::kinds::kept_value!($shape $kind::$name, held, $alloc),)*
+            $kind::CustomBinary(held) => $crate::kinds::with_value!($kind::CustomBinary, held.into_static($alloc)),
+            $kind::CustomUtf8(held) => $crate::kinds::with_value!($kind::CustomUtf8, held.into_static($alloc)),
+            $kind::Unknown(held) => $crate::kinds::with_value!($kind::Unknown, held.into_static($alloc)),
+        }
     };
 }
 
 macro_rules! kept_value {
-    (string $held:ident $alloc:ident) => { $held.into_static($alloc)? };
-    (bytes $held:ident $alloc:ident) => { $held.into_static($alloc)? };
-    (some_bytes $held:ident $alloc:ident) => { $held.into_static($alloc)? };
-    (fixed_bytes $held:ident $alloc:ident) => { $held.into_static($alloc)? };
-    ($number:ident $held:ident $alloc:ident) => { $held };
+    (string $variant:path, $held:ident, $alloc:ident) => { $crate::kinds::with_value!($variant, $held.into_static($alloc)) };
+    (bytes $variant:path, $held:ident, $alloc:ident) => { $crate::kinds::with_value!($variant, $held.into_static($alloc)) };
+    (some_bytes $variant:path, $held:ident, $alloc:ident) => { $crate::kinds::with_value!($variant, $held.into_static($alloc)) };
+    (fixed_bytes $variant:path, $held:ident, $alloc:ident) => { $crate::kinds::with_value!($variant, $held.into_static($alloc)) };
+    ($number:ident $variant:path, $held:ident, $alloc:ident) => { Ok($variant($held)) };
 }
 
 pub(crate) use held_option;
@@ -76,3 +92,4 @@ pub(crate) use kept_option;
 pub(crate) use kept_value;
 pub(crate) use read_option;
 pub(crate) use read_value;
+pub(crate) use with_value;
