@@ -6,7 +6,8 @@ ghost use Rattle.pcap_core.specs.Answer.{Refuses, TellsWhere, Verdict, lacks, fa
 ghost use Rattle.pcap_core.specs.Errors.{IsMemory};
 ghost use Rattle.pcap_items.specs.Format.{Format, IsLawful};
 ghost use Rattle.pcap_items.specs.Found.{IfItem};
-ghost use Rattle.pcap_items.specs.Pieces.{AfterEach, Came, FindsFront, HoldsItems, IsFedUpTo, IsOpening, OpensWith, Reaches, TakesFront, behind_of, joined_pieces};
+ghost use Rattle.pcap_items.specs.Pieces.{AfterEach, Came, FindsFront, HoldsItems, IsFedUpTo, IsOpening, OpensWith};
+ghost use Rattle.pcap_items.specs.Pieces.{Reaches, TakesFront, behind_of, joined_pieces};
 ghost use Rattle.pcap_items.specs.Waiting.{IsWaiting, error_with, progress_shown, progress_with, rest_shown, rest_with};
 
 use crate::Rest;
@@ -97,11 +98,11 @@ pub fn feed_pieces<P: PieceParser>(
     ensures refused { IfErr result
         (Refuses ⊤ (λ n. P.opens setting (joined_pieces pieces.now) (lacks n)) (λ fault. P.opens setting (joined_pieces pieces.now) (faulty fault))) }
 {
+    let mut numbers = Vec::with_capacity(alloc, pieces.len())?;
     let mut held = Vec::new(alloc);
     let mut items = Vec::new(alloc);
     let mut progress = opened(alloc, setting, &mut held, &mut items)?;
     let mut missing = due(&progress);
-    let mut numbers = Vec::with_capacity(alloc, pieces.len())?;
     let mut total = 0;
     while numbers.len() < pieces.len() {
         let piece = pieces[numbers.len()];

@@ -111,8 +111,8 @@ overflow_sub-used g c =
     let within = waiting_within (p.opens c.args.setting) c.requires.opening p.format c.requires.lawful p.part p.state s (progress_with c.loop-alloc.progress c.loop-alloc.missing) held.items (map p.view c.loop-alloc.items.items) c.loop-alloc.invariant.waiting in
     omega (arith, within, c.loop-alloc.invariant.total, c.len-2.ensures, held.ok.0)
 
-pub returns-clause-fed : goal.returns-clause-fed
-returns-clause-fed g c =
+pub returns-in-Within-clause-fed : goal.returns-in-Within-clause-fed
+returns-in-Within-clause-fed g c =
     let p = g.P.PieceParser in
     let now = c.loop-alloc in
     let pieces = c.args.pieces.now in
