@@ -101,12 +101,12 @@ module _ (header : PcapHeader) (choice : IfUnplaced) (turns : List Turn) (a b : 
     record Left : Type 0 where
       after : List ℕ
       more : List Item
-      done : List Turn
-      others : List Turn
       left : mid.left ≡ Some after
       items : can.items ≡ so_far.items ++ more
-      split : turns ≡ done ++ others
       front : Front block_format mid.state more after []
+      done : List Turn
+      others : List Turn
+      split : turns ≡ done ++ others
       become : AllZip (Becomes header.datalink) so_far.items done
       will_become : AllZip (Becomes header.datalink) more others
 
@@ -123,12 +123,12 @@ module _ (header : PcapHeader) (choice : IfUnplaced) (turns : List Turn) (a b : 
         record {
           after = l.0;
           more = on.0;
-          done = parts.0;
-          others = parts.1;
           left = l.1;
           items = on.1;
-          split = parts.2;
           front = subst (λ (p : State). Front block_format p on.0 l.0 []) so_far.in_force on.2;
+          done = parts.0;
+          others = parts.1;
+          split = parts.2;
           become = parts.3;
           will_become = parts.4;
         }

@@ -1,6 +1,6 @@
 //! Copies of captures, from a reader to a writer.
 
-ghost use Rattle.std.specs.Prelude.{◌≡◌, ◌≤◌, ◌<◌, ◌+◌, ◌^◌, ◌↔◌, ℕ, List, [], true, false, IsTrue, IfSome, IfOk, OnOk, MatchResult};
+ghost use Rattle.std.specs.Prelude.{◌≡◌, ◌≤◌, ◌<◌, ◌+◌, ◌↔◌, ℕ, List, true, false, IsTrue, IfSome, MatchResult};
 ghost use Rattle.pcap_items.specs.Filling.{Stated};
 ghost use Rattle.pcap_items.specs.Copying.{NothingCopied};
 ghost use Rattle.std.specs.Result.{result_err};
@@ -107,7 +107,8 @@ pub fn copy_pcap<R: Read, W: Write>(
 ) -> Copied
     ensures most { result.packets ≤ most }
     ensures run { CopyRun under (R.remaining reader.old) (R.remaining reader.new) (W.contents writer.old) (W.contents writer.new) most result }
-    ensures front { IfSome (R.remaining reader.old) (λ bytes. CopyFront under bytes (R.remaining reader.new) (W.contents writer.old) (W.contents writer.new) most result) }
+    ensures front { IfSome (R.remaining reader.old) (λ bytes. CopyFront under bytes (R.remaining reader.new)
+        (W.contents writer.old) (W.contents writer.new) most result) }
 {
     let tally = &mut Tally::none();
     let result = match begin_copy(reader, writer, under, tally) {
@@ -143,18 +144,19 @@ pub trait PutsPacket {
 
     ghost text: { Self → Captured → List ℕ };
 
-    /// Writes the text of the packet of this header that the bytes are.
+    /// Writes the text of the packet that the bytes are, which came under this header and has this head.
     fn put_held<W: Write>(
         &self,
         writer: &mut W,
         has_failed: &mut bool,
-        header: &PcapHeader,
+        from: &PcapHeader,
         head: PacketHeader,
         held: &[u8],
     ) -> ResultParsing<()>
         requires stands { stands self.now }
-        requires stated { Stated (KnowsHeader header.now) ((reader_format packet_limit header.now).head tt) head held.now }
-        ensures out { WritesHeld ((reader_format packet_limit header.now).says tt) (text self.now) held.now (W.contents writer.old) (W.contents writer.new) result }
+        requires stated { Stated (KnowsHeader from.now) ((reader_format packet_limit from.now).head tt) head held.now }
+        ensures out { WritesHeld ((reader_format packet_limit from.now).says tt) (text self.now) held.now
+            (W.contents writer.old) (W.contents writer.new) result }
         ensures told { MatchResult result (λ _. has_failed.new ≡ has_failed.old) (λ _. has_failed.new ≡ true) };
 }
 
@@ -183,7 +185,8 @@ impl<P: PutsPacket> PacketsAhead<P> {
         requires valid { IsTrue (is_magic self.now.header.magic_number) }
         requires stands { P.stands self.now.puts }
         requires new { NothingCopied tally.old }
-        ensures { CopiesBehind (P.text self.now.puts) self.now.header (R.remaining reader.old) (R.remaining reader.new) (W.contents writer.old) (W.contents writer.new) most (copied_of tally.new (result_err result)) }
+        ensures { CopiesBehind (P.text self.now.puts) self.now.header (R.remaining reader.old) (R.remaining reader.new)
+            (W.contents writer.old) (W.contents writer.new) most (copied_of tally.new (result_err result)) }
     {
         let mut held = Held::new(alloc);
         copy_items(alloc, self, &mut (), reader, writer, most, tally, &mut held)
@@ -279,15 +282,15 @@ impl PutsPacket for UnderHeader {
         &self,
         writer: &mut W,
         has_failed: &mut bool,
-        header: &PcapHeader,
+        from: &PcapHeader,
         head: PacketHeader,
         held: &[u8],
     ) -> ResultParsing<()> {
         let out = &self.out;
-        if header.magic_number == out.magic_number {
+        if from.magic_number == out.magic_number {
             put(writer, has_failed, held)
         } else {
-            put_packet(writer, has_failed, out, &packet_of(header, head, held))
+            put_packet(writer, has_failed, out, &packet_of(from, head, held))
         }
     }
 }

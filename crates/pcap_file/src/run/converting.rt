@@ -102,11 +102,11 @@ impl PutsPacket for PacketBlocks {
         &self,
         writer: &mut W,
         has_failed: &mut bool,
-        header: &PcapHeader,
+        from: &PcapHeader,
         head: PacketHeader,
         held: &[u8],
     ) -> ResultParsing<()> {
-        let packet = packet_of(header, head, held);
+        let packet = packet_of(from, head, held);
         let PacketHeader {
             ts_sec,
             ts_nsec,

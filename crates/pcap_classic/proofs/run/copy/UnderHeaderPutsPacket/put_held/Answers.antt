@@ -4,8 +4,8 @@ use Rattle.pcap_classic.proofs.StatedPackets.{shown_stands}
 use Rattle.pcap_classic.proofs.Stretched.{held_written}
 use Rattle.pcap_classic.proofs.run.copy.UnderHeaderPutsPacket.put_held.Goals as goal
 
-pub returns-then-header-out-clause-out : goal.returns-then-header-out-clause-out
-returns-then-header-out-clause-out g c =
-    let stands = shown_stands c.args.header.now c.args.head c.args.held.now c.requires.stated in
+pub returns-then-from-out-clause-out : goal.returns-then-from-out-clause-out
+returns-then-from-out-clause-out g c =
+    let stands = shown_stands c.args.from.now c.args.head c.args.held.now c.requires.stated in
     let fits = All-from_get_or (λ byte. byte < 256) c.args.held.now 0 (λ i lt. omega (arith, c.type_inv.held i)) in
-    (_, stands, rw (held_written c.args.header.now c.args.self.now.out c.args.held.now _ c.if-header-out.true fits stands) c.put.ensures.out)
+    (_, stands, rw (held_written c.args.from.now c.args.self.now.out c.args.held.now _ c.if-from-out.true fits stands) c.put.ensures.out)

@@ -5,7 +5,7 @@ use Rattle.pcap_file.proofs.Converting.{packet_short, packet_put}
 use Rattle.pcap_file.proofs.run.converting.PacketBlocksPutsPacket.put_held.Goals as goal
 
 pub put_packet-requires : goal.put_packet-requires
-put_packet-requires g c = rw c.as_slice.ensures (packet_short c.args.header.now c.args.held.now (content_of c.packet_of-packet.result) c.packet_of-packet.ensures)
+put_packet-requires g c = rw c.as_slice.ensures (packet_short c.args.from.now c.args.held.now (content_of c.packet_of-packet.result) c.packet_of-packet.ensures)
 
 pub returns-clause-out : goal.returns-clause-out
 returns-clause-out g c =
