@@ -162,7 +162,8 @@ pub(crate) fn blocks<R: BufRead, W: Write>(
     most: u64,
 ) -> Result<(), Exit>
     ensures known { IfErr result IsOfKnownWord }
-    ensures lists { IfSome (R.remaining input.old) (λ s. ListsUntil block_lines most s (R.remaining input.new) (W.contents output.old) (W.contents output.new) (exit_of result)) }
+    ensures lists { IfSome (R.remaining input.old) (λ s. ListsUntil block_lines most s (R.remaining input.new)
+        (W.contents output.old) (W.contents output.new) (exit_of result)) }
 {
     let parser = PcapNgParser::from_reader(alloc, input)?;
     write_section(alloc, output, parser.section())?;

@@ -43,7 +43,8 @@ pub trait Lister {
         ensures counts { (listed.old ≤ listed.new) × (listed.new ≤ most) }
         ensures within { IfOk result (λ used. used ≤ length shown.now) }
         ensures memory { IfErr result (λ exit. IsMemoryExit exit → grows) }
-        ensures walks { WalkGives (is_line (setting self.old)) (format (setting self.old)) (state self.old) (state self.new) shown.now (W.contents output.old) (W.contents output.new) listed.old listed.new most result };
+        ensures walks { WalkGives (is_line (setting self.old)) (format (setting self.old)) (state self.old) (state self.new) shown.now
+            (W.contents output.old) (W.contents output.new) listed.old listed.new most result };
 
     /// Writes the line of the item at the front of the input, and says whether there was one. The errors are those of
     /// `list_shown`, `Io` where the input fails or ends early, and `Refused` where the item is.
@@ -59,7 +60,8 @@ pub trait Lister {
         ensures same { setting self.new ≡ setting self.old }
         ensures counts { IfOk result (λ more. (more ≡ true → listed.new ≡ listed.old + 1)) }
         ensures memory { IfErr result (λ exit. IsMemoryExit exit → grows) }
-        ensures turn { TurnGives (is_line (setting self.old)) (format (setting self.old)) (state self.old) (state self.new) (R.remaining input.old) (R.remaining input.new) (W.contents output.old) (W.contents output.new) listed.old listed.new most result };
+        ensures turn { TurnGives (is_line (setting self.old)) (format (setting self.old)) (state self.old) (state self.new)
+            (R.remaining input.old) (R.remaining input.new) (W.contents output.old) (W.contents output.new) listed.old listed.new most result };
 }
 
 // Writes the lines of the items that lie whole in the input's buffer, else that of the item which is torn at its end. Before
@@ -76,7 +78,8 @@ fn list_some<L: Lister, R: BufRead, W: Write>(
     ensures same { L.setting lister.new ≡ L.setting lister.old }
     ensures counts { IfOk result (λ more. (more ≡ true → (listed.old < listed.new) × (listed.new ≤ most))) }
     ensures memory { IfErr result (λ exit. IsMemoryExit exit → L.grows) }
-    ensures turn { TurnGives (L.is_line (L.setting lister.old)) (L.format (L.setting lister.old)) (L.state lister.old) (L.state lister.new) (R.remaining input.old) (R.remaining input.new) (W.contents output.old) (W.contents output.new) listed.old listed.new most result }
+    ensures turn { TurnGives (L.is_line (L.setting lister.old)) (L.format (L.setting lister.old)) (L.state lister.old) (L.state lister.new)
+        (R.remaining input.old) (R.remaining input.new) (W.contents output.old) (W.contents output.new) listed.old listed.new most result }
 {
     output.flush()?;
     let shown = input.fill_buf()?;
@@ -102,7 +105,8 @@ pub fn list_items<L: Lister, R: BufRead, W: Write>(
     most: u64,
 ) -> Result<(), Exit>
     ensures memory { IfErr result (λ exit. IsMemoryExit exit → L.grows) }
-    ensures lists { ListsItems (L.is_line (L.setting lister.old)) (L.format (L.setting lister.old)) (L.state lister.old) (R.remaining input.old) (R.remaining input.new) (W.contents output.old) (W.contents output.new) most result }
+    ensures lists { ListsItems (L.is_line (L.setting lister.old)) (L.format (L.setting lister.old)) (L.state lister.old)
+        (R.remaining input.old) (R.remaining input.new) (W.contents output.old) (W.contents output.new) most result }
 {
     let mut listed = 0;
     while listed < most {

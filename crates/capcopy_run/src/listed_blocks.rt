@@ -50,7 +50,8 @@ pub trait BlockLine {
     ) -> Result<(), Exit>
         ensures same { setting self.new ≡ setting self.old }
         ensures keeps { kept self.new ≡ behind (kept self.old) (item_of (state_of parser.now) block.now) }
-        ensures writes { WritesLine (line (setting self.old) index (value (kept self.old) (item_of (state_of parser.now) block.now))) (W.contents output.old) (W.contents output.new) result };
+        ensures writes { WritesLine (line (setting self.old) index (value (kept self.old) (item_of (state_of parser.now) block.now)))
+            (W.contents output.old) (W.contents output.new) result };
 
     ghost are_blocks: { AreBlocks format reached value behind };
 }

@@ -60,7 +60,8 @@ fn list_shown<L: PacketLine, B: ByteOrder, W: Write>(
     ensures counts { (listed.old ≤ listed.new) × (listed.new ≤ most) }
     ensures within { IfOk result (λ used. used ≤ length shown.now) }
     ensures memory { IfErr result (λ exit. IsMemoryExit exit → L.grows) }
-    ensures walks { WalkGives (of_header (L.line (L.setting lines.old))) (packet_format packet_limit B.number_of ts_resolution) tt tt shown.now (W.contents output.old) (W.contents output.new) listed.old listed.new most result }
+    ensures walks { WalkGives (of_header (L.line (L.setting lines.old))) (packet_format packet_limit B.number_of ts_resolution) tt tt shown.now
+        (W.contents output.old) (W.contents output.new) listed.old listed.new most result }
 {
     let mut rest = shown;
     while *listed < most {
@@ -88,7 +89,8 @@ fn list_torn<L: PacketLine, B: ByteOrder, R: BufRead, W: Write>(
     ensures same { L.setting lines.new ≡ L.setting lines.old }
     ensures counts { IfOk result (λ more. listed.new ≡ listed.old + 1) }
     ensures memory { IfErr result (λ exit. IsMemoryExit exit → L.grows) }
-    ensures turn { TurnGives (of_header (L.line (L.setting lines.old))) (packet_format packet_limit B.number_of ts_resolution) tt tt (R.remaining input.old) (R.remaining input.new) (W.contents output.old) (W.contents output.new) listed.old listed.new most result }
+    ensures turn { TurnGives (of_header (L.line (L.setting lines.old))) (packet_format packet_limit B.number_of ts_resolution) tt tt
+        (R.remaining input.old) (R.remaining input.new) (W.contents output.old) (W.contents output.new) listed.old listed.new most result }
 {
     let header = PacketHeader::from_reader::<R, B>(input, ts_resolution)?;
     skip_exact(input, header.incl_len as usize)?;
@@ -175,7 +177,8 @@ pub fn list_packets<L: PacketLine + Drop, R: BufRead, W: Write>(
 ) -> Result<(), Exit>
     ensures known { IfErr result IsOfKnownWord }
     ensures memory { IfErr result (λ exit. IsMemoryExit exit → L.grows) }
-    ensures lists { IfSome (R.remaining input.old) (λ s. ListsUntil (packets_in L.grows (of_header (L.line (L.setting lines)))) most s (R.remaining input.new) (W.contents output.old) (W.contents output.new) (exit_of result)) }
+    ensures lists { IfSome (R.remaining input.old) (λ s. ListsUntil (packets_in L.grows (of_header (L.line (L.setting lines)))) most s
+        (R.remaining input.new) (W.contents output.old) (W.contents output.new) (exit_of result)) }
 {
     let header = PcapHeader::from_reader(input)?;
     let mut packets = Packets {

@@ -1,6 +1,6 @@
 //! The words of a run, wherever they come from.
 
-ghost use Rattle.std.specs.Prelude.{◌≡◌, ◌⊎◌, ◌≢◌, ℕ, List, Option, None, IfSome, slice_get};
+ghost use Rattle.std.specs.Prelude.{◌≡◌, ℕ, List, Option, None, IfSome, slice_get};
 ghost use Rattle.std.specs.Io.{WritesAtMost};
 ghost use Rattle.capcopy_run.specs.Runs.{AreTexts, RunsBuffered, StandsAt, TellsWord};
 ghost use Rattle.capcopy_run.specs.WordPlaces.{environment_of, words_in};
@@ -174,7 +174,8 @@ fn run_asked<R: Read + Drop, W: Write>(
     input: R,
     output: &mut W,
 ) -> Exit
-    ensures { (words : List (List ℕ)) → AreTexts words texts.entry → RunsBuffered words 4294967295 (R.remaining input) (W.contents output.old) (W.contents output.new) result }
+    ensures { (words : List (List ℕ)) → AreTexts words texts.entry
+        → RunsBuffered words 4294967295 (R.remaining input) (W.contents output.old) (W.contents output.new) result }
 {
     match texts {
         Texts::Nothing => Exit::Usage,

@@ -6,7 +6,6 @@ use Rattle.pcap_core.specs.Faults.{Fault, Invalid}
 use Rattle.pcap_core.specs.declared.rules.Rule.TheVariants.{EnhancedTooShort}
 use Rattle.pcap_blocks.specs.declared.enhanced_packet.EnhancedPacketBlock.{EnhancedPacketBlock}
 use Rattle.pcap_core.specs.Padded.{Behind}
-use Rattle.pcap_options.specs.Values.{bytes}
 use Rattle.pcap_options.specs.Growth.{HoldsAfter}
 use Rattle.pcap_blocks.specs.StoredPacket.{Stored, StoredText, StoredFault, StoredMayGrow}
 use Rattle.pcap_options.specs.EnhancedOption.{enhanced_packet, enhanced_entry, EnhancedOptionIsBorrowed, EnhancedOptionIsOwned}

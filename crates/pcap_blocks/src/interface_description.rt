@@ -3,7 +3,8 @@
 ghost use Rattle.std.specs.Prelude.{◌≡◌, IsOk, IfOk, IfErr};
 ghost use Rattle.pcap_core.specs.Answer.{TellsWhere};
 ghost use Rattle.pcap_options.specs.Refusal.{FindsWhere};
-ghost use Rattle.pcap_blocks.specs.InterfaceDescription.{InterfaceSays, interface_of, InterfaceIsBorrowed, InterfaceIsOwned, InterfaceNeedsNoMemory, InterfaceMayGrow};
+ghost use Rattle.pcap_blocks.specs.InterfaceDescription.{InterfaceSays, interface_of, InterfaceIsBorrowed, InterfaceIsOwned};
+ghost use Rattle.pcap_blocks.specs.InterfaceDescription.{InterfaceNeedsNoMemory, InterfaceMayGrow};
 ghost use Rattle.pcap_core.specs.Errors.{IsMemory};
 
 use byteorder::ByteOrder;

@@ -3,7 +3,8 @@
 ghost use Rattle.std.specs.Prelude.{IsOk, IfOk, ◌≡◌, IfErr};
 ghost use Rattle.pcap_core.specs.Answer.{TellsWhere};
 ghost use Rattle.pcap_options.specs.Refusal.{FindsWhere};
-ghost use Rattle.pcap_blocks.specs.InterfaceStatistics.{StatisticsSays, statistics_of, StatisticsIsBorrowed, StatisticsIsOwned, StatisticsNeedsNoMemory, StatisticsMayGrow};
+ghost use Rattle.pcap_blocks.specs.InterfaceStatistics.{StatisticsSays, statistics_of, StatisticsIsBorrowed, StatisticsIsOwned};
+ghost use Rattle.pcap_blocks.specs.InterfaceStatistics.{StatisticsNeedsNoMemory, StatisticsMayGrow};
 ghost use Rattle.pcap_core.specs.Errors.{IsMemory};
 
 use crate::time::split_time;

@@ -3,7 +3,8 @@
 ghost use Rattle.std.specs.Prelude.{IsOk, IfOk, ◌≡◌, IfErr};
 ghost use Rattle.pcap_core.specs.Answer.{TellsWhere};
 ghost use Rattle.pcap_options.specs.Refusal.{FindsWhere};
-ghost use Rattle.pcap_blocks.specs.NameResolution.{ResolutionSays, names_of, ResolutionIsBorrowed, ResolutionIsOwned, ResolutionNeedsNoMemory, ResolutionMayGrow};
+ghost use Rattle.pcap_blocks.specs.NameResolution.{ResolutionSays, names_of, ResolutionIsBorrowed, ResolutionIsOwned};
+ghost use Rattle.pcap_blocks.specs.NameResolution.{ResolutionNeedsNoMemory, ResolutionMayGrow};
 ghost use Rattle.pcap_core.specs.Errors.{IsMemory};
 
 use byteorder::ByteOrder;

@@ -3,7 +3,8 @@
 ghost use Rattle.std.specs.Prelude.{◌≡◌, ◌≤◌, ◌↔◌, length, IsOk, IfOk, IsTrue, IsSome, Some, IfErr};
 ghost use Rattle.pcap_core.specs.Answer.{TellsWhere};
 ghost use Rattle.pcap_options.specs.Refusal.{FindsWhere};
-ghost use Rattle.pcap_blocks.specs.SectionHeader.{magic_order, SectionSays, AfterMagicSays, section_of, SectionIsBorrowed, SectionIsOwned, SectionNeedsNoMemory, SectionMayGrow, AfterMagicMayGrow};
+ghost use Rattle.pcap_blocks.specs.SectionHeader.{magic_order, SectionSays, AfterMagicSays, section_of, SectionIsBorrowed, SectionIsOwned};
+ghost use Rattle.pcap_blocks.specs.SectionHeader.{SectionNeedsNoMemory, SectionMayGrow, AfterMagicMayGrow};
 ghost use Rattle.pcap_core.specs.Errors.{IsMemory};
 
 use byteorder::{BigEndian, ByteOrder, LittleEndian};

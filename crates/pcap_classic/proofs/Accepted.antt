@@ -24,14 +24,13 @@ use Rattle.pcap_classic.specs.HeaderText.{HeaderText, HeaderSays}
 use Rattle.pcap_classic.specs.Magic.{order_of, resolution_of}
 use Rattle.pcap_classic.specs.Packets.{packet_format}
 use Rattle.pcap_classic.specs.PacketText.{Captured, PacketText, packet_limit}
-use Rattle.pcap_items.specs.Reading.{read_failed, refused, IsFaultOf, ReadsTold}
+use Rattle.pcap_items.specs.Reading.{IsFaultOf, ReadsTold}
 use Rattle.pcap_items.specs.Takes.{EndsFront}
 use Rattle.pcap_classic.specs.Written.{written_under, capture, cut, IsWhole, IsWholeHeader}
 use Rattle.pcap_core.proofs.WrittenNumbers.{number_below}
 use Rattle.pcap_classic.proofs.Concrete.{packet_written, header_written, front_written}
 use Rattle.pcap_items.proofs.Accepted.{no_fault_left}
 use Rattle.pcap_items.proofs.Copying.{ends_stops}
-use Rattle.pcap_items.proofs.Formats.{only}
 use Rattle.pcap_classic.proofs.One.{header_one}
 use Rattle.pcap_classic.proofs.OneFront.{front_one}
 use Rattle.pcap_classic.proofs.ReadCapture.{capture_again}

@@ -23,7 +23,8 @@ ghost use Rattle.pcap_file.specs.Placed.{Becomes, PlacesBody, Turn, carried, pac
 ghost use Rattle.pcap_file.specs.Placing.{PlacesRun, Sink, Source, source_of};
 ghost use Rattle.pcap_ng.specs.Reader.{OpensReader};
 ghost use Rattle.pcap_ng.specs.declared.pcapng.reader.PcapNgReader.{PcapNgReader};
-ghost use Rattle.pcap_file.specs.RoundTrip.{AreReady, BeginsPlaced, BlocksBecome, CanPlace, ComeBack, GoesNoFurther, HasSecondsInside, IsOpened, PlacesEach, PlacesRow, packets_read};
+ghost use Rattle.pcap_file.specs.RoundTrip.{AreReady, BeginsPlaced, BlocksBecome, CanPlace, ComeBack, GoesNoFurther, HasSecondsInside};
+ghost use Rattle.pcap_file.specs.RoundTrip.{IsOpened, PlacesEach, PlacesRow, packets_read};
 ghost use Rattle.pcap_file.specs.RoundTrip as whole_runs;
 ghost use Rattle.std.specs.List.{AllZip, flat_map};
 ghost use Rattle.pcap_written.specs.Writing.{IsFitIn};

@@ -52,7 +52,8 @@ impl<'a> EnhancedPacketOption<'a> {
         alloc: Global,
         slice: &'a [u8],
     ) -> ResultParsing<(&'a [u8], Vec<Self>)>
-        ensures tells { TellsWhere (OptionsMayGrow B.number_of enhanced_packet slice.now) (ListSays may_end_with_body B.number_of enhanced_packet slice.now) (λ options. map enhanced_entry options.items) result }
+        ensures tells { TellsWhere (OptionsMayGrow B.number_of enhanced_packet slice.now) (ListSays may_end_with_body B.number_of enhanced_packet slice.now)
+            (λ options. map enhanced_entry options.items) result }
         ensures borrowed { IfOk result (λ x. All EnhancedOptionIsBorrowed x.1.items) }
     {
         Ok(Self::list_from_slice::<B>(alloc, slice)?)

@@ -6,7 +6,8 @@ ghost use Rattle.pcap_core.specs.Answer.{TellsAll};
 ghost use Rattle.pcap_options.specs.Refusal.{Finds, FindsWhere, FindsAll};
 ghost use Rattle.pcap_options.specs.Values.{Kind, CustomBytes, CustomStr, Unknown, shape_at, custom_string, custom_bytes, EntrySays, value_bytes, integer_in};
 ghost use Rattle.pcap_options.specs.Options.{may_end_with_body, OptionSays, ListSays, OptionsMayGrow};
-ghost use Rattle.pcap_options.specs.CommonOptions.{unknown_entry, custom_bytes_entry, custom_string_entry, UnknownIsBorrowed, CustomBytesIsBorrowed, CustomStringIsBorrowed, UnknownIsOwned, CustomBytesIsOwned, CustomStringIsOwned};
+ghost use Rattle.pcap_options.specs.CommonOptions.{unknown_entry, custom_bytes_entry, custom_string_entry, UnknownIsBorrowed, CustomBytesIsBorrowed};
+ghost use Rattle.pcap_options.specs.CommonOptions.{CustomStringIsBorrowed, UnknownIsOwned, CustomBytesIsOwned, CustomStringIsOwned};
 ghost use Rattle.pcap_core.specs.Errors.{IsMemory};
 
 use crate::held::HoldsEntry;
@@ -258,7 +259,8 @@ pub trait ListedOption<'a>: PcapNgOption<'a> {
         alloc: Global,
         slice: &'a [u8],
     ) -> Result<(&'a [u8], Vec<Self>), Refusal>
-        ensures tells { FindsWhere (OptionsMayGrow B.number_of Self.kind slice.now) (ListSays may_end_with_body B.number_of Self.kind slice.now) (λ options. map Self.entry options.items) result }
+        ensures tells { FindsWhere (OptionsMayGrow B.number_of Self.kind slice.now) (ListSays may_end_with_body B.number_of Self.kind slice.now)
+            (λ options. map Self.entry options.items) result }
         ensures borrowed { IfOk result (λ x. All Self.is_borrowed x.1.items) };
 }
 
@@ -304,7 +306,8 @@ pub fn options_from_slice<'a, O: PcapNgOption<'a> + Drop, B: ByteOrder>(
     alloc: Global,
     slice: &'a [u8],
 ) -> Result<(&'a [u8], Vec<O>), Refusal>
-    ensures tells { FindsWhere (OptionsMayGrow B.number_of O.kind slice.now) (ListSays may_end_with_body B.number_of O.kind slice.now) (λ options. map O.entry options.items) result }
+    ensures tells { FindsWhere (OptionsMayGrow B.number_of O.kind slice.now) (ListSays may_end_with_body B.number_of O.kind slice.now)
+        (λ options. map O.entry options.items) result }
     ensures borrowed { IfOk result (λ x. All O.is_borrowed x.1.items) }
 {
     let mut options = Vec::new(alloc);

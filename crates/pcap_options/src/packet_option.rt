@@ -50,7 +50,8 @@ impl<'a> PacketOption<'a> {
         alloc: Global,
         slice: &'a [u8],
     ) -> ResultParsing<(&'a [u8], Vec<Self>)>
-        ensures tells { TellsWhere (OptionsMayGrow B.number_of packet_kind slice.now) (ListSays may_end_with_body B.number_of packet_kind slice.now) (λ options. map packet_entry options.items) result }
+        ensures tells { TellsWhere (OptionsMayGrow B.number_of packet_kind slice.now) (ListSays may_end_with_body B.number_of packet_kind slice.now)
+            (λ options. map packet_entry options.items) result }
         ensures borrowed { IfOk result (λ x. All PacketOptionIsBorrowed x.1.items) }
     {
         Ok(Self::list_from_slice::<B>(alloc, slice)?)

@@ -4,7 +4,10 @@ ghost use Rattle.std.specs.Prelude.{◌≡◌, ◌≤◌, length, IsOk, IfOk, If
 ghost use Rattle.pcap_core.specs.Answer.{TellsWhere, TellsAllWhere};
 ghost use Rattle.pcap_core.specs.declared.rules.Rule.TheVariants.{Ipv4RecordTooShort, Ipv6RecordTooShort};
 ghost use Rattle.pcap_options.specs.Refusal.{FindsWhere, FindsAllWhere};
-ghost use Rattle.pcap_options.specs.Record.{AddressSays, address_of, AddressIsBorrowed, form_of, RecordValueSays, RecordSays, ipv4_of, ipv6_of, name_record_of, Ipv4IsBorrowed, Ipv6IsBorrowed, RecordIsBorrowed, other_of, Ipv4IsOwned, Ipv4NeedsNoMemory, Ipv6IsOwned, Ipv6NeedsNoMemory, UnknownRecordIsOwned, RecordIsOwned, RecordNeedsNoMemory, AddressMayGrow, RecordValueMayGrow, RecordMayGrow};
+ghost use Rattle.pcap_options.specs.Record.{AddressSays, address_of, AddressIsBorrowed, form_of, RecordValueSays, RecordSays, ipv4_of, ipv6_of};
+ghost use Rattle.pcap_options.specs.Record.{name_record_of, Ipv4IsBorrowed, Ipv6IsBorrowed, RecordIsBorrowed, other_of, Ipv4IsOwned};
+ghost use Rattle.pcap_options.specs.Record.{Ipv4NeedsNoMemory, Ipv6IsOwned, Ipv6NeedsNoMemory, UnknownRecordIsOwned, RecordIsOwned};
+ghost use Rattle.pcap_options.specs.Record.{RecordNeedsNoMemory, AddressMayGrow, RecordValueMayGrow, RecordMayGrow};
 ghost use Rattle.pcap_core.specs.Errors.{IsMemory};
 
 use crate::kept_fields;

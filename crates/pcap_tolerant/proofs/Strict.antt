@@ -10,7 +10,7 @@ use Rattle.pcap_core.specs.Faults.{Fault, Invalid}
 use Rattle.pcap_classic.specs.PacketText.{packet_limit, Head, RecordHeadText, IsGood, head_fault, nanoseconds, spelled_header, Captured, PacketSays, LacksData, HasHeadFault}
 use Rattle.pcap_classic.proofs.HeadedPackets.{packet_one}
 use Rattle.pcap_tolerant.specs.AsIs.{flaws_of, rules_of, where_broken, AsIs, strict_of, AsIsText, LacksStored, HasLongHead, AsIsSays}
-use Rattle.pcap_tolerant.specs.Strict.{MatchFirst, BreaksFirst, StrictIs}
+use Rattle.pcap_tolerant.specs.Strict.{MatchFirst, StrictIs}
 
 -- ---- the first fault of a head is the first rule that it breaks
 

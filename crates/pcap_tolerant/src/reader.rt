@@ -43,15 +43,18 @@ fn hold<T: Read>(
 ) -> ResultParsing<Option<HeadAsIs>>
     requires between { held_in fill.old ≡ [] }
     requires unfailed { source_failed fill.old ≡ false }
-    ensures pulls { Pulls ((as_is_under limit (header_of parser.now)).says tt) (held_as_is (held_in fill.new)) (T.remaining (source_of fill.old)) (T.remaining (source_of fill.new)) (source_failed fill.new) result }
+    ensures pulls { Pulls ((as_is_under limit (header_of parser.now)).says tt) (held_as_is (held_in fill.new))
+        (T.remaining (source_of fill.old)) (T.remaining (source_of fill.new)) (source_failed fill.new) result }
     ensures none { IfOk result (λ head. IfNone head (held_in fill.new ≡ [])) }
-    ensures text { HoldsTaken ((as_is_under limit (header_of parser.now)).says tt) (held_as_is (held_in fill.new)) (T.remaining (source_of fill.old)) (T.remaining (source_of fill.new)) (held_in fill.new) result }
+    ensures text { HoldsTaken ((as_is_under limit (header_of parser.now)).says tt) (held_as_is (held_in fill.new))
+        (T.remaining (source_of fill.old)) (T.remaining (source_of fill.new)) (held_in fill.new) result }
 {
     fill.item(&PacketsAsIs { parser, limit })
 }
 
 impl<T: Read + Drop> ReaderAsIs<T> {
-    ghost use Rattle.pcap_tolerant.specs.ReaderAsIs.{stream_of, header_read, limit_of, has_failed, is_done, held_of, data_of, lent_packet, HoldsGiven, OpensAsIs};
+    ghost use Rattle.pcap_tolerant.specs.ReaderAsIs.{stream_of, header_read, limit_of, has_failed, is_done, held_of};
+    ghost use Rattle.pcap_tolerant.specs.ReaderAsIs.{data_of, lent_packet, HoldsGiven, OpensAsIs};
 
     /// Reads the header of a capture off a stream, and makes a reader of the packets behind it. A refused call drops the stream.
     ///
@@ -71,9 +74,12 @@ impl<T: Read + Drop> ReaderAsIs<T> {
     pub fn next_header(&mut self) -> Option<ResultParsing<HeadAsIs>>
         ensures header { header_read self.new ≡ header_read self.old }
         ensures limit { limit_of self.new ≡ limit_of self.old }
-        ensures next { NextGives ((as_is_under (limit_of self.old) (header_read self.old)).says tt) (lent_packet self.new) (T.remaining (stream_of self.old)) (T.remaining (stream_of self.new)) (is_done self.old) (is_done self.new) (has_failed self.old) (has_failed self.new) result }
+        ensures next { NextGives ((as_is_under (limit_of self.old) (header_read self.old)).says tt) (lent_packet self.new)
+            (T.remaining (stream_of self.old)) (T.remaining (stream_of self.new)) (is_done self.old) (is_done self.new)
+            (has_failed self.old) (has_failed self.new) result }
         ensures let_go { IfNone result (data_of self.new ≡ []) }
-        ensures text { HoldsGiven ((as_is_under (limit_of self.old) (header_read self.old)).says tt) (lent_packet self.new) (T.remaining (stream_of self.old)) (T.remaining (stream_of self.new)) (held_of self.new) result }
+        ensures text { HoldsGiven ((as_is_under (limit_of self.old) (header_read self.old)).says tt) (lent_packet self.new)
+            (T.remaining (stream_of self.old)) (T.remaining (stream_of self.new)) (held_of self.new) result }
     {
         self.fill.clear();
         if self.is_done {

@@ -1,8 +1,8 @@
 //! Sections as they stand.
 
-ghost use Rattle.std.specs.Prelude.{◌≡◌, ◌≤◌, length, map, Some, IfOk, IfErr};
+ghost use Rattle.std.specs.Prelude.{◌≡◌, ◌≤◌, length, map, IfOk, IfErr};
 ghost use Rattle.pcap_core.specs.Answer.{Refuses};
-ghost use Rattle.pcap_blocks.specs.SectionHeader.{section_of, magic_order, SectionIsBorrowed};
+ghost use Rattle.pcap_blocks.specs.SectionHeader.{section_of, SectionIsBorrowed};
 ghost use Rattle.pcap_tolerant_blocks.specs.Flaws.{said_of};
 ghost use Rattle.pcap_tolerant_blocks.specs.SectionAsIs.{AfterMagic, SectionText, NoSection, VersionGrows, SectionGrows};
 

@@ -11,7 +11,8 @@ ghost use Rattle.pcap_blocks.specs.SimplePacket.{SimpleIsBorrowed};
 ghost use Rattle.pcap_tolerant_blocks.specs.NamesAsIs.{NamesText, NamesGrow, flaws_said as names_flaws};
 ghost use Rattle.pcap_tolerant_blocks.specs.SimpleAsIs.{SimpleAsIsText, simple_in as simple_of, flaws_said as simple_flaws};
 ghost use Rattle.pcap_tolerant_blocks.specs.StatisticsAsIs.{StatisticsAsIsText, StatisticsGrow, statistics_in as statistics_of, flaws_said as statistics_flaws};
-ghost use Rattle.pcap_tolerant_captures.specs.Blocks.{IsPacketIn, IsSimpleIn, IsPacketBlockIn, AreStatisticsIn, AreNamesIn, PacketGrowsIn, SimpleGrowsIn, PacketBlockGrowsIn, StatisticsGrowIn, NamesGrowIn};
+ghost use Rattle.pcap_tolerant_captures.specs.Blocks.{IsPacketIn, IsSimpleIn, IsPacketBlockIn, AreStatisticsIn, AreNamesIn, PacketGrowsIn};
+ghost use Rattle.pcap_tolerant_captures.specs.Blocks.{SimpleGrowsIn, PacketBlockGrowsIn, StatisticsGrowIn, NamesGrowIn};
 
 use byteorder::{BigEndian, LittleEndian};
 use pcap_blocks::BlockType;

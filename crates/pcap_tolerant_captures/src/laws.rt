@@ -66,7 +66,8 @@ pub fn capture_without_flaws_is_strict()
 /// that block by its first flaw.
 pub fn strict_capture_ends_at_the_first_flaw()
     ensures { (before : List Item) (flawed : Item) (others : List Item) (first : Said) (more : List Said) (s left : List ℕ) →
-        Front as_is_format opening (before ++ flawed ∷ others) s left → All IsSound before → flawed.led.flaws ≡ first ∷ more → StrictEndsAt before first.fault s }
+        Front as_is_format opening (before ++ flawed ∷ others) s left → All IsSound before → flawed.led.flaws ≡ first ∷ more
+        → StrictEndsAt before first.fault s }
 {}
 
 /// Where `resync` says that blocks stand, the parser gives the next one.

@@ -77,7 +77,8 @@ pub fn pieces_pcapng_as_is(
     ensures run { IfOk result (λ x. IsRunAsIs x.0 (joined_pieces pieces.now)) }
     ensures numbers { IfOk result (λ x. AfterEach HoldsBlocksAsIs [] pieces.now x.1.items) }
     ensures owned { IfOk result (λ x. All (λ block. IsOwned block.block.body) (all_of x.0)) }
-    ensures refused { IfErr result (Refuses ⊤ (λ n. AsIsSays opening (joined_pieces pieces.now) (lacks n)) (λ fault. AsIsSays opening (joined_pieces pieces.now) (faulty fault))) }
+    ensures refused { IfErr result (Refuses ⊤ (λ n. AsIsSays opening (joined_pieces pieces.now) (lacks n))
+        (λ fault. AsIsSays opening (joined_pieces pieces.now) (faulty fault))) }
 {
     let fed = feed_pieces::<OpenedAsIs>(alloc, (), pieces)?;
     let OpenedAsIs { parser, first } = fed.parser;

@@ -139,7 +139,8 @@ pub(crate) fn first_flawed(first: &BlockAsIs, blocks: &[BlockAsIs], used: usize)
 pub fn parse_pcapng_as_is<'a>(alloc: Global, bytes: &'a [u8]) -> ResultParsing<NgRunAsIs<'a>>
     ensures front { IfOk result (λ run. IsRunAsIs run bytes.now) }
     ensures borrowed { IfOk result (λ run. All (λ block. IsBorrowed block.block.body) (all_of run)) }
-    ensures refused { IfErr result (Refuses (MayGrow opening bytes.now) (λ n. AsIsSays opening bytes.now (lacks n)) (λ fault. AsIsSays opening bytes.now (faulty fault))) }
+    ensures refused { IfErr result (Refuses (MayGrow opening bytes.now) (λ n. AsIsSays opening bytes.now (lacks n))
+        (λ fault. AsIsSays opening bytes.now (faulty fault))) }
 {
     let (after_first, opened) = PcapNgParserAsIs::new(alloc, bytes)?;
     let head = bytes.len() - after_first.len();

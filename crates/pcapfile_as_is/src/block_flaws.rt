@@ -112,7 +112,8 @@ fn put_flaws<W: Write>(
     place: u64,
     flaws: &[Flaw],
 ) -> Result<(), Exit>
-    ensures { WritesLine (λ line. line ≡ said_lines (block_place prefix.now number place) (map said_of flaws.now)) (W.contents output.old) (W.contents output.new) result }
+    ensures { WritesLine (λ line. line ≡ said_lines (block_place prefix.now number place) (map said_of flaws.now))
+        (W.contents output.old) (W.contents output.new) result }
 {
     if flaws.is_empty() {
         return Ok(());

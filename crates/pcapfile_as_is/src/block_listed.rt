@@ -83,7 +83,8 @@ fn body_lent<T>(
     reader: &PcapNgReaderAsIs<T>,
     header: BlockHeader,
 ) -> Result<Option<BodyAsIs<'_>>, AllocError>
-    ensures { IfOk result (λ held. HoldsIf (framed_around header (body_of reader.now)) (option_map (λ body. (option_map body_shown body.body, map said_of body.flaws.items)) held)) }
+    ensures { IfOk result (λ held. HoldsIf (framed_around header (body_of reader.now))
+        (option_map (λ body. (option_map body_shown body.body, map said_of body.flaws.items)) held)) }
 {
     if let Some(read) = reader.enhanced(header)? {
         return Ok(Some(of_enhanced(read)));
@@ -161,7 +162,8 @@ fn packet_line(
     packet: BlockPacket,
     flaws: &[Flaw],
 ) -> Result<Vec<u8>, AllocError>
-    ensures { IfOk result (λ line. IsPacketText (option_map (λ interface. interface_of interface.now) interface.entry) number (in_block packet.entry) (ending (map said_of flaws.now)) line.items) }
+    ensures { IfOk result (λ line. IsPacketText (option_map (λ interface. interface_of interface.now) interface.entry) number (in_block packet.entry)
+        (ending (map said_of flaws.now)) line.items) }
 {
     let mut room = [0; ROOM];
     let start = put_packet(&mut room, ROOM, number, interface, packet);
@@ -188,7 +190,8 @@ fn line_of<T>(
     held: &BodyAsIs<'_>,
 ) -> Result<Vec<u8>, AllocError>
     ensures { let interfaces = described (state_of reader.now) in
-        IfOk result (λ line. IsMarkedLine interfaces number (packet_as_is (known 0 interfaces) (option_map body_shown held.now.body)) (map said_of held.now.flaws.items) line.items) }
+        IfOk result (λ line. IsMarkedLine interfaces number (packet_as_is (known 0 interfaces) (option_map body_shown held.now.body))
+        (map said_of held.now.flaws.items) line.items) }
 {
     let flaws = held.flaws.as_slice();
     match packet_of(interface_known(reader, 0), &held.body) {
@@ -209,7 +212,8 @@ fn put_line_of<T, W: Write>(
     held: &BodyAsIs<'_>,
 ) -> Result<(), Exit>
     ensures { let interfaces = described (state_of reader.now) in
-        WritesLine (IsMarkedLine interfaces number (packet_as_is (known 0 interfaces) (option_map body_shown held.now.body)) (map said_of held.now.flaws.items)) (W.contents output.old) (W.contents output.new) result }
+        WritesLine (IsMarkedLine interfaces number (packet_as_is (known 0 interfaces) (option_map body_shown held.now.body))
+        (map said_of held.now.flaws.items)) (W.contents output.old) (W.contents output.new) result }
 {
     let line = line_of(alloc, number, reader, held)?;
     put_line(output, line.as_slice())
@@ -224,7 +228,8 @@ fn put_held<T, W: Write>(
     held: &BodyAsIs<'_>,
 ) -> Result<Told, Exit>
     ensures { let interfaces = described (state_of reader.now) in
-        WritesTold (IsListedBody interfaces number (option_map body_shown held.now.body) (map said_of held.now.flaws.items)) (W.contents output.old) (W.contents output.new) result }
+        WritesTold (IsListedBody interfaces number (option_map body_shown held.now.body) (map said_of held.now.flaws.items))
+        (W.contents output.old) (W.contents output.new) result }
 {
     put_line_of(alloc, output, number, reader, held)?;
     Ok(Told {

@@ -33,5 +33,6 @@ pub trait BlockTeller {
         lent: &LentAsIs,
     ) -> Result<Told, Exit>
         ensures same { setting self.new ≡ setting self.old }
-        ensures writes { WritesTold (is_told (setting self.old) number place (lent_item reader.now lent.now)) (W.contents output.old) (W.contents output.new) result };
+        ensures writes { WritesTold (is_told (setting self.old) number place (lent_item reader.now lent.now))
+            (W.contents output.old) (W.contents output.new) result };
 }

@@ -35,8 +35,12 @@ pub fn tell_blocks<P: BlockTeller, T: Read + Drop, W: Write>(
     ensures readable { IfErr result (λ exit. (is_done reader.new ≡ false) × (has_failed reader.new ≡ false)) }
     ensures told { let tells = P.is_told (P.setting teller.old) in
         MatchResult result
-        (λ fault. TellsItems as_is_format (state_of reader.old) block_size tells (state_of reader.new) (T.remaining (stream_of reader.old)) (T.remaining (stream_of reader.new)) (W.contents output.old) (W.contents output.new) (has_failed reader.new) most counted.old counted.new fault)
-        (λ exit. TellsTorn as_is_format (state_of reader.old) block_size tells (state_of reader.new) (T.remaining (stream_of reader.old)) (T.remaining (stream_of reader.new)) (W.contents output.old) (W.contents output.new) counted.old counted.new exit) }
+        (λ fault. TellsItems as_is_format (state_of reader.old) block_size tells (state_of reader.new)
+        (T.remaining (stream_of reader.old)) (T.remaining (stream_of reader.new)) (W.contents output.old) (W.contents output.new)
+        (has_failed reader.new) most counted.old counted.new fault)
+        (λ exit. TellsTorn as_is_format (state_of reader.old) block_size tells (state_of reader.new)
+        (T.remaining (stream_of reader.old)) (T.remaining (stream_of reader.new)) (W.contents output.old) (W.contents output.new)
+        counted.old counted.new exit) }
 {
     for turn in 0..most {
         match reader.next_header() {

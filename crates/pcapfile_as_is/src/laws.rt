@@ -18,11 +18,13 @@ pub fn repaired_packets_are_whole()
 
 /// A packet that breaks no rule is repaired to what it is.
 pub fn sound_packets_stay()
-    ensures { (limit : ℕ) (order : Order) (r : TsResolution) (packet : AsIs) (s rest : List ℕ) → AsIsText limit order r packet s rest → breaks_one packet.flaws ≡ false → repaired_of r packet ≡ strict_of r packet }
+    ensures { (limit : ℕ) (order : Order) (r : TsResolution) (packet : AsIs) (s rest : List ℕ) → AsIsText limit order r packet s rest
+        → breaks_one packet.flaws ≡ false → repaired_of r packet ≡ strict_of r packet }
 {}
 
 /// A header and repaired packets, written one after the other, are read by the strict reading whole, with no packet refused.
 pub fn repaired_captures_are_read()
     ensures { (header : PcapHeader) (packets : List AsIs) → IsWholeHeader header → All (λ packet. packet.head.seconds < 2 ^ 32) packets →
-        CaptureFront packet_limit header (map (cut (resolution_of header.magic_number)) (map (repaired_of (resolution_of header.magic_number)) packets)) (capture header (map (repaired_of (resolution_of header.magic_number)) packets)) [] }
+        CaptureFront packet_limit header (map (cut (resolution_of header.magic_number)) (map (repaired_of (resolution_of header.magic_number)) packets))
+        (capture header (map (repaired_of (resolution_of header.magic_number)) packets)) [] }
 {}

@@ -57,7 +57,8 @@ fn put_made<W: Write>(
     ts_resolution: TsResolution,
     packet: &Packet<'_>,
 ) -> Result<(), Exit>
-    ensures { WritesLine (λ line. line ≡ record_bytes (number_bytes order) ts_resolution (content_of packet.now)) (W.contents output.old) (W.contents output.new) result }
+    ensures { WritesLine (λ line. line ≡ record_bytes (number_bytes order) ts_resolution (content_of packet.now))
+        (W.contents output.old) (W.contents output.new) result }
 {
     put_bytes(room, order, ts_resolution, packet)?;
     put_line(output, room.as_slice())

@@ -31,5 +31,6 @@ pub trait Teller {
         packet: &PacketAsIs<'_>,
     ) -> Result<(), Exit>
         ensures same { setting self.new ≡ setting self.old }
-        ensures writes { WritesLine (λ line. line ≡ text (setting self.old) ts_resolution number place (as_it_is packet.now)) (W.contents output.old) (W.contents output.new) result };
+        ensures writes { WritesLine (λ line. line ≡ text (setting self.old) ts_resolution number place (as_it_is packet.now))
+            (W.contents output.old) (W.contents output.new) result };
 }

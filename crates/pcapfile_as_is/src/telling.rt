@@ -39,8 +39,10 @@ pub fn tell_packets<P: Teller, T: Read + Drop, W: Write>(
     ensures told { let f = as_is_under (limit_of reader.old) (header_read reader.old) in
         let tells = TellsBy has_flaw (P.text (P.setting teller.old) (resolution_of (header_read reader.old).magic_number)) in
         MatchResult result
-        (λ fault. TellsItems f tt size_of tells tt (T.remaining (stream_of reader.old)) (T.remaining (stream_of reader.new)) (W.contents output.old) (W.contents output.new) (has_failed reader.new) most counted.old counted.new fault)
-        (λ exit. TellsTorn f tt size_of tells tt (T.remaining (stream_of reader.old)) (T.remaining (stream_of reader.new)) (W.contents output.old) (W.contents output.new) counted.old counted.new exit) }
+        (λ fault. TellsItems f tt size_of tells tt (T.remaining (stream_of reader.old)) (T.remaining (stream_of reader.new))
+        (W.contents output.old) (W.contents output.new) (has_failed reader.new) most counted.old counted.new fault)
+        (λ exit. TellsTorn f tt size_of tells tt (T.remaining (stream_of reader.old)) (T.remaining (stream_of reader.new))
+        (W.contents output.old) (W.contents output.new) counted.old counted.new exit) }
 {
     let ts_resolution = reader.ts_resolution();
     for turn in 0..most {

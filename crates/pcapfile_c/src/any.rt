@@ -3,7 +3,8 @@
 ghost use Rattle.std.specs.Prelude.{◌≡◌, ◌<◌, ◌↔◌, length, pos, None, IsTrue};
 ghost use Rattle.pcap_ng.specs.State.{State};
 ghost use Rattle.pcapfile_values.specs.Blocks.{order_shown};
-ghost use Rattle.pcapfile_c.specs.AnyCaptures.{IsNg, HasEnded, TakesAnyPacket, TakesAnyNgPacket, TakesHeaded, TakesSectioned, RefusesAnyPacket, LeavesAnyPacket, TakesCaptured, TakesWithPlaces, RefusesWithPlaces, LacksPlaces};
+ghost use Rattle.pcapfile_c.specs.AnyCaptures.{IsNg, HasEnded, TakesAnyPacket, TakesAnyNgPacket, TakesHeaded, TakesSectioned, RefusesAnyPacket};
+ghost use Rattle.pcapfile_c.specs.AnyCaptures.{LeavesAnyPacket, TakesCaptured, TakesWithPlaces, RefusesWithPlaces, LacksPlaces};
 ghost use Rattle.pcapfile_c.specs.PushPackets.{ShowsInForce, HaveBases};
 
 use crate::push::take_front;
@@ -43,14 +44,18 @@ pub extern "C" fn pcapfile_take_any<'a>(
     error: &mut PcapfileError,
 ) -> i32
     ensures packets { (IsNg capture.old left.old.bytes.now → ⊥) →
-        TakesAnyPacket capture.old capture.new interfaces.old interfaces.new left.old.bytes.now left.new.bytes.now packet.old packet.new error.old error.new result }
+        TakesAnyPacket capture.old capture.new interfaces.old interfaces.new left.old.bytes.now left.new.bytes.now packet.old packet.new
+        error.old error.new result }
     ensures blocks { (q : State) → IsNg capture.old left.old.bytes.now → ShowsInForce capture.old.section interfaces.old q →
-        TakesAnyNgPacket q capture.old capture.new interfaces.old interfaces.new left.old.bytes.now left.new.bytes.now packet.old packet.new error.old error.new result }
+        TakesAnyNgPacket q capture.old capture.new interfaces.old interfaces.new left.old.bytes.now left.new.bytes.now packet.old packet.new
+        error.old error.new result }
     ensures bases { HaveBases capture.old.section interfaces.old → HaveBases capture.new.section interfaces.new }
     ensures refused { IsNg capture.old left.old.bytes.now → order_shown capture.old.section.magic_number ≡ None →
-        RefusesAnyPacket capture.old capture.new interfaces.old interfaces.new left.old.bytes.now left.new.bytes.now packet.old packet.new error.old error.new result }
+        RefusesAnyPacket capture.old capture.new interfaces.old interfaces.new left.old.bytes.now left.new.bytes.now packet.old packet.new
+        error.old error.new result }
     ensures lacking { IsNg capture.old left.old.bytes.now → length interfaces.old < capture.old.section.interfaces →
-        LeavesAnyPacket capture.old capture.new interfaces.old interfaces.new left.old.bytes.now left.new.bytes.now packet.old packet.new error.old error.new result }
+        LeavesAnyPacket capture.old capture.new interfaces.old interfaces.new left.old.bytes.now left.new.bytes.now packet.old packet.new
+        error.old error.new result }
 {
     let before = *error;
     let status = take_either(alloc, capture, left, interfaces, packet, error);
@@ -71,14 +76,18 @@ fn take_either<'a>(
     error: &mut PcapfileError,
 ) -> i32
     ensures packets { (IsNg capture.old left.old.bytes.now → ⊥) →
-        TakesHeaded capture.old capture.new interfaces.old interfaces.new left.old.bytes.now left.new.bytes.now packet.old packet.new error.old error.new result }
+        TakesHeaded capture.old capture.new interfaces.old interfaces.new left.old.bytes.now left.new.bytes.now packet.old packet.new
+        error.old error.new result }
     ensures blocks { (q : State) → IsNg capture.old left.old.bytes.now → ShowsInForce capture.old.section interfaces.old q →
-        TakesSectioned q capture.old capture.new interfaces.old interfaces.new left.old.bytes.now left.new.bytes.now packet.old packet.new error.old error.new result }
+        TakesSectioned q capture.old capture.new interfaces.old interfaces.new left.old.bytes.now left.new.bytes.now packet.old packet.new
+        error.old error.new result }
     ensures bases { HaveBases capture.old.section interfaces.old → HaveBases capture.new.section interfaces.new }
     ensures refused { IsNg capture.old left.old.bytes.now → order_shown capture.old.section.magic_number ≡ None →
-        RefusesAnyPacket capture.old capture.new interfaces.old interfaces.new left.old.bytes.now left.new.bytes.now packet.old packet.new error.old error.new result }
+        RefusesAnyPacket capture.old capture.new interfaces.old interfaces.new left.old.bytes.now left.new.bytes.now packet.old packet.new
+        error.old error.new result }
     ensures lacking { IsNg capture.old left.old.bytes.now → length interfaces.old < capture.old.section.interfaces →
-        LeavesAnyPacket capture.old capture.new interfaces.old interfaces.new left.old.bytes.now left.new.bytes.now packet.old packet.new error.old error.new result }
+        LeavesAnyPacket capture.old capture.new interfaces.old interfaces.new left.old.bytes.now left.new.bytes.now packet.old packet.new
+        error.old error.new result }
 {
     if capture.is_ng(left.bytes) {
         take_any_block(alloc, &mut capture.section, left, interfaces, packet, error)
@@ -120,12 +129,15 @@ fn take_any_block<'a>(
     error: &mut PcapfileError,
 ) -> i32
     ensures taken { (q : State) → ShowsInForce section.old interfaces.old q →
-        TakesWithPlaces q section.old section.new interfaces.old interfaces.new left.old.bytes.now left.new.bytes.now packet.old packet.new error.old error.new result }
+        TakesWithPlaces q section.old section.new interfaces.old interfaces.new left.old.bytes.now left.new.bytes.now packet.old packet.new
+        error.old error.new result }
     ensures bases { HaveBases section.old interfaces.old → HaveBases section.new interfaces.new }
     ensures refused { order_shown section.old.magic_number ≡ None →
-        RefusesWithPlaces section.old section.new interfaces.old interfaces.new left.old.bytes.now left.new.bytes.now packet.old packet.new error.old error.new result }
+        RefusesWithPlaces section.old section.new interfaces.old interfaces.new left.old.bytes.now left.new.bytes.now packet.old packet.new
+        error.old error.new result }
     ensures lacking { length interfaces.old < section.old.interfaces →
-        LacksPlaces section.old section.new interfaces.old interfaces.new left.old.bytes.now left.new.bytes.now packet.old packet.new error.old error.new result }
+        LacksPlaces section.old section.new interfaces.old interfaces.new left.old.bytes.now left.new.bytes.now packet.old packet.new
+        error.old error.new result }
 {
     if interfaces.len() < section.interfaces as usize {
         return 10;

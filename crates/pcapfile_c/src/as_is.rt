@@ -48,7 +48,8 @@ pub extern "C" fn pcapfile_take_packet_as_is<'a>(
     error: &mut PcapfileError,
 ) -> i32
     ensures taken { IsTrue (is_magic header.now.magic_number) →
-        Takes (AsIsSaid limit header.now.magic_number) (ShowsAsIs (resolution_of header.now.magic_number)) left.old left.new packet.old packet.new error.old error.new result }
+        Takes (AsIsSaid limit header.now.magic_number) (ShowsAsIs (resolution_of header.now.magic_number)) left.old left.new packet.old packet.new
+        error.old error.new result }
     ensures refused { is_magic header.now.magic_number ≡ false → RefusesMagic left.old left.new packet.old packet.new error.new result }
 {
     let Some(parser) = parser_behind(header) else {

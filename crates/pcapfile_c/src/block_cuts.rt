@@ -26,7 +26,8 @@ pub extern "C" fn pcapfile_cut_blocks(
     known: &mut usize,
     error: &mut PcapfileError,
 ) -> i32
-    ensures told { TellsBlockCuts (partings.Equal (length cuts.old)) capture.now.bytes.now cuts.old cuts.new count.new interfaces.old interfaces.new known.new error.old error.new result }
+    ensures told { TellsBlockCuts (partings.Equal (length cuts.old)) capture.now.bytes.now cuts.old cuts.new count.new interfaces.old interfaces.new
+        known.new error.old error.new result }
     ensures lacking { MayLackPlaces (partings.Equal (length cuts.old)) capture.now.bytes.now cuts.old → (result ≡ pos 11) × (known.new ≡ 0) }
 {
     *count = 0;
@@ -60,7 +61,8 @@ pub extern "C" fn pcapfile_cut_blocks_at_least(
     known: &mut usize,
     error: &mut PcapfileError,
 ) -> i32
-    ensures told { TellsBlockCuts (partings.AtLeast (max at_least 1)) capture.now.bytes.now cuts.old cuts.new count.new interfaces.old interfaces.new known.new error.old error.new result }
+    ensures told { TellsBlockCuts (partings.AtLeast (max at_least 1)) capture.now.bytes.now cuts.old cuts.new count.new interfaces.old interfaces.new
+        known.new error.old error.new result }
     ensures lacking { MayLackPlaces (partings.AtLeast (max at_least 1)) capture.now.bytes.now cuts.old → (result ≡ pos 11) × (known.new ≡ 0) }
 {
     *count = 0;

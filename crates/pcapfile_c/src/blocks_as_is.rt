@@ -12,7 +12,8 @@ ghost use Rattle.pcap_tolerant_blocks.specs.Flaws.{said_of};
 ghost use Rattle.pcap_tolerant_blocks.specs.InterfaceAsIs.{InterfaceText, interface_in, flaws_said as interface_flaws};
 ghost use Rattle.pcap_tolerant_captures.specs.State.{State};
 ghost use Rattle.pcapfile_values.specs.Blocks.{order_shown};
-ghost use Rattle.pcapfile_c.specs.BlocksAsIs.{ShowsStanding, shown_flaw, ShowsFlaws, ShowsReading, said_in, IsOf, TellsSection, FindsNothing, FindsInterface, FindsPacket, LeadsStanding, NextStands, TakesStanding, RefusesStanding};
+ghost use Rattle.pcapfile_c.specs.BlocksAsIs.{ShowsStanding, shown_flaw, ShowsFlaws, ShowsReading, said_in, IsOf, TellsSection, FindsNothing, FindsInterface};
+ghost use Rattle.pcapfile_c.specs.BlocksAsIs.{FindsPacket, LeadsStanding, NextStands, TakesStanding, RefusesStanding};
 
 use byteorder::{BigEndian, LittleEndian};
 use pcap_core::rules::Rule;

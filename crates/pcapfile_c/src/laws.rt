@@ -15,7 +15,8 @@ ghost use Rattle.pcapfile_values.specs.declared.any_packets.PcapfileAnyPacket.{P
 ghost use Rattle.pcapfile_values.specs.Blocks.{ShowsState, ShowsBlock};
 ghost use Rattle.pcapfile_values.specs.Shown.{shown_header};
 ghost use Rattle.pcapfile_c.specs.declared.push.PcapfilePush.{PcapfilePush};
-ghost use Rattle.pcapfile_c.specs.AnyCalls.{AnyCall, AnyCalls, CameToEnd, FrontTaken, IsFresh, Kept, NgFrontTaken, NgPacketsTaken, NoHeader, NothingTaken, PacketsTaken};
+ghost use Rattle.pcapfile_c.specs.AnyCalls.{AnyCall, AnyCalls, CameToEnd, FrontTaken, IsFresh, Kept, NgFrontTaken};
+ghost use Rattle.pcapfile_c.specs.AnyCalls.{NgPacketsTaken, NoHeader, NothingTaken, PacketsTaken};
 ghost use Rattle.pcapfile_c.specs.AnyCaptures.{IsNg};
 ghost use Rattle.pcapfile_c.specs.BlockPushes.{BlocksHaveEnded};
 ghost use Rattle.pcapfile_c.specs.PacketPushes.{PacketsHaveEnded};
@@ -39,7 +40,8 @@ pub fn pushes_give_the_front()
 /// held is the rest, and what is in force is what the front leaves.
 #[tactic(auto, using(crate::proofs::BlockLaws::pushed_blocks))]
 pub fn pushed_blocks_give_the_front()
-    ensures { (calls : List (List ℕ × List PcapfileBlock)) (push : PcapfilePush) (section : PcapfileSection) (room : List ℕ) → BlocksHaveEnded calls push section room →
+    ensures { (calls : List (List ℕ × List PcapfileBlock)) (push : PcapfilePush) (section : PcapfileSection) (room : List ℕ)
+        → BlocksHaveEnded calls push section room →
         (items : List Item) × Front block_format opening items (all_put calls) (held_in push room) × ShowsState section (state_after block_format opening items)
         × AllZip (λ (item : Item) (block : PcapfileBlock). ShowsBlock item.block block) items (all_given calls) }
 {}
@@ -65,19 +67,23 @@ pub fn puts_are_read()
 /// first of it, in order, and what is left stands behind them: in a pcap capture behind the header and these packets, or all of it
 /// is left before the header; in a PcapNg capture behind blocks whose packets they are, and what these blocks leave is in force.
 pub fn taken_packets_stand_in_order()
-    ensures packets { (start next : Kept) (s rest : List ℕ) (given : List PcapfileAnyPacket) → IsFresh start.0 → (IsNg start.0 s → ⊥) → AnyCalls start s next rest given →
+    ensures packets { (start next : Kept) (s rest : List ℕ) (given : List PcapfileAnyPacket) → IsFresh start.0 → (IsNg start.0 s → ⊥)
+        → AnyCalls start s next rest given →
         PacketsTaken next.0.header s rest given ⊎ NothingTaken next.0.header s rest given }
-    ensures blocks { (start next : Kept) (s rest : List ℕ) (given : List PcapfileAnyPacket) → IsFresh start.0 → IsNg start.0 s → AnyCalls start s next rest given →
+    ensures blocks { (start next : Kept) (s rest : List ℕ) (given : List PcapfileAnyPacket) → IsFresh start.0 → IsNg start.0 s
+        → AnyCalls start s next rest given →
         NgPacketsTaken next s rest given }
 {}
 
 /// Where a further call then gives none, and not for want of memory or places, they are the packets of the front, and its answer is
 /// that of the rest: its clean end, how many bytes are missing, or the first fault.
 pub fn taken_packets_are_the_front()
-    ensures packets { (start kept next : Kept) (s left rest : List ℕ) (given : List PcapfileAnyPacket) (shown : PcapfileAnyPacket) (told : PcapfileError) (status : ℤ) →
+    ensures packets { (start kept next : Kept) (s left rest : List ℕ) (given : List PcapfileAnyPacket) (shown : PcapfileAnyPacket)
+        (told : PcapfileError) (status : ℤ) →
         IsFresh start.0 → (IsNg start.0 s → ⊥) → AnyCalls start s kept left given → AnyCall kept next left rest shown told status → CameToEnd status →
         FrontTaken s rest given told status ⊎ NoHeader s rest given told status }
-    ensures blocks { (start kept next : Kept) (s left rest : List ℕ) (given : List PcapfileAnyPacket) (shown : PcapfileAnyPacket) (told : PcapfileError) (status : ℤ) →
+    ensures blocks { (start kept next : Kept) (s left rest : List ℕ) (given : List PcapfileAnyPacket) (shown : PcapfileAnyPacket)
+        (told : PcapfileError) (status : ℤ) →
         IsFresh start.0 → IsNg start.0 s → AnyCalls start s kept left given → AnyCall kept next left rest shown told status → CameToEnd status →
         NgFrontTaken s rest given told status }
 {}

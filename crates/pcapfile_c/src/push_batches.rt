@@ -114,10 +114,12 @@ pub extern "C" fn pcapfile_push_ng_packets<'a>(
     error: &mut PcapfileError,
 ) -> i32
     ensures taken { (q : State) → ShowsInForce section.old interfaces.old q →
-        TakesNextNgPackets q push.old push.new section.old section.new interfaces.old interfaces.new room.now packets.old packets.new taken.new error.old error.new result }
+        TakesNextNgPackets q push.old push.new section.old section.new interfaces.old interfaces.new room.now packets.old packets.new taken.new
+        error.old error.new result }
     ensures bases { HaveBases section.old interfaces.old → HaveBases section.new interfaces.new }
     ensures refused { order_shown section.old.magic_number ≡ None →
-        RefusesNextNgPackets push.old push.new section.old section.new interfaces.old interfaces.new room.now packets.old packets.new taken.new error.old error.new result }
+        RefusesNextNgPackets push.old push.new section.old section.new interfaces.old interfaces.new room.now packets.old packets.new taken.new
+        error.old error.new result }
     ensures nonsense { MakesNoSense push.old section.old interfaces.old room.now →
         LeavesNgPackets push.old push.new section.old section.new interfaces.old interfaces.new packets.old packets.new taken.new error.old error.new result }
 {

@@ -6,7 +6,8 @@ ghost use Rattle.pcap_blocks.specs.SectionHeader.{magic_order};
 ghost use Rattle.pcap_ng.specs.State.{State, order_at};
 ghost use Rattle.pcapfile_values.specs.Blocks.{order_shown};
 ghost use Rattle.pcapfile_c.specs.Batches.{LeadingText};
-ghost use Rattle.pcapfile_c.specs.PushPackets.{ShowsInForce, HaveBases, LeavesFewer, PutsTells, StepTells, TakesFrontPacket, TakesNextPacket, RefusesNextPacket, MakesNoSense, LeavesPackets};
+ghost use Rattle.pcapfile_c.specs.PushPackets.{ShowsInForce, HaveBases, LeavesFewer, PutsTells, StepTells, TakesFrontPacket};
+ghost use Rattle.pcapfile_c.specs.PushPackets.{TakesNextPacket, RefusesNextPacket, MakesNoSense, LeavesPackets};
 
 use crate::batches::{Front, front_of};
 use crate::push::PcapfilePush;
@@ -93,7 +94,8 @@ fn take_block<'a>(
     error: &mut PcapfileError,
 ) -> Option<i32>
     ensures taken { (q : State) → ShowsInForce section.old interfaces.old q →
-        StepTells q section.old section.new interfaces.old interfaces.new left.old.bytes.now left.new.bytes.now packet.old packet.new error.old error.new result }
+        StepTells q section.old section.new interfaces.old interfaces.new left.old.bytes.now left.new.bytes.now packet.old packet.new
+        error.old error.new result }
     ensures bases { HaveBases section.old interfaces.old → HaveBases section.new interfaces.new }
     ensures fewer { LeavesFewer left.old.bytes.now left.new.bytes.now result }
 {

@@ -20,7 +20,8 @@ pub extern "C" fn pcapfile_put_section(
     written: &mut usize,
     error: &mut PcapfileError,
 ) -> i32
-    ensures { PutsBlock (SectionFlaw section.old) (a_section section.old) section.old section.new room.old room.new written.old written.new error.old error.new result }
+    ensures { PutsBlock (SectionFlaw section.old) (a_section section.old) section.old section.new room.old room.new written.old written.new
+        error.old error.new result }
 {
     let opened = without_interfaces(
         section.magic_number,
@@ -49,7 +50,8 @@ pub extern "C" fn pcapfile_put_interface(
     written: &mut usize,
     error: &mut PcapfileError,
 ) -> i32
-    ensures { PutsBlock (InterfaceFlaw section.old interface.now) (an_interface interface.now) section.old section.new room.old room.new written.old written.new error.old error.new result }
+    ensures { PutsBlock (InterfaceFlaw section.old interface.now) (an_interface interface.now) section.old section.new room.old room.new
+        written.old written.new error.old error.new result }
 {
     let Some(order) = section.endianness() else {
         return refuse(Reason::Breaks(Rule::SectionMagic), error);
@@ -84,7 +86,8 @@ pub extern "C" fn pcapfile_put_ng_packet(
     written: &mut usize,
     error: &mut PcapfileError,
 ) -> i32
-    ensures { PutsBlock (PacketFlaw section.now packet.now) (a_packet packet.now) section.now section.now room.old room.new written.old written.new error.old error.new result }
+    ensures { PutsBlock (PacketFlaw section.now packet.now) (a_packet packet.now) section.now section.now room.old room.new written.old written.new
+        error.old error.new result }
 {
     let Some(order) = section.endianness() else {
         return refuse(Reason::Breaks(Rule::SectionMagic), error);

@@ -75,7 +75,8 @@ fn cut_under<R: Read, W: Write>(
     outcome: &mut Outcome,
 ) -> ResultParsing<()>
     requires { IsNew outcome.old }
-    ensures { CutsPart opening.now wanted (R.remaining input.old) (R.remaining input.new) (W.contents output.old) (W.contents output.new) (outcome_of outcome.new result) }
+    ensures { CutsPart opening.now wanted (R.remaining input.old) (R.remaining input.new) (W.contents output.old) (W.contents output.new)
+        (outcome_of outcome.new result) }
 {
     put(output, &mut outcome.write_failed, opening.bytes())?;
     cut_packets(alloc, opening.header(), input, output, wanted, outcome)
@@ -92,7 +93,8 @@ pub(crate) fn cut_packets<R: Read, W: Write>(
 ) -> ResultParsing<()>
     requires valid { IsTrue (is_magic header.now.magic_number) }
     requires new { IsNew outcome.old }
-    ensures { CutsBehind header.now wanted (R.remaining input.old) (R.remaining input.new) (W.contents output.old) (W.contents output.new) (outcome_of outcome.new result) }
+    ensures { CutsBehind header.now wanted (R.remaining input.old) (R.remaining input.new) (W.contents output.old) (W.contents output.new)
+        (outcome_of outcome.new result) }
 {
     let mut held = Held::new(alloc);
     while wanted.wants_more(outcome.packets, outcome.bytes) {
@@ -117,7 +119,8 @@ fn cut_next<R: Read, W: Write>(
     requires no_read_failed { outcome.old.read_failed ≡ false }
     requires no_write_failed { outcome.old.write_failed ≡ false }
     requires between { held_bytes held.old ≡ [] }
-    ensures steps { StepsCut header.now wanted (R.remaining input.old) (R.remaining input.new) (W.contents output.old) (W.contents output.new) outcome.old outcome.new result }
+    ensures steps { StepsCut header.now wanted (R.remaining input.old) (R.remaining input.new) (W.contents output.old) (W.contents output.new)
+        outcome.old outcome.new result }
     ensures between { OnOk result (held_bytes held.new ≡ []) }
 {
     let packets = PacketsUnder { header };

@@ -32,7 +32,8 @@ pub fn parts_hold_the_packets()
 
 /// Parts that are cut one after another, and joined without a fault, are the opening and the bytes that were cut.
 pub fn parts_join()
-    ensures { (opening : Opening) (wanted : Wanted) (wants : List Wanted) (part behind : List ℕ) (parts : List (List ℕ)) (s left first_out out : List ℕ) (now : Option (List ℕ)) (outcome : Outcome) →
+    ensures { (opening : Opening) (wanted : Wanted) (wants : List Wanted) (part behind : List ℕ) (parts : List (List ℕ)) (s left first_out out : List ℕ)
+        (now : Option (List ℕ)) (outcome : Outcome) →
         CutsInto opening (wanted ∷ wants) (part ∷ parts) s left → part ≡ bytes_of opening ++ behind →
         OpensPart opening All (Some behind) now (Some []) (Some first_out) outcome → outcome.fault ≡ None → WantsMore All outcome.packets outcome.bytes →
         JoinsOthers opening parts first_out out → out ++ left ≡ bytes_of opening ++ s }

@@ -29,7 +29,8 @@ impl Opening {
     pub fn read<R: Read>(input: &mut R, read_failed: &mut bool) -> ResultParsing<Opening>
         requires { read_failed.old ≡ false }
         ensures told { ReadsTold HeaderSays header_of (R.remaining input.old) (R.remaining input.new) read_failed.new result }
-        ensures bytes { IfOk result (λ opening. HeaderText (header_of opening) (bytes_of opening) [] × Consumes (R.remaining input.old) (R.remaining input.new) (bytes_of opening)) }
+        ensures bytes { IfOk result (λ opening. HeaderText (header_of opening) (bytes_of opening) []
+            × Consumes (R.remaining input.old) (R.remaining input.new) (bytes_of opening)) }
     {
         let mut bytes = [0; 24];
         fill_array(input, read_failed, &mut bytes)?;

@@ -1,6 +1,6 @@
 //! What a line says in columns.
 
-ghost use Rattle.std.specs.Prelude.{◌≡◌, Some, None, IfOk, option_map, string_bytes};
+ghost use Rattle.std.specs.Prelude.{◌≡◌, Some, None, IfOk, string_bytes};
 ghost use Rattle.pcapfile_lines.specs.Lines.{columns_of as columns_told, column_text, csv_line, instant_in};
 
 use crate::seen::Seen;

@@ -1,6 +1,6 @@
 //! Lines with times in UTC.
 
-ghost use Rattle.std.specs.Prelude.{◌≡◌, ◌<◌, ◌^◌, pos, IfOk, MatchOption, string_bytes};
+ghost use Rattle.std.specs.Prelude.{◌≡◌, ◌<◌, IfOk, MatchOption, string_bytes};
 ghost use Rattle.jiff_core.specs.Timestamp.{IsTimestampNanos};
 ghost use Rattle.pcapfile_lines.specs.Lines.{IsUtcLine, IsUtcText, ShowsInstant, nanoseconds_of, utc_line, interface_text};
 

@@ -79,7 +79,8 @@ fn packet_len(order: Endianness, body: &[u8]) -> usize
 
 // How many bytes stand before such options, where there is room for them.
 fn front_len(of: OptionsOf, order: Endianness, body: &[u8]) -> Option<usize>
-    ensures { MatchOption result (length body.now < front_length of (number_in order) body.now) (λ n. (n ≡ front_length of (number_in order) body.now) × (n ≤ length body.now)) }
+    ensures { MatchOption result (length body.now < front_length of (number_in order) body.now)
+        (λ n. (n ≡ front_length of (number_in order) body.now) × (n ≤ length body.now)) }
 {
     let len = match of {
         OptionsOf::Section => 16,
@@ -100,7 +101,8 @@ fn front_len(of: OptionsOf, order: Endianness, body: &[u8]) -> Option<usize>
 
 // Where the options of a block's body begin, if there is room for what stands before them.
 pub(crate) fn front_of(block: RawBlock<'_>) -> Option<Front>
-    ensures none { MatchOption result ((of : OptionsOf) (order : Endianness) → OptionsAt (raw_of block.entry) of order → ⊥) (λ front. OptionsAt (raw_of block.entry) front.of front.order) }
+    ensures none { MatchOption result ((of : OptionsOf) (order : Endianness) → OptionsAt (raw_of block.entry) of order → ⊥)
+        (λ front. OptionsAt (raw_of block.entry) front.of front.order) }
     ensures len { MatchOption result ⊤ (λ front. front.len ≡ front_length front.of (number_in front.order) block.entry.body.now) }
 {
     let of = options_in(block.type_)?;

@@ -10,7 +10,8 @@ ghost use Rattle.pcapfile_mended.specs.Mended.{Becomes, IsTaken, IsTakenAfter, M
 
 /// The sound options of a body, one behind the other, are a strict list of options that ends with the body.
 pub fn sound_options_are_a_list()
-    ensures { (order : Order) (kind : Kind) (s kept : List ℕ) → SoundOptions order kind s kept → (options : List Entry) × OptionList may_end_with_body order kind options kept [] }
+    ensures { (order : Order) (kind : Kind) (s kept : List ℕ) → SoundOptions order kind s kept → (options : List Entry)
+        × OptionList may_end_with_body order kind options kept [] }
 {}
 
 /// The strict reading takes the body of each block that is mended, unless that is left out.
@@ -25,5 +26,6 @@ pub fn mended_blocks_are_one()
 
 /// A block whose body the strict reading takes stays what it is, but for a section that states its length.
 pub fn sound_blocks_stay()
-    ensures { (raw : Raw) (becomes : Becomes) → IsTaken (number_in raw.endianness) raw.type_ raw.body true → unstated raw.type_ raw.body ≡ raw.body → Mends raw becomes → becomes ≡ stays }
+    ensures { (raw : Raw) (becomes : Becomes) → IsTaken (number_in raw.endianness) raw.type_ raw.body true → unstated raw.type_ raw.body ≡ raw.body
+        → Mends raw becomes → becomes ≡ stays }
 {}

@@ -53,7 +53,9 @@ impl<R: Read + Drop> BufferedPackets<R> {
     pub(crate) fn next_header(&mut self) -> Option<ResultParsing<PacketHeader>>
         requires { is_done self.old ≡ false }
         ensures header { header_of self.new ≡ header_of self.old }
-        ensures next { NextGives ((reader_format packet_limit (header_of self.old)).says tt) (lent_packet self.new) (left_of R.remaining self.old) (left_of R.remaining self.new) (is_done self.old) (is_done self.new) (has_failed self.old) (has_failed self.new) result }
+        ensures next { NextGives ((reader_format packet_limit (header_of self.old)).says tt) (lent_packet self.new)
+            (left_of R.remaining self.old) (left_of R.remaining self.new) (is_done self.old) (is_done self.new)
+            (has_failed self.old) (has_failed self.new) result }
     {
         match self.next_there() {
             Some(header) => Some(Ok(header)),
@@ -67,7 +69,10 @@ impl<R: Read + Drop> BufferedPackets<R> {
         requires { is_done self.old ≡ false }
         ensures header { header_of self.new ≡ header_of self.old }
         ensures failed { has_failed self.new ≡ has_failed self.old }
-        ensures there { MatchOption result (StaysAt R.remaining self.old self.new) (λ header. NextGives ((reader_format packet_limit (header_of self.old)).says tt) (lent_packet self.new) (left_of R.remaining self.old) (left_of R.remaining self.new) (is_done self.old) (is_done self.new) (has_failed self.old) (has_failed self.new) (Some (Ok header))) }
+        ensures there { MatchOption result (StaysAt R.remaining self.old self.new)
+            (λ header. NextGives ((reader_format packet_limit (header_of self.old)).says tt) (lent_packet self.new)
+            (left_of R.remaining self.old) (left_of R.remaining self.new) (is_done self.old) (is_done self.new)
+            (has_failed self.old) (has_failed self.new) (Some (Ok header))) }
     {
         self.let_go();
         let (header, used) = self.packet_there()?;

@@ -16,7 +16,8 @@ pub fn merges_keep_each_input()
 
 /// Where each input is sorted by time, so is what goes out.
 pub fn merges_of_sorted_inputs_are_sorted()
-    ensures { (inputs : List (List Packet)) (out : List (ℕ × Packet)) (left : List (List Packet)) → AllByRecursion (IsSorted IsEarlier) inputs → Merges IsEarlier inputs out left →
+    ensures { (inputs : List (List Packet)) (out : List (ℕ × Packet)) (left : List (List Packet)) → AllByRecursion (IsSorted IsEarlier) inputs
+        → Merges IsEarlier inputs out left →
         IsSorted IsEarlier (map (λ (given : ℕ × Packet). given.1) out) }
 {}
 
@@ -27,5 +28,6 @@ pub fn blocks_give_their_front()
 
 /// Where it ended with the stream, they are those of all blocks of the front, and nothing is left.
 pub fn blocks_give_all_at_the_end()
-    ensures { (base : ℕ) (a b now : Source) (given : List Packet) (s : List ℕ) → BlocksGave base a b given → TakesNone b now → a.left ≡ Some s → AreOfAll base a.state s given }
+    ensures { (base : ℕ) (a b now : Source) (given : List Packet) (s : List ℕ) → BlocksGave base a b given → TakesNone b now → a.left ≡ Some s
+        → AreOfAll base a.state s given }
 {}

@@ -64,7 +64,8 @@ fn take_shown<R: Read + Drop>(
     interfaces: Interfaces,
 ) -> ResultParsing<Option<Pending>>
     requires { buffered.is_done blocks.old ≡ false }
-    ensures takes { TellsTaken interfaces base (buffered.source_of R.remaining blocks.old) (buffered.source_of R.remaining blocks.new) (buffered.body_of blocks.new) result }
+    ensures takes { TellsTaken interfaces base (buffered.source_of R.remaining blocks.old) (buffered.source_of R.remaining blocks.new)
+        (buffered.body_of blocks.new) result }
     ensures few { IfOk result (λ next. IfSome next (λ pending. pending.len ≤ 4294967260)) }
 {
     match take_there(alloc, blocks, base) {

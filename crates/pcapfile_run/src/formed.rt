@@ -59,7 +59,8 @@ pub(crate) fn write_formed<W: Write>(
     interfaces: &[InterfaceDescriptionBlock<'static>],
     block: &Block,
 ) -> Result<(), Exit>
-    ensures { WritesLine (IsLineOfBlock form (map interface_of interfaces.now) number (framed_of block.now)) (W.contents output.old) (W.contents output.new) result }
+    ensures { WritesLine (IsLineOfBlock form (map interface_of interfaces.now) number (framed_of block.now))
+        (W.contents output.old) (W.contents output.new) result }
 {
     let line = block_line(alloc, form, number, interfaces, block)?;
     put_line(output, line.as_bytes())

@@ -49,7 +49,8 @@ pub(crate) fn list_packets<R: BufRead, W: Write>(
     output: &mut W,
     most: u64,
 ) -> Result<(), Exit>
-    ensures { IfSome (R.remaining input.old) (λ s. ListsUntil (packets_as form) most s (R.remaining input.new) (W.contents output.old) (W.contents output.new) (exit_of result)) }
+    ensures { IfSome (R.remaining input.old) (λ s. ListsUntil (packets_as form) most s (R.remaining input.new)
+        (W.contents output.old) (W.contents output.new) (exit_of result)) }
 {
     list_in(alloc, FormedLines { form }, input, output, most)
 }

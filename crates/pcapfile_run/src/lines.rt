@@ -41,7 +41,8 @@ fn put_time_at(
 ) -> usize
     requires { (41 ≤ end) × (end ≤ 126) }
     ensures start { (result ≤ end) × (end ≤ result + 41) }
-    ensures text { (text : List ℕ) × IsTimeText (option_map (λ i. interface_of i.now) interface.entry) units text × (drop result room.new ≡ text ++ drop end room.old) }
+    ensures text { (text : List ℕ) × IsTimeText (option_map (λ i. interface_of i.now) interface.entry) units text
+        × (drop result room.new ≡ text ++ drop end room.old) }
 {
     match interface {
         None => put_byte(room, end, b'-'),
@@ -88,7 +89,8 @@ fn put_packet_time(
 ) -> usize
     requires { (41 ≤ end) × (end ≤ 126) }
     ensures start { (result ≤ end) × (end ≤ result + 41) }
-    ensures text { (text : List ℕ) × IsUnitsText (option_map (λ i. interface_of i.now) interface.entry) units text × (drop result room.new ≡ text ++ drop end room.old) }
+    ensures text { (text : List ℕ) × IsUnitsText (option_map (λ i. interface_of i.now) interface.entry) units text
+        × (drop result room.new ≡ text ++ drop end room.old) }
 {
     match units {
         None => put_byte(room, end, b'-'),
@@ -109,7 +111,8 @@ pub fn put_packet(
 ) -> usize
     requires { (125 ≤ end) × (end ≤ 126) }
     ensures within { result ≤ 126 }
-    ensures line { IsPacketText (option_map (λ i. interface_of i.now) interface.entry) number (in_block packet.entry) (drop end room.old) (drop result room.new) }
+    ensures line { IsPacketText (option_map (λ i. interface_of i.now) interface.entry) number (in_block packet.entry)
+        (drop end room.old) (drop result room.new) }
 {
     let stored = packet.bytes.len();
     let start = put_lengths(room, end, stored, packet.original_len, packet.interface);

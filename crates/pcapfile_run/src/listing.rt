@@ -47,7 +47,8 @@ fn list_classic<R: BufRead, W: Write>(
     output: &mut W,
     most: u64,
 ) -> Exit
-    ensures { IfSome (R.remaining input.old) (λ s. ListsAs form formats.Pcap most s (R.remaining input.new) (W.contents output.old) (W.contents output.new) result) }
+    ensures { IfSome (R.remaining input.old) (λ s. ListsAs form formats.Pcap most s (R.remaining input.new)
+        (W.contents output.old) (W.contents output.new) result) }
 {
     match form {
         None => run(alloc, &["list"], input, output, most),
@@ -90,7 +91,8 @@ pub fn list<R: BufRead, W: Write>(
     output: &mut W,
     most: u64,
 ) -> Exit
-    ensures { IfSome (R.remaining input.old) (λ s. ListsAs form (format_at s) most s (R.remaining input.new) (W.contents output.old) (W.contents output.new) result) }
+    ensures { IfSome (R.remaining input.old) (λ s. ListsAs form (format_at s) most s (R.remaining input.new)
+        (W.contents output.old) (W.contents output.new) result) }
 {
     match format_of(input) {
         Err(error) => Exit::from(error),

@@ -34,7 +34,9 @@ fn make_line(
     interfaces: &[InterfaceDescriptionBlock<'static>],
     block: &Block,
 ) -> Result<usize, Exit>
-    ensures { MatchResult result (λ start. (start ≤ 126) × IsStoredLine (map interface_of interfaces.now) number (framed_of block.now) (drop start room.new)) (λ exit. (exit ≡ exits.Memory) × GrowsInBody (framed_of block.now)) }
+    ensures { MatchResult result
+        (λ start. (start ≤ 126) × IsStoredLine (map interface_of interfaces.now) number (framed_of block.now) (drop start room.new))
+        (λ exit. (exit ≡ exits.Memory) × GrowsInBody (framed_of block.now)) }
 {
     match block.parsed(alloc) {
         Ok(parsed) => Ok(make_body_line(room, number, interfaces, &parsed)),
@@ -67,7 +69,8 @@ fn write_packet<W: Write>(
     interfaces: &[InterfaceDescriptionBlock<'static>],
     block: &Block,
 ) -> Result<(), Exit>
-    ensures { WritesLine (IsStoredIn form (map interface_of interfaces.now) number (framed_of block.now)) (W.contents output.old) (W.contents output.new) result }
+    ensures { WritesLine (IsStoredIn form (map interface_of interfaces.now) number (framed_of block.now))
+        (W.contents output.old) (W.contents output.new) result }
 {
     match form {
         None => write_plain(alloc, output, number, interfaces, block),
@@ -85,7 +88,8 @@ fn write_block<W: Write>(
     block: &Block,
 ) -> Result<(), Exit>
     ensures counts { packets.new ≡ number_behind (is_packet block.now.type_) packets.old }
-    ensures writes { WritesLine (IsLineIf form (is_packet block.now.type_) (map interface_of interfaces.now) packets.new (framed_of block.now)) (W.contents output.old) (W.contents output.new) result }
+    ensures writes { WritesLine (IsLineIf form (is_packet block.now.type_) (map interface_of interfaces.now) packets.new (framed_of block.now))
+        (W.contents output.old) (W.contents output.new) result }
 {
     if !holds_packet(block.type_) {
         return Ok(());
@@ -154,7 +158,8 @@ pub(crate) fn list_stored<R: BufRead, W: Write>(
     output: &mut W,
     most: u64,
 ) -> Result<(), Exit>
-    ensures { IfSome (R.remaining input.old) (λ s. ListsUntil (stored_lines form) most s (R.remaining input.new) (W.contents output.old) (W.contents output.new) (exit_of result)) }
+    ensures { IfSome (R.remaining input.old) (λ s. ListsUntil (stored_lines form) most s (R.remaining input.new)
+        (W.contents output.old) (W.contents output.new) (exit_of result)) }
 {
     let parser = PcapNgParser::from_reader(alloc, input)?;
     let lines = StoredLines { form, packets: 0 };

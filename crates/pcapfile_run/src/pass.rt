@@ -43,7 +43,8 @@ pub(crate) fn pass_packets<T: Read + Drop>(
     requires few { passed.old.items < 2 }
     requires room { passed.old.bytes < 2 ^ 64 }
     ensures header { reader.new.header ≡ reader.old.header }
-    ensures passes { PassesItems (reader_format packet_limit reader.old.header) tt (T.remaining (stream_of reader.old)) (T.remaining (stream_of reader.new)) (has_failed reader.new) 18446744073709551614 passed.old passed.new result }
+    ensures passes { PassesItems (reader_format packet_limit reader.old.header) tt (T.remaining (stream_of reader.old)) (T.remaining (stream_of reader.new))
+        (has_failed reader.new) 18446744073709551614 passed.old passed.new result }
 {
     for turn in 0..MOST {
         match reader.next_header() {
@@ -64,7 +65,8 @@ pub(crate) fn pass_blocks<T: Read + Drop>(
     requires unfailed { ng.has_failed reader.old ≡ false }
     requires few { passed.old.items < 2 }
     requires room { passed.old.bytes < 2 ^ 64 }
-    ensures passes { PassesItems block_format (ng.state_of reader.old) (T.remaining (ng.stream_of reader.old)) (T.remaining (ng.stream_of reader.new)) (ng.has_failed reader.new) 18446744073709551614 passed.old passed.new result }
+    ensures passes { PassesItems block_format (ng.state_of reader.old) (T.remaining (ng.stream_of reader.old)) (T.remaining (ng.stream_of reader.new))
+        (ng.has_failed reader.new) 18446744073709551614 passed.old passed.new result }
 {
     for turn in 0..MOST {
         match reader.next_header() {

@@ -1,9 +1,10 @@
 //! What is counted of packets, as JSON.
 
-ghost use Rattle.std.specs.Prelude.{◌≡◌, ℕ, List, option_map, option_and_then, OnOk, IfOk};
+ghost use Rattle.std.specs.Prelude.{◌≡◌, ℕ, List, option_map, OnOk, IfOk};
 ghost use Rattle.serde_json.specs.View.{members_view, view};
 ghost use Rattle.pcapfile_info.specs.Spreads.{Rows};
-ghost use Rattle.pcapfile_shown.specs.Json.{counts_in, duration_in, hundredths_data, instant_in, numbers_data, or_null, rate_in, seconds_data, spread_data, TellsSpread, with_amounts, with_rates, with_times};
+ghost use Rattle.pcapfile_shown.specs.Json.{counts_in, duration_in, hundredths_data, instant_in, numbers_data, or_null, rate_in, seconds_data};
+ghost use Rattle.pcapfile_shown.specs.Json.{spread_data, TellsSpread, with_amounts, with_rates, with_times};
 
 use crate::rate::{
     Hundredths, Seconds, duration_of, hundredths_of, hundredths_per_second, seconds_since_1970,

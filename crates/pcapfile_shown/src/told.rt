@@ -2,11 +2,12 @@
 
 ghost use Rattle.std.specs.Prelude.{◌≡◌, List, zip, string_bytes, IfOk, OnOk};
 ghost use Rattle.std.specs.List.{AllZip};
-ghost use Rattle.serde_json.specs.Data.{Data, Members, array};
+ghost use Rattle.serde_json.specs.Data.{Data, array};
 ghost use Rattle.serde_json.specs.View.{items_of, members_view, view};
 ghost use Rattle.serde_json.specs.Written.{IsInOrder};
 ghost use Rattle.pcapfile_run.specs.Lines.{format_name};
-ghost use Rattle.pcapfile_shown.specs.Json.{Tells, TellsCheck, TellsFile, TellsHeader, TellsInterface, text_or_null, texts_data, with_description, with_link, with_opened};
+ghost use Rattle.pcapfile_shown.specs.Json.{Tells, TellsCheck, TellsFile, TellsHeader, TellsInterface, text_or_null};
+ghost use Rattle.pcapfile_shown.specs.Json.{texts_data, with_description, with_link, with_opened};
 
 use crate::json::{put_figures, spread_or_null};
 use crate::report::{order_name, resolution_name};
@@ -132,7 +133,8 @@ fn interface(alloc: Global, described: &Described, tally: &Tally) -> Result<Valu
 }
 
 fn interfaces(alloc: Global, told: &Information) -> Result<Value, AllocError>
-    ensures { IfOk result (λ v. (shown : List Data) × (view v ≡ array (items_of shown)) × AllZip TellsInterface (zip told.now.described.items told.now.totals.interfaces.items) shown) }
+    ensures { IfOk result (λ v. (shown : List Data) × (view v ≡ array (items_of shown))
+        × AllZip TellsInterface (zip told.now.described.items told.now.totals.interfaces.items) shown) }
 {
     let mut values = Vec::new(alloc);
     for (described, tally) in told.described.iter().zip(told.totals.interfaces.iter()) {

@@ -6,7 +6,8 @@ ghost use Rattle.pcap_core.specs.Answer.{TellsWhere, number_in};
 ghost use Rattle.pcap_blocks.specs.InterfaceDescription.{interface_of};
 ghost use Rattle.pcap_blocks.specs.ParsedBlock.{BodySays, BodyMayGrow, EnhancedBody, body_of, ParsedIsBorrowed};
 ghost use Rattle.pcap_blocks.specs.EnhancedPacket.{enhanced_of};
-ghost use Rattle.pcapfile_values.specs.Bodies.{unit_shown, clock_shown, base_of, Found, BodyTells, EnhancedTells, PlainTells, NotPlain, ShowsInterfaceOf, ShowsInterface, IsInterface, ShowsPacket, IsPacket, ShowsTime};
+ghost use Rattle.pcapfile_values.specs.Bodies.{unit_shown, clock_shown, base_of, Found, BodyTells, EnhancedTells, PlainTells, NotPlain, ShowsInterfaceOf};
+ghost use Rattle.pcapfile_values.specs.Bodies.{ShowsInterface, IsInterface, ShowsPacket, IsPacket, ShowsTime};
 
 use crate::enhanced_options::behind_options;
 use byteorder::{BigEndian, ByteOrder, LittleEndian};

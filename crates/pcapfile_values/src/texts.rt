@@ -204,7 +204,8 @@ fn put_packet_head<B: ByteOrder>(room: &mut [u8], len: u32, packet: &PcapfileNgP
     requires short { length packet.now.bytes.now < 2 ^ 32 }
     requires room { 28 ≤ length room.old }
     ensures behind { result ≡ 28 }
-    ensures put { PutsAt 0 (plain_head B.bytes_of len packet.now.interface_id (packet.now.timestamp / 2 ^ 32) (packet.now.timestamp % 2 ^ 32) (length packet.now.bytes.now) packet.now.orig_len) room.old room.new }
+    ensures put { PutsAt 0 (plain_head B.bytes_of len packet.now.interface_id (packet.now.timestamp / 2 ^ 32) (packet.now.timestamp % 2 ^ 32)
+        (length packet.now.bytes.now) packet.now.orig_len) room.old room.new }
 {
     let len_at = put_u32::<B>(room, 0, 6);
     let interface_at = put_u32::<B>(room, len_at, len);

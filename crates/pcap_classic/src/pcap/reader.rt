@@ -59,7 +59,8 @@ fn pull<T: Read>(
 ) -> ResultParsing<Option<Packet<'static>>>
     requires between { held_bytes head.old ≡ [] }
     requires unfailed { source_failed fill.old ≡ false }
-    ensures pulls { Pulls ((reader_format packet_limit header.now).says tt) content_of (T.remaining (source_of fill.old)) (T.remaining (source_of fill.new)) (source_failed fill.new) result }
+    ensures pulls { Pulls ((reader_format packet_limit header.now).says tt) content_of (T.remaining (source_of fill.old)) (T.remaining (source_of fill.new))
+        (source_failed fill.new) result }
     ensures owned { IfOk result (λ found. IfSome found (λ packet. IsOwned packet.data_)) }
     ensures between { OnOk result (held_bytes head.new ≡ []) }
     ensures room { room_of head.new ≤ max (room_of head.old) 16 }
@@ -78,7 +79,8 @@ fn pull<T: Read>(
 fn hold<T: Read>(header: &PcapHeader, fill: &mut Fill<T>) -> ResultParsing<Option<PacketHeader>>
     requires between { held_of fill.old ≡ [] }
     requires unfailed { source_failed fill.old ≡ false }
-    ensures pulls { Pulls ((reader_format packet_limit header.now).says tt) (held_packet (held_of fill.new)) (T.remaining (source_of fill.old)) (T.remaining (source_of fill.new)) (source_failed fill.new) result }
+    ensures pulls { Pulls ((reader_format packet_limit header.now).says tt) (held_packet (held_of fill.new))
+        (T.remaining (source_of fill.old)) (T.remaining (source_of fill.new)) (source_failed fill.new) result }
     ensures none { IfOk result (λ head. IfNone head (held_of fill.new ≡ [])) }
 {
     fill.item(&PacketsUnder { header })

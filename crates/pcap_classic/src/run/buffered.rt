@@ -24,7 +24,8 @@ pub fn copy_buffered<R: BufRead, W: Write>(
 ) -> Copied
     ensures most { result.packets ≤ most }
     ensures run { CopyRun under (R.remaining reader.old) (R.remaining reader.new) (W.contents writer.old) (W.contents writer.new) most result }
-    ensures front { IfSome (R.remaining reader.old) (λ bytes. CopyFront under bytes (R.remaining reader.new) (W.contents writer.old) (W.contents writer.new) most result) }
+    ensures front { IfSome (R.remaining reader.old) (λ bytes. CopyFront under bytes (R.remaining reader.new)
+        (W.contents writer.old) (W.contents writer.new) most result) }
 {
     let tally = &mut Tally::none();
     let held = &mut Held::new(alloc);

@@ -157,7 +157,8 @@ impl<T: Read> Fill<T> {
         requires lawful { IsLawful (H.format item.now) }
         requires between { held_bytes apart.old ≡ [] }
         requires unfailed { has_failed self.old ≡ false }
-        ensures takes { TakesHeaded ((H.format item.now).says (H.state item.now)) (H.knows item.now) ((H.format item.now).head (H.state item.now)) (λ body. body.items) (T.remaining (stream_of self.old)) (T.remaining (stream_of self.new)) (has_failed self.new) result }
+        ensures takes { TakesHeaded ((H.format item.now).says (H.state item.now)) (H.knows item.now) ((H.format item.now).head (H.state item.now))
+            (λ body. body.items) (T.remaining (stream_of self.old)) (T.remaining (stream_of self.new)) (has_failed self.new) result }
         ensures between { OnOk result (held_bytes apart.new ≡ []) }
         ensures room { room_held apart.new ≤ max (room_held apart.old) ((H.format item.now).head (H.state item.now)) }
         ensures held { held_of self.new ≡ held_of self.old }

@@ -20,7 +20,8 @@ pub(crate) fn put_shown<W: Write>(
     most: u64,
 ) -> Sent
     ensures within { result.used ≤ length shown.now }
-    ensures sends { Sends order (take result.used shown.now) (W.contents writer.old) (W.contents writer.new) most result.items has_failed.old has_failed.new result.fault }
+    ensures sends { Sends order (take result.used shown.now) (W.contents writer.old) (W.contents writer.new) most result.items
+        has_failed.old has_failed.new result.fault }
 {
     let (blocks, rest) = whole_blocks(order, shown, most);
     let stretch = &shown[..shown.len() - rest.len()];
