@@ -4,11 +4,10 @@ ghost use Rattle.std.specs.Prelude.{⊤, ◌≡◌, ◌+◌, ◌^◌, ◌<◌, �
 ghost use Rattle.std.specs.Io.KnownBytes.{prepend_known};
 ghost use Rattle.std.specs.Result.{result_err};
 ghost use Rattle.pcap_core.specs.Answer.{whole};
-ghost use Rattle.pcap_items.specs.Filling.{Stated};
 ghost use Rattle.pcap_items.specs.Held.{held_bytes};
 ghost use Rattle.pcap_classic.specs.Magic.{is_magic};
 ghost use Rattle.pcap_classic.specs.Packets.{format_under, packet_format, reader_format};
-ghost use Rattle.pcap_classic.specs.StatedPackets.{KnowsHeader};
+ghost use Rattle.pcap_classic.specs.StatedPackets.{IsHeld};
 ghost use Rattle.pcap_classic.specs.PacketText.{Captured, packet_limit};
 ghost use Rattle.pcapfile_info.specs.Describing.{SameDescribed};
 ghost use Rattle.pcapfile_info.specs.Sights.{IsPacketSight, captured_seen};
@@ -18,7 +17,7 @@ ghost use Rattle.pcapfile_info.specs.Totals.{AllAre, TotalsAre};
 use crate::progress::{MOST, Progress};
 use crate::shown::{Passes, pass_shown};
 use byteorder::{BigEndian, ByteOrder, LittleEndian};
-use pcap_file::pcap::{Packet, PacketHeader, PacketsUnder, PcapHeader, packet_of};
+use pcap_file::pcap::{HeldPacket, Packet, PacketsUnder, PcapHeader};
 use pcap_file::{Endianness, PcapError, ResultParsing, TsResolution};
 use pcap_items::stream::{Held, fill_item};
 use std::alloc::Global;
@@ -74,15 +73,15 @@ impl Passes for PcapHeader {
     }
 }
 
-// One packet more, which the bytes are.
-fn add_held(header: &PcapHeader, head: PacketHeader, held: &[u8], progress: &mut Progress)
-    requires stated { Stated (KnowsHeader header.now) ((reader_format packet_limit header.now).head tt) head held.now }
+// One packet more, which is held.
+fn add_held(held: HeldPacket<'_>, progress: &mut Progress)
+    requires held { IsHeld held }
     requires few { progress.old.items + 1 < 2 ^ 64 }
-    ensures adds { (packet : Captured) × (reader_format packet_limit header.now).says tt held.now (whole packet [])
+    ensures adds { (packet : Captured) × (reader_format packet_limit held.entry.from.now).says tt held.entry.bytes.now (whole packet [])
         × AddsPacketAlone (captured_seen packet) (16 + packet.header.incl_len) progress.old progress.new }
     ensures same { SameDescribed progress.old progress.new }
 {
-    let packet = packet_of(header, head, held);
+    let packet = held.packet();
     progress.add_packet_alone(packet.header, packet.data_.as_slice());
 }
 
@@ -107,7 +106,12 @@ fn pass_held<R: Read>(
     let Some(head) = fill_item(&PacketsUnder { header }, input, read_failed, held)? else {
         return Ok(false);
     };
-    add_held(header, head, held.as_slice(), progress);
+    let packet = HeldPacket {
+        from: header,
+        head,
+        bytes: held.as_slice(),
+    };
+    add_held(packet, progress);
     held.clear();
     Ok(true)
 }

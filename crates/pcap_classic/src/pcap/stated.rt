@@ -4,8 +4,7 @@ ghost use Rattle.std.specs.Prelude.{[]};
 ghost use Rattle.pcap_core.specs.Answer.{Tells, number_in, whole};
 ghost use Rattle.pcap_classic.specs.Packets.{reader_format};
 ghost use Rattle.pcap_classic.specs.PacketText.{packet_limit, content_of, PacketHeaderSays};
-ghost use Rattle.pcap_items.specs.Filling.{Stated};
-ghost use Rattle.pcap_classic.specs.StatedPackets.{KnowsHeader};
+ghost use Rattle.pcap_classic.specs.StatedPackets.{IsHeld, KnowsHeader};
 
 use crate::common::TsResolution;
 use crate::pcap::{Packet, PacketHeader, PcapHeader};
@@ -66,14 +65,27 @@ impl HasHead for PacketsUnder<'_> {
     }
 }
 
-/// The packet of this header that the bytes are, lent from them.
-pub fn packet_of<'a>(header: &PcapHeader, head: PacketHeader, bytes: &'a [u8]) -> Packet<'a>
-    requires { Stated (KnowsHeader header.now) ((reader_format packet_limit header.now).head tt) head bytes.now }
-    ensures { (reader_format packet_limit header.now).says tt bytes.now (whole (content_of result) []) }
-{
-    let (_front, data) = bytes.split_at(16);
-    Packet {
-        header: head,
-        data_: CowBytes::Borrowed(data),
+/// A packet that is held.
+#[derive(Clone, Copy)]
+pub struct HeldPacket<'a> {
+    /// The header that it came under.
+    pub from: &'a PcapHeader,
+    /// Its own header, as it was read.
+    pub head: PacketHeader,
+    /// Its bytes, those of its header first.
+    pub bytes: &'a [u8],
+}
+
+impl<'a> HeldPacket<'a> {
+    /// The packet, lent from its bytes.
+    pub fn packet(self) -> Packet<'a>
+        requires { IsHeld self }
+        ensures { (reader_format packet_limit self.entry.from.now).says tt self.entry.bytes.now (whole (content_of result) []) }
+    {
+        let (_front, data) = self.bytes.split_at(16);
+        Packet {
+            header: self.head,
+            data_: CowBytes::Borrowed(data),
+        }
     }
 }

@@ -1,10 +1,11 @@
 //! Copies of captures, from a reader to a writer.
 
-ghost use Rattle.std.specs.Prelude.{◌≡◌, ◌≤◌, ◌<◌, ◌+◌, ◌↔◌, ℕ, List, true, false, IsTrue, IfSome, MatchResult};
-ghost use Rattle.pcap_items.specs.Filling.{Stated};
+ghost use Rattle.std.specs.Prelude.{◌≡◌, ◌≤◌, ◌<◌, ◌+◌, ◌↔◌, ℕ, List, [], true, false, IsTrue, IfSome};
 ghost use Rattle.pcap_items.specs.Copying.{NothingCopied};
+ghost use Rattle.pcap_items.specs.Writing.{WritesAll};
 ghost use Rattle.std.specs.Result.{result_err};
-ghost use Rattle.pcap_classic.specs.StatedPackets.{KnowsHeader};
+ghost use Rattle.pcap_core.specs.Answer.{whole};
+ghost use Rattle.pcap_classic.specs.StatedPackets.{IsHeld};
 ghost use Rattle.pcap_classic.specs.Copies.{BeginsCopy, CanBeUnder, CopiesBehind, copied_of, CopyRun, CopyFront, WritesHeld, header_under};
 ghost use Rattle.pcap_classic.specs.Magic.{is_magic};
 ghost use Rattle.pcap_classic.specs.Packets.{reader_format};
@@ -12,9 +13,7 @@ ghost use Rattle.pcap_classic.specs.PacketText.{Captured, packet_limit};
 ghost use Rattle.pcap_classic.specs.Written.{written_under};
 
 use crate::common::TsResolution;
-use crate::pcap::{
-    PacketHeader, PacketsUnder, PcapHeader, packet_of, put_header, put_packet, read_header,
-};
+use crate::pcap::{HeldPacket, PacketsUnder, PcapHeader, put_header, put_packet, read_header};
 use crate::run::stretch::{Went, put_front};
 use pcap_core::rules::Rule;
 use pcap_core::{Endianness, PcapError, ResultParsing};
@@ -144,20 +143,12 @@ pub trait PutsPacket {
 
     ghost text: { Self → Captured → List ℕ };
 
-    /// Writes the text of the packet that the bytes are, which came under this header and has this head.
-    fn put_held<W: Write>(
-        &self,
-        writer: &mut W,
-        has_failed: &mut bool,
-        from: &PcapHeader,
-        head: PacketHeader,
-        held: &[u8],
-    ) -> ResultParsing<()>
+    /// Writes the text of the packet. It fails where a write fails, and nowhere else.
+    fn put_held<W: Write>(&self, writer: &mut W, held: HeldPacket<'_>) -> ResultParsing<()>
         requires stands { stands self.now }
-        requires stated { Stated (KnowsHeader from.now) ((reader_format packet_limit from.now).head tt) head held.now }
-        ensures out { WritesHeld ((reader_format packet_limit from.now).says tt) (text self.now) held.now
-            (W.contents writer.old) (W.contents writer.new) result }
-        ensures told { MatchResult result (λ _. has_failed.new ≡ has_failed.old) (λ _. has_failed.new ≡ true) };
+        requires held { IsHeld held }
+        ensures { WritesHeld ((reader_format packet_limit held.entry.from.now).says tt) (text self.now) held.entry.bytes.now
+            (W.contents writer.old) (W.contents writer.new) result };
 }
 
 /// Packets ahead of a copy.
@@ -228,13 +219,15 @@ impl<P: PutsPacket> Ahead for PacketsAhead<P> {
         let Some(head) = fill_item(&packets, reader, &mut tally.read_failed, held)? else {
             return Ok(false);
         };
-        self.puts.put_held(
-            writer,
-            &mut tally.write_failed,
-            &self.header,
+        let packet = HeldPacket {
+            from: &self.header,
             head,
-            held.as_slice(),
-        )?;
+            bytes: held.as_slice(),
+        };
+        if let Err(e) = self.puts.put_held(writer, packet) {
+            tally.write_failed = true;
+            return Err(e);
+        }
         held.clear();
         tally.items += 1;
         Ok(true)
@@ -278,19 +271,21 @@ impl PutsPacket for UnderHeader {
     ghost text = { λ under. written_under under.out };
 
     #[inline(always)]
-    fn put_held<W: Write>(
-        &self,
-        writer: &mut W,
-        has_failed: &mut bool,
-        from: &PcapHeader,
-        head: PacketHeader,
-        held: &[u8],
-    ) -> ResultParsing<()> {
+    fn put_held<W: Write>(&self, writer: &mut W, held: HeldPacket<'_>) -> ResultParsing<()> {
         let out = &self.out;
-        if from.magic_number == out.magic_number {
-            put(writer, has_failed, held)
+        if held.from.magic_number == out.magic_number {
+            put_text(writer, held.from, held.bytes)
         } else {
-            put_packet(writer, has_failed, out, &packet_of(from, head, held))
+            put_packet(writer, &mut false, out, &held.packet())
         }
     }
+}
+
+// Writes bytes that are a packet of the capture with this header: they are its text.
+#[inline(always)]
+fn put_text<W: Write>(writer: &mut W, header: &PcapHeader, bytes: &[u8]) -> ResultParsing<()>
+    ensures { (packet : Captured) → (reader_format packet_limit header.now).says tt bytes.now (whole packet [])
+        → WritesAll (W.contents writer.old) (W.contents writer.new) (written_under header.now packet) result }
+{
+    put(writer, &mut false, bytes)
 }

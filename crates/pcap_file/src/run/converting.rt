@@ -7,7 +7,7 @@ ghost use Rattle.pcap_file.specs.Converts.{BeginsConversion, ConvertRun, MakesTe
 
 use byteorder::LittleEndian;
 use pcap_blocks::{InterfaceDescriptionBlock, InterfaceDescriptionOption, SectionHeaderBlock};
-use pcap_classic::pcap::{PacketHeader, PcapHeader, packet_of, read_header};
+use pcap_classic::pcap::{HeldPacket, PacketHeader, PcapHeader, read_header};
 use pcap_classic::run::{Copied, PacketsAhead, PutsPacket, end_copy};
 use pcap_core::{Endianness, ResultParsing};
 use pcap_items::stream::{Tally, put};
@@ -98,15 +98,8 @@ impl PutsPacket for PacketBlocks {
     ghost text = { λ blocks. converted_text };
 
     #[inline(always)]
-    fn put_held<W: Write>(
-        &self,
-        writer: &mut W,
-        has_failed: &mut bool,
-        from: &PcapHeader,
-        head: PacketHeader,
-        held: &[u8],
-    ) -> ResultParsing<()> {
-        let packet = packet_of(from, head, held);
+    fn put_held<W: Write>(&self, writer: &mut W, held: HeldPacket<'_>) -> ResultParsing<()> {
+        let packet = held.packet();
         let PacketHeader {
             ts_sec,
             ts_nsec,
@@ -116,7 +109,7 @@ impl PutsPacket for PacketBlocks {
         let time = u64::from(ts_sec) * 1_000_000_000 + u64::from(ts_nsec);
         put_packet::<W, LittleEndian>(
             writer,
-            has_failed,
+            &mut false,
             0,
             time,
             packet.data_.as_slice(),

@@ -1,4 +1,4 @@
-use Rattle.std.proofs.Common.{◌∙◌, arith, refl, sym, subst, inl, inr, [], List, ℕ, append-nil}
+use Rattle.std.proofs.Common.{arith, refl, sym, subst, inl, inr, [], List, ℕ, append-nil}
 use Rattle.std.proofs.lemmas.Result.{err_from_is_err_and}
 use Rattle.std.specs.Io.KnownBytes.{Appends}
 use Rattle.std.proofs.KnownBytes.{Keeps-refl}
@@ -36,25 +36,24 @@ returns-in_default-clause-steps g c =
     let filled = rw c.in_default.is at c.in_ok-head.ensures.fills in
     (refl, filled.2, record { fine = refl; no_read_failed = filled.0; no_write_failed = c.requires.no_write_failed; taken = filled.3; out = Keeps-refl _ })
 
-pub returns-in_err-put_held-clause-steps : goal.returns-in_err-put_held-clause-steps
-returns-in_err-put_held-clause-steps g c =
-    let p = err_from_is_err_and c.from_residual-in_err-put_held.result c.from_residual-in_err-put_held.ensures.1 in
+pub returns-in-Err-clause-steps : goal.returns-in-Err-clause-steps
+returns-in-Err-clause-steps g c =
     let header = c.args.self.now.header in
     let text = g.P.PutsPacket.text c.args.self.now.puts in
     let n = c.args.tally.now.items in
     let filled = rw c.in-Some.is at c.in_ok-head.ensures.fills in
-    let wrote = c.in_err-put_held.ensures.out in
+    let wrote = c.in-Err.ensures in
     let part = torn_write _ _ _ _ wrote.2 in
-    rw (p.1, p.2) (step_fails (format_under packet_limit header) (each_written text) (each_writing text) tt _ _ _ _ n n c.in_err-put_held.field-0.0 _ _ refl (inl (record {
+    step_fails (format_under packet_limit header) (each_written text) (each_writing text) tt _ _ _ _ n n c.in-Err.e _ _ refl (inl (record {
       item = wrote.0;
       text = held_bytes c.fill_item.new.held;
       is_text = (reader_whole packet_limit header _ [] wrote.0 (rw c.as_slice.ensures at wrote.1)).1;
       took = filled.4;
       refused = part.0;
       no_read_failed = filled.0;
-      write_failed = c.in_err-put_held.ensures.told;
+      write_failed = refl;
       out = subst (λ (l : List ℕ). AppendsPart (g.W.Write.contents c.args.writer.now) (g.W.Write.contents c.put_held.new.writer) l) (sym (append-nil (text wrote.0))) part.1;
-    })))
+    }))
 
 pub returns-clause-steps : goal.returns-clause-steps
 returns-clause-steps g c =
@@ -62,11 +61,11 @@ returns-clause-steps g c =
     let text = g.P.PutsPacket.text c.args.self.now.puts in
     let n = c.args.tally.now.items in
     let filled = rw c.in-Some.is at c.in_ok-head.ensures.fills in
-    let wrote = c.in_ok-put_held.ensures.out in
+    let wrote = c.in_default-put_held.ensures in
     let went = subst (λ (l : List ℕ). Appends (g.W.Write.contents c.args.writer.now) (g.W.Write.contents c.put_held.new.writer) l) (sym (append-nil (text wrote.0))) wrote.2 in (
       step_one (format_under packet_limit header) (each_written text) (each_writing text) tt tt wrote.0 (held_bytes c.fill_item.new.held) _ _ _ _ n _ refl
           (reader_whole packet_limit header _ [] wrote.0 (rw c.as_slice.ensures at wrote.1)).1 filled.4 went refl,
       omega arith,
       filled.0,
-      c.in_ok-put_held.ensures.told ∙ c.requires.no_write_failed,
+      c.requires.no_write_failed,
     )

@@ -5,9 +5,9 @@ use Rattle.pcap_file.proofs.Converting.{packet_short, packet_put}
 use Rattle.pcap_file.proofs.run.converting.PacketBlocksPutsPacket.put_held.Goals as goal
 
 pub put_packet-requires : goal.put_packet-requires
-put_packet-requires g c = rw c.as_slice.ensures (packet_short c.args.from.now c.args.held.now (content_of c.packet_of-packet.result) c.packet_of-packet.ensures)
+put_packet-requires g c = rw c.as_slice.ensures (packet_short c.args.held.from.now c.args.held.bytes.now (content_of c.packet-packet.result) c.packet-packet.ensures)
 
-pub returns-clause-out : goal.returns-clause-out
-returns-clause-out g c =
-    let packet = content_of c.packet_of-packet.result in
-    (packet, c.packet_of-packet.ensures, packet_put _ _ c.put_packet.result _ (time_of packet) packet.header.orig_len _ packet.bytes (omega (arith, c.from.ensures, c.from-2.ensures)) c.as_slice.ensures c.put_packet.ensures.out)
+pub returns : goal.returns
+returns g c =
+    let packet = content_of c.packet-packet.result in
+    (packet, c.packet-packet.ensures, packet_put _ _ c.put_packet.result _ (time_of packet) packet.header.orig_len _ packet.bytes (omega (arith, c.from.ensures, c.from-2.ensures)) c.as_slice.ensures c.put_packet.ensures.out)
