@@ -1,5 +1,5 @@
 -- Enhanced packets that are read where they lie.
-use Rattle.std.proofs.Common.{◌≡◌, ◌≤◌, ◌<◌, ◌+◌, ℕ, List, [], ◌++◌, length, take, Some, refl, sym, ap, subst, ◌∙◌, rules, arith, length-append}
+use Rattle.std.proofs.Common.{◌≡◌, ◌≤◌, ◌<◌, ◌+◌, ℕ, List, [], ◌++◌, length, take, Some, inl, inr, refl, sym, ap, subst, ◌∙◌, rules, arith, length-append}
 use Rattle.std.specs.Prelude.{◌%◌}
 use Rattle.byteorder.specs.Endian.{big_number}
 use Rattle.pcap_core.specs.declared.common.Endianness.{Endianness}
@@ -16,7 +16,7 @@ use Rattle.pcap_options.specs.Options.{OptionList, may_end_with_body}
 use Rattle.pcap_blocks.specs.SectionHeader.{Section}
 use Rattle.pcap_options.specs.Values.{Entry}
 use Rattle.pcap_ng.specs.Blocks.{Item, block_format}
-use Rattle.pcap_ng.specs.Enhanced.{EnhancedFrame, PacketText, PartsText, enhanced_frame, enhanced_with}
+use Rattle.pcap_ng.specs.Enhanced.{EnhancedFrame, HasNoRoom, IsRefused, PacketText, PartsText, enhanced_frame, enhanced_with}
 use Rattle.pcap_ng.specs.Frames.{Framed, FrameHeadText, FrameTail, FrameText, frame_format, own_order}
 use Rattle.pcap_ng.specs.State.{State, order_at, within}
 use Rattle.pcap_ng.specs.declared.pcapng.enhanced.EnhancedNumbers.{EnhancedNumbers}
@@ -24,6 +24,11 @@ use Rattle.pcap_ng.specs.declared.pcapng.enhanced.EnhancedParts.{EnhancedParts}
 use Rattle.pcap_ng.proofs.Frames.{head_long}
 use Rattle.pcap_ng.proofs.HeadedFrames.{frames_lawful}
 use Rattle.pcap_ng.proofs.Stretched.{own_text, text_within}
+
+-- a body with no room for them is refused
+pub no_room_refused : (order : Order) (body : List ℕ) → HasNoRoom order body → IsRefused order body
+no_room_refused order body (inl short) = (_, short)
+no_room_refused order body (inr cut) = (_, cut)
 
 other_order : (e : Endianness) (magic : ℕ) → own_order e 6 magic ≡ Some e
 unfolding own_order

@@ -2,7 +2,8 @@
 use Rattle.std.specs.Prelude.{◌≡◌, ◌⊎◌, ℕ, List, [], length}
 use Rattle.pcap_core.specs.declared.common.Endianness.{Endianness}
 use Rattle.pcap_core.specs.Answer.{Order, Number, number_in}
-use Rattle.pcap_core.specs.Faults.{Fault}
+use Rattle.pcap_core.specs.Faults.{Fault, Invalid}
+use Rattle.pcap_core.specs.declared.rules.Rule.TheVariants.{EnhancedCut, EnhancedTooShort}
 use Rattle.pcap_core.specs.Padded.{Padded}
 use Rattle.pcap_blocks.specs.declared.block_type.BlockType.TheVariants as types
 use Rattle.pcap_blocks.specs.EnhancedPacket.{Enhanced, EnhancedFault, EnhancedMayGrow, EnhancedText}
@@ -42,6 +43,10 @@ pub record PartsText (order : Order) (parts : EnhancedParts) (body : List ℕ) :
 -- a body is refused as that of an enhanced packet
 abbrev pub IsRefused : Order → List ℕ → Type 0
 IsRefused order body = (fault : Fault) × EnhancedFault order body fault
+
+-- a body has no room for its numbers, or for the bytes that are stored
+abbrev pub HasNoRoom : Order → List ℕ → Type 0
+HasNoRoom order body = EnhancedFault order body (Invalid EnhancedTooShort) ⊎ EnhancedFault order body (Invalid EnhancedCut)
 
 -- a body has an option, for which memory may be wanting, or is refused
 abbrev pub MayBeRefused : Order → List ℕ → Type 0

@@ -2,7 +2,7 @@
 
 ghost use Rattle.std.specs.Prelude.{◌≡◌, ◌+◌, ◌*◌, ◌^◌, MatchOption};
 ghost use Rattle.pcap_core.specs.Answer.{number_in};
-ghost use Rattle.pcap_ng.specs.Enhanced.{BodyTells, EnhancedFrame, IsRefused, MayBeRefused, NoFrame, NonePlain, PacketText, PartsText};
+ghost use Rattle.pcap_ng.specs.Enhanced.{BodyTells, EnhancedFrame, HasNoRoom, MayBeRefused, NoFrame, NonePlain, PacketText, PartsText};
 
 use byteorder::{BigEndian, ByteOrder, LittleEndian};
 use pcap_blocks::EnhancedPacketBlock;
@@ -98,7 +98,7 @@ pub fn split_frame<B: ByteOrder>(order: Endianness, slice: &[u8]) -> Option<(&[u
 /// The parts of an enhanced packet's body. None where it is too short for its numbers, or for the bytes that are stored.
 #[inline(always)]
 pub fn split_body<B: ByteOrder>(body: &[u8]) -> Option<EnhancedParts<'_>>
-    ensures { MatchOption result (IsRefused B.number_of body.now) (λ parts. PartsText B.number_of parts body.now) }
+    ensures { MatchOption result (HasNoRoom B.number_of body.now) (λ parts. PartsText B.number_of parts body.now) }
 {
     if body.len() < 20 {
         return None;

@@ -1,11 +1,14 @@
 use Rattle.std.proofs.Common.{refl}
 use Rattle.pcap_ng.specs.Enhanced.{enhanced_with}
-use Rattle.pcap_ng.proofs.EnhancedFrames.{parts_read}
+use Rattle.pcap_ng.proofs.EnhancedFrames.{no_room_refused, parts_read}
 use Rattle.pcapfile_values.proofs.Plain.{options_not_plain, refused_not_plain}
 use Rattle.pcapfile_values.proofs.bodies.plain_in.Goals as goal
 
 pub returns-in_err-parts : goal.returns-in_err-parts
-returns-in_err-parts g c = rw c.from_residual.ensures (refused_not_plain g.B.ByteOrder.number_of c.args.body.now c.in_err-parts.ensures)
+returns-in_err-parts g c =
+    let order = g.B.ByteOrder.number_of in
+    let body = c.args.body.now in
+    rw c.from_residual.ensures (refused_not_plain order body (no_room_refused order body c.in_err-parts.ensures))
 
 pub returns-in_err-_behind : goal.returns-in_err-_behind
 returns-in_err-_behind g c =

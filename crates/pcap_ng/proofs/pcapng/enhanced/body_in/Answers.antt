@@ -1,9 +1,12 @@
-use Rattle.std.proofs.Common.{◌≡◌, [], refl, rules}
+use Rattle.std.proofs.Common.{◌≡◌, [], inr, refl, rules}
 use Rattle.std.proofs.lemmas.List.{nil_from_length}
 use Rattle.pcap_options.specs.Options.{with_body}
 use Rattle.pcap_ng.specs.Enhanced.{enhanced_with}
-use Rattle.pcap_ng.proofs.EnhancedFrames.{parts_read}
+use Rattle.pcap_ng.proofs.EnhancedFrames.{no_room_refused, parts_read}
 use Rattle.pcap_ng.proofs.pcapng.enhanced.body_in.Goals as goal
+
+pub returns-in_err-parts : goal.returns-in_err-parts
+returns-in_err-parts g c = rw c.from_residual.ensures (inr (no_room_refused g.B.ByteOrder.number_of c.args.body.now c.in_err-parts.ensures))
 
 pub returns : goal.returns
 returns g c =

@@ -1,5 +1,5 @@
-use Rattle.std.proofs.Common.{◌+◌, ◌*◌, ◌^◌, ℕ, [], refl, sym, subst}
-use Rattle.pcap_core.specs.declared.rules.Rule.TheVariants.{EnhancedCut, EnhancedTooShort}
+use Rattle.std.proofs.Common.{◌+◌, ◌*◌, ◌^◌, ℕ, [], inl, inr, refl, sym, subst}
+use Rattle.pcap_core.specs.declared.rules.Rule.TheVariants.{EnhancedCut}
 use Rattle.pcap_core.specs.Answer.{Number}
 use Rattle.pcap_core.specs.Faults.{Invalid}
 use Rattle.pcap_core.proofs.Padded.{behind_number}
@@ -10,7 +10,7 @@ use Rattle.pcap_blocks.proofs.StoredPackets.{stored_cut, stored_head}
 use Rattle.pcap_ng.proofs.pcapng.enhanced.split_body.Goals as goal
 
 pub returns-then-body-lt20 : goal.returns-then-body-lt20
-returns-then-body-lt20 g c = (Invalid EnhancedTooShort, short c.if-body-lt20.true)
+returns-then-body-lt20 g c = inl (short c.if-body-lt20.true)
 
 pub returns-in_err-bytes : goal.returns-in_err-bytes
 returns-in_err-bytes g c =
@@ -21,7 +21,7 @@ returns-in_err-bytes g c =
     let time : TimeText order (high.result.0 * 2 ^ 32 + low.result.0) interface.result.1.now low.result.1.now =
     record { high = high.result.0; low = low.result.0; after_high = high.result.1.now; high_is = high.ensures.number; low_is = low.ensures.number; both = refl } in
     let cut = stored_cut order enhanced_packet _ _ _ _ _ (stored_head [] [] time c.split_u32-captured.ensures.number c.split_u32-original.ensures.number) c.in_err-bytes.ensures.len in
-    rw c.from_residual.ensures (Invalid EnhancedCut, in_packet (Invalid EnhancedCut) interface.result.1.now (behind_number interface.ensures.number) cut)
+    rw c.from_residual.ensures (inr (in_packet (Invalid EnhancedCut) interface.result.1.now (behind_number interface.ensures.number) cut))
 
 pub returns : goal.returns
 returns g c =
