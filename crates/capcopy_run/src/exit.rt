@@ -21,7 +21,7 @@ pub enum Exit {
     Most,
     /// The words name nothing that the program does.
     Usage,
-    /// A read or a write failed, or the input ended early.
+    /// A read or a write failed, or the input ended early; or a value in the body of a section or an interface is too short.
     Io(PcapError),
     /// A growth was refused.
     Memory,

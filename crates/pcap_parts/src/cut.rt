@@ -86,13 +86,14 @@ pub(crate) fn cut_packets(
     Ok(cuts)
 }
 
-/// Where a capture can be cut into so many parts of equal length, but for less than a packet each, so that no packet is torn.
+/// Where a capture can be cut into so many parts of equal length, but for the last one and less than a packet each, so that no
+/// packet is torn.
 ///
 /// The bytes behind the header are shared equally, in whole bytes, and a part begins at the first bound of packets at or
 /// behind the end of each share but the last, where bytes follow. So there are fewer parts than asked for only where a packet
-/// is longer than a share, or the packets end before the bytes. The bytes from one cut to the next hold whole packets, and
-/// those from the last one on what is left. No part or one part are asked for alike. Each packet but those of the last part
-/// is passed over once.
+/// is longer than a share, the packets end before the bytes, or, as shares are rounded up, no bytes follow the end of one. The
+/// bytes from one cut to the next hold whole packets, and those from the last one on what is left. No part or one part are asked
+/// for alike. Each packet but those of the last part is passed over once.
 ///
 /// The errors are those of `PcapParser::new`, and `OutOfMemory` where the list of cuts can't grow.
 pub fn cut_pcap(alloc: Global, bytes: &[u8], parts: usize) -> ResultParsing<Cuts>

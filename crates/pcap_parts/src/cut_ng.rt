@@ -125,8 +125,8 @@ pub(crate) fn cut_ng_by(alloc: Global, bytes: &[u8], parting: Parting) -> Result
     })
 }
 
-/// Where a PcapNg capture can be cut into so many parts of equal length, but for less than a block each, so that no block is
-/// torn, and where what is in force at each cut stands.
+/// Where a PcapNg capture can be cut into so many parts of equal length, but for the last one and less than a block each, so that
+/// no block is torn, and where what is in force at each cut stands.
 ///
 /// The bytes behind the first section header are shared as `cut_pcap` shares those behind a capture's header. `resume` makes
 /// the parser of each part again, from the places that the cut has. Each block but those of the last part is passed over

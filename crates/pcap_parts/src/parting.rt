@@ -7,7 +7,7 @@ use crate::cut::to_next_end;
 /// How the parts of a capture are asked for.
 #[derive(Clone, Copy, Debug, PartialEq, Eq)]
 pub enum Parting {
-    /// So many, of equal length but for less than an item each.
+    /// So many, of equal length but for the last one and less than an item each.
     Equal(usize),
     /// Of at least so many bytes each, with no item more than it needs for them.
     AtLeast(usize),

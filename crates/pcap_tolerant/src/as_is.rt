@@ -244,7 +244,7 @@ fn as_is_under<'a>(
 /// `IncompleteBuffer` where bytes of the head, or then of the data, are missing: so many, 16 for the empty slice.
 /// `InvalidField` by V3 where the stored length is above the limit, in bytes; a limit below 262144 is taken for 262144. Where
 /// `next_packet` of the parser gives a packet, this is that packet without a flaw; where it refuses one by a rule, this is
-/// that packet with the rule for its first flaw.
+/// that packet with the rule for its first flaw, unless the stored length is above the limit or data are missing.
 #[inline(always)]
 pub fn next_packet_as_is<'a>(
     parser: &PcapParser,

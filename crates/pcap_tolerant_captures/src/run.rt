@@ -132,7 +132,7 @@ pub(crate) fn first_flawed(first: &BlockAsIs, blocks: &[BlockAsIs], used: usize)
 }
 
 /// The whole run over one slice: all blocks of its longest front as they stand, and what is said of the rest. A block ends it as a
-/// refusal only where its frame does, or where a section names no order of bytes.
+/// refusal only where its frame does, or where a section names no order of bytes or its body has under 16.
 ///
 /// The errors are those of `PcapNgParserAsIs::new` on the first block. A later block that is refused ends the blocks, and is told
 /// in `rest`; but `OutOfMemory`, where something can't grow, is the answer wherever it comes.

@@ -162,11 +162,11 @@ of it is there.";
 
 const REPAIR: &str = "Writes what can be read of a capture as one in which nothing breaks a rule.
 
-A fraction of a second that is too large is carried into the seconds, the first 262144 bytes of a
-longer packet are kept, and an original length is raised to the stored one or cut to 262144. Of
-PcapNg options are left out whose values break rules, an interface that is too short is filled up,
-and other blocks that have no room for what they hold are left out; sections state no length. All
-else stays as it is.
+A fraction of a second that is too large is carried into the seconds, at most up to the latest time
+that these can tell, the first 262144 bytes of a longer packet are kept, and an original length is
+raised to the stored one or cut to 262144. Of PcapNg options are left out whose values break rules,
+an interface that is too short is filled up, and other blocks that have no room for what they hold
+are left out; sections state no length. All else stays as it is.
 
 Bytes that are no packet or block are left out up to a section header, or to two packets or blocks
 in a row that stand without a fault, and so is a last one that is cut short. What is changed and

@@ -13,9 +13,9 @@ use pcapfile_values::errors::{PcapfileError, tell};
 use pcapfile_values::shown::PcapfileBytes;
 use std::alloc::Global;
 
-/// Where a capture can be cut into as many parts of equal length as there are places in `cuts`, but for less than a block each, so
-/// that no block is torn, and where what is in force there stands. `count` and `known` say how many places are filled, of cuts and
-/// of interfaces; or under status 11 `known` says how many interfaces need a place. The places are `pcapfile_ng_cut` in C.
+/// Where a capture can be cut into as many parts of equal length as there are places in `cuts`, but for the last one and less than
+/// a block each, so that no block is torn, and where what is in force there stands. `count` and `known` say how many places are
+/// filled, of cuts and of interfaces; or under status 11 `known` says how many interfaces need a place. The places are `pcapfile_ng_cut` in C.
 #[unsafe(no_mangle)]
 pub extern "C" fn pcapfile_cut_blocks(
     alloc: Global,

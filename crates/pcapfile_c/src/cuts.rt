@@ -14,8 +14,8 @@ use pcap_parts::{Cut, Parting, Passed, skip_packets};
 use pcapfile_values::errors::{PcapfileError, tell};
 use pcapfile_values::shown::PcapfileBytes;
 
-/// Where a capture can be cut into as many parts of equal length as there are places, but for less than a packet each, so that no
-/// packet is torn. `count` says how many places are filled. The places are `pcapfile_cut` in C.
+/// Where a capture can be cut into as many parts of equal length as there are places, but for the last one and less than a packet
+/// each, so that no packet is torn. `count` says how many places are filled. The places are `pcapfile_cut` in C.
 #[unsafe(no_mangle)]
 pub extern "C" fn pcapfile_cut_packets(
     capture: &PcapfileBytes<'_>,

@@ -15,7 +15,7 @@ use pcap_core::rules::Rule;
 pub struct PcapfileError {
     /// The number of the rule that the bytes break, under status 3. Else 0.
     pub rule: u32,
-    /// How many bytes are missing at least, under status 1. Else 0.
+    /// How many bytes are missing at least, under status 1, or of the room, under 9. Else 0.
     pub missing: usize,
 }
 
