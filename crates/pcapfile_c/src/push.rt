@@ -4,7 +4,7 @@ ghost use Rattle.std.specs.Prelude.{◌≡◌, ◌≤◌, ◌↔◌, false, IsTr
 ghost use Rattle.pcap_classic.specs.Magic.{is_magic};
 ghost use Rattle.pcapfile_c.specs.Push.{LiesWithin, MakesSpace, MovesToFront, Puts, TakesFront, TakesNext};
 
-use crate::pcap::{next_packet, pcapfile_take_header, pcapfile_take_packet};
+use crate::pcap::{next_packet, pcapfile_take_header, take_slowly};
 use pcapfile_values::errors::PcapfileError;
 use pcapfile_values::shown::{PcapfileBytes, PcapfileHeader, PcapfilePacket};
 
@@ -120,7 +120,7 @@ fn take_first<'a>(
     if status != 0 {
         return status;
     }
-    pcapfile_take_packet(header, left, packet, error)
+    take_slowly(header, left, packet, error)
 }
 
 impl PcapfilePush {

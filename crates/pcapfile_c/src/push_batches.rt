@@ -8,7 +8,7 @@ ghost use Rattle.pcapfile_c.specs.PushBatches.{FillsPlaces, TakesFrontPackets, T
 ghost use Rattle.pcapfile_c.specs.PushNgBatches.{TakesFrontNgPackets, TakesNextNgPackets, RefusesNextNgPackets, LeavesNgPackets};
 ghost use Rattle.pcapfile_c.specs.PushPackets.{ShowsInForce, HaveBases, MakesNoSense};
 
-use crate::pcap::{pcapfile_take_header, pcapfile_take_packets};
+use crate::pcap::{pcapfile_take_header, take_each};
 use crate::push::PcapfilePush;
 use crate::push_packets::take_packet;
 use pcap_core::PcapError;
@@ -92,7 +92,7 @@ fn fill_places<'a>(
     requires { IsTrue (is_magic header.now.magic_number) }
     ensures { FillsPlaces header.now.magic_number left.old.bytes.now left.new.bytes.now packets.old packets.new taken.new error.old error.new result }
 {
-    let status = pcapfile_take_packets(header, left, packets, taken, error);
+    let status = take_each(header, left, packets, taken, error);
     if status == 0 && *taken < packets.len() {
         return tell(&PcapError::IncompleteBuffer(16), error);
     }
