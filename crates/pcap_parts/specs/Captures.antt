@@ -9,6 +9,10 @@ use Rattle.pcap_classic.specs.Packets.{format_under}
 use Rattle.pcap_parts.specs.declared.cut.Cut.{Cut}
 use Rattle.pcap_parts.specs.Parts.{AreCuts, AreFair, HaveAtLeast, InParts}
 
+-- a capture's header stands whole at the front
+abbrev pub HasHeader : List ℕ → Type 0
+HasHeader bytes = (header : PcapHeader) × (after : List ℕ) × HeaderText header bytes after
+
 -- these cuts are bounds of the packets behind this header
 pub record IsCut (header : PcapHeader) (cuts : List Cut) (bytes : List ℕ) : Type 0 where
   pub after : List ℕ

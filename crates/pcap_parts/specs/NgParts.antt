@@ -23,6 +23,10 @@ use Rattle.pcap_parts.specs.declared.parting.Parting.TheVariants.{Equal, AtLeast
 use Rattle.pcap_parts.specs.Parts.{Bound, AreCuts, AreFair, HaveAtLeast, InParts}
 use Rattle.pcap_parts.specs.Resume.{IsFed, from_places}
 
+-- a capture's first block stands whole at the front, and brings a section
+abbrev pub HasOpening : List ℕ → Type 0
+HasOpening bytes = (first : State) × (after : List ℕ) × OpeningSays bytes (whole first after)
+
 -- the rest at which an error came, or want of memory
 abbrev pub rest_or_memory_of : PcapError → Result Rest AllocError
 rest_or_memory_of (IncompleteBuffer n) = Ok (Needs n)

@@ -2,11 +2,14 @@
 
 ghost use Rattle.pcap_classic.specs.HeaderText.{LacksHeader, HasHeaderFault};
 ghost use Rattle.pcap_core.specs.Answer.{Refuses, lacks, faulty};
+ghost use Rattle.pcap_core.specs.Errors.{IsMemory};
+ghost use Rattle.pcap_ng.specs.Blocks.{MayGrow};
 ghost use Rattle.pcap_ng.specs.Opening.{OpeningSays};
-ghost use Rattle.pcap_parts.specs.Captures.{IsCut, IsCutAtLeast};
-ghost use Rattle.pcap_parts.specs.NgParts.{IsNgCut, IsNgCutAtLeast};
+ghost use Rattle.pcap_ng.specs.State.{opening};
+ghost use Rattle.pcap_parts.specs.Captures.{HasHeader, IsCut, IsCutAtLeast};
+ghost use Rattle.pcap_parts.specs.NgParts.{HasOpening, IsNgCut, IsNgCutAtLeast};
 ghost use Rattle.pcap_parts.specs.Places.{TellAllPlaces};
-ghost use Rattle.std.specs.Prelude.{⊤, max, IfOk, IfErr};
+ghost use Rattle.std.specs.Prelude.{◌⊎◌, ⊤, max, IfOk, IfErr};
 
 use crate::cut::{Cuts, cut_packets};
 use crate::cut_ng::{NgCuts, cut_ng_by};
@@ -26,6 +29,7 @@ pub fn cut_pcap_at_least(alloc: Global, bytes: &[u8], at_least: usize) -> Result
     ensures cut { IfOk result (λ x. IsCut x.header x.cuts.items bytes.now) }
     ensures steps { IfOk result (λ x. IsCutAtLeast (max at_least 1) x.header x.cuts.items bytes.now) }
     ensures refused { IfErr result (Refuses ⊤ (LacksHeader bytes.now) (HasHeaderFault bytes.now)) }
+    ensures memory { IfErr result (λ e. IsMemory e → HasHeader bytes.now) }
 {
     let (after, parser) = PcapParser::new(bytes)?;
     let cuts = cut_packets(
@@ -54,6 +58,7 @@ pub fn cut_pcapng_at_least(alloc: Global, bytes: &[u8], at_least: usize) -> Resu
     ensures steps { IfOk result (λ cuts. IsNgCutAtLeast (max at_least 1) cuts.cuts.items bytes.now) }
     ensures places { IfOk result (λ cuts. TellAllPlaces bytes.now cuts.interfaces.items cuts.cuts.items) }
     ensures refused { IfErr result (Refuses ⊤ (λ n. OpeningSays bytes.now (lacks n)) (λ fault. OpeningSays bytes.now (faulty fault))) }
+    ensures memory { IfErr result (λ e. IsMemory e → MayGrow opening bytes.now ⊎ HasOpening bytes.now) }
 {
     cut_ng_by(alloc, bytes, Parting::AtLeast(at_least.max(1)))
 }

@@ -5,7 +5,8 @@ ghost use Rattle.pcap_classic.specs.PacketText.{packet_limit};
 ghost use Rattle.pcap_classic.specs.Packets.{format_under};
 ghost use Rattle.pcap_classic.specs.Parser.{header_of};
 ghost use Rattle.pcap_core.specs.Answer.{Refuses};
-ghost use Rattle.pcap_parts.specs.Captures.{IsCut, IsCutFairly};
+ghost use Rattle.pcap_core.specs.Errors.{IsMemory};
+ghost use Rattle.pcap_parts.specs.Captures.{HasHeader, IsCut, IsCutFairly};
 ghost use Rattle.pcap_parts.specs.Partings.{AreAskedFor, AsksSome};
 ghost use Rattle.pcap_parts.specs.Parts.{AreCuts, IsToNextEnd, share_of};
 ghost use Rattle.std.specs.Prelude.{◌≤◌, ◌-◌, ⊤, length, IfOk, IfErr};
@@ -100,6 +101,7 @@ pub fn cut_pcap(alloc: Global, bytes: &[u8], parts: usize) -> ResultParsing<Cuts
     ensures cut { IfOk result (λ x. IsCut x.header x.cuts.items bytes.now) }
     ensures fair { IfOk result (λ x. IsCutFairly parts x.header x.cuts.items bytes.now) }
     ensures refused { IfErr result (Refuses ⊤ (LacksHeader bytes.now) (HasHeaderFault bytes.now)) }
+    ensures memory { IfErr result (λ e. IsMemory e → HasHeader bytes.now) }
 {
     let (after, parser) = PcapParser::new(bytes)?;
     let cuts = cut_packets(alloc, &parser, after, bytes.len(), Parting::Equal(parts))?;

@@ -1,15 +1,17 @@
 //! Places at which a PcapNg capture can be cut into parts.
 
 ghost use Rattle.pcap_core.specs.Answer.{Refuses, lacks, faulty};
-ghost use Rattle.pcap_ng.specs.Blocks.{block_format};
+ghost use Rattle.pcap_core.specs.Errors.{IsMemory};
+ghost use Rattle.pcap_ng.specs.Blocks.{MayGrow, block_format};
 ghost use Rattle.pcap_ng.specs.Opening.{OpeningSays};
 ghost use Rattle.pcap_ng.specs.Parser.{state_of};
-ghost use Rattle.pcap_parts.specs.NgParts.{IsNgCut, IsNgCutBy, IsNgCutFairly, IsWalked, ResumesAt, bounds_of, places_at};
+ghost use Rattle.pcap_ng.specs.State.{opening};
+ghost use Rattle.pcap_parts.specs.NgParts.{HasOpening, IsNgCut, IsNgCutBy, IsNgCutFairly, IsWalked, ResumesAt, bounds_of, places_at};
 ghost use Rattle.pcap_parts.specs.Partings.{AreAskedFor, AsksSome};
 ghost use Rattle.pcap_parts.specs.Parts.{AreCuts};
 ghost use Rattle.pcap_parts.specs.Places.{IsPlaced, TellAllPlaces};
 ghost use Rattle.std.specs.List.{AllByRecursion};
-ghost use Rattle.std.specs.Prelude.{◌≡◌, ◌≤◌, ◌-◌, ⊤, length, drop, IfOk, IfErr};
+ghost use Rattle.std.specs.Prelude.{◌≡◌, ◌≤◌, ◌-◌, ◌⊎◌, ⊤, length, drop, IfOk, IfErr};
 
 use crate::cut::Cut;
 use crate::parting::Parting;
@@ -110,6 +112,7 @@ pub(crate) fn cut_ng_by(alloc: Global, bytes: &[u8], parting: Parting) -> Result
     ensures asked { IfOk result (λ cuts. IsNgCutBy parting cuts.cuts.items bytes.now) }
     ensures places { IfOk result (λ cuts. TellAllPlaces bytes.now cuts.interfaces.items cuts.cuts.items) }
     ensures refused { IfErr result (Refuses ⊤ (λ n. OpeningSays bytes.now (lacks n)) (λ fault. OpeningSays bytes.now (faulty fault))) }
+    ensures memory { IfErr result (λ e. IsMemory e → MayGrow opening bytes.now ⊎ HasOpening bytes.now) }
 {
     let (after, parser) = PcapNgParser::new(alloc, bytes)?;
     let mut walk = Walk {
@@ -138,6 +141,7 @@ pub fn cut_pcapng(alloc: Global, bytes: &[u8], parts: usize) -> ResultParsing<Ng
     ensures fair { IfOk result (λ cuts. IsNgCutFairly parts cuts.cuts.items bytes.now) }
     ensures places { IfOk result (λ cuts. TellAllPlaces bytes.now cuts.interfaces.items cuts.cuts.items) }
     ensures refused { IfErr result (Refuses ⊤ (λ n. OpeningSays bytes.now (lacks n)) (λ fault. OpeningSays bytes.now (faulty fault))) }
+    ensures memory { IfErr result (λ e. IsMemory e → MayGrow opening bytes.now ⊎ HasOpening bytes.now) }
 {
     cut_ng_by(alloc, bytes, Parting::Equal(parts))
 }
