@@ -17,8 +17,9 @@ use Rattle.pcap_items.specs.declared.run.pieces.Progress.TheVariants.{Before, Wi
 use Rattle.pcap_core.specs.Answer.{Verdict, whole, lacks, faulty, Made, Refuses, TellsWhere}
 use Rattle.pcap_core.specs.Faults.{Invalid, Io, Utf8}
 use Rattle.pcap_items.specs.Format.{Format, Front, IsLawful}
+use Rattle.pcap_items.specs.Items.{LeadsBy}
 use Rattle.pcap_core.specs.Laws.{IsStable}
-use Rattle.pcap_items.specs.Pieces.{AfterEach, Came, HoldsItems, IsFed, IsOpening, Reaches, TakesFront, TakesPart, joined_pieces}
+use Rattle.pcap_items.specs.Pieces.{AfterEach, Came, HoldsItems, IsFed, IsOpening, Reaches, TakesFront, joined_pieces}
 use Rattle.pcap_items.specs.Waiting.{IsAsked, IsWaiting, error_with, progress_shown, progress_with, rest_with}
 use Rattle.pcap_items.proofs.Formats.{lacks_no_text, texts_more}
 use Rattle.pcap_items.proofs.Fronts.{said_not_refused}
@@ -192,19 +193,19 @@ after_is_drop s t after e =
 abbrev pub ReachesOn : {Y S V W : Type 0} → (Y → List ℕ → Verdict S → Type 0) → Format S V → (V → W) → S → List W → List ℕ → S → List W → List ℕ → Type 0
 ReachesOn {Y = Y} opens f part q ws held next more left = (setting : Y) (s : List ℕ) → Reaches (opens setting) f part q ws s held → Reaches (opens setting) f part next more s left
 
-pub item_shorter : {S V W : Type 0} (f : Format S V) → IsLawful f → (part : V → W) (q next : S) (w : W) (held : List ℕ) (at count : ℕ) → TakesPart f part q next w (drop at held) count
-    → count < length held - at
-item_shorter f laws part q next w held at count t = omega (arith, leads_shorter f part laws q next w (drop at held) t.0 t.1, t.2, length-drop at held)
+pub item_shorter : {S V W : Type 0} (f : Format S V) → IsLawful f → (part : V → W) (q next : S) (w : W) (held after : List ℕ) (at : ℕ) → LeadsBy f part q next w (drop at held) after
+    → length after < length held - at
+item_shorter f laws part q next w held after at leads = omega (arith, leads_shorter f part laws q next w (drop at held) after leads, length-drop at held)
 
 module _ {S V W : Type 0} (opens : List ℕ → Verdict S → Type 0) (f : Format S V) (laws : IsLawful f) (part : V → W) where
   -- an item more
-  pub reaches_item : (q next : S) (ws : List W) (w : W) (s held : List ℕ) (at count : ℕ) → Reaches opens f part q ws s (drop at held) → TakesPart f part q next w (drop at held) count
-      → Reaches opens f part next (ws ++ w ∷ []) s (drop (length held - count) held)
-  reaches_item q next ws w s held at count r t =
-      let o = laws.own q (drop at held) t.0 t.1.value t.1.text in
-      let parts : held ≡ (take at held ++ o.0) ++ t.0 = sym (take-append-drop at held) ∙ ap (λ (l : List ℕ). take at held ++ l) o.1 ∙ sym (append_assoc (take at held) o.0 t.0) in
-      let left : drop (length held - count) held ≡ t.0 = ap (λ (n : ℕ). drop (length held - n) held) (sym t.2) ∙ after_is_drop held (take at held ++ o.0) t.0 parts in
-      record { first = r.first; after = r.after; opening = r.opening; leads = rw left (leads_more f part r.first q next ws w r.after (drop at held) t.0 r.leads t.1) }
+  pub reaches_item : (q next : S) (ws : List W) (w : W) (s held after : List ℕ) (at : ℕ) → Reaches opens f part q ws s (drop at held) → LeadsBy f part q next w (drop at held) after
+      → Reaches opens f part next (ws ++ w ∷ []) s (drop (length held - length after) held)
+  reaches_item q next ws w s held after at r leads =
+      let o = laws.own q (drop at held) after leads.value leads.text in
+      let parts : held ≡ (take at held ++ o.0) ++ after = sym (take-append-drop at held) ∙ ap (λ (l : List ℕ). take at held ++ l) o.1 ∙ sym (append_assoc (take at held) o.0 after) in
+      let left : drop (length held - length after) held ≡ after = after_is_drop held (take at held ++ o.0) after parts in
+      record { first = r.first; after = r.after; opening = r.opening; leads = rw left (leads_more f part r.first q next ws w r.after (drop at held) after r.leads leads) }
 
 module _ {P S V W : Type 0} (opens : List ℕ → Verdict S → Type 0) (opening : IsOpening opens) (f : Format S V) (laws : IsLawful f) (part : V → W) (state : P → S) where
   -- a piece after items

@@ -3,15 +3,10 @@ use Rattle.std.specs.Prelude.{◌≡◌, ◌+◌, ◌⊎◌, ℕ, List, [], ◌�
 use Rattle.std.specs.Borrow.{Bor}
 use Rattle.std.specs.List.{flat_map}
 use Rattle.pcap_core.specs.declared.errors.PcapError.{PcapError}
-use Rattle.pcap_core.specs.declared.errors.PcapError.TheVariants.{IncompleteBuffer, OutOfMemory}
 use Rattle.pcap_items.specs.declared.rest.Rest.{Rest}
-use Rattle.pcap_items.specs.declared.run.found.Found.{Found}
-use Rattle.pcap_items.specs.declared.run.found.Found.TheVariants.{Item, Needs, Refused}
 use Rattle.pcap_items.specs.declared.run.pieces.Progress.{Progress}
 use Rattle.pcap_items.specs.declared.run.pieces.Progress.TheVariants.{Before, Within}
 use Rattle.pcap_core.specs.Answer.{Verdict, whole, lacks, faulty, Refuses}
-use Rattle.pcap_core.specs.Errors.{IsMemory}
-use Rattle.pcap_core.specs.Faults.{Shows}
 use Rattle.pcap_items.specs.Format.{Format, Front}
 use Rattle.pcap_items.specs.Items.{LeadsBy, LeadsTo}
 use Rattle.pcap_core.specs.Laws.{ExactlyOne, IsStable}
@@ -69,36 +64,8 @@ pub record IsFedUpTo {S V W : Type 0} (opens : List ℕ → Verdict S → Type 0
   pub rest_is : IsRest (f.says q) left rest
   pub used_is : used + length left ≡ length s
 
--- an item of which this part is kept begins s, leads to the next state, and count bytes follow it
-abbrev pub TakesPart : {S V W : Type 0} → Format S V → (V → W) → S → S → W → List ℕ → ℕ → Type 0
-TakesPart f part q next w s count = (after : List ℕ) × LeadsBy f part q next w s after × (length after ≡ count)
-
 -- what a parser tells of bytes where an item is asked for: an item and what follows it; or n bytes lack, or there is a
 -- fault, and the state stays; or it found no memory
 abbrev pub TakesFront : {X S V W : Type 0} → Format S V → (V → W) → (X → W) → S → S → List ℕ → Result (Bor (List ℕ) × X) PcapError → Type 0
 TakesFront f part view q next s (Ok x) = LeadsBy f part q next (view x.1) s x.0.now
 TakesFront f part view q next s (Err error) = Refuses ⊤ (λ n. (next ≡ q) × f.says q s (lacks n)) (λ fault. (next ≡ q) × f.says q s (faulty fault)) error
-
--- ---- the same with the number of bytes that follow
-
--- what an answer says of the bytes, with the number of those that follow; want of memory says nothing of them
-abbrev pub behind_of : {X : Type 0} → Result (Bor (List ℕ) × X) PcapError → Result (Found (X × ℕ) PcapError) PcapError
-behind_of (Ok x) = Ok (Item (x.1, length x.0.now))
-behind_of (Err (IncompleteBuffer n)) = Ok (Needs n)
-behind_of (Err (OutOfMemory e)) = Err (OutOfMemory e)
-behind_of (Err error) = Ok (Refused error)
-
--- what was found of bytes at whose front a capture opens: the parser after that, and how many bytes follow; or n bytes lack;
--- or there is a fault; or no memory was found
-abbrev pub OpensWith : {P S : Type 0} → (List ℕ → Verdict S → Type 0) → (P → S) → List ℕ → Result (Found (P × ℕ) PcapError) PcapError → Type 0
-OpensWith opens state s (Ok (Item x)) = (after : List ℕ) × opens s (whole (state x.0) after) × (length after ≡ x.1)
-OpensWith opens state s (Ok (Needs n)) = opens s (lacks n)
-OpensWith opens state s (Ok (Refused error)) = Shows (λ fault. opens s (faulty fault)) error
-OpensWith opens state s (Err error) = IsMemory error
-
--- what was found of bytes where an item is asked for
-abbrev pub FindsFront : {X S V W : Type 0} → Format S V → (V → W) → (X → W) → S → S → List ℕ → Result (Found (X × ℕ) PcapError) PcapError → Type 0
-FindsFront f part view q next s (Ok (Item x)) = TakesPart f part q next (view x.0) s x.1
-FindsFront f part view q next s (Ok (Needs n)) = (next ≡ q) × f.says q s (lacks n)
-FindsFront f part view q next s (Ok (Refused error)) = Shows (λ fault. (next ≡ q) × f.says q s (faulty fault)) error
-FindsFront f part view q next s (Err error) = IsMemory error

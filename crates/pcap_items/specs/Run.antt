@@ -1,7 +1,8 @@
 -- What is said behind the last item of a run.
-use Rattle.std.specs.Prelude.{◌≡◌, ◌<◌, ℕ, List, [], length}
+use Rattle.std.specs.Prelude.{◌≡◌, ◌<◌, ℕ, List, [], length, Result, Ok, Err}
+use Rattle.std.specs.declared.alloc.AllocError.{AllocError}
 use Rattle.pcap_core.specs.declared.errors.PcapError.{PcapError}
-use Rattle.pcap_core.specs.declared.errors.PcapError.TheVariants.{IncompleteBuffer}
+use Rattle.pcap_core.specs.declared.errors.PcapError.TheVariants.{IncompleteBuffer, OutOfMemory}
 use Rattle.pcap_items.specs.declared.rest.Rest.{Rest}
 use Rattle.pcap_items.specs.declared.rest.Rest.TheVariants.{Clean, Needs, Refused}
 use Rattle.pcap_core.specs.Answer.{Verdict, lacks, faulty}
@@ -17,3 +18,9 @@ IsRest IsSaid left (Refused error) = Shows (λ fault. IsSaid left (faulty fault)
 abbrev pub rest_after : PcapError → Rest
 rest_after (IncompleteBuffer n) = Needs n
 rest_after error = Refused error
+
+-- the same, or want of memory, which is no rest
+abbrev pub rest_or_memory_of : PcapError → Result Rest AllocError
+rest_or_memory_of (IncompleteBuffer n) = Ok (Needs n)
+rest_or_memory_of (OutOfMemory e) = Err e
+rest_or_memory_of error = Ok (Refused error)

@@ -6,4 +6,4 @@ mod rest;
 pub mod run;
 pub mod stream;
 
-pub use rest::Rest;
+pub use rest::{Rest, rest_or_memory};

@@ -10,9 +10,8 @@ use Rattle.pcap_items.specs.declared.rest.Rest.TheVariants.{Needs, Refused}
 use Rattle.pcap_core.specs.Answer.{whole, lacks, faulty, Refuses}
 use Rattle.pcap_core.specs.Errors.{IsMemory}
 use Rattle.pcap_items.specs.Format.{Format, Texts, state_after, IsLawful}
-use Rattle.pcap_items.specs.Run.{IsRest}
+use Rattle.pcap_items.specs.Run.{IsRest, rest_or_memory_of}
 use Rattle.pcap_items.proofs.Formats.{state_push, texts_push, shorter}
-use Rattle.pcap_parts.specs.NgParts.{rest_or_memory_of}
 use Rattle.pcap_parts.specs.Parts.{EndsPassing, LastIsNeeded, PassesTo, StopsPassing}
 
 module _ {S V : Type 0} (f : Format S V) where

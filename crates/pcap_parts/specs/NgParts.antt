@@ -1,11 +1,6 @@
 -- A PcapNg capture cut into parts: where its blocks are walked over, and what is in force at each cut.
-use Rattle.std.specs.Prelude.{◌≡◌, ◌≤◌, ◌+◌, ◌-◌, ℕ, List, ◌++◌, length, map, take, drop, Result, Ok, Err}
+use Rattle.std.specs.Prelude.{◌≡◌, ◌≤◌, ◌+◌, ◌-◌, ℕ, List, ◌++◌, length, map, take, drop}
 use Rattle.std.specs.List.{AllByRecursion}
-use Rattle.std.specs.declared.alloc.AllocError.{AllocError}
-use Rattle.pcap_core.specs.declared.errors.PcapError.{PcapError}
-use Rattle.pcap_core.specs.declared.errors.PcapError.TheVariants.{IncompleteBuffer, OutOfMemory}
-use Rattle.pcap_items.specs.declared.rest.Rest.{Rest}
-use Rattle.pcap_items.specs.declared.rest.Rest.TheVariants.{Needs, Refused}
 use Rattle.pcap_core.specs.Answer.{whole}
 use Rattle.pcap_items.specs.Format.{Texts, state_after}
 use Rattle.pcap_items.specs.Run.{IsRest}
@@ -26,12 +21,6 @@ use Rattle.pcap_parts.specs.Resume.{IsFed, from_places}
 -- a capture's first block stands whole at the front, and brings a section
 abbrev pub HasOpening : List ℕ → Type 0
 HasOpening bytes = (first : State) × (after : List ℕ) × OpeningSays bytes (whole first after)
-
--- the rest at which an error came, or want of memory
-abbrev pub rest_or_memory_of : PcapError → Result Rest AllocError
-rest_or_memory_of (IncompleteBuffer n) = Ok (Needs n)
-rest_or_memory_of (OutOfMemory e) = Err e
-rest_or_memory_of error = Ok (Refused error)
 
 -- blocks before what is left lead to this state, and so do those alone that stand at the place of a header and at these places
 pub record IsWalked (bytes left : List ℕ) (q : State) (header : ℕ) (places : List ℕ) : Type 0 where

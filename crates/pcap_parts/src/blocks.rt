@@ -2,26 +2,13 @@
 
 ghost use Rattle.pcap_ng.specs.Blocks.{MayGrow, block_format};
 ghost use Rattle.pcap_ng.specs.Parser.{state_of};
-ghost use Rattle.pcap_parts.specs.NgParts.{rest_or_memory_of};
 ghost use Rattle.pcap_parts.specs.Parts.{KeepsNext, PassesTo};
 ghost use Rattle.std.specs.Prelude.{◌≡◌, ◌≤◌, ◌+◌, length, IfOk, OnErr};
 
 use crate::skip::{Passed, rest_of_all};
-use pcap_core::PcapError;
-use pcap_items::Rest;
+use pcap_items::rest_or_memory;
 use pcap_ng::pcapng::PcapNgParser;
 use std::alloc::AllocError;
-
-// The rest at which the parser gave this error. Want of memory is no rest.
-pub(crate) fn rest_or_memory(error: PcapError) -> Result<Rest, AllocError>
-    ensures { result ≡ rest_or_memory_of error }
-{
-    match error {
-        PcapError::IncompleteBuffer(n) => Ok(Rest::Needs(n)),
-        PcapError::OutOfMemory(e) => Err(e),
-        error => Ok(Rest::Refused(error)),
-    }
-}
 
 /// Passes over whole blocks at the front of a slice, up to the first bound of blocks at which at least so many bytes are passed,
 /// or over all that stand there where these are fewer bytes. The parser follows them: only the bodies of section headers and

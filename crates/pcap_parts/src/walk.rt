@@ -9,10 +9,10 @@ ghost use Rattle.pcap_parts.specs.Parts.{Passes};
 ghost use Rattle.pcap_parts.specs.Places.{IsPlaced};
 ghost use Rattle.std.specs.Prelude.{◌≡◌, ◌≤◌, ◌+◌, ◌⊎◌, ⊤, length, drop, IfOk, IfErr, IfNone};
 
-use crate::blocks::rest_or_memory;
 use crate::skip::{Passed, rest_of_all};
 use pcap_blocks::BlockType;
 use pcap_core::ResultParsing;
+use pcap_items::rest_or_memory;
 use pcap_ng::pcapng::PcapNgParser;
 use std::alloc::AllocError;
 

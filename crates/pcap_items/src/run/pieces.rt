@@ -5,13 +5,10 @@ ghost use Rattle.std.specs.Vec.{vec_capacity, vec_len};
 ghost use Rattle.pcap_core.specs.Answer.{Refuses, TellsWhere, Verdict, lacks, faulty};
 ghost use Rattle.pcap_core.specs.Errors.{IsMemory};
 ghost use Rattle.pcap_items.specs.Format.{Format, IsLawful};
-ghost use Rattle.pcap_items.specs.Found.{IfItem};
-ghost use Rattle.pcap_items.specs.Pieces.{AfterEach, Came, FindsFront, HoldsItems, IsFedUpTo, IsOpening, OpensWith};
-ghost use Rattle.pcap_items.specs.Pieces.{Reaches, TakesFront, behind_of, joined_pieces};
+ghost use Rattle.pcap_items.specs.Pieces.{AfterEach, Came, HoldsItems, IsFedUpTo, IsOpening, Reaches, TakesFront, joined_pieces};
 ghost use Rattle.pcap_items.specs.Waiting.{IsWaiting, error_with, progress_shown, progress_with, rest_shown, rest_with};
 
-use crate::Rest;
-use crate::run::{Found, found_in};
+use crate::{Rest, rest_or_memory};
 use pcap_core::{PcapError, ResultParsing};
 use std::alloc::Global;
 
@@ -346,15 +343,15 @@ fn opened<P: PieceParser>(
     ensures owned { IfOk result (λ _. All P.owned items.old.items → All P.owned items.new.items) }
     ensures memory { IfErr result IsMemory }
 {
-    match open_front::<P>(alloc, setting, held.as_slice())? {
-        Found::Item((mut parser, left)) => {
-            let taken = held.len() - left;
+    match P::open(alloc, setting, held.as_slice()) {
+        Ok((after, mut parser)) => {
+            let taken = held.len() - after.len();
             drop_front(held, taken);
             let rest = take_items(alloc, &mut parser, held, items)?;
             Ok(Progress::Within(parser, rest))
         }
-        Found::Needs(n) => Ok(Progress::Before(PcapError::IncompleteBuffer(n))),
-        Found::Refused(error) => Ok(Progress::Before(error)),
+        Err(PcapError::OutOfMemory(e)) => Err(PcapError::OutOfMemory(e)),
+        Err(error) => Ok(Progress::Before(error)),
     }
 }
 
@@ -375,56 +372,16 @@ fn take_items<P: PieceParser>(
 {
     let mut at = 0;
     loop {
-        match take_front(alloc, parser, held.as_slice().split_at(at).1)? {
-            Found::Item((item, left)) => {
+        match parser.take(alloc, held.as_slice().split_at(at).1) {
+            Ok((after, item)) => {
+                at = held.len() - after.len();
                 items.push(item)?;
-                at = held.len() - left;
             }
-            Found::Needs(n) => {
+            Err(error) => {
                 drop_front(held, at);
-                return Ok(Rest::Needs(n));
-            }
-            Found::Refused(error) => {
-                drop_front(held, at);
-                return Ok(Rest::Refused(error));
+                return Ok(rest_or_memory(error)?);
             }
         }
-    }
-}
-
-// What opens a capture at the front of what is held, and how many bytes follow it.
-fn open_front<P: PieceParser>(
-    alloc: Global,
-    setting: P::Setting,
-    held: &[u8],
-) -> ResultParsing<Found<(P, usize), PcapError>>
-    ensures { OpensWith (P.opens setting) P.state held.now result }
-{
-    counted(P::open(alloc, setting, held))
-}
-
-// The item at the front of what is held, and how many bytes follow it.
-fn take_front<P: PieceParser>(
-    alloc: Global,
-    parser: &mut P,
-    held: &[u8],
-) -> ResultParsing<Found<(P::Item, usize), PcapError>>
-    ensures finds { FindsFront P.format P.part P.view (P.state parser.old) (P.state parser.new) held.now result }
-    ensures owned { IfOk result (IfItem (λ x. P.owned x.0)) }
-{
-    counted(parser.take(alloc, held))
-}
-
-// What a parser's answer says of the bytes, with the number of those that follow, so that they can be let go.
-fn counted<T: Drop>(
-    answer: ResultParsing<(&[u8], T)>,
-) -> ResultParsing<Found<(T, usize), PcapError>>
-    ensures { result ≡ behind_of answer.entry }
-{
-    match found_in(answer)? {
-        Found::Item((after, item)) => Ok(Found::Item((item, after.len()))),
-        Found::Needs(n) => Ok(Found::Needs(n)),
-        Found::Refused(error) => Ok(Found::Refused(error)),
     }
 }
 

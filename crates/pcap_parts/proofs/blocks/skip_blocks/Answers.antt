@@ -1,9 +1,9 @@
 use Rattle.std.proofs.Common.{◌≡◌, arith, refl, rules}
 use Rattle.std.specs.Prelude.{Ok}
+use Rattle.pcap_items.specs.Run.{rest_or_memory_of}
 use Rattle.pcap_ng.specs.Blocks.{MayGrow, block_format, item_of}
 use Rattle.pcap_ng.specs.Parser.{state_of}
 use Rattle.pcap_ng.proofs.BlockFormat.{blocks_lawful}
-use Rattle.pcap_parts.specs.NgParts.{rest_or_memory_of}
 use Rattle.pcap_parts.proofs.Passing.{passing_ends, passing_more, passing_none, passing_rest, rest_is}
 use Rattle.pcap_parts.proofs.blocks.skip_blocks.Goals as goal
 

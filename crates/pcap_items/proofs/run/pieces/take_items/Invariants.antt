@@ -2,8 +2,8 @@ use Rattle.std.proofs.Common.{◌≤◌, ◌-◌, length, drop, map, All}
 use Rattle.pcap_items.proofs.Pieces.{ReachesOn}
 use Rattle.pcap_items.proofs.run.pieces.take_items.Given as goal
 
-abbrev pub invariant-loop-item : goal.invariant-loop-item
-invariant-loop-item g l =
+abbrev pub invariant-loop-after : goal.invariant-loop-after
+invariant-loop-after g l =
     let p = g.P.PieceParser in
     record {
       within : l.at ≤ length l.held.items;
@@ -11,5 +11,5 @@ invariant-loop-item g l =
       owned : All p.owned l.fn.items.items → All p.owned l.items.items;
     }
 
-abbrev pub decreases-loop-item : goal.decreases-loop-item
-decreases-loop-item g l = length l.held.items - l.at
+abbrev pub decreases-loop-after : goal.decreases-loop-after
+decreases-loop-after g l = length l.held.items - l.at

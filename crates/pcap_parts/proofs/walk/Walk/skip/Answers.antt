@@ -1,9 +1,10 @@
 use Rattle.std.proofs.Common.{◌≡◌, drop, arith, rules}
 use Rattle.std.specs.Prelude.{Ok, ⊤}
+use Rattle.pcap_items.specs.Run.{rest_or_memory_of}
 use Rattle.pcap_ng.specs.Blocks.{block_format}
 use Rattle.pcap_ng.specs.Parser.{state_of}
 use Rattle.pcap_ng.proofs.BlockFormat.{blocks_lawful}
-use Rattle.pcap_parts.specs.NgParts.{IsWalked, rest_or_memory_of}
+use Rattle.pcap_parts.specs.NgParts.{IsWalked}
 use Rattle.pcap_parts.specs.Places.{IsPlaced}
 use Rattle.pcap_parts.proofs.Passing.{but_for_memory, passing_ends, passing_more, passing_none, passing_rest, rest_is}
 use Rattle.pcap_parts.proofs.Walking.{goes_further, goes_nowhere, on_none}
