@@ -1,13 +1,12 @@
 -- What the head of a packet as it stands states.
 use Rattle.std.proofs.Common.{◌≡◌, ◌<◌, ℕ, List, [], ◌++◌, length, drop, Bool, refl, sym, ap, subst, ◌∙◌, arith, append-nil, inl, inr, Option, Result, Ok, Err, Some, None}
 use Rattle.std.proofs.lemmas.List.{drop_at}
-use Rattle.std.specs.Prelude.{OnErr}
-use Rattle.std.specs.Io.KnownBytes.{Consumes}
 use Rattle.pcap_core.specs.declared.errors.PcapError.{PcapError}
 use Rattle.pcap_core.specs.Answer.{number_in, whole, lacks, faulty, Refuses}
 use Rattle.pcap_core.specs.Faults.{Shows}
 use Rattle.pcap_items.specs.Filling.{Stated, StatesRest, FillsHeaded}
 use Rattle.pcap_items.specs.Format.{IsLawful}
+use Rattle.pcap_items.specs.Lent.{HoldsText}
 use Rattle.pcap_items.specs.Reading.{Pulls}
 use Rattle.pcap_core.proofs.Refusals.{refuses_shows}
 use Rattle.pcap_classic.specs.declared.pcap.header.PcapHeader.{PcapHeader}
@@ -16,7 +15,7 @@ use Rattle.pcap_classic.specs.PacketText.{RecordHeadText, LacksHead}
 use Rattle.pcap_classic.proofs.Stable.{head_more}
 use Rattle.pcap_tolerant.specs.declared.as_is.HeadAsIs.{HeadAsIs}
 use Rattle.pcap_tolerant.specs.AsIs.{raised, numbers_of, packet_with, HasLongHead, as_is_format}
-use Rattle.pcap_tolerant.specs.KnownHeads.{KnowsAsIs, HoldsTaken, held_as_is}
+use Rattle.pcap_tolerant.specs.KnownHeads.{KnowsAsIs, held_as_is}
 use Rattle.pcap_tolerant.specs.Run.{as_is_under}
 use Rattle.pcap_tolerant.proofs.AsIs.{as_is_lawful}
 
@@ -82,7 +81,7 @@ module _ (limit : ℕ) (header : PcapHeader) where
   -- and it is what is held
   pub as_is_text : (before after : Option (List ℕ)) (held : List ℕ) (failed : Bool) (result : Result (Option HeadAsIs) PcapError)
       → FillsHeaded ((as_is_under limit header).says tt) (KnowsAsIs limit header) ((as_is_under limit header).head tt) before after held failed result
-      → OnErr result (Consumes before after held) → HoldsTaken ((as_is_under limit header).says tt) (held_as_is held) before after held result
-  as_is_text before after held failed (Ok (Some head)) x part = (held_stands head held x.1, x.4)
-  as_is_text before after held failed (Ok None) x part = x.1
-  as_is_text before after held failed (Err e) x part = part
+      → HoldsText ((as_is_under limit header).says tt) (held_as_is held) before after held result
+  as_is_text before after held failed (Ok (Some head)) x = (held_stands head held x.1, x.4)
+  as_is_text before after held failed (Ok None) x = x.1
+  as_is_text before after held failed (Err e) x = tt

@@ -1,9 +1,6 @@
 -- What is known of a packet as it stands once its head is read.
-use Rattle.std.specs.Prelude.{◌≡◌, ℕ, List, [], drop, Option, None, Some, Result, Ok, Err}
-use Rattle.std.specs.Io.KnownBytes.{Consumes}
-use Rattle.pcap_core.specs.declared.errors.PcapError.{PcapError}
-use Rattle.pcap_core.specs.Answer.{Verdict, number_in}
-use Rattle.pcap_items.specs.Lent.{TakesText}
+use Rattle.std.specs.Prelude.{◌≡◌, ℕ, List, [], drop}
+use Rattle.pcap_core.specs.Answer.{number_in}
 use Rattle.pcap_classic.specs.declared.pcap.header.PcapHeader.{PcapHeader}
 use Rattle.pcap_classic.specs.Magic.{order_of, resolution_of}
 use Rattle.pcap_tolerant.specs.declared.as_is.HeadAsIs.{HeadAsIs}
@@ -17,10 +14,3 @@ pub record KnowsAsIs (limit : ℕ) (header : PcapHeader) (head : HeadAsIs) (n : 
 -- the packet of this head whose head and data these bytes are
 abbrev pub held_as_is : List ℕ → HeadAsIs → AsIs
 held_as_is bytes head = packet_with head (drop 16 bytes)
-
--- where a packet was taken, these bytes are its text; where none came, there are none; behind a refusal they are what was taken
-abbrev pub HoldsTaken : {X V : Type 0} → (List ℕ → Verdict V → Type 0)
-    → (X → V) → Option (List ℕ) → Option (List ℕ) → List ℕ → Result (Option X) PcapError → Type 0
-HoldsTaken IsSaid view before after text (Ok (Some x)) = TakesText IsSaid before after text (view x)
-HoldsTaken IsSaid view before after text (Ok None) = text ≡ []
-HoldsTaken IsSaid view before after text (Err e) = Consumes before after text

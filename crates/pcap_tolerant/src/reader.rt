@@ -1,12 +1,14 @@
 //! Packets of a stream, as they stand.
 
-ghost use Rattle.std.specs.Prelude.{◌≡◌, false, [], IfOk, IfNone};
+ghost use Rattle.std.specs.Io.KnownBytes.{Consumes};
+ghost use Rattle.std.specs.Prelude.{◌≡◌, false, [], IfOk, IfNone, OnErr};
 ghost use Rattle.pcap_items.specs.Fill.{held_of as held_in, stream_of as source_of, has_failed as source_failed};
+ghost use Rattle.pcap_items.specs.Lent.{HoldsText};
 ghost use Rattle.pcap_items.specs.Reading.{NextGives, Pulls};
 ghost use Rattle.pcap_classic.specs.Magic.{order_of, resolution_of};
 ghost use Rattle.pcap_classic.specs.Parser.{header_of};
 ghost use Rattle.pcap_tolerant.specs.AsIs.{as_it_is};
-ghost use Rattle.pcap_tolerant.specs.KnownHeads.{held_as_is, HoldsTaken};
+ghost use Rattle.pcap_tolerant.specs.KnownHeads.{held_as_is};
 ghost use Rattle.pcap_tolerant.specs.Run.{as_is_under};
 
 use crate::as_is::{HeadAsIs, PacketAsIs};
@@ -46,8 +48,9 @@ fn hold<T: Read>(
     ensures pulls { Pulls ((as_is_under limit (header_of parser.now)).says tt) (held_as_is (held_in fill.new))
         (T.remaining (source_of fill.old)) (T.remaining (source_of fill.new)) (source_failed fill.new) result }
     ensures none { IfOk result (λ head. IfNone head (held_in fill.new ≡ [])) }
-    ensures text { HoldsTaken ((as_is_under limit (header_of parser.now)).says tt) (held_as_is (held_in fill.new))
+    ensures text { HoldsText ((as_is_under limit (header_of parser.now)).says tt) (held_as_is (held_in fill.new))
         (T.remaining (source_of fill.old)) (T.remaining (source_of fill.new)) (held_in fill.new) result }
+    ensures refused { OnErr result (Consumes (T.remaining (source_of fill.old)) (T.remaining (source_of fill.new)) (held_in fill.new)) }
 {
     fill.item(&PacketsAsIs { parser, limit })
 }

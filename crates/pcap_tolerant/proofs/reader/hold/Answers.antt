@@ -9,4 +9,4 @@ pub returns-clause-pulls : goal.returns-clause-pulls
 returns-clause-pulls g c = as_is_held c.args.limit (header_of c.args.parser.now) _ _ _ _ c.item.result c.item.ensures.fills
 
 pub returns-clause-text : goal.returns-clause-text
-returns-clause-text g c = as_is_text c.args.limit (header_of c.args.parser.now) _ _ _ _ c.item.result c.item.ensures.fills c.item.ensures.part
+returns-clause-text g c = as_is_text c.args.limit (header_of c.args.parser.now) _ _ _ _ c.item.result c.item.ensures.fills
