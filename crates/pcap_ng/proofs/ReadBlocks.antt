@@ -19,7 +19,8 @@ use Rattle.pcap_ng.specs.Reader.{state_of, stream_of, has_failed, is_done, text_
 use Rattle.pcap_ng.specs.Reads.{TakesNg, ReadsNg}
 use Rattle.pcap_ng.proofs.BlockFormat.{blocks_lawful}
 
-opened_more : (t rest : List ℕ) (q : State) → OpeningSays t (whole q []) → OpeningSays (t ++ rest) (whole q rest)
+-- a text that opens a capture opens it also where more follows
+pub opened_more : (t rest : List ℕ) (q : State) → OpeningSays t (whole q []) → OpeningSays (t ++ rest) (whole q rest)
 unfolding block_format
 opened_more t rest q x = (x.0, (blocks_lawful.stable opening).text t rest [] (record { block = x.0; after = q }) x.1)
 

@@ -22,6 +22,7 @@ use Rattle.pcap_items.specs.Lent.{TakesText}
 use Rattle.pcap_ng.specs.Opening.{OpeningSays, RefusesOpening}
 use Rattle.pcap_ng.specs.State.{State}
 use Rattle.pcap_ng.proofs.BlockFormat.{blocks_lawful}
+use Rattle.pcap_ng.proofs.ReadBlocks.{opened_more}
 use Rattle.pcapfile_run.specs.declared.checked.Checked.{Checked}
 use Rattle.pcapfile_run.specs.declared.checked.End.{End}
 use Rattle.pcapfile_run.specs.declared.checked.Format.{Format as CaptureFormat}
@@ -30,7 +31,6 @@ use Rattle.pcapfile_run.specs.Checks.{FaultIs, EndIs, most_passed}
 use Rattle.pcapfile_run.specs.Passing.{counted}
 use Rattle.pcapfile_run.proofs.Ends.{fails_at, stops_at}
 use Rattle.pcapfile_run.proofs.Passing.{counted_behind}
-use Rattle.pcapfile_run.proofs.Told.{opened_more}
 use Rattle.pcapfile_info.specs.declared.described.Described.{Described}
 use Rattle.pcapfile_info.specs.declared.described.Opened.{Opened}
 use Rattle.pcapfile_info.specs.declared.progress.Progress.{Progress}

@@ -1,5 +1,5 @@
 -- Captures that are checked.
-use Rattle.std.proofs.Common.{◌≡◌, ◌<◌, ◌^◌, ℕ, List, [], ◌++◌, length, Bool, true, Option, Some, None, Err, inl, inr, refl, sym, subst, arith}
+use Rattle.std.proofs.Common.{◌≡◌, ◌<◌, ◌^◌, ℕ, List, [], length, Bool, true, Option, Some, None, Err, inl, inr, refl, sym, subst, arith}
 use Rattle.std.specs.Prelude.{⊤, IfSome}
 use Rattle.pcap_core.specs.declared.errors.PcapError.{PcapError}
 use Rattle.pcap_core.specs.Answer.{number_in, whole}
@@ -17,8 +17,9 @@ use Rattle.pcap_classic.proofs.Texts.{header_length}
 use Rattle.pcap_ng.specs.Blocks.{block_format}
 use Rattle.pcap_items.specs.Lent.{TakesText}
 use Rattle.pcap_ng.specs.Opening.{OpeningSays, RefusesOpening}
-use Rattle.pcap_ng.specs.State.{State, opening}
+use Rattle.pcap_ng.specs.State.{State}
 use Rattle.pcap_ng.proofs.BlockFormat.{blocks_lawful}
+use Rattle.pcap_ng.proofs.ReadBlocks.{opened_more}
 use Rattle.pcapfile_run.specs.declared.checked.Checked.{Checked}
 use Rattle.pcapfile_run.specs.declared.checked.End.{End}
 use Rattle.pcapfile_run.specs.declared.checked.Format.TheVariants.{Pcap, PcapNg}
@@ -88,10 +89,6 @@ blocks_refused (Some s) e end why is = (
     fails = fails_at ⊤ OpeningSays s e true end (elim why [ inl io ↦ inl (io, refl) | inr (inl memory) ↦ inr (inr (inl (tt, memory))) | inr (inr stands) ↦ inr (inr (inr stands)) ]) is;
   }),
 )
-
-pub opened_more : (t rest : List ℕ) (q : State) → OpeningSays t (whole q []) → OpeningSays (t ++ rest) (whole q rest)
-unfolding block_format
-opened_more t rest q says = (says.0, (blocks_lawful.stable opening).text t rest [] (record { block = says.0; after = q }) says.1)
 
 -- the first block is read, and then blocks
 pub blocks_passed : (known after now : Option (List ℕ)) (text : List ℕ) (first : State) (n : ℕ) → n ≡ length text → n < 2 ^ 64 → (failed : Bool) (new : Passed) (fault : Option PcapError) (end : End)
