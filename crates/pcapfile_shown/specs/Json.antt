@@ -113,12 +113,12 @@ abbrev pub text_or_null : Option (String Global) → Data
 text_or_null None = null
 text_or_null (Some text) = text_data text
 
--- a link type: its number, and this name
-abbrev pub with_link : DataLink → Data → Members → Members
-with_link link name members = put (codes "link_name") name (put (codes "link") (number_data (link_number link)) members)
+-- a link type: its number, and this text as its name
+abbrev pub with_link : DataLink → List ℕ → Members → Members
+with_link link name members = put (codes "link_name") (string name) (put (codes "link") (number_data (link_number link)) members)
 
 -- how an interface is described, whose link type has this name
-abbrev pub with_description : Described → Data → Members → Members
+abbrev pub with_description : Described → List ℕ → Members → Members
 with_description described link_name members =
     with_link described.link link_name
     (put (codes "comments") (texts_data described.comments.items)
@@ -130,7 +130,7 @@ with_description described link_name members =
 -- what is told of an interface: how it is described, the figures of its packets, and how they are spread over time
 abbrev pub TellsInterface : Described × Tally → Data → Type 0
 TellsInterface interface shown =
-    (link_name : Data) × (spread : Data) × TellsSpread interface.1.spread spread
+    (link_name : List ℕ) × (spread : Data) × TellsSpread interface.1.spread spread
     × (shown ≡ object (put (codes "over_time") spread (with_figures interface.1 (with_description interface.0 link_name no_members))))
 
 -- a version
@@ -155,7 +155,7 @@ with_kind magic members =
     else members
 
 -- how a classic capture is made, whose link type has this name
-abbrev pub with_header : PcapHeader → Data → Members → Members
+abbrev pub with_header : PcapHeader → List ℕ → Members → Members
 with_header header link_name members =
     with_kind header.magic_number (with_link header.datalink link_name
     (put (codes "snaplen") (number_data header.snaplen)
@@ -164,7 +164,7 @@ with_header header link_name members =
 -- behind other members stands how a classic capture is made, if it is one
 abbrev pub TellsHeader : Option PcapHeader → Members → Members → Type 0
 TellsHeader None before after = after ≡ before
-TellsHeader (Some header) before after = (link_name : Data) × (after ≡ with_header header link_name before)
+TellsHeader (Some header) before after = (link_name : List ℕ) × (after ≡ with_header header link_name before)
 
 -- how a capture of blocks is made, if it is one
 abbrev pub with_opened : Option Opened → Members → Members

@@ -1,13 +1,13 @@
 //! What is told of captures, as JSON.
 
-ghost use Rattle.std.specs.Prelude.{◌≡◌, List, zip, string_bytes, IfOk, OnOk};
+ghost use Rattle.std.specs.Prelude.{◌≡◌, ℕ, List, zip, string_bytes, IfOk, OnOk};
 ghost use Rattle.std.specs.List.{AllZip};
 ghost use Rattle.serde_json.specs.Data.{Data, array};
 ghost use Rattle.serde_json.specs.View.{items_of, members_view, view};
 ghost use Rattle.serde_json.specs.Written.{IsInOrder};
 ghost use Rattle.pcapfile_run.specs.Lines.{format_name};
 ghost use Rattle.pcapfile_shown.specs.Json.{Tells, TellsCheck, TellsFile, TellsHeader, TellsInterface, text_or_null};
-ghost use Rattle.pcapfile_shown.specs.Json.{texts_data, with_description, with_link, with_opened};
+ghost use Rattle.pcapfile_shown.specs.Json.{texts_data, with_description, with_kind, with_link, with_opened};
 
 use crate::json::{put_figures, spread_or_null};
 use crate::report::{order_name, resolution_name};
@@ -50,11 +50,28 @@ fn text_or_null(alloc: Global, text: &Option<String>) -> Result<Value, AllocErro
 
 // The number of a link type, and its name.
 fn put_link(map: &mut Map<String, Value>, alloc: Global, link: DataLink) -> Result<(), AllocError>
-    ensures { OnOk result ((name : Data) × (members_view map.new.entries ≡ with_link link name (members_view map.old.entries))) }
+    ensures { OnOk result ((name : List ℕ) × (members_view map.new.entries ≡ with_link link name (members_view map.old.entries))) }
 {
     let name = format!(in alloc; "{link:?}")?;
     put(map, alloc, "link", Value::from(u32::from(link)))?;
     put(map, alloc, "link_name", Value::String(name))
+}
+
+// The order of numbers and the resolution of times, where a magic number says them.
+fn put_kind(
+    map: &mut Map<String, Value>,
+    alloc: Global,
+    header: &PcapHeader,
+) -> Result<(), AllocError>
+    ensures { OnOk result (members_view map.new.entries ≡ with_kind header.now.magic_number (members_view map.old.entries)) }
+{
+    if !header.has_valid_magic() {
+        return Ok(());
+    }
+    let order = Value::try_from_str(alloc, order_name(header.endianness()))?;
+    let resolution = Value::try_from_str(alloc, resolution_name(header.ts_resolution()))?;
+    put(map, alloc, "order", order)?;
+    put(map, alloc, "resolution", resolution)
 }
 
 // How a classic capture is made, if it is one.
@@ -74,13 +91,7 @@ fn put_header(
     put(map, alloc, "version", Value::String(version))?;
     put(map, alloc, "snaplen", Value::from(header.snaplen))?;
     put_link(map, alloc, header.datalink)?;
-    if !header.has_valid_magic() {
-        return Ok(());
-    }
-    let order = Value::try_from_str(alloc, order_name(header.endianness()))?;
-    let resolution = Value::try_from_str(alloc, resolution_name(header.ts_resolution()))?;
-    put(map, alloc, "order", order)?;
-    put(map, alloc, "resolution", resolution)
+    put_kind(map, alloc, header)
 }
 
 // How a capture of blocks is made, if it is one.
@@ -108,7 +119,7 @@ fn put_description(
     alloc: Global,
     described: &Described,
 ) -> Result<(), AllocError>
-    ensures { OnOk result ((link_name : Data) × (members_view map.new.entries ≡ with_description described.now link_name (members_view map.old.entries))) }
+    ensures { OnOk result ((link_name : List ℕ) × (members_view map.new.entries ≡ with_description described.now link_name (members_view map.old.entries))) }
 {
     let name = text_or_null(alloc, &described.name)?;
     let comments = texts(alloc, described.comments.as_slice())?;
