@@ -4,13 +4,29 @@
 mod program;
 
 use capcopy_run::Exit;
+use pcap_file::PcapError;
+use std::io::ErrorKind;
 use std::process::ExitCode;
+
+/// The status where nobody reads the output any more, which a shell has of a program that ends by SIGPIPE.
+const UNREAD: u8 = 141;
 
 fn main(rt: HostRuntime) -> ExitCode {
     let exit = program::run(&rt);
+    if is_unread(&exit) {
+        return ExitCode::from(UNREAD);
+    }
     if !matches!(exit, Exit::Done) {
         // There is nowhere left to say that this write failed.
         let _ = eprintln!(rt; "{exit}");
     }
     ExitCode::from(exit.status())
+}
+
+// Whether nobody reads the output any more.
+fn is_unread(exit: &Exit) -> bool {
+    match exit {
+        Exit::Io(PcapError::IoError(error)) => error.kind() == ErrorKind::BrokenPipe,
+        _ => false,
+    }
 }

@@ -21,3 +21,4 @@ pub mod Copies
 pub mod Stretches
 pub mod RawBlocks
 pub mod Written
+pub mod Ahead

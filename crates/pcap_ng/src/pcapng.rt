@@ -1,5 +1,6 @@
 //! PcapNg captures: blocks in their frames, a parser, a reader and a writer of them, and their bodies.
 
+mod ahead;
 mod block;
 mod block_header;
 pub mod blocks;
@@ -16,6 +17,7 @@ mod stretch;
 mod taking;
 mod to_block;
 
+pub use ahead::BlocksAhead;
 pub use block::Block;
 pub use block_header::BlockHeader;
 pub use change::Change;

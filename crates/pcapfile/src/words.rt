@@ -1,4 +1,4 @@
-//! The words of the program and their help.
+//! The words of the program, and their help.
 
 use clap::builder::ValueParser;
 use clap::{Arg, ArgAction, Command};
@@ -37,13 +37,16 @@ pub(crate) const PARTS: &str = "parts";
 /// The name of how many bytes a part has.
 pub(crate) const BYTES: &str = "bytes";
 
-/// The name of reading captures as they stand.
+/// The name of lenient reading.
 pub(crate) const AS_IS: &str = "as-is";
 
-/// The name of telling it as JSON.
+/// The name of reading what `repair` makes of a capture.
+pub(crate) const REPAIRED: &str = "repair";
+
+/// The name of JSON as the form of a report.
 pub(crate) const JSON: &str = "json";
 
-/// The name of saying nothing of how far it is.
+/// The name of showing no progress.
 pub(crate) const QUIET: &str = "quiet";
 
 /// The name of listing times in UTC.
@@ -52,10 +55,10 @@ pub(crate) const UTC: &str = "utc";
 /// The name of listing in columns.
 pub(crate) const CSV: &str = "csv";
 
-/// The name of where the other one goes.
+/// The name of the output.
 pub(crate) const OUT: &str = "output";
 
-/// The name of its format.
+/// The name of the output's format.
 pub(crate) const TO: &str = "to";
 
 /// The formats.
@@ -64,174 +67,239 @@ const FORMATS: &[&str] = &["pcap", "pcapng"];
 const VERSION: &str = "0.2.0";
 
 const STATUSES: &str = "Exit status:
-  0  all was done, and nothing is at fault
-  1  a capture is cut short or refused
-  2  the arguments are not understood
-  3  a file can't be opened or read, or the output can't be written
-  4  memory ran out";
+  0    the work is done, and no capture is at fault
+  1    a capture is truncated or malformed
+  2    the arguments are not understood
+  3    a file can't be opened or read, or the output can't be written
+  4    memory ran out
+  141  nobody reads the output any more";
 
 const CHECK: &str =
-    "Tells of each capture how many packets or blocks it has, or which rule is broken at which byte.
+    "Reports how many packets or blocks each capture has, or the byte at which a rule is broken.
 
-With --as-is each flaw of a packet, or of a section or an interface of PcapNg, has a line, with the
-index of the packet or block and the byte where it stands, and the check goes on behind it. Bytes that
-are left out have a line as well, since they can't be trusted to be packets or blocks: one would have
-more than 16777216 bytes, or the frame of a block breaks a rule. It goes on where 'pcapfile repair' does.";
+With --as-is the check goes on after each fault. Each flaw of a packet, a section or an interface has
+a line with the index of the packet or block and the byte where it begins. Skipped bytes have a line
+too: the check skips what can't be a packet or block, since it would have more than 16777216 bytes,
+or since the frame of the block breaks a rule. It resumes where 'pcapfile repair' resumes.";
 
 const INFO: &str =
-    "Tells of each capture what it holds: packets, bytes, times, rates, sizes, and how packets are spread over time.
+    "Reports what each capture holds: packets, bytes, times, rates, sizes, and packets over time.
 
-The first line is that of check. Sizes and rates are those of the packets on the wire; a line of sizes
-has its bar, and each sign of the last line is a span of time, the higher the more packets lie there.
-Behind these the interfaces of PcapNg follow, with the same figures of each where there are several.
-A packet whose body is refused is counted as such alone. Names and comments stand in quotes.
+The first line is that of check. Sizes and rates are those of the packets on the wire. Each line of
+sizes has a bar. In the last line each sign is a span of time, and a higher sign means more packets.
+The interfaces of PcapNg follow, with figures for each where there are several. A packet with a
+malformed body is counted only as malformed. Names and comments are quoted and escaped.
 
-With --json each capture is an object on a line of its own: file, format, check, status, bytes,
-packets, original and stored (their bytes), average, sizes (how many have less than 20 bytes, 40, 80
-and so on), earliest, latest and duration in seconds, packets_per_second, bytes_per_second, over_time
-(width of a span in nanoseconds, number of the first, packets of each), sections, refused, comments
-and interfaces with the same figures. What has decimals is a text; what isn't known is null.";
+With --json each capture is one object on a line: file, format, check, status, bytes, packets,
+original and stored (bytes), average, sizes (packets with less than 20 bytes, 40, 80 and so on),
+earliest, latest and duration in seconds, packets_per_second, bytes_per_second, over_time (width of a
+span in nanoseconds, number of the first span, packets of each), sections, refused, comments and
+interfaces with the same figures. Numbers with decimals are strings, and unknown values are null.";
 
 const LIST: &str =
     "Writes a line for each packet: index, time, stored/original length, and of PcapNg the interface.
 
-The time is that of the packet in seconds since 1970 and nanoseconds, and - where it has none. A
-packet of PcapNg whose body is refused has the line 'index refused'. The names of several captures
-stand before their lines.
+The time is in seconds since 1970 with nanoseconds, or - where the packet has none. A packet of PcapNg
+with a malformed body has the line 'index refused'. With several captures, the name of each is written
+before its lines.
 
-With --utc the time is that in UTC, as 2023-11-14T22:13:20.250000000Z. With --csv each packet is a row
-of index, seconds, nanoseconds, captured, original (the lengths) and interface, below a row of these
-names; with --json it is an object of JSON on a line of its own, with members of these names. What
-isn't known is empty, or null. No names of captures stand there, and the index begins at 1 in each.
+With --utc times are in UTC, as 2023-11-14T22:13:20.250000000Z. With --csv each packet is a row of
+index, seconds, nanoseconds, captured, original (the lengths) and interface, below a row of these
+names. With --json each packet is an object on a line of its own, with members of these names. Unknown
+values are empty, or null. No names of captures are written, and each capture's index begins at 1.
 
-With --as-is a packet that breaks rules has a line as well, with ! and the number of each behind
-it, of PcapNg also !utf8 or !short for a value that is no UTF-8 or too short, and a fraction of a
-second that is too large is carried into the seconds. The list goes on where 'pcapfile repair' does, and
-says on standard error what is left out before.";
+With --as-is packets that break rules are listed too, followed by ! and the number of each rule, and
+in PcapNg by !utf8 or !short for a value that is not UTF-8 or too short. A fraction of a second that
+is too large is carried into the seconds. The list goes on where 'pcapfile repair' does, and reports
+skipped bytes on standard error before it goes on.";
 
-const QUIET_HELP: &str =
-    "Doesn't say how far captures are read, which each word says on a terminal";
+const QUIET_HELP: &str = "Shows no progress, which every word shows on a terminal";
 
-const AS_IS_HELP: &str = "Goes on behind what breaks a rule, and tells which";
+const AS_IS_HELP: &str = "Goes on after a broken rule, and reports the rule";
 
-const AS_REPAIRED_HELP: &str =
-    "Reads what 'pcapfile repair' makes of it, and says what that changes";
+const REPAIRED_HELP: &str =
+    "Reads the capture as 'pcapfile repair' would write it, and reports each change";
 
-const CONVERT: &str = "Writes a capture in the other format, or as it is where it has that format.
+const CONVERT: &str =
+    "Writes a capture in the other format, or unchanged where it has that format already.
 
 A classic capture becomes one little-endian section with one interface and times in nanoseconds. A
-capture of blocks becomes a little-endian classic capture in nanoseconds, of the link type of its
-first interface. What has no place there is left out, and said on standard error. The file is
-written as OUT.part, and is named OUT once all of it is there.";
+PcapNg capture becomes a little-endian classic capture in nanoseconds, with the link type of its first
+interface. What classic captures can't hold is left out and reported on standard error. The output is
+written as OUT.part, and renamed to OUT when it is complete.";
 
 const CUT: &str =
-    "Writes a part of a capture, or all of it in parts: header and packets as their bytes stand.
+    "Writes a part of a capture, or all of it in parts. Headers and packets keep their bytes.
 
-One part is that of --packets, or of --from and --until, or all, and is OUT. The parts of --every,
---parts and --bytes are OUT with a number before its extension, in five digits, so that a shell has
-them in their order: OUT.pcap becomes OUT-00001.pcap, OUT-00002.pcap and so on. 'pcapfile join' gives
-the capture back. Each file is written as FILE.part, and is named FILE once all of it is there; where
-the capture is at fault the parts before the fault stay.
+OUT is one part where --packets, --from or --until select packets. With --every, --parts or --bytes
+the parts have a number of five digits before the extension of OUT, so that a shell sorts them:
+OUT.pcap becomes OUT-00001.pcap, OUT-00002.pcap and so on. 'pcapfile join' restores the capture. Each
+file is written as FILE.part, and renamed to FILE when it is complete. Where the capture is truncated
+or malformed, the parts before the fault remain.
 
 A time is in seconds since 1970, as 1700000000.25, or as 2023-11-14T22:13:20.25Z.";
 
-const OUT_HELP: &str = "Where it goes; - is standard output, and a device or a pipe is written to";
+const OUT_HELP: &str =
+    "The output: - for standard output; links are followed, and devices and pipes are written to";
 
 const PARTS_OUT_HELP: &str =
-    "Where it goes; - is standard output, of one part, and a device or a pipe is written to";
+    "The output: - for standard output, of one part only; links are followed, devices are written to";
 
-const RANGE_HELP: &str = "Those of these numbers as list has them: 10-20, 10-, -20 or 10";
+const RANGE_HELP: &str =
+    "The packets with these numbers, as list counts them: 10-20, 10-, -20 or 10";
 
-const PARTS_HELP: &str = "So many parts of nearly equal length, of a file, and not with --as-is";
+const PARTS_HELP: &str = "N parts of nearly equal length, of a file, and not with --repair";
 
-const BYTES_HELP: &str = "Parts that end with the packet at which they have so many bytes";
+const BYTES_HELP: &str =
+    "Parts that end with the packet at which they reach SIZE bytes: 5000, 100K, 1M or 2G";
 
 const JOIN: &str =
-    "Writes the parts of a capture as one: the first as it is, and the packets of each other.
+    "Writes the parts of a capture as one: the first part unchanged, then the packets of the others.
 
-The headers of all parts are the same bytes. Parts are read byte for byte, so there is no --as-is.
-The file is written as OUT.part, and is named OUT once all of it is there.";
+All parts must have the same header. Parts are read byte for byte, so there is no --repair. The output
+is written as OUT.part, and renamed to OUT when it is complete.";
 
-const MERGE: &str = "Writes the packets of several captures by time into one PcapNg capture.
+const MERGE: &str =
+    "Writes the packets of several captures, ordered by time, into one PcapNg capture.
 
-The next packet is always the earliest among the next packets of all captures; among those of one
-time that of the first capture goes first, and one without a time goes before all others. Each
-interface of each capture is one of the other one. What refuses a capture is said on standard error,
-and its packets before that are merged. The file is written as OUT.part, and is named OUT once all
-of it is there.";
+The next packet is always the earliest among the next packets of all captures. Of equal times, the
+earlier capture on the command line goes first, and a packet without a time goes before all others.
+Each interface of each capture gets an interface of its own, and each packet keeps its comments and
+other options. Blocks without a packet are left out, and standard error says how many of each kind. It
+also says why a capture is malformed, whose packets before that are merged. The output is written as
+OUT.part, and renamed to OUT when it is complete.";
 
 const REPAIR: &str = "Writes what can be read of a capture as one in which nothing breaks a rule.
 
 A fraction of a second that is too large is carried into the seconds, at most up to the latest time
-that these can tell, the first 262144 bytes of a longer packet are kept, and an original length is
-raised to the stored one or cut to 262144. Of PcapNg options are left out whose values break rules,
-an interface that is too short is filled up, and other blocks that have no room for what they hold
-are left out; sections state no length. All else stays as it is.
+that the format can hold. Of a longer packet the first 262144 bytes are kept. An original length is
+raised to the stored one, or lowered to 262144. Options of PcapNg whose values break rules are left
+out, an interface that is too short is filled up, other blocks without room for what they declare are
+left out, and sections declare no length. Everything else is unchanged.
 
-Bytes that are no packet or block are left out up to a section header, or to two packets or blocks
-in a row that stand without a fault, and so is a last one that is cut short. What is changed and
-left out is said on standard error, each with its byte. The file is written as OUT.part, and is
-named OUT once all of it is there.";
+Bytes that are no packet or block are skipped up to the next section header, or up to two packets or
+blocks in a row that break no rule. A truncated last item is left out. Each change and each skip is
+reported on standard error with its byte. The output is written as OUT.part, and renamed to OUT when
+it is complete.";
+
+/// A word of the program.
+#[derive(Clone, Copy)]
+pub(crate) enum Word {
+    Check,
+    Info,
+    List,
+    Convert,
+    Cut,
+    Join,
+    Merge,
+    Repair,
+}
+
+/// All words, in the order in which the help has them.
+const WORDS: [Word; 8] = [
+    Word::Check,
+    Word::Info,
+    Word::List,
+    Word::Convert,
+    Word::Cut,
+    Word::Join,
+    Word::Merge,
+    Word::Repair,
+];
+
+impl Word {
+    /// The word that is called so, if there is one.
+    pub(crate) fn of_name(name: &str) -> Option<Word> {
+        for word in WORDS {
+            if word.name() == name {
+                return Some(word);
+            }
+        }
+        None
+    }
+
+    /// Whether it can read a capture as `repair` would write it.
+    pub(crate) fn reads_repaired(self) -> bool {
+        match self {
+            Word::Info | Word::Convert | Word::Cut | Word::Merge => true,
+            Word::Check | Word::List | Word::Join | Word::Repair => false,
+        }
+    }
+
+    fn name<'a>(self) -> &'a str {
+        match self {
+            Word::Check => "check",
+            Word::Info => "info",
+            Word::List => "list",
+            Word::Convert => "convert",
+            Word::Cut => "cut",
+            Word::Join => "join",
+            Word::Merge => "merge",
+            Word::Repair => "repair",
+        }
+    }
+
+    // Its arguments and its help.
+    fn command<'a>(self, alloc: Global) -> Result<Command<'a>, AllocError> {
+        let command = Command::new(alloc, self.name()).after_help(STATUSES);
+        match self {
+            Word::Check => check(alloc, command),
+            Word::Info => info(alloc, command),
+            Word::List => list(alloc, command),
+            Word::Convert => convert(alloc, command),
+            Word::Cut => cut(alloc, command),
+            Word::Join => join(alloc, command),
+            Word::Merge => merge(alloc, command),
+            Word::Repair => repair(alloc, command),
+        }
+    }
+}
 
 /// The program's command line.
 pub(crate) fn command<'a>(alloc: Global) -> Result<Command<'a>, AllocError> {
-    let command = with_telling(alloc, program(alloc)?)?;
-    with_writing(alloc, command)
+    let mut command = program(alloc)?;
+    for word in WORDS {
+        command = command.subcommand(word.command(alloc)?)?;
+    }
+    Ok(command)
 }
 
 fn program<'a>(alloc: Global) -> Result<Command<'a>, AllocError> {
     Command::new(alloc, "pcapfile")
         .version(VERSION)
-        .about("Tells what captures of packets hold, Pcap and PcapNg alike.")
+        .about(
+            "Checks, lists, converts, cuts, joins, merges and repairs packet captures, pcap and PcapNg.",
+        )
         .after_help(STATUSES)
         .subcommand_required(true)
         .arg_required_else_help(true)
         .arg(quiet(alloc))
 }
 
-// With the words that tell of captures.
-fn with_telling<'a>(alloc: Global, command: Command<'a>) -> Result<Command<'a>, AllocError> {
+fn check<'a>(alloc: Global, command: Command<'a>) -> Result<Command<'a>, AllocError> {
+    command.about(CHECK).arg(files(alloc))?.arg(as_is(alloc))
+}
+
+fn info<'a>(alloc: Global, command: Command<'a>) -> Result<Command<'a>, AllocError> {
     command
-        .subcommand(check(alloc)?)?
-        .subcommand(info(alloc)?)?
-        .subcommand(list(alloc)?)
-}
-
-// With the words that write captures.
-fn with_writing<'a>(alloc: Global, command: Command<'a>) -> Result<Command<'a>, AllocError> {
-    command
-        .subcommand(convert(alloc)?)?
-        .subcommand(cut(alloc)?)?
-        .subcommand(join(alloc)?)?
-        .subcommand(merge(alloc)?)?
-        .subcommand(repair(alloc)?)
-}
-
-fn check<'a>(alloc: Global) -> Result<Command<'a>, AllocError> {
-    Command::new(alloc, "check")
-        .about(CHECK)
-        .after_help(STATUSES)
-        .arg(files(alloc))?
-        .arg(as_is(alloc))
-}
-
-fn info<'a>(alloc: Global) -> Result<Command<'a>, AllocError> {
-    Command::new(alloc, "info")
         .about(INFO)
-        .after_help(STATUSES)
         .arg(files(alloc))?
         .arg(json(alloc))?
-        .arg(as_repaired(alloc))
+        .arg(repaired(alloc))?
+        .arg(once_as_is(alloc))
 }
 
-fn list<'a>(alloc: Global) -> Result<Command<'a>, AllocError> {
-    Command::new(alloc, "list")
+fn list<'a>(alloc: Global, command: Command<'a>) -> Result<Command<'a>, AllocError> {
+    command
         .about(LIST)
-        .after_help(STATUSES)
         .arg(files(alloc))?
         .arg(utc(alloc, UTC, "Times in UTC")?)?
-        .arg(csv(alloc, CSV, "A row of a table for each packet")?)?
-        .arg(objects(alloc, JSON, "An object of JSON for each packet")?)?
+        .arg(csv(
+            alloc,
+            CSV,
+            "A row of comma-separated values for each packet",
+        )?)?
+        .arg(objects(alloc, JSON, "A JSON object for each packet")?)?
         .arg(as_is(alloc))
 }
 
@@ -250,41 +318,41 @@ fn objects<'a>(alloc: Global, name: &'a str, help: &'a str) -> Result<Arg<'a>, A
     objects.conflicts_with_all(&[AS_IS])
 }
 
-fn convert<'a>(alloc: Global) -> Result<Command<'a>, AllocError> {
+fn convert<'a>(alloc: Global, command: Command<'a>) -> Result<Command<'a>, AllocError> {
     let from = Arg::new(alloc, IN)
         .required(true)
-        .help("The capture that is read; - is standard input");
+        .help("The capture to read; - is standard input");
     let to = Arg::new(alloc, TO)
         .long("to")
         .value_name("FORMAT")
         .value_parser(FORMATS)
-        .help("The format that it gets, else the one that it isn't of");
-    let out = output(alloc, OUT_HELP);
-    Command::new(alloc, "convert")
+        .help("The format of the output; without it, the format that IN doesn't have");
+    let out = output(alloc, OUT_HELP)?;
+    command
         .about(CONVERT)
-        .after_help(STATUSES)
         .arg(from)?
         .arg(to)?
-        .arg(as_repaired(alloc))?
+        .arg(repaired(alloc))?
+        .arg(once_as_is(alloc))?
         .arg(out)
 }
 
-fn cut<'a>(alloc: Global) -> Result<Command<'a>, AllocError> {
+fn cut<'a>(alloc: Global, command: Command<'a>) -> Result<Command<'a>, AllocError> {
     let from = Arg::new(alloc, CAPTURE)
         .required(true)
-        .help("The capture that is cut; - is standard input");
-    Command::new(alloc, "cut")
+        .help("The capture to cut; - is standard input");
+    command
         .about(CUT)
-        .after_help(STATUSES)
         .arg(from)?
         .arg(range(alloc, PACKETS, RANGE_HELP)?)?
-        .arg(time(alloc, FROM, "Those at this time and later")?)?
-        .arg(time(alloc, UNTIL, "Those before this time")?)?
-        .arg(every(alloc, EVERY, "Parts of so many packets")?)?
+        .arg(time(alloc, FROM, "Packets at this time and later")?)?
+        .arg(time(alloc, UNTIL, "Packets before this time")?)?
+        .arg(every(alloc, EVERY, "Parts of N packets")?)?
         .arg(parts(alloc, PARTS, PARTS_HELP)?)?
         .arg(bytes(alloc, BYTES, BYTES_HELP)?)?
-        .arg(as_repaired(alloc))?
-        .arg(output(alloc, PARTS_OUT_HELP))
+        .arg(repaired(alloc))?
+        .arg(once_as_is(alloc))?
+        .arg(output(alloc, PARTS_OUT_HELP)?)
 }
 
 fn range<'a>(alloc: Global, name: &'a str, help: &'a str) -> Result<Arg<'a>, AllocError> {
@@ -310,21 +378,25 @@ fn every<'a>(alloc: Global, name: &'a str, help: &'a str) -> Result<Arg<'a>, All
 
 fn parts<'a>(alloc: Global, name: &'a str, help: &'a str) -> Result<Arg<'a>, AllocError> {
     let parts = number(alloc, name).help(help);
-    parts.conflicts_with_all(&[EVERY, BYTES, AS_IS])
+    parts.conflicts_with_all(&[EVERY, BYTES, REPAIRED, AS_IS])
 }
 
 fn bytes<'a>(alloc: Global, name: &'a str, help: &'a str) -> Result<Arg<'a>, AllocError> {
-    let bytes = number(alloc, name).help(help);
+    let bytes = Arg::new(alloc, name)
+        .long(name)
+        .value_name("SIZE")
+        .help(help);
     bytes.conflicts_with_all(&[EVERY, PARTS])
 }
 
-fn output<'a>(alloc: Global, help: &'a str) -> Arg<'a> {
+fn output<'a>(alloc: Global, help: &'a str) -> Result<Arg<'a>, AllocError> {
     Arg::new(alloc, OUT)
         .short('o')
         .long("output")
         .value_name("OUT")
         .required(true)
         .help(help)
+        .visible_short_alias('w')
 }
 
 fn number<'a>(alloc: Global, name: &'a str) -> Arg<'a> {
@@ -334,49 +406,49 @@ fn number<'a>(alloc: Global, name: &'a str) -> Arg<'a> {
         .value_parser(ValueParser::unsigned(1, u64::MAX))
 }
 
-fn join<'a>(alloc: Global) -> Result<Command<'a>, AllocError> {
+fn join<'a>(alloc: Global, command: Command<'a>) -> Result<Command<'a>, AllocError> {
     let parts = Arg::new(alloc, PARTS_IN)
         .required(true)
         .num_args(1..)
-        .help("The parts in their order");
-    let out = output(alloc, OUT_HELP);
-    Command::new(alloc, "join")
-        .about(JOIN)
-        .after_help(STATUSES)
-        .arg(parts)?
-        .arg(out)
+        .help("The parts, in order");
+    let out = output(alloc, OUT_HELP)?;
+    command.about(JOIN).arg(parts)?.arg(out)
 }
 
-fn merge<'a>(alloc: Global) -> Result<Command<'a>, AllocError> {
-    Command::new(alloc, "merge")
+fn merge<'a>(alloc: Global, command: Command<'a>) -> Result<Command<'a>, AllocError> {
+    command
         .about(MERGE)
-        .after_help(STATUSES)
         .arg(files(alloc))?
-        .arg(as_repaired(alloc))?
-        .arg(output(alloc, OUT_HELP))
+        .arg(repaired(alloc))?
+        .arg(once_as_is(alloc))?
+        .arg(output(alloc, OUT_HELP)?)
 }
 
-fn repair<'a>(alloc: Global) -> Result<Command<'a>, AllocError> {
+fn repair<'a>(alloc: Global, command: Command<'a>) -> Result<Command<'a>, AllocError> {
     let from = Arg::new(alloc, BROKEN)
         .required(true)
-        .help("The capture that is repaired; - is standard input");
-    Command::new(alloc, "repair")
+        .help("The capture to repair; - is standard input");
+    command
         .about(REPAIR)
-        .after_help(STATUSES)
         .arg(from)?
-        .arg(output(alloc, OUT_HELP))
+        .arg(output(alloc, OUT_HELP)?)
 }
 
 fn as_is<'a>(alloc: Global) -> Arg<'a> {
     flag(alloc, AS_IS).help(AS_IS_HELP)
 }
 
-fn as_repaired<'a>(alloc: Global) -> Arg<'a> {
-    flag(alloc, AS_IS).help(AS_REPAIRED_HELP)
+fn repaired<'a>(alloc: Global) -> Arg<'a> {
+    flag(alloc, REPAIRED).help(REPAIRED_HELP)
+}
+
+// The spelling that --repair had in version 0.2.
+fn once_as_is<'a>(alloc: Global) -> Arg<'a> {
+    flag(alloc, AS_IS).hide(true)
 }
 
 fn json<'a>(alloc: Global) -> Arg<'a> {
-    flag(alloc, JSON).help("An object of JSON for each capture")
+    flag(alloc, JSON).help("A JSON object for each capture")
 }
 
 fn quiet<'a>(alloc: Global) -> Arg<'a> {

@@ -1,4 +1,5 @@
 mod ListedBlocks
+mod MendedCaptures
 mod SaidLines
 mod Tellings
 mod Whole

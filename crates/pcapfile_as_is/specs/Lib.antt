@@ -6,5 +6,6 @@ pub mod FlawLines
 pub mod Gaps
 pub mod Lists
 pub mod MendedBlocks
+pub mod MendedCaptures
 pub mod Repaired
 pub mod Texts

@@ -98,7 +98,7 @@ fn change_of(block: RawBlock<'_>, has_flaws: bool) -> &'static str {
     match block.type_ {
         BlockType::SectionHeader => section_change(states_length(block.body), has_flaws),
         BlockType::InterfaceDescription if block.body.len() < 8 => {
-            "its body is too short for an interface, and is filled up with zeros"
+            "its body is too short for an interface, and is filled up with zeros, so that its packets get a link type and times"
         }
         _ => OPTIONS_LEFT,
     }

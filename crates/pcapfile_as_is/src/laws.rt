@@ -1,7 +1,9 @@
-//! Laws of repaired packets. Each contract is the law.
+//! Laws of repaired packets and of mended blocks. Each contract is the law.
 
 ghost use Rattle.std.specs.Prelude.{◌≡◌, ◌<◌, ◌^◌, ℕ, List, [], map, All, false};
 ghost use Rattle.pcap_core.specs.Answer.{Order};
+ghost use Rattle.pcap_core.specs.Bytes.{IsBytes};
+ghost use Rattle.pcap_items.specs.Format.{Front};
 ghost use Rattle.pcap_classic.specs.declared.common.TsResolution.{TsResolution};
 ghost use Rattle.pcap_classic.specs.declared.pcap.header.PcapHeader.{PcapHeader};
 ghost use Rattle.pcap_classic.specs.Front.{CaptureFront};
@@ -9,6 +11,10 @@ ghost use Rattle.pcap_classic.specs.Magic.{resolution_of};
 ghost use Rattle.pcap_classic.specs.PacketText.{packet_limit};
 ghost use Rattle.pcap_classic.specs.Written.{IsWhole, IsWholeHeader, capture, cut};
 ghost use Rattle.pcap_tolerant.specs.AsIs.{AsIs, AsIsText, breaks_one, strict_of};
+ghost use Rattle.pcap_tolerant_captures.specs.Blocks.{Item, as_is_format};
+ghost use Rattle.pcap_tolerant_captures.specs.State.{opening};
+ghost use Rattle.pcapfile_mended.specs.Mended.{Becomes};
+ghost use Rattle.pcapfile_as_is.specs.MendedCaptures.{AreRead, IsMendedSo, block_of};
 ghost use Rattle.pcapfile_as_is.specs.Repaired.{repaired_of};
 
 /// A repaired packet breaks no rule.
@@ -27,4 +33,11 @@ pub fn repaired_captures_are_read()
     ensures { (header : PcapHeader) (packets : List AsIs) → IsWholeHeader header → All (λ packet. packet.head.seconds < 2 ^ 32) packets →
         CaptureFront packet_limit header (map (cut (resolution_of header.magic_number)) (map (repaired_of (resolution_of header.magic_number)) packets))
         (capture header (map (repaired_of (resolution_of header.magic_number)) packets)) [] }
+{}
+
+/// Where what becomes of each block of a capture is put, one behind the other, the strict reading takes it whole: exactly the blocks
+/// that are left, each with its type, its order and the body that it has then, and no block is refused.
+pub fn mended_captures_are_read()
+    ensures { (mended : List (Item × Becomes)) (s left : List ℕ) → IsBytes s → Front as_is_format opening (map block_of mended) s left → All IsMendedSo mended →
+        AreRead mended }
 {}

@@ -2,12 +2,12 @@
 use Rattle.std.proofs.Common.{◌≡◌, ◌<◌, ◌≤◌, ◌+◌, ◌-◌, ◌^◌, ◌⊎◌, ℕ, ℤ, zero, suc, List, [], ◌∷◌, ◌++◌, length, min, take, Bool, if◌then◌else◌, true, false, Ok, Err, Option, Some, None, refl, sym, ap, subst, ◌∙◌, inl, inr, arith, w32, to_z, of_z, append_assoc}
 use Rattle.std.specs.Prelude.{IsSome, slice_set, filter}
 use Rattle.std.specs.List.{All, AllZip, slice_get}
-use Rattle.std.proofs.lemmas.Bool.{ne_eqb}
+use Rattle.std.proofs.lemmas.Bool.{cases_lt, ne_eqb}
 use Rattle.std.proofs.lemmas.Bool.Decides.{eqb_tells}
 use Rattle.std.proofs.lemmas.Grind.{take-set_at}
-use Rattle.std.proofs.lemmas.List.{length-append, length-take-le}
-use Rattle.std.proofs.lemmas.List.Elements.{All-nil, All-push, filter-append}
-use Rattle.std.proofs.lemmas.Option.{same_Some}
+use Rattle.std.proofs.lemmas.List.{drop_at, get_or-set_other, length-append, length-set, length-take-le, take_at}
+use Rattle.std.proofs.lemmas.List.Elements.{All-drop, All-nil, All-pop, All-push, All-take, filter-append}
+use Rattle.std.proofs.lemmas.Option.{same_Some, slice_get-get_or, slice_get_past}
 use Rattle.std.proofs.lemmas.Slice.Zip.{AllZip-long}
 use Rattle.pcap_core.specs.declared.common.Endianness.{Endianness}
 use Rattle.pcap_core.specs.declared.common.Endianness.TheVariants.{Big}
@@ -16,18 +16,18 @@ use Rattle.pcap_core.specs.Answer.{Order, Verdict, number_in, whole, lacks, faul
 use Rattle.pcap_core.specs.Faults.{Fault, Invalid, Io, Utf8}
 use Rattle.pcap_items.specs.Format.{Texts, state_after}
 use Rattle.pcap_items.specs.Headed.{good}
-use Rattle.pcap_items.proofs.Formats.{texts_own, texts_push}
+use Rattle.pcap_items.proofs.Formats.{texts_all, texts_own, texts_push}
 use Rattle.pcap_core.proofs.Kept.{zip_push}
 use Rattle.pcap_blocks.specs.declared.block_type.BlockType.{BlockType}
 use Rattle.pcap_blocks.specs.declared.block_type.BlockType.TheVariants as types
 use Rattle.pcap_blocks.specs.BlockType.{block_type}
 use Rattle.pcap_blocks.specs.InterfaceDescription.{Interface}
-use Rattle.pcap_blocks.specs.ParsedBlock.{Body, InterfaceBody, BodySays}
+use Rattle.pcap_blocks.specs.ParsedBlock.{Body, InterfaceBody, SectionBody, BodySays}
 use Rattle.pcap_blocks.specs.SectionHeader.{Section, magic_order}
 use Rattle.pcap_ng.specs.Blocks.{Item, BlockSays, BlockText, MayGrow, block_format}
 use Rattle.pcap_ng.specs.Bodies.{GrowsInBody, SaysOfBody}
 use Rattle.pcap_ng.specs.Frames.{Framed, FrameText, own_order}
-use Rattle.pcap_ng.specs.State.{State, opening, within, or_big, order_at, is_kept, leads, Means, MeansIf}
+use Rattle.pcap_ng.specs.State.{State, opening, within, interfaces_at, or_big, order_at, is_kept, leads, Means, MeansIf}
 use Rattle.pcap_ng.proofs.BlockFormat.{block_said, blocks_lawful, good_in}
 use Rattle.pcap_ng.proofs.KeptBodies.{read_means}
 use Rattle.pcap_ng.proofs.Refusing.{body_refuses}
@@ -43,12 +43,23 @@ use Rattle.pcapfile_values.specs.Bodies.{BodyTells, HasBase, ShowsInterface, IsT
 use Rattle.pcapfile_values.specs.Refusals.{ShowsError, TellsRefusalWhere}
 use Rattle.pcapfile_values.proofs.Leading.{body_faults, change_refuses, not_named, none_some, section_puts, section_refuses}
 use Rattle.pcapfile_c.specs.declared.push.PcapfilePush.{PcapfilePush}
+use Rattle.pcapfile_c.specs.Push.{held_in}
 use Rattle.pcapfile_c.specs.Batches.{LeadingText, OtherText, PacketText, PacketFault, PacketMayGrow, PassageSays, is_packet}
-use Rattle.pcapfile_c.specs.PushPackets.{HaveBases, ShowsInForce, ShowsFound, GivesPacket, PutsBlock, PutsTells, StepTells, EndsWalk, TakesFrontPacket, TakesNextPacket, is_packet_block, ReadSays, ReadMayGrow, LacksPlace, Stops}
+use Rattle.pcapfile_c.specs.PushPackets.{HaveBases, ShowsInForce, ShowsFound, GivesPacket, PutsBlock, PutsTells, StepTells, EndsWalk, TakesFrontPacket, TakesNextPacket, LeavesOthers, OthersStay, is_packet_block, ReadSays, ReadMayGrow, LacksPlace, Stops}
 use Rattle.pcapfile_c.proofs.BlockLaws.{behind_push}
 use Rattle.pcapfile_c.proofs.Pushed.{Found, held_says, with_rest}
 use Rattle.pcapfile_c.proofs.PushedBlocks.{block_ends}
 use Rattle.pcapfile_c.proofs.Refused.{tells_refusal_where}
+
+-- a place behind the one that is filled is as it was
+pub place_other : (xs : List PcapfileInterface) (n i : ℕ) (x : PcapfileInterface) → n < i → slice_get (slice_set xs n x) i ≡ slice_get xs i
+place_other xs n i x lt =
+    elim (cases_lt i (length xs)) [
+      | inl here ↦
+          let there : i < length (slice_set xs n x) = omega (arith, here, length-set xs n x) in
+          slice_get-get_or (slice_set xs n x) i x there ∙ ap (λ (y : PcapfileInterface). Some y) (get_or-set_other xs n i x x (λ is. omega (arith, lt, is))) ∙ sym (slice_get-get_or xs i x here)
+      | inr past ↦ slice_get_past (slice_set xs n x) i (omega (arith, past, length-set xs n x)) ∙ sym (slice_get_past xs i past)
+    ]
 
 -- a block that is no section has the order that holds
 frame_order : (e : Endianness) (b : Framed) (s rest : List ℕ) → FrameText e b s rest → (b.type_ ≡ types.SectionHeader → ⊥) → b.endianness ≡ e
@@ -332,6 +343,98 @@ packet_takes before q section next places now room s rest old packet error told 
 pub shows_state : (q : State) (section : PcapfileSection) (places : List PcapfileInterface) → ShowsInForce section places q → ShowsState section q
 shows_state opening section places shows = shows
 shows_state (within d interfaces) section places shows = shows.0
+
+-- a body that is read leads to a section in force
+led_within : (q : State) (body : Body) → leads q body ≡ good opening → ⊥
+led_within q (SectionBody section) e = absurd cc
+led_within opening (InterfaceBody b) e = absurd cc
+led_within (within s is) (InterfaceBody b) e = absurd cc
+led_within opening _ e = absurd cc
+led_within (within s is) _ e = absurd cc
+
+means_if : (k : Bool) (q : State) (b : Framed) → (k ≡ false → q ≡ opening → ⊥) → MeansIf k q b (good opening) → ⊥
+means_if true q b other (body, rest, says, e) = led_within q body e
+means_if false q b other e = other refl (sym e)
+
+means_within : (q : State) (b : Framed) → Means q b (good opening) → ⊥
+means_within opening b (body, rest, says, e) = led_within opening body e
+means_within (within s is) b means = means_if (is_kept b.type_) (within s is) b (λ k e. absurd cc) means
+
+-- so many interfaces are in force there at least as the struct counts
+counts : (section : PcapfileSection) (places : List PcapfileInterface) (a : State) → (a ≡ opening → ⊥) → ShowsInForce section places a → section.interfaces ≤ length (interfaces_at a)
+counts section places opening none shows = absurd (none refl)
+counts section places (within s is) none shows = omega (arith, shows.0.1)
+
+counts_behind : (q : State) (b : Framed) (after : State) (section : PcapfileSection) (places : List PcapfileInterface) → Means q b (good after) → ShowsInForce section places after → section.interfaces ≤ length (interfaces_at after)
+counts_behind q b after section places means shows = counts section places after (λ is. means_within q b (subst (λ (a : State). Means q b (good a)) is means)) shows
+
+-- behind one block more other places are as they were
+others_more : (q : State) (passed : List Item) (item : Item) (places mid now : List PcapfileInterface) (section : PcapfileSection) (s rest : List ℕ)
+    → BlockSays q s (whole item rest) → ShowsInForce section now item.after → OthersStay passed places mid
+    → ((i : ℕ) → section.interfaces ≤ i → slice_get now i ≡ slice_get mid i) → OthersStay (passed ++ item ∷ []) places now
+others_more q passed item places mid now section s rest says shows before step i all =
+    let parts = All-pop (λ (x : Item). length (interfaces_at x.after) ≤ i) (passed ++ item ∷ []) passed (Some item) refl all in
+    let count = counts_behind q item.block item.after section now says.means shows in
+    step i (omega (arith, count, parts.1)) ∙ before i parts.0
+
+-- one block more, and other places are as they were
+pub puts_and_leaves : (q : State) (section next : PcapfileSection) (start places now : List PcapfileInterface) (s mid rest : List ℕ) → (x : PutsBlocks q section places s mid)
+    → PutsBlock (state_after block_format q x.0) next now mid rest → OthersStay x.0 start places → ((i : ℕ) → next.interfaces ≤ i → slice_get now i ≡ slice_get places i)
+    → (y : PutsBlocks q next now s rest) × OthersStay y.0 start now
+unfolding puts_more
+puts_and_leaves q section next start places now s mid rest x y before step = (
+  puts_more q section next places now s mid rest x y,
+  others_more (state_after block_format q x.0) x.0 y.0 start places now next mid rest y.2 y.3 before step,
+)
+
+-- and where a walk ends: behind a packet, or before what gives none
+pub others_done : (q : State) (section : PcapfileSection) (places start now : List PcapfileInterface) (next : PcapfileSection) (s mid rest : List ℕ) (old packet : PcapfileAnyPacket) (error told : PcapfileError) (z : ℤ)
+    → (x : PutsBlocks q section places s mid) → next ≡ section → now ≡ places → EndsWalk (state_after block_format q x.0) section places mid rest old packet error told z → OthersStay x.0 start places
+    → LeavesOthers q next start now s rest
+others_done q section places start now next s mid rest old packet error told z x same_section same (inl (status, kept, gives)) others =
+    let here = state_after block_format q x.0 in
+    let item = gives.item in
+    let behind : state_after block_format q (x.0 ++ item ∷ []) ≡ here = behind_push q x.0 item ∙ gives.stays in
+    rw (same_section, same) (record {
+      passed = x.0 ++ item ∷ [];
+      texts = texts_push block_format q x.0 item s mid rest x.1 (block_said here item mid rest gives.text);
+      in_force = subst (λ (a : State). ShowsInForce section places a) (sym behind) x.3;
+      others = λ i all. others i (All-pop (λ (x : Item). length (interfaces_at x.after) ≤ i) (x.0 ++ item ∷ []) x.0 (Some item) refl all).0;
+    })
+others_done q section places start now next s mid rest old packet error told z x same_section same (inr (kept, is, stops)) others =
+    rw (same_section, same, is) (record { passed = x.0; texts = x.1; in_force = x.3; others = others })
+
+-- where nothing is taken
+pub others_none : (q : State) (section : PcapfileSection) (places : List PcapfileInterface) (s : List ℕ) → ShowsInForce section places q → LeavesOthers q section places places s s
+others_none q section places s shows = record { passed = []; texts = refl; in_force = shows; others = λ i below. refl }
+
+behind_all : (q : State) (items more : List Item) → state_after block_format q (items ++ more) ≡ state_after block_format (state_after block_format q items) more
+unfolding block_format
+behind_all q [] more = refl
+behind_all q (item ∷ items) more = behind_all item.after items more
+
+-- one call behind another
+pub others_joined : (q : State) (section next : PcapfileSection) (places between now : List PcapfileInterface) (s mid rest : List ℕ) → (x : LeavesOthers q section places between s mid)
+    → LeavesOthers (state_after block_format q x.passed) next between now mid rest → LeavesOthers q next places now s rest
+others_joined q section next places between now s mid rest x y =
+    let all = x.passed ++ y.passed in
+    record {
+      passed = all;
+      texts = texts_all block_format q x.passed y.passed s mid rest x.texts y.texts;
+      in_force = subst (λ (a : State). ShowsInForce next now a) (sym (behind_all q x.passed y.passed)) y.in_force;
+      others = λ i below.
+          let n = length x.passed in
+          let front = subst (All (λ (x : Item). length (interfaces_at x.after) ≤ i)) (take_at x.passed y.passed n refl) (All-take (λ (x : Item). length (interfaces_at x.after) ≤ i) n all below) in
+          let back = subst (All (λ (x : Item). length (interfaces_at x.after) ≤ i)) (drop_at x.passed y.passed n refl) (All-drop (λ (x : Item). length (interfaces_at x.after) ≤ i) n all below) in
+          y.others i back ∙ x.others i front;
+    }
+
+-- of what is taken from what is held
+pub others_held : (before : PcapfilePush) (q : State) (next : PcapfileSection) (places now : List PcapfileInterface) (room s rest : List ℕ) → Found before room s → LeavesOthers q next places now s rest
+    → LeavesOthers q next places now (held_in before room) (held_in (with_rest before before.header rest) room)
+others_held before q next places now room s rest found x =
+    let o = texts_own block_format blocks_lawful q x.passed s rest x.texts in
+    (held_says (λ s rest. LeavesOthers q next places now s rest) before before.header room s rest found (o.0, o.1) x).2
 
 -- a walk ends behind blocks that are no packets
 pub walk_done : (q : State) (section next : PcapfileSection) (places now : List PcapfileInterface) (s mid rest : List ℕ) (old before packet : PcapfileAnyPacket) (error known told : PcapfileError) (z : ℤ)

@@ -1,15 +1,17 @@
 -- What the calls that tell where a capture can be cut answer.
-use Rattle.std.specs.Prelude.{◌≡◌, ◌<◌, ◌≤◌, ◌*◌, ◌⊎◌, ⊤, ℕ, ℤ, pos, List, [], length, take, drop}
+use Rattle.std.specs.Prelude.{◌≡◌, ◌<◌, ◌≤◌, ◌*◌, ◌⊎◌, ℕ, ℤ, pos, List, [], length, take, drop}
 use Rattle.pcap_classic.specs.declared.pcap.header.PcapHeader.{PcapHeader}
 use Rattle.pcap_classic.specs.HeaderText.{HeaderSays}
+use Rattle.pcap_ng.specs.Blocks.{MayGrow}
 use Rattle.pcap_ng.specs.Opening.{OpeningSays}
+use Rattle.pcap_ng.specs.State.{opening}
 use Rattle.pcap_parts.specs.declared.cut.Cut.{Cut}
 use Rattle.pcap_parts.specs.declared.cut_ng.NgCut.{NgCut}
 use Rattle.pcap_parts.specs.declared.cut_ng.NgCuts.{NgCuts}
 use Rattle.pcap_parts.specs.declared.parting.Parting.{Parting}
 use Rattle.pcap_parts.specs.declared.parting.Parting.TheVariants.{Equal, AtLeast}
 use Rattle.pcap_parts.specs.Captures.{IsCut, IsCutAtLeast, IsCutFairly}
-use Rattle.pcap_parts.specs.NgParts.{IsNgCut, IsNgCutAtLeast, IsNgCutFairly}
+use Rattle.pcap_parts.specs.NgParts.{HasOpening, IsNgCut, IsNgCutAtLeast, IsNgCutFairly}
 use Rattle.pcap_parts.specs.Places.{TellAllPlaces}
 use Rattle.pcapfile_values.specs.declared.errors.PcapfileError.{PcapfileError}
 use Rattle.pcapfile_values.specs.Refusals.{TellsRefusal, TellsRefusalWhere}
@@ -48,6 +50,10 @@ TellsCuts how bytes before after count error told status =
     ((status ≡ pos 0) × (told ≡ error) × CutsPackets how bytes before after count)
     ⊎ ((count ≡ 0) × (after ≡ before) × (((status ≡ pos 11) × (told ≡ error) × MayLackPlaces how bytes before) ⊎ TellsRefusal (HeaderSays bytes) told status))
 
+-- memory is taken for cuts of a PcapNg capture only behind its first block, or where that one's body has lists
+abbrev pub CutMayGrow : List ℕ → Type 0
+CutMayGrow bytes = MayGrow opening bytes ⊎ HasOpening bytes
+
 -- these are the cuts of a PcapNg capture that are asked for, with the places of its interfaces
 abbrev pub CutsBlocks : Parting → List ℕ → NgCuts → Type 0
 CutsBlocks (Equal parts) bytes cuts =
@@ -68,4 +74,4 @@ abbrev pub TellsBlockCuts : Parting → List ℕ → List NgCut → List NgCut �
 TellsBlockCuts how bytes before after count places now known error told status =
     ((status ≡ pos 0) × (told ≡ error) × (cuts : NgCuts) × CutsBlocks how bytes cuts × Fills cuts.cuts.items before after count × Fills cuts.interfaces.items places now known)
     ⊎ ((count ≡ 0) × (after ≡ before) × (now ≡ places)
-    × (((status ≡ pos 11) × (told ≡ error) × LacksPlaces how bytes before places known) ⊎ ((known ≡ 0) × TellsRefusalWhere ⊤ (OpeningSays bytes) told status)))
+    × (((status ≡ pos 11) × (told ≡ error) × LacksPlaces how bytes before places known) ⊎ ((known ≡ 0) × TellsRefusalWhere (CutMayGrow bytes) (OpeningSays bytes) told status)))

@@ -123,6 +123,17 @@ pub record TakesFrontPacket (q : State) (next : PcapfileSection) (now : List Pca
   pub in_force : ShowsInForce next now (state_after block_format q passed)
   pub ends : EndsWalk (state_after block_format q passed) next now mid rest old packet error told status
 
+-- each place that lies behind as many interfaces as any of these blocks leaves in force is as it was
+abbrev pub OthersStay : List Item → List PcapfileInterface → List PcapfileInterface → Type 0
+OthersStay passed places now = (i : ℕ) → All (λ (item : Item). length (interfaces_at item.after) ≤ i) passed → slice_get now i ≡ slice_get places i
+
+-- so it is of the blocks that are taken of s, behind which this rest is left and the structs show what is in force
+pub record LeavesOthers (q : State) (next : PcapfileSection) (places now : List PcapfileInterface) (s rest : List ℕ) : Type 0 where
+  pub passed : List Item
+  pub texts : Texts block_format q passed s rest
+  pub in_force : ShowsInForce next now (state_after block_format q passed)
+  pub others : OthersStay passed places now
+
 -- nothing changed: status 10
 pub record LeavesPackets (before push : PcapfilePush) (section next : PcapfileSection) (places now : List PcapfileInterface) (old packet : PcapfileAnyPacket) (error told : PcapfileError) (status : ℤ) : Type 0 where
   pub status_is : status ≡ pos 10

@@ -5,7 +5,7 @@ ghost use Rattle.pcap_ng.specs.State.{State};
 ghost use Rattle.pcapfile_values.specs.Blocks.{order_shown};
 ghost use Rattle.pcapfile_c.specs.AnyCaptures.{IsNg, HasEnded, TakesAnyPacket, TakesAnyNgPacket, TakesHeaded, TakesSectioned, RefusesAnyPacket};
 ghost use Rattle.pcapfile_c.specs.AnyCaptures.{LeavesAnyPacket, TakesCaptured, TakesWithPlaces, RefusesWithPlaces, LacksPlaces};
-ghost use Rattle.pcapfile_c.specs.PushPackets.{ShowsInForce, HaveBases};
+ghost use Rattle.pcapfile_c.specs.PushPackets.{ShowsInForce, HaveBases, LeavesOthers};
 
 use crate::push::take_front;
 use crate::push_packets::take_packet;
@@ -56,6 +56,8 @@ pub extern "C" fn pcapfile_take_any<'a>(
     ensures lacking { IsNg capture.old left.old.bytes.now → length interfaces.old < capture.old.section.interfaces →
         LeavesAnyPacket capture.old capture.new interfaces.old interfaces.new left.old.bytes.now left.new.bytes.now packet.old packet.new
         error.old error.new result }
+    ensures others { (q : State) → IsNg capture.old left.old.bytes.now → ShowsInForce capture.old.section interfaces.old q →
+        LeavesOthers q capture.new.section interfaces.old interfaces.new left.old.bytes.now left.new.bytes.now }
 {
     let before = *error;
     let status = take_either(alloc, capture, left, interfaces, packet, error);
@@ -88,6 +90,8 @@ fn take_either<'a>(
     ensures lacking { IsNg capture.old left.old.bytes.now → length interfaces.old < capture.old.section.interfaces →
         LeavesAnyPacket capture.old capture.new interfaces.old interfaces.new left.old.bytes.now left.new.bytes.now packet.old packet.new
         error.old error.new result }
+    ensures others { (q : State) → IsNg capture.old left.old.bytes.now → ShowsInForce capture.old.section interfaces.old q →
+        LeavesOthers q capture.new.section interfaces.old interfaces.new left.old.bytes.now left.new.bytes.now }
 {
     if capture.is_ng(left.bytes) {
         take_any_block(alloc, &mut capture.section, left, interfaces, packet, error)
@@ -138,6 +142,7 @@ fn take_any_block<'a>(
     ensures lacking { length interfaces.old < section.old.interfaces →
         LacksPlaces section.old section.new interfaces.old interfaces.new left.old.bytes.now left.new.bytes.now packet.old packet.new
         error.old error.new result }
+    ensures others { (q : State) → ShowsInForce section.old interfaces.old q → LeavesOthers q section.new interfaces.old interfaces.new left.old.bytes.now left.new.bytes.now }
 {
     if interfaces.len() < section.interfaces as usize {
         return 10;

@@ -1,11 +1,11 @@
 //! PcapNg captures that lie in memory: where they can be cut into parts, and what is in force there.
 
-ghost use Rattle.std.specs.Prelude.{◌≡◌, ◌≤◌, ⊤, pos, length, max, IfErr, IfOk};
+ghost use Rattle.std.specs.Prelude.{◌≡◌, ◌≤◌, pos, length, max, IfErr, IfOk};
 ghost use Rattle.pcap_core.specs.Answer.{Refuses, faulty, lacks};
 ghost use Rattle.pcap_ng.specs.Opening.{OpeningSays};
 ghost use Rattle.pcap_parts.specs.declared.parting.Parting.TheVariants as partings;
 ghost use Rattle.pcap_parts.specs.Partings.{AsksSome};
-ghost use Rattle.pcapfile_c.specs.Cuts.{CutsBlocks, Fills, HasRoom, MayLackPlaces, TellsBlockCuts};
+ghost use Rattle.pcapfile_c.specs.Cuts.{CutMayGrow, CutsBlocks, Fills, HasRoom, MayLackPlaces, TellsBlockCuts};
 
 use pcap_core::ResultParsing;
 use pcap_parts::{NgCut, NgCuts, Parting, cut_pcapng, cut_pcapng_at_least};
@@ -119,7 +119,7 @@ fn fill_cuts(
 fn cut_capture(alloc: Global, bytes: &[u8], parting: Parting) -> ResultParsing<NgCuts>
     requires { AsksSome parting }
     ensures cut { IfOk result (CutsBlocks parting bytes.now) }
-    ensures refused { IfErr result (Refuses ⊤ (λ n. OpeningSays bytes.now (lacks n)) (λ fault. OpeningSays bytes.now (faulty fault))) }
+    ensures refused { IfErr result (Refuses (CutMayGrow bytes.now) (λ n. OpeningSays bytes.now (lacks n)) (λ fault. OpeningSays bytes.now (faulty fault))) }
 {
     match parting {
         Parting::Equal(parts) => cut_pcapng(alloc, bytes, parts),

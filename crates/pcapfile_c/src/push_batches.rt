@@ -6,7 +6,8 @@ ghost use Rattle.pcap_ng.specs.State.{State};
 ghost use Rattle.pcapfile_values.specs.Blocks.{order_shown};
 ghost use Rattle.pcapfile_c.specs.PushBatches.{FillsPlaces, TakesFrontPackets, TakesNextPackets};
 ghost use Rattle.pcapfile_c.specs.PushNgBatches.{TakesFrontNgPackets, TakesNextNgPackets, RefusesNextNgPackets, LeavesNgPackets};
-ghost use Rattle.pcapfile_c.specs.PushPackets.{ShowsInForce, HaveBases, MakesNoSense};
+ghost use Rattle.pcapfile_c.specs.Push.{LiesWithin, held_in};
+ghost use Rattle.pcapfile_c.specs.PushPackets.{ShowsInForce, HaveBases, LeavesOthers, MakesNoSense};
 
 use crate::pcap::{pcapfile_take_header, take_each};
 use crate::push::PcapfilePush;
@@ -122,6 +123,8 @@ pub extern "C" fn pcapfile_push_ng_packets<'a>(
         error.old error.new result }
     ensures nonsense { MakesNoSense push.old section.old interfaces.old room.now →
         LeavesNgPackets push.old push.new section.old section.new interfaces.old interfaces.new packets.old packets.new taken.new error.old error.new result }
+    ensures others { (q : State) → ShowsInForce section.old interfaces.old q → LiesWithin push.old room.now →
+        LeavesOthers q section.new interfaces.old interfaces.new (held_in push.old room.now) (held_in push.new room.now) }
 {
     *taken = 0;
     let Some(held) = room.get(push.begin..push.end) else {
@@ -154,6 +157,7 @@ fn take_ng_packets<'a>(
         TakesFrontNgPackets q section.new interfaces.new left.old.bytes.now left.new.bytes.now packets.old packets.new taken.new error.old error.new result }
     ensures bases { HaveBases section.old interfaces.old → HaveBases section.new interfaces.new }
     ensures fewer { length left.new.bytes.now ≤ length left.old.bytes.now }
+    ensures others { (q : State) → ShowsInForce section.old interfaces.old q → LeavesOthers q section.new interfaces.old interfaces.new left.old.bytes.now left.new.bytes.now }
 {
     while *taken < packets.len() {
         let packet = &mut packets[*taken];

@@ -1,13 +1,14 @@
 //! PcapNg captures that come in pieces, in room that the caller has: their packets.
 
-ghost use Rattle.std.specs.Prelude.{◌≡◌, ◌<◌, ◌≤◌, List, length, None, Some};
+ghost use Rattle.std.specs.Prelude.{◌≡◌, ◌<◌, ◌≤◌, ℕ, List, length, None, Some, slice_get};
 ghost use Rattle.pcap_blocks.specs.declared.block_type.BlockType.TheVariants as types;
 ghost use Rattle.pcap_blocks.specs.SectionHeader.{magic_order};
 ghost use Rattle.pcap_ng.specs.State.{State, order_at};
 ghost use Rattle.pcapfile_values.specs.Blocks.{order_shown};
 ghost use Rattle.pcapfile_c.specs.Batches.{LeadingText};
+ghost use Rattle.pcapfile_c.specs.Push.{LiesWithin, held_in};
 ghost use Rattle.pcapfile_c.specs.PushPackets.{ShowsInForce, HaveBases, LeavesFewer, PutsTells, StepTells, TakesFrontPacket};
-ghost use Rattle.pcapfile_c.specs.PushPackets.{TakesNextPacket, RefusesNextPacket, MakesNoSense, LeavesPackets};
+ghost use Rattle.pcapfile_c.specs.PushPackets.{TakesNextPacket, RefusesNextPacket, MakesNoSense, LeavesOthers, LeavesPackets};
 
 use crate::batches::{Front, front_of};
 use crate::push::PcapfilePush;
@@ -44,6 +45,8 @@ pub extern "C" fn pcapfile_push_ng_next<'a>(
         RefusesNextPacket push.old push.new section.old section.new interfaces.old interfaces.new room.now packet.old packet.new error.old error.new result }
     ensures nonsense { MakesNoSense push.old section.old interfaces.old room.now →
         LeavesPackets push.old push.new section.old section.new interfaces.old interfaces.new packet.old packet.new error.old error.new result }
+    ensures others { (q : State) → ShowsInForce section.old interfaces.old q → LiesWithin push.old room.now →
+        LeavesOthers q section.new interfaces.old interfaces.new (held_in push.old room.now) (held_in push.new room.now) }
 {
     let Some(held) = room.get(push.begin..push.end) else {
         return 10;
@@ -74,6 +77,7 @@ pub(crate) fn take_packet<'a>(
         TakesFrontPacket q section.new interfaces.new left.old.bytes.now left.new.bytes.now packet.old packet.new error.old error.new result }
     ensures bases { HaveBases section.old interfaces.old → HaveBases section.new interfaces.new }
     ensures fewer { length left.new.bytes.now ≤ length left.old.bytes.now }
+    ensures others { (q : State) → ShowsInForce section.old interfaces.old q → LeavesOthers q section.new interfaces.old interfaces.new left.old.bytes.now left.new.bytes.now }
 {
     loop {
         match take_block(alloc, section, left, interfaces, packet, error) {
@@ -98,6 +102,7 @@ fn take_block<'a>(
         error.old error.new result }
     ensures bases { HaveBases section.old interfaces.old → HaveBases section.new interfaces.new }
     ensures fewer { LeavesFewer left.old.bytes.now left.new.bytes.now result }
+    ensures others { (i : ℕ) → section.new.interfaces ≤ i → slice_get interfaces.new i ≡ slice_get interfaces.old i }
 {
     let Some(order) = section.endianness() else {
         return take_first(alloc, section, left, error);
@@ -193,6 +198,7 @@ fn take_interface<'a>(
         PutsTells q section.old section.new interfaces.old interfaces.new left.old.bytes.now left.new.bytes.now error.old error.new result }
     ensures bases { HaveBases section.old interfaces.old → HaveBases section.new interfaces.new }
     ensures fewer { LeavesFewer left.old.bytes.now left.new.bytes.now result }
+    ensures others { (i : ℕ) → section.new.interfaces ≤ i → slice_get interfaces.new i ≡ slice_get interfaces.old i }
 {
     let found = match interface_of(alloc, order, BlockType::InterfaceDescription, body) {
         Ok(Some(found)) => found,

@@ -100,9 +100,10 @@ pub record CutsBehind (header : PcapHeader) (wanted : Wanted) (before now out ou
   pub passes : Passes header wanted packets before left out mid outcome
   pub ends : Ends header wanted packets left now mid out_now outcome
 
--- a write failed in the opening, and nothing was taken
+-- a write failed in the opening, and nothing was taken or counted
 pub record TearsOpening (opening : Opening) (before now out out_now : Option (List ℕ)) (outcome : Outcome) : Type 0 where
   pub none : outcome.packets ≡ 0
+  pub no_bytes : outcome.bytes ≡ 0
   pub refused : IsSomeAnd outcome.fault IsIo
   pub no_read_failed : outcome.read_failed ≡ false
   pub write_failed : outcome.write_failed ≡ true

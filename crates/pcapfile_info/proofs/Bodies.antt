@@ -1,5 +1,7 @@
 -- What is seen of bodies.
-use Rattle.std.proofs.Common.{◌≡◌, ℕ, List, refl}
+use Rattle.std.proofs.Common.{◌≡◌, ℕ, List, Option, Some, None, Result, Ok, Err, IfErr, true, refl, inl, inr}
+use Rattle.pcap_blocks.specs.declared.block_type.BlockType.{BlockType}
+use Rattle.pcap_blocks.specs.declared.block_type.BlockType.TheVariants as types
 use Rattle.pcap_blocks.specs.declared.enhanced_packet.EnhancedPacketBlock.{EnhancedPacketBlock}
 use Rattle.pcap_blocks.specs.declared.packet.PacketBlock.{PacketBlock}
 use Rattle.pcap_blocks.specs.declared.simple_packet.SimplePacketBlock.{SimplePacketBlock}
@@ -8,7 +10,10 @@ use Rattle.pcap_blocks.specs.declared.parsed_block.ParsedBlock.TheVariants as bl
 use Rattle.pcap_blocks.specs.InterfaceDescription.{Interface}
 use Rattle.pcap_blocks.specs.ParsedBlock.{body_of}
 use Rattle.pcapfile_info.specs.declared.seen.Sight.TheVariants as sights
-use Rattle.pcapfile_info.specs.Sights.{IsBodySight}
+use Rattle.pcap_ng.specs.Frames.{Framed}
+use Rattle.pcap_ng.specs.State.{is_kept}
+use Rattle.pcapfile_run.specs.BlockPackets.{InBlock, packet_in}
+use Rattle.pcapfile_info.specs.Sights.{IsBodySight, IsInBlockSight, IsSightOf, IsStoredSight}
 
 -- any other body is no packet
 pub other_sight : (described : ℕ) (interfaces : List Interface) (parsed : ParsedBlock)
@@ -23,3 +28,29 @@ other_sight described interfaces (block_of.InterfaceStatistics b) no_enhanced no
 other_sight described interfaces (block_of.EnhancedPacket b) no_enhanced no_packet no_simple = absurd (no_enhanced b refl)
 other_sight described interfaces (block_of.SystemdJournalExport b) no_enhanced no_packet no_simple = refl
 other_sight described interfaces (block_of.Unknown b) no_enhanced no_packet no_simple = refl
+
+-- a packet in a block isn't the description of an interface
+in_block_other : (described : ℕ) (interfaces : List Interface) (packet : Option InBlock) → IsInBlockSight described interfaces packet sights.Interface → ⊥
+in_block_other described interfaces (Some packet) is = is
+in_block_other described interfaces None is = absurd cc
+
+stored_other : (described : ℕ) (interfaces : List Interface) (block : Framed) → IsStoredSight described interfaces block sights.Interface → ⊥
+stored_other described interfaces block (inl (body, rest, says, is)) = in_block_other described interfaces (packet_in interfaces body) is
+stored_other described interfaces block (inr (fault, says, is)) = absurd cc
+
+-- the body of a block that describes an interface is kept
+pub interface_kept : (type : BlockType) (described : ℕ) (interfaces : List Interface) (block : Framed) → IsSightOf type described interfaces block sights.Interface → is_kept type ≡ true
+interface_kept types.SectionHeader described interfaces block is = refl
+interface_kept types.InterfaceDescription described interfaces block is = refl
+interface_kept types.EnhancedPacket described interfaces block is = absurd (stored_other described interfaces block is)
+interface_kept types.Packet described interfaces block is = absurd (stored_other described interfaces block is)
+interface_kept types.SimplePacket described interfaces block is = absurd (stored_other described interfaces block is)
+interface_kept types.NameResolution described interfaces block is = absurd cc
+interface_kept types.InterfaceStatistics described interfaces block is = absurd cc
+interface_kept types.SystemdJournalExport described interfaces block is = absurd cc
+interface_kept (types.Unknown n) described interfaces block is = absurd cc
+
+-- what holds anyway is said of each refusal
+pub err_says : {A E : Type 0} (P : Type 0) → P → (result : Result A E) → IfErr result (λ _. P)
+err_says P p (Ok x) = tt
+err_says P p (Err e) = p

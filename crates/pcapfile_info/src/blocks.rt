@@ -4,6 +4,7 @@ ghost use Rattle.std.specs.Prelude.{◌≡◌, map, option_map, slice_get, Match
 ghost use Rattle.pcap_core.specs.Errors.{IsMemory};
 ghost use Rattle.pcap_blocks.specs.InterfaceDescription.{interface_of};
 ghost use Rattle.pcap_blocks.specs.ParsedBlock.{body_of};
+ghost use Rattle.pcap_ng.specs.Bodies.{GrowsInBody};
 ghost use Rattle.pcap_ng.specs.Frames.{framed_of};
 ghost use Rattle.pcapfile_run.specs.BlockPackets.{snaplen_of};
 ghost use Rattle.pcapfile_info.specs.Sights.{IsBodySight, IsFramedSight, IsStoredSight, IsTimeSeen, place_of};
@@ -99,7 +100,8 @@ fn sight_of_stored(
     block: &Block,
 ) -> ResultParsing<Sight>
     ensures { MatchResult result
-        (λ sight. IsStoredSight described (map interface_of interfaces.now) (framed_of block.now) sight × IsWithin described sight) IsMemory }
+        (λ sight. IsStoredSight described (map interface_of interfaces.now) (framed_of block.now) sight × IsWithin described sight)
+        (λ e. IsMemory e × GrowsInBody (framed_of block.now)) }
 {
     match block.parsed(alloc) {
         Ok(parsed) => Ok(sight_of_body(described, interfaces, &parsed)),
@@ -117,7 +119,8 @@ pub(crate) fn sight_of_block(
     block: &Block,
 ) -> ResultParsing<Sight>
     ensures { MatchResult result
-        (λ sight. IsFramedSight described (map interface_of interfaces.now) (framed_of block.now) sight × IsWithin described sight) IsMemory }
+        (λ sight. IsFramedSight described (map interface_of interfaces.now) (framed_of block.now) sight × IsWithin described sight)
+        (λ e. IsMemory e × GrowsInBody (framed_of block.now)) }
 {
     match block.type_ {
         BlockType::SectionHeader => Ok(Sight::Section),

@@ -5,6 +5,7 @@ mod blocks;
 mod captures;
 mod clocks;
 mod described;
+pub mod laws;
 mod packets;
 mod passing;
 mod progress;

@@ -1,14 +1,16 @@
 //! Items that are passed, and what is counted of them.
 
-ghost use Rattle.std.specs.Prelude.{◌≡◌, ◌+◌, ◌^◌, ◌<◌, ◌++◌, [], true, false, length, map, IfOk, OnOk, MatchResult};
+ghost use Rattle.std.specs.Prelude.{◌≡◌, ◌+◌, ◌^◌, ◌<◌, ◌++◌, [], true, false, length, map, ◌⊎◌, IfErr, IfOk, OnOk, MatchResult};
 ghost use Rattle.std.specs.Option.{option_to_list};
 ghost use Rattle.std.specs.Result.{result_err};
 ghost use Rattle.pcap_core.specs.Errors.{IsMemory};
 ghost use Rattle.pcap_blocks.specs.InterfaceDescription.{interface_of};
 ghost use Rattle.pcap_blocks.specs.SectionHeader.{section_of};
 ghost use Rattle.pcap_ng.specs.Blocks.{block_format};
+ghost use Rattle.pcap_ng.specs.Bodies.{GrowsInBody};
 ghost use Rattle.pcap_ng.specs.Reader as ng;
-ghost use Rattle.pcapfile_info.specs.declared.seen.Sight.TheVariants.{Packet};
+ghost use Rattle.pcap_ng.specs.State.{is_kept};
+ghost use Rattle.pcapfile_info.specs.declared.seen.Sight.TheVariants.{Interface, Packet};
 ghost use Rattle.pcapfile_info.specs.Describing.{AddsDescribed, LosesNone, SameDescribed, last_description, told_of};
 ghost use Rattle.pcapfile_info.specs.KeptBlocks.{EndsBlocks, KeepsBlocks};
 ghost use Rattle.pcapfile_info.specs.InForce.{AreInForce};
@@ -103,6 +105,7 @@ impl Progress {
         ensures adds { MatchResult result
             (λ done. AddsDescribed type_ (section_of section.now) (map interface_of interfaces.now) self.old self.new)
             (λ e. LosesNone self.old self.new) }
+        ensures memory { IfErr result (λ _. is_kept type_ ≡ true) }
     {
         match type_ {
             BlockType::InterfaceDescription => self.describe(alloc, interfaces),
@@ -126,6 +129,7 @@ impl Progress {
         requires within { IsWithin (length self.old.totals.interfaces.items) sight }
         ensures adds { MatchResult result (λ done. AddsItem sight bytes self.old self.new) (λ e. AddsNothing self.old self.new) }
         ensures same { SameDescribed self.old self.new }
+        ensures memory { IfErr result (λ _. sight ≡ Interface) }
     {
         self.totals.add(sight)?;
         self.items += 1;
@@ -148,6 +152,7 @@ fn tell_block<T: Read + Drop>(
         (λ e. IsMemory e × AddsNothing progress.old progress.new × LosesNone progress.old progress.new) }
     ensures describes { IfOk result
         (λ done. AddsDescribed header.type_ (ng.section_in_force reader.now) (ng.interfaces_in_force reader.now) progress.old progress.new) }
+    ensures memory { IfErr result (λ _. GrowsInBody (ng.lent_item reader.now header).block ⊎ (is_kept header.type_ ≡ true)) }
 {
     let described = progress.totals.interfaces.as_slice().len();
     let block = reader.block(header);

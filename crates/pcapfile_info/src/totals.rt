@@ -1,8 +1,8 @@
 //! What is counted of the items of a capture.
 
-ghost use Rattle.std.specs.Prelude.{◌≡◌, List, [], IfOk, MatchResult, length};
+ghost use Rattle.std.specs.Prelude.{◌≡◌, List, [], IfErr, IfOk, MatchResult, length};
 ghost use Rattle.pcap_classic.specs.PacketText.{Captured};
-ghost use Rattle.pcapfile_info.specs.declared.seen.Sight.TheVariants.{Packet};
+ghost use Rattle.pcapfile_info.specs.declared.seen.Sight.TheVariants.{Interface, Packet};
 ghost use Rattle.pcapfile_info.specs.Sights.{IsPacketSight};
 ghost use Rattle.pcapfile_info.specs.Telling.{AreSights};
 ghost use Rattle.pcapfile_info.specs.Totals.{Adds, AllAre, IsBelow, IsWithin, Stay, TotalsAre};
@@ -70,10 +70,11 @@ impl Totals {
         self.interfaces[0] = self.all;
     }
 
-    /// One item more, of which this is seen. An `Err` leaves what they are of as it was.
+    /// One item more, of which this is seen. `AllocError` where there is no room for an interface; what they are of stays as it was then.
     pub(crate) fn add(&mut self, sight: Sight) -> Result<(), AllocError>
         requires { IsWithin (length self.old.interfaces.items) sight }
-        ensures { MatchResult result (λ done. Adds sight self.old self.new) (λ e. Stay self.old self.new) }
+        ensures adds { MatchResult result (λ done. Adds sight self.old self.new) (λ e. Stay self.old self.new) }
+        ensures memory { IfErr result (λ _. sight ≡ Interface) }
     {
         match sight {
             Sight::Packet(seen) => self.add_packet(seen),

@@ -10,3 +10,4 @@ mod utc;
 pub use columns::HEADING;
 pub use form::{Form, line_of};
 pub use seen::Seen;
+pub use utc::instant_of;

@@ -16,8 +16,8 @@ const BILLION: i128 = 1_000_000_000;
 /// More seconds than the calendar has before and behind 1970.
 const MOST: i128 = 1_000_000_000_000;
 
-// The same time, where it is in the years of the calendar.
-fn instant_of(time: Timestamp) -> Option<Instant>
+/// The same time as an instant of the calendar. None where its year is none of -9999 to 9999.
+pub fn instant_of(time: Timestamp) -> Option<Instant>
     ensures { MatchOption result (IsTimestampNanos (nanoseconds_of time) → ⊥) (λ instant. instant.nanosecond ≡ nanoseconds_of time) }
 {
     if time.seconds < -MOST || time.seconds > MOST {

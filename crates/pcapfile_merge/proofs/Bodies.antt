@@ -1,27 +1,36 @@
 -- Where the bytes of a packet stand in the body of its block.
-use Rattle.std.proofs.Common.{◌≡◌, ℕ, List, ◌++◌, take, drop, length, true, Option, None, Some, Ok, Err, sym, ap, ◌∙◌, subst, append_assoc}
-use Rattle.std.specs.Prelude.{Result, unwrap_or}
+use Rattle.std.proofs.Common.{◌≡◌, ◌+◌, ℕ, List, ◌++◌, take, drop, length, Bool, true, false, Option, None, Some, Ok, Err, sym, ap, ◌∙◌, subst, append_assoc}
+use Rattle.std.specs.Prelude.{Result, if◌then◌else◌, unwrap_or}
 use Rattle.std.specs.List.{slice_get}
-use Rattle.std.proofs.Math.Seq.{drop-append_seam, take-append_seam}
+use Rattle.std.proofs.Math.Seq.{drop-append_seam, take-append_seam, take-length}
+use Rattle.std.proofs.lemmas.Bool.{true≢false}
 use Rattle.std.proofs.lemmas.List.{length-take, take_min}
+use Rattle.pcap_times.specs.declared.clock.Timestamp.{Timestamp}
 use Rattle.pcap_core.specs.declared.errors.PcapError.{PcapError}
 use Rattle.pcap_core.specs.Answer.{Order, number_in, whole}
 use Rattle.pcap_core.specs.Padded.{Behind}
 use Rattle.pcap_core.proofs.Padded.{behind_both, behind_number}
 use Rattle.pcap_blocks.specs.declared.block_type.BlockType.{BlockType}
 use Rattle.pcap_blocks.specs.declared.block_type.BlockType.TheVariants as types
+use Rattle.pcap_blocks.specs.EnhancedPacket.{Enhanced}
 use Rattle.pcap_blocks.specs.InterfaceDescription.{Interface}
-use Rattle.pcap_blocks.specs.ParsedBlock.{Body, BodySays}
+use Rattle.pcap_blocks.specs.ParsedBlock.{Body, BodySays, EnhancedBody}
 use Rattle.pcap_blocks.specs.StoredBytes.{stored_len}
 use Rattle.pcap_blocks.specs.StoredPacket.{Stored, StoredText}
 use Rattle.pcap_options.specs.Values.{Kind}
 use Rattle.pcap_ng.specs.Frames.{Framed}
+use Rattle.pcap_written.specs.Plain.{plain_packet}
+use Rattle.pcap_file.specs.Converted.{little_text}
 use Rattle.pcap_file.specs.Placed.{is_packet}
 use Rattle.pcapfile_run.specs.BlockPackets.{HoldsPacket, InBlock, packet_in as packet_in_body, snaplen_of}
+use Rattle.pcapfile_merge.specs.declared.made.Made.{Made}
 use Rattle.pcapfile_merge.specs.declared.packet.Pending.{Pending}
-use Rattle.pcapfile_merge.specs.Passing.{TellsPending, TellsStored, bytes_within, start_of}
-use Rattle.pcapfile_merge.specs.Taking.{packet_in}
-use Rattle.pcapfile_merge.specs.TakingBlocks.{IsMerged, packet_unfit}
+use Rattle.pcapfile_merge.specs.BufferedBlocks.{lent_by}
+use Rattle.pcapfile_merge.specs.Making.{IsMade, MakesText}
+use Rattle.pcapfile_merge.specs.Packets.{plain_text}
+use Rattle.pcapfile_merge.specs.Passing.{IsSaid, TellsPending, bytes_within, start_of}
+use Rattle.pcapfile_merge.specs.Taking.{packet_in, text_by}
+use Rattle.pcapfile_merge.specs.TakingBlocks.{EndsBlock, GivesOf, IsTimeBy, IsUnmade, block_under, enhanced_in, numbered, packet_unmade}
 
 dropped : (n : ℕ) (s rest : List ℕ) → Behind n s rest → drop n s ≡ rest
 dropped n s rest behind = ap (drop n) behind.text ∙ ap (λ (k : ℕ). drop k (behind.bytes ++ rest)) (sym behind.length_is) ∙ drop-append_seam behind.bytes rest
@@ -69,13 +78,89 @@ body_bytes order types.EnhancedPacket interfaces s rest body packet says is =
 body_bytes order types.SystemdJournalExport interfaces s rest body packet says is = absurd (none_some (packet_in_body interfaces body) packet (ap (packet_in_body interfaces) says.1) is)
 body_bytes order (types.Unknown n) interfaces s rest body packet says is = absurd (none_some (packet_in_body interfaces body) packet (ap (packet_in_body interfaces) says.1) is)
 
--- what is said of a packet is said of its block
-pub stored_pending : (base : ℕ) (interfaces : List Interface) (block : Framed) (packet : InBlock) (result : Result Pending PcapError) → is_packet block.type_ ≡ true → HoldsPacket interfaces block packet
-    → TellsStored base interfaces packet result → TellsPending base interfaces block result
-unfolding AreThere
-stored_pending base interfaces block packet (Ok pending) is holds tells =
-    let there = body_bytes (number_in block.endianness) block.type_ interfaces block.body holds.rest holds.body packet holds.says holds.packet_is in
-    let bytes : bytes_within block.body pending ≡ packet.bytes =
-    ap (λ (n : ℕ). take n (drop pending.start block.body)) tells.1 ∙ ap (λ (n : ℕ). take (length packet.bytes) (drop n block.body)) tells.2 ∙ there in
-    (is, packet, holds, subst (λ (l : List ℕ). IsMerged base interfaces packet (packet_in l pending)) (sym bytes) tells.0)
-stored_pending base interfaces block packet (Err e) is holds tells = packet_unfit packet holds tells
+-- the body of a block of a packet's type is that of a packet
+pub packet_there : (order : Order) (type : BlockType) (interfaces : List Interface) (s rest : List ℕ) (body : Body) → is_packet type ≡ true → BodySays order type s (whole body rest) → (packet : InBlock) × (packet_in_body interfaces body ≡ Some packet)
+packet_there order types.Packet interfaces s rest body is says =
+    let found = says.0 in
+    (record { interface = found.interface_id; units = Some found.packet.timestamp; original_len = found.packet.original_len; bytes = found.packet.bytes }, ap (packet_in_body interfaces) says.1)
+packet_there order types.SimplePacket interfaces s rest body is says =
+    let found = says.0 in (
+      record { interface = 0; units = None; original_len = found.original_len; bytes = take (stored_len found.original_len (snaplen_of (slice_get interfaces 0))) found.bytes },
+      ap (packet_in_body interfaces) says.1,
+    )
+packet_there order types.EnhancedPacket interfaces s rest body is says =
+    let found = says.0 in
+    (record { interface = found.interface_id; units = Some found.packet.timestamp; original_len = found.packet.original_len; bytes = found.packet.bytes }, ap (packet_in_body interfaces) says.1)
+packet_there order types.SectionHeader interfaces s rest body is says = absurd (true≢false (sym is))
+packet_there order types.InterfaceDescription interfaces s rest body is says = absurd (true≢false (sym is))
+packet_there order types.NameResolution interfaces s rest body is says = absurd (true≢false (sym is))
+packet_there order types.InterfaceStatistics interfaces s rest body is says = absurd (true≢false (sym is))
+packet_there order types.SystemdJournalExport interfaces s rest body is says = absurd (true≢false (sym is))
+packet_there order (types.Unknown n) interfaces s rest body is says = absurd (true≢false (sym is))
+
+-- nothing that was made is lent
+pub nothing_made : (made : Made) (body : List ℕ) → made.is_lent ≡ false → lent_by made body ≡ body
+nothing_made made body none = ap (λ (b : Bool). if b then made.text.items else body) none
+
+-- the text that was made is lent
+pub made_lent : (made : Made) (body : List ℕ) → made.is_lent ≡ true → lent_by made body ≡ made.text.items
+made_lent made body is = ap (λ (b : Bool). if b then made.text.items else body) is
+
+module _ (base : ℕ) (interfaces : List Interface) (block : Framed) (packet : InBlock) (is : is_packet block.type_ ≡ true) (holds : HoldsPacket interfaces block packet) where
+  -- a packet whose block is made of its bytes
+  pub plain_given : (pending : Pending) (body : List ℕ) → body ≡ block.body → IsSaid base interfaces packet pending
+      → block_under (base + packet.interface) pending.units packet (enhanced_in holds.body) ≡ EnhancedBody (plain_packet (base + packet.interface) pending.units packet.original_len packet.bytes)
+      → GivesOf base interfaces block (Some (packet_in (bytes_within body pending) pending))
+  unfolding AreThere
+  plain_given pending body same said plain =
+      let there = body_bytes (number_in block.endianness) block.type_ interfaces block.body holds.rest holds.body packet holds.says holds.packet_is in
+      let number = base + packet.interface in
+      let bytes : bytes_within body pending ≡ packet.bytes =
+      ap (λ (l : List ℕ). bytes_within l pending) same ∙ ap (λ (n : ℕ). take n (drop pending.start block.body)) said.len ∙ ap (λ (n : ℕ). take (length packet.bytes) (drop n block.body)) said.start ∙ there in
+      let text : text_by pending.is_made pending (bytes_within body pending) ≡ little_text (block_under number pending.units packet (enhanced_in holds.body)) =
+      ap (λ (b : Bool). text_by b pending (bytes_within body pending)) said.unmade
+      ∙ ap (λ (l : List ℕ). plain_text pending.number pending.units pending.original_len l) bytes
+      ∙ ap (λ (n : ℕ). plain_text n pending.units pending.original_len packet.bytes) said.number
+      ∙ ap (λ (n : ℕ). plain_text number pending.units n packet.bytes) said.original_len
+      ∙ ap little_text (sym plain) in
+      (is, packet, holds, record { by = said.by; described = said.described; units = pending.units; time = said.time; text = text })
+
+  -- a packet whose own block was made
+  made_given : (said pending : Pending) (made : Made) (enhanced : Enhanced) → IsSaid base interfaces packet said → enhanced_in holds.body ≡ Some enhanced → IsMade said enhanced made pending
+      → GivesOf base interfaces block (Some (packet_in (bytes_within (lent_by made block.body) pending) pending))
+  made_given said pending made enhanced tells is_one makes =
+      let number = base + packet.interface in
+      let items = made.text.items in
+      let all : bytes_within (lent_by made block.body) pending ≡ items =
+      ap (λ (l : List ℕ). bytes_within l pending) (made_lent made block.body makes.is_lent) ∙ ap (λ (n : ℕ). take n (drop pending.start items)) makes.len ∙ ap (λ (n : ℕ). take (length items) (drop n items)) makes.start ∙ take-length items in
+      let text : text_by pending.is_made pending (bytes_within (lent_by made block.body) pending) ≡ little_text (block_under number said.units packet (enhanced_in holds.body)) =
+      ap (λ (b : Bool). text_by b pending (bytes_within (lent_by made block.body) pending)) makes.is_made
+      ∙ all
+      ∙ makes.text
+      ∙ ap (λ (n : ℕ). little_text (EnhancedBody (numbered n enhanced))) tells.number
+      ∙ ap (λ (o : Option Enhanced). little_text (block_under number said.units packet o)) (sym is_one) in (
+        is,
+        packet,
+        holds,
+        record {
+          by = tells.by;
+          described = tells.described;
+          units = said.units;
+          time = subst (λ (t : Option Timestamp). IsTimeBy tells.by packet.units t said.units) (sym makes.time) tells.time;
+          text = text;
+        },
+      )
+
+  -- a packet whose own block was not made
+  unmade_ends : (said : Pending) (enhanced : Enhanced) (e : PcapError) → IsSaid base interfaces packet said → enhanced_in holds.body ≡ Some enhanced → IsUnmade said.number enhanced e → EndsBlock ⊥ base interfaces block e
+  unmade_ends said enhanced e tells is_one unmade = packet_unmade packet holds enhanced is_one (subst (λ (n : ℕ). IsUnmade n enhanced e) tells.number unmade)
+
+  -- it was made, or it was not
+  pub made_or_ends : (said : Pending) (made : Made) (enhanced : Enhanced) (result : Result Pending PcapError) → IsSaid base interfaces packet said → enhanced_in holds.body ≡ Some enhanced → MakesText said enhanced made result
+      → TellsPending base interfaces block made result
+  made_or_ends said made enhanced (Ok pending) tells is_one makes = made_given said pending made enhanced tells is_one makes
+  made_or_ends said made enhanced (Err e) tells is_one makes = unmade_ends said enhanced e tells is_one makes
+
+-- of a body that is no enhanced packet the block is made of its bytes
+pub none_plain : (packet : InBlock) (found : Option Enhanced) → found ≡ None → (number units : ℕ) → block_under number units packet found ≡ EnhancedBody (plain_packet number units packet.original_len packet.bytes)
+none_plain packet found none number units = ap (block_under number units packet) none

@@ -1,18 +1,22 @@
 -- Packets of blocks that are taken where they lie in a buffer.
-use Rattle.std.proofs.Common.{◌≡◌, ℕ, List, [], length, take, false, Option, None, Some, Result, Ok, refl, sym, ap, ◌∙◌, subst}
+use Rattle.std.proofs.Common.{◌≡◌, ◌+◌, ℕ, List, [], length, take, false, Option, None, Some, Result, Ok, refl, sym, ap, ◌∙◌, subst}
 use Rattle.std.specs.Prelude.{◌==◌}
 use Rattle.std.specs.Io.Buffered.{reader_buffer, reader_capacity, reader_inner, reader_remaining}
 use Rattle.std.specs.declared.io.buffered.BufReader.{BufReader}
+use Rattle.pcap_times.specs.declared.clock.Timestamp.{Timestamp}
 use Rattle.pcap_core.specs.declared.common.Endianness.{Endianness}
 use Rattle.pcap_core.specs.declared.errors.PcapError.{PcapError}
 use Rattle.pcap_blocks.specs.InterfaceDescription.{Interface}
+use Rattle.pcap_blocks.specs.EnhancedPacket.{Enhanced}
 use Rattle.pcap_blocks.specs.ParsedBlock.{EnhancedBody}
+use Rattle.pcap_options.specs.Values.{Entry}
+use Rattle.pcap_written.specs.Plain.{plain_packet}
 use Rattle.pcap_blocks.specs.SectionHeader.{Section, magic_order}
 use Rattle.pcap_ng.specs.declared.pcapng.enhanced.EnhancedNumbers.{EnhancedNumbers}
 use Rattle.pcap_ng.specs.declared.pcapng.reader.PcapNgReader.{PcapNgReader}
 use Rattle.pcap_ng.specs.Blocks.{Item}
 use Rattle.pcap_ng.specs.Enhanced.{PacketText, enhanced_frame}
-use Rattle.pcap_ng.specs.Frames.{Framed, frame_format}
+use Rattle.pcap_ng.specs.Frames.{FrameText, Framed, frame_format}
 use Rattle.pcap_ng.specs.Lent.{body_in}
 use Rattle.pcap_file.specs.Placing as placing
 use Rattle.pcap_file.specs.Placing.{Source, TakesNext}
@@ -20,15 +24,18 @@ use Rattle.pcap_ng.specs.Reader.{body_of, interfaces_in_force, section_in_force,
 use Rattle.pcap_ng.specs.State.{or_big, order_at, within}
 use Rattle.pcap_ng.proofs.EnhancedFrames.{packet_item, packet_says}
 use Rattle.pcap_ng.proofs.Lent.{held_block}
+use Rattle.pcap_ng.proofs.Stretched.{own_text}
+use Rattle.pcap_core.proofs.Texts.{front_of}
 use Rattle.pcapfile_run.specs.BlockPackets.{HoldsPacket, InBlock}
+use Rattle.pcapfile_merge.specs.declared.made.Made.{Made}
 use Rattle.pcapfile_merge.specs.declared.packet.Pending.{Pending}
 use Rattle.pcapfile_merge.specs.declared.reader.Interfaces.{Interfaces}
 use Rattle.pcapfile_merge.specs.declared.stored.Said.{Said}
-use Rattle.pcapfile_merge.specs.BufferedBlocks.{source_at, text_in}
-use Rattle.pcapfile_merge.specs.Passing.{TellsPending, TellsStored, TellsTaken, bytes_within, in_said}
+use Rattle.pcapfile_merge.specs.BufferedBlocks.{PlainText, lent_by, source_at, text_in}
+use Rattle.pcapfile_merge.specs.Passing.{TellsStored, TellsTaken, bytes_within, in_said}
 use Rattle.pcapfile_merge.specs.Taking.{packet_in}
-use Rattle.pcapfile_merge.specs.TakingBlocks.{GivesOf, IsGoing}
-use Rattle.pcapfile_merge.proofs.Bodies.{stored_pending}
+use Rattle.pcapfile_merge.specs.TakingBlocks.{GivesOf, IsGoing, IsTimeBy, numbered}
+use Rattle.pcapfile_merge.proofs.Bodies.{nothing_made, plain_given}
 use Rattle.pcapfile_merge.proofs.Lying.{front_taken}
 use Rattle.pcapfile_merge.proofs.Turning.{passed_none}
 
@@ -44,9 +51,43 @@ told_there base lent interfaces said packet result there is tells =
     subst (λ (s : Said). (bytes : List ℕ) → s.len ≡ length bytes → TellsStored base interfaces (in_said s bytes) result) is here
 
 -- the body of a block stands in it
-packet_body : (e : Endianness) (packet : EnhancedNumbers) (s : List ℕ) (text : PacketText e packet s []) → body_in s ≡ text.body
+packet_body : (e : Endianness) (packet : EnhancedNumbers) (s : List ℕ) (text : PlainText e packet s []) → body_in s ≡ text.body
 unfolding frame_format
 packet_body e packet s text = ap (λ (b : Framed). b.body) (held_block e (enhanced_frame e text.frame.0 text.body) s text.frame.1)
+
+-- a block of a packet without options is that of a packet
+pub plain_text_of : (e : Endianness) (packet : EnhancedNumbers) (s rest : List ℕ) → PlainText e packet s rest → PacketText e packet s rest
+plain_text_of e packet s rest text = record { body = text.body; frame = text.frame; tells = (text.enhanced, text.after, text.text, text.tells) }
+
+-- a block in front of other bytes, alone
+pub plain_alone : (e : Endianness) (packet : EnhancedNumbers) (s rest : List ℕ) (n : ℕ) → PlainText e packet s rest → n + length rest ≡ length s → PlainText e packet (take n s) []
+plain_alone e packet s rest n text size =
+    let b = enhanced_frame e text.frame.0 text.body in
+    let own = own_text e b s rest text.frame.1 in
+    let same : take n s ≡ own.0 = front_of s own.0 rest n own.1 size in
+    record {
+      body = text.body;
+      frame = (text.frame.0, subst (λ (t : List ℕ). FrameText e b t []) (sym same) own.2);
+      enhanced = text.enhanced;
+      after = text.after;
+      text = text.text;
+      tells = text.tells;
+      plain = text.plain;
+    }
+
+-- an enhanced packet without options is made of its numbers and bytes
+plain_enhanced : (number units : ℕ) (enhanced : Enhanced) → enhanced.packet.options ≡ [] → length enhanced.packet.bytes ≡ enhanced.packet.captured_len → units ≡ enhanced.packet.timestamp
+    → EnhancedBody (numbered number enhanced) ≡ EnhancedBody (plain_packet number units enhanced.packet.original_len enhanced.packet.bytes)
+plain_enhanced number units enhanced none captured counted =
+    let packet = enhanced.packet in
+    ap (λ (o : List Entry). EnhancedBody (record { interface_id = number; packet = record { timestamp = packet.timestamp; captured_len = packet.captured_len; original_len = packet.original_len; bytes = packet.bytes; options = o } })) none
+    ∙ ap (λ (n : ℕ). EnhancedBody (record { interface_id = number; packet = record { timestamp = packet.timestamp; captured_len = n; original_len = packet.original_len; bytes = packet.bytes; options = [] } })) (sym captured)
+    ∙ ap (λ (t : ℕ). EnhancedBody (plain_packet number t packet.original_len packet.bytes)) (sym counted)
+
+-- the units of a time
+units_of : (by : Interface) (counted : ℕ) (time : Option Timestamp) (units : ℕ) → IsTimeBy by (Some counted) time units → units ≡ counted
+units_of by counted None units is = absurd is
+units_of by counted (Some time) units is = is.1
 
 -- the order of a section's blocks
 pub order_there : (section there : Section) (interfaces : List Interface) (e : Endianness) → section ≡ there → magic_order section.magic ≡ Some e → e ≡ order_at (within there interfaces)
@@ -55,14 +96,15 @@ order_there section there interfaces e same named = ap or_big (sym named) ∙ ap
 
 module _ {R A : Type 0} (remaining : R → Option (List ℕ)) (choice : Interfaces) (base : ℕ) (a : Source) where
   -- what a reader took that holds its block was taken
-  pub held_taken : (shown : Option ℕ) (mid reader : PcapNgReader (BufReader R A)) (result : Result (Option Pending) PcapError) → shown ≡ None → source_at remaining shown mid ≡ a
-      → TellsTaken choice base (placing.source_of (reader_remaining remaining) mid) (placing.source_of (reader_remaining remaining) reader) (body_of reader) result
-      → TellsTaken choice base a (source_at remaining shown reader) (body_in (text_in shown reader)) result
-  held_taken None mid reader result none same tells = subst (λ (s : Source). TellsTaken choice base s (source_at remaining None reader) (body_in (text_in None reader)) result) same tells
-  held_taken (Some n) mid reader result none same tells = absurd (let no : ⊥ = cc in no)
+  pub held_taken : (shown : Option ℕ) (mid reader : PcapNgReader (BufReader R A)) (made : Made) (result : Result (Option Pending) PcapError) → shown ≡ None → source_at remaining shown mid ≡ a
+      → TellsTaken choice base (placing.source_of (reader_remaining remaining) mid) (placing.source_of (reader_remaining remaining) reader) (lent_by made (body_of reader)) result
+      → TellsTaken choice base a (source_at remaining shown reader) (lent_by made (body_in (text_in shown reader))) result
+  held_taken None mid reader made result none same tells =
+      subst (λ (s : Source). TellsTaken choice base s (source_at remaining None reader) (lent_by made (body_in (text_in None reader))) result) same tells
+  held_taken (Some n) mid reader made result none same tells = absurd (let no : ⊥ = cc in no)
 
   module _ (shown : Option ℕ) (reader : PcapNgReader (BufReader R A)) (packet : EnhancedNumbers) (n : ℕ) (none : shown ≡ None) (same : source_at remaining shown reader ≡ a) (ready : a.done ≡ false)
-      (text : PacketText (order_at (state_of reader)) packet (take n (reader_buffer (stream_of reader))) []) where
+      (text : PlainText (order_at (state_of reader)) packet (take n (reader_buffer (stream_of reader))) []) where
     item_there : Item
     item_there = packet_item (order_at (state_of reader)) text.frame.0 text.body (state_of reader)
 
@@ -89,23 +131,29 @@ module _ {R A : Type 0} (remaining : R → Option (List ℕ)) (choice : Interfac
           goes_on = done;
         })
 
-    tells_block : (result : Result Pending PcapError) → ((bytes : List ℕ) → packet.stored ≡ length bytes → TellsStored base (interfaces_in_force reader) (in_said (said_of packet) bytes) result)
-        → TellsPending base (interfaces_in_force reader) item_there.block result
+    gives_there : (pending : Pending) (body : List ℕ) → body ≡ text.body
+        → ((bytes : List ℕ) → packet.stored ≡ length bytes → TellsStored base (interfaces_in_force reader) (in_said (said_of packet) bytes) (Ok pending))
+        → GivesOf base (interfaces_in_force reader) item_there.block (Some (packet_in (bytes_within body pending) pending))
     unfolding item_there
-    tells_block result tells =
-        let enhanced = text.tells.0 in
-        let says = text.tells.3 in
-        let stored : InBlock = record { interface = enhanced.interface_id; units = Some enhanced.packet.timestamp; original_len = enhanced.packet.original_len; bytes = enhanced.packet.bytes } in
-        let is : in_said (said_of packet) enhanced.packet.bytes ≡ stored = rw (says.interface_is, says.units_are, says.original_is) refl in
-        let holds : HoldsPacket (interfaces_in_force reader) item_there.block stored = record { body = EnhancedBody enhanced; rest = text.tells.1; says = (enhanced, refl, text.tells.2); packet_is = refl } in
-        stored_pending base (interfaces_in_force reader) item_there.block stored result refl holds
-        (subst (λ (p : InBlock). TellsStored base (interfaces_in_force reader) p result) is (tells enhanced.packet.bytes says.stored_is))
+    gives_there pending body same tells =
+        let interfaces = interfaces_in_force reader in
+        let enhanced = text.enhanced in
+        let bytes = enhanced.packet.bytes in
+        let says = text.tells in
+        let stored : InBlock = record { interface = enhanced.interface_id; units = Some enhanced.packet.timestamp; original_len = enhanced.packet.original_len; bytes = bytes } in
+        let is : in_said (said_of packet) bytes ≡ stored = rw (says.interface_is, says.units_are, says.original_is) refl in
+        let holds : HoldsPacket interfaces item_there.block stored = record { body = EnhancedBody enhanced; rest = text.after; says = (enhanced, refl, text.text); packet_is = refl } in
+        let said = subst (λ (p : InBlock). TellsStored base interfaces p (Ok pending)) is (tells bytes says.stored_is) in
+        let units = units_of said.by enhanced.packet.timestamp pending.time pending.units said.time in
+        plain_given base interfaces item_there.block stored refl holds pending body same said
+        (plain_enhanced (base + enhanced.interface_id) pending.units enhanced text.plain text.text.packet_is.captured units)
 
     -- a packet that lies whole in the buffer was taken
-    pub shown_taken : (pending : Pending) → ((bytes : List ℕ) → packet.stored ≡ length bytes → TellsStored base (interfaces_in_force reader) (in_said (said_of packet) bytes) (Ok pending))
-        → TellsTaken choice base a (source_at remaining (Some n) reader) (body_in (text_in (Some n) reader)) (Ok (Some pending))
+    pub shown_taken : (pending : Pending) (made : Made) → made.is_lent ≡ false
+        → ((bytes : List ℕ) → packet.stored ≡ length bytes → TellsStored base (interfaces_in_force reader) (in_said (said_of packet) bytes) (Ok pending))
+        → TellsTaken choice base a (source_at remaining (Some n) reader) (lent_by made (body_in (text_in (Some n) reader))) (Ok (Some pending))
     unfolding item_there
-    shown_taken pending tells =
+    shown_taken pending made unmade tells =
+        let there = body_in (text_in (Some n) reader) in
         let body = packet_body (order_at (state_of reader)) packet (take n (reader_buffer (stream_of reader))) text in
-        let gives = subst (λ (s : List ℕ). GivesOf base (interfaces_in_force reader) item_there.block (Some (packet_in (bytes_within s pending) pending))) (sym body) (tells_block (Ok pending) tells) in
-        (a, (passed_none choice a going).passes, item_there, next_there, gives)
+        (a, (passed_none choice a going).passes, item_there, next_there, gives_there pending (lent_by made there) (nothing_made made there unmade ∙ body) tells)

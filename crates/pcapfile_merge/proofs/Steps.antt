@@ -1,5 +1,5 @@
 -- A merge that goes on.
-use Rattle.std.proofs.Common.{◌≡◌, ◌+◌, ◌<◌, ℕ, List, [], ◌∷◌, ◌++◌, map, length, get_or, Option, None, Some, Result, Ok, Err, refl, sym, ap, ◌∙◌, subst, arith, append_assoc}
+use Rattle.std.proofs.Common.{◌≡◌, ◌+◌, ◌<◌, ℕ, List, [], ◌∷◌, ◌++◌, map, length, get_or, Bool, Option, None, Some, Result, Ok, Err, refl, sym, ap, ◌∙◌, subst, arith, append_assoc}
 use Rattle.std.specs.List.{AllByRecursion}
 use Rattle.std.specs.Io.KnownBytes.{Appends}
 use Rattle.std.proofs.KnownBytes.{Appends-nil, Appends-trans}
@@ -9,9 +9,6 @@ use Rattle.std.proofs.lemmas.Grind.{flat_map-append}
 use Rattle.std.proofs.lemmas.List.{map-append, append-nil, length-append, set-get_or}
 use Rattle.pcap_core.specs.declared.errors.PcapError.{PcapError}
 use Rattle.pcap_items.specs.Writing.{AppendsPart, WritesAll}
-use Rattle.pcap_blocks.specs.ParsedBlock.{EnhancedBody}
-use Rattle.pcap_written.specs.Plain.{plain_packet}
-use Rattle.pcap_file.specs.Converted.{little_text}
 use Rattle.pcapfile_merge.specs.declared.packet.Pending.{Pending}
 use Rattle.pcapfile_merge.specs.declared.source.Source.{Source}
 use Rattle.pcapfile_merge.specs.Choosing.{Chooses, IsFirst}
@@ -20,7 +17,7 @@ use Rattle.pcapfile_merge.specs.Merging.{EndsMerge, Input, Merging, MergesAt, Me
 use Rattle.pcapfile_merge.specs.Packets.{Packet, IsEarlier}
 use Rattle.pcapfile_merge.specs.Holding.{Holds, bytes_in, held_by}
 use Rattle.pcapfile_merge.specs.Sources.{Advances, Gave, GaveBy, pending_of}
-use Rattle.pcapfile_merge.specs.Taking.{packet_in}
+use Rattle.pcapfile_merge.specs.Taking.{packet_in, text_by}
 use Rattle.pcapfile_merge.proofs.Given.{gave_more}
 use Rattle.pcapfile_merge.proofs.Merges.{GoesOn, all_of_map, goes_next, goes_none, goes_so_far, map_join, map_split}
 
@@ -187,10 +184,11 @@ module _ {R : Type 0} (remaining : R → Option (List ℕ)) where
       (ends_merge starts nows before mid now n most (Some e) so_far (fewer, merged.4.1, place, chosen.0, first, subst (λ (t : List ℕ). AppendsPart mid now t) text merged.4.2))
 
 -- the packet that a source holds went out
-pub held_put : {R : Type 0} (source : Source R) (pending : Pending) (bytes : List ℕ) (a b : Option (List ℕ)) (result : Result (Unit {0}) PcapError) → source.taken.next ≡ Some pending → bytes ≡ bytes_in source.reader pending
-    → WritesAll a b (little_text (EnhancedBody (plain_packet pending.number pending.units pending.original_len bytes))) result → WritesAll a b (texts (pending_of source)) result
-held_put source pending bytes a b result is bytes_are out =
-    let there = subst (λ (l : List ℕ). WritesAll a b (little_text (EnhancedBody (plain_packet pending.number pending.units pending.original_len l))) result) bytes_are out in
+pub held_put : {R : Type 0} (source : Source R) (pending : Pending) (bytes : List ℕ) (made : Bool) (a b : Option (List ℕ)) (result : Result (Unit {0}) PcapError) → source.taken.next ≡ Some pending → bytes ≡ bytes_in source.reader pending
+    → pending.is_made ≡ made → WritesAll a b (text_by made pending bytes) result → WritesAll a b (texts (pending_of source)) result
+held_put source pending bytes made a b result is bytes_are is_made out =
+    let first = subst (λ (m : Bool). WritesAll a b (text_by m pending bytes) result) (sym is_made) out in
+    let there = subst (λ (l : List ℕ). WritesAll a b (text_by pending.is_made pending l) result) bytes_are first in
     let p : Packet = packet_in (bytes_in source.reader pending) pending in
     let text : texts (pending_of source) ≡ text_of p = ap (λ (next : Option Pending). texts (held_by source.reader next)) is ∙ append-nil (text_of p) in
     subst (λ (t : List ℕ). WritesAll a b t result) (sym text) there

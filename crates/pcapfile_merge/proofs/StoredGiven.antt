@@ -25,7 +25,7 @@ use Rattle.pcapfile_merge.specs.declared.reader.Interfaces.TheVariants.{Closed, 
 use Rattle.pcapfile_merge.specs.Packets.{Packet}
 use Rattle.pcapfile_merge.specs.Sources.{BlocksGave, IsKeptFirst, StandsBehind}
 use Rattle.pcapfile_merge.specs.Taking.{packet_in}
-use Rattle.pcapfile_merge.specs.TakingBlocks.{EndsAt, EndsWell, GivesIn, IsGoing, MayPass, Passes, TakesStored, body_refused, interface_behind, packet_unfit}
+use Rattle.pcapfile_merge.specs.TakingBlocks.{EndsAt, EndsWell, GivesIn, IsGoing, MayPass, Passes, TakesStored, body_refused, interface_behind, packet_unfit, packet_unmade}
 
 zip_joined : {A B : Type 0} (R : A → B → Type 0) (xs vs : List A) (ys ws : List B) → AllZip R xs ys → AllZip R vs ws → AllZip R (xs ++ vs) (ys ++ ws)
 zip_joined R [] vs [] ws left right = right
@@ -128,6 +128,7 @@ module _ (base : ℕ) (a : Source) where
           | interface_behind behind kept message ↦ interface_behind (become behind) kept message
           | body_refused is refused ↦ body_refused is refused
           | packet_unfit packet holds unfit ↦ packet_unfit packet holds unfit
+          | packet_unmade packet holds enhanced is_one unmade ↦ packet_unmade packet holds enhanced is_one unmade
         ],
       )
 

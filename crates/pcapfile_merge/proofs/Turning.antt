@@ -12,11 +12,12 @@ use Rattle.pcap_ng.specs.Frames.{Framed}
 use Rattle.pcap_file.specs.Placing.{RefusesNext, Source, TakesNext}
 use Rattle.pcap_ng.specs.State.{State}
 use Rattle.pcap_ng.proofs.BlockFormat.{blocks_lawful, goes_after}
+use Rattle.pcapfile_merge.specs.declared.made.Made.{Made}
 use Rattle.pcapfile_merge.specs.declared.packet.Pending.{Pending}
 use Rattle.pcapfile_merge.specs.declared.reader.Interfaces.{Interfaces}
 use Rattle.pcapfile_merge.specs.declared.reader.Interfaces.TheVariants.{Closed}
 use Rattle.pcapfile_merge.specs.Passing.{BarsType, TellsPending}
-use Rattle.pcapfile_merge.specs.TakingBlocks.{EndsAt, EndsBlock, IsGoing, MayPass, Passes, body_refused, interface_behind, packet_unfit}
+use Rattle.pcapfile_merge.specs.TakingBlocks.{EndsAt, EndsBlock, IsGoing, MayPass, Passes, body_refused, interface_behind, packet_unfit, packet_unmade}
 use Rattle.pcapfile_merge.proofs.Choices.{all_push}
 
 -- so many blocks were passed
@@ -58,9 +59,11 @@ ends_wherever Behind base interfaces block e ends =
       | interface_behind behind kept message ↦ absurd behind
       | body_refused is refused ↦ body_refused is refused
       | packet_unfit packet holds unfit ↦ packet_unfit packet holds unfit
+      | packet_unmade packet holds enhanced is_one unmade ↦ packet_unmade packet holds enhanced is_one unmade
     ]
 
 -- what is told of a block is told of the same one
-pub tells_there : (base : ℕ) (lent interfaces : List Interface) (framed block : Framed) (result : Result Pending PcapError) → lent ≡ interfaces → framed ≡ block → TellsPending base lent framed result → TellsPending base interfaces block result
-tells_there base lent interfaces framed block result there same tells =
-    subst (λ (b : Framed). TellsPending base interfaces b result) same (subst (λ (l : List Interface). TellsPending base l framed result) there tells)
+pub tells_there : (base : ℕ) (lent interfaces : List Interface) (framed block : Framed) (made : Made) (result : Result Pending PcapError) → lent ≡ interfaces → framed ≡ block → TellsPending base lent framed made result
+    → TellsPending base interfaces block made result
+tells_there base lent interfaces framed block made result there same tells =
+    subst (λ (b : Framed). TellsPending base interfaces b made result) same (subst (λ (l : List Interface). TellsPending base l framed made result) there tells)

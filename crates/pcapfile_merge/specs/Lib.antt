@@ -4,6 +4,8 @@ pub mod Choices
 pub mod Choosing
 pub mod Fronts
 pub mod Holding
+pub mod LeavingOut
+pub mod Making
 pub mod Merges
 pub mod Merging
 pub mod Packets

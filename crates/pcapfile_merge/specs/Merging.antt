@@ -6,9 +6,6 @@ use Rattle.std.specs.Io.KnownBytes.{Appends}
 use Rattle.pcap_core.specs.declared.errors.PcapError.{PcapError}
 use Rattle.pcap_core.specs.Errors.{IsIo}
 use Rattle.pcap_items.specs.Writing.{AppendsPart}
-use Rattle.pcap_blocks.specs.ParsedBlock.{Body, EnhancedBody}
-use Rattle.pcap_written.specs.Plain.{plain_packet}
-use Rattle.pcap_file.specs.Converted.{little_text}
 use Rattle.pcapfile_merge.specs.declared.merging.Merged.{Merged}
 use Rattle.pcapfile_merge.specs.declared.reader.Reader.{Reader}
 use Rattle.pcapfile_merge.specs.declared.source.Source.{Source}
@@ -17,13 +14,9 @@ use Rattle.pcapfile_merge.specs.Merges.{Merges}
 use Rattle.pcapfile_merge.specs.Packets.{Packet, IsEarlier}
 use Rattle.pcapfile_merge.specs.Sources.{Advances, Gave, pending_of}
 
--- the block of a packet: enhanced, with its number, its units, its length on the wire and its bytes
-abbrev pub block_of : Packet → Body
-block_of p = EnhancedBody (plain_packet p.number p.units p.original_len p.bytes)
-
--- the text of a packet, and those of packets, one behind the other
+-- the text of a packet's block, and those of packets, one behind the other
 abbrev pub text_of : Packet → List ℕ
-text_of p = little_text (block_of p)
+text_of p = p.text
 
 abbrev pub texts : List Packet → List ℕ
 texts = flat_map text_of

@@ -3,16 +3,19 @@ use Rattle.std.specs.Prelude.{⊤, ◌≡◌, ◌⊎◌, ◌<◌, ◌<ℤ◌, �
 use Rattle.pcap_times.specs.declared.clock.Timestamp.{Timestamp}
 use Rattle.pcap_classic.specs.PacketText.{Captured}
 use Rattle.pcap_file.specs.Conversion.{exact_time}
-use Rattle.pcap_file.specs.Converted.{time_of}
+use Rattle.pcap_blocks.specs.ParsedBlock.{EnhancedBody}
+use Rattle.pcap_written.specs.Plain.{plain_packet}
+use Rattle.pcap_file.specs.Converted.{little_text, time_of}
 
--- A packet that is merged: the number of its interface among those of all inputs, its time where it has one, its time in the units
--- of its interface's clock, its length on the wire and its bytes.
+-- A packet that is merged: its time where it has one, and the text of the block that goes out.
 pub record Packet : Type 0 where
-  pub number : ℕ
   pub time : Option Timestamp
-  pub units : ℕ
-  pub original_len : ℕ
-  pub bytes : List ℕ
+  pub text : List ℕ
+
+-- the text of a packet without options: the number of its interface among those of all inputs, its time in the units of its interface's
+-- clock, its length on the wire and its bytes ('Enhanced Packet Block')
+abbrev pub plain_text : ℕ → ℕ → ℕ → List ℕ → List ℕ
+plain_text number units original_len bytes = little_text (EnhancedBody (plain_packet number units original_len bytes))
 
 -- one time is before another
 abbrev pub IsTimeBefore : Timestamp → Timestamp → Type 0
@@ -36,9 +39,6 @@ IsEarlier p q = IsBefore p.time q.time
 -- the packet of a classic capture whose interface has this number: its units are nanoseconds
 abbrev pub packet_of : ℕ → Captured → Packet
 packet_of number captured = record {
-  number = number;
   time = Some (exact_time captured);
-  units = time_of captured;
-  original_len = captured.header.orig_len;
-  bytes = captured.bytes;
+  text = plain_text number (time_of captured) captured.header.orig_len captured.bytes;
 }

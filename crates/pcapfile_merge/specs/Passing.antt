@@ -1,8 +1,10 @@
 -- What the steps tell by which the next packet of blocks is taken.
-use Rattle.std.specs.Prelude.{◌≡◌, ◌⊎◌, ◌≤◌, ℕ, List, length, take, drop, true, Option, None, Some, Result, Ok, Err, codes}
+use Rattle.std.specs.Prelude.{⊤, ◌≡◌, ◌⊎◌, ◌+◌, ℕ, List, length, take, drop, true, false, Option, None, Some, Result, Ok, Err, codes}
+use Rattle.std.specs.List.{slice_get}
 use Rattle.pcap_core.specs.declared.errors.PcapError.{PcapError}
 use Rattle.pcap_blocks.specs.declared.block_type.BlockType.{BlockType}
 use Rattle.pcap_blocks.specs.InterfaceDescription.{Interface}
+use Rattle.pcap_blocks.specs.ParsedBlock.{Body}
 use Rattle.pcap_ng.specs.declared.pcapng.block_header.BlockHeader.{BlockHeader}
 use Rattle.pcap_ng.specs.Blocks.{Item}
 use Rattle.pcap_ng.specs.Frames.{Framed}
@@ -10,12 +12,15 @@ use Rattle.pcap_file.specs.Placed.{is_packet}
 use Rattle.pcap_file.specs.Placing.{HasMessage, RefusesNext, Source, TakesNext}
 use Rattle.pcap_ng.specs.State.{is_kept}
 use Rattle.pcapfile_run.specs.BlockPackets.{InBlock}
+use Rattle.pcapfile_run.specs.BlockPackets as in_blocks
+use Rattle.pcapfile_merge.specs.declared.made.Made.{Made}
 use Rattle.pcapfile_merge.specs.declared.packet.Pending.{Pending}
 use Rattle.pcapfile_merge.specs.declared.reader.Interfaces.{Interfaces}
 use Rattle.pcapfile_merge.specs.declared.reader.Interfaces.TheVariants.{Closed}
 use Rattle.pcapfile_merge.specs.declared.stored.Said.{Said}
 use Rattle.pcapfile_merge.specs.Taking.{packet_in}
-use Rattle.pcapfile_merge.specs.TakingBlocks.{EndsBlock, EndsWell, GivesOf, IsMerged, IsUnfit, Passes, TakesStored}
+use Rattle.pcapfile_merge.specs.BufferedBlocks.{lent_by}
+use Rattle.pcapfile_merge.specs.TakingBlocks.{EndsBlock, EndsWell, GivesOf, IsTimeBy, IsUnfit, Passes, TakesStored}
 
 -- a block of this type isn't passed behind packets
 abbrev pub BarsType : Interfaces → BlockType → PcapError → Type 0
@@ -31,10 +36,10 @@ PassesTo choice a b lent (Err e) = (mid : Source) × Passes choice a mid × (Ref
 abbrev pub bytes_within : List ℕ → Pending → List ℕ
 bytes_within body pending = take pending.len (drop pending.start body)
 
--- what is said of the packet that a block holds, or why it can't be merged
-abbrev pub TellsPending : ℕ → List Interface → Framed → Result Pending PcapError → Type 0
-TellsPending base interfaces block (Ok pending) = GivesOf base interfaces block (Some (packet_in (bytes_within block.body pending) pending))
-TellsPending base interfaces block (Err e) = EndsBlock ⊥ base interfaces block e
+-- what is said of the packet that a block holds, whose own block may be made, or why it can't be merged
+abbrev pub TellsPending : ℕ → List Interface → Framed → Made → Result Pending PcapError → Type 0
+TellsPending base interfaces block made (Ok pending) = GivesOf base interfaces block (Some (packet_in (bytes_within (lent_by made block.body) pending) pending))
+TellsPending base interfaces block made (Err e) = EndsBlock ⊥ base interfaces block e
 
 -- how many bytes stand before those of a packet in the body of its block, which tells its time or doesn't
 abbrev pub bytes_before : Option ℕ → ℕ
@@ -48,11 +53,31 @@ start_of packet = bytes_before packet.units
 abbrev pub in_said : Said → List ℕ → InBlock
 in_said said bytes = record { interface = said.interface; units = said.units; original_len = said.original_len; bytes = bytes }
 
+-- This is said of a packet in a block, where these are the interfaces of its section, and its capture's have numbers from this one on.
+pub record IsSaid (base : ℕ) (interfaces : List Interface) (packet : InBlock) (pending : Pending) : Type 0 where
+  pub by : Interface
+  pub described : slice_get interfaces packet.interface ≡ Some by
+  pub number : pending.number ≡ base + packet.interface
+  pub time : IsTimeBy by packet.units pending.time pending.units
+  pub original_len : pending.original_len ≡ packet.original_len
+  pub len : pending.len ≡ length packet.bytes
+  pub start : pending.start ≡ start_of packet
+  pub unmade : pending.is_made ≡ false
+
 -- what is said of a packet in a block, or why it can't be merged
 abbrev pub TellsStored : ℕ → List Interface → InBlock → Result Pending PcapError → Type 0
-TellsStored base interfaces packet (Ok pending) =
-    IsMerged base interfaces packet (packet_in packet.bytes pending) × (pending.len ≡ length packet.bytes) × (pending.start ≡ start_of packet) × (pending.len ≤ 4294967260)
+TellsStored base interfaces packet (Ok pending) = IsSaid base interfaces packet pending
 TellsStored base interfaces packet (Err e) = IsUnfit base interfaces packet e
+
+-- the same of a packet where there is one; else nothing is said
+abbrev pub TellsIfPacket : ℕ → List Interface → Option InBlock → Result Pending PcapError → Type 0
+TellsIfPacket base interfaces (Some packet) result = TellsStored base interfaces packet result
+TellsIfPacket base interfaces None (Ok pending) = ⊥
+TellsIfPacket base interfaces None (Err e) = ⊤
+
+-- the same of a body
+abbrev pub TellsBody : ℕ → List Interface → Body → Result Pending PcapError → Type 0
+TellsBody base interfaces body = TellsIfPacket base interfaces (in_blocks.packet_in interfaces body)
 
 -- what was taken of a reader that lends this body then, as the call answers
 abbrev pub TellsTaken : Interfaces → ℕ → Source → Source → List ℕ → Result (Option Pending) PcapError → Type 0

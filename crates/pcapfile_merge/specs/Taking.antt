@@ -1,5 +1,5 @@
 -- What is taken of a reader.
-use Rattle.std.specs.Prelude.{◌≡◌, ◌≤◌, ℕ, List, length, Bool, false, Option, None, Some}
+use Rattle.std.specs.Prelude.{◌≡◌, ◌≤◌, ℕ, List, length, Bool, true, false, Option, None, Some}
 use Rattle.std.specs.Io.KnownBytes.{Keeps, IsAtEnd}
 use Rattle.pcap_core.specs.declared.errors.PcapError.{PcapError}
 use Rattle.pcap_core.specs.Answer.{Verdict}
@@ -12,17 +12,16 @@ use Rattle.pcapfile_merge.specs.declared.buffered.BufferedPackets.{BufferedPacke
 use Rattle.pcapfile_merge.specs.declared.packet.Pending.{Pending}
 use Rattle.pcapfile_merge.specs.declared.reader.Taken.{Taken}
 use Rattle.pcapfile_merge.specs.Buffered.{data_of, has_failed, header_of, is_done, left_of}
-use Rattle.pcapfile_merge.specs.Packets.{Packet, packet_of}
+use Rattle.pcapfile_merge.specs.Packets.{Packet, packet_of, plain_text}
 
--- the packet of which this is said, with its bytes
+-- the text of the packet of which this is said: these bytes where its block is made, else that of the packet of these bytes
+abbrev pub text_by : Bool → Pending → List ℕ → List ℕ
+text_by true pending bytes = bytes
+text_by false pending bytes = plain_text pending.number pending.units pending.original_len bytes
+
+-- the packet of which this is said, with its bytes or the text of its block
 abbrev pub packet_in : List ℕ → Pending → Packet
-packet_in bytes pending = record {
-  number = pending.number;
-  time = pending.time;
-  units = pending.units;
-  original_len = pending.original_len;
-  bytes = bytes;
-}
+packet_in bytes pending = record { time = pending.time; text = text_by pending.is_made pending bytes }
 
 -- this is said of the packet of a header, whose interface has this number
 abbrev pub IsOf : ℕ → PacketHeader → Pending → Type 0

@@ -1,13 +1,21 @@
 -- What is taken of a reader of blocks.
 use Rattle.std.specs.Prelude.{◌≡◌, ◌⊎◌, ◌<◌, ◌≤◌, ◌+◌, ◌-◌, ◌^◌, ℕ, List, length, true, false, Option, None, Some, codes}
 use Rattle.std.specs.List.{AllByRecursion, slice_get}
+use Rattle.pcap_core.specs.declared.common.Endianness.TheVariants.{Little}
 use Rattle.pcap_core.specs.declared.errors.PcapError.{PcapError}
 use Rattle.pcap_core.specs.Answer.{lacks, faulty, Refuses}
 use Rattle.pcap_items.specs.Format.{state_after}
 use Rattle.pcap_items.specs.Takes.{TakesTexts}
 use Rattle.pcap_times.specs.declared.clock.Timestamp.{Timestamp}
 use Rattle.pcap_blocks.specs.declared.block_type.BlockType.{BlockType}
+use Rattle.pcap_blocks.specs.EnhancedPacket.{Enhanced}
 use Rattle.pcap_blocks.specs.InterfaceDescription.{Interface}
+use Rattle.pcap_blocks.specs.ParsedBlock.{Body, EnhancedBody}
+use Rattle.pcap_written.specs.declared.unwritable.Unput.{Unput}
+use Rattle.pcap_written.specs.Plain.{plain_packet}
+use Rattle.pcap_written.specs.Puts.{IsShownAs, RefusesPut}
+use Rattle.pcap_written.specs.Writing.{FlawIn}
+use Rattle.pcap_file.specs.Converted.{little_text}
 use Rattle.pcap_blocks.specs.InterfaceTimes.{IsTimeAt}
 use Rattle.pcap_file.specs.declared.run.unplaced.Unplaced.TheVariants.{InterfaceMissing}
 use Rattle.pcap_ng.specs.Blocks.{Item, block_format}
@@ -30,19 +38,34 @@ IsTimeBy by (Some counted) (Some time) units = IsTimeAt by counted time × (unit
 IsTimeBy by (Some counted) None units = ⊥
 IsTimeBy by None time units = (time ≡ None) × (units ≡ 0)
 
--- What a merge makes of a packet in a block, where these are the interfaces of its section, and its capture's have numbers from
--- this one on: its interface is kept apart, and its time, its length on the wire and its bytes stay.
-pub record IsMerged (base : ℕ) (interfaces : List Interface) (packet : InBlock) (p : Packet) : Type 0 where
+-- an enhanced packet, of the interface of another number
+abbrev pub numbered : ℕ → Enhanced → Enhanced
+numbered number enhanced = record { interface_id = number; packet = enhanced.packet }
+
+-- the enhanced packet that a body is, if it is one
+abbrev pub enhanced_in : Body → Option Enhanced
+enhanced_in (EnhancedBody enhanced) = Some enhanced
+enhanced_in _ = None
+
+-- the block that goes out of a packet, of the interface of this number: an enhanced one stays what it is, with its time, its lengths, its
+-- bytes and all of its options; of any other the units, the length on the wire and the bytes stay
+abbrev pub block_under : ℕ → ℕ → InBlock → Option Enhanced → Body
+block_under number units packet (Some enhanced) = EnhancedBody (numbered number enhanced)
+block_under number units packet None = EnhancedBody (plain_packet number units packet.original_len packet.bytes)
+
+-- What a merge makes of a packet in a block of this body, where these are the interfaces of its section, and its capture's have numbers
+-- from this one on: its interface is kept apart, its time is that of its interface's clock, and its block goes out under that number.
+pub record IsMerged (base : ℕ) (interfaces : List Interface) (body : Body) (packet : InBlock) (p : Packet) : Type 0 where
   pub by : Interface
   pub described : slice_get interfaces packet.interface ≡ Some by
-  pub number : p.number ≡ base + packet.interface
-  pub time : IsTimeBy by packet.units p.time p.units
-  pub original_len : p.original_len ≡ packet.original_len
-  pub bytes : p.bytes ≡ packet.bytes
+  pub units : ℕ
+  pub time : IsTimeBy by packet.units p.time units
+  pub text : p.text ≡ little_text (block_under (base + packet.interface) units packet (enhanced_in body))
 
 -- a block gives this packet, or none where it holds none
 abbrev pub GivesOf : ℕ → List Interface → Framed → Option Packet → Type 0
-GivesOf base interfaces block (Some p) = (is_packet block.type_ ≡ true) × (packet : InBlock) × HoldsPacket interfaces block packet × IsMerged base interfaces packet p
+GivesOf base interfaces block (Some p) =
+    (is_packet block.type_ ≡ true) × (packet : InBlock) × (holds : HoldsPacket interfaces block packet) × IsMerged base interfaces holds.body packet p
 GivesOf base interfaces block None = is_packet block.type_ ≡ false
 
 -- the same of a block of a capture
@@ -58,6 +81,11 @@ pub data IsUnfit (base : ℕ) (interfaces : List Interface) (packet : InBlock) (
   -- it has no room in a block
   too_long : 4294967260 < length packet.bytes → HasMessage (codes "Block: a packet that is too long") e → IsUnfit base interfaces packet e
 
+-- why an enhanced packet can't go out under this number: its options have no text, memory ran out, or its block is too long
+pub data IsUnmade (number : ℕ) (enhanced : Enhanced) (e : PcapError) : Type 0 where
+  unput : (why : Unput) → RefusesPut (FlawIn Little (EnhancedBody (numbered number enhanced))) why → IsShownAs why e → IsUnmade number enhanced e
+  block_long : 4294967260 < length (little_text (EnhancedBody (numbered number enhanced))) → HasMessage (codes "Block: a packet that is too long") e → IsUnmade number enhanced e
+
 -- why a block that was taken ends a capture that is merged, where packets were given before it only if so
 pub data EndsBlock (Behind : Type 0) (base : ℕ) (interfaces : List Interface) (block : Framed) (e : PcapError) : Type 0 where
   -- it describes an interface or begins a section behind packets
@@ -66,6 +94,9 @@ pub data EndsBlock (Behind : Type 0) (base : ℕ) (interfaces : List Interface) 
   body_refused : is_packet block.type_ ≡ true → Refuses (GrowsInBody block) (λ n. SaysOfBody block (lacks n)) (λ fault. SaysOfBody block (faulty fault)) e → EndsBlock Behind base interfaces block e
   -- it holds a packet that can't be merged
   packet_unfit : (packet : InBlock) → HoldsPacket interfaces block packet → IsUnfit base interfaces packet e → EndsBlock Behind base interfaces block e
+  -- it is an enhanced packet that can't go out under its number
+  packet_unmade : (packet : InBlock) (holds : HoldsPacket interfaces block packet) (enhanced : Enhanced) → enhanced_in holds.body ≡ Some enhanced
+      → IsUnmade (base + packet.interface) enhanced e → EndsBlock Behind base interfaces block e
 
 -- the next block ends a capture that is merged: it is refused, or it was taken
 abbrev pub EndsAt : Type 0 → ℕ → Source → Source → PcapError → Type 0

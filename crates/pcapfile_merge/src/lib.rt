@@ -5,6 +5,8 @@ mod buffered;
 mod buffered_blocks;
 mod choice;
 pub mod laws;
+mod left_out;
+mod made;
 mod merging;
 mod packet;
 mod parts;
@@ -14,6 +16,7 @@ mod stored;
 
 pub use buffered::BufferedPackets;
 pub use buffered_blocks::BufferedBlocks;
+pub use left_out::LeftOut;
 pub use merging::{Merged, merge_packets};
 pub use reader::Reader;
 pub use source::Source;

@@ -11,6 +11,7 @@ use crate::choice::earliest;
 use crate::source::Source;
 use byteorder::LittleEndian;
 use pcap_file::{PcapError, ResultParsing};
+use pcap_items::stream::put;
 use pcap_written::put_packet;
 use std::io::{Read, Write};
 
@@ -95,13 +96,17 @@ fn put_held<R: Read + Drop, W: Write>(source: &Source<R>, writer: &mut W) -> Res
     let Some(pending) = source.taken.next else {
         return Ok(());
     };
+    let data = source.reader.data(pending);
     let mut has_failed = false;
+    if pending.is_made {
+        return put(writer, &mut has_failed, data);
+    }
     put_packet::<W, LittleEndian>(
         writer,
         &mut has_failed,
         pending.number,
         pending.units,
-        source.reader.data(pending),
+        data,
         pending.original_len,
     )
 }

@@ -30,7 +30,7 @@ pub enum Reader<R> {
 impl<R: Read + Drop> Reader<R> {
     ghost use Rattle.pcapfile_merge.specs.Holding.{bytes_in};
 
-    // The bytes of the packet that it holds.
+    // The bytes of the packet that it holds, or the text of its block where that is made.
     #[inline(always)]
     pub(crate) fn data(&self, pending: Pending) -> &[u8]
         ensures { result.now ≡ bytes_in self.now pending }
@@ -55,7 +55,7 @@ impl<R: Read + Drop> Reader<R> {
     // Takes the next packet where it lies whole in the buffer, whose interface has this number, or is of those that have numbers from it on.
     // Else the packet that was lent is let go.
     #[inline(always)]
-    pub(crate) fn next_there(&mut self, alloc: Global, base: u32) -> Option<Pending>
+    pub(crate) fn next_there(&mut self, base: u32) -> Option<Pending>
         requires { IsReady self.old }
         ensures there { TakesThere R.remaining base self.old self.new result }
         ensures few { HoldsFew self.new result }
@@ -63,7 +63,7 @@ impl<R: Read + Drop> Reader<R> {
     {
         match self {
             Reader::Packets(packets) => take_packet_there(packets, base),
-            Reader::Blocks(blocks) => take_there(alloc, blocks, base),
+            Reader::Blocks(blocks) => take_there(blocks, base),
         }
     }
 
@@ -147,5 +147,6 @@ fn pending_of_header(header: PacketHeader, number: u32) -> Pending
         original_len: orig_len,
         start: 0,
         len: incl_len as usize,
+        is_made: false,
     }
 }

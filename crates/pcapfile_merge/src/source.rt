@@ -48,7 +48,7 @@ impl<R: Read + Drop> Source<R> {
         ensures { Advances R.remaining self.old self.new }
     {
         self.taken.next = None;
-        match self.reader.next_there(self.alloc, self.base) {
+        match self.reader.next_there(self.base) {
             Some(pending) => self.taken.next = Some(pending),
             None => self.advance_any(),
         }

@@ -1,31 +1,36 @@
 //! The packets of a capture of blocks that is merged.
 
 ghost use Rattle.std.specs.Prelude.{◌≡◌, ◌≤◌, ℕ, List, length, false, true, map, Some, IfOk, IfSome, MatchResult};
+ghost use Rattle.std.specs.Option.{option_map};
+ghost use Rattle.pcap_blocks.specs.EnhancedPacket.{enhanced_of};
 ghost use Rattle.pcap_blocks.specs.InterfaceDescription.{interface_of};
 ghost use Rattle.pcap_ng.specs.Frames.{framed_of};
+ghost use Rattle.pcap_blocks.specs.ParsedBlock as bodies;
 ghost use Rattle.pcap_file.specs.Placed.{is_packet};
 ghost use Rattle.pcap_file.specs.Placing.{source_of};
 ghost use Rattle.pcap_ng.specs.Reader.{body_of, is_done, lent_item};
 ghost use Rattle.pcap_ng.specs.State.{is_kept};
 ghost use Rattle.pcapfile_run.specs.BlockPackets.{in_block};
-ghost use Rattle.pcapfile_merge.specs.Passing.{BarsType, PassesTo, TellsPending, TellsStored, TellsTaken, bytes_before, in_said};
+ghost use Rattle.pcapfile_merge.specs.Passing.{BarsType, PassesTo, TellsBody, TellsPending, TellsStored, TellsTaken, bytes_before, in_said};
 ghost use Rattle.pcapfile_merge.specs.BufferedBlocks as buffered;
 ghost use Rattle.pcapfile_merge.specs.Holding.{BlockThere, HoldsFewBlocks, IsReadyBlocks, IsWhole, TakesBlocks};
-ghost use Rattle.pcapfile_merge.specs.TakingBlocks.{IsTimeBy, MayPass};
+ghost use Rattle.pcapfile_merge.specs.TakingBlocks.{IsTimeBy, MayPass, enhanced_in};
 
 use crate::buffered_blocks::BufferedBlocks;
-use crate::packet::Pending;
+use crate::left_out::LeftOut;
+use crate::made::Made;
+use crate::packet::{MOST, Pending};
 use crate::reader::{Interfaces, Taken};
 use pcap_file::pcapng::enhanced::EnhancedNumbers;
-use pcap_file::pcapng::{Block, BlockHeader, BlockType, InterfaceDescriptionBlock, Timestamp};
+use pcap_file::pcapng::{
+    Block, BlockHeader, BlockType, EnhancedPacketBlock, InterfaceDescriptionBlock, ParsedBlock,
+    Timestamp,
+};
 use pcap_file::run::Unplaced;
 use pcap_file::{PcapError, PcapNgReader, ResultParsing};
 use pcapfile_run::{BlockPacket, holds_packet, interface_at, packet_in_body};
 use std::alloc::Global;
 use std::io::Read;
-
-/// The most bytes that the packet of a block may have.
-const MOST: usize = 4_294_967_260;
 
 /// The bytes before those of the packet in the body of a block that tells its time.
 const TIMED: usize = 20;
@@ -68,9 +73,16 @@ fn take_shown<R: Read + Drop>(
         (buffered.body_of blocks.new) result }
     ensures few { IfOk result (λ next. IfSome next (λ pending. pending.len ≤ 4294967260)) }
 {
-    match take_there(alloc, blocks, base) {
+    match take_there(blocks, base) {
         Some(pending) => Ok(Some(pending)),
-        None => take_block(alloc, &mut blocks.reader, base, interfaces),
+        None => take_block(
+            alloc,
+            &mut blocks.reader,
+            &mut blocks.made,
+            &mut blocks.left_out,
+            base,
+            interfaces,
+        ),
     }
 }
 
@@ -78,17 +90,17 @@ fn take_shown<R: Read + Drop>(
 // merged. Else nothing is lent.
 #[inline(always)]
 pub(crate) fn take_there<R: Read + Drop>(
-    alloc: Global,
     blocks: &mut BufferedBlocks<R>,
     base: u32,
 ) -> Option<Pending>
     requires { buffered.is_done blocks.old ≡ false }
     ensures few { IfSome result (λ pending. pending.len ≤ 4294967260) }
     ensures ready { buffered.is_done blocks.new ≡ false }
+    ensures unmade { blocks.new.made.is_lent ≡ false }
     ensures there { BlockThere R.remaining base blocks.old blocks.new result }
 {
     blocks.let_go();
-    let (packet, used) = blocks.packet_there(alloc)?;
+    let (packet, used) = blocks.packet_there()?;
     let Ok(pending) = pending_of(blocks.interfaces(), base, said_there(packet)) else {
         return None;
     };
@@ -102,24 +114,29 @@ pub(crate) fn take_there<R: Read + Drop>(
 fn take_block<R: Read + Drop>(
     alloc: Global,
     reader: &mut PcapNgReader<R>,
+    made: &mut Made,
+    left_out: &mut LeftOut,
     base: u32,
     interfaces: Interfaces,
 ) -> ResultParsing<Option<Pending>>
-    requires { is_done reader.old ≡ false }
-    ensures takes { TellsTaken interfaces base (source_of R.remaining reader.old) (source_of R.remaining reader.new) (body_of reader.new) result }
+    requires ready { is_done reader.old ≡ false }
+    requires unmade { made.old.is_lent ≡ false }
+    ensures takes { TellsTaken interfaces base (source_of R.remaining reader.old) (source_of R.remaining reader.new)
+        (buffered.lent_by made.new (body_of reader.new)) result }
     ensures few { IfOk result (λ next. IfSome next (λ pending. pending.len ≤ 4294967260)) }
 {
-    let Some(header) = pass_to_packet(reader, interfaces)? else {
+    let Some(header) = pass_to_packet(reader, interfaces, left_out)? else {
         return Ok(None);
     };
     let block = reader.block(header);
-    Ok(Some(pending_in_block(alloc, reader.interfaces(), &block, base)?))
+    Ok(Some(pending_in_block(alloc, reader.interfaces(), &block, base, made)?))
 }
 
-// Passes blocks up to one that holds a packet.
+// Passes blocks up to one that holds a packet, and counts those that are left out.
 fn pass_to_packet<R: Read + Drop>(
     reader: &mut PcapNgReader<R>,
     interfaces: Interfaces,
+    left_out: &mut LeftOut,
 ) -> ResultParsing<Option<BlockHeader>>
     requires { is_done reader.old ≡ false }
     ensures { PassesTo interfaces (source_of R.remaining reader.old) (source_of R.remaining reader.new) (lent_item reader.new) result }
@@ -134,6 +151,7 @@ fn pass_to_packet<R: Read + Drop>(
             return Ok(Some(header));
         }
         may_pass(header.type_, interfaces)?;
+        left_out.count(header.type_);
     }
     Ok(None)
 }
@@ -166,21 +184,49 @@ fn stays_in_force(type_: BlockType) -> bool
     )
 }
 
-// What is said of the packet that a block holds.
+// What is said of the packet that a block holds. That of an enhanced one is made as it goes out.
 fn pending_in_block(
     alloc: Global,
     interfaces: &[InterfaceDescriptionBlock<'static>],
     block: &Block,
     base: u32,
+    made: &mut Made,
 ) -> ResultParsing<Pending>
-    requires { is_packet (framed_of block.now).type_ ≡ true }
-    ensures tells { TellsPending base (map interface_of interfaces.now) (framed_of block.now) result }
+    requires packet { is_packet (framed_of block.now).type_ ≡ true }
+    requires unmade { made.old.is_lent ≡ false }
+    ensures tells { TellsPending base (map interface_of interfaces.now) (framed_of block.now) made.new result }
     ensures few { IfOk result (λ pending. pending.len ≤ 4294967260) }
 {
     let parsed = block.parsed(alloc)?;
-    match packet_in_body(interfaces, &parsed) {
+    let pending = pending_in_body(interfaces, base, &parsed)?;
+    match enhanced_of_body(parsed) {
+        None => Ok(pending),
+        Some(packet) => made.put(packet, pending),
+    }
+}
+
+// What is said of the packet that a body is.
+fn pending_in_body(
+    interfaces: &[InterfaceDescriptionBlock<'static>],
+    base: u32,
+    parsed: &ParsedBlock<'_>,
+) -> ResultParsing<Pending>
+    ensures tells { TellsBody base (map interface_of interfaces.now) (bodies.body_of parsed.now) result }
+    ensures few { IfOk result (λ pending. pending.len ≤ 4294967260) }
+{
+    match packet_in_body(interfaces, parsed) {
         Some(packet) => pending_of_packet(interfaces, base, packet),
         None => Err(PcapError::InvalidField("Block: no packet")),
+    }
+}
+
+// The enhanced packet that a body is, if it is one.
+fn enhanced_of_body(parsed: ParsedBlock<'_>) -> Option<EnhancedPacketBlock<'_>>
+    ensures { option_map enhanced_of result ≡ enhanced_in (bodies.body_of parsed.entry) }
+{
+    match parsed {
+        ParsedBlock::EnhancedPacket(packet) => Some(packet),
+        _ => None,
     }
 }
 
@@ -216,7 +262,8 @@ fn pending_of_packet(
     base: u32,
     packet: BlockPacket,
 ) -> ResultParsing<Pending>
-    ensures { TellsStored base (map interface_of interfaces.now) (in_block packet.entry) result }
+    ensures tells { TellsStored base (map interface_of interfaces.now) (in_block packet.entry) result }
+    ensures few { IfOk result (λ pending. pending.len ≤ 4294967260) }
 {
     let said = Said {
         interface: packet.interface,
@@ -234,7 +281,8 @@ fn pending_of(
     base: u32,
     said: Said,
 ) -> ResultParsing<Pending>
-    ensures { (bytes : List ℕ) → said.len ≡ length bytes → TellsStored base (map interface_of interfaces.now) (in_said said bytes) result }
+    ensures tells { (bytes : List ℕ) → said.len ≡ length bytes → TellsStored base (map interface_of interfaces.now) (in_said said bytes) result }
+    ensures few { IfOk result (λ pending. pending.len ≤ 4294967260) }
 {
     let Some(interface) = interface_at(interfaces, said.interface) else {
         return Err(PcapError::InvalidField(Unplaced::InterfaceMissing.message()));
@@ -253,6 +301,7 @@ fn pending_of(
         original_len: said.original_len,
         start: start_behind(said.units),
         len: said.len,
+        is_made: false,
     })
 }
 

@@ -16,9 +16,9 @@ use Rattle.pcap_items.proofs.Taking.{run_reads}
 use Rattle.pcapfile_run.specs.declared.checked.Checked.{Checked}
 use Rattle.pcapfile_run.specs.declared.checked.End.{End}
 use Rattle.pcapfile_run.specs.declared.checked.End.TheVariants.{Whole, Most, Short, Breaks, NotUtf8, Unread, Memory}
-use Rattle.pcapfile_run.specs.declared.pass.Passed.{Passed}
 use Rattle.pcapfile_run.specs.Checks.{FaultIs, EndIs, FailsAt, StopsAt, ChecksItems}
-use Rattle.pcapfile_run.specs.Passing.{counted, PassesItems}
+use Rattle.pcap_walk.specs.CountedItems.{CountsItems}
+use Rattle.pcapfile_run.specs.Passing.{counted}
 use Rattle.pcapfile_run.proofs.Passing.{counted_behind}
 
 abbrev pub IsNothing : Option Rule → Type 0
@@ -142,10 +142,10 @@ module _ {V : Type 0} (MayGrow : Type 0) (IsSaid : List ℕ → Verdict V → Ty
   fails_at e failed _ why is = absurd is
 
 -- items that were passed behind what was counted, as a check tells them
-module _ {S V : Type 0} (f : Format S V) (laws : IsLawful f) (q : S) (s opening after : List ℕ) (joined : s ≡ opening ++ after) (now : Option (List ℕ)) (failed : Bool) (most : ℕ) (old : Passed) (fault : Option PcapError) (checked : Checked) where
+module _ {S V : Type 0} (f : Format S V) (laws : IsLawful f) (q : S) (s opening after : List ℕ) (joined : s ≡ opening ++ after) (now : Option (List ℕ)) (failed : Bool) (most before bytes_before : ℕ) (fault : Option PcapError) (checked : Checked) where
   checked_left : (vs : List V) (left : Option (List ℕ)) (took : TakesTexts f q vs (Some after) left) → length vs ≤ most → Stops (f.says (state_after f q vs)) left now failed (length vs) most fault
-      → old.bytes ≡ counted (length opening) → checked.items ≡ old.items + length vs → checked.bytes ≡ counted (old.bytes + length took.bytes) → EndIs fault failed checked.items (old.items + most) checked.end
-      → ChecksItems f q s after old.items most checked
+      → bytes_before ≡ counted (length opening) → checked.items ≡ before + length vs → checked.bytes ≡ counted (bytes_before + length took.bytes) → EndIs fault failed checked.items (before + most) checked.end
+      → ChecksItems f q s after before most checked
   checked_left vs None took within stops first items bytes end = absurd took.took
   checked_left vs (Some left) took within stops first items bytes end =
       let run : TakesItems f q (Some after) now failed most vs fault = record { left = Some left; took = took; within = within; stops = stops } in
@@ -160,12 +160,13 @@ module _ {S V : Type 0} (f : Format S V) (laws : IsLawful f) (q : S) (s opening 
         front = reads.front;
         texts = subst (λ (l : List ℕ). Texts f q vs l left) (sym took.took) all;
         place = joined ∙ ap (λ (l : List ℕ). opening ++ l) took.took ∙ sym (append_assoc opening took.bytes left);
-        bytes = counted_behind old.bytes checked.bytes (length opening) (length took.bytes) first bytes ∙ ap counted (sym (length-append opening took.bytes));
+        bytes = counted_behind bytes_before checked.bytes (length opening) (length took.bytes) first bytes ∙ ap counted (sym (length-append opening took.bytes));
         count = items;
-        stops = stops_at (f.says (state_after f q vs)) reads.rest reads.more checked.items (length vs) old.items most items within fault failed checked.end reads.ends end;
+        stops = stops_at (f.says (state_after f q vs)) reads.rest reads.more checked.items (length vs) before most items within fault failed checked.end reads.ends end;
       }
 
-  pub items_checked : (new : Passed) → PassesItems f q (Some after) now failed most old new fault → old.bytes ≡ counted (length opening) → checked.items ≡ new.items → checked.bytes ≡ new.bytes
-      → EndIs fault failed checked.items (old.items + most) checked.end → ChecksItems f q s after old.items most checked
-  items_checked new passes first items bytes end =
-      checked_left passes.items passes.run.left passes.run.took passes.run.within passes.run.stops first (items ∙ passes.counts.items) (bytes ∙ passes.counts.bytes) end
+  -- as a walk counted them
+  pub items_checked : (m n : ℕ) → CountsItems f q (Some after) now failed most 0 m bytes_before n fault → bytes_before ≡ counted (length opening) → checked.items ≡ before + m → checked.bytes ≡ n
+      → EndIs fault failed checked.items (before + most) checked.end → ChecksItems f q s after before most checked
+  items_checked m n counts first items bytes end =
+      checked_left counts.items counts.run.left counts.run.took counts.run.within counts.run.stops first (omega (arith, items, counts.number)) (bytes ∙ counts.bytes) end

@@ -1,5 +1,5 @@
 -- Captures that are checked.
-use Rattle.std.proofs.Common.{◌≡◌, ◌<◌, ◌^◌, ℕ, List, [], length, Bool, true, Option, Some, None, Err, inl, inr, refl, sym, subst, arith}
+use Rattle.std.proofs.Common.{◌≡◌, ◌<◌, ◌+◌, ◌^◌, ℕ, List, [], length, Bool, true, Option, Some, None, Err, inl, inr, refl, sym, subst, arith}
 use Rattle.std.specs.Prelude.{⊤, IfSome}
 use Rattle.pcap_core.specs.declared.errors.PcapError.{PcapError}
 use Rattle.pcap_core.specs.Answer.{number_in, whole}
@@ -23,9 +23,9 @@ use Rattle.pcap_ng.proofs.ReadBlocks.{opened_more}
 use Rattle.pcapfile_run.specs.declared.checked.Checked.{Checked}
 use Rattle.pcapfile_run.specs.declared.checked.End.{End}
 use Rattle.pcapfile_run.specs.declared.checked.Format.TheVariants.{Pcap, PcapNg}
-use Rattle.pcapfile_run.specs.declared.pass.Passed.{Passed}
 use Rattle.pcapfile_run.specs.Checks.{FaultIs, EndIs, ChecksPackets, ChecksBlocks, most_passed}
-use Rattle.pcapfile_run.specs.Passing.{counted, PassesItems}
+use Rattle.pcap_walk.specs.CountedItems.{CountsItems}
+use Rattle.pcapfile_run.specs.Passing.{counted}
 use Rattle.pcapfile_run.proofs.Ends.{fails_at, items_checked}
 
 -- what a check tells
@@ -48,12 +48,10 @@ packets_refused (Some s) now failed e end reads is = (
   }),
 )
 
-packets_behind : (header : PcapHeader) (s after : List ℕ) (took : Takes HeaderSays (Some s) (Some after) header) (now : Option (List ℕ)) (failed : Bool) (new : Passed) (fault : Option PcapError) (end : End)
-    → PassesItems (reader_format packet_limit header) tt (Some after) now failed most_passed (record { items = 0; bytes = 24 }) new fault → EndIs fault failed new.items most_passed end
-    → ChecksPackets s (packets_told new.items new.bytes end)
-packets_behind header s after took now failed new fault end passes is =
-    let old : Passed = record { items = 0; bytes = 24 } in
-    let under = under_valid packet_limit header took.1.valid (λ (f : Format (Unit {0}) Captured). PassesItems f tt (Some after) now failed most_passed old new fault) passes in
+packets_behind : (header : PcapHeader) (s after : List ℕ) (took : Takes HeaderSays (Some s) (Some after) header) (now : Option (List ℕ)) (failed : Bool) (m n : ℕ) (fault : Option PcapError) (end : End)
+    → CountsItems (reader_format packet_limit header) tt (Some after) now failed most_passed 0 m 24 n fault → EndIs fault failed m most_passed end → ChecksPackets s (packets_told m n end)
+packets_behind header s after took now failed m n fault end counts is =
+    let under = under_valid packet_limit header took.1.valid (λ (f : Format (Unit {0}) Captured). CountsItems f tt (Some after) now failed most_passed 0 m 24 n fault) counts in
     let text : HeaderText header s after = subst (λ (l : List ℕ). HeaderText header l after) (sym took.2) (header_stable.text took.0 after [] header took.1) in
     let long : 24 ≡ counted (length took.0) = omega (arith, header_length header took.0 [] took.1) in (
       refl,
@@ -61,22 +59,17 @@ packets_behind header s after took now failed new fault end passes is =
         header,
         after,
         text,
-        items_checked (format_under packet_limit header) (packets_lawful packet_limit (number_in (order_of header.magic_number)) (resolution_of header.magic_number)) tt s took.0 after took.2 now failed most_passed old fault
-            (packets_told new.items new.bytes end) new under long refl refl is,
+        items_checked (format_under packet_limit header) (packets_lawful packet_limit (number_in (order_of header.magic_number)) (resolution_of header.magic_number)) tt s took.0 after took.2 now failed most_passed 0 24 fault
+            (packets_told m n end) m n under long (omega arith) refl is,
       ),
     )
 
--- the header is read, and then packets by a reader of it
-pub packets_passed : (header read : PcapHeader) → read ≡ header → (known after behind now : Option (List ℕ)) → behind ≡ after → (failed : Bool) (new : Passed) (fault : Option PcapError) (end : End)
-    → Takes HeaderSays known after header → PassesItems (reader_format packet_limit read) tt behind now failed most_passed (record { items = 0; bytes = 24 }) new fault → EndIs fault failed new.items most_passed end
-    → IfSome known (λ s. ChecksPackets s (packets_told new.items new.bytes end))
-packets_passed header read same None after behind now stream failed new fault end took passes is = tt
-packets_passed header read same (Some s) None behind now stream failed new fault end took passes is = absurd took.2
-packets_passed header read same (Some s) (Some after) behind now stream failed new fault end took passes is =
-    let old : Passed = record { items = 0; bytes = 24 } in
-    let there = subst (λ (h : PcapHeader). PassesItems (reader_format packet_limit h) tt behind now failed most_passed old new fault) same passes in
-    let here = subst (λ (l : Option (List ℕ)). PassesItems (reader_format packet_limit header) tt l now failed most_passed old new fault) stream there in
-    packets_behind header s after took now failed new fault end here is
+-- the header is read, and then packets are counted
+pub packets_passed : (header : PcapHeader) (known after now : Option (List ℕ)) (failed : Bool) (m n : ℕ) (fault : Option PcapError) (end : End) → Takes HeaderSays known after header
+    → CountsItems (reader_format packet_limit header) tt after now failed most_passed 0 m 24 n fault → EndIs fault failed m most_passed end → IfSome known (λ s. ChecksPackets s (packets_told m n end))
+packets_passed header None after now failed m n fault end took counts is = tt
+packets_passed header (Some s) None now failed m n fault end took counts is = absurd took.2
+packets_passed header (Some s) (Some after) now failed m n fault end took counts is = packets_behind header s after took now failed m n fault end counts is
 
 -- the first block is refused
 pub blocks_refused : (known : Option (List ℕ)) (e : PcapError) (end : End) → RefusesOpening known e → FaultIs e true end → IfSome known (λ s. ChecksBlocks s (blocks_told 0 0 end))
@@ -90,14 +83,13 @@ blocks_refused (Some s) e end why is = (
   }),
 )
 
--- the first block is read, and then blocks
-pub blocks_passed : (known after now : Option (List ℕ)) (text : List ℕ) (first : State) (n : ℕ) → n ≡ length text → n < 2 ^ 64 → (failed : Bool) (new : Passed) (fault : Option PcapError) (end : End)
-    → TakesText OpeningSays known after text first → PassesItems block_format first after now failed most_passed (record { items = 1; bytes = n }) new fault → EndIs fault failed new.items 18446744073709551615 end
-    → IfSome known (λ s. ChecksBlocks s (blocks_told new.items new.bytes end))
-blocks_passed None after now text first n long room failed new fault end took passes is = tt
-blocks_passed (Some s) None now text first n long room failed new fault end took passes is = absurd took.1
-blocks_passed (Some s) (Some after) now text first n long room failed new fault end took passes is =
-    let old : Passed = record { items = 1; bytes = n } in
+-- the first block is read, and then blocks are counted
+pub blocks_passed : (known after now : Option (List ℕ)) (text : List ℕ) (first : State) (before : ℕ) → before ≡ length text → before < 2 ^ 64 → (failed : Bool) (m n : ℕ) (fault : Option PcapError) (end : End)
+    → TakesText OpeningSays known after text first → CountsItems block_format first after now failed most_passed 0 m before n fault → EndIs fault failed (m + 1) 18446744073709551615 end
+    → IfSome known (λ s. ChecksBlocks s (blocks_told (m + 1) n end))
+blocks_passed None after now text first before long room failed m n fault end took counts is = tt
+blocks_passed (Some s) None now text first before long room failed m n fault end took counts is = absurd took.1
+blocks_passed (Some s) (Some after) now text first before long room failed m n fault end took counts is =
     let opens = subst (λ (l : List ℕ). OpeningSays l (whole first after)) (sym took.1) (opened_more text after first took.0) in
-    let start : n ≡ counted (length text) = omega (arith, long, room) in
-    (refl, inr (first, after, opens, items_checked block_format blocks_lawful first s text after took.1 now failed most_passed old fault (blocks_told new.items new.bytes end) new passes start refl refl is))
+    let start : before ≡ counted (length text) = omega (arith, long, room) in
+    (refl, inr (first, after, opens, items_checked block_format blocks_lawful first s text after took.1 now failed most_passed 1 before fault (blocks_told (m + 1) n end) m n counts start (omega arith) refl is))

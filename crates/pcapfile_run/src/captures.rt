@@ -4,40 +4,42 @@ ghost use Rattle.std.specs.Prelude.{IfSome};
 ghost use Rattle.pcapfile_run.specs.Checks.{ChecksPackets, ChecksBlocks};
 
 use crate::checked::{Checked, Format, end_of};
-use crate::pass::{MOST, Passed, pass_blocks, pass_packets};
 use pcap_file::pcap::read_header;
-use pcap_file::{PcapNgReader, PcapReader};
+use pcap_file::pcapng::BlocksAhead;
+use pcap_walk::{Counting, Walked, count_blocks, count_packets};
 use std::alloc::Global;
-use std::io::Read;
+use std::io::BufRead;
+
+/// The most items that are counted behind the opening of a capture.
+const MOST: u64 = 18_446_744_073_709_551_614;
 
 /// Checks a classic capture that comes off a stream: how many packets stand one after the other behind its header, how many
-/// bytes header and packets take, and why no other packet follows. No more than one packet is held in memory.
-pub fn check_packets<R: Read + Drop>(alloc: Global, mut input: R) -> Checked
+/// bytes header and packets take, and why no other packet follows. Only a packet that the input's buffer cuts off is held in memory.
+pub fn check_packets<R: BufRead + Drop>(alloc: Global, mut input: R) -> Checked
     ensures { IfSome (R.remaining input) (λ s. ChecksPackets s result) }
 {
-    let format = Format::Pcap;
-    let mut read_failed = false;
-    let header = match read_header(&mut input, &mut read_failed) {
+    let mut walked = Walked {
+        items: 0,
+        read_failed: false,
+    };
+    let header = match read_header(&mut input, &mut walked.read_failed) {
         Ok(header) => header,
         Err(error) => {
             return Checked {
-                format,
+                format: Format::Pcap,
                 items: 0,
                 bytes: 0,
-                end: end_of(Some(error), read_failed, 0, MOST),
+                end: end_of(Some(error), walked.read_failed, 0, MOST),
             };
         }
     };
-    let mut reader = PcapReader::with_header(alloc, header, input);
-    let mut passed = Passed {
-        items: 0,
-        bytes: 24,
-    };
-    let fault = pass_packets(&mut reader, &mut passed);
-    let Passed { items, bytes } = passed;
-    let end = end_of(fault, reader.failed(), items, MOST);
+    let mut counting = Counting { bytes: 24 };
+    let fault = count_packets(alloc, &header, &mut input, &mut walked, &mut counting);
+    let Walked { items, read_failed } = walked;
+    let bytes = counting.bytes;
+    let end = end_of(fault, read_failed, items, MOST);
     Checked {
-        format,
+        format: Format::Pcap,
         items,
         bytes,
         end,
@@ -46,32 +48,37 @@ pub fn check_packets<R: Read + Drop>(alloc: Global, mut input: R) -> Checked
 
 /// Checks a capture of blocks that comes off a stream: how many blocks stand one after the other, the first section header among
 /// them, how many bytes they take, and why no other block follows. The body of a block is checked where it stays in force, which
-/// is that of a section header and of an interface description. No more than one block is held in memory, and the section and
-/// interfaces in force.
-pub fn check_blocks<R: Read + Drop>(alloc: Global, input: R) -> Checked
+/// is that of a section header and of an interface description. One block at a time is held in memory, where it is no enhanced packet or
+/// the input's buffer cuts it off, beside the section and interfaces in force.
+pub fn check_blocks<R: BufRead + Drop>(alloc: Global, mut input: R) -> Checked
     ensures { IfSome (R.remaining input) (λ s. ChecksBlocks s result) }
 {
-    let format = Format::PcapNg;
-    let mut reader = match PcapNgReader::new(alloc, input) {
-        Ok(reader) => reader,
+    let mut walked = Walked {
+        items: 0,
+        read_failed: false,
+    };
+    let mut blocks = match BlocksAhead::open(alloc, &mut input, &mut walked.read_failed) {
+        Ok(blocks) => blocks,
         Err(error) => {
             return Checked {
-                format,
+                format: Format::PcapNg,
                 items: 0,
                 bytes: 0,
                 end: end_of(Some(error), true, 0, MOST),
             };
         }
     };
-    let mut passed = Passed {
-        items: 1,
-        bytes: reader.text().len() as u64,
+    let mut counting = Counting {
+        bytes: blocks.text().len() as u64,
     };
-    let fault = pass_blocks(&mut reader, &mut passed);
-    let Passed { items, bytes } = passed;
-    let end = end_of(fault, reader.failed(), items, MOST + 1);
+    blocks.clear();
+    let fault = count_blocks(&mut blocks, &mut input, &mut walked, &mut counting);
+    let Walked { items, read_failed } = walked;
+    let items = items + 1;
+    let bytes = counting.bytes;
+    let end = end_of(fault, read_failed, items, MOST + 1);
     Checked {
-        format,
+        format: Format::PcapNg,
         items,
         bytes,
         end,

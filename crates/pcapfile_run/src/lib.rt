@@ -9,7 +9,6 @@ mod formed_packets;
 mod lines;
 mod listing;
 mod packets;
-mod pass;
 mod seen;
 
 pub use block_packet::{BlockPacket, holds_packet, interface_at, packet_in_body};

@@ -1,3 +1,4 @@
 pub mod EachInterface
+pub mod Largest
 pub mod Numbers
 pub mod Padding

@@ -1,6 +1,6 @@
 //! How many packets have a length of each class.
 
-ghost use Rattle.std.specs.Prelude.{◌<◌};
+ghost use Rattle.std.specs.Prelude.{◌≡◌, ◌<◌, ◌≤◌, ◌+◌, ◌⊎◌, slice_get, slice_index, All, Contains};
 
 use crate::bar::bar_of;
 use pcapfile_info::{CLASSES, LEAST};
@@ -33,6 +33,8 @@ impl fmt::Display for Range {
 // The lengths of the class of this number.
 fn range_of(class: usize) -> Range
     requires { class < 10 }
+    ensures least { result.least ≡ slice_index LEAST class }
+    ensures above { result.above ≡ slice_get LEAST (class + 1) }
 {
     let above = if class + 1 < CLASSES {
         Some(LEAST[class + 1])
@@ -45,7 +47,11 @@ fn range_of(class: usize) -> Range
     }
 }
 
-fn largest(counts: &[u64; CLASSES]) -> u64 {
+// The largest of the counts.
+fn largest(counts: &[u64; CLASSES]) -> u64
+    ensures bound { All (λ count. count ≤ result) counts.now }
+    ensures is { (result ≡ 0) ⊎ Contains counts.now result }
+{
     let mut largest = 0;
     for count in counts.iter() {
         largest = (*count).max(largest);

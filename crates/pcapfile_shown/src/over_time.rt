@@ -1,5 +1,7 @@
 //! How packets are spread over time.
 
+ghost use Rattle.std.specs.Prelude.{◌≡◌, ◌<◌, ◌∷◌, [], length};
+
 use pcapfile_info::Spread;
 use std::fmt;
 
@@ -8,7 +10,10 @@ use std::fmt;
 pub(crate) struct OverTime<'a>(pub(crate) &'a Spread);
 
 // The sign of so many packets, where the span with the most has so many: a blank for none, and for others one of eight heights.
-fn sign_of(packets: u64, most: u64) -> &'static str {
+fn sign_of(packets: u64, most: u64) -> &'static str
+    ensures none { packets ≡ 0 → result.now ≡ 32 ∷ [] }
+    ensures some { 0 < packets → 0 < most → length result.now ≡ 3 }
+{
     if packets == 0 || most == 0 {
         return " ";
     }

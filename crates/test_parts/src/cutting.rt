@@ -63,6 +63,22 @@ fn more_parts_than_bytes(rt: HostRuntime) -> Result<(), Fail> {
     is_cut(rt.alloc(), bytes.as_slice(), usize::MAX, &wanted)
 }
 
+// Whether a capture of so many packets without data is cut into as many parts.
+fn is_cut_at_each(alloc: Global, packets: usize) -> Result<bool, Fail> {
+    let mut bytes = Vec::from_slice(alloc, front(&LITTLE_HEAD, 24))?;
+    for k in 0..packets {
+        bytes.extend_from_slice(&[0; 16])?;
+    }
+    let cuts = cut_pcap(alloc, bytes.as_slice(), usize::MAX)?.cuts;
+    Ok(cuts.len() == packets && cuts.iter().enumerate().all(|(k, cut)| cut.before == k))
+}
+
+#[test]
+fn thousands_of_parts(rt: HostRuntime) -> Result<(), Fail> {
+    assert!(rt; is_cut_at_each(rt.alloc(), 3000)?);
+    Ok(())
+}
+
 // Of at least so many bytes: a part begins where as many stand behind the beginning of the one before it, and a packet follows.
 const AT_LEAST: [(usize, &[(usize, usize)]); 8] = [
     (0, &[(24, 0), (43, 1), (59, 2), (80, 3), (97, 4)]),

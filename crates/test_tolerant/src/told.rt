@@ -243,7 +243,7 @@ const NUMBERS_MENDED: &str = "
     00000006 00000024 00000001 00000000 00000001 00000001 00000001 aa000000 00000024";
 
 const NUMBERS_SAID: &str =
-    "a: block 2 at byte 28: its body is too short for an interface, and is filled up with zeros
+    "a: block 2 at byte 28: its body is too short for an interface, and is filled up with zeros, so that its packets get a link type and times
 a: block 7 at byte 184: options that break rules are left out
 a: block 9 at byte 256: options that break rules are left out
 ";

@@ -56,6 +56,27 @@ fn raw_sections(rt: HostRuntime) {
     assert!(rt; holds(goes_out(rt.alloc())));
 }
 
+// Whether a block of so many bytes goes out whole behind the first section.
+fn long_goes_out(alloc: Global, len: usize) -> Result<bool, Fail> {
+    let body = vec![in alloc; 7u8; len]?;
+    let block = RawBlock {
+        type_: BlockType::EnhancedPacket,
+        endianness: Endianness::Big,
+        body: body.as_slice(),
+    };
+    let mut writer = PcapNgWriter::with_endianness(alloc, Endianness::Big, Vec::new(alloc))?;
+    writer.write_raw_block(&block)?;
+    let out = writer.into_writer();
+    let (_head, behind) = out.as_slice().split_at(36);
+    Ok(front(behind, len) == body.as_slice() && are_digits(back(behind, len), "0010000c"))
+}
+
+#[test]
+fn long_raw_blocks(rt: HostRuntime) -> Result<(), Fail> {
+    assert!(rt; long_goes_out(rt.alloc(), 0x10_0000)?);
+    Ok(())
+}
+
 // Whether a block is refused by this message, and nothing goes out for it.
 fn refuses(writer: &mut PcapNgWriter<Vec<u8>>, block: &RawBlock<'_>, message: &str) -> bool {
     let before = writer.get_ref().len();

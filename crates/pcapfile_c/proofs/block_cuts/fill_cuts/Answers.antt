@@ -1,8 +1,7 @@
-use Rattle.std.specs.Prelude.{⊤}
 use Rattle.std.proofs.Common.{◌≡◌, ◌≤◌, ℕ, List, length, refl, subst, inl, inr, rules}
 use Rattle.pcap_ng.specs.Opening.{OpeningSays}
 use Rattle.pcap_parts.specs.declared.cut_ng.NgCut.{NgCut}
-use Rattle.pcapfile_c.specs.Cuts.{Fills}
+use Rattle.pcapfile_c.specs.Cuts.{CutMayGrow, Fills}
 use Rattle.pcapfile_c.proofs.CutPlaces.{blocks_fit}
 use Rattle.pcapfile_c.proofs.Refused.{tells_refusal_where}
 use Rattle.pcapfile_c.proofs.block_cuts.fill_cuts.Goals as goal
@@ -33,4 +32,4 @@ returns-else-interfaces-known c =
 pub returns-in-Err : goal.returns-in-Err
 returns-in-Err c =
     let says = OpeningSays c.args.bytes.now in
-    inr (c.requires.no_cut, refl, refl, inr (c.requires.no_interface, tells_refusal_where ⊤ says c.in-Err.e c.tell.new.told c.tell.result c.in-Err.ensures.refused c.tell.ensures))
+    inr (c.requires.no_cut, refl, refl, inr (c.requires.no_interface, tells_refusal_where (CutMayGrow c.args.bytes.now) says c.in-Err.e c.tell.new.told c.tell.result c.in-Err.ensures.refused c.tell.ensures))

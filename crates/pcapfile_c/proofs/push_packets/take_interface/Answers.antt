@@ -1,7 +1,7 @@
 use Rattle.std.proofs.Common.{rules, ◌≡◌, ◌≤◌, ◌<◌, ◌-◌, ◌^◌, ◌⊎◌, length, Ok, Some, refl, inl, inr, arith}
 use Rattle.pcap_blocks.specs.declared.block_type.BlockType.TheVariants as types
 use Rattle.pcapfile_values.specs.Bodies.{BodyTells, ShowsInterface, IsInterface}
-use Rattle.pcapfile_c.proofs.Passing.{found_bases, found_lacks, found_puts, found_stops}
+use Rattle.pcapfile_c.proofs.Passing.{found_bases, found_lacks, found_puts, found_stops, place_other}
 use Rattle.pcapfile_c.proofs.push_packets.take_interface.Goals.{then-count-via-then-count, then-count-via-else-count+then-interfaces-count}
 use Rattle.pcapfile_c.proofs.push_packets.take_interface.Goals as goal
 
@@ -46,3 +46,6 @@ returns-clause-bases c had =
     let told : BodyTells ShowsInterface IsInterface e types.InterfaceDescription body (Ok (Some c.in-Ok-Some.found)) = rw c.in-Ok-Some.field-0-is at c.in-Ok-Some.ensures in
     let within_places : section.interfaces < length places = omega (arith, c.if-interfaces-count.false) in
     found_bases section _ places e body c.in-Ok-Some.found told within_places refl had
+
+pub returns-clause-others : goal.returns-clause-others
+returns-clause-others c i le = place_other c.args.interfaces.now c.args.section.now.interfaces i c.in-Ok-Some.found (omega (arith, le))

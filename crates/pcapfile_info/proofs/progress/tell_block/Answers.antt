@@ -1,11 +1,14 @@
-use Rattle.std.proofs.Common.{ℕ, List, length, map, refl, ap, subst}
+use Rattle.std.proofs.Common.{ℕ, List, length, map, refl, ap, subst, inl, inr}
 use Rattle.std.proofs.lemmas.Result.{err_from_is_err_and}
 use Rattle.pcap_blocks.specs.InterfaceDescription.{Interface, interface_of}
+use Rattle.pcap_ng.specs.Bodies.{GrowsInBody}
 use Rattle.pcap_ng.specs.Frames.{Framed}
 use Rattle.pcap_ng.specs.Lent.{framed_around}
 use Rattle.pcap_ng.specs.Reader.{body_of, interfaces_in_force, section_in_force}
+use Rattle.pcapfile_info.specs.declared.seen.Sight.{Sight}
 use Rattle.pcapfile_info.specs.Sights.{IsFramedSight}
 use Rattle.pcapfile_info.specs.Telling.{AddsItem}
+use Rattle.pcapfile_info.proofs.Bodies.{interface_kept}
 use Rattle.pcapfile_info.proofs.Describing.{adds_loses, described_behind, same_loses}
 use Rattle.pcapfile_info.proofs.Telling.{nothing_same, nothing_behind, item_behind}
 use Rattle.pcapfile_info.proofs.progress.tell_block.Goals as goal
@@ -13,7 +16,7 @@ use Rattle.pcapfile_info.proofs.progress.tell_block.Goals as goal
 pub returns-in_err-sight-clause-counts : goal.returns-in_err-sight-clause-counts
 returns-in_err-sight-clause-counts g c =
     let p = err_from_is_err_and c.from_residual.result c.from_residual.ensures.1 in
-    rw (p.1, p.2) (c.in_err-sight.ensures, nothing_same c.args.progress.now c.args.progress.now (refl, refl, refl), same_loses c.args.progress.now c.args.progress.now refl refl)
+    rw (p.1, p.2) (c.in_err-sight.ensures.0, nothing_same c.args.progress.now c.args.progress.now (refl, refl, refl), same_loses c.args.progress.now c.args.progress.now refl refl)
 
 pub returns-in_err-keep-clause-counts : goal.returns-in_err-keep-clause-counts
 returns-in_err-keep-clause-counts g c =
@@ -42,3 +45,23 @@ pub returns-clause-describes : goal.returns-clause-describes
 returns-clause-describes g c =
     described_behind c.args.header.type_ (section_in_force c.args.reader.now) (interfaces_in_force c.args.reader.now) c.args.progress.now c.keep.new.self c.add.new.self
     (rw (c.section.ensures, c.interfaces-2.ensures) at c.in_ok-keep.ensures.adds) c.in_ok-add.ensures.same
+
+pub returns-in_err-sight-clause-memory : goal.returns-in_err-sight-clause-memory
+returns-in_err-sight-clause-memory g c =
+    let p = err_from_is_err_and c.from_residual.result c.from_residual.ensures.1 in
+    rw p.1 (inl (subst GrowsInBody c.block-block.ensures.block c.in_err-sight.ensures.1))
+
+pub returns-in_err-keep-clause-memory : goal.returns-in_err-keep-clause-memory
+returns-in_err-keep-clause-memory g c =
+    let p = err_from_is_err_and c.from_residual-in_err-keep.result c.from_residual-in_err-keep.ensures.1 in
+    rw p.1 (inr c.in_err-keep.ensures.memory)
+
+pub returns-in_err-add-clause-memory : goal.returns-in_err-add-clause-memory
+returns-in_err-add-clause-memory g c =
+    let p = err_from_is_err_and c.from_residual-in_err-add.result c.from_residual-in_err-add.ensures.1 in
+    let n = length c.as_slice-described.result.now in
+    let own = map interface_of c.interfaces.result.now in
+    let block = framed_around c.args.header (body_of c.args.reader.now) in
+    let framed = subst (λ (f : Framed). IsFramedSight n own f c.in_ok-sight.sight) c.block-block.ensures.block c.in_ok-sight.ensures.0 in
+    let here = subst (λ (s : Sight). IsFramedSight n own block s) c.in_err-add.ensures.memory framed in
+    rw p.1 (inr (interface_kept c.args.header.type_ n own block here))

@@ -18,7 +18,7 @@ returns-in_err-pending_in_block-clause-takes g c =
     let reader = c.pass_to_packet.new.reader in
     let item = lent_item reader c.in-Some.header in
     let passes = rw c.in-Some.is at c.in_ok-header.ensures in
-    let tells = tells_there c.args.base _ (interfaces_in_force reader) _ item.block (Err c.in_err-pending_in_block.field-0.0) c.interfaces.ensures c.block-block.ensures.block c.in_err-pending_in_block.ensures.tells in
+    let tells = tells_there c.args.base _ (interfaces_in_force reader) _ item.block c.pending_in_block.new.made (Err c.in_err-pending_in_block.field-0.0) c.interfaces.ensures c.block-block.ensures.block c.in_err-pending_in_block.ensures.tells in
     rw (p.1, p.2) (passes.0, passes.1, inr (item, passes.2, ends_wherever (c.args.interfaces ≡ Closed) c.args.base (interfaces_in_force reader) item.block _ tells))
 
 pub returns-clause-takes : goal.returns-clause-takes
@@ -26,5 +26,5 @@ returns-clause-takes g c =
     let reader = c.pass_to_packet.new.reader in
     let item = lent_item reader c.in-Some.header in
     let passes = rw c.in-Some.is at c.in_ok-header.ensures in
-    let tells = tells_there c.args.base _ (interfaces_in_force reader) _ item.block (Ok c.in_ok-pending_in_block.field-0) c.interfaces.ensures c.block-block.ensures.block c.in_ok-pending_in_block.ensures.tells in
+    let tells = tells_there c.args.base _ (interfaces_in_force reader) _ item.block c.pending_in_block.new.made (Ok c.in_ok-pending_in_block.field-0) c.interfaces.ensures c.block-block.ensures.block c.in_ok-pending_in_block.ensures.tells in
     (passes.0, passes.1, item, passes.2, tells)

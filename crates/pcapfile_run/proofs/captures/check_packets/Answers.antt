@@ -1,5 +1,3 @@
-use Rattle.std.proofs.Common.{ap}
-use Rattle.pcap_classic.specs.Reader.{stream_of, has_failed}
 use Rattle.pcapfile_run.proofs.Told.{packets_refused, packets_passed}
 use Rattle.pcapfile_run.proofs.captures.check_packets.Goals as goal
 
@@ -9,7 +7,5 @@ returns-in-Err g c =
 
 pub returns : goal.returns
 returns g c =
-    let reader = c.pass_packets-fault.new.reader in
-    packets_passed c.in-Ok.header c.with_header-reader.result.header c.with_header-reader.ensures.header (g.R.Read.remaining c.args.input) (g.R.Read.remaining c.read_header.new.reader)
-    (g.R.Read.remaining (stream_of c.with_header-reader.result)) (g.R.Read.remaining (stream_of reader)) (ap g.R.Read.remaining c.with_header-reader.ensures.stream) (has_failed reader) c.pass_packets-fault.new.passed
-    c.pass_packets-fault.result c.end_of-end.result c.in-Ok.ensures.1 c.pass_packets-fault.ensures.passes (rw c.failed.ensures at c.end_of-end.ensures)
+    packets_passed c.in-Ok.header (g.R.Read.remaining c.args.input) (g.R.Read.remaining c.read_header.new.reader) (g.R.Read.remaining c.count_packets-fault.new.input) c.count_packets-fault.new.walked.read_failed
+    c.count_packets-fault.new.walked.items c.count_packets-fault.new.counting.bytes c.count_packets-fault.result c.end_of-end.result c.in-Ok.ensures.1 c.count_packets-fault.ensures.counts c.end_of-end.ensures

@@ -1,0 +1,4 @@
+pub mod Counted
+pub mod MetBlocks
+pub mod MetPackets
+pub mod Walks

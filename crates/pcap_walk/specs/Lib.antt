@@ -1,0 +1,4 @@
+pub mod CountedItems
+pub mod MetBlocks
+pub mod MetPackets
+pub mod Walks

@@ -1,0 +1,126 @@
+//! What the program reads.
+
+ghost use Rattle.std.specs.Prelude.{None};
+
+use crate::console::{Console, Shared};
+use crate::walk::{Walk, begins_capture};
+use capcopy_run::Uninterrupted;
+use std::alloc::Global;
+use std::cell::Cell;
+use std::fs::File;
+use std::io;
+use std::io::{BufReader, Read, Stdin};
+use std::rc::Rc;
+
+/// The size of the buffer over a capture, in bytes.
+const INPUT: usize = 262_144;
+
+/// The name of standard input among files.
+pub const STANDARD: &str = "-";
+
+/// A stream behind a buffer. A read that a signal interrupts is repeated.
+pub fn buffered<R: Read + Drop>(
+    alloc: Global,
+    stream: R,
+) -> io::Result<BufReader<Uninterrupted<R>>> {
+    BufReader::with_capacity(alloc, INPUT, Uninterrupted::new(stream))
+}
+
+/// A file, or standard input.
+#[derive(Drop)]
+pub(crate) enum Stream {
+    Standard(Stdin),
+    File(File),
+}
+
+impl Read for Stream {
+    ghost remaining = { λ stream. None };
+
+    fn read(&mut self, buf: &mut [u8]) -> io::Result<usize> {
+        match self {
+            Stream::Standard(stdin) => stdin.read(buf),
+            Stream::File(file) => file.read(buf),
+        }
+    }
+}
+
+/// A capture that is read while it is said how far.
+#[derive(Drop)]
+pub struct Watched {
+    stream: Stream,
+    length: Option<u64>,
+    walk: Walk,
+    progress: Option<Shared>,
+    /// Whether nothing was read of it yet.
+    is_new: bool,
+    /// Where it is noted whether it begins as a capture does.
+    is_foreign: Rc<Cell<bool>>,
+}
+
+impl Watched {
+    /// How many bytes it has, where it is a file.
+    pub fn length(&self) -> Option<u64> {
+        self.length
+    }
+}
+
+impl Read for Watched {
+    ghost remaining = { λ stream. None };
+
+    fn read(&mut self, buf: &mut [u8]) -> io::Result<usize> {
+        let came = self.stream.read(buf)?;
+        if self.is_new {
+            self.is_new = false;
+            self.is_foreign.set(!begins_capture(&buf[..came]));
+        }
+        if let Some(progress) = &self.progress {
+            let packets = self.walk.pass(&buf[..came]);
+            let mut now = progress.get();
+            now.add(came, packets);
+            progress.set(now);
+        }
+        Ok(came)
+    }
+}
+
+fn open_stream(rt: &HostRuntime, name: &str) -> io::Result<Stream> {
+    if name == STANDARD {
+        return Ok(Stream::Standard(rt.stdin()));
+    }
+    Ok(Stream::File(File::open(rt, name)?))
+}
+
+// How many bytes a stream has, where it is a file.
+fn length_of(stream: &Stream) -> io::Result<Option<u64>> {
+    match stream {
+        Stream::Standard(_) => Ok(None),
+        Stream::File(file) => {
+            let metadata = file.metadata()?;
+            Ok(if metadata.is_file() {
+                Some(metadata.len())
+            } else {
+                None
+            })
+        }
+    }
+}
+
+/// Opens the capture of a name, and says from now on how far it is read.
+pub fn open_watched(console: &Console, name: &str) -> io::Result<Watched> {
+    console.begin();
+    open_further(console, name)
+}
+
+/// Opens the capture of a name, which is read beside others: it is said how far all of these are read.
+pub fn open_further(console: &Console, name: &str) -> io::Result<Watched> {
+    let stream = open_stream(console.rt(), name)?;
+    let length = length_of(&stream)?;
+    Ok(Watched {
+        stream,
+        length,
+        walk: Walk::new(),
+        progress: console.add_capture(length)?,
+        is_new: true,
+        is_foreign: console.foreign()?,
+    })
+}

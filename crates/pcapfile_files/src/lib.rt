@@ -1,0 +1,26 @@
+//! What all words of the program `pcapfile` share: captures that are read and files that are written, how far they are read, and
+//! what is said of them on standard error.
+#![tactic(auto)]
+
+mod console;
+mod identity;
+mod input;
+mod numbered;
+mod output;
+mod part;
+mod place;
+mod progress;
+mod shown;
+mod standard;
+mod tell;
+mod walk;
+
+pub use console::{Console, Notes};
+pub use input::{STANDARD, Watched, buffered, open_further, open_watched};
+pub use numbered::unnumbered;
+pub use output::{OUTPUT, Output, write_named};
+pub use shown::{NOT_UTF8, Shown, ShownJson};
+pub use standard::keep_standard_streams;
+pub use tell::{
+    AT_FAULT, FAILED, UNREAD, USAGE, status_of, tell_error, tell_exit, tell_io, tell_unwritten,
+};

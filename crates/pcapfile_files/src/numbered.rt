@@ -1,0 +1,49 @@
+//! Names of files that are made of one name and a number.
+
+use crate::console::Console;
+use crate::input::STANDARD;
+use std::os::unix::fs::MetadataExt;
+use std::{fs, io};
+
+/// The folder of devices.
+const DEVICES: &str = "/dev";
+
+/// Why no files are named by this name and a number, where none are.
+pub fn unnumbered(console: &Console, name: &str) -> Option<&'static str> {
+    if name == STANDARD {
+        return Some("parts are several files, and standard output is one");
+    }
+    let (folder, file) = match name.rsplit_once('/') {
+        Some(("", file)) => ("/", file),
+        Some((folder, file)) => (folder, file),
+        None => (".", name),
+    };
+    if file.is_empty() {
+        return Some("parts have names that begin as that of a file, and this is a folder");
+    }
+    match fs::metadata(console.rt(), name) {
+        Ok(found) if !found.is_file() => {
+            return Some("parts have names that begin as that of a file, and this is none");
+        }
+        _ => {}
+    }
+    if let Ok(true) = is_of_devices(console, folder) {
+        return Some("parts are files, and this folder has devices");
+    }
+    None
+}
+
+// Whether a folder is that of devices, or stands there on the same file system.
+fn is_of_devices(console: &Console, folder: &str) -> io::Result<bool> {
+    let path = fs::canonicalize(console.rt(), folder)?;
+    let is_there = match path.as_str().strip_prefix(DEVICES) {
+        Some(rest) => rest.is_empty() || rest.starts_with('/'),
+        None => false,
+    };
+    if !is_there {
+        return Ok(false);
+    }
+    let devices = fs::metadata(console.rt(), DEVICES)?;
+    let found = fs::metadata(console.rt(), folder)?;
+    Ok(found.dev() == devices.dev())
+}

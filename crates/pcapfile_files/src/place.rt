@@ -1,0 +1,71 @@
+//! Where the name of an output leads.
+
+use crate::console::Console;
+use crate::identity::Identity;
+use std::alloc::{AllocError, Global};
+use std::fs::Metadata;
+use std::io::ErrorKind;
+use std::{fs, io};
+
+/// The most links that a name goes over.
+const LINKS: usize = 40;
+
+/// The system's error of a name that goes over more.
+const TOO_MANY_LINKS: i32 = 40;
+
+/// Where the name of an output leads.
+#[derive(Drop)]
+pub(crate) enum Place {
+    /// A regular file, or none yet: its path behind all links, and what is known of it where it is there.
+    Regular(String, Option<Metadata>),
+    /// What is no regular file, as a device or a pipe.
+    Special,
+    /// The file that standard output is.
+    Standard,
+}
+
+impl Place {
+    /// The place of an output of this name.
+    pub(crate) fn of(console: &Console, name: &str) -> io::Result<Place> {
+        let found = match fs::metadata(console.rt(), name) {
+            Ok(found) => Some(found),
+            Err(error) if error.kind() == ErrorKind::NotFound => None,
+            Err(error) => return Err(error),
+        };
+        if let Some(found) = &found {
+            let Some(identity) = Identity::of(found) else {
+                return Ok(Place::Special);
+            };
+            if Identity::of_standard_output(console) == Some(identity) {
+                return Ok(Place::Standard);
+            }
+        }
+        Ok(Place::Regular(behind_links(console, name)?, found))
+    }
+}
+
+// The path to which this one leads over links, whether a file is there or not.
+fn behind_links(console: &Console, name: &str) -> io::Result<String> {
+    let mut path = String::from_str(console.alloc(), name)?;
+    for _ in 0..LINKS {
+        let is_link = match fs::symlink_metadata(console.rt(), path.as_str()) {
+            Ok(found) => found.is_symlink(),
+            Err(error) if error.kind() == ErrorKind::NotFound => false,
+            Err(error) => return Err(error),
+        };
+        if !is_link {
+            return Ok(path);
+        }
+        let led = fs::read_link(console.rt(), path.as_str())?;
+        path = beside(console.alloc(), path.as_str(), led.as_str())?;
+    }
+    Err(io::Error::from_raw_os_error(TOO_MANY_LINKS))
+}
+
+// The path to which a link leads that stands at this one.
+fn beside(alloc: Global, path: &str, led: &str) -> Result<String, AllocError> {
+    match path.rsplit_once('/') {
+        Some((folder, _)) if !led.starts_with('/') => format!(in alloc; "{folder}/{led}"),
+        _ => String::from_str(alloc, led),
+    }
+}

@@ -1,0 +1,14 @@
+//! Lenient reading for the words of the program `pcapfile`: the packets or blocks of a capture in which garbage is left out, and
+//! the capture without flaws that it becomes.
+#![tactic(auto)]
+
+mod captured;
+mod repaired;
+mod rows;
+mod standing;
+mod window;
+
+pub use captured::Captured;
+pub use repaired::Repaired;
+pub use rows::Rows;
+pub use standing::{BlockRows, HEADER, PacketRows, Standing, Stop};

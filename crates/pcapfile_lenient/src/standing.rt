@@ -1,0 +1,179 @@
+//! What stands in captures: packets or blocks in rows, between which garbage is left out.
+
+ghost use Rattle.std.specs.Prelude.{◌≡◌, ◌<◌, ◌^◌, false};
+ghost use Rattle.pcap_tolerant.specs.ReaderAsIs.{is_done, has_failed};
+ghost use Rattle.pcap_tolerant_captures.specs.ReaderAsIs.{is_done as is_done_with_blocks, has_failed as has_failed_in_blocks};
+
+use crate::rows::{LIMIT, Rows};
+use crate::window::Window;
+use capcopy_run::Exit;
+use pcap_file::pcap::PcapHeader;
+use pcap_file::{Endianness, PcapError, PcapParser, ResultParsing};
+use pcap_tolerant::ReaderAsIs;
+use pcap_tolerant_captures::PcapNgReaderAsIs;
+use pcapfile_as_is::{BlockTeller, Counted, Teller, tell_blocks, tell_packets};
+use pcapfile_files::{Watched, buffered};
+use pcapfile_run::Format;
+use std::alloc::Global;
+use std::io::Write;
+
+/// How many bytes the header of a classic capture has.
+pub const HEADER: usize = 24;
+
+/// The first byte of a capture of blocks.
+const FIRST_OF_BLOCKS: u8 = 10;
+
+/// Packets in rows.
+#[derive(Drop)]
+pub struct PacketRows {
+    reader: ReaderAsIs<Rows>,
+    ghost ready: { is_done reader ≡ false },
+    ghost unfailed: { has_failed reader ≡ false },
+}
+
+/// Blocks in rows.
+#[derive(Drop)]
+pub struct BlockRows {
+    reader: PcapNgReaderAsIs<Rows>,
+    ghost ready: { is_done_with_blocks reader ≡ false },
+    ghost unfailed: { has_failed_in_blocks reader ≡ false },
+}
+
+/// What stands in a capture.
+#[derive(Drop)]
+pub enum Standing {
+    /// Packets, behind a header of these bytes.
+    Packets(Vec<u8>, PacketRows),
+    /// Blocks.
+    Blocks(BlockRows),
+    /// Neither: as a capture of this format it is refused.
+    Neither(Format, PcapError),
+}
+
+/// Why no more of a capture was told.
+#[derive(Drop)]
+pub enum Stop {
+    /// It can't be read further.
+    Unread(PcapError),
+    /// It can't be told.
+    Untold(Exit),
+}
+
+impl PacketRows {
+    /// Tells the packets up to where their row ends, so many at most, and counts them.
+    pub fn tell<P: Teller, W: Write>(
+        self,
+        alloc: Global,
+        teller: &mut P,
+        output: &mut W,
+        most: u64,
+        counted: &mut Counted,
+    ) -> Result<PacketRows, Stop> {
+        let PacketRows { mut reader } = self;
+        let mut now = counts(counted);
+        let told = tell_packets(alloc, teller, &mut reader, output, most, &mut now);
+        *counted = now;
+        match told {
+            Ok(None) => Ok(PacketRows { reader }),
+            Ok(Some(error)) => Err(Stop::Unread(error)),
+            Err(exit) => Err(Stop::Untold(exit)),
+        }
+    }
+
+    /// What they stand in.
+    pub fn rows(&self) -> &Rows {
+        self.reader.get_ref()
+    }
+
+    /// The order of their numbers.
+    pub fn endianness(&self) -> Endianness {
+        self.reader.endianness()
+    }
+}
+
+impl BlockRows {
+    /// Tells the blocks up to where their row ends, so many at most, and counts them.
+    pub fn tell<P: BlockTeller, W: Write>(
+        self,
+        alloc: Global,
+        teller: &mut P,
+        output: &mut W,
+        most: u64,
+        counted: &mut Counted,
+    ) -> Result<BlockRows, Stop> {
+        let BlockRows { mut reader } = self;
+        let mut now = counts(counted);
+        let told = tell_blocks(alloc, teller, &mut reader, output, most, &mut now);
+        *counted = now;
+        match told {
+            Ok(None) => Ok(BlockRows { reader }),
+            Ok(Some(error)) => Err(Stop::Unread(error)),
+            Err(exit) => Err(Stop::Untold(exit)),
+        }
+    }
+
+    /// What they stand in.
+    pub fn rows(&self) -> &Rows {
+        self.reader.get_ref()
+    }
+}
+
+impl Standing {
+    /// What stands in the capture of a stream. The errors are those of reads and of memory.
+    pub fn open(alloc: Global, stream: Watched) -> ResultParsing<Standing> {
+        let mut window = Window::new(alloc, buffered(alloc, stream)?);
+        window.show(HEADER)?;
+        match header_in(window.shown()) {
+            Ok(header) => Standing::of_packets(alloc, header, window),
+            Err(error) => Standing::of_blocks(alloc, error, window),
+        }
+    }
+
+    // The packets under this header.
+    fn of_packets(
+        alloc: Global,
+        header: PcapHeader,
+        mut window: Window,
+    ) -> ResultParsing<Standing> {
+        let bytes = window.shown().get(..HEADER).unwrap_or_default();
+        let opening = Vec::from_slice(alloc, bytes)?;
+        window.pass(HEADER);
+        let rows = Rows::of_packets(PcapParser::with_header(header)?, window);
+        let parser = PcapParser::with_header(header)?;
+        let reader = ReaderAsIs::with_parser(alloc, parser, rows, LIMIT);
+        Ok(Standing::Packets(opening, PacketRows { reader }))
+    }
+
+    // The blocks. Where no section header stands in the capture, and it doesn't begin as one of blocks, this error of what is shown
+    // first as a header refuses it.
+    fn of_blocks(alloc: Global, error: PcapError, window: Window) -> ResultParsing<Standing> {
+        let is_of_blocks = window.shown().first() == Some(&FIRST_OF_BLOCKS);
+        let rows = match Rows::of_blocks(alloc, window) {
+            Ok(rows) => rows,
+            Err(PcapError::IoError(error)) => return Err(PcapError::IoError(error)),
+            Err(PcapError::OutOfMemory(error)) => return Err(PcapError::OutOfMemory(error)),
+            Err(refusal) if is_of_blocks => return Ok(Standing::Neither(Format::PcapNg, refusal)),
+            Err(_) => return Ok(Standing::Neither(Format::Pcap, error)),
+        };
+        let reader = PcapNgReaderAsIs::new(alloc, rows);
+        Ok(Standing::Blocks(BlockRows { reader }))
+    }
+}
+
+// A copy of what was counted.
+fn counts(counted: &Counted) -> Counted
+    ensures items { result.items < 2 ^ 64 }
+    ensures flawed { result.flawed < 2 ^ 64 }
+    ensures bytes { result.bytes < 2 ^ 64 }
+{
+    Counted {
+        items: counted.items.min(u64::MAX),
+        flawed: counted.flawed.min(u64::MAX),
+        bytes: counted.bytes.min(u64::MAX),
+    }
+}
+
+fn header_in(bytes: &[u8]) -> ResultParsing<PcapHeader> {
+    let (_rest, header) = PcapHeader::from_slice(bytes)?;
+    Ok(header)
+}

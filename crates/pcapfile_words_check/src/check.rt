@@ -1,0 +1,56 @@
+//! The word `check`.
+
+use pcap_file::PcapError;
+use pcapfile_files::{AT_FAULT, Console, Shown, buffered, open_watched, tell_io};
+use pcapfile_run::{Checked, End, Format, check_blocks, check_packets, format_of};
+use std::io;
+use std::io::ErrorKind;
+
+/// Writes a line for each capture, and gives the status: that of the worst of them.
+pub fn check_files(console: &Console, names: &[&str]) -> io::Result<u8> {
+    let mut status = 0;
+    for name in names {
+        status = check_file(console, name)?.max(status);
+    }
+    Ok(status)
+}
+
+// Writes the line of a capture. One that can't be read, or not be held, has it on standard error.
+fn check_file(console: &Console, name: &str) -> io::Result<u8> {
+    let checked = match read_and_check(console, name) {
+        Ok(checked) => checked,
+        Err(error) => return tell_io(console, name, &error),
+    };
+    // The line of how far it is goes before any other.
+    console.clear();
+    let shown = Shown(name);
+    if checked.status() == AT_FAULT {
+        console.note_fault();
+    }
+    match checked.end {
+        End::Unread(_) | End::Memory => tell_unread(console, name, &checked)?,
+        _ => println!(console.rt(); "{shown}: {checked}")?,
+    }
+    Ok(checked.status())
+}
+
+/// Says on standard error how far a capture could be read.
+pub(crate) fn tell_unread(console: &Console, name: &str, checked: &Checked) -> io::Result<()> {
+    let shown = Shown(name);
+    match &checked.end {
+        End::Unread(PcapError::IoError(error)) if error.kind() == ErrorKind::UnexpectedEof => {
+            eprintln!(console.for_line();
+                "pcapfile: {shown}: {checked}: the first block, or an option there, is cut short"
+            )
+        }
+        _ => eprintln!(console.for_line(); "pcapfile: {shown}: {checked}"),
+    }
+}
+
+fn read_and_check(console: &Console, name: &str) -> io::Result<Checked> {
+    let mut input = buffered(console.alloc(), open_watched(console, name)?)?;
+    match format_of(&mut input)? {
+        Format::Pcap => Ok(check_packets(console.alloc(), input)),
+        Format::PcapNg => Ok(check_blocks(console.alloc(), input)),
+    }
+}

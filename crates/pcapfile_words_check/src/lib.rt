@@ -1,0 +1,10 @@
+//! The words `check`, `info` and `list` of the program `pcapfile`.
+#![tactic(auto)]
+
+mod check;
+mod info;
+mod list;
+
+pub use check::check_files;
+pub use info::{Informing, inform_files};
+pub use list::list_files;

@@ -1,0 +1,236 @@
+//! The word `convert`.
+
+use pcap_file::pcap::PcapHeader;
+use pcap_file::pcapng::InterfaceDescriptionBlock;
+use pcap_file::run::{
+    IfUnplaced, Under, convert_to_pcap, convert_to_pcapng, copy_buffered, copy_pcapng_buffered,
+};
+use pcap_file::{DataLink, PcapError, PcapNgReader, PcapWriter, ResultParsing};
+use pcapfile_files::{Console, OUTPUT, Shown, buffered, tell_error, tell_io, write_named};
+use pcapfile_lenient::Captured;
+use pcapfile_run::{Format, format_of, holds_packet};
+use std::alloc::Global;
+use std::io;
+use std::io::{BufRead, BufWriter, Read, Write};
+
+/// The magic number of a little-endian classic capture in nanoseconds.
+const LITTLE_NANOSECONDS: u32 = 0x4D3C_B2A1;
+
+/// The snaplen of a classic capture whose packets have any length that such a capture may have, in bytes.
+const WHOLE_PACKETS: u32 = 262_144;
+
+/// What the word is asked for.
+#[derive(Drop)]
+pub struct Conversion<'a> {
+    /// The name of the capture that is read.
+    pub from: &'a str,
+    /// The format of the other one, or none for that which the first one is not of.
+    pub to: Option<Format>,
+    /// The name of the other one.
+    pub out: &'a str,
+    /// Whether the capture is read as it stands.
+    pub as_is: bool,
+}
+
+/// How a conversion ended.
+#[derive(Drop)]
+struct Ended {
+    /// How many packets have no place in the other format.
+    left_out: u64,
+    /// How many blocks without a packet were left out.
+    others: u64,
+    /// What ended it before the end of the capture.
+    fault: Option<PcapError>,
+    /// Whether that was a write.
+    write_failed: bool,
+}
+
+impl Ended {
+    // A conversion in which everything has a place.
+    fn whole(fault: Option<PcapError>, write_failed: bool) -> Ended {
+        Ended {
+            left_out: 0,
+            others: 0,
+            fault,
+            write_failed,
+        }
+    }
+}
+
+/// Converts a capture, and gives the status.
+pub fn convert_file(console: &Console, asked: &Conversion) -> io::Result<u8> {
+    write_named(console, asked.out, &[asked.from], |output| {
+        let ended = open_and_convert(console, asked, output);
+        tell_ended(console, asked, &ended)
+    })
+}
+
+fn tell_ended(console: &Console, asked: &Conversion, ended: &io::Result<Ended>) -> io::Result<u8> {
+    let ended = match ended {
+        Ok(ended) => ended,
+        Err(error) => return tell_io(console, asked.from, error),
+    };
+    let from = Shown(asked.from);
+    let (packets, blocks) = (ended.left_out, ended.others);
+    if packets > 0 {
+        eprintln!(console.for_line();
+            "pcapfile: {from}: {packets} packets have no place there, and are left out"
+        )?;
+    }
+    if blocks > 0 {
+        eprintln!(console.for_line();
+            "pcapfile: {from}: {blocks} blocks without a packet are left out"
+        )?;
+    }
+    match &ended.fault {
+        None => Ok(0),
+        // A packet or a header that has no place in the other format is no fault of the output.
+        Some(error) if ended.write_failed && error.rule().is_none() => {
+            tell_error(console, asked.out, error)
+        }
+        Some(error) => tell_error(console, asked.from, error),
+    }
+}
+
+fn open_and_convert<W: Write + Drop>(
+    console: &Console,
+    asked: &Conversion,
+    output: W,
+) -> io::Result<Ended> {
+    match Captured::open(console, asked.from, asked.as_is) {
+        Ok(capture) => convert_stream(console, capture, asked.to, output),
+        Err(error) => Ok(Ended::whole(Some(error), false)),
+    }
+}
+
+fn convert_stream<R: Read + Drop, W: Write + Drop>(
+    console: &Console,
+    stream: R,
+    to: Option<Format>,
+    output: W,
+) -> io::Result<Ended> {
+    let mut input = buffered(console.alloc(), stream)?;
+    let output = BufWriter::with_capacity(console.alloc(), OUTPUT, output)?;
+    let from = format_of(&mut input)?;
+    Ok(match to.unwrap_or(other(from)) {
+        Format::Pcap => convert_to_packets(console.alloc(), from, input, output),
+        Format::PcapNg => convert_to_blocks(console.alloc(), from, input, output),
+    })
+}
+
+fn convert_to_blocks<R: BufRead + Drop, W: Write + Drop>(
+    alloc: Global,
+    from: Format,
+    mut input: R,
+    mut output: W,
+) -> Ended {
+    let ended = match from {
+        Format::Pcap => {
+            let copied = convert_to_pcapng(alloc, &mut input, &mut output, u64::MAX);
+            Ended::whole(copied.fault, copied.write_failed)
+        }
+        Format::PcapNg => {
+            let copied = copy_pcapng_buffered(alloc, &mut input, &mut output, u64::MAX);
+            Ended::whole(copied.fault, copied.write_failed)
+        }
+    };
+    flushed(output, ended)
+}
+
+fn convert_to_packets<R: BufRead + Drop, W: Write + Drop>(
+    alloc: Global,
+    from: Format,
+    mut input: R,
+    mut output: W,
+) -> Ended {
+    if let Format::Pcap = from {
+        let copied = copy_buffered(alloc, &mut input, &mut output, Under::Same, u64::MAX);
+        return flushed(output, Ended::whole(copied.fault, copied.write_failed));
+    }
+    match place_blocks(alloc, input, output) {
+        Ok(ended) => ended,
+        Err(error) => Ended::whole(Some(error), false),
+    }
+}
+
+// Writes the packets of blocks under the link type and the snaplen of their first interface.
+fn place_blocks<R: Read + Drop, W: Write + Drop>(
+    alloc: Global,
+    input: R,
+    output: W,
+) -> ResultParsing<Ended> {
+    let mut reader = PcapNgReader::new(alloc, input)?;
+    let mut ended = pass_to_interface(&mut reader)?;
+    let header = header_under(reader.interfaces());
+    let mut writer = match PcapWriter::with_header(header, output) {
+        Ok(writer) => writer,
+        Err(error) => return Ok(Ended::whole(Some(error), true)),
+    };
+    let converted = convert_to_pcap(
+        alloc,
+        &mut reader,
+        &mut writer,
+        IfUnplaced::LeaveOut,
+        u64::MAX,
+    );
+    let packets = converted.packets.saturating_add(converted.left_out);
+    let others = converted.blocks.saturating_sub(packets);
+    ended.left_out = ended.left_out.saturating_add(converted.left_out);
+    ended.others = ended.others.saturating_add(others);
+    ended.fault = converted.fault;
+    ended.write_failed = writer.failed();
+    Ok(flushed(writer.into_writer(), ended))
+}
+
+// Passes blocks until an interface is described. What is before it has no place.
+fn pass_to_interface<R: Read + Drop>(reader: &mut PcapNgReader<R>) -> ResultParsing<Ended> {
+    let mut early = Ended::whole(None, false);
+    for _turn in 0..u64::MAX {
+        let Some(header) = reader.next_header() else {
+            break;
+        };
+        let type_ = header?.type_;
+        if !reader.interfaces().is_empty() {
+            break;
+        }
+        if holds_packet(type_) {
+            early.left_out = early.left_out.saturating_add(1);
+        } else {
+            early.others = early.others.saturating_add(1);
+        }
+    }
+    Ok(early)
+}
+
+// The header of the classic capture that blocks become. Without an interface it is that of Ethernet.
+fn header_under(interfaces: &[InterfaceDescriptionBlock<'static>]) -> PcapHeader {
+    let mut header = PcapHeader::default();
+    header.magic_number = LITTLE_NANOSECONDS;
+    header.datalink = DataLink::ETHERNET;
+    header.snaplen = WHOLE_PACKETS;
+    if let Some(first) = interfaces.first() {
+        header.datalink = first.linktype;
+        if first.snaplen > 0 {
+            header.snaplen = first.snaplen;
+        }
+    }
+    header
+}
+
+fn other(format: Format) -> Format {
+    match format {
+        Format::Pcap => Format::PcapNg,
+        Format::PcapNg => Format::Pcap,
+    }
+}
+
+// How a conversion ended once its output is flushed.
+fn flushed<W: Write + Drop>(mut output: W, mut ended: Ended) -> Ended {
+    if let Err(error) = output.flush() {
+        if ended.fault.is_none() {
+            ended.fault = Some(PcapError::IoError(error));
+            ended.write_failed = true;
+        }
+    }
+    ended
+}

@@ -1,0 +1,187 @@
+//! The word `merge`.
+
+ghost use Rattle.std.specs.Prelude.{IfOk};
+ghost use Rattle.pcapfile_merge.specs.Holding.{IsReady};
+
+use crate::opening::{interfaces_of, put_opening};
+use capcopy_run::Uninterrupted;
+use pcap_file::{PcapNgReader, PcapReader, ResultParsing};
+use pcapfile_files::{
+    AT_FAULT, Console, OUTPUT, Shown, Watched, buffered, open_further, tell_error, tell_io,
+    write_named,
+};
+use pcapfile_lenient::Captured;
+use pcapfile_merge::{BufferedBlocks, BufferedPackets, Reader, Source, merge_packets};
+use pcapfile_run::{Format, format_of};
+use std::alloc::Global;
+use std::io;
+use std::io::{BufWriter, Write};
+
+/// A capture that is merged.
+type Input = Uninterrupted<Captured>;
+
+/// What the word is asked for.
+#[derive(Drop)]
+pub struct Merge<'a> {
+    /// The names of the captures that are merged.
+    pub names: &'a [&'a str],
+    /// The name of the other one.
+    pub out: &'a str,
+    /// Whether the captures are read as they stand.
+    pub as_is: bool,
+}
+
+/// How a merge ended.
+#[derive(Clone, Copy)]
+struct Ended {
+    /// The worst status of its files.
+    status: u8,
+    /// Whether all that there was to write went out, and each capture was read to its end or to its fault.
+    is_whole: bool,
+}
+
+impl Ended {
+    // A merge that was given up.
+    fn given_up(status: u8) -> Ended {
+        Ended {
+            status,
+            is_whole: false,
+        }
+    }
+}
+
+/// Merges captures, and gives the status. What goes out is whole also where one that is read is at fault.
+pub fn merge_files(console: &Console, asked: &Merge) -> io::Result<u8> {
+    let mut worst = 0;
+    let told = write_named(console, asked.out, asked.names, |output| {
+        let ended = merge_to(console, asked, output)?;
+        worst = ended.status;
+        Ok(if ended.is_whole { 0 } else { ended.status })
+    })?;
+    Ok(told.max(worst))
+}
+
+fn merge_to<W: Write + Drop>(console: &Console, asked: &Merge, output: W) -> io::Result<Ended> {
+    let mut sources = Vec::new(console.alloc());
+    let mut opened = Vec::new(console.alloc());
+    let mut interfaces: u32 = 0;
+    let mut status = 0;
+    console.begin();
+    for name in asked.names {
+        let stream = match open_further(console, name) {
+            Ok(stream) => stream,
+            Err(error) => return Ok(Ended::given_up(tell_io(console, name, &error)?)),
+        };
+        match open_reader(console, name, stream, asked.as_is) {
+            Ok(reader) if !has_place(&reader) => {
+                let shown = Shown(name);
+                eprintln!(console.for_line();
+                    "pcapfile: {shown}: is left out, since PcapNg has no link types above 65535"
+                )?;
+                status = AT_FAULT.max(status);
+            }
+            Ok(reader) => {
+                let source = Source::new(console.alloc(), reader, interfaces);
+                interfaces = interfaces.saturating_add(interfaces_of(source.reader()));
+                sources.push(source)?;
+                opened.push(*name)?;
+            }
+            Err(error) => status = tell_error(console, name, &error)?.max(status),
+        }
+        if status > AT_FAULT {
+            return Ok(Ended::given_up(status));
+        }
+    }
+    if sources.is_empty() {
+        return Ok(Ended::given_up(AT_FAULT.max(status)));
+    }
+    let output = BufWriter::with_capacity(console.alloc(), OUTPUT, output)?;
+    if let Err(error) = write_merged(console.alloc(), sources.as_mut_slice(), output) {
+        return Ok(Ended::given_up(tell_error(console, asked.out, &error)?));
+    }
+    tell_left_out(console, opened.as_slice(), sources.as_slice())?;
+    status = tell_faults(console, opened.as_slice(), sources.as_slice())?.max(status);
+    Ok(Ended {
+        status,
+        is_whole: status <= AT_FAULT,
+    })
+}
+
+// Says how many blocks of each kind were left out of the captures of these names.
+fn tell_left_out(console: &Console, names: &[&str], sources: &[Source<Input>]) -> io::Result<()> {
+    for (name, source) in names.iter().zip(sources) {
+        if let Reader::Blocks(blocks) = source.reader() {
+            let left_out = blocks.left_out();
+            tell_kind(console, name, left_out.names, "names")?;
+            tell_kind(console, name, left_out.statistics, "statistics")?;
+            tell_kind(console, name, left_out.secrets, "secrets")?;
+            tell_kind(console, name, left_out.others, "other types")?;
+        }
+    }
+    Ok(())
+}
+
+// Says how many blocks of one kind were left out of a capture, if there were any.
+fn tell_kind(console: &Console, name: &str, count: u64, kind: &str) -> io::Result<()> {
+    if count > 0 {
+        let shown = Shown(name);
+        eprintln!(console.for_line(); "pcapfile: {shown}: {count} blocks of {kind} are left out")?;
+    }
+    Ok(())
+}
+
+// Says what ended each of the captures of these names before its end, and gives the worst status.
+fn tell_faults(console: &Console, names: &[&str], sources: &[Source<Input>]) -> io::Result<u8> {
+    let mut status = 0;
+    for (name, source) in names.iter().zip(sources) {
+        if let Some(error) = source.fault() {
+            status = tell_error(console, name, error)?.max(status);
+        }
+    }
+    Ok(status)
+}
+
+// A reader of a capture of either format.
+fn open_reader(
+    console: &Console,
+    name: &str,
+    stream: Watched,
+    as_is: bool,
+) -> ResultParsing<Reader<Input>>
+    ensures { IfOk result (λ reader. IsReady reader) }
+{
+    let alloc = console.alloc();
+    let mut input = buffered(alloc, Captured::new(console, name, stream, as_is)?)?;
+    match format_of(&mut input)? {
+        Format::Pcap => {
+            let reader = PcapReader::new(alloc, input)?;
+            Ok(Reader::Packets(BufferedPackets::new(reader)))
+        }
+        Format::PcapNg => {
+            let reader = PcapNgReader::new(alloc, input)?;
+            Ok(Reader::Blocks(BufferedBlocks::new(alloc, reader)))
+        }
+    }
+}
+
+// Whether the packets of a capture have a place in PcapNg.
+fn has_place<R>(reader: &Reader<R>) -> bool {
+    match reader {
+        Reader::Packets(packets) => u32::from(packets.header().datalink) <= u32::from(u16::MAX),
+        Reader::Blocks(_) => true,
+    }
+}
+
+fn write_merged<W: Write + Drop>(
+    alloc: Global,
+    sources: &mut [Source<Input>],
+    output: W,
+) -> ResultParsing<()> {
+    let mut output = put_opening(alloc, sources, output)?;
+    let merged = merge_packets(sources, &mut output, u64::MAX);
+    if let Some(error) = merged.fault {
+        return Err(error);
+    }
+    output.flush()?;
+    Ok(())
+}

@@ -1,0 +1,234 @@
+//! The word `cut`.
+
+use crate::blocks::Blocks;
+use crate::source::{Packets, Source, flushed};
+use crate::tell::tell_outcome;
+use pcap_parts::to_next_end;
+use pcapfile_cut::{Outcome, Wanted};
+use pcapfile_files::{
+    Console, OUTPUT, STANDARD, Shown, USAGE, buffered, tell_error, tell_io, unnumbered, write_named,
+};
+use pcapfile_lenient::Captured;
+use pcapfile_run::{Format, format_of};
+use std::alloc::Global;
+use std::io;
+use std::io::{BufWriter, Read, Write};
+
+/// What the word is asked for.
+#[derive(Drop)]
+pub struct Cutting<'a> {
+    /// The name of the capture.
+    pub from: &'a str,
+    /// The name of its part, or what the names of its parts are made of.
+    pub out: &'a str,
+    /// How it is cut.
+    pub way: Way,
+    /// Whether it is read as it stands.
+    pub as_is: bool,
+}
+
+/// How a capture is cut.
+#[derive(Clone, Copy)]
+pub enum Way {
+    /// One part.
+    One(Wanted),
+    /// Parts of so many packets.
+    Every(u64),
+    /// So many parts of nearly the same length.
+    Parts(u64),
+    /// Parts that end with the packet at which they have so many bytes.
+    Bytes(u64),
+}
+
+/// Where a capture is read.
+#[derive(Clone, Copy)]
+struct Place {
+    /// How many bytes open it.
+    opening: u64,
+    /// How many bytes are read of what follows.
+    passed: u64,
+    /// How many bytes follow the opening, where that is known.
+    length: u64,
+}
+
+impl Way {
+    // Which of the next packets make a part that so many bytes open. Each part gets one packet at least.
+    fn wanted(self, opening: u64, place: Place) -> Wanted {
+        match self {
+            Way::One(wanted) => wanted,
+            Way::Every(packets) => Wanted::Numbers {
+                first: 1,
+                last: packets.max(1),
+            },
+            Way::Bytes(bytes) => Wanted::Bytes(bytes.saturating_sub(opening).max(1)),
+            Way::Parts(parts) => next_share(place, parts),
+        }
+    }
+
+    fn is_many(self) -> bool {
+        !matches!(self, Way::One(_))
+    }
+}
+
+// The packets up to the end of the next of so many shares, or all behind the last but one.
+fn next_share(place: Place, parts: u64) -> Wanted {
+    match to_next_end(place.passed as usize, place.length as usize, parts as usize) {
+        Some(bytes) => Wanted::Bytes(bytes as u64),
+        None => Wanted::All,
+    }
+}
+
+/// Cuts a capture, and gives the status.
+pub fn cut_file(console: &Console, asked: &Cutting) -> io::Result<u8> {
+    if let (STANDARD, Way::Parts(_)) = (asked.from, asked.way) {
+        return tell_no_length(console);
+    }
+    if asked.way.is_many() {
+        if let Some(reason) = unnumbered(console, asked.out) {
+            let out = Shown(asked.out);
+            eprintln!(console.for_line(); "error: {out}: {reason}")?;
+            return Ok(USAGE);
+        }
+    }
+    match Captured::open(console, asked.from, asked.as_is) {
+        Ok(capture) => match (capture.length(), asked.way) {
+            (None, Way::Parts(_)) => tell_no_length(console),
+            (length, _) => cut_stream(console, asked, capture, length.unwrap_or_default()),
+        },
+        Err(error) => tell_error(console, asked.from, &error),
+    }
+}
+
+// Says how many packets are left out whose time isn't known.
+fn tell_untimed(console: &Console, from: &str, packets: u64) -> io::Result<()> {
+    if packets > 0 {
+        let from = Shown(from);
+        eprintln!(console.for_line();
+            "pcapfile: {from}: {packets} packets whose body is refused are left out, since their time isn't known"
+        )?;
+    }
+    Ok(())
+}
+
+// Says that so many parts can't be made of what has no length, and gives the status.
+fn tell_no_length(console: &Console) -> io::Result<u8> {
+    eprintln!(console.for_line(); "error: --parts asks for a file, whose length is known")?;
+    Ok(USAGE)
+}
+
+fn cut_stream<R: Read + Drop>(
+    console: &Console,
+    asked: &Cutting,
+    stream: R,
+    length: u64,
+) -> io::Result<u8> {
+    let mut input = buffered(console.alloc(), stream)?;
+    match format_of(&mut input) {
+        Err(error) => tell_io(console, asked.from, &error),
+        Ok(Format::Pcap) => match Packets::new(input) {
+            Ok(mut packets) => cut_source(console, asked, &mut packets, length),
+            Err(error) => tell_error(console, asked.from, &error),
+        },
+        Ok(Format::PcapNg) => match Blocks::new(console.alloc(), input) {
+            Ok(mut blocks) => cut_source(console, asked, &mut blocks, length),
+            Err(error) => tell_error(console, asked.from, &error),
+        },
+    }
+}
+
+fn cut_source<S: Source>(
+    console: &Console,
+    asked: &Cutting,
+    source: &mut S,
+    length: u64,
+) -> io::Result<u8> {
+    let opening = source.opening_len();
+    let mut place = Place {
+        opening,
+        passed: 0,
+        length: length.saturating_sub(opening),
+    };
+    if !asked.way.is_many() {
+        let status = write_part(console, asked, asked.out, source, &mut place)?;
+        tell_untimed(console, asked.from, source.untimed())?;
+        return Ok(status);
+    }
+    for number in 1..u64::MAX {
+        let name = part_name(console.alloc(), asked.out, number)?;
+        let status = write_part(console, asked, name.as_str(), source, &mut place)?;
+        if status != 0 {
+            return Ok(status);
+        }
+        match source.is_at_end() {
+            Ok(true) => break,
+            Ok(false) => {}
+            Err(error) => return tell_io(console, asked.from, &error),
+        }
+    }
+    Ok(0)
+}
+
+// The name of a part: its number stands before the extension of the name that is given, in five digits or more.
+fn part_name(alloc: Global, out: &str, number: u64) -> io::Result<String> {
+    let (folder, file) = match out.rsplit_once('/') {
+        Some((folder, file)) => (Some(folder), file),
+        None => (None, out),
+    };
+    let name = match file.rsplit_once('.') {
+        Some((stem, extension)) if !stem.is_empty() => {
+            format!(in alloc; "{stem}-{number:05}.{extension}")?
+        }
+        _ => format!(in alloc; "{file}-{number:05}")?,
+    };
+    match folder {
+        Some(folder) => Ok(format!(in alloc; "{folder}/{name}")?),
+        None => Ok(name),
+    }
+}
+
+// Writes one part, and gives the status. The place moves behind what was read.
+fn write_part<S: Source>(
+    console: &Console,
+    asked: &Cutting,
+    name: &str,
+    source: &mut S,
+    place: &mut Place,
+) -> io::Result<u8> {
+    write_named(console, name, &[asked.from], |output| {
+        let written = write_to(console.alloc(), asked.way, source, *place, output);
+        let told = tell_written(console, asked, name, *place, &written);
+        if let Ok(outcome) = &written {
+            place.passed = place.passed.saturating_add(outcome.bytes);
+        }
+        told
+    })
+}
+
+fn write_to<S: Source, W: Write + Drop>(
+    alloc: Global,
+    way: Way,
+    source: &mut S,
+    place: Place,
+    output: W,
+) -> io::Result<Outcome> {
+    let mut output = BufWriter::with_capacity(alloc, OUTPUT, output)?;
+    let wanted = way.wanted(source.opening_len(), place);
+    let outcome = source.write_part(alloc, &mut output, wanted, way.is_many());
+    Ok(flushed(&mut output, outcome))
+}
+
+fn tell_written(
+    console: &Console,
+    asked: &Cutting,
+    name: &str,
+    place: Place,
+    written: &io::Result<Outcome>,
+) -> io::Result<u8> {
+    match written {
+        Ok(outcome) => {
+            let byte = place.opening.saturating_add(place.passed);
+            tell_outcome(console, asked.from, byte, name, outcome)
+        }
+        Err(error) => tell_io(console, name, error),
+    }
+}

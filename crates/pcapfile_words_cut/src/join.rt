@@ -1,0 +1,167 @@
+//! The word `join`.
+
+use crate::blocks::{Blocks, join_blocks};
+use crate::source::{Packets, Source};
+use crate::tell::tell_outcome;
+use capcopy_run::Uninterrupted;
+use pcapfile_cut::{Joined, Opening, Wanted, join_part};
+use pcapfile_files::{
+    AT_FAULT, Console, OUTPUT, Shown, Watched, buffered, open_watched, tell_error, tell_io,
+    write_named,
+};
+use pcapfile_run::{Format, format_of};
+use std::io;
+use std::io::{BufReader, BufWriter, Write};
+
+/// What the word is asked for.
+#[derive(Drop)]
+pub struct Joining<'a> {
+    /// The names of the parts, in their order.
+    pub parts: &'a [&'a str],
+    /// The name of the capture that they become.
+    pub out: &'a str,
+}
+
+type Input = BufReader<Uninterrupted<Watched>>;
+
+/// Joins parts of a capture, and gives the status.
+pub fn join_files(console: &Console, asked: &Joining) -> io::Result<u8> {
+    write_named(console, asked.out, asked.parts, |output| {
+        join_into(console, asked, output)
+    })
+}
+
+fn join_into<W: Write + Drop>(console: &Console, asked: &Joining, output: W) -> io::Result<u8> {
+    let mut output = BufWriter::with_capacity(console.alloc(), OUTPUT, output)?;
+    let status = join_parts(console, asked, &mut output)?;
+    if status != 0 {
+        return Ok(status);
+    }
+    match output.flush() {
+        Ok(()) => Ok(0),
+        Err(error) => tell_io(console, asked.out, &error),
+    }
+}
+
+fn join_parts<W: Write>(console: &Console, asked: &Joining, output: &mut W) -> io::Result<u8> {
+    let Some((first, others)) = asked.parts.split_first() else {
+        return Ok(0);
+    };
+    let (format, input) = match open(console, first) {
+        Ok(opened) => opened,
+        Err(error) => return tell_io(console, first, &error),
+    };
+    match format {
+        Format::Pcap => match Packets::new(input) {
+            Ok(mut packets) => {
+                let opening = *packets.opening();
+                let status = write_first(console, asked, first, &mut packets, output)?;
+                join_packets(console, asked, others, &opening, status, output)
+            }
+            Err(error) => tell_error(console, first, &error),
+        },
+        Format::PcapNg => match Blocks::new(console.alloc(), input) {
+            Ok(mut blocks) => {
+                let status = write_first(console, asked, first, &mut blocks, output)?;
+                join_others(console, asked, others, blocks, status, output)
+            }
+            Err(error) => tell_error(console, first, &error),
+        },
+    }
+}
+
+fn open(console: &Console, name: &str) -> io::Result<(Format, Input)> {
+    let mut input = buffered(console.alloc(), open_watched(console, name)?)?;
+    let format = format_of(&mut input)?;
+    Ok((format, input))
+}
+
+// Writes the first part as it is, and gives the status.
+fn write_first<S: Source, W: Write>(
+    console: &Console,
+    asked: &Joining,
+    name: &str,
+    source: &mut S,
+    output: &mut W,
+) -> io::Result<u8> {
+    let place = source.opening_len();
+    let outcome = source.write_part(console.alloc(), output, Wanted::All, false);
+    tell_outcome(console, name, place, asked.out, &outcome)
+}
+
+// Writes the packets of the others behind a first part that was written with this status.
+fn join_packets<W: Write>(
+    console: &Console,
+    asked: &Joining,
+    others: &[&str],
+    opening: &Opening,
+    first: u8,
+    output: &mut W,
+) -> io::Result<u8> {
+    let mut status = first;
+    for part in others {
+        if status != 0 {
+            break;
+        }
+        status = match open(console, part) {
+            Ok((_, input)) => join_next(console, asked, part, opening, input, output)?,
+            Err(error) => tell_io(console, part, &error)?,
+        };
+    }
+    Ok(status)
+}
+
+fn join_next<W: Write>(
+    console: &Console,
+    asked: &Joining,
+    part: &str,
+    opening: &Opening,
+    mut input: Input,
+    output: &mut W,
+) -> io::Result<u8> {
+    match join_part(console.alloc(), opening, &mut input, output) {
+        Joined::Unopened(error) => tell_error(console, part, &error),
+        Joined::OtherHeader => {
+            let shown = Shown(part);
+            eprintln!(console.for_line();
+                "pcapfile: {shown}: its header is not that of the first part"
+            )?;
+            Ok(AT_FAULT)
+        }
+        Joined::Packets(outcome) => {
+            let place = opening.bytes().len() as u64;
+            tell_outcome(console, part, place, asked.out, &outcome)
+        }
+    }
+}
+
+// Writes the blocks of the others behind a first part that was written with this status.
+fn join_others<W: Write>(
+    console: &Console,
+    asked: &Joining,
+    others: &[&str],
+    first: Blocks<Input>,
+    written: u8,
+    output: &mut W,
+) -> io::Result<u8> {
+    let mut before = first;
+    let mut status = written;
+    for part in others {
+        if status != 0 {
+            break;
+        }
+        let input = match open(console, part) {
+            Ok((_, input)) => input,
+            Err(error) => return tell_io(console, part, &error),
+        };
+        let mut blocks = match Blocks::new(console.alloc(), input) {
+            Ok(blocks) => blocks,
+            Err(error) => return tell_error(console, part, &error),
+        };
+        let place = blocks.opening_len();
+        let outcome = join_blocks(console.alloc(), &mut blocks, before.in_force(), output);
+        status = tell_outcome(console, part, place, asked.out, &outcome)?;
+        before = blocks;
+    }
+    Ok(status)
+}

@@ -1,0 +1,95 @@
+//! Captures of either format that are read part by part.
+
+use pcap_file::{PcapError, ResultParsing};
+use pcapfile_cut::{Opening, Outcome, Wanted, cut_part};
+use std::alloc::Global;
+use std::io;
+use std::io::{BufRead, Write};
+
+/// A capture that is read part by part.
+pub(crate) trait Source {
+    /// Writes a part: what opens the capture where it is read, and those of the packets there that are wanted. Where others are
+    /// to follow, what stands before the next packet is part of it too.
+    fn write_part<W: Write>(
+        &mut self,
+        alloc: Global,
+        output: &mut W,
+        wanted: Wanted,
+        others_follow: bool,
+    ) -> Outcome;
+
+    /// Whether everything is in a part.
+    fn is_at_end(&mut self) -> io::Result<bool>;
+
+    /// How many packets were left out since their body is refused, so that their time isn't known.
+    fn untimed(&self) -> u64;
+
+    /// How many bytes open a part that is written next.
+    fn opening_len(&self) -> u64;
+}
+
+/// A classic capture behind its header.
+#[derive(Drop)]
+pub(crate) struct Packets<R> {
+    opening: Opening,
+    input: R,
+}
+
+impl<R: BufRead + Drop> Packets<R> {
+    /// Reads the header.
+    pub(crate) fn new(mut input: R) -> ResultParsing<Packets<R>> {
+        let opening = Opening::read(&mut input, &mut false)?;
+        Ok(Packets { opening, input })
+    }
+
+    /// What stands in front of the packets.
+    pub(crate) fn opening(&self) -> &Opening {
+        &self.opening
+    }
+}
+
+impl<R: BufRead + Drop> Source for Packets<R> {
+    fn write_part<W: Write>(
+        &mut self,
+        alloc: Global,
+        output: &mut W,
+        wanted: Wanted,
+        _others_follow: bool,
+    ) -> Outcome {
+        cut_part(alloc, &self.opening, &mut self.input, output, wanted)
+    }
+
+    fn is_at_end(&mut self) -> io::Result<bool> {
+        Ok(self.input.fill_buf()?.is_empty())
+    }
+
+    fn untimed(&self) -> u64 {
+        0
+    }
+
+    fn opening_len(&self) -> u64 {
+        self.opening.bytes().len() as u64
+    }
+}
+
+/// A part of which nothing is written.
+pub(crate) fn nothing() -> Outcome {
+    Outcome {
+        packets: 0,
+        bytes: 0,
+        fault: None,
+        read_failed: false,
+        write_failed: false,
+    }
+}
+
+/// How a part ended once its output is flushed.
+pub(crate) fn flushed<W: Write>(output: &mut W, mut outcome: Outcome) -> Outcome {
+    if outcome.fault.is_none() {
+        if let Err(error) = output.flush() {
+            outcome.fault = Some(PcapError::IoError(error));
+            outcome.write_failed = true;
+        }
+    }
+    outcome
+}

@@ -1,0 +1,107 @@
+//! The word `check` of captures as they stand.
+
+use crate::as_is::{MOST, Telling};
+use capcopy_run::{Exit, Uninterrupted};
+use pcap_file::PcapError;
+use pcapfile_as_is::{BlockFlawLines, CheckedAsIs, FlawLines, put_gap};
+use pcapfile_files::{Console, OUTPUT, Shown, tell_error, tell_unwritten};
+use pcapfile_run::{Checked, End, end_of};
+use std::alloc::Global;
+use std::io;
+use std::io::{BufWriter, ErrorKind, Write};
+
+/// Writes a line for each flaw of a packet or block, one for bytes that are left out and one for each capture, and gives the status:
+/// that of the worst of them.
+pub fn check_files_as_is(console: &Console, names: &[&str]) -> io::Result<u8> {
+    let stdout = Uninterrupted::new(console.rt().stdout());
+    let mut output = BufWriter::with_capacity(console.alloc(), OUTPUT, stdout)?;
+    let mut status = 0;
+    for name in names {
+        status = check_file(console, name, &mut output)?.max(status);
+    }
+    Ok(status)
+}
+
+fn check_file<W: Write>(console: &Console, name: &str, output: &mut W) -> io::Result<u8> {
+    let mut telling = match Telling::open(console, name) {
+        Ok(telling) => telling,
+        Err(error) => return tell_error(console, name, &error),
+    };
+    let shown = Shown(name);
+    let prefix = format!(in console.alloc(); "{shown}: ")?;
+    match tell_flaws(console.alloc(), prefix.as_str(), &mut telling, output) {
+        Ok(()) => tell_checked(console, name, telling, output),
+        Err(exit) => {
+            output.flush()?;
+            tell_unwritten(console, name, exit)
+        }
+    }
+}
+
+// Writes the lines of the flaws of a capture and of what is left out.
+fn tell_flaws<W: Write>(
+    alloc: Global,
+    prefix: &str,
+    telling: &mut Telling,
+    output: &mut W,
+) -> Result<(), Exit> {
+    let mut packets = FlawLines { prefix };
+    let mut blocks = BlockFlawLines { prefix };
+    for _ in 0..u64::MAX {
+        let gap = telling.tell_row(alloc, &mut packets, &mut blocks, output)?;
+        let Some(gap) = gap else {
+            break;
+        };
+        put_gap(alloc, output, prefix, &gap)?;
+    }
+    Ok(())
+}
+
+// Writes the line of a capture, and gives its status. One that can't be read, or not be held, has it on standard error.
+fn tell_checked<W: Write>(
+    console: &Console,
+    name: &str,
+    telling: Telling,
+    output: &mut W,
+) -> io::Result<u8> {
+    let checked = checked_of(telling);
+    let shown = Shown(name);
+    let is_told = !matches!(&checked.checked.end, End::Unread(_) | End::Memory);
+    if is_told {
+        writeln!(output, "{shown}: {checked}")?;
+    }
+    output.flush()?;
+    if !is_told {
+        eprintln!(console.for_line(); "pcapfile: {shown}: {checked}")?;
+    }
+    Ok(checked.status())
+}
+
+fn checked_of(telling: Telling) -> CheckedAsIs {
+    let Telling {
+        format,
+        place,
+        fault,
+        ..
+    } = telling;
+    let items = place.counted.items;
+    CheckedAsIs {
+        checked: Checked {
+            format,
+            items,
+            bytes: place.counted.bytes,
+            end: end_behind(fault, items),
+        },
+        flawed: place.counted.flawed,
+        left_out: place.left_out,
+    }
+}
+
+// What ends a capture of so many packets or blocks.
+fn end_behind(fault: Option<PcapError>, items: u64) -> End {
+    match fault {
+        Some(PcapError::IncompleteBuffer(_)) => End::Short,
+        Some(PcapError::IoError(error)) if error.kind() == ErrorKind::OutOfMemory => End::Memory,
+        fault => end_of(fault, true, items, MOST),
+    }
+}

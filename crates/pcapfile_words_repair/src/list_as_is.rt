@@ -1,0 +1,69 @@
+//! The word `list` of captures as they stand.
+
+use crate::as_is::Telling;
+use capcopy_run::{Exit, Uninterrupted};
+use pcapfile_as_is::{BlockPacketLines, PacketLines};
+use pcapfile_files::{AT_FAULT, Console, OUTPUT, Shown, tell_error, tell_exit, tell_unwritten};
+use std::io;
+use std::io::{BufWriter, Write};
+
+/// Writes the packets of each capture with their flaws, behind its name where there are several, says what is left out between them,
+/// and gives the status: that of the worst of them.
+pub fn list_files_as_is(console: &Console, names: &[&str]) -> io::Result<u8> {
+    let stdout = Uninterrupted::new(console.rt().stdout());
+    let mut output = BufWriter::with_capacity(console.alloc(), OUTPUT, stdout)?;
+    let mut status = 0;
+    for name in names {
+        status = list_file(console, name, names.len() > 1, &mut output)?.max(status);
+    }
+    Ok(status)
+}
+
+fn list_file<W: Write>(
+    console: &Console,
+    name: &str,
+    is_headed: bool,
+    output: &mut W,
+) -> io::Result<u8> {
+    let mut telling = match Telling::open(console, name) {
+        Ok(telling) => telling,
+        Err(error) => return tell_error(console, name, &error),
+    };
+    if is_headed {
+        let shown = Shown(name);
+        writeln!(output, "{shown}:")?;
+    }
+    let listed = list_packets(console, name, &mut telling, output);
+    // What was listed goes out before what is said of it.
+    output.flush()?;
+    if let Err(exit) = listed {
+        return tell_unwritten(console, name, exit);
+    }
+    let Telling { place, fault, .. } = telling;
+    let is_sound = place.counted.flawed == 0 && place.left_out == 0;
+    let status = if is_sound { 0 } else { AT_FAULT };
+    Ok(match fault {
+        None => status,
+        Some(error) => tell_exit(console, name, &Exit::from(error))?.max(status),
+    })
+}
+
+// Writes the lines of the packets of a capture, and says what is left out behind those before that.
+fn list_packets<W: Write>(
+    console: &Console,
+    name: &str,
+    telling: &mut Telling,
+    output: &mut W,
+) -> Result<(), Exit> {
+    let alloc = console.alloc();
+    for _ in 0..u64::MAX {
+        let gap = telling.tell_row(alloc, &mut PacketLines, &mut BlockPacketLines, output)?;
+        let Some(gap) = gap else {
+            break;
+        };
+        output.flush()?;
+        let shown = Shown(name);
+        eprintln!(console.for_line(); "pcapfile: {shown}: {gap}")?;
+    }
+    Ok(())
+}

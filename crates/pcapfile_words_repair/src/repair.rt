@@ -1,0 +1,52 @@
+//! The word `repair`.
+
+use pcapfile_files::{Console, OUTPUT, open_watched, tell_error, tell_io, write_named};
+use pcapfile_lenient::Repaired;
+use std::io;
+use std::io::{BufWriter, Write};
+
+/// What the word is asked for.
+#[derive(Drop)]
+pub struct Repair<'a> {
+    /// The name of the capture that is read.
+    pub from: &'a str,
+    /// The name of the other one.
+    pub out: &'a str,
+}
+
+/// Writes a capture of what can be read of another one, in which nothing breaks a rule, and gives the status.
+pub fn repair_file(console: &Console, asked: &Repair) -> io::Result<u8> {
+    write_named(console, asked.out, &[asked.from], |output| {
+        repair_to(console, asked, output)
+    })
+}
+
+fn repair_to<W: Write + Drop>(console: &Console, asked: &Repair, output: W) -> io::Result<u8> {
+    let stream = match open_watched(console, asked.from) {
+        Ok(stream) => stream,
+        Err(error) => return tell_io(console, asked.from, &error),
+    };
+    let mut repaired = match Repaired::new(console, asked.from, stream) {
+        Ok(repaired) => repaired,
+        Err(error) => return tell_error(console, asked.from, &error),
+    };
+    let mut output = BufWriter::with_capacity(console.alloc(), OUTPUT, output)?;
+    for _ in 0..u64::MAX {
+        let bytes = match repaired.next_bytes() {
+            Ok(bytes) => bytes,
+            Err(error) => return tell_io(console, asked.from, &error),
+        };
+        if bytes.is_empty() {
+            break;
+        }
+        if let Err(error) = output.write_all(bytes) {
+            return tell_io(console, asked.out, &error);
+        }
+        let len = bytes.len();
+        repaired.pass(len);
+    }
+    match output.flush() {
+        Ok(()) => Ok(0),
+        Err(error) => tell_io(console, asked.out, &error),
+    }
+}

@@ -1,0 +1,44 @@
+//! Runs filters over packets: each line of the input is a program, as `tcpdump -ddd` prints it, with a comma in place of each line's
+//! end; the packet's original length; and its bytes in hexadecimal digits, parted by bars. Each line of the output is what the program
+//! returns, or why it is refused.
+//!
+//! The programs and packets of `stdin` were drawn at random. `stdout` is what libpcap's interpreter gives for them:
+//! `tests/filter/run --write` makes both.
+#![tactic(auto)]
+
+use anyhow::{Context, Result};
+use pcap_filter::{Filter, parse};
+use std::alloc::Global;
+
+// The text of a program whose lines end in commas.
+fn lines_of(alloc: Global, program: &str) -> Result<String> {
+    let mut text = String::new(alloc);
+    for line in program.split(',') {
+        text.push_str(line)?;
+        text.push('\n')?;
+    }
+    Ok(text)
+}
+
+// What the program of a line returns for its packet.
+fn result_of(alloc: Global, line: &str) -> Result<u32> {
+    let (program, packet) = line.split_once('|').context("a line has a program")?;
+    let (length, digits) = packet.split_once('|').context("a line has a packet")?;
+    let length = length.parse::<u32>()?;
+    let bytes = hex::decode(alloc, digits)?;
+    let text = lines_of(alloc, program)?;
+    let program = parse(alloc, text.as_str())?;
+    let filter = Filter::new(alloc, program.as_slice())?;
+    Ok(filter.accepts(bytes.as_slice(), length))
+}
+
+fn main(rt: HostRuntime) -> Result<()> {
+    for line in rt.lines(rt.alloc()) {
+        let line = line?;
+        match result_of(rt.alloc(), line.as_str()) {
+            Ok(accepted) => println!(rt; "{accepted}")?,
+            Err(error) => println!(rt; "{error}")?,
+        }
+    }
+    Ok(())
+}
