@@ -1,143 +1,201 @@
 # The programs capcopy and pcapfile, and the library pcapfile for C.
 #
-#   make                                     builds them; `rt` proves them first
-#   make check                               the tests of the library, through C, Python and Rust
-#   make install PREFIX=/usr DESTDIR=room    installs them, with header, man pages, completions and pkg-config's file
-#   make uninstall                           removes what that installed, by the same words
-#   make wheel                               out/pcapfile-VERSION-*.whl, the package for Python with the library in it
-#   make dist                                out/pcapfile-VERSION-SYSTEM.tar.gz, which is used where it is unpacked
-#   make deb                                 out/*.deb: libpcapfile0, libpcapfile-dev, python3-pcapfile and pcapfile
+#   make                   builds them in out/ from portable/*.c, which are generated from the proved code; needs only a C compiler
+#   make proved            proves the crates and builds them in out/proved/; needs 'rt' of the Rattle toolchain
+#   make check             runs every test that needs no 'rt', over the builds in out/
+#   make install PREFIX=/usr DESTDIR=room    installs them, with headers, man pages, completions and pkg-config's file
+#   make uninstall         removes the installed files; give it the same PREFIX and DESTDIR
+#   make dist              makes out/pcapfile-VERSION-SYSTEM.tar.gz, which runs where you unpack it
+#   make amalgamation      makes out/pcapfile-amalgamation-VERSION.tar.gz: the library as C files, for cc, CMake or Meson
+#   make deb               makes out/*.deb: libpcapfile0, libpcapfile-dev, python3-pcapfile and pcapfile
+#   make crate             makes out/pcapfile-VERSION.crate, the crate for Rust, with the library in it
+#   make wheel             makes out/pcapfile-VERSION-*.whl, the package for Python
 #
-# `rt` of the Rattle toolchain has to be on the PATH. The first proof takes minutes; JOBS is how many jobs it may use.
+# `make FORM=proved WORD` uses the proved build, and `make WORD` the build from C. The first proof takes half an hour. JOBS sets how
+# many jobs the proof may run.
 
 PREFIX ?= /usr/local
 libdir ?= $(PREFIX)/lib
 zshdir ?= $(PREFIX)/share/zsh/site-functions
-BINDIR = $(DESTDIR)$(PREFIX)/bin
-INCDIR = $(DESTDIR)$(PREFIX)/include
-LIBDIR = $(DESTDIR)$(libdir)
-MANDIR = $(DESTDIR)$(PREFIX)/share/man/man1
-DOCDIR = $(DESTDIR)$(PREFIX)/share/doc/pcapfile
-SHAREDIR = $(DESTDIR)$(PREFIX)/share/pcapfile
-BASHDIR = $(DESTDIR)$(PREFIX)/share/bash-completion/completions
-ZSHDIR = $(DESTDIR)$(zshdir)
+bindir = $(PREFIX)/bin
+includedir = $(PREFIX)/include
+datadir = $(PREFIX)/share
+CFLAGS ?= -O2
+LDFLAGS ?= -s
+PYTHON ?= python3
 
-# The file VERSION is where a version is changed; tests/packages/run compares the other places that name it.
+# To change the version, edit the file VERSION. tests/packages/run compares the other places that have the version with it.
 VERSION := $(shell cat VERSION)
 ABI = 0
-OUT = out
-PYTHON ?= python3
+SHARED = libpcapfile.so.$(VERSION)
+FORM ?= portable
+OUT = $(if $(filter proved,$(FORM)),out/proved,out)
 DIST = pcapfile-$(VERSION)-$(shell uname -sm | tr 'A-Z ' 'a-z-')
+AMALGAMATION = pcapfile-amalgamation-$(VERSION)
+TAR = tar --sort=name --owner=0 --group=0 --numeric-owner --mtime=@$${SOURCE_DATE_EPOCH:-$$(stat -c %Y VERSION)} -cz
+
+.PHONY: all proved check install uninstall dist amalgamation crate deb wheel clean
+.DELETE_ON_ERROR:
+
+all: $(OUT)/capcopy $(OUT)/$(SHARED) $(OUT)/libpcapfile.a $(OUT)/pcapfile
+
+proved:
+	$(MAKE) FORM=proved all
+
+# A crate and all crates that it uses, as crates.txt lists them. The last ones are the toolchain's ports.
+crates_of = $(shell awk -v crates=$(1) 'BEGIN { split(crates, todo) } { name = $$1; sub(":", "", name); below[name] = $$0 } \
+    END { for (n = 1; n > 0; ) { crate = todo[n--]; if (seen[crate]++) continue; print crate; \
+    for (k = split(below[crate], words); k > 1; k--) todo[++n] = words[k] } }' crates.txt)
+
+ifeq ($(FORM),proved)
 KIT = $(shell dirname "$$(dirname "$$(readlink -f "$$(command -v rt)")")")
-PROVED = crates/pcapfile_c/out/libpcapfile_c.a
-COPIES = crates/capcopy/out/capcopy
-FILES = crates/pcapfile/out/pcapfile
-LIBRARIES = pcap_core pcap_items pcap_times pcap_classic pcap_tolerant pcap_options pcap_blocks pcap_raw_options pcap_written pcap_ng pcap_file pcap_parts pcap_tolerant_blocks pcap_tolerant_captures
-# The toolchain's ports that the library and the programs hold.
-PORTS = byteorder thiserror itoa clap strsim jiff arrayvec serde_json ryu simdutf8
 JOBS_OF_RT = $(if $(JOBS),--jobs $(JOBS))
-sources_of = crates.txt $(shell find $(foreach crate,$(LIBRARIES) $(1),$(wildcard $(foreach part,src specs proofs,crates/$(crate)/$(part)))) -type f)
+folders_of = $(wildcard $(foreach crate,$(call crates_of,$(1)),crates/$(crate)/src crates/$(crate)/specs crates/$(crate)/proofs))
+sources_of = crates.txt $(shell find $(call folders_of,$(1)) -type f)
 
-MISSING := $(strip $(foreach tool,rt $(firstword $(CC)) $(LD) $(AR) objcopy strip,$(if $(shell command -v $(tool)),,$(tool))))
-ifneq ($(MISSING),)
-missing = not on the PATH: $(MISSING); 'rt' is the command of the Rattle toolchain, and the others come with a C compiler
-$(if $(filter clean uninstall,$(MAKECMDGOALS)),,$(error $(missing)))
-endif
+# Stops with one line if a tool is missing.
+needed := $(strip $(foreach tool,rt $(LD) objcopy strip,$(if $(shell command -v $(tool)),,$(tool))))
+needs_rt = $(if $(needed),$(error not on the PATH: $(needed); 'rt' is the command of the Rattle toolchain, and 'make' alone needs only a C compiler))
 
-.PHONY: all check install uninstall wheel dist deb clean
-
-all: $(COPIES) $(FILES) $(OUT)/pages $(OUT)/libpcapfile.a $(OUT)/libpcapfile.so.$(ABI) $(OUT)/licences
-
-$(COPIES): $(call sources_of,capcopy_run capcopy)
-	cd crates/capcopy && rt run $(JOBS_OF_RT) -- list < stdin > /dev/null
+crates/capcopy/out/capcopy: $(call sources_of,capcopy)
+	$(needs_rt)cd crates/capcopy && rt run $(JOBS_OF_RT) -- list < stdin > /dev/null
 	touch $@
 
-$(FILES): $(call sources_of,capcopy_run pcapfile_run pcapfile_cut pcapfile_merge pcapfile)
-	cd crates/pcapfile && rt run $(JOBS_OF_RT) -- --version > /dev/null
+crates/pcapfile/out/pcapfile: $(call sources_of,pcapfile)
+	$(needs_rt)cd crates/pcapfile && rt run $(JOBS_OF_RT) -- --version > /dev/null
 	touch $@
 
-# And whatever else crates.txt says that it stands on.
-$(FILES): $(call sources_of,$(shell sed -n 's/^pcapfile: //p' crates.txt))
-
-# The man page and the completions of the program for files, out of its help.
-$(OUT)/pages: $(FILES) packages/pages VERSION
-	rm -rf $@
-	mkdir -p $@
-	$(PYTHON) packages/pages $(FILES) $@
-
-$(PROVED): $(call sources_of,pcapfile_values pcapfile_c)
-	cd crates/pcapfile_c && rt lib $(JOBS_OF_RT)
+crates/pcapfile_c/out/libpcapfile_c.a: $(call sources_of,pcapfile_c)
+	$(needs_rt)cd crates/pcapfile_c && rt lib $(JOBS_OF_RT)
 	touch $@
 
-# One object of all that the library needs, in which every other name than the header's is local.
-$(OUT)/libpcapfile.o: $(PROVED)
-	mkdir -p $(OUT)
-	$(LD) -r --whole-archive $(PROVED) --no-whole-archive $(KIT)/c/liblibc_c.a -o $@
+$(OUT)/capcopy: crates/capcopy/out/capcopy
+$(OUT)/pcapfile: crates/pcapfile/out/pcapfile
+$(OUT)/capcopy $(OUT)/pcapfile:
+	@mkdir -p $(OUT)
+	strip -o $@ $<
+
+# One object with everything that the library needs. Only the names of the header are global.
+$(OUT)/libpcapfile.o: crates/pcapfile_c/out/libpcapfile_c.a
+	@mkdir -p $(OUT)
+	$(LD) -r --whole-archive $< --no-whole-archive $(KIT)/c/liblibc_c.a -o $@
 	objcopy --wildcard --keep-global-symbol='pcapfile_*' $@
+else
+# If these files cannot be compiled here, stops with one line of its own and no message of the compiler.
+lack = $(eval lack := $$(shell packages/compiles $(CC) $(CPPFLAGS) $(CFLAGS)))$(lack)
+compile = $(if $(lack),$(error $(lack)))$(CC) $(CPPFLAGS) $(CFLAGS) -std=gnu11
+said = @echo '$@: from $<, generated from the proved code' >&2
+
+$(OUT)/libpcapfile.o: portable/pcapfile.c
+	$(said)
+	@mkdir -p $(OUT)
+	$(compile) -fPIC -c $< -o $@
+
+$(OUT)/capcopy $(OUT)/pcapfile: $(OUT)/%: portable/%_program.c portable/os.c
+	$(said)
+	@mkdir -p $(OUT)
+	$(compile) $(LDFLAGS) $^ -o $@
+endif
 
 $(OUT)/libpcapfile.a: $(OUT)/libpcapfile.o
 	rm -f $@
 	$(AR) rcs $@ $<
 
-$(OUT)/libpcapfile.so.$(ABI): $(OUT)/libpcapfile.o include/names
+$(OUT)/$(SHARED): $(OUT)/libpcapfile.o include/names
 	$(CC) -shared -Wl,-soname,libpcapfile.so.$(ABI) -Wl,--version-script,include/names -Wl,-z,noexecstack $(LDFLAGS) $< -o $@
+	ln -sf $(SHARED) $(OUT)/libpcapfile.so.$(ABI)
 	ln -sf libpcapfile.so.$(ABI) $(OUT)/libpcapfile.so
 
-# What goes with all that is built: the licences of the parts that it holds, and what is said of those that have none.
-$(OUT)/licences: LICENSE NOTICE Makefile
+# The man page and the completions of pcapfile, made from its help.
+$(OUT)/pages: $(OUT)/pcapfile packages/pages VERSION
 	rm -rf $@
 	mkdir -p $@
-	cp LICENSE NOTICE $@
-	$(foreach port,$(PORTS),cp $(firstword $(wildcard $(foreach name,LICENSE LICENSE-MIT,$(KIT)/rattle/$(port)/$(name)))) $@/LICENSE.$(port) &&) :
-	cp $(KIT)/rattle/ryu/LICENSE-ZMIJ $@/LICENSE.zmij
+	$(PYTHON) packages/pages $(OUT)/pcapfile $@
 
 check: all
-	tests/c/run
+	tests/check $(OUT)
 
-install: all
-	install -d $(BINDIR) $(INCDIR) $(LIBDIR)/pkgconfig $(MANDIR) $(DOCDIR) $(SHAREDIR) $(BASHDIR) $(ZSHDIR)
-	install -m 755 $(COPIES) $(FILES) $(BINDIR)/
-	strip $(BINDIR)/capcopy $(BINDIR)/pcapfile
-	install -m 644 include/pcapfile.h include/pcapfile_open.h $(INCDIR)/
-	install -m 644 c/open.c $(SHAREDIR)/open.c
-	install -m 644 $(OUT)/libpcapfile.a $(LIBDIR)/libpcapfile.a
-	install -m 755 $(OUT)/libpcapfile.so.$(ABI) $(LIBDIR)/libpcapfile.so.$(ABI)
-	ln -sf libpcapfile.so.$(ABI) $(LIBDIR)/libpcapfile.so
-	printf '%s\n' 'prefix=$(PREFIX)' 'includedir=$${prefix}/include' 'libdir=$(libdir)' \
-	    'open=$${prefix}/share/pcapfile/open.c' '' 'Name: pcapfile' \
-	    'Description: Reads and writes packet captures by a proved parser' 'Version: $(VERSION)' \
-	    'Cflags: -I$${includedir}' 'Libs: -L$${libdir} -lpcapfile' > $(LIBDIR)/pkgconfig/pcapfile.pc
-	chmod 644 $(LIBDIR)/pkgconfig/pcapfile.pc
-	install -m 644 capcopy.1 $(OUT)/pages/pcapfile.1 $(MANDIR)/
-	install -m 644 packages/completions/capcopy.bash $(BASHDIR)/capcopy
-	install -m 644 $(OUT)/pages/pcapfile.bash $(BASHDIR)/pcapfile
-	install -m 644 packages/completions/_capcopy $(OUT)/pages/_pcapfile $(ZSHDIR)/
-	install -m 644 CHANGELOG.md $(OUT)/licences/* $(DOCDIR)
+# The installed files, one per row: mode, file and place. The mode 'link' makes a symbolic link.
+licences = LICENSE NOTICE $(wildcard portable/licences/*)
+INSTALLED = \
+    755:$(OUT)/capcopy:$(bindir)/capcopy \
+    755:$(OUT)/pcapfile:$(bindir)/pcapfile \
+    644:include/pcapfile.h:$(includedir)/pcapfile.h \
+    644:include/pcapfile_open.h:$(includedir)/pcapfile_open.h \
+    644:c/open.c:$(datadir)/pcapfile/open.c \
+    644:$(OUT)/libpcapfile.a:$(libdir)/libpcapfile.a \
+    644:$(OUT)/$(SHARED):$(libdir)/$(SHARED) \
+    link:$(SHARED):$(libdir)/libpcapfile.so.$(ABI) \
+    link:libpcapfile.so.$(ABI):$(libdir)/libpcapfile.so \
+    644:$(OUT)/pcapfile.pc:$(libdir)/pkgconfig/pcapfile.pc \
+    644:capcopy.1:$(datadir)/man/man1/capcopy.1 \
+    644:$(OUT)/pages/pcapfile.1:$(datadir)/man/man1/pcapfile.1 \
+    644:packages/completions/capcopy.bash:$(datadir)/bash-completion/completions/capcopy \
+    644:$(OUT)/pages/pcapfile.bash:$(datadir)/bash-completion/completions/pcapfile \
+    644:packages/completions/_capcopy:$(zshdir)/_capcopy \
+    644:$(OUT)/pages/_pcapfile:$(zshdir)/_pcapfile \
+    $(foreach it,CHANGELOG.md $(licences),644:$(it):$(datadir)/doc/pcapfile/$(notdir $(it)))
+
+install: all $(OUT)/pages
+	sed -e 's|@PREFIX@|$(PREFIX)|; s|@LIBDIR@|$(libdir)|; s|@VERSION@|$(VERSION)|' packages/pcapfile.pc.in >$(OUT)/pcapfile.pc
+	@printf '%s\n' $(INSTALLED) | while IFS=: read -r mode file place; do \
+	    place="$(DESTDIR)$$place"; install -d "$${place%/*}" && \
+	    if [ $$mode = link ]; then ln -sf $$file "$$place"; else install -m $$mode $$file "$$place"; fi || exit 1; done
 
 uninstall:
-	rm -f $(INCDIR)/pcapfile.h $(INCDIR)/pcapfile_open.h $(LIBDIR)/libpcapfile.a $(LIBDIR)/libpcapfile.so.$(ABI)
-	rm -f $(LIBDIR)/libpcapfile.so $(LIBDIR)/pkgconfig/pcapfile.pc
-	rm -f $(foreach program,capcopy pcapfile,$(BINDIR)/$(program) $(MANDIR)/$(program).1 $(BASHDIR)/$(program) $(ZSHDIR)/_$(program))
-	rm -rf $(DOCDIR) $(SHAREDIR)
+	@printf '%s\n' $(INSTALLED) | while IFS=: read -r mode file place; do rm -f "$(DESTDIR)$$place" || exit 1; done
+	@rmdir $(DESTDIR)$(datadir)/pcapfile $(DESTDIR)$(datadir)/doc/pcapfile 2>/dev/null || :
 
-wheel: $(OUT)/libpcapfile.so.$(ABI) $(OUT)/licences
-	rm -f $(OUT)/*.whl
-	$(PYTHON) python/backend.py $(OUT)
-
-# What `make install` installs, with a pkg-config's file that finds it by its own place, and sums of all files.
+# The files of `make install`. pkg-config's file finds them by its own place, and SHA256SUMS has the sum of each file.
 dist: all
-	rm -rf $(OUT)/pcapfile-*.tar.gz $(OUT)/$(DIST)
+	rm -rf $(OUT)/$(DIST) $(OUT)/$(DIST).tar.gz
 	$(MAKE) -s install DESTDIR=$(OUT)/$(DIST) PREFIX= libdir=/lib
 	sed -i -e 's|^prefix=.*|prefix=$${pcfiledir}/../..|' -e 's|^libdir=.*|libdir=$${prefix}/lib|' \
 	    $(OUT)/$(DIST)/lib/pkgconfig/pcapfile.pc
 	cd $(OUT)/$(DIST) && find . -type f ! -name SHA256SUMS | sort | xargs sha256sum > SHA256SUMS
-	tar -C $(OUT) --sort=name --owner=0 --group=0 --numeric-owner -czf $(OUT)/$(DIST).tar.gz $(DIST)
+	$(TAR) -C $(OUT) -f $(OUT)/$(DIST).tar.gz $(DIST)
 	rm -rf $(OUT)/$(DIST)
 	@echo $(DIST).tar.gz
 
-deb: all
-	rm -f $(OUT)/*.deb
-	packages/deb $(OUT)
+# The library as C files. Making this tarball needs no compiler.
+amalgamation:
+	rm -rf out/$(AMALGAMATION) out/$(AMALGAMATION).tar.gz
+	mkdir -p out/$(AMALGAMATION)
+	cp portable/pcapfile.c include/pcapfile.h include/pcapfile_open.h c/open.c packages/pcapfile.pc.in LICENSE NOTICE out/$(AMALGAMATION)
+	cp $(wildcard $(addprefix portable/licences/LICENSE.,$(call crates_of,pcapfile_c))) out/$(AMALGAMATION)
+	for it in CMakeLists.txt meson.build README.md.in; do \
+	    sed 's|@VERSION@|$(VERSION)|; s|@ABI@|$(ABI)|' packages/amalgamation/$$it >out/$(AMALGAMATION)/$${it%.in} || exit 1; done
+	$(TAR) -C out -f out/$(AMALGAMATION).tar.gz $(AMALGAMATION)
+	rm -rf out/$(AMALGAMATION)
+	@echo $(AMALGAMATION).tar.gz
+
+# The crate for Rust. cargo packs it from a folder that also has the library as a C file, and the licences.
+crate:
+	rm -rf out/crate out/pcapfile-$(VERSION).crate
+	mkdir -p out/crate
+	cp -r rust/build.rs rust/src rust/examples rust/tests portable/pcapfile.c LICENSE NOTICE README.md out/crate
+	cp $(wildcard $(addprefix portable/licences/LICENSE.,$(call crates_of,pcapfile_c))) out/crate
+	sed 's|"\.\./README.md"|"README.md"|' rust/Cargo.toml >out/crate/Cargo.toml
+	cd out/crate && cargo package -q --offline --allow-dirty --no-verify --target-dir packed
+	mv out/crate/packed/package/pcapfile-$(VERSION).crate out
+	rm -rf out/crate
+	@echo pcapfile-$(VERSION).crate
+
+# The package for Python. pip makes it from python/ with the installed setuptools and wheel.
+wheel:
+	rm -f out/*.whl
+	$(PYTHON) -m pip wheel -q --disable-pip-version-check --no-index --no-build-isolation --no-deps -w out ./python
+	@cd out && printf '%s\n' *.whl
+
+# Debian's packages, built by debian/ in a copy of this folder, so that no built file gets among the sources.
+deb:
+	rm -rf out/deb out/*.deb
+	mkdir -p out/deb/pcapfile
+	tar --exclude=./.git --exclude=out --exclude=target --exclude=__pycache__ -c . | tar -x -C out/deb/pcapfile
+	cd out/deb/pcapfile && dpkg-buildpackage -us -uc -b >&2
+	mv out/deb/*.deb out/
+	rm -rf out/deb
+	@cd out && printf '%s\n' *.deb
 
 clean:
-	rm -rf $(OUT)
+	rm -rf out

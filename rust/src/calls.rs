@@ -120,6 +120,12 @@ pub struct Error {
     pub missing: usize,
 }
 
+// The library itself, where PCAPFILE_ASSEMBLY named it to build.rs.
+#[cfg(all(pcapfile_assembly, target_arch = "x86_64"))]
+core::arch::global_asm!(include_str!(env!("PCAPFILE_ASSEMBLY_FILE")), options(att_syntax, raw));
+#[cfg(all(pcapfile_assembly, not(target_arch = "x86_64")))]
+core::arch::global_asm!(include_str!(env!("PCAPFILE_ASSEMBLY_FILE")), options(raw));
+
 extern "C" {
     pub fn pcapfile_take_header(left: *mut Bytes, header: *mut crate::Header, error: *mut Error) -> i32;
     pub fn pcapfile_take_packet(

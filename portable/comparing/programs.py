@@ -1,0 +1,91 @@
+"""Each word of pcapfile and capcopy over each capture: standard output, standard error, status, and the files that are left."""
+import hashlib
+import os
+import shutil
+import subprocess
+import tempfile
+
+from .forms import TOP
+
+PROVED = {"pcapfile": f"{TOP}/crates/pcapfile/out/pcapfile", "capcopy": f"{TOP}/crates/capcopy/out/capcopy"}
+STEMS = {"pcapfile": "pcapfile_program", "capcopy": "capcopy_program"}
+SECONDS = 300
+BOTH_WAYS = (
+    [[word, *flags] for word, lenient in (("check", "--as-is"), ("list", "--as-is"), ("info", "--repair")) for flags in ([], [lenient])]
+    + [["list", flag] for flag in ("--csv", "--json", "--utc")]
+    + [["info", "--json"], ["info", "--json", "--repair"], ["check", "--quiet"], ["list", "--json", "--as-is"]]
+)
+CUTS = (["--packets", "2-4"], ["--every", "3"], ["--from", "1000000000.5"], ["--until", "1400000000"], ["--bytes", "5000"])
+
+
+def words_of_pcapfile():
+    found = [[*words, "IN"] for words in BOTH_WAYS]
+    for to in ([], ["--to", "pcap"], ["--to", "pcapng"]):
+        found += [["convert", *to, "IN", "-o", "OUT"], ["convert", *to, "--repair", "IN", "-o", "OUT"]]
+    for cut in CUTS:
+        found += [["cut", *cut, "IN", "-o", "OUT.pcap"], ["cut", *cut, "--repair", "IN", "-o", "OUT.pcap"]]
+    found += [["cut", "--parts", "3", "IN", "-o", "OUT.pcap"], ["repair", "IN", "-o", "OUT"], ["join", "IN", "IN", "-o", "OUT"]]
+    found += [["merge", "IN", "NEXT", "-o", "OUT"], ["merge", "--repair", "IN", "NEXT", "-o", "OUT"], ["check", "IN", "NEXT", "nothing-here"]]
+    return found + [["convert", "-", "-o", "-"], ["repair", "-", "-o", "-"], ["list", "-"], ["info", "-"], ["convert", "IN", "-o", "IN"]]
+
+
+WORDS = {
+    "pcapfile": words_of_pcapfile(),
+    "capcopy": [["list"], ["copy"], ["copy", "big", "nano"], ["copy", "little", "micro"], ["blocks"], ["wrong"]],
+}
+# What needs no capture, tried once.
+ALONE = {
+    "pcapfile": [[], ["--help"], ["--version"], ["wrong"], ["list"], ["cut", "IN"], ["convert", "--to", "text", "IN"]]
+    + [[word, "--help"] for word in ("check", "info", "list", "convert", "cut", "join", "merge", "repair")]
+    + [["cut", "--from", "yesterday", "IN", "-o", "OUT"], ["check", "."], ["help", "cut"]],
+    "capcopy": [[], ["--help"], ["--version"], ["copy", "wrong"]],
+}
+
+
+def digest(data):
+    return hashlib.sha256(data).hexdigest()[:20]
+
+
+def told(command, words, capture, following, room):
+    """All that one run of a program leaves."""
+    folder = tempfile.mkdtemp(dir=room)
+    try:
+        shutil.copyfile(capture, f"{folder}/IN")
+        shutil.copyfile(following, f"{folder}/NEXT")
+        with open(capture, "rb") as given:
+            ran = subprocess.run([*command, *words], cwd=folder, stdin=given, capture_output=True, timeout=SECONDS)
+        names = sorted(it for it in os.listdir(folder) if it != "NEXT")
+        files = [(it, digest(content(f"{folder}/{it}"))) for it in names]
+        return ran.returncode, digest(ran.stdout), digest(ran.stderr), files, ran.stderr[-200:]
+    finally:
+        shutil.rmtree(folder)
+
+
+def content(path):
+    with open(path, "rb") as it:
+        return it.read()
+
+
+def runs(program, captures):
+    """Each run as its words, the capture and the one after it."""
+    found = [(words, captures[0], captures[-1]) for words in ALONE[program]]
+    for at, capture in enumerate(captures):
+        found += [(words, capture, captures[(at + 1) % len(captures)]) for words in WORDS[program]]
+    return found
+
+
+def compared(program, command, captures, room, pool, wanted):
+    """The runs of a program by this command, and those whose answers are not the wanted ones."""
+    all_runs = runs(program, captures)
+    got = list(pool.map(lambda it: told(command, *it, room), all_runs))
+    if wanted is None:
+        return got, []
+    return got, [(run, want, mine) for run, want, mine in zip(all_runs, wanted, got) if want[:4] != mine[:4]]
+
+
+def build(form, program, folder, room):
+    """A program in one form, or what went wrong. Its name is its own, since it tells that in its help."""
+    made = f"{room}/{form.name}/{program}"
+    os.makedirs(f"{room}/{form.name}", exist_ok=True)
+    why = form.build([form.source(STEMS[program], folder), f"{TOP}/portable/os.c"], made, *["-DASSEMBLY"] * bool(form.target))
+    return made, why

@@ -1,0 +1,19 @@
+/* What the programs of tests/c want of a system that is not POSIX: bytes as they are, and a clock, which is never compared. */
+#include <fcntl.h>
+#include <io.h>
+#include <stdlib.h>
+#include <time.h>
+
+int clock_gettime(clockid_t clock, struct timespec *to);
+
+__attribute__((constructor)) static void take_bytes_as_they_are(void) {
+    _fmode = _O_BINARY;
+    _setmode(0, _O_BINARY);
+    _setmode(1, _O_BINARY);
+}
+
+int clock_gettime(clockid_t clock, struct timespec *to) {
+    (void)clock;
+    *to = (struct timespec){0};
+    return 0;
+}

@@ -1,0 +1,7 @@
+/* What the program asks of memory, which ../../wasm_support.c has. */
+#include <stddef.h>
+
+void *memcpy(void *to, const void *from, size_t length);
+void *memmove(void *to, const void *from, size_t length);
+void *memset(void *to, int byte, size_t length);
+int memcmp(const void *one, const void *other, size_t length);
