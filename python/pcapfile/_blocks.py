@@ -2,72 +2,16 @@
 
 import ctypes
 import struct
-from typing import Any, Dict, Iterator, List, NamedTuple, Optional, Tuple
+from typing import TYPE_CHECKING, Any, Dict, Iterator, List, Optional, Tuple
 
 from . import _columns, _library
 from ._capture import BATCH, Packets, Take, make
-from ._errors import CaptureError, error_of
+from ._errors import CaptureError, error_of, refused
+from ._extension import native
+from ._interfaces import Interface, described
 from ._options import Block
-from ._source import Memory, Source, Stretch, Window
-
-
-class Interface(NamedTuple):
-    """An interface: `link` is the number of its link type, and its times are counted in `ts_base` to the power of minus
-    `ts_exponent` seconds, with `ts_offset` seconds added."""
-
-    link: int
-    snaplen: int
-    ts_base: int
-    ts_exponent: int
-    ts_offset: int
-
-
-class Timed:
-    """What the time and the interface of a packet tell."""
-
-    __slots__ = ()
-
-    seconds: Optional[int]
-    nanoseconds: int
-    interface: Optional[Interface]
-
-    @property
-    def time(self) -> Optional[float]:
-        """Seconds since 1970, as exact as a float is; `seconds` and `nanoseconds` are exact."""
-        return None if self.seconds is None else self.seconds + self.nanoseconds / 1e9
-
-    @property
-    def time_ns(self) -> Optional[int]:
-        """Nanoseconds since 1970."""
-        return None if self.seconds is None else self.seconds * 1_000_000_000 + self.nanoseconds
-
-    @property
-    def link(self) -> Optional[int]:
-        """The number of the link type of its first layer."""
-        return None if self.interface is None else self.interface.link
-
-
-class _Fields(NamedTuple):
-    seconds: Optional[int]
-    nanoseconds: int
-    original_length: int
-    data: memoryview
-    timestamp: int
-    interface_id: int
-    interface: Optional[Interface]
-    offset: int
-
-
-class BlockPacket(_Fields, Timed):
-    """A packet of an interface. `data` lies in the capture: it can be read as long as the capture is open. Of a simple packet it is
-    cut to the original length and to the interface's snaplen, since what follows is padding.
-
-    A simple packet has no time, and there `seconds` is None, as it is where the packet names an interface that isn't there,
-    or the seconds pass 64 bits. `offset` is where `data` begins, in bytes from the capture's start.
-    """
-
-    __slots__ = ()
-
+from ._packets import BlockPacket
+from ._source import File, Source, Stream, Stretch, Window
 
 _SIMPLE_PACKET = 3
 
@@ -101,22 +45,26 @@ class _Known(_Unknown):
     of a second, with nothing added, are divided here: `per_second` of them, each of so many `nanoseconds`. All others are for
     the library, and there `per_second` is 0."""
 
-    def __init__(self, shown: _library.Interface) -> None:
-        self.interface = Interface(*(getattr(shown, name) for name, _ in shown._fields_))
-        self._shown, self._time = shown, _library.Time()
+    def __init__(self, shown: _library.Interface, block: Block) -> None:
+        self.interface = described(block, *(getattr(shown, name) for name, _ in shown._fields_))
+        self.shown = shown
         is_plain = shown.ts_base == 10 and 1 <= shown.ts_exponent <= 9 and shown.ts_offset == 0
         self.per_second = 10**shown.ts_exponent if is_plain else 0
         self.nanoseconds = 10 ** (9 - shown.ts_exponent) if is_plain else 0
 
     def time(self, units: int) -> Tuple[Optional[int], int]:
         """Seconds and nanoseconds, or None and 0 where the seconds pass 64 bits."""
-        if _library.time_of(self._shown, units, self._time) != _library.OK:
+        time = _library.Time()  # one for each call, as threads share an interface
+        if _library.time_of(self.shown, units, time) != _library.OK:
             return None, 0
-        return self._time.seconds, self._time.nanoseconds
+        return time.seconds, time.nanoseconds
 
 
 class Walk:
     """The blocks of a capture, and the interfaces of the section in force."""
+
+    # How many bytes stand before a packet's own in its block, and in that of a simple packet.
+    HEAD, SIMPLE_HEAD = 28, 12
 
     # Rows as the library fills them in: with units of time, and the type of the block in place of the link.
     rows = [("timestamp", "u8"), ("len", "u4"), ("orig_len", "u4"), ("interface", "u4"), ("type", "u4"), ("offset", "u8")]
@@ -126,6 +74,10 @@ class Walk:
         self.section, self.error = _library.Section(), _library.Error()
         self.block: Any = _library.Block(0, _library.no_bytes())
         self.known: Dict[int, _Known] = {}
+        # Those of all sections so far.
+        self.described: List[Interface] = []
+        # Those in force, for the extension.
+        self.clocks: Any = None if native is None else native.clocks()
 
     def take(self) -> None:
         """Takes the next block, and of an interface what is needed of it."""
@@ -134,7 +86,8 @@ class Walk:
             if status != _library.INCOMPLETE or not self.window.more(self.error.missing):
                 raise error_of(status, self.error, self.window.offset)
         if self.section.interfaces == 0:
-            self.known.clear()
+            self.known = {}
+            self.clocks = None if native is None else native.clocks()
         elif self.section.interfaces != before:
             self._keep(before)
 
@@ -144,15 +97,29 @@ class Walk:
 
     def shown(self) -> Block:
         """The block that was taken last."""
+        return self._block()
+
+    def _block(self) -> Block:
+        """The same without what is wrong with it."""
         window, length = self.window, self.block.body.len
-        end = len(window.data) - window.left.len - 4
-        body = window.data[end - length : end]
-        return Block(self.block.type, body, window.base + end - length, self.section.magic_number)
+        begin = self.block.body.ptr - window.start if length > 0 else 0
+        body = window.data[begin : begin + length]
+        return Block(self.block.type, body, window.offset - length - 4, self.section.magic_number)
 
     def _keep(self, number: int) -> None:
         shown = _library.Interface()
         if _library.read_interface(self.section, self.block, shown, self.error) == _library.OK:
-            self.known[number] = _Known(shown)
+            self._add(number, shown)
+
+    def _add(self, number: int, shown: _library.Interface) -> None:
+        known = self.known[number] = _Known(shown, self._block())
+        self.described.append(known.interface)
+        if native is not None:
+            self.clocks.add(number, shown, known.interface)
+
+    @property
+    def head(self) -> _library.Section:
+        return self.section
 
     @property
     def state(self) -> Any:
@@ -164,7 +131,17 @@ class Walk:
         """A walk over other bytes of the same capture, from where the same is in force."""
         walk = Walk(window)
         walk.section, walk.known = _library.Section.from_buffer_copy(self.section), dict(self.known)
+        walk.clocks = None if native is None else self.clocks.copy()
         return walk
+
+    def restore(self, known: Dict[int, _Known], count: int, magic_number: int) -> None:
+        """Puts a section in force, with so many of its interfaces."""
+        self.section = _library.Section(magic_number, 1, 0, count)
+        self.known = {number: found for number, found in known.items() if number < count}
+        if native is not None:
+            self.clocks = native.clocks()
+            for number, found in self.known.items():
+                self.clocks.add(number, found.shown, found.interface)
 
     def ahead(self, window: Window) -> "Walk":
         """A walk from what is in force at the first packet of the same bytes."""
@@ -213,21 +190,37 @@ class Walk:
 class BlockCapture(Packets):
     """A PcapNg capture: iterate over it for its packets, of all sections. Other blocks, and packets whose block can't be
     read, are passed over. Where the capture is refused, the packets before that come first. One in memory or in a file can be
-    iterated over again."""
+    iterated over again.
+
+        >>> with pcapfile.open("options.pcapng") as capture:
+        ...     [packet.comment for packet in capture]
+        ['seen']
+    """
+
+    if TYPE_CHECKING:
+
+        def __iter__(self) -> Iterator[BlockPacket]: ...
+
+    format = "pcapng"
 
     _walks = Walk
 
-    def __init__(self, source: Source, stretch: Optional[Stretch] = None) -> None:
+    def __init__(self, source: Source, window: Window, stretch: Optional[Stretch] = None) -> None:
         super().__init__(source, stretch)
-        self._first = self._walks(source.window())
-        self._first.take()
-        # The first block of a stream, until something of it is asked for.
-        self._head: Optional[Block] = self._first.shown()
+        walk = self._walks(window)
+        walk.take()
+        head = walk.shown()
+        # A copy of the first block, which is a section header.
+        self.section: Block = head._replace(body=memoryview(bytes(head.body)))
+        # The walk over a stream, and its first block until something of it is asked for. A window of memory or a file holds on to bytes
+        # and to a descriptor, and goes.
+        self._first: Optional[Walk] = walk if isinstance(source, Stream) else None
+        self._head: Optional[Block] = head if isinstance(source, Stream) else None
 
     def _walk(self, lends: bool = True) -> Walk:
         """A walk over all of it, or over what a stream has not given yet; or over the stretch, behind what is in force there."""
         source, stretch, self._head = self._source, self._stretch, None
-        if not isinstance(source, Memory):
+        if self._first is not None:
             return self._first
         bytes_between = source.between if lends else source.read
         if stretch is None:
@@ -240,14 +233,44 @@ class BlockCapture(Packets):
         walk.window = bytes_between(stretch.begin, stretch.end)
         return walk
 
-    def __iter__(self) -> Iterator[BlockPacket]:
-        walk, taken = self._walk(), ctypes.c_size_t()
+    # Each interface tells its own units of time.
+    has_nanoseconds = True
+
+    @property
+    def byteorder(self) -> str:
+        """That of the numbers in its first section: "big" or "little".
+
+            >>> with pcapfile.open("options.pcapng") as capture:
+            ...     capture.byteorder
+            'little'
+        """
+        return self.section.byteorder
+
+    @property
+    def interfaces(self) -> List[Interface]:
+        if self._first is not None:
+            return list(self._first.described)
+        walk = self._walk(lends=False)
+        try:
+            self.pass_over(walk)
+        except CaptureError:
+            pass
+        return walk.described
+
+    def _by_extension(self, walk: Any, chosen: Any, are_pairs: bool) -> Iterator[Any]:
+        packets: Iterator[Any] = native.packets(walk, None, refused, chosen, are_pairs)
+        return packets
+
+    def _one_by_one(self, walk: Any) -> Iterator[BlockPacket]:
+        taken = ctypes.c_size_t()
         packets = (_library.NgPacket * BATCH)(*[_library.NgPacket(0, 0, 0, 0, _library.no_bytes())] * BATCH)
         fields = memoryview(packets).cast("B")
-        window = walk.window
+        window, is_open = walk.window, walk.window.open
         for _ in walk.batches(lambda left, error: _library.take_ng_packets(walk.section, left, packets, BATCH, taken, error)):
             data, start, base, last = window.data, window.start, window.base, None
             for kind, number, original, units, at, length in _PACKET.iter_unpack(fields[: taken.value * _PACKET.size]):
+                if is_open.is_closed:
+                    window.check()
                 if number != last:
                     last, known = number, walk.known.get(number, _UNKNOWN)
                     interface, per_second, each = known.interface, known.per_second, known.nanoseconds
@@ -263,7 +286,15 @@ class BlockCapture(Packets):
 
     def blocks(self) -> Iterator[Block]:
         """All blocks, those of packets among them, with their bodies as they stand. Where the capture is refused, the blocks before
-        that come first."""
+        that come first.
+
+            >>> with pcapfile.open("options.pcapng") as capture:
+            ...     [block.type for block in capture.blocks()]
+            [168627466, 1, 6]
+        """
+        return self._begun("blocks", self._blocks)
+
+    def _blocks(self) -> Iterator[Block]:
         head, walk = self._head, self._walk()
         if head is not None and walk is self._first:
             yield head
@@ -272,7 +303,8 @@ class BlockCapture(Packets):
             yield walk.shown()
 
     def _stretches(self, count: int, at_least: int) -> List[Stretch]:
-        window, cuts, error = self._source.window(), (_library.NgCut * count)(), _library.Error()
+        whole = self._source.mapped() if isinstance(self._source, File) else self._source
+        window, cuts, error = whole.window(), (_library.NgCut * count)(), _library.Error()
         found, known, places = ctypes.c_size_t(), ctypes.c_size_t(), (ctypes.c_size_t * 64)()
         while True:
             wanted = (cuts, count, found, places, len(places), known, error)

@@ -2,12 +2,18 @@
 
 import ctypes
 import struct
-from typing import Any, Callable, Iterator, List, NamedTuple, Optional
+from typing import TYPE_CHECKING, Any, Callable, Iterator, List, NamedTuple, Optional, Tuple
 
 from . import _columns, _library
-from ._columns import COLUMNS
-from ._errors import error_of
-from ._source import Memory, Source, Stretch, Window
+from ._errors import error_of, refused
+from ._extension import native
+from ._filter import Filter, Moment
+from ._html import shown_as_html
+from ._indexed import Indexed, rows_of
+from ._interfaces import Interface
+from ._packets import Packet
+from ._source import IN_A_ROW, File, Source, Stream, Stretch, Window
+from ._tables import Tables
 
 # How many packets one call into the library takes.
 BATCH = 512
@@ -23,7 +29,12 @@ make = tuple.__new__
 
 
 class Header(NamedTuple):
-    """The header of a capture."""
+    """The header of a capture.
+
+        >>> with pcapfile.open("capture.pcap") as capture:
+        ...     capture.header.snaplen
+        65535
+    """
 
     magic_number: int
     version_major: int
@@ -34,62 +45,140 @@ class Header(NamedTuple):
     link: int
 
 
-class Packet(NamedTuple):
-    """A packet of a capture. `data` lies in the capture: it can be read as long as the capture is open.
+class Packets(Tables):
+    """The packets of a capture in memory, in a file or out of a stream, or those of a stretch of one in memory or in a file.
 
-    `link` is the number of the link type of its first layer, and `offset` is where `data` begins, in bytes from the capture's
-    start.
-    """
-
-    seconds: int
-    nanoseconds: int
-    original_length: int
-    data: memoryview
-    link: int
-    offset: int
-
-    @property
-    def time(self) -> float:
-        """Seconds since 1970, as exact as a float is; `seconds` and `nanoseconds` are exact."""
-        return self.seconds + self.nanoseconds / 1e9
-
-    @property
-    def time_ns(self) -> int:
-        """Nanoseconds since 1970."""
-        return self.seconds * 1_000_000_000 + self.nanoseconds
-
-
-class Packets:
-    """The packets of a capture in memory, in a file or out of a stream, or those of a stretch of one in memory or in a file."""
+    Threads may share a capture in memory or in a file: each loop over it is a walk of its own. One iterator, and so a stream, is
+    for one thread at a time, and another one that asks it meanwhile gets a ValueError; no packet is lost. One thread may close a
+    capture that others walk over: they get a ValueError then."""
 
     def __init__(self, source: Source, stretch: Optional[Stretch] = None) -> None:
         self._source, self._stretch = source, stretch
+        # The rows that came out of a stream for a DataFrame before it had no more bytes for a while.
+        self._rows: List[Any] = []
 
     def __iter__(self) -> Iterator[Any]:
+        return self._begun("packets", self._packets)
+
+    def _begun(self, kind: Any, begin: Callable[[], Iterator[Any]]) -> Iterator[Any]:
+        """A walk of this kind; of a stream the one that goes on, where there is one."""
+        return self._source.walk(kind, begin) if isinstance(self._source, Stream) else begin()
+
+    # "pcap" or "pcapng".
+    format: str
+
+    # Whether the extension gives its packets.
+    _is_native = native is not None
+
+    @property
+    def is_stream(self) -> bool:
+        """Whether its packets come once, out of a stream or out of what is compressed."""
+        return isinstance(self._source, Stream)
+
+    @property
+    def interfaces(self) -> List[Interface]:
+        """The interfaces that it describes, of all its sections, in its order; none of a classic capture. One in memory or in a file
+        is passed over for that, up to its end or to where it is refused; of a stream they are those that came so far.
+
+            >>> with pcapfile.open("options.pcapng") as capture:
+            ...     [interface.link for interface in capture.interfaces]
+            [1]
+        """
         raise NotImplementedError
 
-    def columns(self, batch: int = COLUMNS, threads: int = 1) -> Iterator[Any]:
-        """The packets as columns, so many of them at once: arrays of numpy with the fields `time_ns`, `len`, `orig_len`,
-        `interface`, `link` and `offset`, or an `array` for each by its name where numpy is missing.
+    @property
+    def link_types(self) -> List[int]:
+        """The numbers of the link types of its packets' first layers: that of a classic capture, or those of its `interfaces`.
 
-        So many threads walk stretches of a capture in memory or in a file side by side, where numpy is there; the packets come in
-        the same order, and at the end of a stretch fewer at once. A stream is walked by one.
+            >>> with pcapfile.open("capture.pcap") as capture:
+            ...     capture.link_types
+            [1]
+        """
+        return list(dict.fromkeys(interface.link for interface in self.interfaces))
 
-        `time_ns` is in nanoseconds since 1970, and -2^63, numpy's NaT, where a packet has no time or 64 bits don't hold it.
-        `len` and `orig_len` are the stored and the original length, `offset` is where the stored bytes begin in the capture,
-        and `link` is 2^32 - 1 where the interface isn't known. Where the capture is refused, the packets before that come
-        first."""
-        if _columns.numpy is None:
-            return _columns.of_packets(self, batch)
-        if threads > 1 and isinstance(self._source, Memory):
-            return self._side_by_side(batch, threads)
-        return self._arrays(batch)
+    def pairs(self) -> Iterator[Tuple[Optional[float], bytes]]:
+        """The time of each packet, in seconds since 1970 or None, and its bytes, as other packages give them.
 
-    def _arrays(self, batch: int) -> Iterator[Any]:
-        return _columns.of_walk(self._walk(lends=False), batch)
+            >>> with pcapfile.open("capture.pcap") as capture:
+            ...     [(time, len(data)) for time, data in capture.pairs()]
+            [(1335958313.15263, 98)]
+        """
+        return self._begun("pairs", self._pairs)
 
-    def _side_by_side(self, batch: int, threads: int) -> Iterator[Any]:
-        return _columns.side_by_side(self._walk(lends=False), self._source, self._end(), batch, threads)
+    def filter(
+        self, expression: Optional[str] = None, *, since: Optional[Moment] = None, until: Optional[Moment] = None
+    ) -> Iterator[Any]:
+        """The packets for which an expression of tcpdump holds, as "udp port 53", and whose times are `since` one on and before
+        another, `until`: datetimes with a zone, or seconds since 1970. libpcap compiles the expression for the link type of each
+        packet. A ValueError says what is wrong with it, of a PcapNg capture where the first packet of a link type comes. A packet
+        whose interface isn't there is left out, and with a time one that has none, or whose nanoseconds pass 64 bits.
+
+            >>> with pcapfile.open("capture.pcap") as capture:
+            ...     [packet.length for packet in capture.filter(since=1335958313)]
+            [98]
+        """
+        chosen = Filter(expression, since, until)
+        for link in self.link_types if self.format == "pcap" and expression is not None else []:
+            chosen.program(link)
+        return self._begun(("filter", expression, since, until), lambda: self._filtered(chosen))
+
+    def indexed(self) -> "Indexed":
+        """The packets by their numbers: `len`, `[5]`, `[-1]` and slices. A ValueError of a stream, whose packets come once.
+
+            >>> with pcapfile.open("capture.pcap") as capture:
+            ...     capture.indexed()[-1].offset
+            40
+        """
+        return Indexed(self)
+
+    def passed_over(self) -> Any:
+        """A walk at the end of all packets, with what is in force there. Where the capture is refused, that comes instead."""
+        walk = self._walk(lends=False)
+        self.pass_over(walk)
+        return walk
+
+    def pass_over(self, walk: Any) -> None:
+        """Takes all packets of a walk."""
+        rows, taken = rows_of(BATCH), ctypes.c_size_t()
+        for _ in walk.batches(lambda left, error: walk.take_rows(left, ctypes.addressof(rows), BATCH, taken, error)):
+            pass
+
+    def bytes_at(self, place: slice) -> memoryview:
+        """The bytes of the capture between two places. A ValueError of a stream, whose bytes come once.
+
+            >>> with pcapfile.open("capture.pcap") as capture:
+            ...     bytes(capture.bytes_at(slice(40, 43)))
+            b'\\x00\\x01\\x02'
+        """
+        if isinstance(self._source, Stream):
+            raise ValueError("the bytes of a stream come once")
+        begin = min(place.start, len(self._source))
+        return self._source.view(begin, min(place.stop, len(self._source)))
+
+    def _packets(self) -> Iterator[Any]:
+        return self.packets_of(self._walk())
+
+    def packets_of(self, walk: Any) -> Iterator[Any]:
+        """The packets of a walk."""
+        return self._by_extension(walk, None, False) if self._is_native else self._one_by_one(walk)
+
+    def _pairs(self) -> Iterator[Tuple[Optional[float], bytes]]:
+        if self._is_native:
+            return self._by_extension(self._walk(), None, True)
+        return ((packet.time, bytes(packet.data)) for packet in self._packets())
+
+    def _filtered(self, chosen: Filter) -> Iterator[Any]:
+        if self._is_native:
+            return self._by_extension(self._walk(), chosen, False)
+        return (packet for packet in self._packets() if chosen.takes(packet))
+
+    def _by_extension(self, walk: Any, chosen: Optional[Filter], are_pairs: bool) -> Iterator[Any]:
+        """The packets of a walk that a filter takes, or their times and bytes."""
+        raise NotImplementedError
+
+    def _one_by_one(self, walk: Any) -> Iterator[Any]:
+        """The packets of a walk, without the extension."""
+        raise NotImplementedError
 
     def _walk(self, lends: bool = True) -> Any:
         """A walk over all packets, or over those that a stream has not given yet, or over the stretch; over bytes that are lent, or
@@ -98,19 +187,31 @@ class Packets:
 
     def _end(self) -> int:
         """Where the capture ends, or the stretch."""
-        return len(self._source) if self._stretch is None else self._stretch.end
-
-    def to_pandas(self, threads: int = 1) -> Any:
-        """All packets as a DataFrame of pandas: `time`, NaT where there is none, and the other columns."""
-        return _columns.to_pandas(self.columns(COLUMNS, threads), self._end() if isinstance(self._source, Memory) else 0)
+        return len(self._source) if self._stretch is None else self._stretch.end  # type: ignore[arg-type]
 
     def _stretches(self, count: int, at_least: int) -> List[Stretch]:
         """Where it can be cut into so many stretches of equal length, at most; or into stretches of at least so many bytes, which
         are no more than `count`, where at least one byte is asked for."""
         raise NotImplementedError
 
+    def __repr__(self) -> str:
+        return f"<{self.format} capture, {'a stream' if self.is_stream else f'{self._length} bytes'}>"
+
+    def _repr_html_(self) -> str:
+        """What a notebook shows of it."""
+        return shown_as_html(self)
+
+    @property
+    def _length(self) -> int:
+        """How many bytes the packets take, or their stretch, with what stands around them."""
+        return self._end() - (0 if self._stretch is None else self._stretch.begin)
+
     def close(self) -> None:
-        """Lets the capture go. Data of its packets that is still used keeps a file mapped."""
+        """Lets the capture go, and closes its file or its stream. Data of its packets can still be used.
+
+            >>> capture = pcapfile.open("capture.pcap")
+            >>> capture.close()
+        """
         self._source.close()
 
     def __exit__(self, *_: object) -> None:
@@ -120,18 +221,21 @@ class Packets:
 class Walk:
     """A walk over the packets behind a header."""
 
+    # How many bytes stand before a packet's own.
+    HEAD = 16
+
     # Of PcapNg what is in force. Here the header is, all the time.
     state: Any = None
 
-    # Each row that the library fills in is a row of columns.
-    rows = _columns.KINDS
+    # Each row that the library fills in is a row of columns. There are no interfaces.
+    rows, clocks = _columns.KINDS, None
 
     def __init__(self, header: _library.Header, window: Window) -> None:
-        self.header, self.window = header, window
+        self.head, self.window = header, window
 
     def over(self, window: Window) -> "Walk":
         """A walk over other bytes of the same capture, from where the same is in force."""
-        return Walk(self.header, window)
+        return Walk(self.head, window)
 
     def ahead(self, window: Window) -> "Walk":
         """A walk from what is in force at the first packet of the same bytes."""
@@ -155,7 +259,7 @@ class Walk:
             raise error_of(status, error, window.offset)
 
     def take_rows(self, left: _library.Bytes, rows: int, room: int, taken: ctypes.c_size_t, error: _library.Error) -> int:
-        status: int = _library.take_rows(self.header, left, rows, room, taken, error)
+        status: int = _library.take_rows(self.head, left, rows, room, taken, error)
         return status
 
     def settle(self, rows: Any) -> None:
@@ -163,50 +267,102 @@ class Walk:
 
     def guess(self, data: memoryview, place: int) -> Optional[int]:
         """Where packets seem to stand again in bytes from this place of the capture on."""
-        found, bytes_here = ctypes.c_size_t(), Window(data).left
-        status = _library.resync(self.header, bytes_here, _columns.IN_A_ROW, found, _library.Error())
+        found, bytes_here = ctypes.c_size_t(), _library.Bytes(_library.address_of(data), len(data))
+        status = _library.resync(self.head, bytes_here, IN_A_ROW, found, _library.Error())
         return place + found.value if status == _library.OK else None
 
 
 class Capture(Packets):
     """A capture: iterate over it for its packets. Where it is refused, the packets before that come first. One in memory or in a
-    file can be iterated over again."""
+    file can be iterated over again.
 
-    def __init__(self, source: Source, stretch: Optional[Stretch] = None) -> None:
+        >>> with pcapfile.open("capture.pcap") as capture:
+        ...     [packet.seconds for packet in capture]
+        [1335958313]
+    """
+
+    if TYPE_CHECKING:
+
+        def __iter__(self) -> Iterator[Packet]: ...
+
+    format = "pcap"
+
+    def __init__(self, source: Source, window: Window, stretch: Optional[Stretch] = None) -> None:
         super().__init__(source, stretch)
-        window = self._source.window()
         header, error = _library.Header(), _library.Error()
         while (status := _library.take_header(window.left, header, error)) != _library.OK:
             if status != _library.INCOMPLETE or not window.more(error.missing):
                 raise error_of(status, error, 0)
-        self._header, self._after_header = header, window
+        self._header, self._begin = header, window.offset
+        # A window holds on to bytes and to a descriptor: that of memory or a file goes when its header is read.
+        self._after_header = window if isinstance(source, Stream) else None
         self.header = Header(*(getattr(header, name) for name, _ in header._fields_))
 
     @property
+    def byteorder(self) -> str:
+        """That of the numbers in it: "big" or "little".
+
+            >>> with pcapfile.open("capture.pcap") as capture:
+            ...     capture.byteorder
+            'little'
+        """
+        return "big" if self.header.magic_number in (0xA1B2C3D4, 0xA1B23C4D) else "little"
+
+    @property
+    def has_nanoseconds(self) -> bool:
+        """Whether its times are nanoseconds, and not microseconds.
+
+            >>> with pcapfile.open("capture.pcap") as capture:
+            ...     capture.has_nanoseconds
+            False
+        """
+        return self.header.magic_number in (0xA1B23C4D, 0x4D3CB2A1)
+
+    @property
     def link(self) -> int:
-        """The number of the link type of the packets' first layer."""
+        """The number of the link type of the packets' first layer.
+
+            >>> with pcapfile.open("capture.pcap") as capture:
+            ...     capture.link
+            1
+        """
         return self.header.link
 
     def _walk(self, lends: bool = True) -> "Walk":
-        if not isinstance(self._source, Memory):
+        if self._after_header is not None:
             return Walk(self._header, self._after_header)
-        begin = self._after_header.offset if self._stretch is None else self._stretch.begin
+        begin = self._begin if self._stretch is None else self._stretch.begin
         bytes_between = self._source.between if lends else self._source.read
         return Walk(self._header, bytes_between(begin, self._end()))
 
-    def __iter__(self) -> Iterator[Packet]:
+    @property
+    def interfaces(self) -> List[Interface]:
+        return []
+
+    @property
+    def link_types(self) -> List[int]:
+        return [self.link]
+
+    def _by_extension(self, walk: Any, chosen: Optional[Filter], are_pairs: bool) -> Iterator[Any]:
+        packets: Iterator[Any] = native.packets(walk, self._header, refused, chosen, are_pairs)
+        return packets
+
+    def _one_by_one(self, walk: "Walk") -> Iterator[Packet]:
         packets = (_library.Packet * BATCH)(*[_library.Packet(0, 0, 0, _library.no_bytes())] * BATCH)
         fields = memoryview(packets).cast("B")
-        taken, link, walk = ctypes.c_size_t(), self.link, self._walk()
-        window = walk.window
+        taken, link = ctypes.c_size_t(), self.link
+        window, is_open = walk.window, walk.window.open
         for _ in walk.batches(lambda left, error: _library.take_packets(self._header, left, packets, BATCH, taken, error)):
             data, start, base = window.data, window.start, window.base
             for seconds, nanoseconds, original, at, length in _PACKET.iter_unpack(fields[: taken.value * _PACKET.size]):
+                if is_open.is_closed:
+                    window.check()
                 at -= start
                 yield make(Packet, (seconds, nanoseconds, original, data[at : at + length], link, base + at))
 
     def _stretches(self, count: int, at_least: int) -> List[Stretch]:
-        window, cuts = self._source.window(), (_library.Cut * count)()
+        whole = self._source.mapped() if isinstance(self._source, File) else self._source
+        window, cuts = whole.window(), (_library.Cut * count)()
         found, error = ctypes.c_size_t(), _library.Error()
         if at_least > 0:
             status = _library.cut_packets_at_least(window.left, at_least, cuts, count, found, error)

@@ -2,23 +2,18 @@
 
 import ctypes
 from array import array
-from collections import deque
-from concurrent.futures import Future, ThreadPoolExecutor
-from itertools import chain
-from typing import TYPE_CHECKING, Any, Deque, Dict, Iterator, List, NamedTuple, Optional, Tuple
+from typing import Any, Dict, Iterator, List, Optional, Tuple
 
 from . import _library
-from ._errors import CaptureError, Incomplete
-from ._source import PIECE_OF_MANY, Pieces, room_of
+from ._errors import CaptureError
+from ._extension import native
+from ._extras import NOTHING, OFFSET, Wanted
+from ._source import IN_A_ROW, Pieces
 
 try:
     import numpy
 except ImportError:
     numpy = None  # type: ignore[assignment]
-
-if TYPE_CHECKING:
-    from ._capture import Packets
-    from ._source import Memory
 
 # How many packets columns have at once.
 COLUMNS = 65536
@@ -44,97 +39,8 @@ KINDS = [(name, kind) for name, kind, _ in _TYPES]
 
 _SIMPLE_PACKET = 3
 
-# How many bytes of a capture a thread walks at once.
-_STRETCH = 1 << 24
-
-# How many packets or blocks have to stand in a row where a stretch is guessed to begin, and how many bytes are searched for that.
-IN_A_ROW = 4
-_SEARCHED = 1 << 20
-
-# How many of these are mostly enough.
-_NEAR = 1 << 14
-
-
-def side_by_side(walk: Any, source: "Memory", end: int, batch: int, threads: int) -> Iterator[Any]:
-    """The columns of a walk up to a place of its capture, stretches of which so many threads walk, in the capture's order.
-
-    No stretch is known to begin between two packets: that is guessed, and a stretch counts only where the walk of all before it
-    ends at its front, with the same in force as it was walked with. Otherwise it is walked again from there."""
-    begin = walk.window.offset
-    seems = walk.ahead(source.read(begin, end))
-    stretches = _guessed(seems, source, begin, end, threads)
-    waiting: Deque[Tuple[int, int, Any, "Future[_Walked]"]] = deque()
-    pool, most, ahead = ThreadPoolExecutor(threads), 2 * threads, 2 * threads
-    rooms = deque(room_of(PIECE_OF_MANY) for _ in range(threads + 1))
-    reached, now = begin, walk
-    try:
-        while True:
-            while len(waiting) < ahead and (stretch := next(stretches, None)):
-                start = walk if stretch[0] == begin else seems
-                waiting.append((*stretch, start.state, pool.submit(_walked, start, source, *stretch, batch, rooms)))
-            if not waiting:
-                break
-            first, last, state, walked = waiting.popleft()
-            if state != now.state:
-                for others in waiting:
-                    others[3].cancel()
-                stretches = chain([other[:2] for other in waiting], stretches)
-                waiting.clear()
-                seems, ahead = now, 1
-            if first == reached and state == now.state:
-                found, ahead = walked.result(), min(2 * ahead, most)
-            else:
-                found = _walked(now, source, reached, last, batch, rooms)
-            yield from found.columns
-            reached, now = last, found.walk
-            if found.refusal is not None:
-                if last == end or not isinstance(found.refusal, Incomplete):
-                    raise found.refusal
-                reached = found.refusal.offset
-    finally:
-        pool.shutdown(cancel_futures=True)
-
-
-class _Walked(NamedTuple):
-    """All columns of a walk, the walk at its end, and the refusal there."""
-
-    columns: List[Any]
-    walk: Any
-    refusal: Optional[CaptureError]
-
-
-def _walked(start: Any, source: "Memory", begin: int, end: int, batch: int, rooms: Deque[memoryview]) -> _Walked:
-    """A walk between two places, over bytes that are read into one of these rooms: there is one for each who walks at once."""
-    columns: List[Any] = []
-    room, refusal = rooms.pop(), None
-    walk = start.over(source.read(begin, end, room))
-    try:
-        for rows in of_walk(walk, batch):
-            columns.append(rows)
-    except CaptureError as error:
-        refusal = error
-    rooms.append(room)
-    return _Walked(columns, walk, refusal)
-
-
-def _guessed(walk: Any, source: "Memory", begin: int, end: int, threads: int) -> Iterator[Tuple[int, int]]:
-    """Stretches of about equal length between two places, as many for each thread, each up to where packets seem to stand again."""
-    count = threads * -(-(end - begin) // (threads * _STRETCH))
-    for place in [begin + (end - begin) * k // count for k in range(1, count)]:
-        guess = walk.guess(source.view(place, min(place + _SEARCHED, end)), place)
-        if guess is not None and begin < guess < end:
-            yield begin, guess
-            begin = guess
-    yield begin, end
-
-
 def guess_block(data: memoryview, order: str) -> Optional[int]:
     """The first place from which blocks follow on each other, as their lengths tell, the first of them with a packet."""
-    near = _block_in(data[:_NEAR], order)
-    return _block_in(data, order) if near is None else near
-
-
-def _block_in(data: memoryview, order: str) -> Optional[int]:
     words = numpy.frombuffer(data[: len(data) // 4 * 4], order + "u4")
     for first in numpy.flatnonzero((words == 6) | (words == 3) | (words == 2)).tolist():
         at, found = first, 0
@@ -150,47 +56,83 @@ def _block_in(data: memoryview, order: str) -> Optional[int]:
     return None
 
 
-def of_packets(capture: "Packets", batch: int) -> Iterator[Dict[str, "array[int]"]]:
-    """The columns of each so many packets, one by one, where numpy is missing."""
-    columns: Dict[str, "array[int]"] = {name: array(code) for name, _, code in _TYPES}
-    refusal = None
-    packets = iter(capture)
+class _Arrays:
+    """Columns of packets that come one by one, as arrays of the standard library."""
+
+    def __init__(self, wanted: Wanted) -> None:
+        self._wanted = wanted
+        self.columns: Dict[str, Any] = {name: array(code) for name, _, code in _TYPES}
+        if wanted.names:
+            self.columns["interface_name"] = []
+        if wanted.data:
+            self.columns.update(data_offsets=array("q", [0]), data=bytearray())
+
+    def __len__(self) -> int:
+        return len(self.columns["offset"])
+
+    def add(self, packet: Any) -> None:
+        """Adds a packet, where its time is one of those that are wanted."""
+        time, link = packet.time_ns, packet.link
+        if not self._wanted.takes(time):
+            return
+        fits = time is not None and abs(time) < 2**63
+        row = (time if fits else NO_TIME, len(packet.data), packet.original_length, getattr(packet, "interface_id", 0))
+        for (name, _, _), value in zip(_TYPES, (*row, NO_LINK if link is None else link, packet.offset)):
+            self.columns[name].append(value)
+        if self._wanted.names:
+            self.columns["interface_name"].append(getattr(packet.interface, "name", None))
+        if self._wanted.data:
+            self.columns["data"] += packet.data
+            self.columns["data_offsets"].append(len(self.columns["data"]))
+
+
+def of_packets(packets: Iterator[Any], batch: int, wanted: Wanted = NOTHING) -> Iterator[Dict[str, Any]]:
+    """The columns of each so many packets, one by one, as arrays of the standard library."""
+    arrays = _Arrays(wanted)
+    refusal: Optional[Exception] = None
     while refusal is None:
         try:
             packet = next(packets)
         except StopIteration:
             break
-        except CaptureError as error:
+        except Exception as error:  # also where a stream has no bytes yet
             refusal = error
             break
-        time, link = packet.time_ns, packet.link
-        fits = time is not None and abs(time) < 2**63
-        row = (time if fits else NO_TIME, len(packet.data), packet.original_length, getattr(packet, "interface_id", 0))
-        for (name, _, _), value in zip(_TYPES, (*row, NO_LINK if link is None else link, packet.offset)):
-            columns[name].append(value)
-        if len(columns["offset"]) == batch:
-            yield columns
-            columns = {name: array(code) for name, _, code in _TYPES}
-    if columns["offset"]:
-        yield columns
+        arrays.add(packet)
+        if len(arrays) == batch:
+            yield arrays.columns
+            arrays = _Arrays(wanted)
+    if len(arrays) > 0:
+        yield arrays.columns
     if refusal is not None:
         raise refusal
 
 
-def arrays_of(capture: "Packets", batch: int) -> Iterator[Any]:
+def arrays_of(packets: Iterator[Any], batch: int, wanted: Wanted) -> Iterator[Any]:
     """The columns of each so many packets, one by one, as arrays of numpy."""
-    for columns in of_packets(capture, batch):
+    if wanted.decode:
+        raise ValueError("packets as they stand are not decoded")
+    for columns in of_packets(packets, batch, wanted):
         rows = numpy.zeros(len(columns["offset"]), KINDS)
         for name, _, _ in _TYPES:
-            rows[name] = columns[name]
-        yield rows
+            rows[name] = columns.pop(name)
+        if not columns:
+            yield rows
+            continue
+        kinds = {"interface_name": "O", "data": "u1", "data_offsets": OFFSET}
+        yield {**_by_name(rows), **{name: numpy.array(column, kinds[name]) for name, column in columns.items()}}
+
+
+def _by_name(rows: Any) -> Dict[str, Any]:
+    return {name: rows[name] for name, _ in KINDS}
 
 
 class _Rows:
     """Rows of a walk, so many at once, that the library fills in out of one window after another."""
 
-    def __init__(self, walk: Any, size: int) -> None:
-        self._walk, self._kind, self._size = walk, numpy.dtype(walk.rows), size
+    def __init__(self, walk: Any, size: int, wanted: Wanted) -> None:
+        self._walk, self._kind, self._size, self._wanted = walk, numpy.dtype(walk.rows), size, wanted
+        self._extras = wanted.extras()
         self._taken = ctypes.c_size_t()
         # A number that numpy adds to many without asking anew what kind of number it is.
         self._place = numpy.zeros((), "u8")
@@ -199,6 +141,8 @@ class _Rows:
     def _begin(self) -> None:
         self._rows = numpy.empty(self._size, self._kind)
         self._offsets, self._at = self._rows["offset"], self._rows.ctypes.data
+        for extra in self._extras:
+            extra.begin(self._size)
         self.count = self._settled = 0
 
     def is_full(self) -> bool:
@@ -206,6 +150,40 @@ class _Rows:
 
     def take(self, left: _library.Bytes, error: _library.Error) -> int:
         """Takes rows into the places behind those that are filled."""
+        if not self._extras and self._wanted.times is None:
+            return self._take(left, error)
+        window, begin = self._walk.window, self.count
+        place = window.offset - (left.ptr - window.start)
+        status = self._take(left, error)
+        if self.count > begin:
+            # While the bytes are there, and by the interfaces that are in force.
+            self.settle()
+            self._keep_wanted(begin)
+            rows = self._rows[begin : self.count].view(KINDS)
+            for extra in self._extras:
+                extra.see(self._walk, place, begin, rows)
+        return status
+
+    def _keep_wanted(self, begin: int) -> None:
+        """Keeps those from a row on whose times are wanted."""
+        if self._wanted.times is not None:
+            since, until = self._wanted.times
+            rows = self._rows[begin : self.count]
+            times = rows.view(KINDS)["time_ns"]
+            kept = rows[(since <= times) & (times < until)]
+            rows[: len(kept)] = kept
+            self.count = self._settled = begin + len(kept)
+
+    def _take(self, left: _library.Bytes, error: _library.Error) -> int:
+        walk, begin = self._walk, self.count
+        if native is None:
+            return self._take_by_ctypes(left, error)
+        told = native.rows(walk.window, walk.head, walk.clocks, self._rows, begin, walk.window.offset)
+        status, taken, error.rule, error.missing = told
+        self.count = begin + taken
+        return int(status)
+
+    def _take_by_ctypes(self, left: _library.Bytes, error: _library.Error) -> int:
         begin, taken, place = self.count, self._taken, self._place
         place[()] = self._walk.window.offset
         at = self._at + begin * self._kind.itemsize
@@ -216,21 +194,24 @@ class _Rows:
         return status
 
     def settle(self) -> None:
-        """Makes what was filled in into columns, by what is in force."""
-        if self.count > self._settled:
+        """Makes what was filled in into columns, by what is in force. The extension has done so."""
+        if self.count > self._settled and native is None:
             self._walk.settle(self._rows[self._settled : self.count])
             self._settled = self.count
 
     def given(self) -> Any:
         self.settle()
         rows = self._rows[: self.count].view(KINDS)
+        given = rows if not self._extras else _by_name(rows)
+        for extra in self._extras:
+            given.update(extra.given(rows))
         self._begin()
-        return rows
+        return given
 
 
-def of_walk(walk: Any, batch: int) -> Iterator[Any]:
+def of_walk(walk: Any, batch: int, wanted: Wanted) -> Iterator[Any]:
     """The columns of each so many packets of a walk. Those of a stream come as soon as their bytes have."""
-    rows, refusal = _Rows(walk, batch), None
+    rows, refusal = _Rows(walk, batch, wanted), None
     comes = not isinstance(walk.window, Pieces)
     try:
         for stays in walk.batches(rows.take):
@@ -310,18 +291,27 @@ def _time(known: Any, units: int) -> int:
     return time if abs(time) < 2**63 else NO_TIME
 
 
-def _joined(batches: Iterator[Any], end: int) -> Dict[str, Any]:
-    """Each column of all batches. By where the capture ends, room is made for all of its packets at once."""
-    columns, count = {name: numpy.empty(0, kind) for name, kind in KINDS}, 0
+def _joined(batches: Iterator[Any], end: int, kinds: List[Tuple[str, Any]]) -> Dict[str, Any]:
+    """Each column of all batches, and what else the last one has. By where the capture ends, room is made for all packets at once."""
+    columns, count = {name: numpy.empty(0, kind) for name, kind in kinds}, 0
+    rows: Any = None
     for rows in batches:
-        begin, count = count, count + len(rows)
+        begin, count = count, count + len(rows["len"])
         if count > len(columns["len"]):
             passed = int(rows["offset"][-1]) + 1
             room = min(count * max(end, passed) // passed + COLUMNS, 64 * count)
             columns = {name: _longer(column, begin, room) for name, column in columns.items()}
         for name, column in columns.items():
             column[begin:count] = rows[name]
-    return {name: column[:count] for name, column in columns.items()}
+    beside = {name: rows[name] for name in rows if name not in columns} if isinstance(rows, dict) else {}
+    return {**{name: column[:count] for name, column in columns.items()}, **beside}
+
+
+def copied(rows: Any) -> Any:
+    """The same rows in memory of no more than they need."""
+    if hasattr(rows, "dtype"):
+        return rows.copy()
+    return {name: column.copy() if hasattr(column, "copy") else column for name, column in rows.items()}
 
 
 def _longer(column: Any, count: int, room: int) -> Any:
@@ -330,12 +320,19 @@ def _longer(column: Any, count: int, room: int) -> Any:
     return longer
 
 
-def to_pandas(batches: Iterator[Any], end: int = 0) -> Any:
+def to_pandas(batches: Iterator[Any], end: int = 0, wanted: Wanted = NOTHING) -> Any:
     """A DataFrame of these columns, whose `time` is NaT where a packet has none."""
     try:
         import pandas
     except ImportError as error:
         raise ImportError("to_pandas needs pandas: 'pip install pandas', or Debian's python3-pandas") from error
-    columns = _joined(batches, end)
-    times = columns.pop("time_ns").view("M8[ns]")
-    return pandas.DataFrame({"time": times, **columns}, copy=False)
+    columns = _joined(batches, end, KINDS + wanted.kinds)
+    columns = {"time": columns.pop("time_ns").view("M8[ns]"), **columns}
+    if wanted.names:
+        columns["interface_name"] = pandas.Categorical(columns["interface_name"])
+    if wanted.decode:
+        from ._decode import TOLD, decoded_columns
+
+        told = {name: columns.pop(name) for name in TOLD if name in columns}
+        columns.update(decoded_columns(told))
+    return pandas.DataFrame(columns, copy=False)

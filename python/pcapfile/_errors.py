@@ -8,7 +8,14 @@ from ._rules import Rule
 
 class CaptureError(Exception):
     """A capture is refused at `offset`, in bytes from its start. What came before it was good. `status` is the number of the
-    error."""
+    error.
+
+        >>> try:
+        ...     pcapfile.parse(bytes(24))
+        ... except pcapfile.CaptureError as error:
+        ...     print(error.offset, error)
+        0 CaptureMagic: PcapHeader wrong magic number (at byte 0)
+    """
 
     def __init__(self, message: str, offset: int, status: int) -> None:
         super().__init__(f"{message} (at byte {offset})")
@@ -20,7 +27,14 @@ class CaptureError(Exception):
 
 
 class Incomplete(CaptureError):
-    """The capture ends within a header, a packet or a block: `missing` bytes more are needed, at least."""
+    """The capture ends within a header, a packet or a block: `missing` bytes more are needed, at least.
+
+        >>> try:
+        ...     pcapfile.parse(bytes(20))
+        ... except pcapfile.Incomplete as error:
+        ...     error.missing
+        4
+    """
 
     def __init__(self, missing: int, offset: int) -> None:
         super().__init__(f"{missing} bytes are missing", offset, _library.INCOMPLETE)
@@ -30,7 +44,14 @@ class Incomplete(CaptureError):
 
 class Invalid(CaptureError):
     """The capture breaks a rule of its format: `number`, `rule` and `text` are the rule's number, as a `Rule`, its name and its
-    text."""
+    text.
+
+        >>> try:
+        ...     pcapfile.parse(bytes(24))
+        ... except pcapfile.Invalid as error:
+        ...     error.rule
+        'CaptureMagic'
+    """
 
     def __init__(self, number: int, offset: int) -> None:
         self.number = Rule(number)
@@ -42,7 +63,11 @@ class Invalid(CaptureError):
 
 class Flaw(NamedTuple):
     """What is wrong with a block's body: `rule` is the rule that it breaks, or None, and `text` says it. `code` is that of the option
-    whose value it is, or None where it is that of the whole body, or of the list of options."""
+    whose value it is, or None where it is that of the whole body, or of the list of options.
+
+        >>> pcapfile.Flaw(pcapfile.Rule.OPTION_CUT, 1, pcapfile.Rule.OPTION_CUT.text).rule.name
+        'OPTION_CUT'
+    """
 
     rule: Optional[Rule]
     code: Optional[int]
@@ -55,12 +80,22 @@ def flaw_of(status: int, rule: int, code: int = 0) -> Flaw:
     return Flaw(named, code or None, text)
 
 
-def error_of(status: int, error: _library.Error, offset: int) -> CaptureError:
+def error_of(status: int, error: Any, offset: int) -> CaptureError:
     if status == _library.INCOMPLETE:
         return Incomplete(error.missing, offset)
     if status == _library.INVALID:
         return Invalid(error.rule, offset)
     return CaptureError(_OTHERS.get(status, f"status {status}"), offset, status)
+
+
+class _Told(NamedTuple):
+    rule: int
+    missing: int
+
+
+def refused(status: int, rule: int, missing: int, offset: int) -> CaptureError:
+    """The error of what the extension tells."""
+    return error_of(status, _Told(rule, missing), offset)
 
 
 _OTHERS = {

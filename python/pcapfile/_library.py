@@ -1,10 +1,11 @@
 """The calls of pcapfile.h, by ctypes."""
 
 import ctypes
-import ctypes.util
 import os
 from pathlib import Path
 from typing import Any, Callable
+
+from ._extension import native
 
 OK, INCOMPLETE, BAD_VALUE, INVALID, NOT_UTF8, NO_MEMORY, NOTHING, NO_ROOM, NO_PLACE = 0, 1, 2, 3, 4, 6, 8, 9, 11
 
@@ -120,9 +121,17 @@ class Error(ctypes.Structure):
 
 
 def _find() -> str:
-    beside = Path(__file__).with_name("libpcapfile.so")
-    named = os.environ.get("PCAPFILE_LIBRARY") or (str(beside) if beside.exists() else None)
-    return named or ctypes.util.find_library("pcapfile") or "libpcapfile.so.0"
+    named = os.environ.get("PCAPFILE_LIBRARY") or getattr(native, "__file__", None)
+    if named:
+        return named
+    # The extension holds the library too, where it is there and left out.
+    folder = Path(__file__).parent
+    for beside in (folder / "libpcapfile.so", *folder.glob("_native.*.so")):
+        if beside.exists():
+            return str(beside)
+    import ctypes.util
+
+    return ctypes.util.find_library("pcapfile") or "libpcapfile.so.0"
 
 
 def _load() -> ctypes.CDLL:
@@ -277,13 +286,18 @@ _release_buffer.restype = None
 
 
 def address_of(view: memoryview) -> int:
-    """Where the bytes of a view lie. They lie there until it is released."""
-    if len(view) == 0:
-        return ctypes.addressof(_NOTHING)
+    """Where the bytes of a view lie, or none do. They lie there until it is released."""
+    return place_of(view) if len(view) > 0 else ctypes.addressof(_NOTHING)
+
+
+def place_of(view: memoryview) -> int:
+    """Where a view begins in memory, which is nowhere where there is nothing."""
+    if native is not None:
+        return int(native.address(view))
     buffer = _Buffer()
     _get_buffer(view, ctypes.byref(buffer), 0)
     try:
-        return buffer.buf
+        return buffer.buf or 0
     finally:
         _release_buffer(ctypes.byref(buffer))
 

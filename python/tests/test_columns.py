@@ -73,6 +73,13 @@ class Columns(unittest.TestCase):
         starts = [40 + sum(16 + m % 3 for m in range(n)) for n in range(10)]
         self.assertIsNone(self.both(data, [(n * 10**9, n % 3, n % 3, 0, 1, starts[n]) for n in range(10)], 4))
 
+    def test_numbers_that_are_none_of_packets_or_threads(self):
+        with pcapfile.parse(HEADER + packet(1, 2, b"abc")) as capture:
+            for words, name in (({"batch": 0}, "batch"), ({"batch": -1}, "batch"), ({"threads": 0}, "threads")):
+                with self.assertRaisesRegex(ValueError, name):
+                    capture.columns(**words)
+            self.assertRaisesRegex(ValueError, "threads", capture.to_pandas, 0)
+
     def test_the_packets_before_a_refusal_come_first(self):
         error = self.both(HEADER + packet(1, 2, b"abc") + packet(3, 4, b"defg")[:-1], [(1_000_002_000, 3, 3, 0, 1, 40)])
         self.assertEqual((error.missing, error.offset), (1, 24 + 19))

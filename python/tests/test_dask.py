@@ -1,5 +1,6 @@
 """Tests of captures as DataFrames of dask."""
 
+import os
 import shutil
 import subprocess
 import tempfile
@@ -65,6 +66,12 @@ class Frames(unittest.TestCase):
 
     def test_one_path(self):
         self.assertEqual(len(pcapfile.dask.read(str(self.paths[0]))), 40)
+
+    def test_patterns(self):
+        pattern = os.path.join(self.paths[0].parent, "*.pcap*")
+        self.assertEqual(len(pcapfile.dask.read(pattern)), len(pcapfile.dask.read(sorted(self.paths))))
+        with self.assertRaises(FileNotFoundError):
+            pcapfile.dask.read(os.path.join(self.paths[0].parent, "none*"))
 
     def test_a_refusal_comes_through(self):
         frame = pcapfile.dask.read(self.written("c.pcap", HEADER + packet(1, 0, b"abc") + packet(2, 0, b"d")[:-1]), 3)

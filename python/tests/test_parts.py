@@ -11,7 +11,7 @@ import unittest
 from pathlib import Path
 
 import pcapfile
-from pcapfile import _columns
+from pcapfile import _columns, _stretches
 from test_columns import NAMES
 from test_pcapfile import HEADER, INTERFACE, SECTION, enhanced, interface, packet
 
@@ -116,7 +116,7 @@ class Parts(unittest.TestCase):
     @unittest.skipIf(_columns.numpy is None, "numpy is missing")
     def test_threads_in_short_stretches(self):
         data = HEADER + b"".join(packet(n, 0, bytes(n % 5)) for n in range(5000))
-        known, _columns._STRETCH = _columns._STRETCH, 1000
+        known, _stretches._STRETCH = _stretches._STRETCH, 1000
         try:
             with pcapfile.parse(data) as capture:
                 self.assertEqual(rows(capture.columns(threads=4)), rows(capture.columns()))
@@ -125,7 +125,7 @@ class Parts(unittest.TestCase):
             self.assertRaises(ValueError, lambda: list(capture.columns(threads=4)))
             batches.close()
         finally:
-            _columns._STRETCH = known
+            _stretches._STRETCH = known
 
     def test_equal_parts(self):
         path = self.written(HEADER + b"".join(packet(n, 0, b"abcd") for n in range(90)))

@@ -10,9 +10,14 @@ import tempfile
 import threading
 import unittest
 
+try:
+    import pandas
+except ImportError:
+    pandas = None
+
 import pcapfile
 from pcapfile import _source
-from test_pcapfile import HEADER, INTERFACE, SECTION, block, enhanced, packet
+from test_pcapfile import HEADER, INTERFACE, SECTION, enhanced, packet
 
 
 class Some:
@@ -31,6 +36,118 @@ class Some:
 
 CLASSIC = HEADER + b"".join(packet(n, 0, bytes([n]) * n) for n in range(50))
 BLOCKS = SECTION + INTERFACE + b"".join(enhanced(0, n * 10**6, bytes([n]) * n) for n in range(50)) + SECTION + enhanced(0, 1, b"x")
+
+
+class Pauses(io.RawIOBase):
+    """A stream that doesn't wait: it gives so many bytes at most, and before each time has none yet."""
+
+    def __init__(self, data, most):
+        self._data, self._most, self._at, self._has_some = data, most, 0, False
+
+    def readable(self):
+        return True
+
+    def readinto(self, room):
+        self._has_some = not self._has_some
+        if self._has_some:
+            return None
+        data = self._data[self._at : self._at + min(len(room), self._most)]
+        room[: len(data)] = data
+        self._at += len(data)
+        return len(data)
+
+
+class ReadPauses(Pauses):
+    """The same with `read` alone."""
+
+    readinto1 = property()
+    readinto = property()
+
+    def read(self, count=-1):
+        room = bytearray(count)
+        got = Pauses.readinto(self, room)
+        return None if got is None else bytes(room[:got])
+
+
+def again(call, *args):
+    """What a call gives once it isn't refused for a while, and how often it was."""
+    times = 0
+    while True:
+        try:
+            return call(*args), times
+        except BlockingIOError:
+            times += 1
+
+
+class Waiting(unittest.TestCase):
+    """A stream that has no bytes yet is no stream that has ended: that is told, and nothing is lost."""
+
+    def gathered(self, walk, add):
+        """What a walk gives that begins again each time that it was told to wait."""
+        times = 0
+        while True:
+            try:
+                for each in walk():
+                    add(each)
+                return times
+            except BlockingIOError:
+                times += 1
+
+    def opened(self, data, most, kind=Pauses, **words):
+        stream = kind(data, most)
+        return again(lambda: pcapfile.open(stream, **words))
+
+    def test_packets(self):
+        for kind in (Pauses, ReadPauses, lambda data, most: io.BufferedReader(Pauses(data, most))):
+            for most in (1, 30, 1000):
+                for data in (CLASSIC, BLOCKS):
+                    capture, refused = self.opened(data, most, kind)
+                    self.assertTrue(refused > 0 or most > 1)
+                    got = []
+                    self.assertGreater(self.gathered(lambda: capture, lambda p: got.append(bytes(p.data))), 2)
+                    wanted = [bytes([n]) * n for n in range(50)] + ([b"x"] if data is BLOCKS else [])
+                    self.assertEqual(got, wanted)
+
+    def test_all_walks(self):
+        with pcapfile.parse(BLOCKS) as capture:
+            blocks = [bytes(b.body) for b in capture.blocks()]
+        capture, _ = self.opened(BLOCKS, 100)
+        got = []
+        self.gathered(capture.blocks, lambda block: got.append(bytes(block.body)))
+        self.assertEqual(got, blocks)
+        for data in (CLASSIC, BLOCKS):
+            with pcapfile.parse(data) as capture:
+                wanted = [(p.time, bytes(p.data), p.offset) for p in capture]
+            for words in ({}, {"strict": False}):
+                capture, _ = self.opened(data, 100, **words)
+                got = []
+                self.gathered(capture.pairs, got.append)
+                self.assertEqual(got, [row[:2] for row in wanted])
+                capture, _ = self.opened(data, 100, **words)
+                got = []
+                self.gathered(capture.columns, lambda rows: got.extend(rows["offset"].tolist()))
+                self.assertEqual(got, [row[2] for row in wanted])
+
+    @unittest.skipIf(pandas is None, "pandas is missing")
+    def test_frames(self):
+        capture, _ = self.opened(CLASSIC, 100)
+        frame, times = again(capture.to_pandas)
+        self.assertGreater(times, 10)
+        self.assertEqual(frame["len"].tolist(), list(range(50)))
+
+    def test_a_pipe_that_does_not_wait(self):
+        reads, writes = os.pipe()
+        os.set_blocking(reads, False)
+        for opened in (lambda: os.fdopen(os.dup(reads), "rb", buffering=0), lambda: os.fdopen(os.dup(reads), "rb")):
+            with opened() as stream, os.fdopen(os.dup(writes), "wb", buffering=0) as file:
+                file.write(HEADER)
+                capture = pcapfile.open(stream)
+                for n in range(3):
+                    with self.assertRaises(BlockingIOError):
+                        next(iter(capture))
+                    file.write(packet(n, 0, b"live"))
+                    self.assertEqual(next(iter(capture)).seconds, n)
+        os.close(reads), os.close(writes)
 
 
 class Streams(unittest.TestCase):
@@ -103,6 +220,15 @@ class Streams(unittest.TestCase):
             for p in pcapfile.open(Fails(HEADER + packet(1, 2, b"abc"), 5)):
                 got.append(bytes(p.data))
         self.assertEqual(got, [b"abc"])
+
+    def test_what_a_buffered_stream_holds_comes_without_more(self):
+        """A live pipe of which something was read before: the packets that came with that don't wait for others."""
+        reads, writes = os.pipe()
+        with os.fdopen(writes, "wb", buffering=0) as file, os.fdopen(reads, "rb") as stream:
+            file.write(b"first" + HEADER + packet(1, 0, b"abc") + packet(2, 0, b"def"))
+            self.assertEqual(stream.read(5), b"first")
+            packets = iter(pcapfile.open(stream))
+            self.assertEqual([next(packets).seconds, next(packets).seconds], [1, 2])
 
     def test_a_broken_length_takes_no_memory(self):
         stream = Some(SECTION + struct.pack("<II", 6, 2**32 - 4) + bytes(100), 1000)

@@ -9,7 +9,7 @@ from pathlib import Path
 from unittest import mock
 
 import pcapfile
-from pcapfile import _columns, _source
+from pcapfile import _columns, _source, _stretches
 from test_parts import MAKERS, rows
 from test_pcapfile import HEADER, INTERFACE, NANOSECONDS, SECTION, block, enhanced, packet
 
@@ -50,7 +50,7 @@ class Threads(unittest.TestCase):
         room = tempfile.TemporaryDirectory()
         self.addCleanup(room.cleanup)
         self.folder = Path(room.name)
-        small = ((_columns, "_STRETCH", 1000), (_columns, "PIECE_OF_MANY", 512), (_source, "PIECE", 256), (_source, "PAGE", 16))
+        small = ((_stretches, "_STRETCH", 1000), (_stretches, "PIECE_OF_MANY", 512), (_source, "PIECE", 256), (_source, "PAGE", 16))
         for module, name, value in small:
             patch = mock.patch.object(module, name, value)
             patch.start()
@@ -92,7 +92,7 @@ class Threads(unittest.TestCase):
         walk = capture._walk()
         begin = walk.window.offset
         seems = walk.ahead(source.read(begin, len(data)))
-        guessed = [first for first, _ in _columns._guessed(seems, source, begin, len(data), 3)][1:]
+        guessed = [first for first, _ in _stretches._guessed(seems, source, begin, len(data), 3)][1:]
         head = 28 if data.startswith(SECTION) else 16
         return guessed, {p.offset - head for p in capture}
 

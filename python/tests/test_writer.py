@@ -1,5 +1,6 @@
 """Tests of captures that are written. Each expected value is worked out from the bytes beside it."""
 
+import gzip
 import io
 import os
 import shutil
@@ -9,6 +10,15 @@ import tempfile
 import unittest
 
 import pcapfile
+import test_pcapfile as given
+from pcapfile import _columns
+from test_columns import option
+from test_packets import BIG, COMMENTED, NAMED, OLD, SIMPLE
+
+try:
+    import pandas
+except ImportError:
+    pandas = None
 
 SECTION = struct.pack("<IIIHHqI", 0x0A0D0D0A, 28, 0x1A2B3C4D, 1, 0, -1, 28)
 TIME = 1_335_958_313
@@ -47,6 +57,11 @@ def written(**words):
         for length in range(4):
             writer.write(b"abc"[:length], TIME + length, 152_630_999, 98)
     return file.getvalue()
+
+
+def told(packet):
+    options = [(option.code, bytes(option.value)) for option in packet.options]
+    return packet.time_ns, packet.timestamp, bytes(packet), packet.original_length, packet.interface, packet.interface.name, options
 
 
 class Writers(unittest.TestCase):
@@ -98,11 +113,151 @@ class Writers(unittest.TestCase):
         writer.write(b"a", 1)
         self.assertEqual(file.getvalue(), before + enhanced(0, 10**9, b"a", 1))
 
+    def test_what_every_reader_refuses_is_not_written(self):
+        file = io.BytesIO()
+        writer = pcapfile.Writer(file)
+        before = file.getvalue()
+        for data, original, rule in (
+            (bytes(262_145), None, pcapfile.Rule.INCLUDED_TOO_LONG),
+            (bytes(300_000), 5, pcapfile.Rule.INCLUDED_TOO_LONG),
+            (b"abc", 262_145, pcapfile.Rule.ORIGINAL_TOO_LONG),
+            (b"abc", 2, pcapfile.Rule.INCLUDED_PAST_ORIGINAL),
+        ):
+            with self.assertRaises(pcapfile.Unwritable) as refused:
+                writer.write(data, 1, original_length=original)
+            self.assertIs(refused.exception.number, rule)
+            # Readers refuse these bytes by the same rule.
+            length = len(data) if original is None else original
+            refusal = before + struct.pack("<IIII", 1, 0, len(data), length) + data
+            with self.assertRaises(pcapfile.Invalid) as read:
+                list(pcapfile.parse(refusal))
+            self.assertIs(read.exception.number, rule)
+        self.assertEqual(file.getvalue(), before)
+        writer.write(bytes(262_144), 1)
+        writer.write(b"abc", 2, original_length=262_144)
+        with pcapfile.parse(file.getvalue()) as capture:
+            self.assertEqual([(p.length, p.original_length) for p in capture], [(262_144, 262_144), (3, 262_144)])
+
     def test_one_interface_of_a_classic_capture(self):
         writer = pcapfile.Writer(io.BytesIO())
         self.assertRaises(ValueError, writer.add_interface, 1)
         self.assertRaises(ValueError, writer.write, b"a", 1, interface=1)
         self.assertRaises(ValueError, writer.write, b"a", 2**32)
+
+    def copied(self, capture, **words):
+        """What is written of each packet of a capture that has a time."""
+        file = io.BytesIO()
+        with pcapfile.Writer(file, **words) as writer:
+            for each in capture:
+                if each.seconds is not None:
+                    writer.write_packet(each)
+        return file.getvalue()
+
+    def test_packets_of_another_capture_keep_all_that_they_have(self):
+        """Options, comments, names of interfaces and their clocks."""
+        section = given.block(0x0A0D0D0A, struct.pack("<IHHq", 0x1A2B3C4D, 1, 0, -1) + option(1, b"of all") + option(0, b""))
+        clock = given.interface(9, 60, option(9, b"\x94") + option(14, struct.pack("<q", 7)) + option(2, b"slow") + option(0, b""))
+        packets = COMMENTED + OLD + SIMPLE + given.enhanced(1, 3 << 19, b"x") + given.enhanced(0, 5, b"")
+        data = section + NAMED + clock + packets
+        with pcapfile.parse(data) as capture:
+            wanted = [told(p) for p in capture if p.seconds is not None]
+            faces = [(face, face.name, face.comment) for face in capture.interfaces]
+            copy = self.copied(capture, like=capture)
+        with pcapfile.parse(copy) as capture:
+            self.assertEqual([told(p) for p in capture], wanted)
+            self.assertEqual([(face, face.name, face.comment) for face in capture.interfaces], faces)
+            self.assertEqual(capture.section.comment, "of all")
+        # Nothing but the simple packet is left out, and the section's length isn't told: the rest stands as it was.
+        self.assertEqual(sorted(bytes(b.body) for b in pcapfile.parse(copy).blocks()), sorted(bytes(b.body) for b in pcapfile.parse(data.replace(SIMPLE, b"")).blocks()))
+
+    def test_interfaces_come_with_their_packets(self):
+        """A packet of the third interface alone: it is the first one here."""
+        data = SECTION + NAMED + given.interface(7) + given.interface(9, 60, option(2, b"third") + option(0, b"")) + given.enhanced(2, 5, b"abc")
+        with pcapfile.parse(data) as capture:
+            copy = self.copied(capture, like=capture)
+        with pcapfile.parse(copy) as capture:
+            self.assertEqual([(p.interface_id, p.interface.name, p.timestamp, bytes(p)) for p in capture], [(0, "third", 5, b"abc")])
+            self.assertEqual(len(capture.interfaces), 1)
+
+    def test_packets_of_the_other_order(self):
+        with pcapfile.parse(BIG) as capture:
+            (only,) = capture
+            self.assertEqual(self.copied(capture, like=capture).count(b"big"), 1)
+            writer = pcapfile.Writer(io.BytesIO(), "pcapng")
+            self.assertRaisesRegex(ValueError, "big-endian", writer.write_packet, only)
+            writer.write_packet(only, without_options=True)
+
+    def test_packets_of_the_other_format(self):
+        with pcapfile.parse(given.HEADER + given.packet(7, 8, b"abc", 5)) as capture:
+            self.assertEqual(self.copied(capture, like=capture), given.HEADER + given.packet(7, 8, b"abc", 5))
+            copy = self.copied(capture, format="pcapng", link=5)
+        with pcapfile.parse(copy) as capture:
+            self.assertEqual([(p.time_ns, bytes(p), p.link, p.original_length) for p in capture], [(7_000_008_000, b"abc", 1, 5)])
+        with pcapfile.parse(SECTION + NAMED + COMMENTED + SIMPLE + given.enhanced(0, 1, b"x")) as capture:
+            commented, simple, plain = capture
+        writer = pcapfile.Writer(io.BytesIO(), link=113)
+        self.assertRaisesRegex(ValueError, "options", writer.write_packet, commented)
+        self.assertRaisesRegex(ValueError, "time", writer.write_packet, simple)
+        writer.write_packet(commented, without_options=True)
+        writer.write_packet(plain)
+        self.assertRaisesRegex(ValueError, "link type", pcapfile.Writer(io.BytesIO()).write_packet, plain)
+        self.assertRaisesRegex(ValueError, "time", pcapfile.Writer(io.BytesIO(), "pcapng").write_packet, simple)
+        with pcapfile.parse(SECTION + given.enhanced(0, 1, b"x")) as capture:
+            self.assertRaisesRegex(ValueError, "interface", pcapfile.Writer(io.BytesIO(), "pcapng").write_packet, next(iter(capture)))
+
+    @unittest.skipIf(_columns.numpy is None, "numpy is missing")
+    def test_rows(self):
+        """Chosen rows of columns, and of a DataFrame, and the bytes where they lie."""
+        classic = given.HEADER + b"".join(given.packet(n, n, bytes([n]) * n, 100) for n in range(50))
+        blocks = given.SECTION + given.INTERFACE + given.NANOSECONDS + b"".join(given.enhanced(n % 2, 10**9 * n, bytes([n]) * n) for n in range(50))
+        with tempfile.TemporaryDirectory() as room:
+            for data, links in ((classic, [1]), (blocks, [113, 1])):
+                name = os.path.join(room, "capture")
+                with open(name, "wb") as file:
+                    file.write(data)
+                with pcapfile.open(name) as capture:
+                    wanted = [(p.time_ns, bytes(p), p.original_length, p.link) for p in capture][7::3][::-1]
+                    (rows,) = capture.columns()
+                    chosen = [rows[7::3][::-1]]
+                    if pandas is not None:
+                        chosen.append(capture.to_pandas().iloc[7::3].iloc[::-1])
+                    for these in chosen:
+                        for source in (capture, data):
+                            file = io.BytesIO()
+                            with pcapfile.Writer(file, "pcapng") as writer:
+                                self.assertEqual(writer.write_rows(these, source), len(wanted))
+                            with pcapfile.parse(file.getvalue()) as copy:
+                                self.assertEqual([(p.time_ns, bytes(p), p.original_length, p.link) for p in copy], wanted)
+                    with self.assertRaisesRegex(ValueError, "link type"):
+                        pcapfile.Writer(io.BytesIO(), link=9).write_rows(rows, capture)
+                    with self.assertRaisesRegex(ValueError, "passes the end"):
+                        pcapfile.Writer(io.BytesIO(), "pcapng").write_rows(rows, data[:100])
+        with pcapfile.parse(SECTION + NAMED + SIMPLE) as capture:
+            (rows,) = capture.columns()
+            with self.assertRaisesRegex(ValueError, "no time"):
+                pcapfile.Writer(io.BytesIO(), "pcapng").write_rows(rows, capture)
+
+    def test_appending(self):
+        """What is written in two turns is what is written in one."""
+        with tempfile.TemporaryDirectory() as room:
+            for number, words in enumerate(({}, {"byteorder": "big", "nanoseconds": False}, {"format": "pcapng"}, {"format": "pcapng", "byteorder": "big"})):
+                name = os.path.join(room, str(number))
+                for turn in range(2):
+                    with pcapfile.Writer(name, append=True, **(words if turn == 0 else {})) as writer:
+                        for length in (2 * turn, 2 * turn + 1):
+                            writer.write(b"abc"[:length], TIME + length, 152_630_999, 98)
+                with open(name, "rb") as file:
+                    self.assertEqual(file.read(), written(**words))
+            with pcapfile.Writer(name, append=True) as writer:
+                writer.write(b"x", 5, interface=writer.add_interface(113))
+            with pcapfile.open(name) as capture:
+                self.assertEqual([p.link for p in capture], [1, 1, 1, 1, 113])
+            os.truncate(name, os.path.getsize(name) - 1)
+            self.assertRaises(pcapfile.Incomplete, pcapfile.Writer, name, append=True)
+            with open(name, "wb") as file:
+                file.write(gzip.compress(written()))
+            self.assertRaisesRegex(ValueError, "compressed", pcapfile.Writer, name, append=True)
+            self.assertRaises(TypeError, pcapfile.Writer, io.BytesIO(), append=True)
 
     def test_a_failed_write_leaves_a_beginning(self):
         for words in ({"format": "pcap"}, {"format": "pcapng"}):

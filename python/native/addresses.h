@@ -1,0 +1,96 @@
+/* addresses.h: addresses of IP by numbers, in the order in which they came. A part of native.c. */
+
+typedef struct {
+    uint64_t high, low;
+    int32_t version; /* 4 or 6 */
+} Address;
+
+/* Each address once, and where each stands by its hash: its number and one more, or 0. */
+typedef struct {
+    PyObject_HEAD
+    Address *at;
+    uint32_t *slots;
+    size_t count, room; /* there are twice as many slots, a power of two */
+    uint64_t seed;
+    int is_used; /* by a call that has let the interpreter's lock go */
+} Addresses;
+
+static void addresses_dealloc(PyObject *self) {
+    free(((Addresses *)self)->at);
+    free(((Addresses *)self)->slots);
+    plain_dealloc(self);
+}
+
+static PyObject *make_addresses(PyObject *module, PyObject *unused) {
+    (void)unused;
+    State *state = PyModule_GetState(module);
+    Addresses *addresses = PyObject_New(Addresses, state->addresses);
+    if (!addresses) return NULL;
+    addresses->at = NULL, addresses->slots = NULL;
+    addresses->count = addresses->room = 0, addresses->is_used = 0;
+    /* Python's hashes of texts are other ones in each process, so that nobody can choose addresses whose hashes are the same. */
+    addresses->seed = (uint64_t)PyObject_Hash(state->window);
+    return (PyObject *)addresses;
+}
+
+static inline size_t slot_of(const Addresses *addresses, const Address *address) {
+    unsigned __int128 first = (unsigned __int128)(address->low ^ addresses->seed) * 0x9E3779B97F4A7C15u;
+    uint64_t folded = (uint64_t)(first >> 64) ^ (uint64_t)first ^ (uint64_t)address->version;
+    unsigned __int128 second = (unsigned __int128)(folded ^ address->high) * (addresses->seed | 1);
+    return (size_t)((uint64_t)(second >> 64) ^ (uint64_t)second) & (2 * addresses->room - 1);
+}
+
+/* The slot of an address: that where it is, or a free one. */
+static inline size_t find_slot(const Addresses *addresses, const Address *address) {
+    size_t slot = slot_of(addresses, address);
+    for (; addresses->slots[slot]; slot = (slot + 1) & (2 * addresses->room - 1)) {
+        const Address *there = &addresses->at[addresses->slots[slot] - 1];
+        if (there->low == address->low && there->high == address->high && there->version == address->version) break;
+    }
+    return slot;
+}
+
+static int addresses_grow(Addresses *addresses) {
+    size_t room = addresses->room ? 2 * addresses->room : 1024;
+    if (room > INT32_MAX) return -1;
+    Address *at = realloc(addresses->at, room * sizeof *at);
+    if (!at) return -1;
+    addresses->at = at;
+    uint32_t *slots = calloc(2 * room, sizeof *slots);
+    if (!slots) return -1;
+    free(addresses->slots);
+    addresses->slots = slots, addresses->room = room;
+    for (size_t i = 0; i < addresses->count; i++) slots[find_slot(addresses, &at[i])] = (uint32_t)i + 1;
+    return 0;
+}
+
+/* The number of an address, or -1 where memory is refused. */
+static inline int32_t number_of(Addresses *addresses, Address address) {
+    if (addresses->count == addresses->room && addresses_grow(addresses) < 0) return -1;
+    size_t slot = find_slot(addresses, &address);
+    if (!addresses->slots[slot]) {
+        addresses->at[addresses->count] = address;
+        addresses->slots[slot] = (uint32_t)++addresses->count;
+    }
+    return (int32_t)(addresses->slots[slot] - 1);
+}
+
+/* given(): the bytes of each, 4 or 16. */
+static PyObject *addresses_given(PyObject *self, PyObject *unused) {
+    const Addresses *addresses = (Addresses *)self;
+    (void)unused;
+    if (addresses->is_used) return PyErr_SetString(PyExc_ValueError, "addresses are in use"), NULL;
+    PyObject *list = PyList_New((Py_ssize_t)addresses->count);
+    for (size_t i = 0; list && i < addresses->count; i++) {
+        uint8_t bytes[16];
+        for (int k = 0; k < 8; k++) {
+            bytes[k] = (uint8_t)(addresses->at[i].high >> (56 - 8 * k));
+            bytes[8 + k] = (uint8_t)(addresses->at[i].low >> (56 - 8 * k));
+        }
+        int length = addresses->at[i].version == 4 ? 4 : 16;
+        PyObject *text = PyBytes_FromStringAndSize((const char *)bytes + 16 - length, length);
+        if (!text) Py_CLEAR(list);
+        else PyList_SetItem(list, (Py_ssize_t)i, text);
+    }
+    return list;
+}

@@ -1,0 +1,199 @@
+/* native.c: packets and rows of captures for Python, over the calls of pcapfile.h. Plain C, tested and not proved.
+ *
+ * The package does all but what is done for each packet. A walk of it has a window, whose `left` are the bytes that are left as the
+ * library has them, and whose `data` is a view of all that is shown; `more` shows more. Packets hold on to the bytes in which they lie:
+ * nothing is copied, and nothing that a packet shows can go away while it lives. No arithmetic is done with the bytes themselves.
+ *
+ * It keeps to the stable interface of Python 3.9, so one file serves 3.9 to 3.13. Its types and what it keeps are each
+ * interpreter's own. */
+#include "python_buffers.h"
+
+#include <stddef.h>
+#include <stdint.h>
+#include <stdlib.h>
+#include <string.h>
+
+#include "pcapfile.h"
+
+#ifndef FREE
+#define FREE 64
+#endif
+
+/* What a module keeps: its types, names of attributes, and places of packets that are gone. */
+typedef struct {
+    PyTypeObject *open, *chunk, *clock, *clocks, *packet, *block_packet, *walk, *addresses;
+    PyObject *more, *offset, *data, *base, *left, *window, *section, *clocks_name, *take, *open_name;
+    int n_free;
+    void *free[FREE + 1];
+} State;
+
+#include "packets.h"
+#include "walk.h"
+#include "rows.h"
+#include "addresses.h"
+#include "decode.h"
+
+/* ---- the types ---- */
+
+static PyMethodDef open_methods[] = { { "close", open_close, METH_NOARGS, "From now on it is closed." }, { NULL, NULL, 0, NULL } };
+static PyGetSetDef open_attributes[] = {
+    { "is_closed", open_is_closed, NULL, "Whether the capture is closed.", NULL },
+    { NULL, NULL, NULL, NULL, NULL },
+};
+static PyType_Slot open_slots[] = {
+    { Py_tp_doc, "Whether a capture is open." }, { Py_tp_new, open_new },           { Py_tp_dealloc, plain_dealloc },
+    { Py_tp_methods, open_methods },             { Py_tp_getset, open_attributes }, { 0, NULL },
+};
+static PyType_Slot chunk_slots[] = { { Py_tp_new, no_new }, { Py_tp_dealloc, chunk_dealloc }, { 0, NULL } };
+static PyType_Slot clock_slots[] = { { Py_tp_new, no_new }, { Py_tp_dealloc, clock_dealloc }, { 0, NULL } };
+static PyMethodDef clocks_methods[] = {
+    { "add", clocks_add, METH_VARARGS, "Adds an interface." },
+    { "copy", clocks_copy, METH_NOARGS, "The same interfaces." },
+    { NULL, NULL, 0, NULL },
+};
+static PyType_Slot clocks_slots[] = {
+    { Py_tp_new, no_new }, { Py_tp_dealloc, clocks_dealloc }, { Py_tp_methods, clocks_methods }, { 0, NULL },
+};
+static PyMethodDef addresses_methods[] = {
+    { "given", addresses_given, METH_NOARGS, "The bytes of each." },
+    { NULL, NULL, 0, NULL },
+};
+static PyType_Slot addresses_slots[] = {
+    { Py_tp_new, no_new }, { Py_tp_dealloc, addresses_dealloc }, { Py_tp_methods, addresses_methods }, { 0, NULL },
+};
+static PyGetSetDef walk_attributes[] = {
+    { "is_over", walk_is_over, NULL, "Whether no packet comes any more.", NULL },
+    { NULL, NULL, NULL, NULL, NULL },
+};
+static PyType_Slot walk_slots[] = {
+    { Py_tp_doc, "Packets of a capture, one by one." },
+    { Py_tp_new, no_new },
+    { Py_tp_dealloc, walk_dealloc },
+    { Py_tp_traverse, walk_traverse },
+    { Py_tp_clear, walk_clear },
+    { Py_tp_getset, walk_attributes },
+    { Py_tp_iter, walk_iter },
+    { Py_tp_iternext, walk_next },
+    { 0, NULL },
+};
+#define PACKET_SLOTS(NAME) \
+    { Py_tp_new, no_new }, { Py_tp_dealloc, packet_dealloc }, { Py_tp_getset, NAME##_attributes }, \
+    { Py_tp_richcompare, packet_compare }, { Py_sq_length, NAME##_length }, { Py_sq_item, NAME##_item }, \
+    { Py_mp_subscript, packet_subscript }, { Py_bf_getbuffer, packet_buffer }, { 0, NULL }
+static PyType_Slot packet_slots[] = {
+    { Py_tp_doc, "A packet of a capture: a sequence of its fields, which also lends its bytes, as to bytes() and memoryview()." },
+    PACKET_SLOTS(packet),
+};
+static PyType_Slot block_packet_slots[] = {
+    { Py_tp_doc, "A packet of an interface: a sequence of its fields, which also lends its bytes, as to bytes() and memoryview()." },
+    PACKET_SLOTS(block_packet),
+};
+
+#define SPEC(NAME, TYPE, FLAGS, SLOTS) { NAME, sizeof(TYPE), 0, Py_TPFLAGS_DEFAULT | (FLAGS), SLOTS }
+static PyType_Spec open_spec = SPEC("pcapfile._native.Open", Open, 0, open_slots);
+static PyType_Spec chunk_spec = SPEC("pcapfile._native.Chunk", Chunk, 0, chunk_slots);
+static PyType_Spec clock_spec = SPEC("pcapfile._native.Clock", Clock, 0, clock_slots);
+static PyType_Spec clocks_spec = SPEC("pcapfile._native.Clocks", Clocks, 0, clocks_slots);
+static PyType_Spec addresses_spec = SPEC("pcapfile._native.Addresses", Addresses, 0, addresses_slots);
+static PyType_Spec walk_spec = SPEC("pcapfile._native.Packets", Walk, Py_TPFLAGS_HAVE_GC, walk_slots);
+static PyType_Spec packet_spec = SPEC("pcapfile.Packet", Packet, 0, packet_slots);
+static PyType_Spec block_packet_spec = SPEC("pcapfile.BlockPacket", Packet, 0, block_packet_slots);
+
+/* ---- the module ---- */
+
+static int add_types(PyObject *module, State *state) {
+    struct {
+        PyTypeObject **type;
+        PyType_Spec *spec;
+        const char *name;
+    } types[] = {
+        { &state->open, &open_spec, "Open" },       { &state->chunk, &chunk_spec, NULL },
+        { &state->clock, &clock_spec, NULL },       { &state->clocks, &clocks_spec, NULL },
+        { &state->walk, &walk_spec, NULL },         { &state->packet, &packet_spec, "Packet" },
+        { &state->block_packet, &block_packet_spec, "BlockPacket" },
+        { &state->addresses, &addresses_spec, NULL },
+    };
+    for (size_t i = 0; i < sizeof types / sizeof *types; i++) {
+        PyObject *type = PyType_FromSpec(types[i].spec);
+        *types[i].type = (PyTypeObject *)type;
+        if (!type) return -1;
+        if (types[i].name) {
+            Py_INCREF(type);
+            if (PyModule_AddObject(module, types[i].name, type) < 0) return Py_DECREF(type), -1;
+        }
+    }
+    return 0;
+}
+
+static int module_exec(PyObject *module) {
+    State *state = PyModule_GetState(module);
+    struct {
+        PyObject **text;
+        const char *name;
+    } names[] = {
+        { &state->more, "more" },       { &state->offset, "offset" },   { &state->data, "data" },
+        { &state->base, "base" },       { &state->left, "left" },       { &state->window, "window" },
+        { &state->section, "section" }, { &state->clocks_name, "clocks" }, { &state->take, "take" },
+        { &state->open_name, "open" },
+    };
+    for (size_t i = 0; i < sizeof names / sizeof *names; i++)
+        if (!(*names[i].text = PyUnicode_InternFromString(names[i].name))) return -1;
+    return add_types(module, state);
+}
+
+/* Each object that a module keeps, in turn. */
+#define EACH_KEPT(DO) \
+    DO(open) DO(chunk) DO(clock) DO(clocks) DO(packet) DO(block_packet) DO(walk) DO(addresses) DO(more) \
+    DO(offset) DO(data) DO(base) DO(left) DO(window) DO(section) DO(clocks_name) DO(take) DO(open_name)
+
+static int module_traverse(PyObject *module, visitproc visit, void *arg) {
+    State *state = PyModule_GetState(module);
+    if (!state) return 0;
+#define VISIT(NAME) Py_VISIT(state->NAME);
+    EACH_KEPT(VISIT)
+    return 0;
+}
+
+static int module_clear(PyObject *module) {
+    State *state = PyModule_GetState(module);
+    if (!state) return 0;
+#define CLEAR(NAME) Py_CLEAR(state->NAME);
+    EACH_KEPT(CLEAR)
+    return 0;
+}
+
+static void module_free(void *module) {
+    State *state = PyModule_GetState(module);
+    if (!state) return;
+    module_clear(module);
+    while (state->n_free > 0) PyObject_Free(state->free[--state->n_free]);
+}
+
+/* address(view): where the bytes of a view begin. */
+static PyObject *address(PyObject *module, PyObject *view) {
+    Py_buffer shown;
+    (void)module;
+    if (PyObject_GetBuffer(view, &shown, PyBUF_SIMPLE) < 0) return NULL;
+    PyObject *number = PyLong_FromVoidPtr(shown.buf);
+    PyBuffer_Release(&shown);
+    return number;
+}
+
+static PyMethodDef methods[] = {
+    { "address", address, METH_O, "Where the bytes of a view begin." },
+    { "packets", make_walk, METH_VARARGS, "The packets of a walk." },
+    { "rows", make_rows, METH_VARARGS, "Fills rows of columns." },
+    { "decode", decode, METH_VARARGS, "Reads addresses, ports and protocols of rows." },
+    { "gather", gather, METH_VARARGS, "Copies the bytes of rows." },
+    { "addresses", make_addresses, METH_NOARGS, "No addresses yet." },
+    { "clocks", make_clocks, METH_NOARGS, "No interfaces yet." },
+    { "packet", make_packet, METH_VARARGS, "A packet that stands in these bytes." },
+    { NULL, NULL, 0, NULL },
+};
+static PyModuleDef_Slot slots[] = { { Py_mod_exec, module_exec }, { 0, NULL } };
+static struct PyModuleDef module = {
+    PyModuleDef_HEAD_INIT, "pcapfile._native", "Packets and rows of captures.", sizeof(State), methods, slots,
+    module_traverse,       module_clear,       module_free,
+};
+
+PyMODINIT_FUNC PyInit__native(void) { return PyModuleDef_Init(&module); }

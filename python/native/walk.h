@@ -1,0 +1,401 @@
+/* walk.h: an iterator over the packets of a walk of the package: its window shows bytes, and shows more when it is asked. A part of
+ * native.c. */
+
+/* What a filter answers of a packet: libpcap's bpf_filter. */
+typedef unsigned int Run(const void *, const uint8_t *, unsigned int, unsigned int);
+
+/* The program that chooses packets of a link type. */
+typedef struct {
+    uint32_t link;
+    const void *program;
+} Chosen;
+
+enum { BATCH = 512, PROGRAMS = 8 };
+
+typedef struct {
+    PyObject_HEAD
+    PyObject *module;
+    State *state;
+    PyObject *source, *window, *refused; /* the walk of the package, its window, and what makes an error */
+    Open *open;
+    Py_buffer left_buffer, section_buffer;
+    pcapfile_bytes *left;      /* those of the window */
+    pcapfile_section *section; /* of PcapNg */
+    pcapfile_header header;    /* of a classic capture */
+    pcapfile_error error;
+    Chunk *chunk;
+    Clocks *clocks; /* of PcapNg */
+    PyObject *filter; /* or NULL */
+    Run *run;         /* what chooses packets by their bytes, or NULL */
+    int64_t since, until; /* what is chosen by its time: nanoseconds from the one on and before the other */
+    int has_times;
+    Chosen programs[PROGRAMS];
+    unsigned n_programs;
+    int is_ng, is_pairs, is_running, is_over;
+    int32_t status; /* that of the last call of the library, until what it asks for is done */
+    size_t at, count;
+    union {
+        pcapfile_packet classic[BATCH];
+        pcapfile_ng_packet ng[BATCH];
+    } batch;
+} Walk;
+
+static int walk_traverse(PyObject *self, visitproc visit, void *arg) {
+    Walk *walk = (Walk *)self;
+    Py_VISIT(Py_TYPE(self));
+    Py_VISIT(walk->module);
+    Py_VISIT(walk->source);
+    Py_VISIT(walk->window);
+    Py_VISIT(walk->refused);
+    Py_VISIT(walk->filter);
+    return 0;
+}
+
+static int walk_clear(PyObject *self) {
+    Walk *walk = (Walk *)self;
+    walk->is_over = 1;
+    walk->at = walk->count = 0;
+    Py_CLEAR(walk->chunk);
+    Py_CLEAR(walk->clocks);
+    PyBuffer_Release(&walk->left_buffer);
+    PyBuffer_Release(&walk->section_buffer);
+    walk->left = NULL, walk->section = NULL;
+    Py_CLEAR(walk->source);
+    Py_CLEAR(walk->window);
+    Py_CLEAR(walk->refused);
+    Py_CLEAR(walk->filter);
+    return 0;
+}
+
+static void walk_dealloc(PyObject *self) {
+    Walk *walk = (Walk *)self;
+    PyTypeObject *type = Py_TYPE(self);
+    PyObject *module = walk->module;
+    PyObject_GC_UnTrack(self);
+    walk_clear(self);
+    Py_XDECREF(walk->open);
+    PyObject_GC_Del(self);
+    Py_DECREF(type);
+    Py_XDECREF(module);
+}
+
+/* ---- making one ---- */
+
+/* A struct of an object's attribute, which is written where it lies. */
+static int let_struct(PyObject *owner, PyObject *name, Py_buffer *buffer, size_t size) {
+    PyObject *object = PyObject_GetAttr(owner, name);
+    int failed = !object || PyObject_GetBuffer(object, buffer, PyBUF_WRITABLE) < 0;
+    Py_XDECREF(object);
+    if (failed) return -1;
+    if ((size_t)buffer->len == size) return 0;
+    PyErr_SetString(PyExc_TypeError, "a struct of another size");
+    return -1;
+}
+
+static int copy_struct(PyObject *object, void *to, size_t size) {
+    Py_buffer view;
+    if (PyObject_GetBuffer(object, &view, PyBUF_SIMPLE) < 0) return -1;
+    int fits = (size_t)view.len == size;
+    if (fits) memcpy(to, view.buf, size);
+    PyBuffer_Release(&view);
+    if (!fits) PyErr_SetString(PyExc_TypeError, "a struct of another size");
+    return fits ? 0 : -1;
+}
+
+/* The interfaces of the section in force. */
+static int see_clocks(Walk *walk) {
+    PyObject *clocks = PyObject_GetAttr(walk->source, walk->state->clocks_name);
+    if (clocks && Py_TYPE(clocks) != walk->state->clocks) {
+        Py_DECREF(clocks);
+        clocks = NULL;
+        PyErr_SetString(PyExc_TypeError, "a walk without interfaces");
+    }
+    Py_XDECREF(walk->clocks);
+    walk->clocks = (Clocks *)clocks;
+    return clocks ? 0 : -1;
+}
+
+static int begin_window(Walk *walk) {
+    if (!(walk->window = PyObject_GetAttr(walk->source, walk->state->window))) return -1;
+    if (let_struct(walk->window, walk->state->left, &walk->left_buffer, sizeof *walk->left) < 0) return -1;
+    walk->left = walk->left_buffer.buf;
+    PyObject *open = PyObject_GetAttr(walk->window, walk->state->open_name);
+    walk->open = (Open *)open;
+    if (!open) return -1;
+    if (Py_TYPE(open) == walk->state->open) return 0;
+    PyErr_SetString(PyExc_TypeError, "a window that isn't open or closed");
+    return -1;
+}
+
+static int begin_format(Walk *walk, PyObject *header) {
+    walk->is_ng = header == Py_None;
+    walk->status = PCAPFILE_OK;
+    if (walk->is_ng) {
+        for (size_t i = 0; i < BATCH; i++) walk->batch.ng[i] = (pcapfile_ng_packet)PCAPFILE_NG_PACKET_INIT;
+        if (let_struct(walk->source, walk->state->section, &walk->section_buffer, sizeof *walk->section) < 0) return -1;
+        walk->section = walk->section_buffer.buf;
+        return see_clocks(walk);
+    }
+    for (size_t i = 0; i < BATCH; i++) walk->batch.classic[i] = (pcapfile_packet)PCAPFILE_PACKET_INIT;
+    return copy_struct(header, &walk->header, sizeof walk->header);
+}
+
+static int begin_filter(Walk *walk, PyObject *filter) {
+    if (filter == Py_None) return 0;
+    PyObject *told = PyObject_CallMethod(filter, "told", NULL);
+    unsigned long long run;
+    long long since, until;
+    int failed = !told || !PyArg_ParseTuple(told, "KLLp", &run, &since, &until, &walk->has_times);
+    Py_XDECREF(told);
+    if (failed) return -1;
+    Py_INCREF(filter);
+    walk->filter = filter;
+    walk->run = (Run *)(uintptr_t)run;
+    walk->since = since, walk->until = until;
+    return 0;
+}
+
+/* packets(walk, header or None, refused, filter or None, whether pairs) */
+static PyObject *make_walk(PyObject *module, PyObject *args) {
+    State *state = PyModule_GetState(module);
+    PyObject *source, *header, *refused, *filter = Py_None;
+    int is_pairs = 0;
+    if (!PyArg_ParseTuple(args, "OOO|Op", &source, &header, &refused, &filter, &is_pairs)) return NULL;
+    Walk *walk = PyObject_GC_New(Walk, state->walk);
+    if (!walk) return NULL;
+    memset((char *)walk + sizeof(PyObject), 0, offsetof(Walk, batch) - sizeof(PyObject));
+    Py_INCREF(module), Py_INCREF(source), Py_INCREF(refused);
+    walk->module = module, walk->state = state, walk->source = source, walk->refused = refused, walk->is_pairs = is_pairs;
+    if (begin_window(walk) < 0 || begin_format(walk, header) < 0 || begin_filter(walk, filter) < 0) {
+        Py_DECREF(walk);
+        return NULL;
+    }
+    PyObject_GC_Track((PyObject *)walk);
+    return (PyObject *)walk;
+}
+
+/* ---- taking batches ---- */
+
+static int closed(void) {
+    PyErr_SetString(PyExc_ValueError, "the capture is closed");
+    return -1;
+}
+
+/* The chunk that the window shows now. */
+static int see_chunk(Walk *walk) {
+    PyObject *shown = PyObject_GetAttr(walk->window, walk->state->data), *base;
+    if (!shown) return -1;
+    if (!walk->chunk || walk->chunk->shown != shown) {
+        Py_CLEAR(walk->chunk);
+        if ((base = PyObject_GetAttr(walk->window, walk->state->base))) {
+            uint64_t place = PyLong_AsUnsignedLongLong(base);
+            if (!PyErr_Occurred()) walk->chunk = chunk_new(walk->module, shown, place);
+            Py_DECREF(base);
+        }
+    }
+    Py_DECREF(shown);
+    return walk->chunk ? 0 : -1;
+}
+
+/* What is left, where it lies in what is shown: whoever changed the struct from Python, the library reads nothing else. */
+static int left_within(const pcapfile_bytes *told, const Py_buffer *shown, pcapfile_bytes *left) {
+    const uint8_t *start = shown->buf;
+    size_t len = (size_t)shown->len;
+    *left = (pcapfile_bytes)PCAPFILE_NO_BYTES;
+    if (told->len == 0) return 0;
+    if (told->ptr < start || told->ptr > start + len || told->len > (size_t)(start + len - told->ptr))
+        return PyErr_SetString(PyExc_RuntimeError, "the window shows other bytes"), -1;
+    *left = *told;
+    return 0;
+}
+
+/* Lets the library take a batch. The interpreter's lock is kept: it takes some 20 microseconds. */
+static int take_batch(Walk *walk) {
+    size_t taken = 0;
+    pcapfile_bytes left;
+    if (walk->open->is_closed) return closed();
+    if (see_chunk(walk) < 0 || left_within(walk->left, &walk->chunk->buffer, &left) < 0) return -1;
+    if (walk->is_ng)
+        walk->status = pcapfile_take_ng_packets(walk->section, &left, walk->batch.ng, BATCH, &taken, &walk->error);
+    else
+        walk->status = pcapfile_take_packets(&walk->header, &left, walk->batch.classic, BATCH, &taken, &walk->error);
+    if (walk->left->len > 0) *walk->left = left;
+    walk->at = 0;
+    walk->count = taken;
+    return 0;
+}
+
+/* Asks the window for more bytes: whether some came. The chunk's room can be used again where no packet lives in it. */
+static int more(Walk *walk, size_t missing) {
+    if (walk->open->is_closed) return closed();
+    walk->at = walk->count = 0;
+    Py_CLEAR(walk->chunk);
+    PyObject *number = PyLong_FromSize_t(missing);
+    PyObject *came = number ? PyObject_CallMethodObjArgs(walk->window, walk->state->more, number, NULL) : NULL;
+    Py_XDECREF(number);
+    if (!came) return -1;
+    int answer = PyObject_IsTrue(came);
+    Py_DECREF(came);
+    return answer;
+}
+
+static int refuse(Walk *walk) {
+    if (walk->open->is_closed) return closed();
+    PyObject *offset = PyObject_GetAttr(walk->window, walk->state->offset);
+    if (!offset) return -1;
+    walk->is_over = 1;
+    PyObject *error = PyObject_CallFunction(walk->refused, "iInO", (int)walk->status, (unsigned int)walk->error.rule,
+                                            (Py_ssize_t)walk->error.missing, offset);
+    Py_DECREF(offset);
+    if (error) PyErr_SetObject((PyObject *)Py_TYPE(error), error);
+    Py_XDECREF(error);
+    return -1;
+}
+
+/* Does what the last batch of a classic capture ended with: 1 where another one can be taken, 0 at the end. */
+static int go_on(Walk *walk) {
+    int32_t status = walk->status;
+    if (status != PCAPFILE_OK && status != PCAPFILE_INCOMPLETE) return refuse(walk);
+    if (walk->left->len > 0 && status == PCAPFILE_OK) return 1;
+    int came = more(walk, status == PCAPFILE_INCOMPLETE ? walk->error.missing : 1);
+    if (came == 0 && status == PCAPFILE_INCOMPLETE) return refuse(walk);
+    return came;
+}
+
+/* The same of a PcapNg capture, and takes a section, an interface, a packet that can't be read, or a refusal. */
+static int go_on_ng(Walk *walk) {
+    if (walk->status == PCAPFILE_INCOMPLETE) {
+        int came = more(walk, walk->error.missing);
+        if (came <= 0) return came < 0 ? -1 : refuse(walk);
+    } else if (walk->status == PCAPFILE_NO_MEMORY) {
+        return refuse(walk);
+    } else if (walk->status != PCAPFILE_OK) {
+        PyObject *told = PyObject_CallMethodObjArgs(walk->source, walk->state->take, NULL);
+        if (!told) return -1;
+        Py_DECREF(told);
+        if (see_clocks(walk) < 0) return -1;
+    }
+    walk->status = PCAPFILE_OK; /* this is done, whatever an error of a stream interrupts from here on */
+    return walk->left->len > 0 ? 1 : more(walk, 1);
+}
+
+/* Fills the batch: 1, or 0 at the end, or -1. One thread does so at a time. Behind an error of a stream the walk can go on. */
+static int refill(Walk *walk) {
+    int goes;
+    if (walk->is_over) return 0;
+    walk->is_running = 1;
+    walk->at = walk->count = 0;
+    do
+        goes = walk->is_ng ? go_on_ng(walk) : go_on(walk);
+    while (goes > 0 && (goes = take_batch(walk) < 0 ? -1 : 1) > 0 && walk->count == 0);
+    walk->is_running = 0;
+    if (goes == 0) walk->is_over = 1;
+    if (goes <= 0) Py_CLEAR(walk->chunk);
+    return goes;
+}
+
+/* ---- giving packets ---- */
+
+/* The program for packets of this link type, NULL with an error. */
+static const void *program_for(Walk *walk, uint32_t link) {
+    for (unsigned i = 0; i < walk->n_programs; i++)
+        if (walk->programs[i].link == link) return walk->programs[i].program;
+    walk->is_running = 1; /* the batch stays while Python runs */
+    PyObject *told = PyObject_CallMethod(walk->filter, "program", "I", (unsigned int)link);
+    walk->is_running = 0;
+    const void *program = told ? PyLong_AsVoidPtr(told) : NULL;
+    Py_XDECREF(told);
+    if (program && walk->n_programs < PROGRAMS) walk->programs[walk->n_programs++] = (Chosen){ link, program };
+    return program;
+}
+
+/* Whether the filter takes these bytes: 1, 0, or -1. */
+static inline int takes(Walk *walk, uint32_t link, const uint8_t *ptr, uint32_t orig_len, size_t len) {
+    const void *program = program_for(walk, link);
+    if (!program) return PyErr_Occurred() ? -1 : 0;
+    return walk->run(program, ptr, orig_len, (unsigned int)len) != 0;
+}
+
+/* Whether a time is one of those that are chosen. */
+static inline int is_within(const Walk *walk, int64_t time) { return time != NO_TIME && walk->since <= time && time < walk->until; }
+
+/* The next packet of the batch, or NULL where the filter leaves it out, or with an error. */
+static inline Packet *next_classic(Walk *walk, const pcapfile_packet *given) {
+    if (walk->has_times && !is_within(walk, (int64_t)given->ts_sec * 1000000000 + given->ts_nsec)) return NULL;
+    if (walk->run && takes(walk, walk->header.link, given->bytes.ptr, given->orig_len, given->bytes.len) <= 0) return NULL;
+    Packet *packet = packet_alloc(walk->state, walk->state->packet);
+    if (!packet) return NULL;
+    packet->clock = NULL;
+    packet->ptr = given->bytes.ptr;
+    packet->stamp = (uint64_t)given->ts_sec << 32 | given->ts_nsec;
+    packet->len = (uint32_t)given->bytes.len;
+    packet->orig_len = given->orig_len;
+    packet->interface_id = 0;
+    packet->kind = walk->header.link;
+    return packet;
+}
+
+static inline Packet *next_ng(Walk *walk, const pcapfile_ng_packet *given) {
+    Clock *clock = given->interface_id < walk->clocks->count ? walk->clocks->at[given->interface_id] : NULL;
+    size_t len = given->bytes.len;
+    if (given->type == PCAPFILE_BLOCK_SIMPLE_PACKET) { /* what follows its own bytes is padding */
+        uint32_t most = clock && clock->interface.snaplen ? clock->interface.snaplen : given->orig_len;
+        if (most > given->orig_len) most = given->orig_len;
+        if (len > most) len = most;
+    }
+    if (walk->has_times && (!clock || given->type == PCAPFILE_BLOCK_SIMPLE_PACKET || !is_within(walk, time_in_ns(clock, given->timestamp))))
+        return NULL;
+    if (walk->run && (!clock || takes(walk, clock->interface.link, given->bytes.ptr, given->orig_len, len) <= 0)) return NULL;
+    Packet *packet = packet_alloc(walk->state, walk->state->block_packet);
+    if (!packet) return NULL;
+    Py_XINCREF(clock);
+    packet->clock = clock;
+    packet->ptr = given->bytes.ptr;
+    packet->stamp = given->timestamp;
+    packet->len = (uint32_t)len;
+    packet->orig_len = given->orig_len;
+    packet->interface_id = given->interface_id;
+    packet->kind = given->type;
+    return packet;
+}
+
+/* The time and the bytes of a packet, in its place. */
+static PyObject *pair_of(Packet *packet, int is_ng) {
+    PyObject *time = float_of((PyObject *)packet, is_ng);
+    PyObject *bytes = PyBytes_FromStringAndSize((const char *)packet->ptr, packet->len);
+    PyObject *pair = time && bytes ? PyTuple_New(2) : NULL;
+    Py_DECREF(packet);
+    if (!pair) {
+        Py_XDECREF(time), Py_XDECREF(bytes);
+        return NULL;
+    }
+    PyTuple_SetItem(pair, 0, time), PyTuple_SetItem(pair, 1, bytes); /* which take them, and can't fail on a new pair */
+    return pair;
+}
+
+static PyObject *walk_next(PyObject *self) {
+    Walk *walk = (Walk *)self;
+    if (walk->is_running) return PyErr_SetString(PyExc_ValueError, "another thread takes packets from this walk"), NULL;
+    for (;;) {
+        if (walk->at == walk->count && refill(walk) <= 0) return NULL;
+        if (walk->open->is_closed) return closed(), NULL;
+        size_t at = walk->at++;
+        Packet *packet = walk->is_ng ? next_ng(walk, &walk->batch.ng[at]) : next_classic(walk, &walk->batch.classic[at]);
+        if (packet) {
+            Py_INCREF(walk->chunk);
+            packet->chunk = walk->chunk;
+            return walk->is_pairs ? pair_of(packet, walk->is_ng) : (PyObject *)packet;
+        }
+        if (PyErr_Occurred()) return NULL;
+    }
+}
+
+static PyObject *walk_is_over(PyObject *self, void *closure) {
+    (void)closure;
+    return PyBool_FromLong(((Walk *)self)->is_over);
+}
+
+static PyObject *walk_iter(PyObject *self) {
+    Py_INCREF(self);
+    return self;
+}

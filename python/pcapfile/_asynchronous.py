@@ -1,0 +1,103 @@
+"""Captures that asyncio waits for."""
+
+import asyncio
+import os
+from builtins import open as _open
+from typing import Any, AsyncIterator, Optional, Union
+
+from ._blocks import BlockCapture
+from ._capture import Capture
+from ._open import Name, open as _open_capture
+from ._source import CHUNK
+
+
+class _Fed:
+    """A stream of bytes that are put into it: it has none yet, rather than waiting for them."""
+
+    def __init__(self) -> None:
+        self._data, self._has_ended = memoryview(b""), False
+
+    def put(self, data: bytes) -> None:
+        """Puts what came, all before it having been read. No bytes are the end."""
+        self._data, self._has_ended = memoryview(data), not data
+
+    def readinto(self, room: memoryview) -> Optional[int]:
+        count = min(len(room), len(self._data))
+        if count == 0:
+            return 0 if self._has_ended else None
+        room[:count], self._data = self._data[:count], self._data[count:]
+        return count
+
+    def close(self) -> None:
+        self.put(b"")
+
+
+class AsyncCapture:
+    """A capture whose packets come by `async for`, as soon as their bytes have. `capture` is the capture itself, with what it tells of
+    its format and its interfaces so far. As an asynchronous context manager it is closed at the end.
+
+        >>> async def lengths(name):
+        ...     async with await pcapfile.aopen(name) as capture:
+        ...         return [packet.length async for packet in capture]
+        >>> asyncio.run(lengths("capture.pcap"))
+        [98]
+    """
+
+    def __init__(self, reader: Any, fed: _Fed, capture: Union[Capture, BlockCapture]) -> None:
+        self._reader, self._fed, self.capture = reader, fed, capture
+
+    async def __aiter__(self) -> AsyncIterator[Any]:
+        while True:
+            try:
+                for packet in self.capture:
+                    yield packet
+                return
+            except BlockingIOError:
+                self._fed.put(await self._reader.read(CHUNK))
+
+    async def __aenter__(self) -> "AsyncCapture":
+        return self
+
+    async def __aexit__(self, *_: object) -> None:
+        self.close()
+
+    def close(self) -> None:
+        """Lets the capture go. A file that it opened is closed; a reader stays the caller's."""
+        self.capture.close()
+        if isinstance(self._reader, _InThread):
+            self._reader.close()
+
+
+class _InThread:
+    """A file that is read in threads of asyncio's."""
+
+    def __init__(self, name: Name) -> None:
+        self._file = _open(name, "rb", buffering=0)
+        self.close = self._file.close
+
+    async def read(self, count: int) -> bytes:
+        return await asyncio.get_running_loop().run_in_executor(None, self._file.read, count)
+
+
+async def aopen(source: Union[Name, Any], *, strict: bool = True) -> AsyncCapture:
+    """The capture that comes out of an object with an asynchronous `read`, as asyncio's StreamReader, or out of a file by its name. It is
+    there once its first bytes are. `strict` is that of `parse`. A compressed one has to be decompressed before.
+
+        >>> async def formats(name):
+        ...     async with await pcapfile.aopen(name) as capture:
+        ...         return capture.capture.format
+        >>> asyncio.run(formats("options.pcapng"))
+        'pcapng'
+    """
+    reader = _InThread(source) if isinstance(source, (str, bytes, os.PathLike)) else source
+    fed = _Fed()
+    try:
+        while True:
+            try:
+                return AsyncCapture(reader, fed, _open_capture(fed, strict=strict))
+            except BlockingIOError:
+                fed.put(await reader.read(CHUNK))
+    except BaseException:
+        if isinstance(reader, _InThread):
+            reader.close()
+        raise

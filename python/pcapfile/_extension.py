@@ -1,0 +1,26 @@
+"""The C extension `_native`, where it was built; PCAPFILE_NATIVE=0 leaves it out."""
+
+import os
+from typing import Any
+
+native: Any = None
+if os.environ.get("PCAPFILE_NATIVE") != "0":
+    try:
+        from . import _native as native  # type: ignore[no-redef]
+    except ImportError:
+        pass
+
+
+class _Open:
+    """Whether a capture is open. Walks look at it before each packet."""
+
+    __slots__ = ("is_closed",)
+
+    def __init__(self) -> None:
+        self.is_closed = False
+
+    def close(self) -> None:
+        self.is_closed = True
+
+
+Open: Any = _Open if native is None else native.Open
