@@ -19,7 +19,7 @@
 #include <string.h>
 #include <time.h>
 
-enum { INTERFACES = 64, BATCH = 3, MOST_PARTS = 9, REFUSED = 1, USAGE = 2, ENDED_EARLY = 3, NO_MEMORY = 4, NO_FILE = 4 };
+enum { INTERFACES = 64, BATCH = 3, MOST_PARTS = 40, REFUSED = 1, USAGE = 2, ENDED_EARLY = 3, NO_MEMORY = 4, NO_FILE = 4 };
 
 /* A walk, and what it needs of the interfaces of its section. */
 struct walk {

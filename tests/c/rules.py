@@ -1,8 +1,8 @@
 #!/usr/bin/env python3
-"""tests/c/rules.py [--write]: the rules of docs/REFUSALS.md, and the reasons with a number there, as C, Rust and Python name them.
+"""tests/c/rules.py [--write]: checks that C, Rust and Python name the rules of docs/REFUSALS.md, and the reasons that have a number.
 
-Each of these files has a list of them, between a line that says `rules of docs/REFUSALS.md` and one that says `end of the
-rules`. Without a word this says which list differs from the table, and with `--write` it writes them anew.
+Each of these files has the list of rules between a line with `rules of docs/REFUSALS.md` and a line with `end of the rules`. The script
+prints the files whose list differs from the table. With --write it writes the lists again.
 """
 
 import re
@@ -14,7 +14,7 @@ TOP = Path(__file__).resolve().parents[2]
 
 
 class Rule(NamedTuple):
-    """A row of the table: `CaptureMagic`, 1, and where it is broken."""
+    """A row of the table: a name such as `CaptureMagic`, a number, and where the rule is broken."""
 
     name: str
     number: int
@@ -22,7 +22,7 @@ class Rule(NamedTuple):
 
     @property
     def upper(self):
-        """The name in capitals: CAPTURE_MAGIC."""
+        """Returns the name in capitals: CAPTURE_MAGIC."""
         return re.sub(r"(?<=[a-z0-9])(?=[A-Z])", "_", self.name).upper()
 
     @property

@@ -5,9 +5,10 @@ before has to be a beginning of that. What a tool refuses isn't compared with it
 """
 import os
 import re
-import shutil
 import subprocess
 import tempfile
+
+import left_out
 
 TOP = os.path.dirname(os.path.dirname(os.path.dirname(os.path.abspath(__file__))))
 TOOLS = ("tcpdump", "tshark", "capinfos", "editcap")
@@ -147,10 +148,11 @@ def verdicts(path):
 
 def compare(files, folder):
     """Prints each difference and a line of sums; whether there is none."""
-    missing = [tool for tool in TOOLS if not shutil.which(tool)]
-    missing += [name for name in PROGRAMS if not os.path.exists(program(name))]
+    missing = [name for name in PROGRAMS if not os.path.exists(program(name))]
     if missing:
-        print(f"the examples were not compared: {', '.join(missing)} missing")
+        print(f"the examples were not compared: {' and '.join(missing)} must be built first")
+        return False
+    if not all([left_out.has(tool, f"the examples beside {tool}, in tests/compare") for tool in TOOLS]):
         return True
     counts = [0, 0, 0]
     for path in files:

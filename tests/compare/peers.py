@@ -23,9 +23,10 @@ import itertools
 import json
 import os
 import re
-import shutil
 import tempfile
 from decimal import Decimal
+
+import left_out
 
 from examples import BEGINNING, DIFFERENT, SAME, fields, is_pcapng_file, output
 
@@ -441,9 +442,10 @@ def verdicts(tool, path, other):
 
 def compare(files, folder, tool):
     """Prints each difference, and a line of sums for each comparison; whether there is none."""
-    missing = [it for it in TOOLS if not shutil.which(it)] + [tool] * (not os.path.exists(tool))
-    if missing:
-        print(f"the words of pcapfile were not compared: {', '.join(missing)} missing")
+    if not os.path.exists(tool):
+        print(f"the words of pcapfile were not compared: {tool} must be built first")
+        return False
+    if not all([left_out.has(it, f"the words of pcapfile beside {it}, in tests/compare") for it in TOOLS]):
         return True
     counts, meant = collections.defaultdict(lambda: [0, 0, 0]), collections.Counter()
     with concurrent.futures.ThreadPoolExecutor(int(os.environ.get("JOBS", os.cpu_count() or 1))) as pool:

@@ -13,9 +13,10 @@ in order, without those that are left out.
 """
 import collections
 import os
-import shutil
 import struct
 import tempfile
+
+import left_out
 
 from examples import BEGINNING, DIFFERENT, LINK, SAME, carried, converted, fields, is_pcapng_file, output, program, run_example, verdict
 
@@ -189,9 +190,11 @@ def classic_verdicts(path, room, meant):
 
 def compare(files, folder):
     """Prints each difference, and a line of sums for each comparison; whether there is none."""
-    missing = [tool for tool in TOOLS if not shutil.which(tool)] + [name for name in EXAMPLES if not os.path.exists(program(name))]
+    missing = [name for name in EXAMPLES if not os.path.exists(program(name))]
     if missing:
-        print(f"what is written was not compared: {', '.join(missing)} missing")
+        print(f"what is written was not compared: {' and '.join(missing)} must be built first")
+        return False
+    if not all([left_out.has(tool, f"what is written beside {tool}, in tests/compare") for tool in TOOLS]):
         return True
     counts, found, meant, changed = collections.defaultdict(lambda: [0, 0, 0]), collections.Counter(), collections.Counter(), 0
     for path in files:

@@ -622,6 +622,35 @@ def try_several(tally, help):
     tally.note("the worst of several", worst != [AT_FAULT, AT_FAULT, DONE] and f"it gave {worst}")
 
 
+def statuses(help):
+    """Captures, and the statuses of their check and their list as they stand."""
+    section = help.block("<", SECTION, struct.pack("<IHHq", 0x1A2B3C4D, 1, 0, -1))
+    interface = struct.pack("<HHI", 1, 0, 0)
+    sound, flawed = (help.block("<", INTERFACE, interface + it) for it in (b"", option_of(9, b"two")))
+    packet = struct.pack("<IIIII", 0, 0, 7, 4, 4) + b"data"
+    flagged = help.block("<", ENHANCED, packet + option_of(2, b"flags of eight"))
+    packet = help.block("<", ENHANCED, packet)
+    yield "a sound capture", section + sound + packet, DONE, DONE
+    yield "a packet whose options are flawed", section + sound + packet + flagged, DONE, AT_FAULT
+    yield "an interface that is flawed, without a packet", section + flawed, AT_FAULT, AT_FAULT
+    yield "an interface that is flawed, and its packet", section + flawed + packet, AT_FAULT, AT_FAULT
+    yield "bytes that are left out", section + sound + packet * 2 + b"\xff" * 8 + packet * 2, AT_FAULT, AT_FAULT
+    yield "a classic packet that is flawed", capture_of("<", 0xA1B23C4D, [((1, 2, 3, 2), b"abc")]), AT_FAULT, AT_FAULT
+
+
+def option_of(code, value):
+    return struct.pack("<HH", code, len(value)) + value + bytes(-len(value) % 4)
+
+
+def try_statuses(tally, help):
+    """A check as it stands reads no packet's body of PcapNg, and a list does: so their statuses differ there, and nowhere else."""
+    for name, capture, checks, lists in statuses(help):
+        with tempfile.TemporaryDirectory() as folder:
+            help.put(folder, "in", capture)
+            ended = [ran(tally, folder, word, "--as-is", "in")[0] for word in ("check", "list")]
+        tally.note(f"the statuses of {name}", ended != [checks, lists] and f"they are {ended}, and not {[checks, lists]}")
+
+
 def try_all(tally, help):
-    for tries in (try_each, try_by_hand, try_repairs, try_sound, try_several):
+    for tries in (try_each, try_by_hand, try_repairs, try_sound, try_several, try_statuses):
         tries(tally, help)

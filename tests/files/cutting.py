@@ -1,10 +1,11 @@
 """What `pcapfile cut` and `pcapfile join` write. Packets are sliced here by struct alone, and found by editcap where it is there."""
 import os
-import shutil
 import stat
 import struct
 import subprocess
 import tempfile
+
+import left_out
 
 DONE, AT_FAULT, USAGE, FAILED = 0, 1, 2, 3
 SECONDS = 60
@@ -91,6 +92,18 @@ def shares(header, texts, n):
     return parts
 
 
+def try_sizes(tally, help):
+    """Sizes with units; and what is no size is refused."""
+    capture, ends = help.classic("<", 0xA1B2C3D4, 1000, 1, [(k, 1000, bytes(1000)) for k in range(60)])
+    header, texts = pieces(capture, ends)
+    for size, count in (("2000", 2000), ("2K", 2048), ("2KB", 2000), ("1M", 1 << 20), ("1GB", 10**9), ("1T", 1 << 40)):
+        wanted = numbered(heaped(header, texts, count))
+        expects(tally, help, f"parts of {size}", {"in": capture}, ["cut", "in", "--bytes", size, "-w", "out.pcap"], wanted)
+    said = "error: the value of --bytes is not understood; 'pcapfile cut --help' has the forms\n"
+    for size in ("", "0", "0K", "K", "1k", "1KiB", "+1", "1.5K", "1 K", "18446744073709551616", "18014398509481984K"):
+        expects(tally, help, f"no size: {size!r}", {"in": capture}, ["cut", "in", f"--bytes={size}", "-o", "out.pcap"], {}, USAGE, said)
+
+
 def try_ranges(tally, help):
     """Ranges of packets and of times, by slices, and as editcap has them."""
     count = 6
@@ -101,7 +114,7 @@ def try_ranges(tally, help):
     def part(*words, chosen, editcap=None):
         wanted = header + b"".join(chosen)
         made = expects(tally, help, " ".join(words), {"in": capture}, ["cut", "in", *words, "-o", "out"], {"out": wanted})
-        if editcap and shutil.which("editcap"):
+        if editcap and left_out.has("editcap", "cuts beside editcap, in tests/files/run"):
             given = edited(capture, editcap)
             found = help.packets_of(made.get("out", header))
             tally.note(f"editcap {editcap}", found != help.packets_of(given) and f"it has {help.packets_of(given)}, and not {found}")
@@ -163,7 +176,7 @@ def try_faults(tally, help):
         ("no capture", {"in": b"these are 24 or more bytes"}, ["cut", "in", "-o", "out"], AT_FAULT, "pcapfile: in: Invalid field value: PcapHeader wrong"),
         ("no input", {}, in_range, FAILED, "pcapfile: in: "),
         ("no folder", held, ["cut", "in", "-o", "no/out"], FAILED, "pcapfile: no/out.part: "),
-        ("a part that is there", {**held, "out.part": b"other"}, in_range, FAILED, "pcapfile: out.part: "),
+        ("a folder where the part stands", {**held, "out.part": None}, in_range, FAILED, "pcapfile: out.part: "),
         ("the capture itself", held, ["cut", "in", "-o", "in"], FAILED, "pcapfile: in: is a capture that is read\n"),
         ("no range", held, ["cut", "in", "--packets", "3-2", "-o", "out"], USAGE, "error: the value of --packets"),
         ("packet 0", held, ["cut", "in", "--packets", "0", "-o", "out"], USAGE, "error: the value of --packets"),
@@ -345,5 +358,5 @@ def try_block_ranges(tally, help, found):
 
 
 def try_all(tally, help):
-    for tries in (try_parts, try_ranges, try_faults, try_pipes, try_special, try_blocks):
+    for tries in (try_parts, try_sizes, try_ranges, try_faults, try_pipes, try_special, try_blocks):
         tries(tally, help)

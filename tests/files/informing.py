@@ -2,10 +2,11 @@
 where it is there."""
 import json
 import os
-import shutil
 import subprocess
 import tempfile
 from datetime import datetime, timezone
+
+import left_out
 
 DONE, AT_FAULT, FAILED = 0, 1, 3
 SECONDS = 60
@@ -218,8 +219,7 @@ def told_by_capinfos(path):
 
 def try_capinfos(tally, help):
     """A capture beside what capinfos tells of it."""
-    if not shutil.which("capinfos"):
-        print("info: capinfos is not there, and is left out")
+    if not left_out.has("capinfos", "info beside capinfos, in tests/files/run"):
         return
     for order, magic, fraction in (("<", 0xA1B2C3D4, 1000), (">", 0xA1B23C4D, 1)):
         capture, _ = help.classic(order, magic, fraction, help.ETHERNET, PACKETS)

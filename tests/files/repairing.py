@@ -1,12 +1,12 @@
-"""What `pcapfile repair` makes of captures of blocks, and that `--as-is` of other words reads what it makes of captures of either format.
+"""What `pcapfile repair` makes of captures of blocks, and that `--repair` of other words reads what it makes of captures of either format.
 What becomes of a block is said here once more, over `as_is`, which takes blocks by struct alone."""
 import random
-import shutil
 import struct
 import subprocess
 import tempfile
 
 import as_is
+import left_out
 from as_is import DONE, ENHANCED, INTERFACE, MOST, OBSOLETE, SECTION, SIMPLE, option_flaw, options_flaws
 
 UNSTATED = b"\xff" * 8
@@ -41,7 +41,7 @@ def mended(order, number, body):
         stated = ["the length of its section is stated no more"] * (body[8:16] != UNSTATED)
         return made[:8] + UNSTATED + made[16:], ", and ".join([LEFT] * is_flawed + stated)
     if number == INTERFACE and len(body) < 8:
-        return body + bytes(8 - len(body)), "its body is too short for an interface, and is filled up with zeros"
+        return body + bytes(8 - len(body)), "its body is too short for an interface, and is filled up with zeros, so that its packets get a link type and times"
     front = 8
     if number in (OBSOLETE, SIMPLE, ENHANCED):
         packet, _ = as_is.packet_in(order, number, body, [])
@@ -135,7 +135,7 @@ pcapfile: in: 1 of 7 blocks are changed or left out
 """
     short, filled = (block(order, INTERFACE, b"\1\0\0\0" + it) for it in (b"", bytes(4)))
     yield "an interface too short", sound[:28] + short + interface + other, sound[:28] + filled + interface + other, """\
-pcapfile: in: block 2 at byte 28: its body is too short for an interface, and is filled up with zeros
+pcapfile: in: block 2 at byte 28: its body is too short for an interface, and is filled up with zeros, so that its packets get a link type and times
 pcapfile: in: 1 of 4 blocks are changed or left out
 """
     yield "packets with no room", sound + block(order, ENHANCED, bytes(16)) + block(order, SIMPLE, b"") + other, sound + other, """\
@@ -243,7 +243,7 @@ def shown(help, capture):
 
 def shown_by_tshark(capture):
     """The same as tshark tells it, where it is there and takes the capture."""
-    if not shutil.which("tshark"):
+    if not left_out.has("tshark", "repaired captures as tshark reads them, in tests/files/run"):
         return None
     with tempfile.TemporaryDirectory() as folder:
         with open(f"{folder}/out", "wb") as it:
@@ -270,12 +270,12 @@ WORDS = (
 
 
 def as_repaired(tally, help, words, capture, out, said, status):
-    """What is wrong with a word that reads a capture as it stands, where `repair` makes this of it, and the word without reads that."""
+    """The faults of a word that reads a repaired capture, where `repair` writes this, and the word without `--repair` reads that."""
     sound = as_is.capture_of("<", 0xA1B2C3D4, [((1700000001, 2, 3, 3), b"abc")])
     with tempfile.TemporaryDirectory() as folder:
         help.put(folder, "in", capture)
         help.put(folder, "sound", sound)
-        ended = as_is.ran(tally, folder, *words, "--as-is")
+        ended = as_is.ran(tally, folder, *words, "--repair")
         left = help.files(folder)
     if out is None:
         is_wrong = ended[0] != status or said not in ended[2] or not set(left) <= {"in", "sound", "out"}
@@ -295,26 +295,42 @@ def as_repaired(tally, help, words, capture, out, said, status):
 
 
 def try_words(tally, help):
-    """Each word that reads a capture as it stands, over broken captures of both formats."""
+    """Each word with `--repair`, over broken captures of both formats; and the older spelling, with its notice."""
     draw = random.Random(35)
     classic = [it for it in (*as_is.captures(), *as_is.gaps()) if len(it[1]) < 100000 and (len(it[1]) > 300 or draw.randrange(20) == 0)]
     blocks = [it for it in captures(help) if len(it[1]) < 100000 and (" blocks " in it[0] or draw.randrange(8) == 0)]
     for name, capture in (*classic, *blocks):
         out, said, status = repaired("in", capture)
         for words in WORDS:
-            tally.note(f"{' '.join(words)} --as-is of {name}", *as_repaired(tally, help, words, capture, out, said, status))
+            tally.note(f"{' '.join(words)} --repair of {name}", *as_repaired(tally, help, words, capture, out, said, status))
+
+
+def try_older_spelling(tally, help):
+    """What `--as-is` of these words was, `--repair` is; the older spelling has a notice on standard error."""
+    capture = as_is.capture_of("<", 0xA1B2C3D4, [((1700000001, 2, 3, 3), b"abc")]) + b"torn"
+    for words in WORDS:
+        ends = []
+        for spelling in ("--repair", "--as-is"):
+            with tempfile.TemporaryDirectory() as folder:
+                for name in ("in", "sound"):
+                    help.put(folder, name, capture)
+                ends.append((*as_is.ran(tally, folder, *words, spelling), help.files(folder)))
+        (status, written, said, left), older = ends
+        notice = f"pcapfile: '{words[0]} --as-is' is now '{words[0]} --repair', and goes with version 0.3\n"
+        wanted = status, written, notice + said, left
+        tally.note(f"{' '.join(words)} by the older spelling", older != wanted and f"it ended with {older}", status != DONE and f"it ended with {status}")
 
 
 def try_parts(tally, help):
     """Parts of equal length want to know how long the capture is, which isn't known of a repaired one."""
     with tempfile.TemporaryDirectory() as folder:
         help.put(folder, "in", section("<"))
-        ended = as_is.ran(tally, folder, "cut", "in", "--parts", "2", "--as-is", "-o", "out")
+        ended = as_is.ran(tally, folder, "cut", "in", "--parts", "2", "--repair", "-o", "out")
         left = help.files(folder)
     is_refused = ended[0] == USAGE and ended[2].startswith("error: ") and sorted(left) == ["in"]
-    tally.note("cut --parts --as-is", not is_refused and f"it gave {ended} and left {sorted(left)}")
+    tally.note("cut --parts --repair", not is_refused and f"it gave {ended} and left {sorted(left)}")
 
 
 def try_all(tally, help):
-    for tries in (try_blocks, try_by_hand, try_words, try_parts):
+    for tries in (try_blocks, try_by_hand, try_words, try_older_spelling, try_parts):
         tries(tally, help)

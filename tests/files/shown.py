@@ -1,5 +1,5 @@
-"""Whether docs/PCAPFILE.md, its further pages and docs/CAPCOPY.md show what the programs write: each command there is run where the
-captures of crates/pcapfile/data lie, and `capcopy` is the one that is built in this checkout.
+"""Whether docs/PCAPFILE.md, docs/PCAPFILE_FILES.md and docs/CAPCOPY.md show what the programs write: each command there is run where the
+captures of crates/pcapfile/data lie, and `capcopy` is the one beside the program, or the one that is proved in this checkout.
 
 A block of a page is commands, each behind '$ ', with what it writes to standard output and standard error below it.
 """
@@ -9,7 +9,7 @@ import shutil
 import subprocess
 import tempfile
 
-PAGES = ("docs/PCAPFILE.md", "docs/PCAPFILE_INFO.md", "docs/PCAPFILE_REPAIR.md", "docs/CAPCOPY.md")
+PAGES = ("docs/PCAPFILE.md", "docs/PCAPFILE_FILES.md", "docs/CAPCOPY.md")
 BLOCK = re.compile(r"^```console\n(.*?)^```$", re.S | re.M)
 COMMAND = re.compile(r"^\$ (.*)\n((?:(?!\$ ).*\n)*)", re.M)
 
@@ -27,7 +27,8 @@ def try_block(tally, top, page, block, seconds):
     with tempfile.TemporaryDirectory() as room:
         os.mkdir(f"{room}/bin")
         os.symlink(tally.program, f"{room}/bin/pcapfile")
-        os.symlink(f"{top}/crates/capcopy/out/capcopy", f"{room}/bin/capcopy")
+        beside = f"{os.path.dirname(tally.program)}/capcopy"
+        os.symlink(beside if os.path.exists(beside) else f"{top}/crates/capcopy/out/capcopy", f"{room}/bin/capcopy")
         folder = shutil.copytree(f"{top}/crates/pcapfile/data", f"{room}/data")
         paths = {**os.environ, "PATH": f"{room}/bin:{os.environ['PATH']}"}
         for command, wanted in COMMAND.findall(block):

@@ -16,7 +16,8 @@ ENDED = re.compile(r"^only=\d+ (?:proved=\d+|holes=\d+)", re.M)
 FUNCTION = re.compile(r"^fn (\S+): (.*)$", re.M)
 NOT_PROVED = ("not proved", "no proof")
 UNPROVED = re.compile(r"`search` did not prove (`[^`]+`(?:, `[^`]+`)*)")
-IN_ANSWER = re.compile(r"^\./proofs/(\S+)/(?:Answers|Invariants)\.antt:\d+:\d+: error: `([^`]+)`: (.*)$", re.M)
+# A message goes on in the lines below it that begin with two spaces.
+IN_ANSWER = re.compile(r"^\./proofs/(\S+)/(?:Answers|Invariants)\.antt:\d+:\d+: error: `([^`]+)`: (.*(?:\n  .*)*)$", re.M)
 # A written answer that names what the edit took away says nothing of a contract.
 OF_A_NAME = re.compile(r"has no field|is not in scope|has no `|was not admitted|is no name|no field")
 IN_SOURCE = re.compile(r"^(?:\./)?((?:src|specs)/\S+:\d+:\d+: error.*)$", re.M)

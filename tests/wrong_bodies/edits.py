@@ -1,11 +1,26 @@
 """Wrong bodies of what is only tested, as they stand in files, and the tests that each says fails with it."""
 import collections
+import functools
 import glob
+import importlib.machinery
+import importlib.util
 import os
+import sys
 
 HERE = os.path.dirname(os.path.abspath(__file__))
 
 Edit = collections.namedtuple("Edit", "changes wanted")
+
+
+@functools.cache
+def sample():
+    """tests/files/ample.py, and its rows by their names."""
+    folder = os.path.join(os.path.dirname(HERE), "files")
+    sys.path.insert(0, folder)
+    loader = importlib.machinery.SourceFileLoader("files_run", f"{folder}/run")
+    help = importlib.util.module_from_spec(importlib.util.spec_from_loader("files_run", loader))
+    loader.exec_module(help)
+    return help.ample, {row.name: row for row in help.ample.rows(help)}
 
 
 def names():

@@ -1,0 +1,132 @@
+"""What `pcapfile` makes of captures for which it keeps much, or that no other test here has: with ample memory none is given up. Each row
+is a run over standard input, so that tests/wrong_bodies/run can try one over an unproved program as well."""
+import collections
+import json
+import struct
+
+import as_is
+import informing
+import listing
+import repairing
+
+# A run: its words, what it reads, its status, and what it writes and says. What it writes is its bytes, or members of one object of JSON.
+Row = collections.namedtuple("Row", "name words given status written said")
+RAW, LITTLE, NANOSECONDS = 101, "<", 0xA1B23C4D
+CUSTOM, MILLION = 2989, 10**6
+
+
+def classic(packets, snaplen=65535, link=RAW):
+    """A little-endian capture of (nanoseconds since 1970, length on the wire, data)."""
+    capture = struct.pack("<IHHiIII", NANOSECONDS, 2, 4, 0, 0, snaplen, link)
+    return capture + b"".join(struct.pack("<IIII", *divmod(time, 10**9), len(data), wire) + data for time, wire, data in packets)
+
+
+def informs(name, packets, snaplen=65535):
+    """That `info` tells a classic capture of these packets and this snapshot length."""
+    capture = classic(packets, snaplen)
+    lines = [
+        f"-: pcap, {len(packets)} packets, {len(capture)} bytes",
+        "  File type:         pcap 2.4, little-endian, times in nanoseconds",
+        "  Link type:         RAW (101)",
+        f"  Packet size limit: {snaplen} bytes",
+        *informing.figures(packets),
+    ]
+    return Row(name, ["info", "-"], capture, 0, "".join(f"{it}\n" for it in lines).encode(), "")
+
+
+def informs_blocks(help, name, interfaces, others):
+    """That `info` tells a capture of so many interfaces, each with a packet, and of other blocks before the packets."""
+    packets = [(10**9 * k, 60, bytes([k % 256])) for k in range(interfaces)]
+    parts = [*[help.interface(LITTLE, RAW)] * interfaces, *others]
+    parts += [help.enhanced(LITTLE, k, time // 1000, wire, data) for k, (time, wire, data) in enumerate(packets)]
+    capture, _ = help.blocks(LITTLE, parts)
+    lines = [
+        f"-: pcapng, {len(parts) + 1} blocks, {len(capture)} bytes",
+        "  File type:         pcapng 1.0, little-endian",
+        "  Sections:          1",
+        f"  Interfaces:        {interfaces}",
+        *informing.figures(packets),
+    ]
+    for k, packet in enumerate(packets):
+        lines += [f"Interface {k} of section 1: link type RAW (101)", *informing.figures([packet])]
+    return Row(name, ["info", "-"], capture, 0, "".join(f"{it}\n" for it in lines).encode(), "")
+
+
+def info_rows(help):
+    """Captures that `info` tells."""
+    few = [(10**9 * k, 60 + k, b"stored") for k in range(9)]
+    yield informs("info of a capture without a snapshot length", few, 0)
+    yield informs("info of packets that are stored in part", few)
+    yield informs("info of packets from 2038 to 2106", [(time * 10**9 + 5, 60, b"") for time in (2**31 - 1, 2**31, 2**32 - 1)])
+    yield informs("info of few long packets among short ones", [(k, 9, b"") for k in range(40)] + [(40, 9000, b"")])
+    yield informs("info of one packet in a span and many in another", [(0, 9, b""), *[(10**9, 9, b"")] * 40])
+    custom = [(CUSTOM, struct.pack("<I", 32473) + b"text"), (0xBAD, b"any data")]
+    yield informs_blocks(help, "info of custom and unknown blocks", 2, custom)
+    for count in (65, 5000):
+        yield informs_blocks(help, f"info of {count} interfaces", count, [])
+    for link, name in ((1, "ETHERNET"), (RAW, "RAW"), (105, "IEEE802_11")):
+        members = {"format": "pcap", "packets": 1, "link": link, "link_name": name}
+        yield Row(f"info --json of the link type {name}", ["info", "--json", "-"], classic([(5, 60, b"data")], link=link), 0, members, "")
+
+
+def list_rows(help):
+    """Captures whose packets are listed in a form."""
+    short = help.enhanced(LITTLE, 0, 1, 9, b"")[1][:12] + struct.pack("<II", 9, 9)
+    whole = help.enhanced(LITTLE, 0, 1, 9, b"whole")
+    capture, _ = help.blocks(LITTLE, [help.interface(LITTLE, RAW), whole, (listing.ENHANCED, short), whole])
+    yield Row("list --utc of a refused packet", ["list", "--utc", "-"], capture, 0, "".join(listing.utc(capture)).encode(), "")
+    count = MILLION + 9
+    rows = "".join(f"{k},1,0,0,9,\n" for k in range(1, count + 1))
+    many = classic([]) + struct.pack("<IIII", 1, 0, 0, 9) * count
+    yield Row("list --csv of a million packets", ["list", "--csv", "-"], many, 0, (listing.HEADING + rows).encode(), "")
+
+
+def as_is_rows(help):
+    """Captures that are told as they stand, and repaired."""
+    section = repairing.section(LITTLE)
+    head = struct.pack("<HHI", RAW, 0, 0)
+    flawed = section + help.block(LITTLE, as_is.INTERFACE, head + repairing.option(LITTLE, 8, b"short") * 99)
+    yield told_as_is("check --as-is of 99 flaws of a block", flawed)
+    interface, packet = help.block(LITTLE, as_is.INTERFACE, head), repairing.enhanced(LITTLE, 4099, 5, b"data")
+    yield told_as_is("check --as-is of 4100 interfaces", section + interface * 4100 + packet)
+    capture = section + interface * 4100 + packet
+    lines, said, status = as_is.listed("-", capture)
+    yield Row("list --as-is of 4100 interfaces", ["list", "--as-is", "-"], capture, status, lines.encode(), said)
+    options = repairing.option(LITTLE, 1, b"comment") * 9000
+    bad = repairing.option(LITTLE, 2, b"bad")
+    yield mends("repair of 200 KiB of options", section + interface + repairing.enhanced(LITTLE, 0, 5, b"data", options + bad + options))
+    size = as_is.LONGEST + 9
+    yield mends("repair of a packet that is too long", classic([(5, size, bytes(size))]))
+
+
+def told_as_is(name, capture):
+    lines, status = as_is.checked("-", capture)
+    return Row(name, ["check", "--as-is", "-"], capture, status, lines.encode(), "")
+
+
+def mends(name, capture):
+    made, said, status = repairing.repaired("-", capture)
+    return Row(name, ["repair", "-", "-o", "-"], capture, status, made, said)
+
+
+def rows(help):
+    yield from info_rows(help)
+    yield from list_rows(help)
+    yield from as_is_rows(help)
+
+
+def fault_of(row, status, written, said):
+    """What is wrong with how a row's run ended, what it wrote and what it said; or None."""
+    if status != row.status or said != row.said:
+        return f"it ended with {status} and said {said[-300:]!r}, and not with {row.status} and {row.said[-300:]!r}"
+    if isinstance(row.written, bytes):
+        return None if written == row.written else f"it wrote {written[-300:]!r}, and not {row.written[-300:]!r}"
+    found = json.loads(written)
+    other = {key: found.get(key) for key in row.written if found.get(key) != row.written[key]}
+    return f"it has {other}, and not {row.written}" if other else None
+
+
+def try_all(tally, help):
+    for row in rows(help):
+        word, *words = row.words
+        tally.note(row.name, fault_of(row, *tally.run(None, words, row.given, word=word)))

@@ -1,0 +1,193 @@
+"""Properties of the words of pcapfile, each of which holds of every capture. A property is a function that runs words in a folder of its own
+and fails by an assertion. tests/model is the independent reading of the strict grammar."""
+import csv
+import io
+import json
+import os
+import subprocess
+import sys
+import tempfile
+
+from generated import MAGICS, sound
+
+TOP = os.path.dirname(os.path.dirname(os.path.dirname(os.path.abspath(__file__))))
+sys.path.insert(0, f"{TOP}/tests/model")
+import refusals  # noqa: E402
+import runs  # noqa: E402
+
+SECONDS = 20
+DONE, AT_FAULT, USAGE, FAILED, NO_MEMORY = range(5)
+# Bytes that nothing that a capture holds may bring to a terminal: of ASCII all controls but tab and newline, DEL, and as UTF-8 the controls of
+# Latin-1, the marks of direction and the separators of lines.
+CONTROLS = [bytes([it]) for it in [*range(9), 11, 12, *range(14, 32), 127]]
+CONTROLS += [chr(it).encode() for it in [*range(0x80, 0xA0), 0x061C, 0x200E, 0x200F, *range(0x2028, 0x202F), *range(0x2066, 0x206A)]]
+
+
+class Folder:
+    """A folder with captures, in which the program runs."""
+
+    def __init__(self, program, room):
+        self.program, self.room = program, room
+
+    def write(self, name, capture):
+        with open(f"{self.room}/{name}", "wb") as it:
+            it.write(capture)
+
+    def read(self, name):
+        with open(f"{self.room}/{name}", "rb") as it:
+            return it.read()
+
+    def run(self, *words, statuses=(DONE, AT_FAULT)):
+        """What the word writes, where it ends with one of these statuses and puts no control character out."""
+        ran = subprocess.run([self.program, *words], cwd=self.room, capture_output=True, timeout=SECONDS, check=False)
+        assert ran.returncode in statuses, f"{words}: status {ran.returncode}: {ran.stderr[-300:]}"
+        for output in (ran.stdout, ran.stderr) if "-" not in words else (ran.stderr,):
+            assert not any(it in output for it in CONTROLS), f"{words}: a control character in {output[:2000]}"
+        assert all(line.startswith(b"pcapfile: ") for line in ran.stderr.splitlines()), f"{words}: {ran.stderr[:300]}"
+        return ran
+
+
+def is_stored(capture):
+    """The form that tests/model reads the capture by."""
+    return runs.Packets() if capture[:4] in MAGICS else runs.Blocks()
+
+
+def modelled(capture):
+    """The run of the model over the capture, or None where its beginning is refused or missing."""
+    try:
+        return runs.Run(is_stored(capture), capture)
+    except (refusals.Lacks, refusals.Refused):
+        return None
+
+
+def packets_of(folder, name, *options, statuses=(DONE, AT_FAULT)):
+    """The rows of `list --csv`."""
+    ran = folder.run("list", "--csv", *options, name, statuses=statuses)
+    return list(csv.DictReader(io.StringIO(ran.stdout.decode())))
+
+
+def check_is_the_model(folder, random, capture):
+    """`check` counts the items that the model finds, and ends with status 0 just where nothing is left."""
+    folder.write("in", capture)
+    model, ran = modelled(capture), folder.run("check", "in", statuses=(DONE, AT_FAULT, FAILED))
+    if model is None:
+        assert ran.returncode in (AT_FAULT, FAILED), ran
+        return
+    # The first block of a PcapNg capture is an item of `check`.
+    count = len(model.items) + (not isinstance(model.form, runs.Packets))
+    assert (ran.returncode == DONE) == (model.rest is None), (ran, model.rest)
+    assert f" {count} ".encode() in ran.stdout + ran.stderr, (ran, count)
+
+
+def words_agree(folder, random, capture):
+    """`check`, `info` and `list` agree about what a capture holds and how it ends, and their forms can be parsed."""
+    folder.write("in", capture)
+    listed = packets_of(folder, "in", statuses=(DONE, AT_FAULT, FAILED))
+    lines = folder.run("list", "in", statuses=(DONE, AT_FAULT, FAILED)).stdout.splitlines()
+    objects = [json.loads(it) for it in folder.run("list", "--json", "in", statuses=(DONE, AT_FAULT, FAILED)).stdout.splitlines()]
+    assert len(lines) == len(listed) == len(objects)
+    assert [int(it["index"]) for it in listed] == [it["index"] for it in objects] == list(range(1, len(lines) + 1))
+    told = json.loads(folder.run("info", "--json", "in", statuses=(DONE, AT_FAULT, FAILED)).stdout or b"null")
+    if told and told.get("packets") is not None:
+        assert told["packets"] <= len(listed), (told["packets"], len(listed))
+
+
+def lenient_is_strict_on_sound(folder, random, capture):
+    """Of a sound capture lenient reading gives what strict reading gives."""
+    capture, found = sound(random)
+    folder.write("in", capture)
+    for word in ("check", "list"):
+        strict, lenient = folder.run(word, "in", statuses=[DONE]), folder.run(word, "--as-is", "in", statuses=[DONE])
+        assert lenient.stdout.replace(b"; 0 with flaws", b"") == strict.stdout, (strict, lenient)
+    assert len(packets_of(folder, "in", statuses=[DONE])) == len(found)
+    folder.run("repair", "in", "-o", "out", statuses=[DONE])
+    assert folder.read("out") == capture
+
+
+def repair_is_stable(folder, random, capture):
+    """What is repaired is sound, and a second repair changes nothing."""
+    folder.write("in", capture)
+    if folder.run("repair", "in", "-o", "out", statuses=(DONE, AT_FAULT, FAILED)).returncode != DONE:
+        assert not os.path.exists(f"{folder.room}/out")
+        return
+    folder.run("check", "out", statuses=[DONE])
+    folder.run("repair", "out", "-o", "again", statuses=[DONE])
+    assert folder.read("again") == folder.read("out")
+
+
+def parts_join(folder, random, capture):
+    """The parts of a sound capture join to its bytes."""
+    capture, found = sound(random)
+    folder.write("in", capture)
+    way = random.choice([["--every", str(random.randrange(1, 30))], ["--bytes", str(random.randrange(1, 3000))], ["--parts", str(random.randrange(1, 9))]])
+    folder.run("cut", "in", *way, "-o", "part", statuses=[DONE])
+    parts = sorted(it for it in os.listdir(folder.room) if it.startswith("part-"))
+    if parts:
+        folder.run("join", *parts, "-o", "whole", statuses=[DONE])
+        assert folder.read("whole") == capture, f"{way}: {len(parts)} parts"
+    listed = sum(len(packets_of(folder, it, statuses=[DONE])) for it in parts)
+    assert listed == len(found), (way, listed, len(found))
+
+
+def seconds_of(row):
+    return int(row["seconds"]) * 10**9 + int(row["nanoseconds"])
+
+
+def conversion_goes_round(folder, random, capture):
+    """A sound classic capture becomes blocks and packets again with the same times, lengths and bytes."""
+    capture, found = sound(random)
+    while capture[:4] not in MAGICS:
+        capture, found = sound(random)
+    folder.write("in", capture)
+    folder.run("convert", "--to", "pcapng", "in", "-o", "blocks", statuses=[DONE])
+    folder.run("convert", "--to", "pcap", "blocks", "-o", "back", statuses=[DONE])
+    rows = packets_of(folder, "back", statuses=[DONE])
+    assert [(seconds_of(it), int(it["captured"]), int(it["original"])) for it in rows] == [(it.time, len(it.data), it.wire) for it in found]
+    data = b"".join(it.data for it in found)
+    back, at, kept = folder.read("back"), 24, []
+    for packet in found:
+        kept.append(back[at + 16 : at + 16 + len(packet.data)])
+        at += 16 + len(packet.data)
+    assert b"".join(kept) == data and at == len(back)
+
+
+def merge_is_the_sorted_union(folder, random, capture):
+    """The packets of captures that are each in order are merged by time, and none is lost."""
+    every = []
+    for number in range(random.choice([1, 2, 3])):
+        capture, found = sound(random)
+        while any(one.time > other.time for one, other in zip(found, found[1:])):
+            capture, found = sound(random)
+        folder.write(f"in{number}", capture)
+        every.append(found)
+    names = [f"in{number}" for number in range(len(every))]
+    folder.run("merge", *names, "-o", "out", statuses=[DONE])
+    rows = packets_of(folder, "out", statuses=[DONE])
+    told = [(seconds_of(it), int(it["captured"]), int(it["original"])) for it in rows]
+    assert [it[0] for it in told] == sorted(packet.time for found in every for packet in found)
+    assert sorted(told) == sorted((it.time, len(it.data), it.wire) for found in every for it in found)
+
+
+def lenient_words_end(folder, random, capture):
+    """Words that read leniently end with a documented status, and what they write is sound."""
+    folder.write("in", capture)
+    folder.run("check", "--as-is", "in", statuses=(DONE, AT_FAULT, FAILED))
+    folder.run("list", "--as-is", "in", statuses=(DONE, AT_FAULT, FAILED))
+    folder.run("info", "--repair", "in", statuses=(DONE, AT_FAULT, FAILED))
+    words = random.choice([["convert", "in"], ["merge", "in"], ["cut", "in", "--packets", "2-"]])
+    if folder.run(*words, "--repair", "-o", "out", statuses=(DONE, AT_FAULT, FAILED)).returncode == DONE:
+        folder.run("check", "out", statuses=[DONE])
+
+
+PROPERTIES = [check_is_the_model, words_agree, lenient_is_strict_on_sound, repair_is_stable, parts_join, conversion_goes_round,
+              merge_is_the_sorted_union, lenient_words_end]
+
+
+def tried(program, random, capture, of):
+    """What a property says of the capture, or None where it holds."""
+    with tempfile.TemporaryDirectory(prefix="fuzz-") as room:
+        try:
+            of(Folder(program, room), random, capture)
+        except (AssertionError, subprocess.TimeoutExpired, ValueError, KeyError) as fault:
+            return f"{of.__name__}: {type(fault).__name__}: {fault}"
+    return None

@@ -1,0 +1,103 @@
+"""The ledger of refused wrong bodies, and which edits a run has to try.
+
+tests/refusals/kept/CRATE has a line `EDIT SUM` for each edit of a crate that was refused at what it names; the sum is that of all that the
+verdict can depend on (`sums`), so a line never goes stale. A line of another form, as one that a merge left, counts for nothing.
+"""
+import glob
+import os
+import random
+import re
+import sys
+
+import checks
+
+sys.path.append(f"{checks.TOP}/tests")
+from commit import git, seed_of
+
+FOLDER = "tests/refusals/kept"
+LINE = re.compile(r"(\S+) ([0-9a-f]{32})")
+DRAWN = 40
+# What a change brings is tried for so long, and so many edits at least.
+BROUGHT_SECONDS, BROUGHT_AT_LEAST = 30 * 60, 60
+SECONDS_OF_A_DAY = 24 * 3600
+
+
+def lines_in(text):
+    """The edits and sums of the lines that are whole."""
+    found = (LINE.fullmatch(line) for line in text.split("\n"))
+    return {(it[1], it[2]) for it in found if it}
+
+
+def kept(top=checks.TOP):
+    """The lines of the ledger in this checkout, each with its crate."""
+    found = set()
+    for path in glob.glob(f"{top}/{FOLDER}/*"):
+        with open(path, encoding="utf-8", errors="replace") as it:
+            found |= {(os.path.basename(path), *line) for line in lines_in(it.read())}
+    return found
+
+
+def write(crate, refused, failed, sums, top=checks.TOP):
+    """Writes the lines of a crate: those of this run's refusals by name and sum, and of the earlier ones those that are
+    still true of these sums and did not fail in this run. The file is put in place whole, so that nobody reads half of it."""
+    earlier = {(edit, it) for owner, edit, it in kept(top) if owner == crate and sums.get(edit) == it and edit not in failed}
+    path = f"{top}/{FOLDER}/{crate}"
+    os.makedirs(os.path.dirname(path), exist_ok=True)
+    room = f"{os.path.dirname(path)}/.{crate}.new"
+    with open(room, "w", encoding="utf-8") as it:
+        it.writelines(f"{edit} {sum_}\n" for edit, sum_ in sorted(earlier | set(refused.items())))
+    os.replace(room, path)
+
+
+def bases(top=checks.TOP):
+    """The commits whose lines are older than the change: where it left the main branch of `origin`, and on the way of first
+    parents the newest commit that is a day older than it, which tells even where main has the change. None where one isn't known."""
+    date = git(top, "log", "-1", "--format=%ct", "HEAD")
+    if date is None:
+        return None
+    left_at = git(top, "merge-base", "HEAD", "origin/main")
+    old = git(top, "rev-list", "-1", "--first-parent", f"--before={int(date) - SECONDS_OF_A_DAY}", "HEAD")
+    found = [it.strip() for it in (left_at, old) if it is not None]
+    return found if all(found) else None
+
+
+def kept_at(commit, top=checks.TOP):
+    """The lines of the ledger as a commit has it."""
+    found = set()
+    for path in (git(top, "ls-tree", "-r", "--name-only", commit, f"{FOLDER}/") or "").split():
+        text = git(top, "show", f"{commit}:{path}") or ""
+        found |= {(os.path.basename(path), *line) for line in lines_in(text)}
+    return found
+
+
+def older(top=checks.TOP):
+    """The lines of the ledger that the change does not bring."""
+    found, commits = kept(top), bases(top)
+    return found.intersection(*(kept_at(it, top) for it in commits)) if commits else set()
+
+
+class Plan:
+    """Of the edits with these sums, by crate and name, those that have to be tried, those that are tried as long as there is
+    time for them, in an order that the seed draws, and those of the rest that it draws."""
+
+    def __init__(self, sums, lines, old, seed, drawn=DRAWN):
+        known = [key for key in sorted(sums) if (*key, sums[key]) in lines]
+        rest = [key for key in known if (*key, sums[key]) in old]
+        self.without_line = sorted(set(sums).difference(known))
+        self.brought = sorted(set(known).difference(rest))
+        draw = random.Random(seed)
+        draw.shuffle(self.brought)
+        self.drawn = sorted(draw.sample(rest, min(drawn, len(rest))))
+
+
+def older_than_their_sources(crate, top=checks.TOP):
+    """The libraries below a crate whose sources are newer than what was built of them, so that a verdict over them is not one on these texts."""
+    known = checks.crates(top)
+    return [it for it in sorted(checks.below(known.get(crate, ([], False))[0], known)) if is_older(f"{top}/crates/{it}", it)]
+
+
+def is_older(folder, library):
+    """Whether a file of a crate is newer than the folder of its built library, which is made anew wherever `rt` puts one."""
+    built = f"{folder}/out/rlib/{library}.rlib"
+    sources = [path for part in ("src", "specs", "proofs") for path in glob.glob(f"{folder}/{part}/**", recursive=True) if os.path.isfile(path)]
+    return not os.path.isdir(built) or max(map(os.path.getmtime, sources)) > os.path.getmtime(built)
