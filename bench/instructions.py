@@ -9,13 +9,13 @@ LONGEST = ":".join(f"glibc.cpu.x86_rep_{way}_threshold=100000000" for way in ("m
 COUNTED = dict(os.environ, GLIBC_TUNABLES=LONGEST)
 
 
-def count(command, given, inside=None):
-    """The instructions of one run over this input, inside functions of this name alone where one is given, and what it wrote.
-    Nothing where it fails."""
+def count(command, given, inside=None, paths=None):
+    """The instructions of one run over this input, inside functions of this name alone where one is given, and what it wrote, with
+    the environment `paths` where one is given. Nothing where it fails."""
     valgrind = ["valgrind", "--tool=callgrind", "--callgrind-out-file=/dev/null"]
     valgrind += [f"--toggle-collect={inside}"] if inside else []
     with open(given, "rb") as bytes_in:
-        run = subprocess.run(valgrind + command, stdin=bytes_in, capture_output=True, env=COUNTED)
+        run = subprocess.run(valgrind + command, stdin=bytes_in, capture_output=True, env={**COUNTED, **(paths or {})})
     found = re.search(rb"Collected : (\d+)", run.stderr)
     return (int(found[1]), run.stdout) if found and run.returncode == 0 else None
 

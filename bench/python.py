@@ -1,13 +1,20 @@
-"""python.py FILE WAY ROUNDS: walks over a capture's packets through Python, and prints how many they are, and the least seconds
-by the clock, of the processor, and of the thread or process that took most of it. A way whose module isn't installed prints nothing."""
+"""python.py FILE WAY ROUNDS: walks over a capture's packets through Python, and prints how many they are, where it counts, and the least
+seconds by the clock, of the processor, and of the thread or process that took most of it, and how many bytes of memory were held at most.
+A way whose module isn't installed prints nothing."""
 
 import importlib.util
 import multiprocessing
+import random
+import resource
 import sys
 import threading
 import time
 
 THREADS = 3
+
+# What the way "filter" chooses, and how many packets "random access" asks for.
+FILTER = "ether[0] & 1 = 1 and ether[7] > 128"
+ASKED = 10_000
 
 # What each thread that walks a stretch has taken of the processor, and each process that walks a part.
 taken = {}
@@ -18,7 +25,60 @@ def iterate(path):
     import pcapfile
 
     with pcapfile.open(path) as capture:
-        return sum(1 for _ in capture)
+        for packet in capture:
+            pass
+
+
+def each_time(path):
+    import pcapfile
+
+    with pcapfile.open(path) as capture:
+        for packet in capture:
+            packet.time_ns
+
+
+def each_bytes(path):
+    import pcapfile
+
+    with pcapfile.open(path) as capture:
+        for packet in capture:
+            packet.time_ns, bytes(packet)
+
+
+def pairs(path):
+    import pcapfile
+
+    with pcapfile.open(path) as capture:
+        for time, data in capture.pairs():
+            pass
+
+
+def filtered(path):
+    import pcapfile
+
+    with pcapfile.open(path) as capture:
+        return sum(1 for _ in capture.filter(FILTER))
+
+
+def first(path):
+    import pcapfile
+
+    with pcapfile.open(path) as capture:
+        return sum(1 for _ in zip(range(1), capture))
+
+
+def by_numbers(path):
+    """Packets by random numbers. The seconds are those of one packet, and what makes the numbers isn't among them."""
+    import pcapfile
+
+    global begun
+    with pcapfile.open(path) as capture:
+        indexed, chosen = capture.indexed(), random.Random(3)
+        numbers = [chosen.randrange(len(indexed)) for _ in range(ASKED)]
+        begun = time.perf_counter(), time.process_time(), time.thread_time()
+        for number in numbers:
+            indexed[number]
+    return len(indexed)
 
 
 def columns(path, threads=1):
@@ -29,9 +89,9 @@ def columns(path, threads=1):
 
 
 def by_threads(path):
-    from pcapfile import _columns
+    from pcapfile import _stretches
 
-    walked = _columns._walked
+    walked = _stretches._walked
 
     def counted(*args):
         try:
@@ -39,11 +99,11 @@ def by_threads(path):
         finally:
             taken[threading.get_ident()] = time.thread_time()
 
-    _columns._walked = counted
+    _stretches._walked = counted
     try:
         return columns(path, THREADS)
     finally:
-        _columns._walked = walked
+        _stretches._walked = walked
 
 
 def walked(part):
@@ -68,50 +128,80 @@ def frame(path):
         return len(capture.to_pandas())
 
 
+def decoded(path):
+    import pcapfile
+
+    with pcapfile.open(path) as capture:
+        return len(capture.to_pandas(decode=True))
+
+
 def by_dpkt(path):
     import dpkt
 
     with open(path, "rb") as file:
-        return sum(1 for _ in dpkt.pcap.UniversalReader(file))
+        for timestamp, data in dpkt.pcap.UniversalReader(file):
+            pass
 
 
 def by_scapy(path):
     from scapy.utils import RawPcapReader
 
     packets = RawPcapReader(path)
-    count = sum(1 for _ in packets)
+    for packet in packets:
+        pass
     packets.close()
-    return count
 
 
 # Each way, and what it needs.
 WAYS = {
     "iteration": (iterate, ()),
+    "time_ns of each": (each_time, ()),
+    "time_ns and bytes": (each_bytes, ()),
+    "pairs": (pairs, ()),
+    "filter": (filtered, ()),
+    "open and one packet": (first, ()),
+    "random access": (by_numbers, ()),
     "iteration, 3 workers": (by_workers, ()),
     "columns": (columns, ("numpy",)),
     "columns(threads=3)": (by_threads, ("numpy",)),
     "to_pandas": (frame, ("pandas",)),
+    "to_pandas(decode=True)": (decoded, ("pandas",)),
     "dpkt": (by_dpkt, ("dpkt",)),
     "scapy, undecoded": (by_scapy, ("scapy",)),
 }
 
 
+# The ways that go over all packets.
+WHOLE = [way for way in WAYS if way not in ("filter", "open and one packet", "random access")]
+
+# When a walk began: by the clock, of the processor, and of the thread.
+begun = (0.0, 0.0, 0.0)
+
+
 def main():
+    global begun
     path, way, rounds = sys.argv[1], sys.argv[2], int(sys.argv[3])
     walk, needs = WAYS[way]
     if any(importlib.util.find_spec(module) is None for module in needs):
         return
+    # What starting takes is no part of a walk.
+    others = {"dpkt": ["dpkt"], "scapy, undecoded": ["scapy.utils"]}
+    for module in others.get(way, ["pcapfile", *needs]):
+        importlib.import_module(module)
     walls, processors, longest = [], [], []
     for _ in range(rounds):
         taken.clear()
         workers.clear()
-        wall, processor, own = time.perf_counter(), time.process_time(), time.thread_time()
+        begun = time.perf_counter(), time.process_time(), time.thread_time()
         count = walk(path)
-        walls.append(time.perf_counter() - wall)
-        processors.append(time.process_time() - processor + sum(workers))
+        wall, processor, own = begun
+        share = 1 / ASKED if way == "random access" else 1
+        walls.append((time.perf_counter() - wall) * share)
+        processors.append((time.process_time() - processor + sum(workers)) * share)
         taken[threading.get_ident()] = time.thread_time() - own
         longest.append(max([*taken.values(), *workers]))
-    print(count, min(walls), min(processors), min(longest))
+    held = 1024 * resource.getrusage(resource.RUSAGE_SELF).ru_maxrss
+    print(count, min(walls), min(processors), min(longest), held)
 
 
 if __name__ == "__main__":

@@ -1,7 +1,8 @@
 /* walk CALL PASSES < CAPTURE: takes each packet of a capture by the library's C header, so many times over, and prints a sum: of
  * a classic capture that of their nanoseconds and stored bytes, as `measured_calls next_packet` does, and of a PcapNg one that
  * of their units of time and stored bytes. CALL is take_packet or take_ng_packet for one in a call, take_packets or
- * take_ng_packets for 256, and take_block_as_is for a block as it stands. Of a capture that comes in pieces, into room of 256 KiB, it is push_next for one in a call and
+ * take_ng_packets for 256, take_packet_as_is and take_block_as_is for one that may break rules, and put_ng_packet for a packet of a
+ * classic capture that is put as a block of PcapNg, whose bytes are added in place of its own. Of a capture that comes in pieces, into room of 256 KiB, it is push_next for one in a call and
  * push_packets for 256, and push_ng_next and push_ng_packets, which tell nanoseconds. open_next takes one in a call of
  * pcapfile_open.h, of either format, and tells nanoseconds too; for that standard input has to be a file. cut_packets and
  * cut_blocks take no packet: they cut the capture into four parts, and the sum is that of the places where these begin. */
@@ -118,6 +119,37 @@ static int32_t add_pushed_ng_batches(pcapfile_bytes left, uint64_t *sum) {
     return ended(&walk, status);
 }
 
+static int32_t add_packets_as_is(pcapfile_bytes left, uint64_t *sum) {
+    pcapfile_header header = PCAPFILE_HEADER_INIT;
+    pcapfile_packet_as_is packet = PCAPFILE_PACKET_AS_IS_INIT;
+    pcapfile_error error = PCAPFILE_ERROR_INIT;
+    int32_t status = pcapfile_take_header(&left, &header, &error);
+    while (status == PCAPFILE_OK && left.len > 0)
+        if ((status = pcapfile_take_packet_as_is(&header, &left, 0, &packet, &error)) == PCAPFILE_OK)
+            *sum += packet.ts_fraction + packet.bytes.len;
+    return status;
+}
+
+static int32_t add_put_packets(pcapfile_bytes left, uint64_t *sum) {
+    static uint8_t block[1 << 19];
+    pcapfile_section section = PCAPFILE_SECTION_LITTLE_ENDIAN;
+    pcapfile_interface interface = { PCAPFILE_LINK_ETHERNET, 65535, 10, 9, 0 };
+    pcapfile_header header = PCAPFILE_HEADER_INIT;
+    pcapfile_packet packet = PCAPFILE_PACKET_INIT;
+    pcapfile_error error = PCAPFILE_ERROR_INIT;
+    size_t written = 0;
+    int32_t status = pcapfile_take_header(&left, &header, &error);
+    if (status == PCAPFILE_OK) status = pcapfile_put_section(&section, block, sizeof block, &written, &error);
+    if (status == PCAPFILE_OK) status = pcapfile_put_interface(&section, &interface, block, sizeof block, &written, &error);
+    while (status == PCAPFILE_OK && left.len > 0)
+        if ((status = pcapfile_take_packet(&header, &left, &packet, &error)) == PCAPFILE_OK) {
+            pcapfile_ng_packet put = { PCAPFILE_BLOCK_ENHANCED_PACKET, 0, packet.orig_len, packet.ts_nsec, packet.bytes };
+            status = pcapfile_put_ng_packet(&section, &put, block, sizeof block, &written, &error);
+            *sum += packet.ts_nsec + written;
+        }
+    return status;
+}
+
 static int32_t add_ng_packets(pcapfile_bytes left, uint64_t *sum) {
     pcapfile_section section = PCAPFILE_SECTION_INIT;
     pcapfile_block block = PCAPFILE_BLOCK_INIT;
@@ -205,7 +237,9 @@ static const struct {
     { "push_ng_packets", add_pushed_ng_batches },
     { "open_next", add_opened },
     { "take_ng_packet", add_ng_packets },
+    { "take_packet_as_is", add_packets_as_is },
     { "take_block_as_is", add_blocks_as_is },
+    { "put_ng_packet", add_put_packets },
     { "take_ng_packets", add_ng_batches },
     { "cut_packets", add_cuts },
     { "cut_blocks", add_block_cuts },
