@@ -22,11 +22,16 @@ window.isChosen = "[aria-selected=true]";
 """
 
 
+# Chromium drops a download without a message after ten within a second, so the tests leave this many seconds between two of them.
+PAUSE = 0.25
+
+
 class Page:
     """The page in a browser, as somebody uses it who knows the texts of its buttons."""
 
     def __init__(self, browser, path):
         self.browser = browser
+        self.next_download = 0
         browser.open(path)
         browser.look(1280, 860)
         self.value(f"(() => {{ {HELPERS} }})()")
@@ -93,6 +98,8 @@ class Page:
         folder = self.browser.downloads
         for old in os.listdir(folder):
             os.remove(os.path.join(folder, old))
+        time.sleep(max(0, self.next_download - time.monotonic()))
+        self.next_download = time.monotonic() + PAUSE
         self.value(f"{link}.click()")
         end = time.monotonic() + 30
         while len(found := os.listdir(folder)) != 1 or found[0].endswith(".crdownload") or found[0].startswith("."):
