@@ -72,7 +72,7 @@ module _ {S V : Type 0} (f : Format S V) (written : List V → List ℕ → List
     pub took : Consumes before left bytes
     pub went : Appends out mid (written vs bytes)
 
-  -- CopiesTo q reached .. n m: after n items more were copied, which makes m in all, and they lead from one state to the other.
+  -- CopiesTo q reached .. n m: after n items, further items were copied, which makes m in all, and they lead from q to `reached`.
   pub record CopiesTo (q reached : S) (before left out mid : Option (List ℕ)) (n m : ℕ) : Type 0 where
     pub items : List V
     pub leads : state_after f q items ≡ reached

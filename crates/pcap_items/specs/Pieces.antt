@@ -24,8 +24,8 @@ AfterEach Holds before [] (n ∷ ns) = ⊥
 AfterEach Holds before (piece ∷ pieces) [] = ⊥
 AfterEach Holds before (piece ∷ pieces) (n ∷ ns) = Holds (before ++ piece.now) n × AfterEach Holds (before ++ piece.now) pieces ns
 
--- IsOpening opens: any bytes have exactly one verdict as what opens a capture. More bytes change neither a value nor a fault, and the
--- rest after a value is the end of the bytes.
+-- IsOpening opens: any bytes have exactly one verdict as the opening of a capture. More bytes change neither an opening nor a
+-- fault, and what follows an opening is the end of the bytes.
 pub record IsOpening {S : Type 0} (opens : List ℕ → Verdict S → Type 0) : Type 0 where
   pub one : (s : List ℕ) → ExactlyOne (opens s)
   pub stable : IsStable opens
@@ -41,8 +41,8 @@ HoldsItems {S = S} {V = V} opens f s n =
     ((first : S) × (after : List ℕ) × (vs : List V) × (rest : List ℕ) × opens s (whole first after) × Front f first vs after rest × (n ≡ length vs))
     ⊎ (OpensNone opens s × (n ≡ 0))
 
--- Reaches opens f part q ws s left: s is what opens a capture, then items whose kept parts are ws and after which q is the state, then
--- left.
+-- Reaches opens f part q ws s left: s is the opening of a capture, then items with the kept parts ws, after which q is the state, and
+-- then left.
 pub record Reaches {S V W : Type 0} (opens : List ℕ → Verdict S → Type 0) (f : Format S V) (part : V → W) (q : S) (ws : List W) (s left : List ℕ) : Type 0 where
   pub first : S
   pub after : List ℕ
@@ -60,8 +60,7 @@ abbrev pub Came : {P S V W : Type 0} → (List ℕ → Verdict S → Type 0) →
 Came opens f part state s (Before error) held ws = (held ≡ s) × (ws ≡ [])
 Came opens f part state s (Within parser rest) held ws = Reaches opens f part (state parser) ws s held
 
--- IsFedUpTo: of the bytes s, `used` bytes were used for what opens the capture and the items, q is the state then, and `rest` is the
--- rest.
+-- IsFedUpTo: of the bytes s, `used` bytes were used for the opening and the items, after which q is the state and `rest` is the rest.
 pub record IsFedUpTo {S V W : Type 0} (opens : List ℕ → Verdict S → Type 0)
     (f : Format S V) (part : V → W) (q : S) (s : List ℕ) (rest : Rest) (used : ℕ) (ws : List W) : Type 0 where
   pub left : List ℕ

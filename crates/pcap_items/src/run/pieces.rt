@@ -12,8 +12,7 @@ use crate::{Rest, rest_or_memory};
 use pcap_core::{PcapError, ResultParsing};
 use std::alloc::Global;
 
-/// A parser for bytes that arrive in pieces. Its items own their bytes, since the parser's caller drops the bytes of each
-/// item.
+/// A parser for bytes that arrive in pieces. Its items own their bytes, since the bytes that it has used are dropped.
 pub trait PieceParser: Drop {
     /// The form in which an item is kept.
     type Item: Drop;
@@ -39,7 +38,7 @@ pub trait PieceParser: Drop {
 
     ghost owned: { Self.Item → Type 0 };
 
-    /// Parses what opens a capture. Returns the parser after it, and what follows.
+    /// Parses the opening of a capture, which is before its items. Returns the parser after it, and what follows.
     fn open<'a>(
         alloc: Global,
         setting: Self::Setting,
@@ -56,7 +55,7 @@ pub trait PieceParser: Drop {
 /// How far a capture that arrives in pieces has been parsed.
 #[derive(Drop)]
 enum Progress<P> {
-    /// What opens the capture is truncated or refused, as the error says.
+    /// The opening of the capture is truncated or refused, as the error says.
     Before(PcapError),
     /// The parser after the items so far, and the rest after them.
     Within(P, Rest),
@@ -65,13 +64,13 @@ enum Progress<P> {
 /// The contents of all pieces of a capture.
 #[derive(Drop)]
 pub struct Pieces<P, T> {
-    /// The parser after what opens the capture and the items.
+    /// The parser after the opening of the capture and the items.
     pub parser: P,
     /// The items, in order.
     pub items: Vec<T>,
     /// For each piece, the number of whole items in the bytes up to its end.
     pub numbers: Vec<usize>,
-    /// The number of bytes that were used, for what opens the capture and for the items.
+    /// The number of bytes that were used, for the opening of the capture and for the items.
     pub used: usize,
     /// The rest after the last item.
     pub rest: Rest,
@@ -79,8 +78,8 @@ pub struct Pieces<P, T> {
 
 /// Feeds the pieces in order to a parser with this setting, and counts the items after each piece.
 ///
-/// If what opens the capture is refused, it returns that error, and if it is truncated, `IncompleteBuffer`. It returns
-/// `OutOfMemory` if an allocation fails.
+/// Returns the refusal of the capture's opening, or `IncompleteBuffer` if the opening is truncated. Returns `OutOfMemory` if
+/// an allocation fails.
 pub fn feed_pieces<P: PieceParser>(
     alloc: Global,
     setting: P::Setting,
