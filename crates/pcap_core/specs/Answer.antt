@@ -49,20 +49,20 @@ abbrev pub TellsWhere : {X V : Type 0} → Type 0 → (Verdict V → Type 0) →
 TellsWhere MayGrow IsSaid view (Ok x) = IsSaid (whole (view x.1) x.0.now)
 TellsWhere MayGrow IsSaid view (Err error) = Refuses MayGrow (λ n. IsSaid (lacks n)) (λ fault. IsSaid (faulty fault)) error
 
--- the same of a call that takes no memory
+-- Tells is TellsWhere for a call that allocates no memory.
 abbrev pub Tells : {X V : Type 0} → (Verdict V → Type 0) → (X → V) → Result (Bor (List ℕ) × X) PcapError → Type 0
 Tells = TellsWhere ⊥
 
--- the result of a call whose value takes all of the slice, so that nothing follows it
+-- TellsAllWhere is TellsWhere for a call whose value uses the whole slice, so that nothing follows it.
 abbrev pub TellsAllWhere : {X V : Type 0} → Type 0 → (Verdict V → Type 0) → (X → V) → Result X PcapError → Type 0
 TellsAllWhere MayGrow IsSaid view (Ok x) = IsSaid (whole (view x) [])
 TellsAllWhere MayGrow IsSaid view (Err error) = Refuses MayGrow (λ n. IsSaid (lacks n)) (λ fault. IsSaid (faulty fault)) error
 
--- the same of a call that takes no memory
+-- TellsAll is TellsAllWhere for a call that allocates no memory.
 abbrev pub TellsAll : {X V : Type 0} → (Verdict V → Type 0) → (X → V) → Result X PcapError → Type 0
 TellsAll = TellsAllWhere ⊥
 
--- a verdict with its value made into another
+-- Made make IsSaid verdict: the verdict is one of IsSaid, with its value mapped by `make`.
 abbrev pub Made : {V W : Type 0} → (V → W) → (Verdict V → Type 0) → Verdict W → Type 0
 Made {V = V} make IsSaid (whole value rest) = (made_of : V) × (value ≡ make made_of) × IsSaid (whole made_of rest)
 Made make IsSaid (lacks n) = IsSaid (lacks n)

@@ -22,7 +22,7 @@ abbrev pub Names : Rule → PcapError → Type 0
 Names rule (InvalidField message) = message.now ≡ rule_message rule
 Names rule _ = ⊥
 
--- Shows Stands error: the error shows a fault for which `Stands` holds.
+-- Shows: the error shows a fault for which the given condition holds.
 abbrev pub Shows : (Fault → Type 0) → PcapError → Type 0
 Shows Stands (InvalidField message) = (rule : Rule) × (message.now ≡ rule_message rule) × Stands (Invalid rule)
 Shows Stands (IoError e) = Stands Io

@@ -1,4 +1,4 @@
-//! Why a capture could not be read or written.
+//! The errors of reading and writing captures.
 
 ghost use Rattle.std.specs.Prelude.{◌≡◌, Some, IfSome, alloc_error};
 ghost use Rattle.pcap_core.specs.Errors.{error_message};
@@ -15,7 +15,7 @@ use thiserror::Error;
 /// The result of a call that can fail with a `PcapError`.
 pub type ResultParsing<T> = Result<T, PcapError>;
 
-/// Why a capture could not be read or written.
+/// An error of a call that reads or writes a capture.
 #[derive(Debug, Drop, Error)]
 pub enum PcapError {
     /// The slice ends inside the requested item. At least this many bytes are missing.

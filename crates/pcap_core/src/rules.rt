@@ -21,7 +21,7 @@ pub enum Rule {
     SectionMagic,
     /// V7: a block's length is not a multiple of 4.
     BlockUnaligned,
-    /// V8: a block's length is below 12.
+    /// V8: a block's length is below 12 bytes.
     BlockTooShort,
     /// V9: the length after a block's body differs from the length before it.
     BlockLengthsDiffer,

@@ -43,7 +43,7 @@ no_stop f laws failed (Some e) q more s now read memory front cause part =
     absurd cc
 
 module _ {S V : Type 0} (f : Format S V) (laws : IsLawful f) (written : List V → List ℕ → List ℕ) (failed_read failed_write : Bool) where
-  -- a copy of such items does not end with a fault
+  -- a copy of such items does not end with an error
   pub no_fails : (fault : Option PcapError) (q : S) (more : List V) (s : List ℕ) (now mid out : Option (List ℕ)) → failed_read ≡ false → failed_write ≡ false → IfSome fault (λ e. IsMemory e → ⊥)
       → Front f q more s [] → Fails written (f.says q) (Some s) now mid out fault failed_read failed_write → ⊥
   no_fails fault q more s now mid out read wrote memory front (inl tear) = true≢false (sym tear.write_failed ∙ wrote)

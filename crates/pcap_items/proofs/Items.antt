@@ -27,7 +27,7 @@ shows_said IsSaid _ shown = absurd shown
 pub said_shows : {V : Type 0} (IsSaid : Verdict V → Type 0) (e : PcapError) → ShowsSaid ShowsFault IsSaid e → Shows (λ fault. IsSaid (faulty fault)) e
 said_shows IsSaid e said = shows_more {P = λ fault. fault ≡ said.0} {Q = λ fault. IsSaid (faulty fault)} (λ fault same. rw same said.2) e said.1
 
--- what follows the items of a run is its rest
+-- the end of a run is its rest
 pub ended_rest : {V : Type 0} (IsSaid : List ℕ → Verdict V → Type 0) (left : List ℕ) (ended : Ended PcapError) → EndsWith ShowsFault IsSaid left ended → IsRest IsSaid left (rest_of ended)
 ended_rest IsSaid left Clean ends = ends
 ended_rest IsSaid left (Needs n) ends = ends

@@ -19,7 +19,7 @@ asks_push f q [] n s t more asked ask count =
 asks_push f q (m ∷ ns) n s t more asked ask count =
     (asked.0, asked.1, asked.2, asks_push f q ns n (s ++ asked.0) t more asked.3 ask count)
 
--- the requests for items are for their texts
+-- the requests for items are for their bytes
 pub item_texts : {S V : Type 0} (f : Format S V) (q : S) (vs : List V) (s rest ns : List ℕ) → ItemRequests f q vs s rest ns → Texts f q vs s rest
 item_texts f q [] s rest ns asked = asked.0
 item_texts f q (v ∷ vs) s rest ns asked = (asked.0, asked.3, item_texts f (f.goes q v) vs asked.0 rest asked.2 asked.5)
@@ -209,7 +209,7 @@ module _ {S V : Type 0} (f : Format S V) (laws : IsLawful f) (q : S) where
       let all : n ≡ length w.0 = second_is_all f laws q v bytes w.0 n (omega (arith, count)) there ask in
       inr (n, laws.asks q bytes n ask, omega (arith, all, count, ap length w.1, length-append bytes w.0), is)
 
-  -- where there is an item, its requests are for its bytes, and are those of asking for it
+  -- if there is an item, its requests are for its bytes, and are the requests that asking makes
   pub requests_asked : (s rest ns : List ℕ) (v : V) → f.says q s (whole v rest) → RequestsAt f q s ns → (t : List ℕ) × (s ≡ t ++ rest) × HeadThenRest (f.head q) (length t) ns × Asks f q ns [] t
   requests_asked s rest ns v text asked =
       let o = laws.own q s rest v text in

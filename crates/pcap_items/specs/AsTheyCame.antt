@@ -18,7 +18,7 @@ pub record LeadsBytes {S V : Type 0} (f : Format S V) (q next : S) (bytes : List
   pub leads : f.goes q item ≡ next
 
 -- HoldsNext: exactly one item was taken, its bytes are held, and the state is the one after it; or nothing is held at the end of the
--- stream; or there was an error, and no more was taken than requested.
+-- stream. After an error, no more was taken than requested.
 abbrev pub HoldsNext : {S V : Type 0} → Format S V → S → S → Option (List ℕ) → Option (List ℕ) → List ℕ → Bool → Result Bool PcapError → Type 0
 HoldsNext f q next before after held failed (Ok true) = (failed ≡ false) × LeadsBytes f q next held × Consumes before after held
 HoldsNext f q next before after held failed (Ok false) = (failed ≡ false) × (held ≡ []) × IsAtEnd before × Keeps before after

@@ -27,8 +27,8 @@ pub record Stated {H : Type 0} (Knows : H → ℕ → List ℕ → Type 0) (head
 abbrev pub IsAskedFor : {V : Type 0} → (List ℕ → Verdict V → Type 0) → List ℕ → Type 0
 IsAskedFor IsSaid s = (n : ℕ) → n < length s → IsShort IsSaid (take n s)
 
--- FillsHead: exactly a known head was taken, and it says how many bytes follow it; or nothing is held at the end of the stream; or there
--- was an error, and no more was taken than requested.
+-- FillsHead: exactly a known head was taken, and it says how many bytes follow it; or nothing is held at the end of the stream. After an
+-- error, no more was taken than requested.
 abbrev pub FillsHead : {H V : Type 0} → (List ℕ → Verdict V → Type 0)
     → (H → ℕ → List ℕ → Type 0) → ℕ → Option (List ℕ) → Option (List ℕ) → List ℕ → Bool → Result (Option (H × ℕ)) PcapError → Type 0
 FillsHead IsSaid Knows head before after held failed (Ok (Some x)) =
@@ -36,8 +36,8 @@ FillsHead IsSaid Knows head before after held failed (Ok (Some x)) =
 FillsHead IsSaid Knows head before after held failed (Ok None) = (failed ≡ false) × (held ≡ []) × IsAtEnd before × Keeps before after
 FillsHead IsSaid Knows head before after held failed (Err e) = HasCause IsSaid before failed e × TakesAsked IsSaid before after
 
--- FillsHeaded: exactly the held bytes were taken, a known head and what it requests; or nothing is held at the end of the stream; or
--- there was an error, and no more was taken than requested.
+-- FillsHeaded: exactly the held bytes were taken, a known head and what it requests; or nothing is held at the end of the stream. After
+-- an error, no more was taken than requested.
 abbrev pub FillsHeaded : {H V : Type 0} → (List ℕ → Verdict V → Type 0)
     → (H → ℕ → List ℕ → Type 0) → ℕ → Option (List ℕ) → Option (List ℕ) → List ℕ → Bool → Result (Option H) PcapError → Type 0
 FillsHeaded IsSaid Knows head before after held failed (Ok (Some known)) =
@@ -55,8 +55,7 @@ pub record TakesStated {H V : Type 0} (IsSaid : List ℕ → Verdict V → Type 
   pub asked : IsAskedFor IsSaid bytes
   pub took : Consumes before after bytes
 
--- TakesHeaded: exactly a head and its body were taken; or the stream was at its end; or there was an error, and no more was taken than
--- requested.
+-- TakesHeaded: exactly a head and its body were taken, or the stream was at its end. After an error, no more was taken than requested.
 abbrev pub TakesHeaded : {H B V : Type 0} → (List ℕ → Verdict V → Type 0)
     → (H → ℕ → List ℕ → Type 0) → ℕ → (B → List ℕ) → Option (List ℕ) → Option (List ℕ) → Bool → Result (Option (H × B)) PcapError → Type 0
 TakesHeaded IsSaid Knows head body_of before after failed (Ok (Some x)) = (failed ≡ false) × TakesStated IsSaid Knows head before after x.0 (body_of x.1)

@@ -12,7 +12,7 @@ pub record Piece (n : ℕ) (P : List ℕ → Type 0) (s rest : List ℕ) : Type 
   pub length_is : length bytes ≡ n
   pub holds : P bytes
 
--- A HeadReading is what is said about bytes of known length: a value, or a fault.
+-- A HeadReading is the reading of bytes of known length: a value, or a fault.
 pub data HeadReading (X : Type 0) : Type 0 where
   good : X → HeadReading X
   bad : Fault → HeadReading X

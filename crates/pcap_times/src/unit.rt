@@ -9,9 +9,9 @@ const BILLION: u128 = 1_000_000_000;
 /// The timestamp resolution of an interface: the unit in which it counts time ('Interface Description Block', if_tsresol).
 #[derive(Clone, Copy, Debug, PartialEq, Eq)]
 pub enum TimeUnit {
-    /// 10 to the power of minus this number, in seconds.
+    /// A unit of 10 to the power of minus this number, in seconds.
     Decimal(u8),
-    /// 2 to the power of minus this number, in seconds.
+    /// A unit of 2 to the power of minus this number, in seconds.
     Binary(u8),
 }
 

@@ -79,7 +79,7 @@ pub struct ItemRun<T, E> {
     pub items: Vec<T>,
     /// The offset in the bytes at which the last item ends.
     pub used: usize,
-    /// What follows at this offset.
+    /// The end of the run: what follows at this offset.
     pub ended: Ended<E>,
 }
 
