@@ -26,7 +26,7 @@ pub enum PcapError {
     InvalidField(&'static str),
     /// A string isn't UTF-8.
     Utf8Error(Utf8Error),
-    /// Kept for compatibility with the Rust crate. No call of this crate returns it.
+    /// Kept for compatibility with the Rust crate. Only the conversion from a `FromUtf8Error` returns it.
     FromUtf8Error(FromUtf8Error),
     /// A memory allocation failed.
     OutOfMemory(AllocError),

@@ -39,7 +39,7 @@ pub enum Rule {
     SimpleTooShort,
     /// V16: the body of an interface statistics block is shorter than 12 bytes.
     StatisticsTooShort,
-    /// V17: one to three bytes are left where an option should begin.
+    /// V17: fewer than 4 bytes are left where an option or the mark that ends a list must begin.
     OptionTooShort,
     /// V18: an option's value and padding extend past the body.
     OptionCut,

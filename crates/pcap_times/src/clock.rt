@@ -16,8 +16,8 @@ pub struct Clock {
 /// A point in time, in seconds and nanoseconds.
 #[derive(Clone, Copy, Debug, PartialEq, Eq, PartialOrd, Ord)]
 pub struct Timestamp {
-    /// Whole seconds since 1970-01-01 00:00:00 UTC, negative before then. They have 128 bits, since 64 bits can hold neither
-    /// the greatest number of seconds with an offset nor the least.
+    /// Whole seconds since 1970-01-01 00:00:00 UTC, negative before then. They have 128 bits, since the sum of an offset and
+    /// a 64-bit number of seconds does not always fit in 64 bits.
     pub seconds: i128,
     /// Whole nanoseconds after those seconds, below 1000000000.
     pub nanoseconds: u32,
