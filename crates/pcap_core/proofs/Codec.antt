@@ -1,4 +1,4 @@
--- What is written is read again.
+-- Numbers that were written are read back.
 use Rattle.std.proofs.Common.{◌<◌, ◌^◌, ℕ, List, [], ◌++◌, refl, sym, ap, ◌∙◌}
 use Rattle.std.proofs.lemmas.List.{append-nil}
 use Rattle.byteorder.specs.Numbers.{big_number-reads_back, little_number-reads_back, length-bytes_high_first, length-bytes_low_first}

@@ -1,9 +1,9 @@
--- An array that is filled from its front.
+-- An array that a program fills from its front.
 use Rattle.std.proofs.Common.{◌≡◌, ℕ, ◌+◌, List, [], ◌++◌, length, take, drop, refl, ap, sym, ◌∙◌, append_assoc, append-nil, length-append, arith}
 use Rattle.std.proofs.lemmas.List.{take_at, drop_at, take_all, drop_all, length-drop}
 use borrow.Rule.Slice.PartMut.{put_mid}
 
--- the front of all, k bytes, and n bytes behind it
+-- `all` is a front of k bytes, followed by n bytes
 pub record Filled (front all : List ℕ) (k n : ℕ) : Type 0 where
   pub rest : List ℕ
   pub split : all ≡ front ++ rest
@@ -13,7 +13,7 @@ pub record Filled (front all : List ℕ) (k n : ℕ) : Type 0 where
 pub filled_first : (b rest all : List ℕ) (w n : ℕ) → length b ≡ w → length rest ≡ n → all ≡ b ++ rest → Filled b all w n
 filled_first b rest all w n wide left made = record { rest = rest; split = made; filled = wide; left = left }
 
--- w bytes more are written behind the front
+-- w more bytes are written after the front
 pub filled_next : (front b all part : List ℕ) (k w n : ℕ) → length b ≡ w → Filled front all k (w + n) → part ≡ b ++ drop w (take (w + n) (drop k all))
     → Filled (front ++ b) (put_mid k (w + n) all part) (k + w) n
 filled_next front b all part k w n wide f made =

@@ -1,4 +1,4 @@
--- A named link type and its number give each other.
+-- A named link type and its number determine each other.
 use Rattle.std.proofs.Common.{◌≡◌, ◌<◌, ◌+◌, ◌^◌, ℕ, arith, refl, sym, ap, ◌∙◌, inl, inr, subst}
 use Rattle.std.specs.Prelude.{◌⊎◌, ◌==◌, if◌then◌else◌}
 use Rattle.std.proofs.lemmas.Bool.{cases_eq}
@@ -6,7 +6,7 @@ use Rattle.pcap_core.specs.declared.link.DataLink.{DataLink}
 use Rattle.pcap_core.specs.declared.link.DataLink.TheVariants as link
 use Rattle.pcap_core.specs.Link.{Link, IsNamed, IsPlain, link_number, key}
 
--- the named type of a number, or the unknown one
+-- the named link type of a number, or the unknown one
 named_at : ℕ → DataLink
 named_at n =
     if n == 0 then link.NULL else
@@ -123,12 +123,12 @@ unfolding named_at
 named_again (link.Unknown n) named = absurd named
 named_again _ named = refl
 
--- a type is named or unknown
+-- a link type is named or unknown
 named_or_not : (d : DataLink) → IsNamed d ⊎ ((n : ℕ) × (d ≡ link.Unknown n))
 named_or_not (link.Unknown n) = inr (n, refl)
 named_or_not _ = inl tt
 
--- two plain types of one number are one
+-- two plain link types with the same number are equal
 pub plain_same : (d e : DataLink) → IsPlain d → IsPlain e → link_number d ≡ link_number e → d ≡ e
 plain_same d e pd pe same =
     elim (named_or_not d) [
@@ -146,7 +146,7 @@ named_plain : (d : DataLink) → IsNamed d → IsPlain d
 named_plain (link.Unknown n) named = absurd named
 named_plain _ named = tt
 
--- each number has a plain type
+-- each number has a plain link type
 pub link_of : (n : ℕ) → (d : DataLink) × Link n d
 link_of n =
     elim (named_or_not (named_at n)) [
@@ -170,7 +170,7 @@ named_below _ named = omega arith
 unknown_key : (d : DataLink) (n : ℕ) → d ≡ link.Unknown n → key d ≡ n + 2 ^ 32
 unknown_key d n e = ap key e
 
--- two link types of one key are one
+-- two link types with the same key are equal
 pub key_same : (d e : DataLink) → key d ≡ key e → d ≡ e
 key_same d e same =
     elim (named_or_not d) [

@@ -1,4 +1,4 @@
--- Numbers one behind the other are there or too few bytes are, and they are one.
+-- Either numbers follow one another or too few bytes are left, and the numbers are unique.
 use Rattle.std.proofs.Common.{◌≡◌, ℕ, ◌+◌, ◌<◌, ◌≤◌, List, [], ◌∷◌, length, take, drop, refl, sym, ap, subst, ◌∙◌, arith, inl, inr}
 use Rattle.std.specs.Prelude.{⊤}
 use Rattle.std.proofs.lemmas.Bool.{cases_lt}
@@ -10,12 +10,12 @@ use Rattle.pcap_core.proofs.Texts.{split_same, number_same, number_length}
 use Rattle.pcap_core.specs.Padded.{Behind}
 use Rattle.pcap_core.proofs.Padded.{behind_number, behind_both}
 
--- a number for each width
+-- one number for each width
 abbrev pub Values : List ℕ → Type 0
 Values [] = ⊤
 Values (w ∷ ws) = ℕ × Values ws
 
--- s is these numbers in these widths, and then rest
+-- s is these numbers in these widths, followed by rest
 abbrev pub Numbers : Order → (ws : List ℕ) → Values ws → List ℕ → List ℕ → Type 0
 Numbers order [] ns s rest = s ≡ rest
 Numbers order (w ∷ ws) ns s rest = (after : List ℕ) × Number order w ns.0 s after × Numbers order ws ns.1 after rest
@@ -24,7 +24,7 @@ abbrev pub total : List ℕ → ℕ
 total [] = 0
 total (w ∷ ws) = w + total ws
 
--- the numbers, or a fault where too few bytes are there
+-- the numbers, or a fault if too few bytes are left
 abbrev pub NumbersSay : Order → Fault → (ws : List ℕ) → List ℕ → Verdict (Values ws) → Type 0
 NumbersSay order too_short ws s (whole ns rest) = Numbers order ws ns s rest
 NumbersSay order too_short ws s (lacks n) = ⊥

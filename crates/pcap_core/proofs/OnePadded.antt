@@ -1,4 +1,4 @@
--- A value of known length and its padding are there or too few bytes are, and the value is one.
+-- Either a value of known length and its padding are there or too few bytes are left, and the value is unique.
 use Rattle.std.proofs.Common.{◌≡◌, ℕ, ◌+◌, ◌<◌, ◌≤◌, List, ◌++◌, length, take, drop, refl, sym, ap, ◌∙◌, arith, inl, inr}
 use Rattle.std.proofs.lemmas.List.{length-take, length-append}
 use Rattle.std.proofs.lemmas.Bool.{cases_lt}
@@ -9,7 +9,7 @@ use Rattle.pcap_core.proofs.Texts.{split_same}
 use Rattle.pcap_core.specs.Padded.{Padded, up_to_4}
 use Rattle.pcap_core.proofs.Padded.{split_padded}
 
--- n bytes and their padding, or a fault where fewer are left
+-- n bytes and their padding, or a fault if fewer bytes are left
 abbrev pub PaddedSays : Fault → ℕ → List ℕ → Verdict (List ℕ) → Type 0
 PaddedSays too_few n s (whole v rest) = Padded v s rest × (length v ≡ n)
 PaddedSays too_few n s (lacks m) = ⊥

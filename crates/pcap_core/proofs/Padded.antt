@@ -1,4 +1,4 @@
--- Values with their padding, and items one behind the other.
+-- Values with their padding, and items that follow one another.
 use Rattle.std.proofs.Common.{◌≡◌, ℕ, ◌+◌, ◌≤◌, List, [], ◌∷◌, ◌++◌, length, refl, sym, ap, subst, ◌∙◌, arith, take, drop, append_assoc}
 use Rattle.std.proofs.lemmas.List.{take-append-drop, length-take, length-append}
 use Rattle.pcap_core.specs.Answer.{Order, Number}

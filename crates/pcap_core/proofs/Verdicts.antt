@@ -1,4 +1,4 @@
--- One verdict of a whole from one verdict of each of its parts.
+-- If each part has exactly one verdict, the whole has exactly one verdict.
 use Rattle.std.proofs.Common.{◌≡◌, ℕ, zero, suc, ◌<◌, List, [], ◌∷◌, ◌++◌, length, refl, sym, ap, subst, ◌∙◌, arith, append_assoc, inl, inr}
 use Rattle.std.specs.Prelude.{◌⊎◌}
 use Rattle.pcap_core.specs.Answer.{Verdict, whole, lacks, faulty, Made}
@@ -7,15 +7,15 @@ use Rattle.pcap_core.specs.Laws.{ExactlyOne}
 use Rattle.pcap_core.specs.Padded.{Chain}
 use Rattle.pcap_core.proofs.Padded.{chain_more}
 
--- a whole verdict is one value and one rest
+-- a verdict with a value has one value and one rest
 pub whole_same : {V : Type 0} (v w : V) (a b : List ℕ) → whole v a ≡ whole w b → (v ≡ w) × (a ≡ b)
 whole_same v w a b e = (cc, cc)
 
--- what says the same has the same law
+-- equivalent conditions have the same law
 pub one_moved : {X : Type 0} (P Q : X → Type 0) → ((x : X) → P x → Q x) → ((x : X) → Q x → P x) → ExactlyOne Q → ExactlyOne P
 one_moved P Q to from one = record { value = one.value; holds = from one.value one.holds; only = λ other h. one.only other (to other h) }
 
--- first the one, and then, where it is whole, the other
+-- the verdict of the first part, or if it is whole, the verdict of the next part
 abbrev pub Then : {V W : Type 0} → (Verdict V → Type 0) → (V → List ℕ → Verdict W → Type 0) → Verdict W → Type 0
 Then {V = V} First Next (whole w rest) = (v : V) × (after : List ℕ) × First (whole v after) × Next v after (whole w rest)
 Then {V = V} First Next (lacks n) = First (lacks n) ⊎ ((v : V) × (after : List ℕ) × First (whole v after) × Next v after (lacks n))
@@ -63,7 +63,7 @@ made_only make P one (faulty f) h = ap (made make) (one.only (faulty f) h)
 pub one_made : {V W : Type 0} (make : V → W) (P : Verdict V → Type 0) → ExactlyOne P → ExactlyOne (Made make P)
 one_made make P one = record { value = made make one.value; holds = made_there make P one.value one.holds; only = made_only make P one }
 
--- where the first is known to be a fault
+-- if the first part is known to have a fault
 then_fault : {V W : Type 0} (First : Verdict V → Type 0) (Next : V → List ℕ → Verdict W → Type 0) (f : Fault) → First (faulty f) → ((other : Verdict V) → First other → other ≡ faulty f) → (w : Verdict W) → Then First Next w → w ≡ faulty f
 then_fault First Next f h only (whole w rest) t = absurd (whole_no_fault t.0 t.1 f (only (whole t.0 t.1) t.2))
 then_fault {V = V} First Next f h only (lacks n) (inl t) = absurd (lack_no_fault {V = V} n f (only (lacks n) t))
@@ -71,7 +71,7 @@ then_fault First Next f h only (lacks n) (inr t) = absurd (whole_no_fault t.0 t.
 then_fault {V = V} {W = W} First Next f h only (faulty g) (inl t) = faulty_in {V = V} {W = W} g f (only (faulty g) t)
 then_fault First Next f h only (faulty g) (inr t) = absurd (whole_no_fault t.0 t.1 f (only (whole t.0 t.1) t.2))
 
--- where it is known to lack
+-- if the first part is known to be truncated
 then_lack : {V W : Type 0} (First : Verdict V → Type 0) (Next : V → List ℕ → Verdict W → Type 0) (n : ℕ) → First (lacks n) → ((other : Verdict V) → First other → other ≡ lacks n) → (w : Verdict W) → Then First Next w → w ≡ lacks n
 then_lack First Next n h only (whole w rest) t = absurd (whole_no_lack t.0 t.1 n (only (whole t.0 t.1) t.2))
 then_lack {V = V} {W = W} First Next n h only (lacks m) (inl t) = lacks_in {V = V} {W = W} m n (only (lacks m) t)
@@ -79,7 +79,7 @@ then_lack First Next n h only (lacks m) (inr t) = absurd (whole_no_lack t.0 t.1 
 then_lack {V = V} First Next n h only (faulty g) (inl t) = absurd (fault_no_lack {V = V} n g (only (faulty g) t))
 then_lack First Next n h only (faulty g) (inr t) = absurd (whole_no_lack t.0 t.1 n (only (whole t.0 t.1) t.2))
 
--- where it is known to be whole
+-- if the first part is known to be whole
 then_whole : {V W : Type 0} (First : Verdict V → Type 0) (Next : V → List ℕ → Verdict W → Type 0) (v : V) (after : List ℕ) → ((other : Verdict V) → First other → other ≡ whole v after) → (w : Verdict W) → Then First Next w → Next v after w
 then_whole {V = V} First Next v after only (whole w rest) t =
     let e = whole_same t.0 v t.1 after (only (whole t.0 t.1) t.2) in
@@ -108,11 +108,11 @@ then_cases First Next (faulty f) h only next = record { value = faulty f; holds 
 pub one_then : {V W : Type 0} (First : Verdict V → Type 0) (Next : V → List ℕ → Verdict W → Type 0) → ExactlyOne First → ((v : V) (after : List ℕ) → First (whole v after) → ExactlyOne (Next v after)) → ExactlyOne (Then First Next)
 one_then First Next one next = then_cases First Next one.value one.holds one.only next
 
--- Items, and then what stops them, which may look back at them.
+-- items, followed by what stops them; this may depend on the items
 abbrev pub Stopped : {V W : Type 0} → (V → List ℕ → List ℕ → Type 0) → (List V → List ℕ → Verdict W → Type 0) → List ℕ → Verdict W → Type 0
 Stopped {V = V} IsItem Closes s w = (good : List V) × (bad : List ℕ) × Chain IsItem good s bad × Closes good bad w
 
--- what is known of items and of what stops them
+-- what is known about items and about what stops them
 pub record IsMany {V W : Type 0} (IsItem : V → List ℕ → List ℕ → Type 0) (Closes : List V → List ℕ → Verdict W → Type 0) : Type 0 where
   pub item_same : (v w : V) (s a b : List ℕ) → IsItem v s a → IsItem w s b → (v ≡ w) × (a ≡ b)
   pub item_shorter : (v : V) (s a : List ℕ) → IsItem v s a → length a < length s

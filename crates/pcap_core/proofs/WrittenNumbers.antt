@@ -1,4 +1,4 @@
--- In an order that is known, the bytes of a number are those that are written for its value.
+-- In a known byte order, the bytes of a number are those that a program writes for its value.
 use Rattle.std.proofs.Common.{◌≡◌, ℕ, ◌+◌, ◌<◌, ◌^◌, List, ◌++◌, length, sym, ap, subst, ◌∙◌, arith, inl, inr, get_or}
 use Rattle.std.specs.Int.{w16, w32, from_be_bytes, from_le_bytes, to_be_bytes, to_le_bytes}
 use Rattle.std.proofs.lemmas.Bool.{cases_lt}

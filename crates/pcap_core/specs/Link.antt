@@ -1,9 +1,9 @@
--- The numbers of link types ('File Header', LinkType).
+-- Link types and their numbers ('File Header', LinkType).
 use Rattle.std.specs.Prelude.{◌≡◌, ◌+◌, ◌^◌, ℕ}
 use Rattle.pcap_core.specs.declared.link.DataLink.{DataLink}
 use Rattle.pcap_core.specs.declared.link.DataLink.TheVariants as link
 
--- the table: the number of a link type
+-- link_number is the table of link types: it gives the number of each.
 abbrev pub link_number : DataLink → ℕ
 link_number link.NULL = 0
 link_number link.ETHERNET = 1
@@ -114,22 +114,22 @@ link_number link.USB_DARWIN = 266
 link_number link.SDLC = 268
 link_number (link.Unknown n) = n
 
--- Unknown is for numbers that no named type has.
+-- IsNamed: the link type is a variant with a name, so that it is not `Unknown`.
 abbrev pub IsNamed : DataLink → Type 0
 IsNamed (link.Unknown n) = ⊥
 IsNamed _ = Unit {0}
 
--- the link type is a named one, or unknown with a number that no named one has
+-- IsPlain: the link type is named, or it is unknown with a number that no named link type has.
 abbrev pub IsPlain : DataLink → Type 0
 IsPlain (link.Unknown n) = (named : DataLink) → IsNamed named → link_number named ≡ n → ⊥
 IsPlain _ = Unit {0}
 
--- The number stands for the link type: it is the type's number, and it is unknown only where no named type has it.
+-- Link n d: n is the number of the link type d, and d is unknown only if no named link type has this number.
 pub record Link (n : ℕ) (d : DataLink) : Type 0 where
   pub number : link_number d ≡ n
   pub plain : IsPlain d
 
--- a number of its own for each link type: an unknown one's stands above those of the table
+-- key gives each link type a distinct number. The key of an unknown link type is above the numbers of the table.
 abbrev pub key : DataLink → ℕ
 key (link.Unknown n) = n + 2 ^ 32
 key named = link_number named

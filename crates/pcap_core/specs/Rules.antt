@@ -3,7 +3,7 @@ use Rattle.std.specs.Prelude.{ℕ, List, codes}
 use Rattle.pcap_core.specs.declared.rules.Rule.{Rule}
 use Rattle.pcap_core.specs.declared.rules.Rule.TheVariants as rules
 
--- what stands of a rule in the table of refusals
+-- A Row is the entry of a rule in the table of refusals.
 pub record Row : Type 0 where
   pub number : ℕ
   pub name : List ℕ
@@ -51,10 +51,10 @@ row_of rules.NameUnended = record { number = 24; name = codes "NameUnended"; mes
 row_of rules.RecordUnpadded = record { number = 25; name = codes "RecordUnpadded"; message = codes "NameResolutionBlock: Record padding > slice.len()" }
 row_of rules.UnknownTooLong = record { number = 26; name = codes "UnknownTooLong"; message = codes "UnknownBlock: length > 0xFFFFFFFF" }
 
--- the number of a rule in the table of refusals
+-- number_of gives the number of a rule in the table of refusals.
 abbrev pub number_of : Rule → ℕ
 number_of rule = (row_of rule).number
 
--- the name of a rule, as the variant is spelled
+-- name_of gives the name of a rule, spelled as the variant.
 abbrev pub name_of : Rule → List ℕ
 name_of rule = (row_of rule).name

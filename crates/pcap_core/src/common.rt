@@ -1,4 +1,4 @@
-//! The order of numbers, and bytes that are borrowed or owned.
+//! The byte order of numbers, and bytes that are borrowed or owned.
 
 ghost use Rattle.std.specs.Prelude.{◌≡◌, ◌↔◌, IsTrue, [], ◌∷◌, length, IsOk, IfOk, IfErr, MatchOption};
 ghost use Rattle.pcap_core.specs.Bytes.{cow_bytes, IsBorrowed, IsOwned};
@@ -8,7 +8,7 @@ use crate::ResultParsing;
 use byteorder::ByteOrder;
 use std::alloc::Global;
 
-/// The order of the bytes of a number: the highest first, or the lowest.
+/// The byte order of numbers: the highest byte first, or the lowest.
 #[derive(Clone, Copy, Debug, PartialEq, Eq)]
 pub enum Endianness {
     Big,
@@ -16,7 +16,7 @@ pub enum Endianness {
 }
 
 impl Endianness {
-    /// Whether the lowest byte comes first.
+    /// Returns whether the lowest byte comes first.
     pub fn is_little(self) -> bool
         ensures { IsTrue result ↔ (self ≡ Endianness.Little) }
     {
@@ -26,7 +26,7 @@ impl Endianness {
         }
     }
 
-    /// Whether the highest byte comes first.
+    /// Returns whether the highest byte comes first.
     pub fn is_big(self) -> bool
         ensures { IsTrue result ↔ (self ≡ Endianness.Big) }
     {
@@ -36,7 +36,7 @@ impl Endianness {
         }
     }
 
-    /// The order in which `B` reads.
+    /// Returns the byte order in which `B` reads.
     pub fn new<B: ByteOrder>() -> Self
         ensures { (result ≡ Endianness.Big) ↔ (B.number_of 4 (0 ∷ 0 ∷ 0 ∷ 1 ∷ []) ≡ 1) }
     {
@@ -48,7 +48,7 @@ impl Endianness {
     }
 }
 
-/// Bytes that are borrowed, or owned.
+/// Bytes that are borrowed or owned.
 #[derive(Clone, Debug, Drop)]
 pub enum CowBytes<'a> {
     Borrowed(&'a [u8]),
@@ -56,7 +56,7 @@ pub enum CowBytes<'a> {
 }
 
 impl<'a> CowBytes<'a> {
-    /// Borrowed bytes, for as long as they are lent. None of owned ones.
+    /// Returns borrowed bytes, for as long as they are lent. Returns None if the bytes are owned.
     pub fn as_borrowed(&self) -> Option<&'a [u8]>
         ensures { MatchOption result (IsOwned self.now) (λ bytes. IsBorrowed self.now × (bytes.now ≡ cow_bytes self.now)) }
     {
@@ -68,7 +68,7 @@ impl<'a> CowBytes<'a> {
 }
 
 impl CowBytes<'_> {
-    /// The bytes, whoever has them.
+    /// Returns the bytes, whether they are borrowed or owned.
     pub fn as_slice(&self) -> &[u8]
         ensures { result.now ≡ cow_bytes self.now }
     {
@@ -78,28 +78,28 @@ impl CowBytes<'_> {
         }
     }
 
-    /// How many bytes there are.
+    /// Returns the number of bytes.
     pub fn len(&self) -> usize
         ensures { result ≡ length (cow_bytes self.now) }
     {
         self.as_slice().len()
     }
 
-    /// Whether there is no byte.
+    /// Returns whether there are no bytes.
     pub fn is_empty(&self) -> bool
         ensures { IsTrue result ↔ (cow_bytes self.now ≡ []) }
     {
         self.as_slice().is_empty()
     }
 
-    /// Whether the bytes are borrowed.
+    /// Returns whether the bytes are borrowed.
     pub fn is_borrowed(&self) -> bool
         ensures { IsTrue result ↔ IsBorrowed self.now }
     {
         matches!(self, CowBytes::Borrowed(_))
     }
 
-    /// The same bytes, owned. `OutOfMemory` where borrowed bytes can't be copied; owned ones are never copied.
+    /// Returns the same bytes, owned. Returns `OutOfMemory` if borrowed bytes can't be copied. Owned bytes are never copied.
     pub fn into_owned(self, alloc: Global) -> ResultParsing<CowBytes<'static>>
         ensures bytes { IfOk result (λ own. cow_bytes own ≡ cow_bytes self.entry) }
         ensures owned { IfOk result IsOwned }

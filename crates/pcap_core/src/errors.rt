@@ -1,4 +1,4 @@
-//! Why a capture could not be read or written.
+//! The errors of reading and writing captures.
 
 ghost use Rattle.std.specs.Prelude.{◌≡◌, Some, IfSome, alloc_error};
 ghost use Rattle.pcap_core.specs.Errors.{error_message};
@@ -12,23 +12,23 @@ use std::string::FromUtf8Error;
 use std::{fmt, io};
 use thiserror::Error;
 
-/// A value, or why there is none.
+/// The result of a call that can fail with a `PcapError`.
 pub type ResultParsing<T> = Result<T, PcapError>;
 
-/// Why a capture could not be read or written.
+/// An error of a call that reads or writes a capture.
 #[derive(Debug, Drop, Error)]
 pub enum PcapError {
-    /// The slice holds a beginning of what is asked for: so many bytes are missing, at least.
+    /// The slice ends inside the requested item. At least this many bytes are missing.
     IncompleteBuffer(usize),
     /// A read or write failed, a stream ended early, or a value inside a body is too short.
     IoError(io::Error),
-    /// The bytes break a rule of the format: the message names it.
+    /// The bytes break a rule of the format. The message names the rule.
     InvalidField(&'static str),
     /// A string isn't UTF-8.
     Utf8Error(Utf8Error),
-    /// Kept from the Rust crate. No call of this crate answers it.
+    /// Kept for compatibility with the Rust crate. Only the conversion from a `FromUtf8Error` returns it.
     FromUtf8Error(FromUtf8Error),
-    /// A growth was refused.
+    /// A memory allocation failed.
     OutOfMemory(AllocError),
     /// An earlier write of this writer failed.
     WriterFailed,
@@ -50,7 +50,7 @@ impl fmt::Display for PcapError {
 }
 
 impl PcapError {
-    /// The rule that the message of an `InvalidField` names. None for each other error.
+    /// Returns the rule that the message of an `InvalidField` names. Returns None for every other error.
     pub fn rule(&self) -> Option<Rule>
         ensures named { IfSome result (λ rule. Names rule self.now) }
         ensures found { (rule : Rule) → Names rule self.now → result ≡ Some rule }

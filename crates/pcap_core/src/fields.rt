@@ -1,4 +1,4 @@
-//! Numbers and padded bytes at the front of a slice.
+//! Functions that split numbers and padded bytes off the front of a slice.
 
 ghost use Rattle.std.specs.Prelude.{◌≡◌, ◌≤◌, ◌<◌, ◌+◌, ◌^◌, length, MatchOption};
 ghost use Rattle.pcap_core.specs.Answer.{Number};
@@ -6,7 +6,7 @@ ghost use Rattle.pcap_core.specs.Padded.{Padded, up_to_4};
 
 use byteorder::ByteOrder;
 
-/// The number in the first two bytes, and the bytes after them.
+/// Returns the number in the first two bytes, and the bytes after them.
 pub fn split_u16<B: ByteOrder>(bytes: &[u8]) -> (u16, &[u8])
     requires { 2 ≤ length bytes.now }
     ensures number { Number B.number_of 2 result.0 bytes.now result.1.now }
@@ -16,7 +16,7 @@ pub fn split_u16<B: ByteOrder>(bytes: &[u8]) -> (u16, &[u8])
     (B::read_u16(front), rest)
 }
 
-/// The number in the first four bytes, and the bytes after them.
+/// Returns the number in the first four bytes, and the bytes after them.
 pub fn split_u32<B: ByteOrder>(bytes: &[u8]) -> (u32, &[u8])
     requires { 4 ≤ length bytes.now }
     ensures number { Number B.number_of 4 result.0 bytes.now result.1.now }
@@ -26,7 +26,7 @@ pub fn split_u32<B: ByteOrder>(bytes: &[u8]) -> (u32, &[u8])
     (B::read_u32(front), rest)
 }
 
-/// The number in the first eight bytes, and the bytes after them.
+/// Returns the number in the first eight bytes, and the bytes after them.
 pub fn split_u64<B: ByteOrder>(bytes: &[u8]) -> (u64, &[u8])
     requires { 8 ≤ length bytes.now }
     ensures number { Number B.number_of 8 result.0 bytes.now result.1.now }
@@ -36,7 +36,7 @@ pub fn split_u64<B: ByteOrder>(bytes: &[u8]) -> (u64, &[u8])
     (B::read_u64(front), rest)
 }
 
-/// The first `len` bytes, and what follows their padding. None where that passes the end.
+/// Returns the first `len` bytes, and the bytes after their padding. Returns None if the padding extends past the end.
 #[tactic(auto, using(crate::proofs::Padded::split_padded))]
 pub fn split_padded(bytes: &[u8], len: usize) -> Option<(&[u8], &[u8])>
     requires { len < 2 ^ 32 }

@@ -1,5 +1,5 @@
-//! What the classic and the block format share below any stream: errors, rules, link types, and numbers and padded bytes at
-//! the front of a slice.
+//! The parts that the classic and the PcapNg format share, without streams: errors, rules, link types, and the numbers and
+//! padded bytes at the front of a slice.
 #![tactic(auto)]
 
 mod common;

@@ -1,4 +1,4 @@
-//! The numbers of link types.
+//! Link types and their numbers.
 
 ghost use Rattle.std.specs.Prelude.{◌≡◌, nat_eq};
 ghost use Rattle.std.specs.Ordering.{on};
@@ -6,7 +6,7 @@ ghost use Rattle.std.specs.Cmp.Rules.{comparing};
 ghost use Rattle.std.proofs.Common.{rules};
 ghost use Rattle.pcap_core.specs.Link.{Link, link_number, key};
 
-/// The protocol with which each packet of a capture begins.
+/// The link type of a capture or interface: the protocol with which each packet begins.
 #[allow(non_camel_case_types)]
 #[derive(Clone, Copy, Debug)]
 pub enum DataLink {
@@ -355,7 +355,7 @@ impl From<DataLink> for u32 {
 }
 
 impl DataLink {
-    // A number of its own for each link type: an unknown one's stands above those of the table.
+    // A distinct number for each link type. The number of an unknown link type is above those of the table.
     fn key(self) -> u64
         ensures { result ≡ key self }
     {
@@ -366,7 +366,7 @@ impl DataLink {
     }
 }
 
-/// Two link types are equal where they are the same variant and, where unknown, have the same number.
+/// Two link types are equal if they are the same variant and, if unknown, have the same number.
 impl PartialEq for DataLink {
     ghost eq = { on key nat_eq };
 

@@ -1,47 +1,47 @@
-//! The rules of the formats, one for each message of an `InvalidField`.
+//! The rules of the capture formats. Each `InvalidField` has the message of one rule.
 
 ghost use Rattle.std.specs.Prelude.{◌≡◌, Some, IfSome};
 ghost use Rattle.pcap_core.specs.Faults.{rule_message};
 ghost use Rattle.pcap_core.specs.Rules.{number_of, name_of};
 
-/// A rule of the formats that bytes break. Its number is that of the table of refusals.
+/// A rule of the capture formats. Its number is the one in the table of refusals.
 #[derive(Clone, Copy, Debug, PartialEq, Eq)]
 pub enum Rule {
-    /// V1: a capture's magic number is none of the four.
+    /// V1: a capture's magic number is none of the four known ones.
     CaptureMagic,
-    /// V2: a packet's microseconds are more than 32 bits of nanoseconds.
+    /// V2: a packet record's microseconds, in nanoseconds, do not fit in 32 bits.
     FractionTooLarge,
-    /// V3: a packet's stored length is above 262144 bytes.
+    /// V3: a packet record's stored length is above 262144 bytes.
     IncludedTooLong,
-    /// V4: a packet's original length is above 262144 bytes.
+    /// V4: a packet record's original length is above 262144 bytes.
     OriginalTooLong,
-    /// V5: a packet's stored length is above its original length.
+    /// V5: a packet record's stored length is above its original length.
     IncludedPastOriginal,
-    /// V6: a section header's magic number is neither order's.
+    /// V6: a section header's magic number is that of neither byte order.
     SectionMagic,
-    /// V7: a block's length is no multiple of 4.
+    /// V7: a block's length is not a multiple of 4.
     BlockUnaligned,
-    /// V8: a block's length is below 12.
+    /// V8: a block's length is below 12 bytes.
     BlockTooShort,
-    /// V9: the length behind a block's body is another than the one before it.
+    /// V9: the length after a block's body differs from the length before it.
     BlockLengthsDiffer,
-    /// V10: the first block is no section header.
+    /// V10: the first block is not a section header.
     SectionMissing,
-    /// V11: a section header's body is under 16 bytes.
+    /// V11: a section header's body is shorter than 16 bytes.
     SectionTooShort,
-    /// V12: an interface description's body is under 8 bytes.
+    /// V12: an interface description's body is shorter than 8 bytes.
     InterfaceTooShort,
-    /// V13: an enhanced packet's or a packet's body is under 20 bytes.
+    /// V13: the body of an enhanced packet or packet is shorter than 20 bytes.
     EnhancedTooShort,
-    /// V14: an enhanced packet's or a packet's data and padding pass the body.
+    /// V14: the data and padding of an enhanced packet or packet extend past the body.
     EnhancedCut,
-    /// V15: a simple packet's body is under 4 bytes.
+    /// V15: a simple packet's body is shorter than 4 bytes.
     SimpleTooShort,
-    /// V16: an interface statistics' body is under 12 bytes.
+    /// V16: the body of an interface statistics block is shorter than 12 bytes.
     StatisticsTooShort,
-    /// V17: one to three bytes stand where an option should begin.
+    /// V17: fewer than 4 bytes are left where an option or the mark that ends a list must begin.
     OptionTooShort,
-    /// V18: an option's value and padding pass the body.
+    /// V18: an option's value and padding extend past the body.
     OptionCut,
     /// V19.1: an interface's IPv4 address and mask are not 8 bytes.
     InterfaceIpv4Length,
@@ -53,13 +53,13 @@ pub enum Rule {
     InterfaceEuiLength,
     /// V19.5: an interface's speed is not 8 bytes.
     InterfaceSpeedLength,
-    /// V19.6: an interface's time resolution is not 1 byte.
+    /// V19.6: an interface's timestamp resolution is not 1 byte.
     InterfaceResolutionLength,
     /// V19.7: an interface's time zone is not 4 bytes.
     InterfaceZoneLength,
     /// V19.8: an interface's filter is empty.
     InterfaceFilterEmpty,
-    /// V19.9: an interface's length of the frame check sequence is not 1 byte.
+    /// V19.9: an interface's length of frame check sequences is not 1 byte.
     InterfaceFcsLength,
     /// V19.10: an interface's time offset is not 8 bytes.
     InterfaceOffsetLength,
@@ -73,23 +73,24 @@ pub enum Rule {
     NameIpv4Length,
     /// V19.15: a name server's IPv6 address is not 16 bytes.
     NameIpv6Length,
-    /// V20: a name record's value passes the body.
+    /// V20: a name record's value extends past the body.
     RecordCut,
-    /// V21: the record that ends the records has a value.
+    /// V21: the record that ends the list of name records has a value.
     EndNotEmpty,
-    /// V22: an IPv4 record is under 6 bytes.
+    /// V22: an IPv4 record is shorter than 6 bytes.
     Ipv4RecordTooShort,
-    /// V23: an IPv6 record is under 18 bytes.
+    /// V23: an IPv6 record is shorter than 18 bytes.
     Ipv6RecordTooShort,
-    /// V24: a name has no zero byte behind it.
+    /// V24: a name is not followed by a zero byte.
     NameUnended,
-    /// V25: a name record's padding passes the body.
+    /// V25: a name record's padding extends past the body.
     RecordUnpadded,
     /// V26: an unknown block's value is 2^32 bytes or more.
     UnknownTooLong,
 }
 
-// The row of each rule: its name, its number and its message. `each` is a macro that is passed all of them, behind what is given.
+// Passes the rows of all rules to the macro `each`, after the expression `given` if there is one. A row has the rule's name,
+// number and message.
 macro_rules! rows {
     ($each:ident $($given:expr)?) => {
         $each! {
@@ -177,25 +178,26 @@ macro_rules! all {
     };
 }
 
-// Every rule, by number.
+// All rules, ordered by number.
 const RULES: [Rule; 40] = rows!(all);
 
 impl Rule {
-    /// The number of this rule in the table of refusals: n for Vn, and 1900 + n for V19.n. No two rules share one.
+    /// Returns the number of this rule in the table of refusals: n for Vn, and 1900 + n for V19.n. No two rules share a
+    /// number.
     pub fn number(self) -> u32
         ensures { result ≡ number_of self }
     {
         rows!(number self)
     }
 
-    /// The name of this rule, as the variant is spelled.
+    /// Returns the name of this rule, spelled as the variant.
     pub fn name(self) -> &'static str
         ensures { result.now ≡ name_of self }
     {
         rows!(name self)
     }
 
-    /// The rule of this number. None where no rule has it.
+    /// Returns the rule with this number. Returns None if no rule has it.
     #[tactic(auto, using(crate::proofs::EachRule::one_number))]
     pub fn from_number(number: u32) -> Option<Rule>
         ensures numbered { IfSome result (λ rule. number_of rule ≡ number) }
@@ -204,7 +206,7 @@ impl Rule {
         rows!(of_number number)
     }
 
-    /// The rule of this message. None where no rule has it.
+    /// Returns the rule with this message. Returns None if no rule has it.
     pub(crate) fn from_message(message: &str) -> Option<Rule>
         ensures named { IfSome result (λ rule. rule_message rule ≡ message.now) }
         ensures found { (rule : Rule) → rule_message rule ≡ message.now → result ≡ Some rule }
@@ -217,7 +219,7 @@ impl Rule {
         None
     }
 
-    /// The message of the `InvalidField` that names this rule.
+    /// Returns the message of the `InvalidField` that names this rule.
     pub fn text(self) -> &'static str
         ensures { result.now ≡ rule_message self }
     {

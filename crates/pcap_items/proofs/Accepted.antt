@@ -1,4 +1,4 @@
--- Copies of all items that are left, in which nothing fails, and what goes out of a copy whatever fails, over any format.
+-- Copies of all items that are left, if nothing fails, and the bytes that a copy writes in any case, for any format.
 use Rattle.std.proofs.Common.{◌≡◌, ◌≤◌, ◌⊎◌, ℕ, List, [], ◌∷◌, ◌++◌, length, Bool, refl, ap, sym, ◌∙◌, subst, arith, length-append, append-nil, append_assoc, false, Some, None, inl, inr}
 use Rattle.std.specs.Prelude.{Option, IfSome}
 use Rattle.std.specs.Option.{IsSomeAnd}
@@ -17,7 +17,7 @@ use Rattle.pcap_items.proofs.Formats.{front_goes_on, texts_more, texts_push, not
 use Rattle.pcap_core.proofs.Refusals.{shown_fault}
 use Rattle.pcap_items.proofs.Taking.{ends_front, taken_known}
 
--- where all items were taken that were left, and nothing failed, there is no fault
+-- if all items that were left were taken, and nothing failed, there is no error
 pub no_fault_left : {V : Type 0} (IsSaid : List ℕ → Verdict V → Type 0) (more : List V) (failed : Bool) (count most : ℕ) (fault : Option PcapError) → failed ≡ false → IfSome fault (λ e. IsMemory e → ⊥)
     → EndsFront IsSaid [] more failed count most fault → (fault ≡ None) × ((more ≡ []) ⊎ (count ≡ most))
 no_fault_left IsSaid more failed count most None unfailed memory ends = (refl, elim ends.1 [ inl end ↦ inl end.0 | inr full ↦ inr full ])
@@ -33,7 +33,7 @@ no_fault_left IsSaid more failed count most (Some e) unfailed memory ends =
       ]
     ]
 
--- nor is what follows refused, where that is items and no more
+-- nor is what follows refused, if that is items and no more
 pub no_stop : {S V : Type 0} (f : Format S V) → IsLawful f → (failed : Bool) (fault : Option PcapError) (q : S) (more : List V) (s : List ℕ) (now : Option (List ℕ)) → failed ≡ false
     → IfSome fault (λ e. IsMemory e → ⊥) → Front f q more s [] → IsSomeAnd fault (HasCause (f.says q) (Some s) failed) → TakesAsked (f.says q) (Some s) now → ⊥
 no_stop f laws failed None q more s now read memory front cause part = cause
@@ -43,14 +43,14 @@ no_stop f laws failed (Some e) q more s now read memory front cause part =
     absurd cc
 
 module _ {S V : Type 0} (f : Format S V) (laws : IsLawful f) (written : List V → List ℕ → List ℕ) (failed_read failed_write : Bool) where
-  -- a copy of such items does not end with a fault
+  -- a copy of such items does not end with an error
   pub no_fails : (fault : Option PcapError) (q : S) (more : List V) (s : List ℕ) (now mid out : Option (List ℕ)) → failed_read ≡ false → failed_write ≡ false → IfSome fault (λ e. IsMemory e → ⊥)
       → Front f q more s [] → Fails written (f.says q) (Some s) now mid out fault failed_read failed_write → ⊥
   no_fails fault q more s now mid out read wrote memory front (inl tear) = true≢false (sym tear.write_failed ∙ wrote)
   no_fails fault q more s now mid out read wrote memory front (inr bad) = no_stop f laws failed_read fault q more s now read memory front bad.refused bad.part
 
   module _ (fault : Option PcapError) (q : S) (vs : List V) (before left now out mid out_now : Option (List ℕ)) (most n : ℕ) where
-    -- it copies them all, where these are no more than it may copy
+    -- it copies them all, if there are no more than it may copy
     pub copies_accepted : (all : List V) (s : List ℕ) → failed_read ≡ false → failed_write ≡ false → IfSome fault (λ e. IsMemory e → ⊥) → Front f q all s [] → (n ≡ most → length all ≤ length vs)
         → CopiesTexts f written q vs (Some s) left out mid → Ends written (f.says (state_after f q vs)) left now mid out_now most n fault failed_read failed_write
         → (fault ≡ None) × (all ≡ vs) × Appends out out_now (written all s)
@@ -79,7 +79,7 @@ module _ {S V : Type 0} (f : Format S V) (laws : IsLawful f) (written : List V �
         let front = written vs texts.bytes in
         (vs, left, record { bytes = texts.bytes; texts = texts.texts; took = texts.took }, front, [], sym (append-nil front), Appends-kept out mid out_now front texts.went kept)
 
-    -- whatever fails, what goes out is a beginning of what is written of items that were taken
+    -- whatever fails, the written bytes are a beginning of what is written of items that were taken
     pub copies_begin : IsWriting written → CopiesTexts f written q vs before left out mid → Ends written (f.says (state_after f q vs)) left now mid out_now most n fault failed_read failed_write
         → (ws : List V) × (end : Option (List ℕ)) × (took : TakesTexts f q ws before end) × (gone more : List ℕ) × (written ws took.bytes ≡ gone ++ more) × Appends out out_now gone
     copies_begin writing texts (inl ended) = whole_begin texts ended.0.out

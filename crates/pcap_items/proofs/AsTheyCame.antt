@@ -1,4 +1,4 @@
--- Items that go out as they came, over any format.
+-- Lemmas about items that a copy writes unchanged, for any format.
 use Rattle.std.proofs.Common.{◌≡◌, ◌≤◌, ◌+◌, ◌-◌, ℕ, List, [], ◌∷◌, ◌++◌, length, take, drop, refl, ap, sym, ◌∙◌, subst, arith, length-append, take_all, length-drop}
 use Rattle.std.specs.Prelude.{Option}
 use Rattle.std.proofs.Math.Seq.{take-add, take-append_seam}
@@ -17,7 +17,7 @@ front_is : (s t after : List ℕ) (n : ℕ) → s ≡ t ++ after → n ≡ lengt
 front_is s t after n split long = rw (long, split) (take-append_seam t after)
 
 module _ {S V : Type 0} (f : Format S V) (laws : IsLawful f) (q : S) where
-  -- the item that stands in a buffer behind so many bytes, in front of these
+  -- the item in a buffer between `used` bytes and `after`
   pub item_at : (shown after : List ℕ) (used : ℕ) (item : V) → used ≤ length shown → f.says q (take (length shown - used) (drop used shown)) (whole item after)
       → (text : List ℕ) × (take (length shown - length after - used) (drop used shown) ≡ text) × f.says q text (whole item []) × (take (length shown - length after) shown ≡ take used shown ++ text)
   item_at shown after used item within says =
@@ -29,7 +29,7 @@ module _ {S V : Type 0} (f : Format S V) (laws : IsLawful f) (q : S) where
       let both = subst (λ (n : ℕ). take n shown ≡ take used shown ++ take (length shown - length after - used) (drop used shown)) count (take-add used (length shown - length after - used) shown) in
       (own.0, is, own.2, both ∙ ap (λ (l : List ℕ). take used shown ++ l) is)
 
-  -- one item more went out
+  -- one more item was written
   pub one_sent : (front text : List ℕ) (a b c : Option (List ℕ)) (n : ℕ) (item : V) → SendsWhole f as_they_came q front a b n → f.says q text (whole item []) → f.goes q item ≡ q → Appends b c text
       → SendsWhole f as_they_came q (front ++ text) a c (n + 1)
   one_sent front text a b c n item so_far says stays out =

@@ -1,4 +1,4 @@
--- What was taken is no more than a grammar asks for.
+-- No more is taken than a grammar requests.
 use Rattle.std.proofs.Common.{◌≡◌, ◌<◌, ◌≤◌, ◌-◌, ◌+◌, ℕ, List, [], ◌++◌, length, take, drop, length-append, sym, ap, ◌∙◌, subst, arith, inl, inr}
 use Rattle.std.proofs.lemmas.Bool.{cases_lt}
 use Rattle.std.proofs.lemmas.List.{length-take-le, take-append-drop, take-append-le}
@@ -13,7 +13,7 @@ module _ {S V : Type 0} (f : Format S V) (laws : IsLawful f) (q : S) where
   pub asked_none : IsAskedFor (f.says q) []
   asked_none n less = absurd (omega (arith, less))
 
-  -- no more came than was asked for
+  -- no more bytes came than were requested
   pub asked_more : (n : ℕ) (held more : List ℕ) → f.says q held (lacks n) → length more ≤ n → IsAskedFor (f.says q) held → IsAskedFor (f.says q) (held ++ more)
   asked_more n held more ask few before k less =
       elim (cases_lt k (length held)) [
@@ -36,7 +36,7 @@ module _ {S V : Type 0} (f : Format S V) (laws : IsLawful f) (q : S) where
       let same = text_same f laws q w v (s ++ more) (rest ++ more) [] ((laws.stable q).text s more rest w x) text in
       absurd (omega (arith, some, ap length same.1, length-append rest more))
 
-  -- a text is no more than is asked for
+  -- an item is no more than is requested
   pub asked_text : (v : V) (s : List ℕ) → f.says q s (whole v []) → IsAskedFor (f.says q) s
   asked_text v s text k less =
       let parts : take k s ++ drop k s ≡ s = take-append-drop k s in

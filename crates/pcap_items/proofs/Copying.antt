@@ -1,4 +1,4 @@
--- Items that are copied, one after another, over any format.
+-- Lemmas about items that are copied one after another, for any format.
 use Rattle.std.proofs.Common.{◌≡◌, ◌<◌, ◌≤◌, ◌+◌, ℕ, List, [], ◌∷◌, ◌++◌, Bool, refl, ap, sym, ◌∙◌, subst, arith, length-append, append_assoc, ◌⊎◌, inl, inr, Err, Some, None, true, false}
 use Rattle.std.specs.Prelude.{Option, IfSome}
 use Rattle.std.specs.Io.KnownBytes.{Consumes, Appends, Keeps, IsAtEnd}
@@ -16,7 +16,7 @@ use Rattle.pcap_items.specs.Takes.{Stops, TakesItems}
 use Rattle.pcap_items.specs.Writing.{AppendsPart, WritesAll}
 use Rattle.pcap_items.proofs.Formats.{texts_more, texts_all}
 
--- a write is refused only where it failed
+-- a write returns an error only if it failed
 pub torn_write : (bytes : List ℕ) (mid out : Option (List ℕ)) (e : PcapError) → WritesAll mid out bytes (Err e) → IsIo e × AppendsPart mid out bytes
 torn_write bytes mid out (errors.IoError x) part = (tt, part)
 torn_write bytes mid out _ part = absurd part
@@ -26,13 +26,13 @@ pub shows_nothing : (a : Option (List ℕ)) (n : ℕ) → n ≡ 0 → IfSome a (
 shows_nothing None n none end = tt
 shows_nothing (Some xs) n none end = end none
 
--- what went out in two parts
+-- bytes that were written in two parts
 pub appends_apart : (a c : Option (List ℕ)) (first second : List ℕ) → Appends a c (first ++ second) → (b : Option (List ℕ)) × Appends a b first × Appends b c second
 appends_apart None c first second out = (None, tt, tt)
 appends_apart (Some x) None first second out = absurd out
 appends_apart (Some x) (Some z) first second out = (Some (x ++ first), refl, out ∙ sym (append_assoc x first second))
 
--- what came in two parts
+-- bytes that came in two parts
 pub consumes_apart : (a c : Option (List ℕ)) (first second : List ℕ) → Consumes a c (first ++ second) → (b : Option (List ℕ)) × Consumes a b first × Consumes b c second
 consumes_apart None c first second took = (None, tt, tt)
 consumes_apart (Some x) None first second took = absurd took
@@ -45,7 +45,7 @@ state_all f q (v ∷ vs) ws = state_all f (f.goes q v) vs ws
 pub each_writing : {V : Type 0} (text : V → List ℕ) → IsWriting (each_written text)
 each_writing text = record { nothing = refl; joined = λ vs ws s t. flat_map-append text vs ws }
 
--- why a copy ended in which no write failed
+-- the end of a copy in which no write failed
 pub ends_stops : {V : Type 0} (written : List V → List ℕ → List ℕ) (IsSaid : List ℕ → Verdict V → Type 0) (left now mid out : Option (List ℕ)) (most n : ℕ) (fault : Option PcapError)
     (read_failed write_failed : Bool) → write_failed ≡ false → Ends written IsSaid left now mid out most n fault read_failed write_failed
     → Stops IsSaid left now read_failed n most fault × Keeps mid out
@@ -62,18 +62,18 @@ module _ {S V : Type 0} (f : Format S V) (written : List V → List ℕ → List
   pub to_none : (q : S) (before out : Option (List ℕ)) (n m : ℕ) → m ≡ n → CopiesTo f written q q before before out out n m
   to_none q before out n m same = record { items = []; leads = refl; texts = copies_none q before out; count = omega (arith, same) }
 
-  -- one item more was copied
+  -- one more item was copied
   pub step_one : (q next : S) (item : V) (text : List ℕ) (a b p r : Option (List ℕ)) (n m : ℕ) → f.goes q item ≡ next → f.says q text (whole item []) → Consumes a b text → Appends p r (written (item ∷ []) text) → m ≡ n + 1
       → CopiesTo f written q next a b p r n m
   step_one q next item text a b p r n m leads says took went same =
       record { items = item ∷ []; leads = leads; texts = record { bytes = text; texts = ([], says, refl); took = took; went = went }; count = omega (arith, same) }
 
-  -- a fault where nothing was copied
+  -- an error before anything was copied
   pub step_fails : (q : S) (before now out out_now : Option (List ℕ)) (n m : ℕ) (e : PcapError) (read_failed write_failed : Bool) → m ≡ n
       → Fails written (f.says q) before now out out_now (Some e) read_failed write_failed → FailsBehind f written q before now out out_now n (n + 1) m (Some e) read_failed write_failed
   step_fails q before now out out_now n m e read_failed write_failed same why = record { left = before; mid = out; so_far = to_none q before out n m same; few = omega (arith, same); why = why }
 
-  -- what went out whole was taken and copied
+  -- the whole items that were written were taken and copied
   pub whole_taken : (q : S) (bytes : List ℕ) (before now out out_now : Option (List ℕ)) (n k : ℕ) → Consumes before now bytes → SendsWhole f written q bytes out out_now k
       → CopiesTo f written q q before now out out_now n (n + k)
   whole_taken q bytes before now out out_now n k took sent = record {
@@ -83,7 +83,7 @@ module _ {S V : Type 0} (f : Format S V) (written : List V → List ℕ → List
     count = omega (arith, sent.count);
   }
 
-  -- and behind it an item that was torn
+  -- and after them an item that was torn
   pub torn_taken : (q : S) (bytes : List ℕ) (before now out out_now : Option (List ℕ)) (n k most : ℕ) (e : PcapError) (read_failed write_failed : Bool) → Consumes before now bytes → SendsTorn f written q bytes out out_now k
       → n + k < most → IsIo e → read_failed ≡ false → write_failed ≡ true → FailsBehind f written q before now out out_now n most (n + k) (Some e) read_failed write_failed
   torn_taken q bytes before now out out_now n k most e read_failed write_failed took sent few io read wrote =
@@ -97,7 +97,7 @@ module _ {S V : Type 0} (f : Format S V) (written : List V → List ℕ → List
       }
 
   module _ (laws : IsLawful f) where
-    -- items behind items
+    -- items after items
     pub copies_all : (q : S) (vs ws : List V) (a b c p r s : Option (List ℕ)) → CopiesTexts f written q vs a b p r → CopiesTexts f written (state_after f q vs) ws b c r s
         → CopiesTexts f written q (vs ++ ws) a c p s
     copies_all q vs ws a b c p r s so_far more = record {
@@ -117,7 +117,7 @@ module _ {S V : Type 0} (f : Format S V) (written : List V → List ℕ → List
           count = omega (arith, more.count, so_far.count, length-append so_far.items more.items);
         }
 
-    -- a fault behind items
+    -- an error after items
     pub to_fails : (q p : S) (a b now s r out : Option (List ℕ)) (n most few : ℕ) (tally : Tally) (e : PcapError) → CopiesTo f written q p a b s r 0 n
         → FailsBehind f written p b now r out n few tally.items (Some e) tally.read_failed tally.write_failed → few ≤ most
         → CopiesBehind f written q a now s out most tally.items (Some e) tally.read_failed tally.write_failed
@@ -136,7 +136,7 @@ module _ {S V : Type 0} (f : Format S V) (written : List V → List ℕ → List
           );
         }
 
-  -- the end behind items
+  -- the end after items
   pub to_ends : (q p : S) (a b now s r out : Option (List ℕ)) (n most : ℕ) (tally : Tally) → CopiesTo f written q p a b s r 0 n → tally.items ≡ n → n ≤ most
       → EndsWhole b now r out None tally.read_failed tally.write_failed → IsAtEnd b ⊎ (tally.items ≡ most)
       → CopiesBehind f written q a now s out most tally.items None tally.read_failed tally.write_failed
@@ -150,7 +150,7 @@ module _ {S V : Type 0} (f : Format S V) (written : List V → List ℕ → List
     ends = inl (ends, why);
   }
 
-  -- what a copy took in which no write failed, and what went out
+  -- the items that a copy took in which no write failed, and the bytes that it wrote
   pub copies_take : (q : S) (before now out out_now : Option (List ℕ)) (most n : ℕ) (fault : Option PcapError) (read_failed write_failed : Bool) → write_failed ≡ false
       → (c : CopiesBehind f written q before now out out_now most n fault read_failed write_failed)
       → TakesItems f q before now read_failed most c.items fault × Appends out out_now (written c.items c.texts.bytes)

@@ -1,4 +1,4 @@
--- What filling with a head and what it states gives, of any lawful format.
+-- The results of filling with a head and the bytes that it states, for any lawful format.
 use Rattle.std.proofs.Common.{◌≡◌, ◌<◌, ℕ, List, [], ◌++◌, length, Bool, true, false, refl, sym, ap, subst, ◌∙◌, arith, append-nil, length-append, inl, inr, Some, None, Ok}
 use Rattle.std.specs.Prelude.{Option}
 use Rattle.std.proofs.lemmas.Bool.{cases_lt}
@@ -17,7 +17,7 @@ use Rattle.pcap_items.proofs.Pulling.{unmet_cause, asked_cause}
 use Rattle.pcap_items.proofs.StreamBytes.{held_more}
 use Rattle.pcap_items.specs.Filling.{IsSettled, IsAskedFor, StatesRest, Stated, TakesStated}
 
--- what is held where nothing was held before
+-- the held bytes, if nothing was held before
 pub record Begins {S V : Type 0} (f : Format S V) (laws : IsLawful f) (q : S) (before now : Option (List ℕ)) (held : List ℕ) : Type 0 where
   pub came : Consumes before now held
   pub asked : IsAskedFor (f.says q) held
@@ -37,7 +37,7 @@ module _ {S V : Type 0} (f : Format S V) (laws : IsLawful f) (q : S) where
     asked = rw adds.added (asked_more f laws q n held adds.taken ask (omega (arith, adds.count)) b.asked);
   }
 
-  -- a request was not met, and what came is held
+  -- a request was not met, and the bytes that came are held
   pub unmet_held : (held new : List ℕ) (before mid after : Option (List ℕ)) (n : ℕ) → Begins f laws q before mid held → AddsFewer n held new mid after → Consumes before after new
   unmet_held held new before mid after n b part = held_more held new before mid after part.0 b.came part.2
 
@@ -55,7 +55,7 @@ module _ {S V : Type 0} (f : Format S V) (laws : IsLawful f) (q : S) where
         },
       )
 
-  -- what is held is refused
+  -- the held bytes are refused
   pub held_refused : (e : PcapError) (held : List ℕ) (before now : Option (List ℕ)) (failed : Bool) → Begins f laws q before now held → failed ≡ false
       → Shows (λ fault. f.says q held (faulty fault)) e → HasCause (f.says q) before failed e × TakesAsked (f.says q) before now
   held_refused e held before now failed b unfailed shown = (
@@ -69,13 +69,13 @@ module _ {S V : Type 0} (f : Format S V) (laws : IsLawful f) (q : S) where
   settled_by n held more long ask count (lacks m) x = absurd (laws.last q held more n m (omega (arith, long)) ask count x)
   settled_by n held more long ask count (faulty fault) x = inr (fault, x)
 
-  -- what is asked for behind a head is all that lacks
+  -- the request after a head is for all bytes that are missing
   pub settled : (n : ℕ) (held new : List ℕ) (before after : Option (List ℕ)) → length held ≡ f.head q → f.says q held (lacks n) → Adds held new before after n → IsSettled (f.says q new)
   settled n held new before after long ask adds =
       let one = laws.one q (held ++ adds.taken) in
       rw adds.added (settled_by n held adds.taken (sym long) ask adds.count one.value one.holds)
 
--- something is held, so the stream ended inside a text
+-- some bytes are held, so the stream ended inside an item
 ends_inside : (n : ℕ) (held : List ℕ) (known : Option (List ℕ)) → 0 < length held → EndsBefore n known → EndsInside n held known
 ends_inside n held None some ends = tt
 ends_inside n held (Some rest) some ends = (ends, omega (arith, some))
@@ -83,7 +83,7 @@ ends_inside n held (Some rest) some ends = (ends, omega (arith, some))
 cause_behind : (n : ℕ) (held : List ℕ) (known : Option (List ℕ)) (old new : Bool) (e : PcapError) → 0 < length held → HasCauseToTake n known old new e → HasCauseToFill n held known old new e
 cause_behind n held known old new e some cause = elim cause [ inl told ↦ inl told | inr ended ↦ inr (ended.0, ended.1, ends_inside n held known some ended.2) ]
 
--- something is held, so what was asked for was added
+-- some bytes are held, so the requested ones were added
 pub adds_behind : (n : ℕ) (held new : List ℕ) (before after : Option (List ℕ)) (some : Bool) → 0 < length held → FillGives n held new before after some → Adds held new before after n
 adds_behind n held new before after true long gives = gives
 adds_behind n held new before after false long gives = absurd (omega (arith, long, ap length gives.0))
@@ -101,7 +101,7 @@ stated_more Knows head n known held new before after long knows adds =
     record { front = held; body = adds.taken; split = adds.added; length_is = long; knows = subst (λ (k : ℕ). Knows known k held) (sym adds.count) knows }
 
 module _ {S V : Type 0} (f : Format S V) (laws : IsLawful f) (q : S) where
-  -- a request behind what is held was not met
+  -- a request after the held bytes was not met
   pub unmet_behind : (e : PcapError) (held : List ℕ) (before mid after : Option (List ℕ)) (old failed : Bool) (n : ℕ) → Begins f laws q before mid held → 0 < length held
       → f.says q held (lacks n) → old ≡ false → TakesFewer n mid after → HasCauseToTake n mid old failed e → HasCause (f.says q) before failed e × TakesAsked (f.says q) before after
   unmet_behind e held before mid after old failed n b some ask unfailed part cause =

@@ -1,4 +1,4 @@
--- What follows from the laws of a format.
+-- Consequences of the laws of a format.
 use Rattle.std.proofs.Common.{◌≡◌, ℕ, zero, suc, ◌+◌, ◌-◌, ◌<◌, ◌≤◌, List, [], ◌∷◌, ◌++◌, length, refl, sym, ap, subst, ◌∙◌, arith, append_assoc, append-nil, length-append, inl, inr}
 use Rattle.std.proofs.Common.{take, drop}
 use Rattle.std.proofs.lemmas.List.{length-take, take-append-drop}
@@ -18,7 +18,7 @@ nil_of_length (x ∷ xs) e = absurd (omega (arith, e))
 pub cons_same : {A : Type 0} (x y : A) (xs ys : List A) → x ≡ y → xs ≡ ys → x ∷ xs ≡ y ∷ ys
 cons_same x y xs ys a b = rw (a, b) refl
 
--- of two beginnings of one list the shorter begins the longer
+-- the shorter of two beginnings of a list is a beginning of the longer
 pub beginning : (a x b y : List ℕ) → a ++ x ≡ b ++ y → length a ≤ length b → (w : List ℕ) × (b ≡ a ++ w) × (x ≡ w ++ y)
 beginning [] x b y e le = (b, refl, e)
 beginning (c ∷ a) x [] y e le = absurd (omega (arith, le))
@@ -39,7 +39,7 @@ module _ {S V : Type 0} (f : Format S V) (laws : IsLawful f) where
   pub only : (q : S) (s : List ℕ) (v w : Verdict V) → f.says q s v → f.says q s w → v ≡ w
   only q s v w a b = let o = laws.one q s in o.only v a ∙ sym (o.only w b)
 
-  -- an item's text and what follows it
+  -- an item and what follows it are unique
   pub text_same : (q : S) (v w : V) (s a b : List ℕ) → f.says q s (whole v a) → f.says q s (whole w b) → (v ≡ w) × (a ≡ b)
   text_same q v w s a b x y = whole_same v w a b (only q s (whole v a) (whole w b) x y)
 
@@ -52,12 +52,12 @@ module _ {S V : Type 0} (f : Format S V) (laws : IsLawful f) where
   pub nothing_lacks : (q : S) → f.says q [] (lacks (f.head q))
   nothing_lacks q = let e : 0 + f.head q ≡ f.head q = omega arith in laws.short q [] (f.head q) e (laws.some q)
 
-  -- a fault has bytes
+  -- a fault has at least one byte
   pub fault_some : (q : S) (s : List ℕ) (fault : Fault) → f.says q s (faulty fault) → 0 < length s
   fault_some q [] fault x = let e : lacks (f.head q) ≡ faulty fault = only q [] (lacks (f.head q)) (faulty fault) (nothing_lacks q) x in absurd cc
   fault_some q (b ∷ s) fault x = omega arith
 
-  -- a text is not empty
+  -- an item is not empty
   pub nothing_no_text : (q : S) (v : V) (rest : List ℕ) → f.says q [] (whole v rest) → ⊥
   nothing_no_text q v rest x = lacks_no_text q (f.head q) [] (nothing_lacks q) v rest x
 
@@ -70,7 +70,7 @@ module _ {S V : Type 0} (f : Format S V) (laws : IsLawful f) where
       ] in
       omega (arith, some, ap length o.1, length-append o.0 rest)
 
-  -- what is asked for lies within the text that comes
+  -- a request is for bytes of the item that comes
   pub fits : (q : S) (n : ℕ) (s more : List ℕ) (v : V) (rest : List ℕ) → f.says q s (lacks n) → f.says q (s ++ more) (whole v rest) → n + length rest ≤ length more
   fits q n s more v rest ask text =
       let o = laws.own q (s ++ more) rest v text in
@@ -91,11 +91,11 @@ module _ {S V : Type 0} (f : Format S V) (laws : IsLawful f) where
         ]
       ]
 
-  -- who adds exactly what is asked for has exactly the text
+  -- after exactly the requested bytes, nothing follows the item
   pub exact : (q : S) (n : ℕ) (s more : List ℕ) → f.says q s (lacks n) → length more ≡ n → (v : V) (rest : List ℕ) → f.says q (s ++ more) (whole v rest) → rest ≡ []
   exact q n s more ask count v rest text = nil_of_length rest (omega (arith, count, fits q n s more v rest ask text))
 
-  -- bytes have one front at most
+  -- bytes have at most one front
   pub front_same : (q : S) (vs ws : List V) (s a b : List ℕ) → Front f q vs s a → Front f q ws s b → (vs ≡ ws) × (a ≡ b)
   front_same q [] [] s a b x y = (refl, sym x.texts ∙ y.texts)
   front_same q [] (w ∷ ws) s a b x y = absurd (x.longest w y.texts.0 (subst (λ (t : List ℕ). f.says q t (whole w y.texts.0)) x.texts y.texts.1))
@@ -125,12 +125,12 @@ module _ {S V : Type 0} (f : Format S V) (laws : IsLawful f) where
   front_within (suc fuel) q s le =
       front_here q s (λ v after x. front_within fuel (f.goes q v) after (omega (arith, le, shorter q v s after x))) ((laws.one q s).value) ((laws.one q s).holds)
 
-  -- all bytes have a front
+  -- any bytes have a front
   pub has_front : (q : S) (s : List ℕ) → (vs : List V) × (rest : List ℕ) × Front f q vs s rest
   unfolding HasFront
   has_front q s = front_within (length s) q s (omega arith)
 
-  -- all bytes have one front and no other
+  -- any bytes have exactly one front
   pub front_one : (q : S) (s : List ℕ) → ExactlyOne (λ (p : List V × List ℕ). Front f q p.0 s p.1)
   front_one q s =
       let there = has_front q s in
@@ -140,7 +140,7 @@ module _ {S V : Type 0} (f : Format S V) (laws : IsLawful f) where
         only = λ other x. pair_same other.0 there.0 other.1 there.1 (front_same q other.0 there.0 s other.1 there.1 x there.2);
       }
 
-  -- items whose texts begin the bytes are a beginning of the front's
+  -- items that begin the bytes are a beginning of those of the front
   pub front_goes_on : (q : S) (vs ws : List V) (s mid rest : List ℕ) → Texts f q vs s mid → Front f q ws s rest
       → (more : List V) × (ws ≡ vs ++ more) × Front f (state_after f q vs) more mid rest
   front_goes_on q [] ws s mid rest texts front = (ws, refl, subst (λ (t : List ℕ). Front f q ws t rest) texts front)
@@ -160,7 +160,7 @@ module _ {S V : Type 0} (f : Format S V) (laws : IsLawful f) where
   texts_more q (v ∷ vs) s rest more texts =
       (texts.0 ++ more, (laws.stable q).text s more texts.0 v texts.1, texts_more (f.goes q v) vs texts.0 rest more texts.2)
 
-  -- the items' texts alone
+  -- the items' bytes alone
   pub texts_own : (q : S) (vs : List V) (s rest : List ℕ) → Texts f q vs s rest → (t : List ℕ) × (s ≡ t ++ rest) × Texts f q vs t []
   texts_own q [] s rest texts = ([], texts, refl)
   texts_own q (v ∷ vs) s rest texts =
@@ -171,12 +171,12 @@ module _ {S V : Type 0} (f : Format S V) (laws : IsLawful f) where
         (more.0, (laws.stable q).text one.0 more.0 [] v one.2, more.2),
       )
 
-  -- where no text begins what is left behind some items, they are all
+  -- if no item begins what is left after some items, they are all of the front
   pub nothing_more : (q : S) (more : List V) (mid rest : List ℕ) → Front f q more mid rest → ((v : V) (after : List ℕ) → f.says q mid (whole v after) → ⊥) → (more ≡ []) × (rest ≡ mid)
   nothing_more q [] mid rest front none = (refl, sym front.texts)
   nothing_more q (v ∷ more) mid rest front none = absurd (none v front.texts.0 front.texts.1)
 
-  -- how many requests are left, from what is said of what is held
+  -- the number of requests that are left, by the verdict on the held bytes
   pub requests_of : S → List ℕ → Verdict V → ℕ
   requests_of q s (whole v rest) = 0
   requests_of q s (faulty fault) = 0
@@ -189,7 +189,7 @@ module _ {S V : Type 0} (f : Format S V) (laws : IsLawful f) where
   unfolding requests_left
   said_requests q s v x = ap (requests_of q s) (sym ((laws.one q s).only v x))
 
-  -- a short head lacks what is missing to a head
+  -- bytes shorter than a head lack the rest of the head
   pub short_asks : (q : S) (s : List ℕ) (n : ℕ) → length s < f.head q → f.says q s (lacks n) → length s + n ≡ f.head q
   short_asks q s n lt ask =
       let m = f.head q - length s in
@@ -210,7 +210,7 @@ module _ {S V : Type 0} (f : Format S V) (laws : IsLawful f) where
         | inr le ↦ absurd (laws.last q s more n m le ask count x)
       ]
 
-  -- each request that is met leaves fewer: two at most
+  -- each request that is met leaves fewer, and there are at most two
   pub requests_fall : (q : S) (s : List ℕ) (n : ℕ) (more : List ℕ) → f.says q s (lacks n) → length more ≡ n → requests_left q (s ++ more) < requests_left q s
   requests_fall q s n more ask count =
       let o = laws.one q (s ++ more) in
@@ -229,18 +229,18 @@ module _ {S V : Type 0} (f : Format S V) (laws : IsLawful f) where
   asks_within q (n ∷ ns) s t asked =
       omega (arith, requests_fall q s n asked.0 asked.1 asked.2, asks_within q ns (s ++ asked.0) t asked.3)
 
-  -- who adds exactly what is asked for is asked twice at most
+  -- if exactly the requested bytes are added, there are at most two requests
   pub asks_twice : (q : S) (ns : List ℕ) (s t : List ℕ) → Asks f q ns s t → length ns ≤ 2
   unfolding requests_left
   asks_twice q ns s t asked = omega (arith, asks_within q ns s t asked, requests_few q s ((laws.one q s).value))
 
-  -- and has nothing behind the text, where something was asked
+  -- and nothing follows the item, if there was a request
   pub asks_exact : (q : S) (n : ℕ) (ns : List ℕ) (s t : List ℕ) → Asks f q (n ∷ ns) s t → (v : V) (rest : List ℕ) → f.says q t (whole v rest) → rest ≡ []
   asks_exact q n [] s t asked v rest text =
       exact q n s asked.0 asked.1 asked.2 v rest (subst (λ (u : List ℕ). f.says q u (whole v rest)) (sym asked.3) text)
   asks_exact q n (m ∷ ns) s t asked v rest text = asks_exact q m ns (s ++ asked.0) t asked.3 v rest text
 
-  -- each beginning of a text that is not all of it asks, for bytes of the text
+  -- each shorter beginning of an item requests bytes of the item
   pub beginning_asks : (q : S) (s more : List ℕ) (v : V) (rest : List ℕ) → f.says q (s ++ more) (whole v rest) → length rest < length more
       → (n : ℕ) × f.says q s (lacks n) × (n + length rest ≤ length more)
   beginning_asks q s more v rest text lt = said ((laws.one q s).value) ((laws.one q s).holds)
@@ -252,7 +252,7 @@ module _ {S V : Type 0} (f : Format S V) (laws : IsLawful f) where
           let same = text_same q w v (s ++ more) (after ++ more) rest ((laws.stable q).text s more after w x) text in
           absurd (omega (arith, lt, ap length same.1, length-append after more))
 
-  -- behind a head the request is for all the rest of the text
+  -- the request after a head is for all other bytes of the item
   pub second_is_all : (q : S) (v : V) (h b : List ℕ) (k : ℕ) → f.head q ≤ length h → f.says q (h ++ b) (whole v []) → f.says q h (lacks k) → k ≡ length b
   second_is_all q v h b k long text ask =
       let fit : k + length {A = ℕ} [] ≤ length b = fits q k h b v [] ask text in
@@ -269,7 +269,7 @@ module _ {S V : Type 0} (f : Format S V) (laws : IsLawful f) where
             absurd (laws.last q h m k again.0 long ask count again.1)
       ]
 
-  -- and these requests come
+  -- these requests are made
   pub requests_there : (q : S) (v : V) (t : List ℕ) → f.says q t (whole v []) → (ns : List ℕ) × Asks f q ns [] t
   requests_there q v t text =
       let long : f.head q + length {A = ℕ} [] ≤ length t = fits q (f.head q) [] t v [] (nothing_lacks q) text in
@@ -290,12 +290,12 @@ module _ {S V : Type 0} (f : Format S V) (laws : IsLawful f) where
 
 -- ---- what needs no law
 
--- one item more
+-- one more item
 pub texts_push : {S V : Type 0} (f : Format S V) (q : S) (vs : List V) (v : V) (s mid rest : List ℕ) → Texts f q vs s mid → f.says (state_after f q vs) mid (whole v rest) → Texts f q (vs ++ v ∷ []) s rest
 texts_push f q [] v s mid rest texts text = (rest, subst (λ (t : List ℕ). f.says q t (whole v rest)) (sym texts) text, refl)
 texts_push f q (x ∷ vs) v s mid rest texts text = (texts.0, texts.1, texts_push f (f.goes q x) vs v texts.0 mid rest texts.2 text)
 
--- items behind items
+-- items after items
 pub texts_all : {S V : Type 0} (f : Format S V) (q : S) (vs ws : List V) (s mid rest : List ℕ) → Texts f q vs s mid → Texts f (state_after f q vs) ws mid rest → Texts f q (vs ++ ws) s rest
 texts_all f q [] ws s mid rest texts more = subst (λ (t : List ℕ). Texts f q ws t rest) (sym texts) more
 texts_all f q (v ∷ vs) ws s mid rest texts more = (texts.0, texts.1, texts_all f (f.goes q v) vs ws texts.0 mid rest texts.2 more)
@@ -304,20 +304,20 @@ pub state_push : {S V : Type 0} (f : Format S V) (q : S) (vs : List V) (v : V) �
 state_push f q [] v = refl
 state_push f q (x ∷ vs) v = state_push f (f.goes q x) vs v
 
--- what more texts say, a longer format says too
+-- the items of a format are items of a format that extends it
 pub texts_extend : {S V : Type 0} (f g : Format S V) → Extends f g → (q : S) (vs : List V) (s rest : List ℕ) → Texts f q vs s rest → Texts g q vs s rest
 texts_extend f g e q [] s rest texts = texts
 texts_extend f g e q (v ∷ vs) s rest texts =
     let deeper = texts_extend f g e (f.goes q v) vs texts.0 rest texts.2 in
     (texts.0, e.texts q s texts.0 v texts.1, subst (λ (p : _). Texts g p vs texts.0 rest) (e.goes q v) deeper)
 
--- the front of the shorter format is a beginning of that of the longer
+-- the front by a format is a beginning of the front by a format that extends it
 pub front_extends : {S V : Type 0} (f g : Format S V) → IsLawful g → Extends f g → (q : S) (vs ws : List V) (s a b : List ℕ) → Front f q vs s a → Front g q ws s b → (more : List V) × (ws ≡ vs ++ more)
 front_extends f g laws e q vs ws s a b x y =
     let on = front_goes_on g laws q vs ws s a b (texts_extend f g e q vs s a x.texts) y in
     (on.0, on.1)
 
--- a format that says the same with heads of the same lengths is lawful too
+-- a format with the same verdicts and heads of the same lengths is lawful too
 pub lawful_moved : {S V : Type 0} (f g : Format S V) → ((q : S) → f.head q ≡ g.head q) → ((q : S) (s : List ℕ) (v : Verdict V) → f.says q s v → g.says q s v)
     → ((q : S) (s : List ℕ) (v : Verdict V) → g.says q s v → f.says q s v) → IsLawful f → IsLawful g
 lawful_moved f g head to from laws = record {

@@ -1,4 +1,4 @@
--- Where a run over a slice stops.
+-- The place where a run over a slice stops.
 use Rattle.std.proofs.Common.{◌≡◌, ◌<◌, ◌∙◌, sym, length, ℕ, List}
 use Rattle.pcap_core.specs.Faults.{Invalid, Io, Utf8}
 use Rattle.pcap_core.specs.declared.errors.PcapError.{PcapError}
@@ -9,7 +9,7 @@ use Rattle.pcap_core.specs.Laws.{ExactlyOne}
 use Rattle.pcap_items.specs.Run.{IsRest, rest_after}
 use Rattle.pcap_items.proofs.Formats.{lacks_no_text, fault_no_text}
 
--- where an item is refused, that is what is said of the rest, and no item begins it
+-- where an item is refused, the refusal is that of the rest, and no item begins the rest
 pub record StopsAt {S V : Type 0} (f : Format S V) (q : S) (left : List ℕ) (e : PcapError) : Type 0 where
   pub rest : IsRest (f.says q) left (rest_after e)
   pub longest : (v : V) (after : List ℕ) → f.says q left (whole v after) → ⊥
@@ -24,7 +24,7 @@ stops f laws q left (errors.FromUtf8Error e) some h = absurd h
 stops f laws q left (errors.OutOfMemory e) some h = absurd h
 stops f laws q left errors.WriterFailed some h = absurd h
 
--- bytes of which a text is said are not refused
+-- bytes that begin with an item are not refused
 pub said_not_refused : {V : Type 0} (IsSaid : Verdict V → Type 0) → ExactlyOne IsSaid → (v : V) (rest : List ℕ) → IsSaid (whole v rest)
     → (e : PcapError) → Refuses ⊥ (λ n. IsSaid (lacks n)) (λ fault. IsSaid (faulty fault)) e → ⊥
 said_not_refused IsSaid one v rest text (errors.IncompleteBuffer n) h = let no : lacks n ≡ whole v rest = one.only (lacks n) h ∙ sym (one.only (whole v rest) text) in absurd cc

@@ -18,7 +18,7 @@ piece_length n P s rest p = omega (arith, ap length p.text, length-append p.byte
 pub piece_more : (n : ℕ) (P : List ℕ → Type 0) (s rest more : List ℕ) → Piece n P s rest → Piece n P (s ++ more) (rest ++ more)
 piece_more n P s rest more p = record { bytes = p.bytes; text = ap (λ (t : List ℕ). t ++ more) p.text ∙ append_assoc p.bytes rest more; length_is = p.length_is; holds = p.holds }
 
--- two pieces of one length at one place are the same bytes, of which one thing is said
+-- two pieces with the same length and place are the same bytes, which have one reading
 pub piece_same : {X : Type 0} (n : ℕ) (P : List ℕ → X → Type 0) → ((b : List ℕ) → length b ≡ n → ExactlyOne (P b)) → (x y : X) (s a c : List ℕ) → Piece n (λ b. P b x) s a → Piece n (λ b. P b y) s c → (x ≡ y) × (a ≡ c)
 piece_same {X} n P one x y s a c p r =
     let e = split_same p.bytes a r.bytes c (p.length_is ∙ sym r.length_is) (sym p.text ∙ r.text) in
@@ -42,7 +42,7 @@ module _ {S X V : Type 0} (g : Headed S X V) (laws : IsHeaded g) (q : S) where
   body_length : (x : X) (m : HeadReading V) (s a : List ℕ) → HasBody g q x m s a → length s ≡ g.size x + length a
   body_length x m s a p = piece_length (g.size x) (λ b. g.means q x b m) s a p
 
-  -- ---- behind a good head
+  -- ---- after a good head
   behind_only : (x : X) (s : List ℕ) (v w : Verdict V) → BehindSays g q x s v → BehindSays g q x s w → v ≡ w
   behind_only x s (whole v a) (whole w c) p r = let e = body_same x (good v) (good w) s a c p r in let is : v ≡ w = good_same v w e.0 in rw (is, e.1) refl
   behind_only x s (whole v a) (lacks m) p r = absurd (omega (arith, r.0, r.1, body_length x (good v) s a p))

@@ -1,4 +1,4 @@
--- Items that a parser lends, over any format.
+-- Lemmas about items that a parser lends, for any format.
 use Rattle.std.proofs.Common.{◌≡◌, ◌<◌, ◌⊎◌, ℕ, List, [], ◌∷◌, ◌++◌, length, refl, sym, ap, subst, ◌∙◌, arith, length-append, inl, inr, Result, Ok, Err}
 use Rattle.std.specs.Borrow.{Bor}
 use Rattle.std.specs.Prelude.{OnErr}
@@ -27,7 +27,7 @@ shows_said IsSaid _ shown = absurd shown
 pub said_shows : {V : Type 0} (IsSaid : Verdict V → Type 0) (e : PcapError) → ShowsSaid ShowsFault IsSaid e → Shows (λ fault. IsSaid (faulty fault)) e
 said_shows IsSaid e said = shows_more {P = λ fault. fault ≡ said.0} {Q = λ fault. IsSaid (faulty fault)} (λ fault same. rw same said.2) e said.1
 
--- what follows the items of a run is its rest
+-- the end of a run is its rest
 pub ended_rest : {V : Type 0} (IsSaid : List ℕ → Verdict V → Type 0) (left : List ℕ) (ended : Ended PcapError) → EndsWith ShowsFault IsSaid left ended → IsRest IsSaid left (rest_of ended)
 ended_rest IsSaid left Clean ends = ends
 ended_rest IsSaid left (Needs n) ends = ends
@@ -35,13 +35,13 @@ ended_rest IsSaid left (Refused e) ends = said_shows (IsSaid left) e ends
 
 -- ---- items that are lent
 
--- what holds, holds where there is an error
+-- what holds in any case holds if there is an error
 pub on_err : {X E : Type 0} {P : Type 0} → P → (r : Result X E) → OnErr r P
 on_err p (Ok x) = tt
 on_err p (Err e) = p
 
 module _ {S V W : Type 0} (f : Format S V) (part : V → W) where
-  -- what a parser tells, as what is found
+  -- the result of a parser, as what it found
   pub tells_item : {X : Type 0} (view : X → W) (see : X → V) → ((x : X) → view x ≡ part (see x)) → (q next : S) → ((x : X) → next ≡ f.goes q (see x)) → (Grows : S → List ℕ → Type 0) (s : List ℕ)
       → (answer : Result (Bor (List ℕ) × X) PcapError) → OnErr answer (next ≡ q) → TellsWhere (Grows q s) (f.says q s) see answer → FindsItem f part view ShowsFault Grows q next s (found_of answer)
   tells_item view see seen q next goes Grows s (Ok x) stays tells = record { value = see x.1; text = tells; goes = goes x.1; part_is = seen x.1 }
@@ -74,19 +74,19 @@ module _ {S V W : Type 0} (f : Format S V) (part : V → W) where
       let all = leads_more q here next ws w s left after r x in
       record { values = r.values ++ x.value ∷ []; left = after; texts = all.texts; why = inl (omega (arith, length-append r.values (x.value ∷ []))) }
 
-  -- and the parser behind items
+  -- and the parser grows after items
   pub grows_parser : (Grows : S → List ℕ → Type 0) (q here : S) (ws : List W) (s left t more : List ℕ) → LeadsTo f part q here ws s left → left ≡ t ++ more → Grows here t
       → GrowsIn f Grows q s
   grows_parser Grows q here ws s left t more r front grows = record { values = r.values; left = left; texts = r.texts; why = inr (t, more, front, subst (λ (p : S). Grows p t) (sym r.state_is) grows) }
 
--- no item begins what is left behind a run
+-- no item begins what is left after a run
 pub ended_no_text : {E S V : Type 0} (f : Format S V) → IsLawful f → (ShowsIt : E → Fault → Type 0) (q : S) (left : List ℕ) (ended : Ended E) → EndsWith ShowsIt (f.says q) left ended
     → (v : V) (after : List ℕ) → f.says q left (whole v after) → ⊥
 ended_no_text f laws ShowsIt q left Clean ends v after text = nothing_no_text f laws q v after (subst (λ (t : List ℕ). f.says q t (whole v after)) ends text)
 ended_no_text f laws ShowsIt q left (Needs n) ends v after text = lacks_no_text f laws q n left ends.0 v after text
 ended_no_text f laws ShowsIt q left (Refused e) ends v after text = fault_no_text f laws q ends.0 left ends.2 v after text
 
--- so the items are the front
+-- so the items are those of the front
 pub leads_front : {E S V W : Type 0} (f : Format S V) → IsLawful f → (part : V → W) (ShowsIt : E → Fault → Type 0) (q next : S) (ws : List W) (s left : List ℕ) (ended : Ended E)
     → (r : LeadsTo f part q next ws s left) → EndsWith ShowsIt (f.says next) left ended → Front f q r.values s left
 leads_front {S = S} {V = V} f laws part ShowsIt q next ws s left ended r ends = record {
@@ -94,7 +94,7 @@ leads_front {S = S} {V = V} f laws part ShowsIt q next ws s left ended r ends = 
   longest = subst (λ (p : S). (v : V) (after : List ℕ) → f.says p left (whole v after) → ⊥) (sym r.state_is) (ended_no_text f laws ShowsIt next left ended ends);
 }
 
--- where a list grew, the front has an item
+-- if a list grew, the front has an item
 pub grows_some : {S V : Type 0} (f : Format S V) → IsLawful f → (q : S) (s : List ℕ) → GrowsIn f (λ p t. ⊥) q s → (first : V) × (others : List V) × (rest : List ℕ) × Front f q (first ∷ others) s rest
 grows_some {V = V} f laws q s grows =
     let front = has_front f laws q s in

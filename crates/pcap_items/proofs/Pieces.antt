@@ -1,4 +1,4 @@
--- Bytes that come in pieces, over any format.
+-- Lemmas about bytes that arrive in pieces, for any format.
 use Rattle.std.proofs.Common.{◌≡◌, ◌<◌, ◌≤◌, ◌+◌, ◌-◌, ℕ, List, [], ◌∷◌, ◌++◌, suc, length, take, drop, false, Result, Err, refl, sym, ap, subst, ◌∙◌, arith, append_assoc, append-nil, length-append, length-drop, inl, inr}
 use Rattle.std.specs.Prelude.{⊤, All, replicate, ◌==◌}
 use Rattle.std.specs.Borrow.{Bor}
@@ -29,7 +29,7 @@ use Rattle.pcap_items.proofs.Requested.{texts_long}
 use Rattle.pcap_items.proofs.Showing.{rest_no_text}
 use Rattle.pcap_core.proofs.Verdicts.{one_made}
 
--- ---- numbers, one for each piece
+-- ---- one number for each piece
 
 -- more pieces
 pub after_each_join : (Holds : List ℕ → ℕ → Type 0) (before : List ℕ) (pieces more : List (Bor (List ℕ))) (ns ms : List ℕ) → AfterEach Holds before pieces ns
@@ -40,7 +40,7 @@ after_each_join Holds before (p ∷ pieces) more [] ms each further = absurd eac
 after_each_join Holds before (p ∷ pieces) more (n ∷ ns) ms each further =
     (each.0, after_each_join Holds (before ++ p.now) pieces more ns ms each.1 (subst (λ (s : List ℕ). AfterEach Holds s more ms) (sym (append_assoc before p.now (joined_pieces pieces))) further))
 
--- pieces with the same number: it holds of each beginning of their bytes
+-- pieces with the same number, which is right for each beginning of their bytes
 pub after_each_same : (Holds : List ℕ → ℕ → Type 0) (before : List ℕ) (pieces : List (Bor (List ℕ))) (n : ℕ) → ((s t : List ℕ) → joined_pieces pieces ≡ s ++ t → Holds (before ++ s) n)
     → AfterEach Holds before pieces (replicate (length pieces) n)
 after_each_same Holds before [] n holds = tt
@@ -50,24 +50,24 @@ after_each_same Holds before (p ∷ pieces) n holds = (
       (λ s t e. subst (λ (l : List ℕ). Holds l n) (sym (append_assoc before p.now s)) (holds (p.now ++ s) t (ap (λ (l : List ℕ). p.now ++ l) e ∙ sym (append_assoc p.now s t)))),
 )
 
--- what follows from the fact that holds, holds too
+-- what follows from a claim that holds, holds too
 pub after_each_more : (P Q : List ℕ → ℕ → Type 0) → ((s : List ℕ) (n : ℕ) → P s n → Q s n) → (before : List ℕ) (pieces : List (Bor (List ℕ))) (ns : List ℕ) → AfterEach P before pieces ns → AfterEach Q before pieces ns
 after_each_more P Q step before [] [] each = each
 after_each_more P Q step before [] (n ∷ ns) each = absurd each
 after_each_more P Q step before (p ∷ pieces) [] each = absurd each
 after_each_more P Q step before (p ∷ pieces) (n ∷ ns) each = (step (before ++ p.now) n each.0, after_each_more P Q step (before ++ p.now) pieces ns each.1)
 
--- pieces of one byte have as many bytes
+-- pieces of one byte each have as many bytes as there are pieces
 pub single_length : (pieces : List (Bor (List ℕ))) → All (λ piece. length piece.now ≡ 1) pieces → length (joined_pieces pieces) ≡ length pieces
 single_length [] single = refl
 single_length (p ∷ pieces) single =
     omega (arith, single 0 p (omega arith), single_length pieces (λ k d less. single (suc k) d (omega (arith, less))), length-append p.now (joined_pieces pieces))
 
--- also where they stand at the front of others
+-- this is also true if they are at the front of other pieces
 pub single_front : (left : List (Bor (List ℕ))) (k : ℕ) → k ≤ length left → All (λ piece. length piece.now ≡ 1) (take k left) → length (joined_pieces (take k left)) ≡ k
 single_front left k within single = single_length (take k left) single ∙ length-take-le k left within
 
--- one of them more
+-- one more of them
 piece_more : (pieces : List (Bor (List ℕ))) (i : ℕ) (d : Bor (List ℕ)) → i < length pieces → take (i + 1) pieces ≡ take i pieces ++ get_or pieces i d ∷ []
 piece_more pieces i d less = let next : i + 1 ≡ suc i = omega arith in ap (λ (n : ℕ). take n pieces) next ∙ take-suc pieces i d less
 
@@ -88,7 +88,7 @@ byte_more pieces i d less one =
     let fed = take i pieces in
     ap joined_pieces (piece_more pieces i d less) ∙ flat_map-append (λ (x : Bor (List ℕ)). x.now) fed (piece ∷ []) ∙ ap (λ (l : List ℕ). joined_pieces fed ++ l) (append-nil piece.now ∙ one_byte piece.now one)
 
--- some pieces, the next one, and some behind it
+-- some pieces, the next one, and some after it
 module _ (pieces : List (Bor (List ℕ))) (n k : ℕ) (d : Bor (List ℕ)) (less : n < length pieces) where
   turn_pieces : take (n + 1 + k) pieces ≡ (take n pieces ++ get_or pieces n d ∷ []) ++ take k (drop (n + 1) pieces)
   turn_pieces = take-add (n + 1) k pieces ∙ ap (λ (l : List (Bor (List ℕ))). l ++ take k (drop (n + 1) pieces)) (piece_more pieces n d less)
@@ -104,7 +104,7 @@ module _ (pieces : List (Bor (List ℕ))) (n k : ℕ) (d : Bor (List ℕ)) (less
       let run = take k (drop (n + 1) pieces) in
       ap joined_pieces turn_pieces ∙ flat_map-append (λ (x : Bor (List ℕ)). x.now) (take n pieces ++ get_or pieces n d ∷ []) run ∙ ap (λ (l : List ℕ). l ++ joined_pieces run) joined_next
 
-  -- their numbers, where the last ones are the same
+  -- their numbers, if the last ones are the same
   pub turn_numbers : (Holds : List ℕ → ℕ → Type 0) (ns : List ℕ) (m : ℕ) → AfterEach Holds [] (take n pieces) ns → Holds (joined_pieces (take n pieces) ++ (get_or pieces n d).now) m
       → AfterEach Holds (joined_pieces (take n pieces) ++ (get_or pieces n d).now) (take k (drop (n + 1) pieces)) (replicate k m) → AfterEach Holds [] (take (n + 1 + k) pieces) ((ns ++ m ∷ []) ++ replicate k m)
   turn_numbers Holds ns m each holds further =
@@ -114,7 +114,7 @@ module _ (pieces : List (Bor (List ℕ))) (n k : ℕ) (d : Bor (List ℕ)) (less
       let behind : AfterEach Holds (joined_pieces fed) run (replicate k m) = subst (λ (s : List ℕ). AfterEach Holds s run (replicate k m)) (sym joined_next) further in
       subst (λ (l : List (Bor (List ℕ))). AfterEach Holds [] l ((ns ++ m ∷ []) ++ replicate k m)) (sym turn_pieces) (after_each_join Holds [] fed run (ns ++ m ∷ []) (replicate k m) next behind)
 
-  -- no more bytes than all of them
+  -- they have no more bytes than all pieces
   pub turn_within : length (joined_pieces (take n pieces)) + (length (get_or pieces n d).now + length (joined_pieces (take k (drop (n + 1) pieces)))) ≤ length (joined_pieces pieces)
   turn_within =
       let run = take k (drop (n + 1) pieces) in
@@ -130,7 +130,7 @@ module _ (pieces : List (Bor (List ℕ))) (n k : ℕ) (d : Bor (List ℕ)) (less
         length-append (joined_pieces (take n pieces)) (get_or pieces n d).now,
       )
 
--- ---- what stays known
+-- ---- facts that stay true when fewer bytes come than are missing
 
 module _ {V : Type 0} (Of : List ℕ → Verdict V → Type 0) (stable : IsStable Of) (s more : List ℕ) (missing : ℕ) (less : length more < missing) where
   -- a refusal
@@ -144,22 +144,22 @@ module _ {V : Type 0} (Of : List ℕ → Verdict V → Type 0) (stable : IsStabl
   refused_still (errors.OutOfMemory memory) x = x
   refused_still errors.WriterFailed x = x
 
-  -- and what is said where an item is asked for
+  -- the verdict where an item is expected
   pub asked_still : (rest : Rest) → IsAsked Of s (rest_with rest missing) → IsAsked Of (s ++ more) (rest_with rest (missing - length more))
   asked_still Clean x = x
   asked_still (Needs n) x = stable.request s more missing less x
   asked_still (Refused error) x = shows_more (λ fault stands. stable.fault s more fault stands) error x
 
--- ---- what a parser tells
+-- ---- the results of a parser
 
 module _ {X S : Type 0} (IsSaid : Verdict S → Type 0) (view : X → S) where
-  -- a call that may always grow something
+  -- a call that may always allocate
   pub tells_grown : (M : Type 0) (answer : Result (Bor (List ℕ) × X) PcapError) → TellsWhere M IsSaid view answer → TellsWhere ⊤ IsSaid view answer
   tells_grown M (Err (errors.OutOfMemory memory)) tells = tt
   tells_grown M _ tells = tells
 
 module _ {X S V W : Type 0} (f : Format S V) (part : V → W) (view : X → W) (q next : S) (s : List ℕ) where
-  -- a refusal that leaves the state
+  -- a refusal that leaves the state unchanged
   pub front_refused : (M : Type 0) → next ≡ q → (error : PcapError) → Refuses M (λ n. f.says q s (lacks n)) (λ fault. f.says q s (faulty fault)) error → TakesFront f part view q next s (Err error)
   front_refused M stays (errors.IncompleteBuffer n) refuses = (stays, refuses)
   front_refused M stays (errors.InvalidField text) refuses = (refuses.0, refuses.1, (stays, refuses.2))
@@ -169,7 +169,7 @@ module _ {X S V W : Type 0} (f : Format S V) (part : V → W) (view : X → W) (
   front_refused M stays (errors.OutOfMemory memory) refuses = tt
   front_refused M stays errors.WriterFailed refuses = absurd refuses
 
--- what opens a capture, with its value made into another
+-- the opening of a capture, with its value mapped to another
 pub made_opening : {V W : Type 0} (make : V → W) (opens : List ℕ → Verdict V → Type 0) → IsOpening opens → IsOpening (λ s. Made make (opens s))
 made_opening make opens opening = record {
   one = λ s. one_made make (opens s) (opening.one s);
@@ -181,7 +181,7 @@ made_opening make opens opening = record {
   ends = λ s rest v x. opening.ends s rest x.0 x.2;
 }
 
--- ---- items one after the other
+-- ---- items that follow one another
 
 -- what follows the first bytes of a list is the list without them
 pub after_is_drop : (s t after : List ℕ) → s ≡ t ++ after → drop (length s - length after) s ≡ after
@@ -189,7 +189,7 @@ after_is_drop s t after e =
     let count : length s - length after ≡ length t = omega (arith, ap length e, length-append t after) in
     ap (λ (n : ℕ). drop n s) count ∙ ap (λ (l : List ℕ). drop (length t) l) e ∙ drop-append_seam t after
 
--- however a capture is set: where the one is reached, so is the other
+-- with any setting, where the one state is reached, so is the other
 abbrev pub ReachesOn : {Y S V W : Type 0} → (Y → List ℕ → Verdict S → Type 0) → Format S V → (V → W) → S → List W → List ℕ → S → List W → List ℕ → Type 0
 ReachesOn {Y = Y} opens f part q ws held next more left = (setting : Y) (s : List ℕ) → Reaches (opens setting) f part q ws s held → Reaches (opens setting) f part next more s left
 
@@ -198,7 +198,7 @@ pub item_shorter : {S V W : Type 0} (f : Format S V) → IsLawful f → (part : 
 item_shorter f laws part q next w held after at leads = omega (arith, leads_shorter f part laws q next w (drop at held) after leads, length-drop at held)
 
 module _ {S V W : Type 0} (opens : List ℕ → Verdict S → Type 0) (f : Format S V) (laws : IsLawful f) (part : V → W) where
-  -- an item more
+  -- one more item
   pub reaches_item : (q next : S) (ws : List W) (w : W) (s held after : List ℕ) (at : ℕ) → Reaches opens f part q ws s (drop at held) → LeadsBy f part q next w (drop at held) after
       → Reaches opens f part next (ws ++ w ∷ []) s (drop (length held - length after) held)
   reaches_item q next ws w s held after at r leads =
@@ -208,7 +208,7 @@ module _ {S V W : Type 0} (opens : List ℕ → Verdict S → Type 0) (f : Forma
       record { first = r.first; after = r.after; opening = r.opening; leads = rw left (leads_more f part r.first q next ws w r.after (drop at held) after r.leads leads) }
 
 module _ {P S V W : Type 0} (opens : List ℕ → Verdict S → Type 0) (opening : IsOpening opens) (f : Format S V) (laws : IsLawful f) (part : V → W) (state : P → S) where
-  -- a piece after items
+  -- one more piece after the items
   pub reaches_more : (q : S) (ws : List W) (s left more : List ℕ) → Reaches opens f part q ws s left → Reaches opens f part q ws (s ++ more) (left ++ more)
   reaches_more q ws s left more r = record {
     first = r.first;
@@ -226,7 +226,7 @@ module _ {P S V W : Type 0} (opens : List ℕ → Verdict S → Type 0) (opening
   pub opening_within : (q : S) (s after : List ℕ) → opens s (whole q after) → length after ≤ length s
   opening_within q s after x = let o = opening.ends s after q x in omega (arith, ap length o.1, length-append o.0 after)
 
-  -- no item begins what is held
+  -- no item begins the held bytes
   asked_no_text : (q : S) (left : List ℕ) (rest : Rest) → IsAsked (f.says q) left rest → (v : V) (after : List ℕ) → f.says q left (whole v after) → ⊥
   asked_no_text q left Clean is v after text = is
   asked_no_text q left (Needs n) is v after text = lacks_no_text f laws q n left is v after text
@@ -244,14 +244,14 @@ module _ {P S V W : Type 0} (opens : List ℕ → Verdict S → Type 0) (opening
       record { texts = r.leads.texts; longest = λ v after x. longest v after (subst (λ (p : S). f.says p held (whole v after)) r.leads.state_is x) } in
       inl (r.first, r.after, r.leads.values, held, r.opening, all, ap length (sym r.leads.parts) ∙ length-map r.leads.values part)
 
-  -- what is held is no more than what came
+  -- no more bytes are held than came
   pub waiting_within : (s : List ℕ) (progress : Progress P) (held : List ℕ) (ws : List W) → IsWaiting opens f part state s progress held ws → length held ≤ length s
   waiting_within s (Before error) held ws waiting = omega (arith, ap length waiting.0)
   waiting_within s (Within parser rest) held ws waiting =
       let r : Reaches opens f part (state parser) ws s held = waiting.0 in
       omega (arith, opening_within r.first s r.after r.opening, texts_long f laws r.first r.leads.values r.after held r.leads.texts)
 
-  -- fewer bytes than are missing
+  -- fewer bytes come than are missing
   pub waits : (s more : List ℕ) (progress : Progress P) (missing : ℕ) (held : List ℕ) (ws : List W) → length more < missing → IsWaiting opens f part state s (progress_with progress missing) held ws
       → IsWaiting opens f part state (s ++ more) (progress_with progress (missing - length more)) (held ++ more) ws
   waits s more (Before error) missing held ws less waiting =
@@ -259,7 +259,7 @@ module _ {P S V W : Type 0} (opens : List ℕ → Verdict S → Type 0) (opening
   waits s more (Within parser rest) missing held ws less waiting =
       (reaches_more (state parser) ws s held more waiting.0, asked_still (f.says (state parser)) (laws.stable (state parser)) held more missing less rest waiting.1)
 
-  -- no more bytes than leave one missing, or none
+  -- at least one byte stays missing, or no byte came
   pub waits_more : (s more : List ℕ) (progress : Progress P) (missing : ℕ) (held : List ℕ) (ws : List W) → length more ≤ missing - 1 → IsWaiting opens f part state s (progress_with progress missing) held ws
       → IsWaiting opens f part state (s ++ more) (progress_with progress (missing - length more)) (held ++ more) ws
   waits_more s [] progress missing held ws most waiting =
@@ -267,7 +267,7 @@ module _ {P S V W : Type 0} (opens : List ℕ → Verdict S → Type 0) (opening
       rw (append-nil s, append-nil held, same) waiting
   waits_more s (b ∷ more) progress missing held ws most waiting = waits s (b ∷ more) progress missing held ws (omega (arith, most)) waiting
 
-  -- pieces with which no more come: they have one number
+  -- pieces that complete no item all have the same number
   pub waits_each : (before : List ℕ) (pieces : List (Bor (List ℕ))) (progress : Progress P) (missing : ℕ) (held : List ℕ) (ws : List W) → length (joined_pieces pieces) ≤ missing - 1
       → IsWaiting opens f part state before (progress_with progress missing) held ws → AfterEach (HoldsItems opens f) before pieces (replicate (length pieces) (length ws))
   waits_each before pieces progress missing held ws most waiting =

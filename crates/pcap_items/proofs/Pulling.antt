@@ -1,4 +1,4 @@
--- Why a call that takes a text off a stream is refused, of any grammar whose verdicts are stable.
+-- The causes of errors of a call that takes an item from a stream, for any grammar with stable verdicts.
 use Rattle.std.proofs.Common.{◌≡◌, ℕ, List, [], ◌++◌, ◌-◌, ◌<◌, ◌≤◌, length, take, sym, ap, ◌∙◌, subst, arith, length-append, true, false, Bool, Some, None, Err, ◌+◌, ◌⊎◌, inl, inr}
 use Rattle.std.specs.Prelude.{Option, IfSome}
 use Rattle.std.specs.Io.KnownBytes.{Consumes}
@@ -20,7 +20,7 @@ pub nothing_asked : {V : Type 0} (IsSaid : List ℕ → Verdict V → Type 0) (k
 nothing_asked IsSaid known = record { taken = []; from_stream = Consumes-nil known; asked = λ n less. absurd (omega (arith, less)) }
 
 module _ {V : Type 0} (IsSaid : List ℕ → Verdict V → Type 0) (stable : IsStable IsSaid) where
-  -- the stream ended inside the text that was asked for
+  -- the stream ended inside the requested item
   ended_torn : (held : List ℕ) (n : ℕ) → IsSaid held (lacks n) → (before now : Option (List ℕ)) → Consumes before now held → EndsInside n held now → IfSome before (IsTorn IsSaid)
   ended_torn held n ask None now came ends = tt
   ended_torn held n ask (Some xs) None came ends = absurd came
@@ -44,7 +44,7 @@ module _ {V : Type 0} (IsSaid : List ℕ → Verdict V → Type 0) (stable : IsS
         | inr ended ↦ torn ended.0 (ended.1 ∙ unfailed) (ended_torn held n ask before now came ended.2)
       ]
 
-  -- a fault has bytes, and so has the rest that they came from
+  -- a fault has at least one byte, and so has the rest from which the bytes came
   rest_some : (held : List ℕ) → 0 < length held → (before now : Option (List ℕ)) → Consumes before now held → IfSome before (λ rest. 0 < length rest)
   rest_some held some None now came = tt
   rest_some held some (Some xs) None came = absurd came
@@ -105,7 +105,7 @@ module _ {V : Type 0} (IsSaid : List ℕ → Verdict V → Type 0) (stable : IsS
     inr (inr (asked_shows e bytes (λ fault stands. some) bad before after came, unfailed)),
   )
 
-  -- a call that tells whether it failed refuses as one that does not tell it
+  -- a call that reports whether it failed returns the same errors as one that does not
   pub told_refuses : {X : Type 0} (M : Type 0) (view : X → V) (e : PcapError) (before after : Option (List ℕ)) (failed : Bool) → ReadsTold IsSaid view before after failed (Err e)
       → ReadsWhere M IsSaid view before after (Err e)
   told_refuses M view e before after failed why =

@@ -1,4 +1,4 @@
--- What is asked for, by whoever adds exactly what was asked for.
+-- The requests of a run that adds exactly the bytes that were requested.
 use Rattle.std.proofs.Common.{◌≡◌, ◌<◌, ◌≤◌, ◌+◌, ◌-◌, ◌*◌, ℕ, List, [], ◌∷◌, ◌++◌, length, take, drop, refl, sym, ap, subst, ◌∙◌, arith, append_assoc, append-nil, length-append, length-drop, inl, inr}
 use Rattle.std.proofs.lemmas.Bool.{cases_lt}
 use Rattle.std.proofs.lemmas.List.{length-take-le, take-append-drop}
@@ -12,19 +12,19 @@ use Rattle.pcap_core.proofs.Texts.{split_same}
 
 -- ---- what needs no law
 
--- one request more
+-- one more request
 pub asks_push : {S V : Type 0} (f : Format S V) (q : S) (ns : List ℕ) (n : ℕ) (s t more : List ℕ) → Asks f q ns s t → f.says q t (lacks n) → length more ≡ n → Asks f q (ns ++ n ∷ []) s (t ++ more)
 asks_push f q [] n s t more asked ask count =
     (more, subst (λ (u : List ℕ). f.says q u (lacks n)) (sym asked) ask, count, ap (λ (u : List ℕ). u ++ more) asked)
 asks_push f q (m ∷ ns) n s t more asked ask count =
     (asked.0, asked.1, asked.2, asks_push f q ns n (s ++ asked.0) t more asked.3 ask count)
 
--- the requests for items are for their texts
+-- the requests for items are for their bytes
 pub item_texts : {S V : Type 0} (f : Format S V) (q : S) (vs : List V) (s rest ns : List ℕ) → ItemRequests f q vs s rest ns → Texts f q vs s rest
 item_texts f q [] s rest ns asked = asked.0
 item_texts f q (v ∷ vs) s rest ns asked = (asked.0, asked.3, item_texts f (f.goes q v) vs asked.0 rest asked.2 asked.5)
 
--- one item more
+-- one more item
 pub items_push : {S V : Type 0} (f : Format S V) (q : S) (vs : List V) (v : V) (s mid rest ns here : List ℕ) → ItemRequests f q vs s mid ns
     → f.says (state_after f q vs) mid (whole v rest) → RequestsAt f (state_after f q vs) mid here → ItemRequests f q (vs ++ v ∷ []) s rest (ns ++ here)
 items_push f q [] v s mid rest ns here asked text requests = (
@@ -46,7 +46,7 @@ items_push f q (x ∷ vs) v s mid rest ns here asked text requests = (
   ap (λ (l : List ℕ). l ++ here) asked.6 ∙ append_assoc asked.1 asked.2 here,
 )
 
--- two at most
+-- there are at most two requests for an item
 pub requests_at_few : {S V : Type 0} (f : Format S V) (q : S) (s ns : List ℕ) → RequestsAt f q s ns → length ns ≤ 2
 requests_at_few f q s ns (head_short short is) = omega (arith, ap length is)
 requests_at_few f q s ns (head_alone bytes more text count none is) = omega (arith, ap length is)
@@ -84,14 +84,14 @@ module _ {S V : Type 0} (f : Format S V) (laws : IsLawful f) (q : S) where
       let count : length more ≡ n = length-take-le n (drop m s) (omega (arith, fits, length-drop m s)) in
       record { within = fits; asks = rw (take-add m n s) (asks_push f q ns n [] (take m s) more a.asks ask count) }
 
-  -- leaves fewer
+  -- a request that is met leaves fewer requests
   pub asking_smaller : (s : List ℕ) (m n : ℕ) → f.says q (take m s) (lacks n) → m + n ≤ length s → requests_left f laws q (take (m + n) s) < requests_left f laws q (take m s)
   asking_smaller s m n ask fits =
       let more = take n (drop m s) in
       let count : length more ≡ n = length-take-le n (drop m s) (omega (arith, fits, length-drop m s)) in
       rw (take-add m n s) (requests_fall f laws q (take m s) n more ask count)
 
-  -- an item has nothing shown behind it
+  -- no bytes are shown after an item
   nothing_behind : (ns : List ℕ) (held : List ℕ) → Asks f q ns [] held → (v : V) (rest : List ℕ) → f.says q held (whole v rest) → rest ≡ []
   nothing_behind [] held asked v rest text = absurd (nothing_no_text f laws q v rest (subst (λ (t : List ℕ). f.says q t (whole v rest)) (sym asked) text))
   nothing_behind (n ∷ ns) held asked v rest text = asks_exact f laws q n ns [] held asked v rest text
@@ -117,7 +117,7 @@ module _ {S V : Type 0} (f : Format S V) (laws : IsLawful f) (q : S) where
   first_is : (n : ℕ) → f.says q [] (lacks n) → n ≡ f.head q
   first_is n ask = let sum : length {A = ℕ} [] + n ≡ f.head q = short_asks f laws q [] n (laws.some q) ask in omega (arith, sum)
 
-  -- who is told an item or a fault has made the requests for it
+  -- once an item or a fault is found, the requests for it were made
   ends_told : (ns : List ℕ) (s held left : List ℕ) → s ≡ held ++ left → Asks f q ns [] held → ((n : ℕ) → f.says q held (lacks n) → ⊥) → RequestsAt f q s ns
   ends_told [] s held left text asked none = absurd (none (f.head q) (subst (λ (t : List ℕ). f.says q t (lacks (f.head q))) asked (nothing_lacks f laws q)))
   ends_told (n ∷ []) s held left text asked none =
@@ -132,7 +132,7 @@ module _ {S V : Type 0} (f : Format S V) (laws : IsLawful f) (q : S) where
       head_first asked.0 (more.0 ++ left) k there (omega (arith, is, asked.2)) more.1 (ap (λ (i : ℕ). i ∷ k ∷ []) is)
   ends_told (n ∷ k ∷ m ∷ ns) s held left text asked none = absurd (omega (arith, asks_twice f laws q (n ∷ k ∷ m ∷ ns) [] held asked))
 
-  -- and so has who met the end of the bytes
+  -- they were also made at the end of the bytes
   ends_short : (ns : List ℕ) (n : ℕ) (s held left : List ℕ) → s ≡ held ++ left → Asks f q ns [] held → f.says q held (lacks n) → length left < n → RequestsAt f q s (ns ++ n ∷ [])
   ends_short [] n s held left text asked ask few =
       let none : [] ≡ held = asked in
@@ -156,13 +156,13 @@ module _ {S V : Type 0} (f : Format S V) (laws : IsLawful f) (q : S) where
   asking_ended s m ns n a ask few =
       ends_short ns n s (take m s) (drop m s) (sym (take-append-drop m s)) a.asks ask (omega (arith, few, length-drop m s))
 
--- each item takes a byte, at least
+-- each item takes at least one byte
 pub texts_long : {S V : Type 0} (f : Format S V) → IsLawful f → (q : S) (vs : List V) (s rest : List ℕ) → Texts f q vs s rest → length vs + length rest ≤ length s
 texts_long f laws q [] s rest texts = omega (arith, ap length texts)
 texts_long f laws q (v ∷ vs) s rest texts =
     omega (arith, shorter f laws q v s texts.0 texts.1, texts_long f laws (f.goes q v) vs texts.0 rest texts.2)
 
--- ---- the requests are these and no others
+-- ---- there are no other requests
 
 module _ {S V : Type 0} (f : Format S V) (laws : IsLawful f) (q : S) where
   alone_first : (s bytes more other behind : List ℕ) (n : ℕ) → s ≡ bytes ++ more → length bytes ≡ f.head q → ((k : ℕ) → f.says q bytes (lacks k) → ⊥)
@@ -209,7 +209,7 @@ module _ {S V : Type 0} (f : Format S V) (laws : IsLawful f) (q : S) where
       let all : n ≡ length w.0 = second_is_all f laws q v bytes w.0 n (omega (arith, count)) there ask in
       inr (n, laws.asks q bytes n ask, omega (arith, all, count, ap length w.1, length-append bytes w.0), is)
 
-  -- where an item stands, its requests are for its text, and are what asking gives
+  -- if there is an item, its requests are for its bytes, and are the requests that asking makes
   pub requests_asked : (s rest ns : List ℕ) (v : V) → f.says q s (whole v rest) → RequestsAt f q s ns → (t : List ℕ) × (s ≡ t ++ rest) × HeadThenRest (f.head q) (length t) ns × Asks f q ns [] t
   requests_asked s rest ns v text asked =
       let o = laws.own q s rest v text in

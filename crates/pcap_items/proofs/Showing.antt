@@ -1,4 +1,4 @@
--- Bytes that are shown as they are asked for, after those of earlier items.
+-- Bytes that are shown on request, after those of earlier items.
 use Rattle.std.proofs.Common.{◌≡◌, ◌<◌, ◌≤◌, ◌+◌, ◌-◌, ◌*◌, ℕ, List, [], ◌∷◌, ◌++◌, length, take, drop, map, refl, sym, ap, subst, ◌∙◌, arith, append_assoc, append-nil, length-append, length-drop, inl, inr}
 use Rattle.std.proofs.lemmas.List.{drop-take, drop-drop, length-map, map-append, take-append-drop}
 use Rattle.std.specs.Prelude.{min}
@@ -18,7 +18,7 @@ use Rattle.pcap_items.proofs.Formats.{lacks_no_text, fault_no_text, nothing_no_t
 use Rattle.pcap_core.proofs.Refusals.{shown_fault}
 use Rattle.pcap_items.proofs.Requested.{Asking, asking_none, asking_few, asking_more, asking_smaller, asking_item, asking_fault, asking_short, asking_told, asking_ended, items_push, items_few, item_texts, texts_long, run_few}
 
--- fewer than were asked for are all that were left
+-- fewer bytes than requested are all that were left
 short_is_all : (n k left : ℕ) → k ≡ min n left → k < n → (k ≡ left) × (left < n)
 short_is_all n k left is few =
     elim (cases_lt n left) [
@@ -30,7 +30,7 @@ short_is_all n k left is few =
           (same, omega (arith, same, few))
     ]
 
--- the bytes up to `shown` were shown, those after `start` in requests that stand after the earlier ones and were counted
+-- the bytes up to `shown` were shown; the requests for those after `start` follow the earlier ones and were counted
 pub record Showing {S V : Type 0} (f : Format S V) (laws : IsLawful f) (q : S) (bytes : List ℕ) (start shown : ℕ) (earlier now : List ℕ) (first count : ℕ) : Type 0 where
   pub m : ℕ
   pub ns : List ℕ
@@ -53,7 +53,7 @@ module _ {S V : Type 0} {f : Format S V} {laws : IsLawful f} {q : S} {bytes : Li
   pub showing_few : count ≤ first + 2
   showing_few = omega (arith, a.counted, asking_few f laws q (drop start bytes) a.m a.ns a.asking)
 
-  -- what was shown is a beginning of what stands there
+  -- the bytes that were shown are a beginning of what is there
   held_is : drop start (take shown bytes) ≡ take a.m (drop start bytes)
   held_is = ap (λ (k : ℕ). drop start (take k bytes)) (sym a.sum) ∙ drop-take start a.m bytes
 
@@ -80,7 +80,7 @@ module _ {S V : Type 0} {f : Format S V} {laws : IsLawful f} {q : S} {bytes : Li
         counted = omega (arith, a.counted, length-append a.ns (n ∷ []));
       }
 
-  -- leaves fewer requests
+  -- a request that is met leaves fewer requests
   pub showing_smaller : (n k : ℕ) → f.says q (drop start (take shown bytes)) (lacks n) → k ≡ min n (length bytes - shown) → n ≤ k
       → requests_left f laws q (drop start (take (shown + k) bytes)) < requests_left f laws q (drop start (take shown bytes))
   showing_smaller n k ask is met =
@@ -138,7 +138,7 @@ module _ {S V : Type 0} {f : Format S V} {laws : IsLawful f} {q : S} {bytes : Li
 
 -- ---- whole runs
 
--- the requests for items of which these parts are kept stand after the earlier ones and were counted, and the items lead from one state to the next
+-- the requests for items with these kept parts follow the earlier ones and were counted, and the items lead from one state to the next
 pub record Exacting {S V W : Type 0} (f : Format S V) (part : V → W) (q next : S) (ws : List W) (s left earlier now : List ℕ) (first count : ℕ) : Type 0 where
   pub values : List V
   pub ns : List ℕ
@@ -174,7 +174,7 @@ module _ {S V W : Type 0} {f : Format S V} {part : V → W} {q p : S} {ws : List
         counted = omega (arith, here.counted, a.counted, length-append a.ns here.requests);
       }
 
-  -- the rest after them is refused, or lacks bytes
+  -- the rest after them is refused or truncated
   pub exacting_rest : {E : Type 0} {ShowsIt : E → Fault → Type 0} {ended : Ended E} {start used : ℕ} {bytes : List ℕ} {further : List ℕ} {more : ℕ} → s ≡ drop start bytes → mid ≡ drop used bytes
       → used ≤ length bytes → 0 < length mid → AsksItem f p mid now further count more → EndsWith ShowsIt (f.says p) mid ended → ExactItems f part ShowsIt q p ws bytes start used ended earlier further first more
   exacting_rest {ShowsIt = ShowsIt} {ended = ended} from to within some asked ends =
@@ -197,14 +197,14 @@ module _ {S V W : Type 0} {f : Format S V} {part : V → W} {q p : S} {ws : List
         counted = omega (arith, here.counted, a.counted, length-append a.ns here.requests);
       }
 
-  -- how many they are
+  -- the number of requests
   pub exacting_few : count ≤ first + 2 * length ws
   exacting_few = omega (arith, a.counted, items_few f q a.values s mid a.ns a.items, length-map a.values part, ap length a.parts)
 
   pub exacting_long : IsLawful f → length ws + length mid ≤ length s
   exacting_long laws = omega (arith, texts_long f laws q a.values s mid (item_texts f q a.values s mid a.ns a.items), length-map a.values part, ap length a.parts)
 
--- no item's text begins a rest
+-- no item begins a rest
 pub rest_no_text : {S V : Type 0} (f : Format S V) → IsLawful f → (q : S) (left : List ℕ) (rest : Rest) → IsRest (f.says q) left rest → (v : V) (after : List ℕ) → f.says q left (whole v after) → ⊥
 rest_no_text f laws q left Clean is v after text = nothing_no_text f laws q v after (subst (λ (t : List ℕ). f.says q t (whole v after)) is text)
 rest_no_text f laws q left (Needs n) is v after text = lacks_no_text f laws q n left is.0 v after text
@@ -218,6 +218,6 @@ module _ {E S V W : Type 0} {f : Format S V} {part : V → W} {ShowsIt : E → F
   pub exact_leads : LeadsTo f part q p ws (drop start bytes) (drop used bytes)
   exact_leads = record { values = x.values; texts = item_texts f q x.values (drop start bytes) (drop used bytes) x.asked.for_items x.asked.items; parts = x.parts; state_is = x.state_is }
 
-  -- how many requests there are
+  -- the number of requests of a whole run
   pub exact_few : count ≤ first + 2 * length ws + 2
   exact_few = omega (arith, x.counted, run_few f q x.values (drop start bytes) (drop used bytes) x.requests x.asked, length-map x.values part, ap length x.parts)

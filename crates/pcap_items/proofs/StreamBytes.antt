@@ -1,4 +1,4 @@
--- Bytes that come from a stream, behind those that are held.
+-- Lemmas about bytes that come from a stream and are added to those that are held.
 use Rattle.std.proofs.Common.{◌≡◌, ℕ, List, ◌++◌, ◌+◌, ◌≤◌, length, take, drop, ap, sym, ◌∙◌, subst, arith, append_assoc, length-append, length-drop}
 use Rattle.std.specs.Prelude.{Option}
 use Rattle.std.proofs.lemmas.List.{length-take-le}
@@ -7,7 +7,7 @@ use Rattle.std.specs.Io.KnownBytes.{Consumes, Keeps}
 use Rattle.std.proofs.KnownBytes.{Consumes-trans, Consumes-kept}
 use Rattle.pcap_items.specs.Streams.{Adds}
 
--- a read into room behind the held bytes
+-- a read into the room after the held bytes
 pub adds_read : (old room : List ℕ) (before after : Option (List ℕ)) (at n : ℕ) → take at room ≡ old → at + n ≤ length room
     → Consumes before after (take n (drop at room)) → Adds old (take (at + n) room) before after n
 adds_read old room before after at n front fits came = record {
@@ -17,7 +17,7 @@ adds_read old room before after at n front fits came = record {
   from_stream = came;
 }
 
--- the same, as a vector lends its room as a slice
+-- the same for a vector that lends its room as a slice
 pub adds_lent : (old room tail : List ℕ) (before after : Option (List ℕ)) (at all n : ℕ) → all ≡ length room → take at room ≡ old → at + n ≤ length room
     → Consumes before after (take n (drop at room)) → Adds old (take (at + n) (take all (room ++ tail))) before after n
 adds_lent old room tail before after at all n whole front fits came =
@@ -32,7 +32,7 @@ adds_more a b c r s t m k n sum first second = record {
   from_stream = Consumes-trans r s t first.taken second.taken first.from_stream second.from_stream;
 }
 
--- what was added stays where a later read failed
+-- added bytes stay if a later read fails
 pub adds_kept : (a b c : List ℕ) (r s t : Option (List ℕ)) (n : ℕ) → Adds a b r s n → c ≡ b → Keeps s t → Adds a c r t n
 adds_kept a b c r s t n adds same kept = record {
   taken = adds.taken;
@@ -48,7 +48,7 @@ came_more old new a b c at n first same second =
     subst (λ l. Consumes a c l) (ap (λ l. l ++ take n (drop at new)) (sym same) ∙ sym (take-add at n new))
     (Consumes-trans a b c (take at old) (take n (drop at new)) first second)
 
--- what held bytes came as, when more came
+-- the held bytes as they came, after more came
 pub held_more : (held new : List ℕ) (a b c : Option (List ℕ)) (n : ℕ) → Consumes a b held → Adds held new b c n → Consumes a c new
 held_more held new a b c n came adds =
     subst (λ l. Consumes a c l) (sym adds.added) (Consumes-trans a b c held adds.taken came adds.from_stream)

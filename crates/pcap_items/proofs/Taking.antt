@@ -1,4 +1,4 @@
--- A run over a stream gives a beginning of the front, of any lawful format.
+-- A run over a stream returns a beginning of the front, for any lawful format.
 use Rattle.std.proofs.Common.{◌≡◌, ◌≤◌, ℕ, List, [], ◌∷◌, ◌++◌, length, map, All, Bool, false, refl, sym, ap, ◌∙◌, subst, Some, None, Ok, Err, ◌⊎◌, inl, inr}
 use Rattle.std.specs.Prelude.{Option, Result, IfNone}
 use Rattle.std.specs.Iterator.{Yields}
@@ -30,7 +30,7 @@ pub takes_none : {S V : Type 0} (f : Format S V) (q : S) (known : Option (List �
 takes_none f q known = record { bytes = []; texts = refl; took = Consumes-nil known }
 
 module _ {S V : Type 0} (f : Format S V) (laws : IsLawful f) (q : S) where
-  -- one item more
+  -- one more item
   pub takes_more : (vs : List V) (v : V) (before left after : Option (List ℕ)) → TakesTexts f q vs before left → Takes (f.says (state_after f q vs)) left after v
       → TakesTexts f q (vs ++ v ∷ []) before after
   takes_more vs v before left after so_far next = record {
@@ -39,7 +39,7 @@ module _ {S V : Type 0} (f : Format S V) (laws : IsLawful f) (q : S) where
     took = Consumes-trans before left after so_far.bytes next.0 so_far.took next.2;
   }
 
-  -- items behind items
+  -- items after items
   pub takes_all : (vs ws : List V) (before left after : Option (List ℕ)) → TakesTexts f q vs before left → TakesTexts f (state_after f q vs) ws left after
       → TakesTexts f q (vs ++ ws) before after
   takes_all vs ws before left after so_far more = record {
@@ -52,14 +52,14 @@ module _ {S V : Type 0} (f : Format S V) (laws : IsLawful f) (q : S) where
   fault_none s fault shown v rest text =
       elim shown [ inl stands ↦ fault_no_text f laws q fault s stands v rest text | inr early ↦ lacks_no_text f laws q early.n s early.lack v rest text ]
 
-  -- a refusal that is of the rest, and neither for want of memory nor for a failed read, says that no item begins it
+  -- an error of the rest, when no read failed and memory did not run out, shows that no item begins the rest
   ends_refused : (e : PcapError) (after rest : List ℕ) (more : List V) (failed : Bool) → Front f q more after rest → ((v : V) (r : List ℕ) → f.says q after (whole v r) → ⊥)
       → HasCause (f.says q) (Some after) failed e → (more ≡ []) × HasCause (f.says q) (Some rest) failed e
   ends_refused e after rest more failed front none cause =
       let all = nothing_more f laws q more after rest front none in
       (all.0, subst (λ (l : List ℕ). HasCause (f.says q) (Some l) failed e) (sym all.1) cause)
 
-  -- what stopped a run, as the front shows it
+  -- the end of a run, in terms of the front
   pub ends_front : (fault : Option PcapError) (after rest : List ℕ) (more : List V) (now : Option (List ℕ)) (failed : Bool) (count most : ℕ)
       → Front f q more after rest → Stops (f.says q) (Some after) now failed count most fault → EndsFront (f.says q) rest more failed count most fault
   ends_front None after rest more now failed count most front stops =
@@ -97,14 +97,14 @@ reads_known {S} {V} f laws q s now failed most vs fault (Some after) took within
       ends = ends_front f laws (state_after f q vs) fault after front.1 on.0 now failed (length vs) most on.2 stops;
     }
 
--- a run over a stream that tells its bytes gives a beginning of their front
+-- a run over a stream with known bytes returns a beginning of their front
 pub run_reads : {S V : Type 0} (f : Format S V) → IsLawful f → (q : S) (s : List ℕ) (now : Option (List ℕ)) (failed : Bool) (most : ℕ) (vs : List V) (fault : Option PcapError)
     → TakesItems f q (Some s) now failed most vs fault → ReadsFront f q s most vs fault failed
 run_reads f laws q s now failed most vs fault run = reads_known f laws q s now failed most vs fault run.left run.took run.within run.stops
 
 -- ---- runs over a reader
 
--- one item more
+-- one more item
 pub gives_more : {R X E : Type 0} (gives : R → Option (Result X E) → R → Type 0) (items : List X) (item : X) (old here now : R) → Yields gives old (map (λ x. Ok x) items) here → gives here (Some (Ok item)) now
     → Yields gives old (map (λ x. Ok x) (items ++ item ∷ [])) now
 gives_more gives [] item old here now same step = (now, subst (λ r. gives r (Some (Ok item)) now) (sym same) step, refl)
@@ -112,7 +112,7 @@ gives_more gives (x ∷ items) item old here now gave step = (gave.0, gave.1, gi
 
 module _ {R X S V W : Type 0} (f : Format S V) (part : V → W) (view : X → W) (owned : X → Type 0) (gives : R → Option (Result X PcapError) → R → Type 0)
     (from : AllocError → PcapError → Type 0) (kept : R → Type 0) (state : R → S) (left : R → Option (List ℕ)) (done failed : R → Bool) (see : R → X → V) where
-  -- what a reader's calls say of a format: where no item comes, the state stays
+  -- the verdicts of a reader's calls: if there is no item, the state is unchanged
   pub record SaysOf : Type 0 where
     pub keeps : (a b : R) (r : Option (Result X PcapError)) → kept a → gives a r b → kept b
     pub next : (a b : R) (r : Option (Result X PcapError)) → kept a → gives a r b → NextGives (f.says (state a)) (see b) (left a) (left b) (done a) (done b) (failed a) (failed b) r
@@ -121,11 +121,11 @@ module _ {R X S V W : Type 0} (f : Format S V) (part : V → W) (view : X → W)
     pub refusal : (a b : R) (e : PcapError) → gives a (Some (Err e)) b → state b ≡ state a
     pub memory : (refused : AllocError) (e : PcapError) → from refused e → IsMemory e
 
-  -- it has refused nothing
+  -- the reader has returned no error
   abbrev pub IsReady : R → Type 0
   IsReady a = kept a × (done a ≡ false) × (failed a ≡ false)
 
-  -- items that are seen so lead from one reader's state to the other's, and their texts were taken, and no more
+  -- items that lead from one reader's state to the other's, and exactly whose bytes were taken
   abbrev pub Leads : R → R → List X → Type 0
   Leads a b xs = (bytes : List ℕ) × LeadsTo f part (state a) (state b) (map view xs) bytes [] × Consumes (left a) (left b) bytes × All owned xs
 

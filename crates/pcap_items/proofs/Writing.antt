@@ -1,4 +1,4 @@
--- Bytes that go out in several writes.
+-- Lemmas about bytes that are written by several calls.
 use Rattle.std.proofs.Common.{ℕ, List, ◌++◌, take, drop, ap, sym, ◌∙◌, append_assoc, length-append, length-drop, arith, Ok, Err}
 use Rattle.std.specs.Prelude.{Option, Result}
 use Rattle.std.proofs.lemmas.List.{take-append-drop}
@@ -17,7 +17,7 @@ writes_more bytes left a b c n so_far out = record {
   out = Appends-trans a b c so_far.gone (take n left) so_far.out out;
 }
 
--- what a torn write says where nobody asks how many bytes went out
+-- a torn write, without the number of bytes that were written
 pub tears_all : (bytes : List ℕ) (a b : Option (List ℕ)) (torn : Torn) → WritesOrTears a b bytes (Err torn) → WritesAll a b bytes (Err torn.error)
 tears_all bytes a b torn out = torn_as torn.error out.0
   where
@@ -32,7 +32,7 @@ tears_all bytes a b torn out = torn_as torn.error out.0
     torn_as (errors.IoError x) io = part
     torn_as _ io = absurd io
 
--- a beginning of the first of two pieces, and a beginning of the second behind the first
+-- a beginning of the first of two pieces, or the first and a beginning of the second
 pub part_of_first : (first second : List ℕ) (a b : Option (List ℕ)) → AppendsPart a b first → AppendsPart a b (first ++ second)
 part_of_first first second a b part = (
   part.0 ++ second,
@@ -55,7 +55,7 @@ part_of_second first second a b c whole part = (
   },
 )
 
--- two writes, one behind the other: the first fails, or the second ends it
+-- two writes in order: the first fails, or the second ends them
 pub first_fails : (first second : List ℕ) (a b : Option (List ℕ)) (e : PcapError) → WritesAll a b first (Err e) → WritesAll a b (first ++ second) (Err e)
 first_fails first second a b (errors.IoError x) out = part_of_first first second a b out
 first_fails first second a b _ out = absurd out

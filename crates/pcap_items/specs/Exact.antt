@@ -1,4 +1,4 @@
--- What a run tells over bytes that are shown exactly as they are asked for, over any format.
+-- The result of a run over bytes that are shown exactly as they are requested, for any format.
 use Rattle.std.specs.Prelude.{◌≡◌, ◌≤◌, ◌+◌, ℕ, List, ◌++◌, length, map, drop}
 use Rattle.pcap_items.specs.declared.run.items.Ended.{Ended}
 use Rattle.pcap_core.specs.Faults.{Fault}
@@ -6,8 +6,8 @@ use Rattle.pcap_items.specs.Format.{Format, state_after}
 use Rattle.pcap_items.specs.Items.{EndsWith}
 use Rattle.pcap_items.specs.Requested.{RunRequests}
 
--- these parts are kept of the items in bytes from start on, which end where used bytes do, and lead from one state to the next; this is
--- said of the rest; and the requests for all of it stand after the earlier ones, and a count that was first grew by their number
+-- ExactItems: ws are the kept parts of the items in the bytes from `start` to `used`, which lead from one state to the next, and `ended`
+-- is the rest. The requests for all of it follow the earlier ones, and the count grew from `first` by their number.
 pub record ExactItems {E S V W : Type 0} (f : Format S V) (part : V → W)
     (ShowsIt : E → Fault → Type 0) (q next : S) (ws : List W) (bytes : List ℕ) (start used : ℕ) (ended : Ended E)
     (earlier now : List ℕ) (first count : ℕ) : Type 0 where

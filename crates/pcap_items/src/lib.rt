@@ -1,5 +1,5 @@
-//! Items of any format, one behind the other: what a format is, and the one engine that parses, reads, fills and copies its
-//! items, over slices, pieces and streams.
+//! Items of any format that follow one another: the definition of a format, and the one engine that parses, reads, fills and
+//! copies its items, from slices, pieces and streams.
 #![tactic(auto)]
 
 mod rest;

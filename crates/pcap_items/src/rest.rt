@@ -1,4 +1,4 @@
-//! What stands behind the last whole item.
+//! The rest after the last whole item.
 
 ghost use Rattle.std.specs.Prelude.{◌≡◌};
 ghost use Rattle.pcap_items.specs.Run.{rest_or_memory_of};
@@ -6,18 +6,18 @@ ghost use Rattle.pcap_items.specs.Run.{rest_or_memory_of};
 use pcap_core::PcapError;
 use std::alloc::AllocError;
 
-/// What stands behind the last whole item.
+/// The rest after the last whole item: nothing, a truncated item, or bytes that begin no item.
 #[derive(Debug, Drop)]
 pub enum Rest {
-    /// Nothing.
+    /// Nothing is left.
     Clean,
-    /// A beginning of an item, of which so many bytes are missing, at least.
+    /// A truncated item is left. At least this many bytes are missing.
     Needs(usize),
-    /// What begins no item, and why.
+    /// The bytes that are left begin no item. The error says why.
     Refused(PcapError),
 }
 
-/// The rest at which a parser gave this error. Want of memory is no rest, and is the error.
+/// Returns the rest that a parser's error reports. `OutOfMemory` reports no rest, and becomes the error.
 pub fn rest_or_memory(error: PcapError) -> Result<Rest, AllocError>
     ensures { result ≡ rest_or_memory_of error }
 {

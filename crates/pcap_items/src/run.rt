@@ -1,4 +1,4 @@
-//! What runs over bytes that are shown, or come, a few at a time share.
+//! Runs over items: in slices, in bytes that a window shows on request, in pieces and from readers.
 
 mod exact;
 mod found;

@@ -1,4 +1,4 @@
-//! Streams that tell whether they failed, buffers that are filled from them as bytes are asked for, and copies over both.
+//! Streams that remember whether a call failed, buffers that are filled from them on request, and copies over both.
 
 mod as_they_came;
 mod copying;

@@ -1,4 +1,4 @@
--- Of all bytes one thing is said as options up to their first fault.
+-- Any bytes have exactly one reading as options up to their first fault.
 use Rattle.std.proofs.Common.{◌≡◌, ◌≢◌, ℕ, List, [], ◌∷◌, Option, Some, None, refl, sym, ap, ◌∙◌, inl, inr}
 use Rattle.std.specs.Prelude.{◌⊎◌}
 use Rattle.pcap_core.specs.Answer.{Order, Verdict, whole, lacks, faulty}

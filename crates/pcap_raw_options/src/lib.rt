@@ -1,5 +1,5 @@
-//! Options of PcapNg blocks as they stand: each with its code and its bytes, whatever these say, up to where the next one can't
-//! be found.
+//! Raw options of PcapNg blocks. Each option is its code, its length and its bytes, and no value is interpreted. The list
+//! ends where the next option can't be found.
 #![tactic(auto)]
 
 pub mod laws;

@@ -1,4 +1,4 @@
-//! Options as they stand.
+//! Raw options, whose values are not interpreted.
 
 ghost use Rattle.std.specs.Prelude.{All, IfOk, IfErr, IfSome, MatchResult};
 ghost use Rattle.std.specs.Option.{option_map};
@@ -14,19 +14,21 @@ use pcap_core::rules::Rule;
 use pcap_options::UnknownOption;
 use std::alloc::{AllocError, Global};
 
-/// Options as they stand, and why they end.
+/// Raw options of a block, and why the list ends.
 #[derive(Debug, Drop)]
 pub struct RawOptions<'a> {
-    /// Each option before the mark, the end of the bytes or the flaw, with its code, length and bytes. The bytes are lent.
+    /// Each option before the end mark, the end of the bytes or the flaw, with its code, length and bytes. The bytes are
+    /// lent.
     pub options: Vec<UnknownOption<'a>>,
-    /// Why no option can be found behind them: V17, where fewer than 4 bytes are left, or V18, where its value and padding pass
-    /// the end. None where the list ends as it should.
+    /// Why no further option can be found: V17 if fewer than 4 bytes are left, or V18 if the option's value and padding
+    /// extend past the end. None if the list ends correctly.
     pub flaw: Option<Rule>,
-    /// The bytes behind the mark, or from the flaw on.
+    /// The bytes after the end mark, or from the flaw on.
     pub left: &'a [u8],
 }
 
-// The option at the front of a slice, or none at the mark that ends a list, and what follows it; else why there is none.
+// Returns the option at the front of a slice, or None for the mark that ends a list, and what follows it. Returns the broken
+// rule if there is neither.
 fn raw_option<'a, B: ByteOrder>(
     slice: &'a [u8],
 ) -> Result<(&'a [u8], Option<UnknownOption<'a>>), Rule>
@@ -49,10 +51,10 @@ fn raw_option<'a, B: ByteOrder>(
     Ok((rest, Some(UnknownOption::new(code, len, value))))
 }
 
-/// The options at the front of a slice as they stand, in the order of `B`: to the mark, to the end of the slice, or to where no
-/// option can be found. No value is judged.
+/// Reads the raw options at the front of a slice in the byte order `B`: up to the end mark, the end of the slice, or the
+/// first place where no option can be found. It checks no value.
 ///
-/// `AllocError` where the list can't grow; without an option nothing grows.
+/// Returns `AllocError` if the list can't grow. It allocates only if there is an option.
 pub fn raw_options<'a, B: ByteOrder>(
     alloc: Global,
     slice: &'a [u8],

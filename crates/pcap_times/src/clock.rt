@@ -1,30 +1,30 @@
-//! Clocks of interfaces.
+//! Clocks of interfaces, and timestamps.
 
 ghost use Rattle.pcap_times.specs.Times.{IsTimeOf};
 
 use crate::unit::TimeUnit;
 
-/// How an interface counts time ('Interface Description Block', if_tsresol and if_tsoffset).
+/// The clock of an interface: how it counts time ('Interface Description Block', if_tsresol and if_tsoffset).
 #[derive(Clone, Copy, Debug, PartialEq, Eq)]
 pub struct Clock {
-    /// The unit that it counts in.
+    /// The unit in which the interface counts.
     pub unit: TimeUnit,
-    /// Seconds that are added to each time.
+    /// The seconds that are added to each time.
     pub offset: i64,
 }
 
-/// A time.
+/// A point in time, in seconds and nanoseconds.
 #[derive(Clone, Copy, Debug, PartialEq, Eq, PartialOrd, Ord)]
 pub struct Timestamp {
-    /// Whole seconds since 1970-01-01 00:00:00 UTC, below 0 before it. Of 128 bits, since 64 bits hold neither the
-    /// greatest number of seconds with an offset nor the least.
+    /// Whole seconds since 1970-01-01 00:00:00 UTC, negative before then. They have 128 bits, since the sum of an offset and
+    /// a 64-bit number of seconds does not always fit in 64 bits.
     pub seconds: i128,
     /// Whole nanoseconds after those seconds, below 1000000000.
     pub nanoseconds: u32,
 }
 
 impl Clock {
-    /// The time of so many units, rounded down to whole nanoseconds.
+    /// Returns the time of this many units, rounded down to whole nanoseconds.
     pub fn timestamp(self, ticks: u64) -> Timestamp
         ensures { IsTimeOf self ticks result }
     {

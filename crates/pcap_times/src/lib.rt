@@ -1,4 +1,4 @@
-//! Times of PcapNg captures: from an interface's units to seconds and nanoseconds.
+//! Times of PcapNg captures: conversion from an interface's units to seconds and nanoseconds.
 //!
 //! The format is that of the IETF draft draft-ietf-opsawg-pcapng; names in quotes are sections of it.
 #![tactic(auto)]

@@ -3,24 +3,24 @@
 ghost use Rattle.std.specs.Prelude.{◌≡◌, ◌^◌, ◌<◌, SomeIff};
 ghost use Rattle.pcap_times.specs.Times.{unit_of, units_in_second, nanoseconds_in, IsSplit};
 
-/// The nanoseconds in a second.
+/// The number of nanoseconds in a second.
 const BILLION: u128 = 1_000_000_000;
 
-/// How long a unit of an interface's times is ('Interface Description Block', if_tsresol).
+/// The timestamp resolution of an interface: the unit in which it counts time ('Interface Description Block', if_tsresol).
 #[derive(Clone, Copy, Debug, PartialEq, Eq)]
 pub enum TimeUnit {
-    /// 10 to the power of minus this number, in seconds.
+    /// A unit of 10 to the power of minus this number, in seconds.
     Decimal(u8),
-    /// 2 to the power of minus this number, in seconds.
+    /// A unit of 2 to the power of minus this number, in seconds.
     Binary(u8),
 }
 
 impl TimeUnit {
-    /// A microsecond, the unit of an interface that names none.
+    /// A microsecond, the unit of an interface without if_tsresol.
     pub const MICROSECOND: TimeUnit = TimeUnit::Decimal(6);
 
-    /// The unit that the byte of an if_tsresol names: a power of 2 where its highest bit is set, else of 10; the other
-    /// seven bits are the exponent.
+    /// Returns the unit that the byte of an if_tsresol names. It is a power of 2 if the highest bit is set, or else a power
+    /// of 10. The other seven bits are the exponent.
     pub fn from_byte(byte: u8) -> Self
         ensures { result ≡ unit_of byte }
     {
@@ -31,8 +31,8 @@ impl TimeUnit {
         }
     }
 
-    /// The whole seconds and the whole nanoseconds after them in so many units; what is less than a nanosecond is
-    /// dropped. Microseconds and nanoseconds take no division of 128 bits.
+    /// Returns the whole seconds in this many units, and the whole nanoseconds after them. Fractions of a nanosecond are
+    /// dropped. Microseconds and nanoseconds need no 128-bit division.
     #[inline]
     pub fn split(self, ticks: u64) -> (u64, u32)
         ensures { IsSplit self ticks result.0 result.1 }
@@ -50,7 +50,7 @@ impl TimeUnit {
         }
     }
 
-    // The whole nanoseconds in so many units.
+    // Returns the whole nanoseconds in this many units.
     #[tactic(auto, using(crate::proofs::Units::some_units))]
     fn nanoseconds(self, ticks: u64) -> u128
         ensures { result ≡ nanoseconds_in self ticks }
@@ -61,7 +61,7 @@ impl TimeUnit {
         }
     }
 
-    // Where they are fewer than 2^128.
+    // Returns the number of units in a second, or None if it is 2^128 or more.
     fn units_in_second(self) -> Option<u128>
         ensures { SomeIff result (units_in_second self < 2 ^ 128) (units_in_second self) }
     {

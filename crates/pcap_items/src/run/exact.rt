@@ -1,4 +1,4 @@
-//! Items of a capture that is shown exactly as its parser asks for it, over any format.
+//! Items of a capture that is shown exactly as its parser requests it, for any format.
 
 ghost use Rattle.std.specs.Prelude.{◌≡◌, ◌≤◌, ◌+◌, ◌<◌, ◌^◌, ℕ, List, ◌++◌, map, drop, All, IfOk, IfErr};
 ghost use Rattle.pcap_items.specs.Exact.{ExactItems};
@@ -12,10 +12,10 @@ use crate::run::items::{Ended, ItemRun, Items};
 use crate::run::{Found, Window};
 use std::alloc::{AllocError, Global};
 
-/// All items at the front of what a window has not shown yet, and what is said of the rest; each byte is shown only once the
-/// parser asked for it, and the requests are counted.
+/// Parses all items at the front of the bytes that a window has not shown yet, and reports the rest. The window shows each
+/// byte only after the parser requested it. `requests` counts the requests.
 ///
-/// `used` counts from the window's first byte. Want of memory is as in `parse_items`.
+/// `used` counts from the window's first byte. `AllocError` has the same causes as in `parse_items`.
 pub fn show_items<'a, P: Items<'a>>(
     alloc: Global,
     parser: &mut P,
@@ -60,7 +60,7 @@ pub fn show_items<'a, P: Items<'a>>(
     })
 }
 
-// Shows what the parser asks for of the next item, and counts the requests.
+// Shows what the parser requests for the next item, and counts the requests.
 fn show_item<'a, P: Items<'a>>(
     parser: &mut P,
     window: &mut Window<'a>,

@@ -1,4 +1,4 @@
-//! What a parser finds at the front of a slice.
+//! The result of a parser at the front of a slice.
 
 ghost use Rattle.std.specs.Prelude.{◌≡◌};
 ghost use Rattle.pcap_items.specs.Found.{found_of};
@@ -6,20 +6,20 @@ ghost use Rattle.pcap_items.specs.Found.{found_of};
 use pcap_core::{PcapError, ResultParsing};
 use std::alloc::AllocError;
 
-/// What stands at the front of a slice.
+/// The result of a parser at the front of a slice: an item, a truncated item, or bytes that begin no item.
 #[derive(Debug, Drop)]
 pub enum Found<T, E> {
     /// An item.
     Item(T),
-    /// A beginning of an item, of which so many bytes are missing, at least.
+    /// A truncated item. At least this many bytes are missing.
     Needs(usize),
-    /// What begins no item, and why.
+    /// Bytes that begin no item, and why.
     Refused(E),
 }
 
-/// What a parser's answer says of the slice: the item at its front, with what follows it, or why there is none.
+/// Returns what a parser's answer says about the slice: the item at its front with what follows it, or why there is none.
 ///
-/// Want of memory says nothing of the slice, and is the error.
+/// `OutOfMemory` says nothing about the slice, and becomes the error.
 pub fn found_in<'a, T: Drop>(
     answer: ResultParsing<(&'a [u8], T)>,
 ) -> Result<Found<(&'a [u8], T), PcapError>, AllocError>

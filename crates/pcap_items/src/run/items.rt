@@ -1,4 +1,4 @@
-//! Items that a parser lends from a slice, over any format.
+//! Items that a parser lends from a slice, for any format.
 
 ghost use Rattle.std.specs.Prelude.{◌≡◌, List, ℕ, map, All, IfOk, IfErr};
 ghost use Rattle.pcap_core.specs.Faults.{Fault};
@@ -13,10 +13,10 @@ use std::alloc::{AllocError, Global};
 
 /// A parser that lends the item at the front of a slice.
 pub trait Items<'a> {
-    /// What is lent of an item.
+    /// The form in which an item is lent.
     type Item: Drop;
 
-    /// What tells the fault of bytes that begin no item.
+    /// The error that reports why bytes begin no item.
     type Refusal: Drop;
 
     ghost State: { Type 0 };
@@ -39,7 +39,8 @@ pub trait Items<'a> {
 
     ghost grows: { State → List ℕ → Type 0 };
 
-    /// The item at the front, and what follows it. Only an item changes the parser's state.
+    /// Returns the item at the front of the slice and what follows it, or why there is none. Only an item changes the
+    /// parser's state.
     fn next_item(
         &mut self,
         slice: &'a [u8],
@@ -48,14 +49,14 @@ pub trait Items<'a> {
         ensures lent { IfOk result (IfItem (λ x. lent x.1)) };
 }
 
-/// What stands behind the last item of a run.
+/// The end of a run: what follows its last item.
 #[derive(Drop)]
 pub enum Ended<E> {
-    /// Nothing.
+    /// Nothing is left.
     Clean,
-    /// A beginning of an item, of which so many bytes are missing, at least.
+    /// A truncated item is left. At least this many bytes are missing.
     Needs(usize),
-    /// What begins no item, and why.
+    /// The bytes that are left begin no item. The error says why.
     Refused(E),
 }
 
@@ -71,20 +72,20 @@ impl From<Ended<PcapError>> for Rest {
     }
 }
 
-/// The items of a run, how many bytes it used, and what stands behind them.
+/// The items of a run, the number of bytes that it used, and what follows them.
 #[derive(Drop)]
 pub struct ItemRun<T, E> {
     /// The items, in order.
     pub items: Vec<T>,
-    /// Where in the bytes the last of them ends.
+    /// The offset in the bytes at which the last item ends.
     pub used: usize,
-    /// What stands there.
+    /// The end of the run: what follows at this offset.
     pub ended: Ended<E>,
 }
 
-/// All items at the front of a slice, and what is said of the rest.
+/// Parses all items at the front of a slice, and reports the rest.
 ///
-/// Want of memory is the parser's, or that of the list, which grows by an item alone.
+/// `AllocError` comes from the parser, or from the list of items, which grows only if there is an item.
 pub fn parse_items<'a, P: Items<'a>>(
     alloc: Global,
     parser: &mut P,

@@ -1,4 +1,4 @@
-//! Items of a capture that comes in pieces.
+//! Items of a capture that arrives in pieces.
 
 ghost use Rattle.std.specs.Prelude.{◌≡◌, ◌≤◌, ◌<◌, ◌+◌, ◌-◌, ◌^◌, ◌↔◌, ◌++◌, ⊤, ℕ, List, [], length, drop, take, map, replicate, All, IsTrue, IfOk, IfErr};
 ghost use Rattle.std.specs.Vec.{vec_capacity, vec_len};
@@ -12,12 +12,12 @@ use crate::{Rest, rest_or_memory};
 use pcap_core::{PcapError, ResultParsing};
 use std::alloc::Global;
 
-/// A parser for bytes that come in pieces. What it gives owns its bytes, since those that were taken are let go.
+/// A parser for bytes that arrive in pieces. Its items own their bytes, since the bytes that it has used are dropped.
 pub trait PieceParser: Drop {
-    /// What is kept of an item.
+    /// The form in which an item is kept.
     type Item: Drop;
 
-    /// What is set before a capture is opened.
+    /// The setting with which a capture is opened.
     type Setting: Copy + Drop;
 
     ghost State: { Type 0 };
@@ -38,7 +38,7 @@ pub trait PieceParser: Drop {
 
     ghost owned: { Self.Item → Type 0 };
 
-    /// The parser after what opens a capture, and what follows that.
+    /// Parses the opening of a capture, which is before its items. Returns the parser after it, and what follows.
     fn open<'a>(
         alloc: Global,
         setting: Self::Setting,
@@ -46,40 +46,40 @@ pub trait PieceParser: Drop {
     ) -> ResultParsing<(&'a [u8], Self)>
         ensures { TellsWhere ⊤ (opens setting held.now) state result };
 
-    /// The item at the front, and what follows it. Only an item changes the parser's state.
+    /// Returns the item at the front of the held bytes, and what follows it. Only an item changes the parser's state.
     fn take<'a>(&mut self, alloc: Global, held: &'a [u8]) -> ResultParsing<(&'a [u8], Self::Item)>
         ensures takes { TakesFront format part view (state self.old) (state self.new) held.now result }
         ensures owned { IfOk result (λ x. owned x.1) };
 }
 
-/// How far a capture came that comes in pieces.
+/// How far a capture that arrives in pieces has been parsed.
 #[derive(Drop)]
 enum Progress<P> {
-    /// What opens it isn't whole, or is refused, as the error says.
+    /// The opening of the capture is truncated or refused, as the error says.
     Before(PcapError),
-    /// The parser after the items so far, and what is said of the bytes that are left.
+    /// The parser after the items so far, and the rest after them.
     Within(P, Rest),
 }
 
-/// What all pieces hold.
+/// The contents of all pieces of a capture.
 #[derive(Drop)]
 pub struct Pieces<P, T> {
-    /// The parser after what opens the capture and its items.
+    /// The parser after the opening of the capture and the items.
     pub parser: P,
     /// The items, in order.
     pub items: Vec<T>,
-    /// For each piece, how many items it and those before it hold.
+    /// For each piece, the number of whole items in the bytes up to its end.
     pub numbers: Vec<usize>,
-    /// How many bytes were taken: what opens the capture, and the items.
+    /// The number of bytes that were used, for the opening of the capture and for the items.
     pub used: usize,
-    /// What is said of the bytes that are left.
+    /// The rest after the last item.
     pub rest: Rest,
 }
 
-/// Feeds a parser that is set so with the pieces, in order, and counts after each of them the items so far.
+/// Feeds the pieces in order to a parser with this setting, and counts the items after each piece.
 ///
-/// Where what opens the capture is refused, that refusal, and `IncompleteBuffer` where it isn't whole. `OutOfMemory` where
-/// something can't grow.
+/// Returns the refusal of the capture's opening, or `IncompleteBuffer` if the opening is truncated. Returns `OutOfMemory` if
+/// an allocation fails.
 pub fn feed_pieces<P: PieceParser>(
     alloc: Global,
     setting: P::Setting,
@@ -132,7 +132,7 @@ pub fn feed_pieces<P: PieceParser>(
     }
 }
 
-/// Whether the lengths of the pieces together fit `usize`, as the calls on pieces demand.
+/// Returns whether the total length of the pieces fits in `usize`, as the calls on pieces require.
 pub fn pieces_fit(pieces: &[&[u8]]) -> bool
     ensures { IsTrue result ↔ (length (joined_pieces pieces.now) < 2 ^ 64) }
 {
@@ -146,7 +146,7 @@ pub fn pieces_fit(pieces: &[&[u8]]) -> bool
     true
 }
 
-// Puts a piece behind what is held, and asks the parser once no byte is missing. Tells how many are missing then.
+// Appends a piece to the held bytes, and calls the parser once no byte is missing. Returns how many bytes are missing then.
 fn feed_piece<P: PieceParser>(
     alloc: Global,
     setting: P::Setting,
@@ -172,7 +172,7 @@ fn feed_piece<P: PieceParser>(
     Ok(due(progress))
 }
 
-// Puts a piece behind what is held; one byte needs no copying.
+// Appends a piece to the held bytes. A single byte is pushed and not copied as a slice.
 fn hold(held: &mut Vec<u8>, piece: &[u8]) -> ResultParsing<()>
     ensures held { IfOk result (λ _. held.new.items ≡ held.old.items ++ piece.now) }
     ensures memory { IfErr result IsMemory }
@@ -185,7 +185,8 @@ fn hold(held: &mut Vec<u8>, piece: &[u8]) -> ResultParsing<()>
     Ok(())
 }
 
-// Holds the pieces of one byte each that leave bytes missing together, with this number for each, and tells how many.
+// Appends the leading pieces of one byte each that leave bytes missing, and `number` for each of them. Returns how many
+// pieces it appended.
 fn hold_single(
     held: Vec<u8>,
     numbers: Vec<usize>,
@@ -211,7 +212,8 @@ fn hold_single(
     Ok(push_single(held, numbers, pieces.split_at(most).0, number))
 }
 
-// The same of pieces for which there is room. Both vectors are passed by value, so that their lengths stay in registers.
+// Does the same for pieces for which there is room. Both vectors are passed by value, so that their lengths stay in
+// registers.
 #[inline(never)]
 fn push_single(
     held: Vec<u8>,
@@ -238,8 +240,9 @@ fn push_single(
     (held, numbers, count)
 }
 
-// How many bytes have to come before the parser is asked: as many as it told that are missing, and after a refusal more than
-// can come. So it is asked about each item three times at most: behind the item before it, at its head and at its end.
+// Returns how many bytes must arrive before the parser is called: as many as it reported missing, and after a refusal more
+// than can arrive. So the parser is called at most three times for each item: after the previous item, at the head and at
+// the end.
 fn due<P>(progress: &Progress<P>) -> usize
     ensures { progress_with progress.now result ≡ progress.now }
 {
@@ -267,7 +270,8 @@ fn due_within(rest: &Rest) -> usize
     }
 }
 
-// The same with so many bytes missing, where it tells of missing ones. Where no byte is held behind an item, the rest is clean.
+// Returns the progress with `missing` bytes missing, if it reports missing bytes. A rest that needs bytes is clean if no
+// byte is held.
 fn shown<P>(progress: Progress<P>, missing: usize, held: usize) -> Progress<P>
     ensures { result ≡ progress_shown progress missing held }
 {
@@ -302,7 +306,7 @@ fn rest_of(rest: Rest, missing: usize, held: usize) -> Rest
     }
 }
 
-// Asks the parser for what stands at the front of what is held.
+// Calls the parser on the held bytes.
 fn asked<P: PieceParser>(
     alloc: Global,
     setting: P::Setting,
@@ -329,7 +333,7 @@ fn asked<P: PieceParser>(
     Ok(())
 }
 
-// Opens the capture and takes its items, where it opens.
+// Opens the capture and, if it opens, takes its items.
 fn opened<P: PieceParser>(
     alloc: Global,
     setting: P::Setting,
@@ -355,8 +359,8 @@ fn opened<P: PieceParser>(
     }
 }
 
-// Takes the items that stand at the front of what is held, lets their bytes go, and tells what is said of those that are left,
-// also where there are none.
+// Takes the items at the front of the held bytes, and drops their bytes. Returns the parser's answer about the bytes that
+// are left, even if there are none.
 fn take_items<P: PieceParser>(
     alloc: Global,
     parser: &mut P,
@@ -385,7 +389,7 @@ fn take_items<P: PieceParser>(
     }
 }
 
-// Lets the first so many bytes go.
+// Drops the first `n` bytes.
 fn drop_front(held: &mut Vec<u8>, n: usize)
     requires { n ≤ length held.old.items }
     ensures { held.new.items ≡ drop n held.old.items }

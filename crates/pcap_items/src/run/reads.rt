@@ -1,11 +1,11 @@
-//! Items that come off a stream, over any format.
+//! Items that a run takes from a reader, for any format.
 
 ghost use Rattle.pcap_items.specs.Takes.{GivesItems};
 
 use std::alloc::{AllocError, Global};
 
-/// Takes items off a reader while there are fewer than `most`, up to a None, or to a refusal, which is told. Room for each is
-/// made before the reader is asked for it.
+/// Takes items from a reader until there are `most`, or until the reader returns None or an error. Returns the items, and
+/// the error if there is one. It makes room for each item before it calls the reader.
 pub fn read_items<T: Drop, E: From<AllocError> + Drop, R: Iterator<Item = Result<T, E>>>(
     alloc: Global,
     reader: &mut R,

@@ -1,27 +1,27 @@
-//! The requests that a window has met, for contracts alone.
+//! The requests that a window has met, for contracts only.
 
 ghost use Rattle.std.specs.Prelude.{◌≡◌, [], ◌∷◌, ◌++◌};
 ghost use Rattle.pcap_items.specs.Requests.{all_requests};
 
 use std::snapshot::Snapshot;
 
-/// The last request, and those before it. No such value is kept when the program runs.
+/// The last request to a window, and those before it. No such value is kept when the program runs.
 #[derive(Drop)]
 pub enum Request {
-    /// Nothing was asked for.
+    /// There was no request.
     Nothing,
-    /// After these requests one for so many bytes.
+    /// These requests, followed by one for this many bytes.
     After(Snapshot<Request>, usize),
 }
 
-/// All requests so far, as contracts see them. It takes no memory.
+/// All requests so far, as contracts see them. The value takes no memory.
 #[derive(Drop)]
 pub struct Requests {
     last: Snapshot<Request>,
 }
 
 impl Requests {
-    /// No request.
+    /// Returns the empty list of requests.
     pub fn new() -> Requests
         ensures { all_requests result ≡ [] }
     {
@@ -30,7 +30,7 @@ impl Requests {
         }
     }
 
-    /// Adds a request for so many bytes.
+    /// Appends a request for `n` bytes.
     pub fn push(&mut self, n: usize)
         ensures { all_requests self.new ≡ all_requests self.old ++ n ∷ [] }
     {

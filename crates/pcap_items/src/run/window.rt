@@ -1,13 +1,13 @@
-//! A slice whose bytes are shown as they are asked for.
+//! A slice whose bytes are shown on request.
 
 ghost use Rattle.std.specs.Prelude.{◌≡◌, ◌≤◌, ◌+◌, ◌-◌, ◌↔◌, [], ◌∷◌, ◌++◌, length, take, drop, min, IsTrue};
 
 use crate::run::requests::Requests;
 
-/// A slice of which the first bytes were shown. Contracts see its bytes, how many of them were shown, and all requests.
+/// A slice that shows its bytes on request. Contracts see its bytes, how many of them were shown, and all requests.
 ///
-/// It stands for any source that gives bytes on request: who asks for exactly what a parser lacks knows from the format
-/// alone what will be asked for.
+/// It models any source that returns bytes on request. If the caller requests exactly the bytes that the parser is missing,
+/// the format alone determines the requests.
 #[derive(Drop)]
 pub struct Window<'a> {
     bytes: &'a [u8],
@@ -19,7 +19,7 @@ pub struct Window<'a> {
 impl<'a> Window<'a> {
     ghost use Rattle.pcap_items.specs.Window.{bytes_of, shown_of, requests_made};
 
-    /// A window over these bytes that has shown none.
+    /// Returns a window over these bytes that has shown none of them.
     pub fn new(bytes: &'a [u8]) -> Window<'a>
         ensures bytes { bytes_of result ≡ bytes.now }
         ensures shown { shown_of result ≡ 0 }
@@ -32,7 +32,7 @@ impl<'a> Window<'a> {
         }
     }
 
-    /// Shows `n` bytes more, or those that are left where these are fewer, and answers how many.
+    /// Shows `n` more bytes, or all that are left if these are fewer. Returns how many bytes it showed.
     pub fn ask(&mut self, n: usize) -> usize
         ensures count { result ≡ min n (length (bytes_of self.old) - shown_of self.old) }
         ensures shown { shown_of self.new ≡ shown_of self.old + result }
@@ -45,7 +45,7 @@ impl<'a> Window<'a> {
         count
     }
 
-    /// All bytes that were shown so far.
+    /// Returns all bytes that were shown so far.
     pub fn seen(&self) -> &'a [u8]
         ensures seen { result.now ≡ take (shown_of self.now) (bytes_of self.now) }
         ensures within { shown_of self.now ≤ length (bytes_of self.now) }
@@ -53,7 +53,7 @@ impl<'a> Window<'a> {
         &self.bytes[..self.shown]
     }
 
-    /// Of the bytes that were shown those after the first `start`.
+    /// Returns the bytes that were shown after the first `start`.
     pub fn seen_after(&self, start: usize) -> &'a [u8]
         requires { start ≤ shown_of self.now }
         ensures { result.now ≡ drop start (take (shown_of self.now) (bytes_of self.now)) }
@@ -61,7 +61,7 @@ impl<'a> Window<'a> {
         self.seen().split_at(start).1
     }
 
-    /// Whether no byte is left to show.
+    /// Returns whether no byte is left to show.
     pub fn is_done(&self) -> bool
         ensures { IsTrue result ↔ (shown_of self.now ≡ length (bytes_of self.now)) }
     {

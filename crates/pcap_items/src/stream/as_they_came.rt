@@ -1,4 +1,4 @@
-//! Copies of items that go out as they came, over any format.
+//! Copies that write items unchanged, for any format.
 
 ghost use Rattle.std.specs.Prelude.{◌≡◌, [], false};
 ghost use Rattle.pcap_items.specs.AsTheyCame.{HoldsNext, PassesItem};
@@ -10,9 +10,9 @@ use pcap_core::ResultParsing;
 use std::alloc::Global;
 use std::io::{Read, Write};
 
-/// Items of a format that are held one by one, or passed over where they lie.
+/// A format whose items can be held one at a time, or skipped in a buffer.
 pub trait Holding {
-    /// What is in force between two items.
+    /// The state between two items.
     type Place;
 
     ghost State: { Type 0 };
@@ -25,7 +25,7 @@ pub trait Holding {
 
     ghost leaves: { Value → Type 0 };
 
-    /// Holds the bytes of the next item, puts in force what it says, and tells whether there was one.
+    /// Holds the bytes of the next item, and updates the state by what the item says. Returns whether there was an item.
     fn hold_next<R: Read>(
         &self,
         alloc: Global,
@@ -39,15 +39,15 @@ pub trait Holding {
         ensures { HoldsNext (format self.now) (state place.old) (state place.new)
             (R.remaining reader.old) (R.remaining reader.new) (held_bytes held.new) has_failed.new result };
 
-    /// What follows the item at the front of the bytes, where one stands there whole that leaves what is in force.
+    /// Returns what follows the item at the front of the bytes, if it is there whole and leaves the state unchanged.
     fn pass<'a>(&self, place: &Self::Place, bytes: &'a [u8]) -> Option<&'a [u8]>
         ensures { PassesItem (format self.now) leaves (state place.now) bytes.now result };
 }
 
-/// Items that go out as they came.
+/// Items that a copy writes unchanged.
 #[derive(Drop)]
 pub struct AsTheyCame<H> {
-    /// What holds them.
+    /// The format that holds the items.
     pub items: H,
 }
 

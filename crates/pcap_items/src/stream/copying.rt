@@ -1,4 +1,4 @@
-//! Copies of items from a reader to a writer, over any format: one by one, or out of the reader's own buffer.
+//! Copies of items from a reader to a writer, for any format: one item at a time, or out of the reader's own buffer.
 
 ghost use Rattle.std.specs.Prelude.{◌≡◌, ◌≤◌, ◌<◌, ◌+◌, ◌^◌, List, ℕ, [], length, take, false, IsTrue, IfOk, OnOk};
 ghost use Rattle.std.specs.Result.{result_err};
@@ -11,10 +11,10 @@ use pcap_core::{PcapError, ResultParsing};
 use std::alloc::Global;
 use std::io::{BufRead, Read, Write};
 
-/// How far a copy is.
+/// The progress of a copy: the number of items, and whether a read or a write failed.
 #[derive(Drop)]
 pub struct Tally {
-    /// How many whole items went out.
+    /// The number of whole items that were written.
     pub items: u64,
     /// Whether a read failed.
     pub read_failed: bool,
@@ -23,7 +23,7 @@ pub struct Tally {
 }
 
 impl Tally {
-    /// Nothing is copied.
+    /// Returns the tally of a copy that has copied nothing.
     pub fn none() -> Tally
         ensures { NothingCopied result }
     {
@@ -35,20 +35,20 @@ impl Tally {
     }
 }
 
-/// What of a buffer went out.
+/// The part of a buffer that was written.
 #[derive(Drop)]
 pub struct Sent {
-    /// How many whole items.
+    /// The number of whole items.
     pub items: u64,
-    /// How many bytes these have, and with them the item in which a write failed.
+    /// The number of bytes of these items, and of the item in which a write failed.
     pub used: usize,
-    /// The write that failed.
+    /// The error of the write that failed, if one did.
     pub fault: Option<PcapError>,
 }
 
-/// What stands ahead of a copy: items of a format, each of which goes out as it is written here.
+/// The items ahead of a copy, and how each of them is written.
 pub trait Ahead {
-    /// What is in force between two items.
+    /// The state between two items.
     type Place;
 
     ghost State: { Type 0 };
@@ -63,7 +63,7 @@ pub trait Ahead {
 
     ghost state: { Self.Place → State };
 
-    /// Copies the next item, which is held meanwhile, and says whether there was one.
+    /// Copies the next item, which is held meanwhile. Returns whether there was an item.
     fn copy_next<R: Read, W: Write>(
         &self,
         alloc: Global,
@@ -84,9 +84,9 @@ pub trait Ahead {
         ensures between { OnOk result (held_bytes held.new ≡ []) };
 }
 
-/// Items ahead that go out of a buffer, too.
+/// Items ahead of a copy that can also be written out of the reader's buffer.
 pub trait AheadShown: Ahead {
-    /// Writes whole items at the front of a buffer that leave what is in force, at most so many.
+    /// Writes at most `most` whole items at the front of a buffer, all of which leave the state unchanged.
     fn put_shown<W: Write>(
         &self,
         place: &Self::Place,
@@ -101,7 +101,7 @@ pub trait AheadShown: Ahead {
             (take result.used shown.now) (W.contents writer.old) (W.contents writer.new) most result.items has_failed.old has_failed.new result.fault };
 }
 
-/// Copies items until `most` are copied, each of them before the next one is read.
+/// Copies items until `most` are copied or the reader is at its end. It writes each item before it reads the next one.
 ///
 /// The errors are those of `copy_next`.
 pub fn copy_items<A: Ahead, R: Read, W: Write>(
@@ -131,9 +131,10 @@ pub fn copy_items<A: Ahead, R: Read, W: Write>(
     Ok(())
 }
 
-/// Copies items until `most` are copied: those of a buffer, and then the one that follows them.
+/// Copies items until `most` are copied or the reader is at its end: the whole items of a buffer, and then the one that
+/// follows them.
 ///
-/// The errors are those of `copy_next`; `IoError` also where the buffer can't be filled.
+/// The errors are those of `copy_next`, and `IoError` if the buffer can't be filled.
 pub fn copy_buffers<A: AheadShown, R: BufRead, W: Write>(
     alloc: Global,
     ahead: &A,
@@ -167,7 +168,8 @@ pub fn copy_buffers<A: AheadShown, R: BufRead, W: Write>(
     Ok(())
 }
 
-// Copies items that lie whole at the front of the reader's buffer, until `most` are copied, and says whether there was a buffer.
+// Copies the whole items at the front of the reader's buffer until `most` are copied. Returns whether the buffer had any
+// bytes.
 fn copy_shown<A: AheadShown, R: BufRead, W: Write>(
     ahead: &A,
     place: &A::Place,

@@ -1,4 +1,4 @@
-//! A buffer that is filled from a stream as bytes are asked for.
+//! A buffer that is filled from a stream on request.
 
 ghost use Rattle.std.specs.Prelude.{false, ◌≡◌, ◌<◌, ◌≤◌, ◌+◌, min, max, length, [], IfOk, IfErr, OnOk, OnErr};
 ghost use Rattle.std.specs.Borrow.{sem, Lends};
@@ -16,7 +16,7 @@ use pcap_core::ResultParsing;
 use std::alloc::Global;
 use std::io::Read;
 
-/// Bytes of a stream, taken as they are asked for, and held until they are let go.
+/// A buffer of bytes that are read from a stream on request, and held until they are dropped.
 #[derive(Debug, Drop)]
 pub struct Fill<T> {
     pub(crate) told: Told<T>,
@@ -24,7 +24,7 @@ pub struct Fill<T> {
 }
 
 impl<T> Fill<T> {
-    /// Holds nothing of this stream yet.
+    /// Returns a buffer that holds no bytes of this stream yet.
     pub fn new(alloc: Global, told: Told<T>) -> Fill<T>
         ensures told { told_of result ≡ told }
         ensures held { held_of result ≡ [] }
@@ -36,14 +36,14 @@ impl<T> Fill<T> {
         }
     }
 
-    /// The bytes that are held.
+    /// Returns the bytes that are held.
     pub fn held(&self) -> &[u8]
         ensures { result.now ≡ held_of self.now }
     {
         self.held.as_slice()
     }
 
-    /// Lets the held bytes go, and keeps their room.
+    /// Drops the held bytes, and keeps their room.
     pub fn clear(&mut self)
         ensures held { held_of self.new ≡ [] }
         ensures room { room_of self.new ≡ room_of self.old }
@@ -52,21 +52,21 @@ impl<T> Fill<T> {
         self.held.clear();
     }
 
-    /// Whether a read of the stream failed.
+    /// Returns whether a read of the stream failed.
     pub fn failed(&self) -> bool
         ensures { result ≡ has_failed self.now }
     {
         self.told.failed()
     }
 
-    /// The stream.
+    /// Returns the stream.
     pub fn get_ref(&self) -> &T
         ensures { result.now ≡ stream_of self.now }
     {
         self.told.get_ref()
     }
 
-    /// The stream. What is read of it directly is lost to this buffer.
+    /// Returns the stream. This buffer does not get bytes that the caller reads from it directly.
     pub fn get_mut(&mut self) -> &mut T
         ensures value { result.now ≡ stream_of self.old }
         ensures* writes_back { sem 𝓛 (Lends (fill-row T.row) T.row self.entry result (fill_with self.old)) }
@@ -74,7 +74,7 @@ impl<T> Fill<T> {
         self.told.get_mut()
     }
 
-    /// Gives the stream back. Held bytes are dropped.
+    /// Returns the stream. Held bytes are dropped.
     pub fn into_inner(self) -> T
         ensures { result ≡ stream_of self }
     {
@@ -83,9 +83,9 @@ impl<T> Fill<T> {
 }
 
 impl<T: Read> Fill<T> {
-    /// Makes one read of the stream, which is offered room for n bytes, or for 65536 if these are fewer, and answers how
-    /// many came: 0 at the end of the stream. `OutOfMemory` where there is no room for them, `IoError` where the read
-    /// failed; what is held stays then.
+    /// Makes one read of the stream, with room for n bytes but at most 65536. Returns how many bytes came, which is 0 at the
+    /// end of the stream. Returns `OutOfMemory` if there is no room for them, and `IoError` if the read failed. After an
+    /// error, the held bytes are unchanged.
     pub fn step(&mut self, n: usize) -> ResultParsing<usize>
         requires { 0 < n }
         ensures added { IfOk result (Adds (held_of self.old) (held_of self.new) (T.remaining (stream_of self.old)) (T.remaining (stream_of self.new))) }
@@ -105,9 +105,9 @@ impl<T: Read> Fill<T> {
         )
     }
 
-    /// Adds n bytes of the stream to those that are held. `Ok(false)` says that nothing was held and nothing is left.
-    /// `OutOfMemory` where there is no room, `IoError` where a read failed or the stream ended before n bytes; what came
-    /// before that is held too.
+    /// Appends n bytes of the stream to the held bytes. `Ok(false)` means that nothing was held and nothing is left. Returns
+    /// `OutOfMemory` if there is no room, and `IoError` if a read failed or the stream ended before n bytes. Bytes that came
+    /// before the error are held too.
     pub fn more(&mut self, n: usize) -> ResultParsing<bool>
         requires { 0 < n }
         ensures added { IfOk result (FillGives n (held_of self.old) (held_of self.new) (T.remaining (stream_of self.old)) (T.remaining (stream_of self.new))) }
@@ -125,8 +125,8 @@ impl<T: Read> Fill<T> {
         )
     }
 
-    /// Fills what is held with the next item: its head, and then as many bytes as this states. `None` exactly at the end of
-    /// the stream. Where it fails, what came before that is held.
+    /// Fills the buffer with the next item: its head, and then as many bytes as the head states. Returns `None` exactly at
+    /// the end of the stream. After an error, the bytes that came before it are held.
     #[inline(always)]
     pub fn item<H: HasHead>(&mut self, item: &H) -> ResultParsing<Option<H::Head>>
         requires lawful { IsLawful (H.format item.now) }
@@ -145,8 +145,8 @@ impl<T: Read> Fill<T> {
         )
     }
 
-    /// Takes the next item: its head, which is held apart meanwhile, and as many bytes as this states, in a vector of their own.
-    /// `None` exactly at the end of the stream. What is held stays.
+    /// Takes the next item: its head, which `apart` holds meanwhile, and a new vector of as many bytes as the head states.
+    /// Returns `None` exactly at the end of the stream. The bytes held by this buffer are unchanged.
     #[inline(always)]
     pub fn take<H: HasHead>(
         &mut self,

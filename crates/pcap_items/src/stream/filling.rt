@@ -1,4 +1,4 @@
-//! One way to fill, for every format whose items have a head.
+//! Filling a buffer with one item, for every format whose items have a head.
 
 ghost use Rattle.std.specs.Prelude.{◌≡◌, ◌≤◌, ◌+◌, max, ℕ, List, [], false, length, OnOk, OnErr};
 ghost use Rattle.std.specs.Io.KnownBytes.{Consumes};
@@ -11,9 +11,10 @@ use pcap_core::ResultParsing;
 use std::alloc::Global;
 use std::io::Read;
 
-/// A format under a state: its items begin with a head, whose length the state says and which states how many bytes follow it.
+/// A format whose items begin with a head, in a given state. The state gives the length of a head, and the head states how
+/// many bytes follow it.
 pub trait HasHead {
-    /// What is read of a head.
+    /// The form in which a head is read.
     type Head: Drop;
 
     ghost State: { Type 0 };
@@ -26,24 +27,25 @@ pub trait HasHead {
 
     ghost knows: { Self → Self.Head → ℕ → List ℕ → Type 0 };
 
-    /// The length of a head under this state.
+    /// Returns the length of a head in this state.
     fn head(&self) -> usize
         ensures { result ≡ (format self.now).head (state self.now) };
 
-    /// What the head says that these bytes are, and how many bytes follow it, or the head's refusal.
+    /// Reads a head. Returns what these bytes are and how many bytes follow them, or the head's refusal.
     ///
-    /// No error shows a fault of the format's own. Where `Head` is a `Result`, such a head is its `Err`, which no byte
-    /// follows; what fills gives it like any other head, and who called that makes an error of their own of it.
+    /// No error of this crate shows a format's own fault. If `Head` is a `Result`, a head with such a fault is its `Err`,
+    /// which no byte follows. The functions that fill return it like any other head, and their caller converts it into an
+    /// error of its own.
     fn stated(&self, bytes: &[u8]) -> ResultParsing<(Self::Head, usize)>
         requires { length bytes.now ≡ (format self.now).head (state self.now) }
         ensures { StatesRest ((format self.now).says (state self.now)) (knows self.now) bytes.now result };
 }
 
-/// Fills what is held with the next item: its head, and then as many bytes as this states. `None` exactly at the end of the
-/// stream. Nothing is held before it, nor where it answers `None`.
+/// Fills the held bytes with the next item: its head, and then as many bytes as the head states. Returns `None` exactly at
+/// the end of the stream. Nothing is held before the call, nor after it returns `None`.
 ///
-/// The head's refusal where its bytes are refused. `OutOfMemory` where there is no room, `IoError` where a read failed or the
-/// stream ended early. What came before that is held too.
+/// Returns the head's refusal if its bytes are refused, `OutOfMemory` if there is no room, and `IoError` if a read failed or
+/// the stream ended early. Bytes that came before the error are held too.
 #[inline(always)]
 pub fn fill_item<H: HasHead, T: Read>(
     item: &H,
@@ -68,11 +70,11 @@ pub fn fill_item<H: HasHead, T: Read>(
     Ok(Some(head))
 }
 
-/// Takes the next item: its head, and as many bytes as this states, in a vector of their own, whose room grows with the bytes
-/// that come. `None` exactly at the end of the stream. Nothing is held before it, nor after an `Ok`.
+/// Takes the next item: its head, and a new vector of as many bytes as the head states, whose room grows with the bytes that
+/// arrive. Returns `None` exactly at the end of the stream. Nothing is held before the call, nor after an `Ok`.
 ///
-/// The head's refusal where its bytes are refused. `OutOfMemory` where there is no room, `IoError` where a read failed or the
-/// stream ended early.
+/// Returns the head's refusal if its bytes are refused, `OutOfMemory` if there is no room, and `IoError` if a read failed or
+/// the stream ended early.
 #[inline(always)]
 pub fn take_item<H: HasHead, T: Read>(
     alloc: Global,
@@ -97,7 +99,7 @@ pub fn take_item<H: HasHead, T: Read>(
     Ok(Some((head, body)))
 }
 
-// Fills what is held with the head of the next item, and says how many bytes follow it.
+// Fills the held bytes with the head of the next item, and returns how many bytes follow it.
 #[inline(always)]
 fn fill_head<H: HasHead, T: Read>(
     item: &H,

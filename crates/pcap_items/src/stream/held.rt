@@ -1,4 +1,4 @@
-//! Bytes that came from a stream.
+//! Bytes that were read from a stream.
 
 ghost use Rattle.std.specs.Prelude.{◌≡◌, ◌≤◌, ◌+◌, max, [], IfOk, IfErr, OnOk, vec_len};
 ghost use Rattle.pcap_core.specs.Errors.{IsMemory};
@@ -6,7 +6,7 @@ ghost use Rattle.pcap_core.specs.Errors.{IsMemory};
 use pcap_core::ResultParsing;
 use std::alloc::Global;
 
-/// Bytes that came from a stream, and behind them room that is cleared once and then used again.
+/// Bytes that were read from a stream, followed by room that is zeroed once and then reused.
 #[derive(Debug, Drop)]
 pub struct Held {
     pub(crate) room: Vec<u8>,
@@ -17,7 +17,7 @@ pub struct Held {
 impl Held {
     ghost use Rattle.pcap_items.specs.Held.{held_bytes, room_of};
 
-    /// Nothing, which takes no memory.
+    /// Returns an empty buffer, which allocates no memory.
     pub fn new(alloc: Global) -> Held
         ensures held { held_bytes result ≡ [] }
         ensures room { room_of result ≡ 0 }
@@ -28,7 +28,7 @@ impl Held {
         }
     }
 
-    // Nothing yet, with room for so many bytes.
+    // Returns an empty buffer with room for `n` bytes.
     #[inline(always)]
     pub(crate) fn with_room(alloc: Global, n: usize) -> ResultParsing<Held>
         ensures held { IfOk result (λ made. held_bytes made ≡ []) }
@@ -40,14 +40,14 @@ impl Held {
         Ok(Held { room, len: 0 })
     }
 
-    /// The bytes that are held.
+    /// Returns the bytes that are held.
     pub fn as_slice(&self) -> &[u8]
         ensures { result.now ≡ held_bytes self.now }
     {
         &self.room.as_slice()[..self.len]
     }
 
-    /// The bytes that are held, as they are.
+    /// Returns the held bytes as a vector, without copying them.
     pub fn into_vec(self) -> Vec<u8>
         ensures { result.items ≡ held_bytes self }
     {
@@ -56,7 +56,7 @@ impl Held {
         room
     }
 
-    /// Lets all bytes go, and keeps their room.
+    /// Drops all bytes, and keeps their room.
     pub fn clear(&mut self)
         ensures held { held_bytes self.new ≡ [] }
         ensures room { room_of self.new ≡ room_of self.old }
@@ -64,7 +64,7 @@ impl Held {
         self.len = 0;
     }
 
-    // Makes room for so many bytes behind those that are held.
+    // Makes room for `n` bytes after those that are held.
     #[inline(always)]
     pub(crate) fn make_room(&mut self, n: usize) -> ResultParsing<()>
         requires { n ≤ 65536 }

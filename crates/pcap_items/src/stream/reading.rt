@@ -1,4 +1,4 @@
-//! Bytes that are read off a stream: some of them, or exactly as many as are asked for.
+//! Functions that read bytes from a stream: some of them, or exactly as many as the caller requests.
 
 ghost use Rattle.std.specs.Prelude.{◌≡◌, ◌<◌, ◌≤◌, ◌+◌, take, drop, min, max, length, IfOk, IfErr, OnOk, OnErr};
 ghost use Rattle.std.specs.Io.KnownBytes.{Keeps, Consumes, IsAtEnd};
@@ -12,10 +12,11 @@ use std::alloc::Global;
 use std::io;
 use std::io::{ErrorKind, Read};
 
-/// The most bytes that one read is offered room for.
+/// The largest number of bytes for which one read has room.
 const MOST_AT_ONCE: usize = 65536;
 
-// Holds what one read gives. It works over the parts of a `Fill`: so a stream that is only borrowed is filled from too.
+// Appends the bytes of one read to the held bytes. It takes the parts of a `Fill`, so that it also fills from a borrowed
+// stream.
 #[inline(always)]
 pub(crate) fn read_once<T: Read>(
     stream: &mut T,
@@ -47,7 +48,7 @@ pub(crate) fn read_once<T: Read>(
     }
 }
 
-// Holds n bytes more.
+// Appends n bytes to the held bytes. Returns false if nothing was held and the stream was at its end.
 #[inline(always)]
 pub(crate) fn read_exactly<T: Read>(
     stream: &mut T,
@@ -77,9 +78,9 @@ pub(crate) fn read_exactly<T: Read>(
     Ok(true)
 }
 
-/// Takes so many bytes off a stream, in a vector of their own, whose room grows with the bytes that come.
+/// Takes `n` bytes from a stream into a new vector, whose room grows with the bytes that arrive.
 ///
-/// `OutOfMemory` where they can't be kept, `IoError` where a read failed or the stream ended early.
+/// Returns `OutOfMemory` if there is no room for them, and `IoError` if a read failed or the stream ended early.
 #[inline(always)]
 pub fn take_bytes<T: Read>(
     alloc: Global,
@@ -103,7 +104,7 @@ pub fn take_bytes<T: Read>(
     Ok(held.into_vec())
 }
 
-/// Fills an array from a stream, which takes no memory. `IoError` where a read failed or the stream ended early.
+/// Fills an array from a stream, without allocating memory. Returns `IoError` if a read failed or the stream ended early.
 pub fn fill_array<T: Read>(
     stream: &mut T,
     has_failed: &mut bool,
@@ -126,7 +127,7 @@ pub fn fill_array<T: Read>(
     Ok(())
 }
 
-// One read into so many bytes from a place on.
+// Makes one read into `room` bytes from the index `at` on.
 #[inline(always)]
 fn read_at<T: Read>(stream: &mut T, bytes: &mut [u8], at: usize, room: usize) -> io::Result<usize>
     requires some { 0 < room }

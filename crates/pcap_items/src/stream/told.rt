@@ -1,4 +1,4 @@
-//! Streams that tell whether a call of them failed.
+//! Streams that remember whether a call of them failed.
 
 ghost use Rattle.std.specs.Prelude.{◌≡◌, ◌<◌, ◌⊎◌, true, false, length, IfOk, OnErr, MatchResult};
 ghost use Rattle.std.specs.Borrow.{sem, Lends};
@@ -19,7 +19,7 @@ pub struct Told<T> {
 }
 
 impl<T> Told<T> {
-    /// Wraps a stream, of which no call has failed yet.
+    /// Wraps a stream. No call of it has failed yet.
     pub fn new(inner: T) -> Told<T>
         ensures stream { stream_of result ≡ inner }
         ensures unfailed { has_failed result ≡ false }
@@ -30,21 +30,21 @@ impl<T> Told<T> {
         }
     }
 
-    /// Whether a call answered an error, or a write took nothing of the bytes that it was offered.
+    /// Returns whether a call returned an error, or a write took none of the bytes that it was offered.
     pub fn failed(&self) -> bool
         ensures { result ≡ has_failed self.now }
     {
         self.has_failed
     }
 
-    /// The wrapped stream.
+    /// Returns the wrapped stream.
     pub fn get_ref(&self) -> &T
         ensures { result.now ≡ stream_of self.now }
     {
         &self.inner
     }
 
-    /// The wrapped stream. What is called on it directly isn't remembered.
+    /// Returns the wrapped stream. Failures of direct calls on it are not remembered.
     pub fn get_mut(&mut self) -> &mut T
         ensures value { result.now ≡ stream_of self.old }
         ensures* writes_back { sem 𝓛 (Lends (told-row T.row) T.row self.entry result (told_with self.old)) }
@@ -52,7 +52,7 @@ impl<T> Told<T> {
         &mut self.inner
     }
 
-    /// Gives the wrapped stream back.
+    /// Returns the wrapped stream, and consumes the wrapper.
     pub fn into_inner(self) -> T
         ensures { result ≡ stream_of self }
     {

@@ -1,4 +1,4 @@
-//! Bytes that are written whole, or up to a call that fails.
+//! Functions that write all bytes, or stop at a call that fails.
 
 ghost use Rattle.std.specs.Prelude.{◌≡◌, true, MatchResult};
 ghost use Rattle.pcap_core.specs.Errors.{IsIo};
@@ -8,16 +8,16 @@ use pcap_core::{PcapError, ResultParsing};
 use std::io;
 use std::io::{ErrorKind, Write};
 
-/// A write that failed: how many bytes went out before it, and the error.
+/// A failed write: the number of bytes that were written before it, and the error.
 #[derive(Debug, Drop)]
 pub struct Torn {
-    /// How many of the bytes went out: fewer than there are.
+    /// The number of bytes that were written, fewer than all of them.
     pub gone: usize,
     /// The `IoError`.
     pub error: PcapError,
 }
 
-/// Writes all of the bytes, or up to a call that fails or takes nothing of them. `IoError` then.
+/// Writes all of the bytes. If a call fails or takes none of the bytes, it stops and returns `IoError`.
 pub fn put<W: Write>(writer: &mut W, has_failed: &mut bool, bytes: &[u8]) -> ResultParsing<()>
     ensures out { WritesAll (W.contents writer.old) (W.contents writer.new) bytes.now result }
     ensures told { MatchResult result (λ _. has_failed.new ≡ has_failed.old) (λ _. has_failed.new ≡ true) }
@@ -28,8 +28,8 @@ pub fn put<W: Write>(writer: &mut W, has_failed: &mut bool, bytes: &[u8]) -> Res
     }
 }
 
-/// Writes all of the bytes, or up to a call that fails or takes nothing of them: then tells how many went out, and the
-/// `IoError`.
+/// Writes all of the bytes. If a call fails or takes none of the bytes, it stops and returns the number of bytes written and
+/// the `IoError`.
 #[inline(always)]
 pub fn put_or_tear<W: Write>(
     writer: &mut W,
