@@ -1,4 +1,4 @@
-//! Views of hardware addresses, which the reader returns as unknown records of type 3 or 4.
+//! Views of hardware addresses, which the parser returns as unknown records of type 3 or 4.
 
 ghost use Rattle.std.specs.Prelude.{ℕ, List, MatchOption};
 ghost use Rattle.pcap_options.specs.HardwareAddress.{AddressOf};
