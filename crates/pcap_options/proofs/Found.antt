@@ -6,7 +6,7 @@ use Rattle.std.proofs.lemmas.List.{take-append-drop, map-append}
 use Rattle.std.proofs.lemmas.List.Elements.{filter_map-append}
 use Rattle.std.proofs.Math.Seq.{take-suc, drop-cons}
 
--- What a function gives for two lists, one after the other, is what it gives for each.
+-- A function's results for two joined lists are its results for each list, joined.
 given_of_both : {O E X : Type 0} (view : O → E) (h : E → Option X) (xs ys : List O) → filter_map h (map view (xs ++ ys)) ≡ filter_map h (map view xs) ++ filter_map h (map view ys)
 given_of_both view h xs ys = ap (λ l. filter_map h l) (map-append view xs ys) ∙ filter_map-append h (map view xs) (map view ys)
 

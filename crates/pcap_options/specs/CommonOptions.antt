@@ -1,4 +1,4 @@
--- Custom and unknown options, which every kind of block can have, and what an option in the code carries.
+-- Custom and unknown options, which every kind of block can have, and the contents of an option in the code.
 use Rattle.std.specs.Prelude.{ℕ}
 use Rattle.std.specs.declared.borrow.CowStr.{CowStr}
 use Rattle.std.specs.Cow.{cow_str_bytes, IsBorrowedStr, IsOwnedStr}
@@ -45,7 +45,7 @@ CustomStringIsBorrowed o = IsBorrowedStr o.value
 abbrev pub CustomStringIsOwned : CustomUtf8Option → Type 0
 CustomStringIsOwned o = IsOwnedStr o.value
 
--- An option carries its code and value, and the conditions under which its string or bytes are borrowed and owned.
+-- The contents of an option: its code and value, and the conditions under which its string or bytes are borrowed and owned.
 pub record Carried : Type 1 where
   pub entry : Entry
   pub is_borrowed : Type 0

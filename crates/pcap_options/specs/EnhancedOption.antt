@@ -10,7 +10,7 @@ use Rattle.pcap_options.specs.CommonOptions.{Carried, carries_string, carries_by
 abbrev pub enhanced_packet : Kind
 enhanced_packet = (1, string) ∷ (2, number 4 EnhancedFlagsLength) ∷ (3, bytes) ∷ (4, number 8 EnhancedDropCountLength) ∷ custom
 
--- What an enhanced packet's option carries, by its variant.
+-- The contents of an enhanced packet's option, by its variant.
 abbrev pub enhanced_carries : EnhancedPacketOption → Carried
 enhanced_carries (option_of.Comment t) = carries_string 1 t
 enhanced_carries (option_of.Flags n) = carries_number 2 n

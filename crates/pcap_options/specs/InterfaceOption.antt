@@ -27,7 +27,7 @@ interface_description =
     ∷ (15, string)
     ∷ custom
 
--- What an interface's option carries, by its variant.
+-- The contents of an interface's option, by its variant.
 abbrev pub interface_carries : InterfaceDescriptionOption → Carried
 interface_carries (option_of.Comment t) = carries_string 1 t
 interface_carries (option_of.IfName t) = carries_string 2 t

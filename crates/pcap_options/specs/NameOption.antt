@@ -10,7 +10,7 @@ use Rattle.pcap_options.specs.CommonOptions.{Carried, carries_string, carries_by
 abbrev pub name_resolution : Kind
 name_resolution = (1, string) ∷ (2, string) ∷ (3, fixed_bytes 4 NameIpv4Length) ∷ (4, fixed_bytes 16 NameIpv6Length) ∷ custom
 
--- What a name resolution block's option carries, by its variant.
+-- The contents of a name resolution block's option, by its variant.
 abbrev pub name_carries : NameResolutionOption → Carried
 name_carries (option_of.Comment t) = carries_string 1 t
 name_carries (option_of.NsDnsName t) = carries_string 2 t

@@ -10,7 +10,7 @@ use Rattle.pcap_options.specs.CommonOptions.{Carried, carries_string, carries_by
 abbrev pub packet_kind : Kind
 packet_kind = (1, string) ∷ (2, number 4 PacketFlagsLength) ∷ (3, bytes) ∷ custom
 
--- What a packet block's option carries, by its variant.
+-- The contents of a packet block's option, by its variant.
 abbrev pub packet_carries : PacketOption → Carried
 packet_carries (option_of.Comment t) = carries_string 1 t
 packet_carries (option_of.Flags n) = carries_number 2 n

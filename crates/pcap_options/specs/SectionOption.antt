@@ -9,7 +9,7 @@ use Rattle.pcap_options.specs.CommonOptions.{Carried, carries_string, carries_cu
 abbrev pub section_header : Kind
 section_header = (1, string) ∷ (2, string) ∷ (3, string) ∷ (4, string) ∷ custom
 
--- What a section header's option carries, by its variant.
+-- The contents of a section header's option, by its variant.
 abbrev pub section_carries : SectionHeaderOption → Carried
 section_carries (option_of.Comment t) = carries_string 1 t
 section_carries (option_of.Hardware t) = carries_string 2 t

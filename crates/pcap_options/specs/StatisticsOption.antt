@@ -18,7 +18,7 @@ interface_statistics =
     ∷ (8, first_number)
     ∷ custom
 
--- What an option of interface statistics carries, by its variant.
+-- The contents of an option of interface statistics, by its variant.
 abbrev pub statistics_carries : InterfaceStatisticsOption → Carried
 statistics_carries (option_of.Comment t) = carries_string 1 t
 statistics_carries (option_of.IsbStartTime n) = carries_number 2 n

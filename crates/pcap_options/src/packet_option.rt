@@ -25,10 +25,10 @@ use std::borrow::CowStr;
 pub enum PacketOption<'a> {
     /// A comment on the packet (opt_comment, code 1).
     Comment(CowStr<'a>),
-    /// What the link layer reports about the packet (pack_flags, code 2). Bit 0 is the lowest. Bits 0 and 1 are the
-    /// direction (1 in, 2 out). Bits 2 to 4 are how it was received (1 unicast, 2 multicast, 3 broadcast, 4
-    /// promiscuous). Bits 5 to 8 are the length of its frame check sequence in bytes. In these three, 0 means unknown.
-    /// Bits 16 to 31 are errors of the link layer.
+    /// Flags of the packet from the link layer (pack_flags, code 2). Bit 0 is the lowest. Bits 0 and 1 are the direction
+    /// (1 in, 2 out). Bits 2 to 4 are how it was received (1 unicast, 2 multicast, 3 broadcast, 4 promiscuous). Bits 5
+    /// to 8 are the length of its frame check sequence in bytes. In these three, 0 means unknown. Bits 16 to 31 are
+    /// errors of the link layer.
     Flags(u32),
     /// A hash of the packet (pack_hash, code 3). Its first byte names the algorithm: 0 for the 2s complement, 1 for
     /// XOR, 2 for CRC32, 3 for MD5, 4 for SHA-1.
