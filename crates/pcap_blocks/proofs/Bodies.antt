@@ -1,4 +1,4 @@
--- What the calls that read bodies give together.
+-- Lemmas for the calls that read bodies.
 use Rattle.std.proofs.Common.{◌≡◌, ◌≢◌, ℕ, List, refl, false, Ok, Err, Some, None, Result}
 use Rattle.std.specs.Prelude.{◌==◌}
 use Rattle.std.specs.Borrow.{Bor}
@@ -36,7 +36,7 @@ section_fails magic endianness s after is names f fault = after_magic f magic af
 section_grows : (magic : ℕ) (endianness : Endianness) (s after : List ℕ) → Number big_number 4 magic s after → magic_order magic ≡ Some endianness → AfterMagicMayGrow (number_in endianness) after → SectionMayGrow s
 section_grows magic endianness s after is names grows = record { magic = magic; after_magic = after; endianness = endianness; magic_is = is; names = names; grows = grows }
 
--- what is told after the magic number is told of the body
+-- A result that agrees with the verdict after the magic number agrees with the verdict on the whole body.
 pub section_tells : (magic : ℕ) (endianness : Endianness) (s after : List ℕ) → Number big_number 4 magic s after → magic_order magic ≡ Some endianness → (r : Result (Bor (List ℕ) × SectionHeaderBlock) Refusal)
     → FindsWhere (AfterMagicMayGrow (number_in endianness) after) (AfterMagicSays (number_in endianness) magic after) section_of r → FindsWhere (SectionMayGrow s) (SectionSays s) section_of r
 section_tells magic endianness s after is names (Ok x) tells =

@@ -1,4 +1,4 @@
--- Of a body that begins with numbers exactly one thing is said, where it is of what follows them.
+-- A body that begins with numbers has exactly one reading, if the part after the numbers has exactly one.
 use Rattle.std.proofs.Common.{◌≡◌, ℕ, ◌<◌, List, length, sym, subst, inl, inr}
 use Rattle.std.specs.Prelude.{◌⊎◌}
 use Rattle.pcap_core.specs.Answer.{Order, Verdict, whole, lacks, faulty, Says, Made}
@@ -8,7 +8,7 @@ use Rattle.pcap_core.specs.Padded.{Behind}
 use Rattle.pcap_core.proofs.Verdicts.{one_moved, Then, one_then, one_made}
 use Rattle.pcap_core.proofs.Numbers.{Values, Numbers, NumbersSay, total, numbers_one, numbers_behind, numbers_at}
 
--- what is said of a body is said by its numbers and by what follows them
+-- The verdict on a body is that of its numbers and of the part that follows them.
 pub record IsNumbersThen {V W : Type 0} (order : Order) (too_short : Fault) (widths : List ℕ) (make : Values widths → V → W) (Next : List ℕ → Verdict V → Type 0) (Text : W → List ℕ → List ℕ → Type 0) (HasFault : List ℕ → Fault → Type 0)
     : Type 0 where
   pub text_to : (w : W) (s rest : List ℕ) → Text w s rest → (ns : Values widths) × (after : List ℕ) × Numbers order widths ns s after × (v : V) × (w ≡ make ns v) × Next after (whole v rest)

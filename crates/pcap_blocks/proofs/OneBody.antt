@@ -1,4 +1,4 @@
--- Of all bytes exactly one thing is said as the body of a block of any type.
+-- Any bytes have exactly one reading as the body of a block of any type.
 use Rattle.std.proofs.Common.{◌^◌, ℕ, List, length, refl, sym, ◌∙◌, arith, inl, inr}
 use Rattle.std.proofs.lemmas.Bool.{cases_lt}
 use Rattle.pcap_core.specs.Answer.{Order, whole, faulty}

@@ -1,4 +1,4 @@
--- Of all bytes exactly one thing is said as the body of an interface.
+-- Any bytes have exactly one reading as the body of an interface.
 use Rattle.std.proofs.Common.{◌≡◌, ℕ, ◌<◌, List, [], ◌∷◌, length, refl, sym, ap, subst, ◌∙◌, inl, inr}
 use Rattle.std.specs.Prelude.{◌⊎◌}
 use Rattle.pcap_core.specs.Answer.{Order, Number, faulty}
@@ -17,7 +17,7 @@ use Rattle.pcap_core.proofs.Numbers.{Values, Numbers}
 use Rattle.pcap_blocks.proofs.NumbersThen.{IsNumbersThen, numbers_then_one}
 use Rattle.pcap_options.proofs.OneList.{list_one}
 
--- link type, reserved number, snap length
+-- The widths of the link type, the reserved number and the snapshot length.
 abbrev widths : List ℕ
 widths = 2 ∷ 2 ∷ 4 ∷ []
 

@@ -1,4 +1,4 @@
--- Of all bytes exactly one thing is said as the body of a packet block.
+-- Any bytes have exactly one reading as the body of a packet block.
 use Rattle.std.proofs.Common.{ℕ, List, [], ◌∷◌, refl, subst, arith, inr}
 use Rattle.pcap_core.specs.Answer.{Order, Number}
 use Rattle.pcap_core.specs.Faults.{Fault, Invalid}

@@ -1,4 +1,4 @@
--- Of all bytes exactly one thing is said as a name resolution body.
+-- Any bytes have exactly one reading as the body of a name resolution block.
 use Rattle.std.proofs.Common.{ℕ, List, refl, sym, subst, inl, inr}
 use Rattle.pcap_core.specs.Answer.{Order, Verdict, whole, lacks, faulty, Made}
 use Rattle.pcap_core.specs.Laws.{ExactlyOne}

@@ -1,4 +1,4 @@
--- Of all bytes exactly one thing is said as the body of a section.
+-- Any bytes have exactly one reading as the body of a section.
 use Rattle.std.proofs.Common.{◌≡◌, ℕ, ◌+◌, ◌<◌, ◌≤◌, List, [], ◌∷◌, length, Option, Some, None, refl, sym, ap, subst, ◌∙◌, arith, inl, inr}
 use Rattle.std.specs.Prelude.{ℤ, ⊤}
 use Rattle.std.specs.Int.{w64, cast_signed}
@@ -23,18 +23,18 @@ use Rattle.pcap_options.proofs.OneVerdict.{IsDecided, one_said}
 abbrev too_short : Fault
 too_short = Invalid SectionTooShort
 
--- the magic number
+-- The width of the magic number.
 abbrev magic_width : List ℕ
 magic_width = 4 ∷ []
 
--- versions and length
+-- The widths of the versions and the length.
 abbrev widths : List ℕ
 widths = 2 ∷ 2 ∷ 8 ∷ []
 
 section_with : ℕ → Values widths → List Entry → Section
 section_with magic ns options = record { magic = magic; major_version = ns.0; minor_version = ns.1.0; section_length = cast_signed w64 ns.1.1.0; options = options }
 
--- 16 bytes are there, or too few
+-- `s` has at least 16 bytes, or a fault says that it has too few.
 LongSays : List ℕ → Verdict ⊤ → Type 0
 LongSays s (whole x rest) = (rest ≡ s) × (16 ≤ length s)
 LongSays s (lacks n) = ⊥
@@ -74,7 +74,7 @@ body_one : (s : List ℕ) → ExactlyOne (BodyThen s)
 unfolding BodyThen
 body_one s = one_then (LongSays s) (λ x t. MagicThen t) (long_one s) (λ x t k. magic_one t)
 
--- one direction
+-- From the grammar to the reading field by field.
 at_length : Section → ℤ → Section
 at_length b n = record { magic = b.magic; major_version = b.major_version; minor_version = b.minor_version; section_length = n; options = b.options }
 
@@ -126,7 +126,7 @@ body_to s (faulty f) (after_magic _ magic after e is names fault) =
     let long : 16 ≤ length s = omega (arith, number_length big_number 4 magic s after is, behind) in
     long_to s (faulty f) long (magic_to s after magic (Some e) (faulty f) is names (after_fault_to magic e after f fault))
 
--- the other
+-- From the reading field by field to the grammar.
 after_from : (magic : ℕ) (e : Endianness) (s rest : List ℕ) (b : Section) → AfterThen magic (Some e) s (whole b rest) → (b.magic ≡ magic) × AfterMagic (number_in e) b s rest
 unfolding AfterThen section_with
 after_from magic e s rest b t =

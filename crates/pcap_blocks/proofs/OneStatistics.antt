@@ -1,4 +1,4 @@
--- Of all bytes exactly one thing is said as the body of statistics.
+-- Any bytes have exactly one reading as the body of interface statistics.
 use Rattle.std.proofs.Common.{◌≡◌, ℕ, ◌+◌, ◌*◌, ◌^◌, ◌<◌, List, [], ◌∷◌, length, refl, ap, subst, inl, inr}
 use Rattle.std.specs.Prelude.{◌⊎◌}
 use Rattle.pcap_core.specs.Answer.{Order, Number, whole, faulty}
@@ -14,7 +14,7 @@ use Rattle.pcap_core.proofs.Numbers.{Values, Numbers}
 use Rattle.pcap_blocks.proofs.NumbersThen.{IsNumbersThen, numbers_then_one}
 use Rattle.pcap_options.proofs.OneList.{list_one}
 
--- interface, and the halves of the time
+-- The widths of the interface number and the halves of the time.
 abbrev widths : List ℕ
 widths = 4 ∷ 4 ∷ 4 ∷ []
 

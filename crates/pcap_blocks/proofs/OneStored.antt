@@ -1,4 +1,4 @@
--- Of all bytes exactly one thing is said as a stored packet, and as the bodies that hold one.
+-- Any bytes have exactly one reading as a stored packet, and as each body that holds one.
 use Rattle.std.proofs.Common.{◌≡◌, ℕ, ◌+◌, ◌*◌, ◌^◌, ◌<◌, List, [], ◌∷◌, length, take, drop, refl, sym, ap, subst, arith, inl, inr}
 use Rattle.std.specs.Prelude.{◌⊎◌}
 use Rattle.std.proofs.lemmas.Bool.{cases_lt}
@@ -17,7 +17,7 @@ use Rattle.pcap_core.proofs.OnePadded.{PaddedSays, padded_one}
 use Rattle.pcap_options.proofs.OneList.{list_one}
 use Rattle.pcap_blocks.proofs.StoredPackets.{stored}
 
--- the halves of the time, captured and original length
+-- The widths of the halves of the time, the captured length and the original length.
 abbrev widths : List ℕ
 widths = 4 ∷ 4 ∷ 4 ∷ 4 ∷ []
 
@@ -97,11 +97,11 @@ stored_one order kind s =
     one_moved (StoredSays order kind s) (StoredThen order kind s) (stored_to order kind s) (stored_from order kind s)
     (one_then (NumbersSay order (Invalid EnhancedTooShort) widths s) (λ ns after. DataThen order kind ns after) (numbers_one order (Invalid EnhancedTooShort) widths s) (λ ns after k. data_one order kind ns after))
 
--- why a body of four bytes and a stored packet is refused
+-- The fault of a body of four bytes and a stored packet: fewer than four bytes, or the fault of the stored packet.
 abbrev pub PacketFault : Order → Kind → List ℕ → Fault → Type 0
 PacketFault order kind s fault = ((fault ≡ Invalid EnhancedTooShort) × (length s < 4)) ⊎ ((after : List ℕ) × Behind 4 s after × StoredSays order kind after (faulty fault))
 
--- of less than 20 bytes less than 16 are after the first 4
+-- A body of fewer than 20 bytes has fewer than 16 after its first 4.
 pub short_packet : (order : Order) (kind : Kind) (s : List ℕ) → length s < 20 → PacketFault order kind s (Invalid EnhancedTooShort)
 short_packet order kind s lt =
     elim (cases_lt (length s) 4) [

@@ -1,4 +1,4 @@
--- Of all bytes exactly one thing is said as a simple packet, and as a journal entry.
+-- Any bytes have exactly one reading as a simple packet, and as a journal entry.
 use Rattle.std.proofs.Common.{◌≡◌, ℕ, ◌<◌, List, [], ◌∷◌, length, refl, sym, subst, ◌∙◌, inl}
 use Rattle.std.specs.Prelude.{◌⊎◌}
 use Rattle.pcap_core.specs.Answer.{Order, Number, Verdict, whole, lacks, faulty}
@@ -28,7 +28,7 @@ make ns bytes = record { original_len = ns.0; bytes = bytes }
 fault_to : (fault : Fault) (s : List ℕ) → SimpleFault s fault → ((fault ≡ Invalid SimpleTooShort) × (length s < 4)) ⊎ ((after : List ℕ) × Behind 4 s after × JournalSays after (faulty fault))
 fault_to fault s (short lt) = inl (refl, lt)
 
--- a number, and then all that is left, as of a journal entry
+-- A simple packet is a number and then all bytes that are left, read as a journal entry is.
 simple_then : (order : Order) → IsNumbersThen order (Invalid SimpleTooShort) widths make JournalSays (SimpleText order) SimpleFault
 simple_then order = record {
   text_to = λ b s rest h. ((b.original_len, tt), b.bytes, (b.bytes, h.original_is, refl), b.bytes, refl, (refl, h.nothing_left));

@@ -1,4 +1,4 @@
--- Where no secrets are.
+-- Lemmas about blocks without secrets.
 use Rattle.std.proofs.Common.{ℕ, ◌<◌, List, length, sym, subst}
 use Rattle.pcap_core.specs.Answer.{Order, Number}
 use Rattle.pcap_core.specs.Bytes.{cow_bytes}
@@ -8,7 +8,7 @@ use Rattle.pcap_core.proofs.OnePadded.{no_short_padded}
 use Rattle.pcap_blocks.specs.Views.{SecretsText}
 use Rattle.pcap_blocks.specs.declared.unknown_block.UnknownBlock.{UnknownBlock}
 
--- a block whose stated length passes its body holds none
+-- A block has no secrets if their stated length, with padding, extends past its body.
 pub no_secrets : (order : Order) (block : UnknownBlock) (type len : ℕ) (after_type after_length : List ℕ) → Number order 4 type (cow_bytes block.value) after_type → Number order 4 len after_type after_length → length after_length < up_to_4 len
     → (t : ℕ) (secrets rest : List ℕ) → SecretsText order block t secrets rest → ⊥
 no_secrets order block type len after_type after_length type_is length_is short t secrets rest x =

@@ -1,4 +1,4 @@
--- What the calls that read packets and statistics give together.
+-- Lemmas for the calls that read packets and statistics.
 use Rattle.std.proofs.Common.{◌≡◌, ◌<◌, ℕ, List, [], length}
 use Rattle.pcap_core.specs.Answer.{Order, Number}
 use Rattle.pcap_core.specs.Faults.{Fault, Invalid}

@@ -3,7 +3,7 @@ use Rattle.std.specs.Prelude.{◌==◌, if◌then◌else◌, ℕ}
 use Rattle.pcap_blocks.specs.declared.block_type.BlockType.{BlockType}
 use Rattle.pcap_blocks.specs.declared.block_type.BlockType.TheVariants as types
 
--- the type of a block by its number
+-- The type of a block, by its number.
 abbrev pub block_type : ℕ → BlockType
 block_type n =
     if n == 0x0A0D0D0A then types.SectionHeader
@@ -16,7 +16,7 @@ block_type n =
     else if n == 9 then types.SystemdJournalExport
     else types.Unknown n
 
--- the number of a type
+-- The number of a block type.
 abbrev pub type_number : BlockType → ℕ
 type_number types.SectionHeader = 0x0A0D0D0A
 type_number types.InterfaceDescription = 1

@@ -11,13 +11,13 @@ use Rattle.pcap_options.specs.Options.{may_end_with_body, OptionList, ListFault,
 use Rattle.pcap_blocks.specs.Time.{TimeText}
 use Rattle.pcap_options.specs.StatisticsOption.{interface_statistics, statistics_entry, StatisticsOptionIsBorrowed, StatisticsOptionIsOwned}
 
--- statistics, wherever their options lie
+-- Interface statistics, wherever their options are in memory.
 pub record Statistics : Type 0 where
   pub interface_id : ℕ
   pub timestamp : ℕ
   pub options : List Entry
 
--- s is the body of statistics, and then rest
+-- `s` is the body of interface statistics and then `rest`: the interface number, the time and the options.
 pub record StatisticsText (order : Order) (statistics : Statistics) (s rest : List ℕ) : Type 0 where
   pub after_interface : List ℕ
   pub after_time : List ℕ
@@ -25,32 +25,32 @@ pub record StatisticsText (order : Order) (statistics : Statistics) (s rest : Li
   pub time_is : TimeText order statistics.timestamp after_interface after_time
   pub options_are : OptionList may_end_with_body order interface_statistics statistics.options after_time rest
 
--- the first fault of a body
+-- The first fault of `s` as the body of interface statistics: too few bytes, or the fault of the options.
 pub data StatisticsFault (order : Order) (s : List ℕ) : Fault → Type 0 where
   short : length s < 12 → StatisticsFault order s (Invalid StatisticsTooShort)
   in_options : (fault : Fault) (after : List ℕ) → Behind 12 s after
       → ListFault may_end_with_body order interface_statistics after fault → StatisticsFault order s fault
 
--- what is said of bytes where the body of statistics is asked for
+-- StatisticsSays order s verdict: `s` read as the body of interface statistics gives this verdict, the statistics or a fault.
 abbrev pub StatisticsSays : Order → List ℕ → Verdict Statistics → Type 0
 StatisticsSays order s = Says (λ statistics rest. StatisticsText order statistics s rest) (λ n. ⊥) (StatisticsFault order s)
 
--- statistics have an option
+-- Reading interface statistics may allocate only if the statistics have an option.
 abbrev pub StatisticsMayGrow : Order → List ℕ → Type 0
 StatisticsMayGrow order = HoldsAfter 12 (OptionsMayGrow order interface_statistics)
 
--- a block of the code
+-- The interface statistics of a block in the code.
 abbrev pub statistics_of : InterfaceStatisticsBlock → Statistics
 statistics_of block = record { interface_id = block.interface_id; timestamp = block.timestamp; options = map statistics_entry block.options.items }
 
--- what its options hold is borrowed
+-- All strings and bytes of the options are borrowed.
 abbrev pub StatisticsIsBorrowed : InterfaceStatisticsBlock → Type 0
 StatisticsIsBorrowed block = All StatisticsOptionIsBorrowed block.options.items
 
--- what its options hold is owned
+-- All strings and bytes of the options are owned.
 abbrev pub StatisticsIsOwned : InterfaceStatisticsBlock → Type 0
 StatisticsIsOwned block = All StatisticsOptionIsOwned block.options.items
 
--- it is owned without memory being taken: it has no options
+-- Making interface statistics owned takes no memory: they have no options.
 abbrev pub StatisticsNeedsNoMemory : InterfaceStatisticsBlock → Type 0
 StatisticsNeedsNoMemory block = block.options.items ≡ []

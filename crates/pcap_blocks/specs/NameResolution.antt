@@ -9,48 +9,48 @@ use Rattle.pcap_options.specs.Record.{NameRecord, name_record_of, RecordIsBorrow
 use Rattle.pcap_options.specs.NameOption.{name_resolution, name_entry, NameOptionIsBorrowed, NameOptionIsOwned}
 use Rattle.pcap_options.specs.Records.{RecordsText, RecordsFault, RecordsMayGrow}
 
--- names, wherever their bytes lie
+-- A name resolution block is records and options, wherever their bytes are in memory.
 pub record Resolution : Type 0 where
   pub records : List NameRecord
   pub options : List Entry
 
--- s is the body of a name resolution block, and then rest
+-- `s` is the body of a name resolution block and then `rest`: the records up to the end record, and the options.
 pub record ResolutionText (order : Order) (b : Resolution) (s rest : List ℕ) : Type 0 where
   pub after : List ℕ
   pub records_are : RecordsText order b.records s after
   pub options_are : OptionList may_end_with_body order name_resolution b.options after rest
 
--- the first fault of a body
+-- The first fault of `s` as the body of a name resolution block: the fault of its records, or else of its options.
 pub data ResolutionFault (order : Order) (s : List ℕ) (fault : Fault) : Type 0 where
   in_records : RecordsFault order s fault → ResolutionFault order s fault
   in_options : (records : List NameRecord) (after : List ℕ) → RecordsText order records s after
       → ListFault may_end_with_body order name_resolution after fault → ResolutionFault order s fault
 
--- what is said of bytes where the body of a name resolution block is asked for
+-- ResolutionSays order s verdict: `s` read as the body of a name resolution block gives this verdict, the block or a fault.
 abbrev pub ResolutionSays : Order → List ℕ → Verdict Resolution → Type 0
 ResolutionSays order s = Says (λ b rest. ResolutionText order b s rest) (λ n. ⊥) (ResolutionFault order s)
 
--- a body has a record that is kept or has a name, or an option
+-- Reading a name resolution block may allocate only if it has an option, a record with a name, or a record that isn't the end record.
 pub data ResolutionMayGrow (order : Order) (s : List ℕ) : Type 0 where
   with_record : RecordsMayGrow order s → ResolutionMayGrow order s
   with_option : (records : List NameRecord) (after : List ℕ) → RecordsText order records s after
       → OptionsMayGrow order name_resolution after → ResolutionMayGrow order s
 
--- a block of the code
+-- The name resolution block of a block in the code.
 abbrev pub names_of : NameResolutionBlock → Resolution
 names_of block = record { records = map name_record_of block.records.items; options = map name_entry block.options.items }
 
--- what its records and options hold is borrowed
+-- All strings and bytes of the records and the options are borrowed.
 pub record ResolutionIsBorrowed (block : NameResolutionBlock) : Type 0 where
   pub records : All RecordIsBorrowed block.records.items
   pub options : All NameOptionIsBorrowed block.options.items
 
--- what its records and options hold is owned
+-- All strings and bytes of the records and the options are owned.
 pub record ResolutionIsOwned (block : NameResolutionBlock) : Type 0 where
   pub records : All RecordIsOwned block.records.items
   pub options : All NameOptionIsOwned block.options.items
 
--- it is owned without memory being taken: it has neither records nor options
+-- Making a name resolution block owned takes no memory: it has neither records nor options.
 pub record ResolutionNeedsNoMemory (block : NameResolutionBlock) : Type 0 where
   pub records : block.records.items ≡ []
   pub options : block.options.items ≡ []

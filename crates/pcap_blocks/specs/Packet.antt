@@ -10,13 +10,13 @@ use Rattle.pcap_options.specs.Growth.{HoldsAfter}
 use Rattle.pcap_blocks.specs.StoredPacket.{Stored, StoredText, StoredFault, StoredMayGrow}
 use Rattle.pcap_options.specs.PacketOption.{packet_kind, packet_entry, PacketOptionIsBorrowed, PacketOptionIsOwned}
 
--- a packet block, wherever its bytes lie
+-- A packet block is an interface number, a drop count and a stored packet, wherever its bytes are in memory.
 pub record PacketBody : Type 0 where
   pub interface_id : ℕ
   pub drop_count : ℕ
   pub packet : Stored
 
--- s is the body of a packet block, and then rest: its interface, its drop count and the packet
+-- `s` is the body of a packet block and then `rest`: its interface number, its drop count and the stored packet.
 pub record PacketBodyText (order : Order) (body : PacketBody) (s rest : List ℕ) : Type 0 where
   pub after_interface : List ℕ
   pub after_drops : List ℕ
@@ -24,20 +24,20 @@ pub record PacketBodyText (order : Order) (body : PacketBody) (s rest : List ℕ
   pub drops_are : Number order 2 body.drop_count after_interface after_drops
   pub packet_is : StoredText order packet_kind body.packet after_drops rest
 
--- the first fault of a body, with the names of the enhanced packet's
+-- The first fault of `s` as the body of a packet block, with the rules of an enhanced packet.
 pub data PacketBodyFault (order : Order) (s : List ℕ) : Fault → Type 0 where
   short : length s < 20 → PacketBodyFault order s (Invalid EnhancedTooShort)
   in_packet : (fault : Fault) (after : List ℕ) → Behind 4 s after → StoredFault order packet_kind after fault → PacketBodyFault order s fault
 
--- what is said of bytes where the body of a packet block is asked for
+-- PacketBodySays order s verdict: `s` read as the body of a packet block gives this verdict, the packet block or a fault.
 abbrev pub PacketBodySays : Order → List ℕ → Verdict PacketBody → Type 0
 PacketBodySays order s = Says (λ body rest. PacketBodyText order body s rest) (λ n. ⊥) (PacketBodyFault order s)
 
--- a packet block has an option
+-- Reading a packet block may allocate only if the packet has an option.
 abbrev pub PacketBodyMayGrow : Order → List ℕ → Type 0
 PacketBodyMayGrow order = HoldsAfter 4 (StoredMayGrow order packet_kind)
 
--- a block of the code
+-- The packet block of a block in the code.
 abbrev pub packet_of : PacketBlock → PacketBody
 packet_of block = record {
   interface_id = block.interface_id;
@@ -51,17 +51,17 @@ packet_of block = record {
   };
 }
 
--- its bytes and what its options hold are borrowed
+-- The packet's bytes and all strings and bytes of its options are borrowed.
 pub record PacketIsBorrowed (block : PacketBlock) : Type 0 where
   pub bytes : IsBorrowed block.data_
   pub options : All PacketOptionIsBorrowed block.options.items
 
--- its bytes and what its options hold are owned
+-- The packet's bytes and all strings and bytes of its options are owned.
 pub record PacketIsOwned (block : PacketBlock) : Type 0 where
   pub bytes : IsOwned block.data_
   pub options : All PacketOptionIsOwned block.options.items
 
--- it is owned without memory being taken: its bytes are owned, and it has no options
+-- Making a packet block owned takes no memory: its bytes are owned, and it has no options.
 pub record PacketNeedsNoMemory (block : PacketBlock) : Type 0 where
   pub bytes : IsOwned block.data_
   pub options : block.options.items ≡ []

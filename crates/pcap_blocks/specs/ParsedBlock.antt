@@ -17,7 +17,7 @@ use Rattle.pcap_blocks.specs.SimplePacket.{Simple, SimpleSays, simple_of, Simple
 use Rattle.pcap_blocks.specs.SystemdJournalExport.{JournalSays, journal_of, JournalIsBorrowed, JournalIsOwned}
 use Rattle.pcap_blocks.specs.UnknownBlock.{UnknownBody, UnknownSays, unknown_of, UnknownBlockIsBorrowed, UnknownBlockIsOwned}
 
--- a body, wherever its bytes lie
+-- The body of a block, wherever its bytes are in memory.
 pub data Body : Type 0 where
   SectionBody : Section → Body
   InterfaceBody : Interface → Body
@@ -29,7 +29,7 @@ pub data Body : Type 0 where
   JournalBody : List ℕ → Body
   OtherBody : UnknownBody → Body
 
--- what is said of bytes where the body of a block of this type is asked for; a section has its own order
+-- BodySays order type s verdict: `s` read as the body of a block of this type gives this verdict; a section has its own byte order.
 abbrev pub BodySays : Order → BlockType → List ℕ → Verdict Body → Type 0
 BodySays order types.SectionHeader s = Made SectionBody (SectionSays s)
 BodySays order types.InterfaceDescription s = Made InterfaceBody (InterfaceSays order s)
@@ -41,7 +41,7 @@ BodySays order types.EnhancedPacket s = Made EnhancedBody (EnhancedSays order s)
 BodySays order types.SystemdJournalExport s = Made JournalBody (JournalSays s)
 BodySays order (types.Unknown n) s = Made OtherBody (UnknownSays (types.Unknown n) s)
 
--- the body of a block of this type has something that is kept in a list
+-- Reading the body of a block of this type may allocate only if the body has something that is kept in a list.
 abbrev pub BodyMayGrow : Order → BlockType → List ℕ → Type 0
 BodyMayGrow order types.SectionHeader s = SectionMayGrow s
 BodyMayGrow order types.InterfaceDescription s = InterfaceMayGrow order s
@@ -53,7 +53,7 @@ BodyMayGrow order types.EnhancedPacket s = EnhancedMayGrow order s
 BodyMayGrow order types.SystemdJournalExport s = ⊥
 BodyMayGrow order (types.Unknown n) s = ⊥
 
--- a block of the code
+-- The body of a block in the code.
 abbrev pub body_of : ParsedBlock → Body
 body_of (block_of.SectionHeader b) = SectionBody (section_of b)
 body_of (block_of.InterfaceDescription b) = InterfaceBody (interface_of b)
@@ -65,7 +65,7 @@ body_of (block_of.EnhancedPacket b) = EnhancedBody (enhanced_of b)
 body_of (block_of.SystemdJournalExport b) = JournalBody (journal_of b)
 body_of (block_of.Unknown b) = OtherBody (unknown_of b)
 
--- what it holds is borrowed
+-- All strings and bytes of the block are borrowed.
 abbrev pub ParsedIsBorrowed : ParsedBlock → Type 0
 ParsedIsBorrowed (block_of.SectionHeader b) = SectionIsBorrowed b
 ParsedIsBorrowed (block_of.InterfaceDescription b) = InterfaceIsBorrowed b
@@ -77,7 +77,7 @@ ParsedIsBorrowed (block_of.EnhancedPacket b) = EnhancedIsBorrowed b
 ParsedIsBorrowed (block_of.SystemdJournalExport b) = JournalIsBorrowed b
 ParsedIsBorrowed (block_of.Unknown b) = UnknownBlockIsBorrowed b
 
--- what it holds is owned
+-- All strings and bytes of the block are owned.
 abbrev pub ParsedIsOwned : ParsedBlock → Type 0
 ParsedIsOwned (block_of.SectionHeader b) = SectionIsOwned b
 ParsedIsOwned (block_of.InterfaceDescription b) = InterfaceIsOwned b
@@ -89,17 +89,17 @@ ParsedIsOwned (block_of.EnhancedPacket b) = EnhancedIsOwned b
 ParsedIsOwned (block_of.SystemdJournalExport b) = JournalIsOwned b
 ParsedIsOwned (block_of.Unknown b) = UnknownBlockIsOwned b
 
--- the section that a block is, if it is one
+-- The section of a block, if the block is a section header.
 abbrev pub section_in : ParsedBlock → Option SectionHeaderBlock
 section_in (block_of.SectionHeader b) = Some b
 section_in _ = None
 
--- the interface that a block is, if it is one
+-- The interface of a block, if the block is an interface description.
 abbrev pub interface_in : ParsedBlock → Option InterfaceDescriptionBlock
 interface_in (block_of.InterfaceDescription b) = Some b
 interface_in _ = None
 
--- it is owned without memory being taken: all it holds is owned, and it has no list that would be made anew
+-- Making a block owned takes no memory: all its strings and bytes are owned, and it has no list to build anew.
 abbrev pub ParsedNeedsNoMemory : ParsedBlock → Type 0
 ParsedNeedsNoMemory (block_of.SectionHeader b) = SectionNeedsNoMemory b
 ParsedNeedsNoMemory (block_of.InterfaceDescription b) = InterfaceNeedsNoMemory b

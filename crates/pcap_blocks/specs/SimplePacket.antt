@@ -6,32 +6,32 @@ use Rattle.pcap_core.specs.Faults.{Fault, Invalid}
 use Rattle.pcap_core.specs.declared.rules.Rule.TheVariants.{SimpleTooShort}
 use Rattle.pcap_blocks.specs.declared.simple_packet.SimplePacketBlock.{SimplePacketBlock}
 
--- a simple packet, wherever its bytes lie
+-- A simple packet, wherever its bytes are in memory.
 pub record Simple : Type 0 where
   pub original_len : ℕ
   pub bytes : List ℕ
 
--- s is the original length and the packet's bytes, and nothing follows
+-- `s` is the original length and the packet's bytes, and nothing follows them.
 pub record SimpleText (order : Order) (simple : Simple) (s rest : List ℕ) : Type 0 where
   pub original_is : Number order 4 simple.original_len s simple.bytes
   pub nothing_left : rest ≡ []
 
--- the fault of a body
+-- The fault of `s` as the body of a simple packet: too few bytes.
 pub data SimpleFault (s : List ℕ) : Fault → Type 0 where
   short : length s < 4 → SimpleFault s (Invalid SimpleTooShort)
 
--- what is said of bytes where the body of a simple packet is asked for
+-- SimpleSays order s verdict: `s` read as the body of a simple packet gives this verdict, the packet or a fault.
 abbrev pub SimpleSays : Order → List ℕ → Verdict Simple → Type 0
 SimpleSays order s = Says (λ simple rest. SimpleText order simple s rest) (λ n. ⊥) (SimpleFault s)
 
--- what a simple packet says
+-- The simple packet of a block in the code.
 abbrev pub simple_of : SimplePacketBlock → Simple
 simple_of block = record { original_len = block.original_len; bytes = cow_bytes block.data_ }
 
--- the bytes of a simple packet are borrowed
+-- The bytes of a simple packet are borrowed.
 abbrev pub SimpleIsBorrowed : SimplePacketBlock → Type 0
 SimpleIsBorrowed block = IsBorrowed block.data_
 
--- the bytes of a simple packet are owned
+-- The bytes of a simple packet are owned.
 abbrev pub SimpleIsOwned : SimplePacketBlock → Type 0
 SimpleIsOwned block = IsOwned block.data_

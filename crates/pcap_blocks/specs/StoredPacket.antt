@@ -1,4 +1,4 @@
--- What both kinds of packet body hold after their interface ('Enhanced Packet Block', 'Packet Block').
+-- The part that enhanced packets and packet blocks share ('Enhanced Packet Block', 'Packet Block').
 use Rattle.std.specs.Prelude.{◌≡◌, ◌<◌, ℕ, List, length, map, All}
 use Rattle.pcap_core.specs.Answer.{Order, Number, Verdict, Says}
 use Rattle.pcap_core.specs.Bytes.{cow_bytes, IsBorrowed}
@@ -10,7 +10,7 @@ use Rattle.pcap_options.specs.Values.{Entry, Kind}
 use Rattle.pcap_blocks.specs.Time.{TimeText}
 use Rattle.pcap_options.specs.Options.{may_end_with_body, OptionList, ListFault, OptionsMayGrow}
 
--- a packet that is stored, wherever its bytes lie
+-- A stored packet, wherever its bytes are in memory.
 pub record Stored : Type 0 where
   pub timestamp : ℕ
   pub captured_len : ℕ
@@ -18,7 +18,7 @@ pub record Stored : Type 0 where
   pub bytes : List ℕ
   pub options : List Entry
 
--- s is the time, the captured and the original length, and then rest
+-- `s` is the time, the captured length and the original length of a packet, and then `rest`.
 pub record StoredHead (order : Order) (packet : Stored) (s rest : List ℕ) : Type 0 where
   pub after_time : List ℕ
   pub after_captured : List ℕ
@@ -26,7 +26,7 @@ pub record StoredHead (order : Order) (packet : Stored) (s rest : List ℕ) : Ty
   pub captured_is : Number order 4 packet.captured_len after_time after_captured
   pub original_is : Number order 4 packet.original_len after_captured rest
 
--- s is a stored packet, and then rest: its head, as many bytes as were captured with their padding, and its options
+-- `s` is a stored packet and then `rest`: the time and the lengths, the captured bytes with their padding, and the options.
 pub record StoredText (order : Order) (kind : Kind) (packet : Stored) (s rest : List ℕ) : Type 0 where
   pub after_head : List ℕ
   pub after_bytes : List ℕ
@@ -35,7 +35,7 @@ pub record StoredText (order : Order) (kind : Kind) (packet : Stored) (s rest : 
   pub padded : Padded packet.bytes after_head after_bytes
   pub options_are : OptionList may_end_with_body order kind packet.options after_bytes rest
 
--- the first fault of a stored packet
+-- The first fault of `s` as a stored packet: too few bytes, cut data, or the fault of its options.
 pub data StoredFault (order : Order) (kind : Kind) (s : List ℕ) : Fault → Type 0 where
   short : length s < 16 → StoredFault order kind s (Invalid EnhancedTooShort)
   cut : (packet : Stored) (after : List ℕ) → StoredHead order packet s after
@@ -43,11 +43,11 @@ pub data StoredFault (order : Order) (kind : Kind) (s : List ℕ) : Fault → Ty
   in_options : (fault : Fault) (packet : Stored) (after after_bytes : List ℕ) → StoredHead order packet s after → length packet.bytes ≡ packet.captured_len
       → Padded packet.bytes after after_bytes → ListFault may_end_with_body order kind after_bytes fault → StoredFault order kind s fault
 
--- what is said of bytes where a stored packet is asked for
+-- StoredSays order kind s verdict: `s` read as a stored packet gives this verdict, the packet or a fault.
 abbrev pub StoredSays : Order → Kind → List ℕ → Verdict Stored → Type 0
 StoredSays order kind s = Says (λ packet rest. StoredText order kind packet s rest) (λ n. ⊥) (StoredFault order kind s)
 
--- a stored packet has an option after its bytes and their padding
+-- Reading a stored packet may allocate only if an option follows its bytes and their padding.
 pub record StoredMayGrow (order : Order) (kind : Kind) (s : List ℕ) : Type 0 where
   pub packet : Stored
   pub after_head : List ℕ
@@ -57,7 +57,7 @@ pub record StoredMayGrow (order : Order) (kind : Kind) (s : List ℕ) : Type 0 w
   pub padded : Padded packet.bytes after_head after_bytes
   pub grows : OptionsMayGrow order kind after_bytes
 
--- a stored packet of the code
+-- The stored packet of a value in the code.
 abbrev pub stored_of : {O : Type 0} → (O → Entry) → StoredPacket O → Stored
 stored_of view p = record {
   timestamp = p.timestamp;
@@ -67,7 +67,7 @@ stored_of view p = record {
   options = map view p.options.items;
 }
 
--- its bytes and what its options hold are borrowed
+-- The packet's bytes and all strings and bytes of its options are borrowed.
 pub record StoredIsBorrowed {O : Type 0} (OptionIsBorrowed : O → Type 0) (p : StoredPacket O) : Type 0 where
   pub bytes : IsBorrowed p.data_
   pub options : All OptionIsBorrowed p.options.items

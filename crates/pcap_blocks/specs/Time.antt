@@ -1,8 +1,8 @@
--- Times ('Enhanced Packet Block', 'Interface Statistics Block').
+-- Timestamps of packets and statistics ('Enhanced Packet Block', 'Interface Statistics Block').
 use Rattle.std.specs.Prelude.{◌≡◌, ◌+◌, ◌*◌, ◌^◌, ℕ, List}
 use Rattle.pcap_core.specs.Answer.{Order, Number}
 
--- s is a time, its high 4 bytes before its low 4, and then rest
+-- `s` is a timestamp, its high 4 bytes before its low 4, and then `rest`.
 pub record TimeText (order : Order) (time : ℕ) (s rest : List ℕ) : Type 0 where
   pub high : ℕ
   pub low : ℕ

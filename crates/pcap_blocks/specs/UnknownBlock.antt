@@ -1,4 +1,4 @@
--- The body of a block whose type has no name here ('General Block Structure').
+-- The body of a block whose type this library doesn't know ('General Block Structure').
 use Rattle.std.specs.Prelude.{◌≡◌, ◌<◌, ◌≤◌, ◌^◌, ℕ, List, length}
 use Rattle.pcap_core.specs.Answer.{Verdict, Says}
 use Rattle.pcap_core.specs.Bytes.{cow_bytes, IsBorrowed, IsOwned}
@@ -7,13 +7,13 @@ use Rattle.pcap_core.specs.declared.rules.Rule.TheVariants.{UnknownTooLong}
 use Rattle.pcap_blocks.specs.declared.block_type.BlockType.{BlockType}
 use Rattle.pcap_blocks.specs.declared.unknown_block.UnknownBlock.{UnknownBlock}
 
--- an unknown block, wherever its bytes lie
+-- An unknown block, wherever its bytes are in memory.
 pub record UnknownBody : Type 0 where
   pub type_ : BlockType
   pub len : ℕ
   pub bytes : List ℕ
 
--- what is said of the body of an unknown block: all of it is the value, and stays as well
+-- UnknownSays type s verdict: all of `s` is the value of the block and also the rest; 2^32 bytes or more are a fault.
 abbrev pub UnknownSays : BlockType → List ℕ → Verdict UnknownBody → Type 0
 UnknownSays type s =
     Says
@@ -21,14 +21,14 @@ UnknownSays type s =
     (λ n. ⊥)
     (λ fault. (fault ≡ Invalid UnknownTooLong) × (2 ^ 32 ≤ length s))
 
--- what an unknown block says
+-- The unknown block of a block in the code.
 abbrev pub unknown_of : UnknownBlock → UnknownBody
 unknown_of block = record { type_ = block.type_; len = block.length; bytes = cow_bytes block.value }
 
--- the bytes of an unknown block are borrowed
+-- The bytes of an unknown block are borrowed.
 abbrev pub UnknownBlockIsBorrowed : UnknownBlock → Type 0
 UnknownBlockIsBorrowed block = IsBorrowed block.value
 
--- the bytes of an unknown block are owned
+-- The bytes of an unknown block are owned.
 abbrev pub UnknownBlockIsOwned : UnknownBlock → Type 0
 UnknownBlockIsOwned block = IsOwned block.value

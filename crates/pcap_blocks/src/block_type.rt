@@ -1,4 +1,4 @@
-//! The types of blocks.
+//! Types of blocks.
 
 ghost use Rattle.std.specs.Prelude.{◌≡◌};
 ghost use Rattle.pcap_blocks.specs.BlockType.{block_type, type_number};
@@ -14,7 +14,7 @@ pub enum BlockType {
     InterfaceStatistics,
     EnhancedPacket,
     SystemdJournalExport,
-    /// A type with this number, which has no name here.
+    /// A type that this library doesn't know, by its number.
     Unknown(u32),
 }
 

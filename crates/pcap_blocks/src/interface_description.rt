@@ -19,23 +19,25 @@ use std::alloc::{AllocError, Global};
 /// The body of an interface description ('Interface Description Block'): an interface that packets were captured on.
 #[derive(Clone, Debug, Drop)]
 pub struct InterfaceDescriptionBlock<'a> {
-    /// The link type: the first layer of the packets.
+    /// The link type: the protocol of the packets' first layer.
     pub linktype: DataLink,
-    /// Not used, and to be ignored.
+    /// A reserved field, to be ignored.
     pub reserved: u16,
-    /// The snaplen: the most bytes that are stored of a packet; 0 is no limit.
+    /// The snapshot length: the most bytes that are stored for each packet; 0 is no limit.
     pub snaplen: u32,
-    /// What else is said of the interface.
+    /// The interface's options.
     pub options: Vec<InterfaceDescriptionOption<'a>>,
 }
 
 impl<'a> InterfaceDescriptionBlock<'a> {
-    /// The interface that a block's body is, and what follows its options, which end at their mark or with the slice.
-    /// Strings and bytes are borrowed from the slice.
+    /// Reads an interface from the body of a block, and returns the bytes after its options and the interface. The
+    /// options end at the end-of-options option or with the slice. Strings and bytes are borrowed from the slice.
     ///
-    /// `InvalidField` under 8 bytes, then for the first fault of the options, or `Utf8Error` or `IoError` where that is
-    /// a string that isn't UTF-8 or a custom value under 4 bytes. `OutOfMemory` where an allocation failed, and only
-    /// where an option stands.
+    /// Returns `InvalidField` for fewer than 8 bytes. Then the first malformed option decides the error: `Utf8Error`
+    /// for a string that isn't UTF-8, `IoError` for a custom value under 4 bytes, and `InvalidField` for another broken
+    /// rule.
+    ///
+    /// Returns `OutOfMemory` if an allocation fails, which can happen only if there is an option.
     pub fn from_slice<B: ByteOrder>(
         alloc: Global,
         slice: &'a [u8],
@@ -69,9 +71,9 @@ impl<'a> InterfaceDescriptionBlock<'a> {
         Ok((rest, block))
     }
 
-    /// The same interface, with bytes and strings of its own: borrowed ones are copied, owned ones kept.
+    /// Returns the same interface with its own bytes and strings: it copies borrowed ones and keeps owned ones.
     ///
-    /// `OutOfMemory` where an allocation failed; the value is then dropped.
+    /// Returns `OutOfMemory` if an allocation fails; the value is then dropped.
     pub fn into_owned(self, alloc: Global) -> ResultParsing<InterfaceDescriptionBlock<'static>>
         ensures same { IfOk result (λ kept. interface_of kept ≡ interface_of self.entry) }
         ensures owned { IfOk result InterfaceIsOwned }

@@ -17,25 +17,28 @@ use pcap_options::{
 };
 use std::alloc::{AllocError, Global};
 
-/// The body of interface statistics ('Interface Statistics Block'): what an interface counted.
+/// The body of interface statistics ('Interface Statistics Block'): the numbers that an interface counted.
 #[derive(Clone, Debug, Drop)]
 pub struct InterfaceStatisticsBlock<'a> {
     /// The number of the interface, counted from 0 in the order of the section's interface descriptions.
     pub interface_id: u32,
-    /// When it was counted: units of time since 1970-01-01 00:00:00 UTC. The interface's `IfTsResol` tells the unit,
-    /// 10^-6 s where it has none.
+    /// The time of the count since 1970-01-01 00:00:00 UTC, without the interface's `IfTsOffset`, in units of its
+    /// `IfTsResol`, or of 10^-6 s if it has none.
     pub timestamp: u64,
-    /// What was counted.
+    /// The options, such as the numbers of packets.
     pub options: Vec<InterfaceStatisticsOption<'a>>,
 }
 
 impl<'a> InterfaceStatisticsBlock<'a> {
-    /// The statistics that a block's body is, and what follows their options, which end at their mark or with the
-    /// slice. Strings and bytes are borrowed from the slice.
+    /// Reads interface statistics from the body of a block, and returns the bytes after their options and the
+    /// statistics. The options end at the end-of-options option or with the slice. Strings and bytes are borrowed from
+    /// the slice.
     ///
-    /// `InvalidField` under 12 bytes, then for the first fault of the options, or `Utf8Error` where that is a string
-    /// that isn't UTF-8, or `IoError` where a number or time is under 8 bytes or a custom value under 4. `OutOfMemory`
-    /// where an allocation failed, and only where an option stands.
+    /// Returns `InvalidField` for fewer than 12 bytes. Then the first malformed option decides the error. `Utf8Error`
+    /// is for a string that isn't UTF-8. `IoError` is for a number or time under 8 bytes, or a custom value under 4
+    /// bytes. `InvalidField` is for another broken rule.
+    ///
+    /// Returns `OutOfMemory` if an allocation fails, which can happen only if there is an option.
     pub fn from_slice<B: ByteOrder>(
         alloc: Global,
         slice: &'a [u8],
@@ -67,9 +70,9 @@ impl<'a> InterfaceStatisticsBlock<'a> {
         Ok((rest, block))
     }
 
-    /// The same statistics, with bytes and strings of its own: borrowed ones are copied, owned ones kept.
+    /// Returns the same statistics with their own bytes and strings: it copies borrowed ones and keeps owned ones.
     ///
-    /// `OutOfMemory` where an allocation failed; the value is then dropped.
+    /// Returns `OutOfMemory` if an allocation fails; the value is then dropped.
     pub fn into_owned(self, alloc: Global) -> ResultParsing<InterfaceStatisticsBlock<'static>>
         ensures same { IfOk result (λ kept. statistics_of kept ≡ statistics_of self.entry) }
         ensures owned { IfOk result StatisticsIsOwned }

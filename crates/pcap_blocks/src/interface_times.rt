@@ -11,8 +11,8 @@ use pcap_options::{InterfaceDescriptionOption, first_number};
 use pcap_times::{Clock, TimeUnit, Timestamp};
 
 impl InterfaceDescriptionBlock<'_> {
-    /// How the interface counts time: the unit of its first `IfTsResol`, a microsecond where it has none, and the seconds
-    /// of its first `IfTsOffset`, a signed number, 0 where it has none.
+    /// Returns the interface's clock. Its unit is that of the first `IfTsResol`, or a microsecond if there is none. Its
+    /// offset is the first `IfTsOffset` in seconds, as a signed number, or 0 if there is none.
     pub fn clock(&self) -> Clock
         ensures { IsClockOf (interface_of self.now) result }
     {
@@ -22,8 +22,8 @@ impl InterfaceDescriptionBlock<'_> {
         }
     }
 
-    /// The time of so many units, as in the `timestamp` of a packet of this interface, rounded down to whole
-    /// nanoseconds. For many packets ask `clock` once, and it for each time.
+    /// Returns the time of this many units, such as the `timestamp` of a packet of this interface, rounded down to
+    /// whole nanoseconds. For many packets, call `clock` once and use it for each time.
     pub fn timestamp(&self, units: u64) -> Timestamp
         ensures { IsTimeAt (interface_of self.now) units result }
     {
@@ -31,7 +31,7 @@ impl InterfaceDescriptionBlock<'_> {
     }
 }
 
-// The byte of the first `IfTsResol`.
+// Returns the byte of the first `IfTsResol`.
 #[tactic(auto, using(pcap_options::proofs::Found::found, pcap_options::proofs::Found::missed))]
 fn first_resolution(options: &[InterfaceDescriptionOption]) -> Option<u8>
     ensures { result ≡ first_under 9 number_in (map interface_entry options.now) }
@@ -44,7 +44,7 @@ fn first_resolution(options: &[InterfaceDescriptionOption]) -> Option<u8>
     None
 }
 
-// The byte of an `IfTsResol`.
+// Returns the byte of an `IfTsResol`.
 fn resolution(option: &InterfaceDescriptionOption) -> Option<u8>
     ensures { result ≡ under 9 number_in (interface_entry option.now) }
 {

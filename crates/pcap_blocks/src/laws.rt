@@ -1,5 +1,5 @@
-//! Laws of the grammar, of `==` and of `clone`. Each contract is the law; only the functions of `==` and of `clone`
-//! call anything.
+//! Laws of the grammar, of `==` and of `clone`. Each contract is the law. Only the functions for `==` and `clone` call
+//! anything.
 
 ghost use Rattle.std.specs.Prelude.{◌≡◌, ◌↔◌, ℕ, List, IsTrue, IsOk, IfOk};
 ghost use Rattle.pcap_core.specs.Answer.{Order};
@@ -23,64 +23,64 @@ pub use pcap_options::laws::{
 };
 use std::alloc::AllocError;
 
-/// Of all bytes exactly one thing is said where the body of a section is asked for: the section, or one fault.
+/// Any bytes have exactly one reading as the body of a section: the section, or one fault.
 pub fn section_is_one()
     ensures { (s : List ℕ) → ExactlyOne (SectionSays s) }
 {}
 
-/// The same where the body of an interface is.
+/// Any bytes have exactly one reading as the body of an interface: the interface, or one fault.
 pub fn interface_is_one()
     ensures { (order : Order) (s : List ℕ) → ExactlyOne (InterfaceSays order s) }
 {}
 
-/// The same where the body of an enhanced packet is.
+/// Any bytes have exactly one reading as the body of an enhanced packet: the packet, or one fault.
 pub fn enhanced_is_one()
     ensures { (order : Order) (s : List ℕ) → ExactlyOne (EnhancedSays order s) }
 {}
 
-/// The same where the body of a packet block is.
+/// Any bytes have exactly one reading as the body of a packet block: the packet, or one fault.
 pub fn packet_body_is_one()
     ensures { (order : Order) (s : List ℕ) → ExactlyOne (PacketBodySays order s) }
 {}
 
-/// The same where the body of interface statistics is.
+/// Any bytes have exactly one reading as the body of interface statistics: the statistics, or one fault.
 pub fn statistics_are_one()
     ensures { (order : Order) (s : List ℕ) → ExactlyOne (StatisticsSays order s) }
 {}
 
-/// The same where the body of a simple packet is.
+/// Any bytes have exactly one reading as the body of a simple packet: the packet, or one fault.
 pub fn simple_is_one()
     ensures { (order : Order) (s : List ℕ) → ExactlyOne (SimpleSays order s) }
 {}
 
-/// The same where a journal entry is.
+/// Any bytes have exactly one reading as a journal entry.
 pub fn journal_is_one()
     ensures { (s : List ℕ) → ExactlyOne (JournalSays s) }
 {}
 
-/// The same where the body of an unknown block is.
+/// Any bytes have exactly one reading as the body of an unknown block: the block, or one fault.
 pub fn unknown_is_one()
     ensures { (type : BlockType) (s : List ℕ) → ExactlyOne (UnknownSays type s) }
 {}
 
-/// The same where the body of a name resolution block is.
+/// Any bytes have exactly one reading as the body of a name resolution block: the names, or one fault.
 pub fn resolution_is_one()
     ensures { (order : Order) (s : List ℕ) → ExactlyOne (ResolutionSays order s) }
 {}
 
-/// The same where the body of a block of any type is.
+/// Any bytes have exactly one reading as the body of a block of any given type: the body, or one fault.
 pub fn body_is_one()
     ensures { (order : Order) (type : BlockType) (s : List ℕ) → ExactlyOne (BodySays order type s) }
 {}
 
-/// Two types of blocks are equal where they are the same variant and, where unknown, have the same number.
+/// Two block types are equal exactly if they are the same variant and, for unknown types, have the same number.
 pub fn types_are_equal(left: BlockType, right: BlockType) -> bool
     ensures { IsTrue result ↔ (left ≡ right) }
 {
     left == right
 }
 
-/// A clone of a type of blocks is that type, and takes no memory.
+/// A clone of a block type is the same type, and cloning never fails.
 pub fn type_is_cloned(value: BlockType) -> Result<BlockType, AllocError>
     ensures same { IfOk result (λ clone. clone ≡ value) }
     ensures made { IsOk result }

@@ -1,7 +1,8 @@
-//! Bodies of PcapNg blocks, read from slices: their values, their options by name, times, and views of what is newer.
+//! Bodies of PcapNg blocks, read from slices: their values, options by name, times, and views of unknown blocks and
+//! options.
 //!
-//! The format is that of the IETF draft draft-ietf-opsawg-pcapng; names in quotes are sections of it. Lengths are in bytes.
-//! The options are those of `pcap_options`.
+//! The format is that of the IETF draft draft-ietf-opsawg-pcapng; names in quotes are its sections. Lengths are in
+//! bytes. The options are those of `pcap_options`.
 #![tactic(auto)]
 
 mod block_type;

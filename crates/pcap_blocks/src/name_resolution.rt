@@ -1,4 +1,4 @@
-//! Name resolution.
+//! Name resolution blocks.
 
 ghost use Rattle.std.specs.Prelude.{IsOk, IfOk, ◌≡◌, IfErr};
 ghost use Rattle.pcap_core.specs.Answer.{TellsWhere};
@@ -18,20 +18,22 @@ use std::alloc::{AllocError, Global};
 /// The body of a name resolution block ('Name Resolution Block'): names of addresses.
 #[derive(Clone, Debug, Drop)]
 pub struct NameResolutionBlock<'a> {
-    /// The addresses and their names, without the record that ends them.
+    /// The addresses and their names, without the end record.
     pub records: Vec<Record<'a>>,
-    /// What else is said of the names.
+    /// The block's options.
     pub options: Vec<NameResolutionOption<'a>>,
 }
 
 impl<'a> NameResolutionBlock<'a> {
-    /// The names that a block's body is, and what follows its options, which end at their mark or with the slice.
-    /// Strings and bytes are borrowed from the slice.
+    /// Reads the names from the body of a name resolution block, and returns the bytes after its options and the block.
+    /// The options end at the end-of-options option or with the slice. Strings and bytes are borrowed from the slice.
     ///
-    /// The fault of the first record that has one, as `Record::from_slice` gives it: so `IoError` where the slice ends
-    /// and no record has ended the others. Then `InvalidField` for the first fault of the options, or `Utf8Error` or
-    /// `IoError` where that is a string that isn't UTF-8 or a custom value under 4 bytes. `OutOfMemory` where an
-    /// allocation failed, and only where a record that is kept, a name or an option stands.
+    /// The first malformed record decides the error, as in `Record::from_slice`: so `IoError` if the slice ends before
+    /// an end record. Then the first malformed option: `Utf8Error` for a string that isn't UTF-8, `IoError` for a
+    /// custom value under 4 bytes, and `InvalidField` for another broken rule.
+    ///
+    /// Returns `OutOfMemory` if an allocation fails, which can happen only if there is a record other than the end
+    /// record, a name or an option.
     pub fn from_slice<B: ByteOrder>(
         alloc: Global,
         slice: &'a [u8],
@@ -54,9 +56,9 @@ impl<'a> NameResolutionBlock<'a> {
         Ok((rest, NameResolutionBlock { records, options }))
     }
 
-    /// The same block, with bytes and strings of its own: borrowed ones are copied, owned ones kept.
+    /// Returns the same block with its own bytes and strings: it copies borrowed ones and keeps owned ones.
     ///
-    /// `OutOfMemory` where an allocation failed; the value is then dropped.
+    /// Returns `OutOfMemory` if an allocation fails; the value is then dropped.
     pub fn into_owned(self, alloc: Global) -> ResultParsing<NameResolutionBlock<'static>>
         ensures same { IfOk result (λ kept. names_of kept ≡ names_of self.entry) }
         ensures owned { IfOk result ResolutionIsOwned }

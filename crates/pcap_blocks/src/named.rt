@@ -1,4 +1,4 @@
-//! Options of blocks by their names. Each call tells the first option of its name, and None where there is none.
+//! Options of blocks by name. Each call returns the value of the first option with its name, or None if there is none.
 
 ghost use Rattle.std.specs.Prelude.{◌≡◌};
 ghost use Rattle.std.specs.Option.{option_map};
@@ -19,28 +19,28 @@ use crate::section_header::SectionHeaderBlock;
 use pcap_options::{first_number, first_string};
 
 impl SectionHeaderBlock<'_> {
-    /// The first comment on the section.
+    /// Returns the first comment on the section.
     pub fn comment(&self) -> Option<&str>
         ensures { option_map (λ string. string.now) result ≡ first_under 1 string_in (section_of self.now).options }
     {
         first_string(&self.options, 1)
     }
 
-    /// The hardware that the section was made on.
+    /// Returns the hardware on which the section was made.
     pub fn hardware(&self) -> Option<&str>
         ensures { option_map (λ string. string.now) result ≡ first_under 2 string_in (section_of self.now).options }
     {
         first_string(&self.options, 2)
     }
 
-    /// The operating system that it was made on.
+    /// Returns the operating system on which the section was made.
     pub fn os(&self) -> Option<&str>
         ensures { option_map (λ string. string.now) result ≡ first_under 3 string_in (section_of self.now).options }
     {
         first_string(&self.options, 3)
     }
 
-    /// The application that made it.
+    /// Returns the application that made the section.
     pub fn application(&self) -> Option<&str>
         ensures { option_map (λ string. string.now) result ≡ first_under 4 string_in (section_of self.now).options }
     {
@@ -49,42 +49,42 @@ impl SectionHeaderBlock<'_> {
 }
 
 impl InterfaceDescriptionBlock<'_> {
-    /// The first comment on the interface.
+    /// Returns the first comment on the interface.
     pub fn comment(&self) -> Option<&str>
         ensures { option_map (λ string. string.now) result ≡ first_under 1 string_in (interface_of self.now).options }
     {
         first_string(&self.options, 1)
     }
 
-    /// The name of the device.
+    /// Returns the name of the device.
     pub fn name(&self) -> Option<&str>
         ensures { option_map (λ string. string.now) result ≡ first_under 2 string_in (interface_of self.now).options }
     {
         first_string(&self.options, 2)
     }
 
-    /// What the device is.
+    /// Returns the description of the device.
     pub fn description(&self) -> Option<&str>
         ensures { option_map (λ string. string.now) result ≡ first_under 3 string_in (interface_of self.now).options }
     {
         first_string(&self.options, 3)
     }
 
-    /// The interface's speed in bits a second.
+    /// Returns the interface's speed in bits per second.
     pub fn speed(&self) -> Option<u64>
         ensures { result ≡ first_under 8 number_in (interface_of self.now).options }
     {
         first_number(&self.options, 8)
     }
 
-    /// The operating system of the interface's machine.
+    /// Returns the operating system of the interface's machine.
     pub fn os(&self) -> Option<&str>
         ensures { option_map (λ string. string.now) result ≡ first_under 12 string_in (interface_of self.now).options }
     {
         first_string(&self.options, 12)
     }
 
-    /// What the hardware is.
+    /// Returns the description of the interface's hardware.
     pub fn hardware(&self) -> Option<&str>
         ensures { option_map (λ string. string.now) result ≡ first_under 15 string_in (interface_of self.now).options }
     {
@@ -93,7 +93,7 @@ impl InterfaceDescriptionBlock<'_> {
 }
 
 impl EnhancedPacketBlock<'_> {
-    /// The first comment on the packet.
+    /// Returns the first comment on the packet.
     pub fn comment(&self) -> Option<&str>
         ensures { option_map (λ string. string.now) result ≡ first_under 1 string_in (enhanced_of self.now).packet.options }
     {
@@ -102,7 +102,7 @@ impl EnhancedPacketBlock<'_> {
 }
 
 impl PacketBlock<'_> {
-    /// The first comment on the packet.
+    /// Returns the first comment on the packet.
     pub fn comment(&self) -> Option<&str>
         ensures { option_map (λ string. string.now) result ≡ first_under 1 string_in (packet_of self.now).packet.options }
     {
@@ -111,7 +111,7 @@ impl PacketBlock<'_> {
 }
 
 impl NameResolutionBlock<'_> {
-    /// The first comment on the names.
+    /// Returns the first comment on the names.
     pub fn comment(&self) -> Option<&str>
         ensures { option_map (λ string. string.now) result ≡ first_under 1 string_in (names_of self.now).options }
     {
@@ -120,21 +120,21 @@ impl NameResolutionBlock<'_> {
 }
 
 impl InterfaceStatisticsBlock<'_> {
-    /// The first comment on the statistics.
+    /// Returns the first comment on the statistics.
     pub fn comment(&self) -> Option<&str>
         ensures { option_map (λ string. string.now) result ≡ first_under 1 string_in (statistics_of self.now).options }
     {
         first_string(&self.options, 1)
     }
 
-    /// How many packets the interface received.
+    /// Returns the number of packets that the interface received.
     pub fn received(&self) -> Option<u64>
         ensures { result ≡ first_under 4 number_in (statistics_of self.now).options }
     {
         first_number(&self.options, 4)
     }
 
-    /// How many packets the interface dropped.
+    /// Returns the number of packets that the interface dropped.
     pub fn dropped(&self) -> Option<u64>
         ensures { result ≡ first_under 5 number_in (statistics_of self.now).options }
     {

@@ -1,4 +1,4 @@
-//! Packet blocks, which enhanced packets have replaced.
+//! Packet blocks, an obsolete form that enhanced packets replaced.
 
 ghost use Rattle.std.specs.Prelude.{IsOk, IfOk, ◌≡◌, IfErr};
 ghost use Rattle.pcap_core.specs.Answer.{TellsWhere};
@@ -19,28 +19,30 @@ use std::alloc::{AllocError, Global};
 pub struct PacketBlock<'a> {
     /// The number of the interface, counted from 0 in the order of the section's interface descriptions.
     pub interface_id: u16,
-    /// How many packets of the interface were lost between this one and the one before it.
+    /// The number of packets that the interface lost between this packet and the one before it.
     pub drop_count: u16,
-    /// Units of time since 1970-01-01 00:00:00 UTC. The interface's `IfTsResol` tells the unit, 10^-6 s where it has
-    /// none.
+    /// The time since 1970-01-01 00:00:00 UTC, without the interface's `IfTsOffset`, in units of its `IfTsResol`, or of
+    /// 10^-6 s if it has none.
     pub timestamp: u64,
-    /// How many bytes of the packet are stored.
+    /// The number of bytes of the packet that are stored.
     pub captured_len: u32,
-    /// How many bytes the packet had on the wire.
+    /// The number of bytes that the packet had on the wire.
     pub original_len: u32,
-    /// The bytes that are stored of the packet.
+    /// The stored bytes of the packet.
     pub data_: CowBytes<'a>,
-    /// What else is said of the packet.
+    /// The packet's options.
     pub options: Vec<PacketOption<'a>>,
 }
 
 impl<'a> PacketBlock<'a> {
-    /// The packet that a block's body is, and what follows its options, which end at their mark or with the slice.
-    /// Strings and bytes are borrowed from the slice.
+    /// Reads a packet from the body of a packet block, and returns the bytes after its options and the packet. The
+    /// options end at the end-of-options option or with the slice. Strings and bytes are borrowed from the slice.
     ///
-    /// `InvalidField` under 20 bytes, then where the data and its padding pass the slice, then for the first fault of
-    /// the options, or `Utf8Error` or `IoError` where that is a string that isn't UTF-8 or a custom value under 4
-    /// bytes. `OutOfMemory` where an allocation failed, and only where an option stands.
+    /// The first broken rule decides the error. `InvalidField` for fewer than 20 bytes, and if the slice ends inside
+    /// the data or its padding. Then the first malformed option: `Utf8Error` for a string that isn't UTF-8, `IoError`
+    /// for a custom value under 4 bytes, and `InvalidField` for another broken rule.
+    ///
+    /// Returns `OutOfMemory` if an allocation fails, which can happen only if there is an option.
     pub fn from_slice<B: ByteOrder>(
         alloc: Global,
         slice: &'a [u8],
@@ -76,9 +78,9 @@ impl<'a> PacketBlock<'a> {
         Ok((rest, block))
     }
 
-    /// The same packet, with bytes and strings of its own: borrowed ones are copied, owned ones kept.
+    /// Returns the same packet with its own bytes and strings: it copies borrowed ones and keeps owned ones.
     ///
-    /// `OutOfMemory` where an allocation failed; the value is then dropped.
+    /// Returns `OutOfMemory` if an allocation fails; the value is then dropped.
     pub fn into_owned(self, alloc: Global) -> ResultParsing<PacketBlock<'static>>
         ensures same { IfOk result (λ kept. packet_of kept ≡ packet_of self.entry) }
         ensures owned { IfOk result PacketIsOwned }

@@ -1,4 +1,4 @@
-//! Blocks of all types.
+//! Bodies of blocks of all types.
 
 ghost use Rattle.std.specs.Prelude.{◌≡◌, IsOk, IfOk, IfErr};
 ghost use Rattle.pcap_core.specs.Answer.{TellsWhere};
@@ -36,7 +36,7 @@ pub enum ParsedBlock<'a> {
     Unknown(UnknownBlock<'a>),
 }
 
-// What was read as a body of this type, as one of any type.
+// Wraps the result of reading a body of this type as a body of any type.
 macro_rules! read_body {
     ($type:ident $read:expr) => {{
         let (rest, block) = $read;
@@ -44,7 +44,7 @@ macro_rules! read_body {
     }};
 }
 
-// A body that is kept, of one of these types.
+// Makes a body of one of these types owned.
 macro_rules! kept_body {
     ($body:tt $alloc:ident $($type:ident)*) => {
         match $body {
@@ -57,12 +57,14 @@ macro_rules! kept_body {
 }
 
 impl<'a> ParsedBlock<'a> {
-    /// The body of a block of this type, and what follows it. Strings and bytes are borrowed from the slice.
+    /// Reads the body of a block of this type, and returns the bytes after it and the body. Strings and bytes are
+    /// borrowed from the slice.
     ///
-    /// A section's numbers have the order that its own magic number names, whatever `B` is. Of an unknown type the
-    /// whole slice is the value and is left as well: `InvalidField` where it has 2^32 bytes or more. The errors of the
-    /// other types are those of their own `from_slice`, so simple packets, journal entries and unknown types never give
-    /// `OutOfMemory`.
+    /// A section's magic number decides its byte order, whatever `B` is. For an unknown type, the whole slice is the
+    /// block's value, and the call also returns all of it as the rest.
+    ///
+    /// For an unknown type, returns `InvalidField` if the slice has 2^32 bytes or more. The other types have the errors
+    /// of their own `from_slice`. Simple packets, journal entries and unknown types never give `OutOfMemory`.
     pub fn from_slice<B: ByteOrder>(
         alloc: Global,
         type_: BlockType,
@@ -110,7 +112,7 @@ impl<'a> ParsedBlock<'a> {
         }
     }
 
-    /// The section that this is, if it is one.
+    /// Returns the section, if the body is one.
     pub fn into_section_header(self) -> Option<SectionHeaderBlock<'a>>
         ensures { result ≡ section_in self.entry }
     {
@@ -120,7 +122,7 @@ impl<'a> ParsedBlock<'a> {
         }
     }
 
-    /// The interface that this is, if it is one.
+    /// Returns the interface, if the body is one.
     pub fn into_interface_description(self) -> Option<InterfaceDescriptionBlock<'a>>
         ensures { result ≡ interface_in self.entry }
     {
@@ -130,9 +132,9 @@ impl<'a> ParsedBlock<'a> {
         }
     }
 
-    /// The same block, with bytes and strings of its own: borrowed ones are copied, owned ones kept.
+    /// Returns the same block with its own bytes and strings: it copies borrowed ones and keeps owned ones.
     ///
-    /// `OutOfMemory` where an allocation failed; the value is then dropped.
+    /// Returns `OutOfMemory` if an allocation fails; the value is then dropped.
     pub fn into_owned(self, alloc: Global) -> ResultParsing<ParsedBlock<'static>>
         ensures same { IfOk result (λ kept. body_of kept ≡ body_of self.entry) }
         ensures owned { IfOk result ParsedIsOwned }

@@ -14,28 +14,30 @@ use pcap_core::{Endianness, ResultParsing};
 use pcap_options::{IntoStatic, Refusal, SectionHeaderOption, kept_fields, options_from_slice};
 use std::alloc::{AllocError, Global};
 
-/// The body of a section header ('Section Header Block'): what holds for all blocks up to the next one.
+/// The body of a section header ('Section Header Block'), which applies to all blocks up to the next section header.
 #[derive(Clone, Debug, Drop)]
 pub struct SectionHeaderBlock<'a> {
-    /// Magic number, read high byte first: 0x1A2B3C4D in a big-endian section, 0x4D3C2B1A in a little-endian one.
+    /// The magic number, read high byte first: 0x1A2B3C4D in a big-endian section, 0x4D3C2B1A in a little-endian one.
     pub magic: u32,
-    /// Major version number, 1 as a rule.
+    /// The major version number, normally 1.
     pub major_version: u16,
-    /// Minor version number, 0 as a rule.
+    /// The minor version number, normally 0.
     pub minor_version: u16,
-    /// Length of the section in bytes, without this block, or -1 where it isn't known. Nothing is skipped by it.
+    /// The length of the section in bytes without this block, or -1 if it isn't known. No call uses it to skip bytes.
     pub section_length: i64,
-    /// What else is said of the section.
+    /// The section's options.
     pub options: Vec<SectionHeaderOption<'a>>,
 }
 
 impl<'a> SectionHeaderBlock<'a> {
-    /// The section that a block's body is, and what follows its options, which end at their mark or with the slice.
-    /// Strings and bytes are borrowed from the slice.
+    /// Reads a section from the body of a block, and returns the bytes after its options and the section. The options
+    /// end at the end-of-options option or with the slice. Strings and bytes are borrowed from the slice.
     ///
-    /// `InvalidField` under 16 bytes, then where the magic number is neither of the two, then for the first fault of
-    /// the options, or `Utf8Error` or `IoError` where that is a string that isn't UTF-8 or a custom value under 4
-    /// bytes. `OutOfMemory` where an allocation failed, and only where an option stands.
+    /// The first broken rule decides the error. `InvalidField` for fewer than 16 bytes, and for an unknown magic
+    /// number. Then the first malformed option: `Utf8Error` for a string that isn't UTF-8, `IoError` for a custom value
+    /// under 4 bytes, and `InvalidField` for another broken rule.
+    ///
+    /// Returns `OutOfMemory` if an allocation fails, which can happen only if there is an option.
     pub fn from_slice(alloc: Global, slice: &'a [u8]) -> ResultParsing<(&'a [u8], Self)>
         ensures tells { TellsWhere (SectionMayGrow slice.now) (SectionSays slice.now) section_of result }
         ensures borrowed { IfOk result (λ x. SectionIsBorrowed x.1) }
@@ -58,7 +60,7 @@ impl<'a> SectionHeaderBlock<'a> {
         }
     }
 
-    // The section whose magic number is known, from what follows that.
+    // Reads the part of a section after its magic number.
     fn read_after<B: ByteOrder>(
         alloc: Global,
         magic: u32,
@@ -82,7 +84,7 @@ impl<'a> SectionHeaderBlock<'a> {
         Ok((rest, block))
     }
 
-    /// Whether the magic number names an order.
+    /// Returns whether the magic number names a byte order.
     #[tactic(auto, unfolding(crate::specs::SectionHeader::magic_order))]
     pub fn has_valid_magic(&self) -> bool
         ensures { IsTrue result ↔ IsSome (magic_order self.now.magic) }
@@ -90,7 +92,7 @@ impl<'a> SectionHeaderBlock<'a> {
         matches!(self.magic, 0x1A2B3C4D | 0x4D3C2B1A)
     }
 
-    /// The order of the section's numbers. The magic number has to name one: see `has_valid_magic`.
+    /// Returns the byte order of the section's numbers. The magic number must name one: see `has_valid_magic`.
     #[tactic(auto, unfolding(crate::specs::SectionHeader::magic_order))]
     pub fn endianness(&self) -> Endianness
         requires { IsSome (magic_order self.now.magic) }
@@ -103,9 +105,9 @@ impl<'a> SectionHeaderBlock<'a> {
         }
     }
 
-    /// The same section, with bytes and strings of its own: borrowed ones are copied, owned ones kept.
+    /// Returns the same section with its own bytes and strings: it copies borrowed ones and keeps owned ones.
     ///
-    /// `OutOfMemory` where an allocation failed; the value is then dropped.
+    /// Returns `OutOfMemory` if an allocation fails; the value is then dropped.
     pub fn into_owned(self, alloc: Global) -> ResultParsing<SectionHeaderBlock<'static>>
         ensures same { IfOk result (λ kept. section_of kept ≡ section_of self.entry) }
         ensures owned { IfOk result SectionIsOwned }

@@ -13,19 +13,20 @@ use pcap_core::{CowBytes, ResultParsing};
 use pcap_options::{IntoStatic, Refusal, kept_fields};
 use std::alloc::{AllocError, Global};
 
-/// The body of a simple packet ('Simple Packet Block'): a packet of the section's first interface, with no time.
+/// The body of a simple packet ('Simple Packet Block'): a packet of the section's first interface, without a timestamp.
 #[derive(Clone, Debug, Drop)]
 pub struct SimplePacketBlock<'a> {
-    /// How many bytes the packet had on the wire.
+    /// The number of bytes that the packet had on the wire.
     pub original_len: u32,
-    /// The bytes that are stored of the packet, and their padding.
+    /// The stored bytes of the packet, with their padding.
     pub data_: CowBytes<'a>,
 }
 
 impl<'a> SimplePacketBlock<'a> {
-    /// The packet that a block's body is; nothing is left. Its bytes are borrowed from the slice.
+    /// Reads a simple packet from a whole slice, and returns the empty rest and the packet. Its bytes are borrowed from
+    /// the slice.
     ///
-    /// `InvalidField` under 4 bytes.
+    /// Returns `InvalidField` for fewer than 4 bytes.
     pub fn from_slice<B: ByteOrder>(slice: &'a [u8]) -> ResultParsing<(&'a [u8], Self)>
         ensures tells { Tells (SimpleSays B.number_of slice.now) simple_of result }
         ensures borrowed { IfOk result (λ x. SimpleIsBorrowed x.1) }
@@ -48,9 +49,9 @@ impl<'a> SimplePacketBlock<'a> {
         Ok((&slice[slice.len()..], block))
     }
 
-    /// The same packet, with bytes and strings of its own: borrowed ones are copied, owned ones kept.
+    /// Returns the same packet with its own bytes and strings: it copies borrowed ones and keeps owned ones.
     ///
-    /// `OutOfMemory` where an allocation failed; the value is then dropped.
+    /// Returns `OutOfMemory` if an allocation fails; the value is then dropped.
     pub fn into_owned(self, alloc: Global) -> ResultParsing<SimplePacketBlock<'static>>
         ensures same { IfOk result (λ kept. simple_of kept ≡ simple_of self.entry) }
         ensures owned { IfOk result SimpleIsOwned }

@@ -1,4 +1,4 @@
-//! What both kinds of packet body hold after their interface.
+//! The part that enhanced packets and packet blocks share: the time, the lengths, the data and the options.
 
 ghost use Rattle.std.specs.Prelude.{◌≤◌, length, IfOk};
 ghost use Rattle.pcap_options.specs.Refusal.{FindsWhere};
@@ -22,7 +22,7 @@ pub(crate) struct StoredPacket<'a, O> {
     pub(crate) options: Vec<O>,
 }
 
-// The packet at the front of a slice, and what follows its options.
+// Reads the packet at the front of a slice, and returns the bytes after its options and the packet.
 pub(crate) fn stored_from_slice<'a, O: ListedOption<'a> + Drop, B: ByteOrder>(
     alloc: Global,
     slice: &'a [u8],

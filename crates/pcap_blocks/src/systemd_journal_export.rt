@@ -18,7 +18,8 @@ pub struct SystemdJournalExportBlock<'a> {
 }
 
 impl<'a> SystemdJournalExportBlock<'a> {
-    /// The entry that a block's body is; nothing is left. Its bytes are borrowed from the slice.
+    /// Reads a journal entry from a whole slice, and returns the empty rest and the entry. Its bytes are borrowed from
+    /// the slice.
     pub fn from_slice<B: ByteOrder>(slice: &'a [u8]) -> ResultParsing<(&'a [u8], Self)>
         ensures tells { Tells (JournalSays slice.now) journal_of result }
         ensures borrowed { IfOk result (λ x. JournalIsBorrowed x.1) }
@@ -36,9 +37,9 @@ impl<'a> SystemdJournalExportBlock<'a> {
         (&slice[slice.len()..], block)
     }
 
-    /// The same entry, with bytes and strings of its own: borrowed ones are copied, owned ones kept.
+    /// Returns the same journal entry with its own bytes: it copies borrowed ones and keeps owned ones.
     ///
-    /// `OutOfMemory` where an allocation failed; the value is then dropped.
+    /// Returns `OutOfMemory` if an allocation fails; the value is then dropped.
     pub fn into_owned(self, alloc: Global) -> ResultParsing<SystemdJournalExportBlock<'static>>
         ensures same { IfOk result (λ kept. journal_of kept ≡ journal_of self.entry) }
         ensures owned { IfOk result JournalIsOwned }

@@ -1,4 +1,4 @@
-//! Times at the front of a slice.
+//! Timestamps at the front of a slice.
 
 ghost use Rattle.std.specs.Prelude.{◌≡◌, ◌≤◌, ◌+◌, length};
 ghost use Rattle.pcap_blocks.specs.Time.{TimeText};
@@ -6,7 +6,7 @@ ghost use Rattle.pcap_blocks.specs.Time.{TimeText};
 use byteorder::ByteOrder;
 use pcap_core::fields::split_u32;
 
-/// The time in the first eight bytes, its high half first, and the bytes after them.
+/// Reads the timestamp in the first eight bytes, its high half first, and returns it and the bytes after it.
 pub fn split_time<B: ByteOrder>(bytes: &[u8]) -> (u64, &[u8])
     requires { 8 ≤ length bytes.now }
     ensures time { TimeText B.number_of result.0 bytes.now result.1.now }

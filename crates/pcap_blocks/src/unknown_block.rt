@@ -1,4 +1,4 @@
-//! Blocks whose type has no name here.
+//! Blocks of types that this library doesn't know.
 
 ghost use Rattle.std.specs.Prelude.{◌≡◌, IsOk, IfOk, IfErr};
 ghost use Rattle.pcap_blocks.specs.UnknownBlock.{unknown_of, UnknownBlockIsBorrowed, UnknownBlockIsOwned};
@@ -9,19 +9,19 @@ use pcap_core::{CowBytes, ResultParsing};
 use pcap_options::{IntoStatic, kept_fields};
 use std::alloc::{AllocError, Global};
 
-/// The body of a block whose type has no name here ('General Block Structure').
+/// The body of a block whose type this library doesn't know ('General Block Structure').
 #[derive(Clone, Debug, Drop)]
 pub struct UnknownBlock<'a> {
     /// The block's type.
     pub type_: BlockType,
-    /// The length of its value in bytes.
+    /// The length of the block's value in bytes.
     pub length: u32,
-    /// Its value: the whole body.
+    /// The block's value, which is its whole body.
     pub value: CowBytes<'a>,
 }
 
 impl<'a> UnknownBlock<'a> {
-    /// The block of this type, length in bytes and value.
+    /// Makes a block with this type, length in bytes and value.
     pub fn new(type_: BlockType, len: u32, value: &'a [u8]) -> Self
         ensures block { unknown_of result ≡ record { type_ = type_; len = len; bytes = value.now } }
         ensures borrowed { UnknownBlockIsBorrowed result }
@@ -33,9 +33,9 @@ impl<'a> UnknownBlock<'a> {
         }
     }
 
-    /// The same block, with bytes and strings of its own: borrowed ones are copied, owned ones kept.
+    /// Returns the same block with its own bytes and strings: it copies borrowed ones and keeps owned ones.
     ///
-    /// `OutOfMemory` where an allocation failed; the value is then dropped.
+    /// Returns `OutOfMemory` if an allocation fails; the value is then dropped.
     pub fn into_owned(self, alloc: Global) -> ResultParsing<UnknownBlock<'static>>
         ensures same { IfOk result (λ kept. unknown_of kept ≡ unknown_of self.entry) }
         ensures owned { IfOk result UnknownBlockIsOwned }

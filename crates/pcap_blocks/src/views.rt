@@ -1,4 +1,4 @@
-//! Views of what is newer than the names here: values of unknown blocks and options, which stay as they are.
+//! Views of newer values, which the parser returns as unknown blocks and unknown options.
 
 ghost use Rattle.std.specs.Prelude.{◌≡◌, ◌∷◌, ℕ, List, MatchOption};
 ghost use Rattle.std.specs.Option.{option_map};
@@ -18,24 +18,25 @@ use pcap_options::first_unknown;
 /// The secrets of a block of type 10 ('Decryption Secrets Block').
 #[derive(Clone, Copy, Debug)]
 pub struct DecryptionSecrets<'a> {
-    /// What the secrets are: 0x544c534b for a log of TLS keys, 0x57474b4c for one of WireGuard, and others.
+    /// The type of the secrets: 0x544c534b for a log of TLS keys, 0x57474b4c for a log of WireGuard keys, and others.
     pub secrets_type: u32,
-    /// Their bytes.
+    /// The bytes of the secrets.
     pub secrets: &'a [u8],
 }
 
-/// What was decided on a packet ('Enhanced Packet Block', epb_verdict).
+/// The verdict of hardware or a program on a packet ('Enhanced Packet Block', epb_verdict).
 #[derive(Clone, Copy, Debug)]
 pub struct PacketVerdict<'a> {
-    /// Who decided: 0 is the hardware, 1 an eBPF program of Linux's traffic control, 2 one of its XDP.
+    /// The source of the verdict: 0 is the hardware, 1 an eBPF program of Linux's traffic control, 2 an eBPF program of
+    /// Linux's XDP.
     pub kind: u8,
-    /// What was decided, in the form of that kind.
+    /// The verdict, in the form that its source uses.
     pub value: &'a [u8],
 }
 
 impl UnknownBlock<'_> {
-    /// The secrets of a block of type 10 whose numbers are of this order. None of a block of another type, and where the
-    /// secrets and their padding pass the body.
+    /// Returns the secrets of a block of type 10, with its numbers read in this byte order. Returns None for a block of
+    /// another type, and if the body ends before the secrets and their padding do.
     pub fn decryption_secrets(&self, order: Endianness) -> Option<DecryptionSecrets<'_>>
         ensures { MatchOption result ((type : ℕ) (secrets rest : List ℕ) → ¬ SecretsText (number_in order) self.now type secrets rest)
             (λ x. (rest : List ℕ) × SecretsText (number_in order) self.now x.secrets_type x.secrets.now rest) }
@@ -67,8 +68,9 @@ impl UnknownBlock<'_> {
 }
 
 impl EnhancedPacketBlock<'_> {
-    /// The number that names the packet wherever it was captured (epb_packetid, code 5), by the first such option, whose
-    /// numbers are of this order. None without one, and where its value isn't 8 bytes.
+    /// Returns the number that identifies the packet wherever it was captured (epb_packetid, code 5). The call reads
+    /// the first such option in this byte order. Returns None if there is no such option, or if its value isn't 8
+    /// bytes.
     pub fn packet_id(&self, order: Endianness) -> Option<u64>
         ensures { result ≡ number_of_all (number_in order) 8 (first_under 5 unknown_in (enhanced_of self.now).packet.options) }
     {
@@ -82,8 +84,8 @@ impl EnhancedPacketBlock<'_> {
         })
     }
 
-    /// The interface's queue that the packet came through (epb_queue, code 6), by the first such option, whose numbers
-    /// are of this order. None without one, and where its value isn't 4 bytes.
+    /// Returns the interface's queue that received the packet (epb_queue, code 6). The call reads the first such option
+    /// in this byte order. Returns None if there is no such option, or if its value isn't 4 bytes.
     pub fn queue(&self, order: Endianness) -> Option<u32>
         ensures { result ≡ number_of_all (number_in order) 4 (first_under 6 unknown_in (enhanced_of self.now).packet.options) }
     {
@@ -97,8 +99,8 @@ impl EnhancedPacketBlock<'_> {
         })
     }
 
-    /// What was decided on the packet (epb_verdict, code 7), by the first such option. None without one, and where its
-    /// value has no byte.
+    /// Returns the verdict on the packet from the first such option (epb_verdict, code 7). Returns None if there is no
+    /// such option, or if its value is empty.
     pub fn verdict(&self) -> Option<PacketVerdict<'_>>
         ensures { option_map (λ x. x.kind ∷ x.value.now) result ≡ some_bytes_of (first_under 7 unknown_in (enhanced_of self.now).packet.options) }
     {

@@ -1,4 +1,4 @@
--- The first of a list of which something is given.
+-- The first item of a list for which a function gives something.
 use Rattle.std.proofs.Common.{◌≡◌, ℕ, ◌+◌, ◌<◌, suc, List, [], ◌∷◌, ◌++◌, length, get_or, take, drop, map, ap, sym, ◌∙◌, add-one, Option, Some, None}
 use Rattle.std.specs.Prelude.{slice_get}
 use Rattle.std.specs.List.{filter_map, cons_option}
@@ -6,11 +6,11 @@ use Rattle.std.proofs.lemmas.List.{take-append-drop, map-append}
 use Rattle.std.proofs.lemmas.List.Elements.{filter_map-append}
 use Rattle.std.proofs.Math.Seq.{take-suc, drop-cons}
 
--- what is given of two lists, one after the other
+-- A function's results for two joined lists are its results for each list, joined.
 given_of_both : {O E X : Type 0} (view : O → E) (h : E → Option X) (xs ys : List O) → filter_map h (map view (xs ++ ys)) ≡ filter_map h (map view xs) ++ filter_map h (map view ys)
 given_of_both view h xs ys = ap (λ l. filter_map h l) (map-append view xs ys) ∙ filter_map-append h (map view xs) (map view ys)
 
--- it is what the first element gives of which something is given, as it is seen here
+-- The first item for which the function gives something decides the result for the whole list.
 pub found : {O E X : Type 0} (view : O → E) (h : E → Option X) (items : List O) (i : ℕ) (o : O) (seen : E) (x : X) → i < length items → o ≡ get_or items i o → filter_map h (map view (take i items)) ≡ [] → seen ≡ view o → Some x ≡ h seen
     → Some x ≡ slice_get (filter_map h (map view items)) 0
 found view h items i o seen x within is before sees here =
@@ -21,7 +21,7 @@ found view h items i o seen x within is before sees here =
     let is_first : filter_map h (map view items) ≡ x ∷ rest = given ∙ ap (λ l. l ++ cons_option (h (view o)) rest) before ∙ ap (λ y. cons_option y rest) (ap h (sym sees) ∙ sym here) in
     sym (ap (λ l. slice_get l 0) is_first)
 
--- nothing is given of one element more
+-- If one more item gives nothing, the items up to it give nothing.
 pub missed : {O E X : Type 0} (view : O → E) (h : E → Option X) (items : List O) (i : ℕ) (o : O) (seen : E) → i < length items → o ≡ get_or items i o → filter_map h (map view (take i items)) ≡ [] → seen ≡ view o → None ≡ h seen
     → filter_map h (map view (take (i + 1) items)) ≡ []
 missed view h items i o seen within is before sees here =

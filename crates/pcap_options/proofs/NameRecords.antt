@@ -1,4 +1,4 @@
--- What the calls that read records give together.
+-- Lemmas for the calls that read name records.
 use Rattle.std.proofs.Common.{◌≡◌, ◌≢◌, ℕ, ◌<◌, List, [], ◌∷◌, ◌++◌, length, refl, sym, subst, ◌∙◌, append_assoc}
 use Rattle.pcap_core.specs.Answer.{Order, whole, faulty}
 use Rattle.pcap_core.specs.Faults.{Fault, Invalid}
@@ -23,7 +23,7 @@ pub record_unpadded : (order : Order) (r : NameRecord) (type len : ℕ) (s after
 record_unpadded order r type len s after v more h is parts value lt =
     unpadded r type v after more (head_with order type len v s after h is) parts value (subst (λ (k : ℕ). length after < up_to_4 k) (sym is) lt)
 
--- what is padded is the value in front
+-- A padded value is the value at the front, if both have the same length.
 pub same_padded : (v w s more rest : List ℕ) → s ≡ v ++ more → length v ≡ length w → Padded w s rest → Padded v s rest
 same_padded v w s more rest parts len p =
     let here : s ≡ w ++ (p.padding ++ rest) = p.text ∙ append_assoc w p.padding rest in
@@ -50,11 +50,11 @@ no_end_of (record_of.Unknown r) apart e = absurd cc
 pub kept_of : (order : Order) (r : Record) (s rest : List ℕ) → RecordText order (name_record_of r) s rest → (r ≡ record_of.End → ⊥) → KeptText order (name_record_of r) s rest
 kept_of order r s rest is apart = record { record_is = is; no_end = no_end_of r apart }
 
--- a record with a name, after kept ones or at the front
+-- Records may grow if a record with a name follows kept records or is at the front.
 pub records_grow : (order : Order) (good : List NameRecord) (s rest : List ℕ) → Chain (KeptText order) good s rest → RecordMayGrow order rest → RecordsMayGrow order s
 records_grow order [] s rest are grows = named (subst (λ (x : List ℕ). RecordMayGrow order x) (sym are) grows)
 records_grow order (first ∷ good) s rest are grows = kept (record { value = first; rest = are.0; text = are.1 })
 
--- the fault of a record after kept ones
+-- The fault of a record that follows kept records is the fault of the list.
 pub records_fail : (order : Order) (good : List NameRecord) (s bad : List ℕ) → Chain (KeptText order) good s bad → (f : Fault) → RecordFault order bad f → RecordsFault order s f
 records_fail order good s bad are f fault = record { good = good; bad = bad; are_good = are; fault_is = fault }

@@ -1,4 +1,4 @@
--- Names one after the other.
+-- Lemmas for names that follow one another.
 use Rattle.std.proofs.Common.{◌≡◌, ℕ, ◌+◌, ◌≤◌, suc, ◌<◌, List, ◌∷◌, ◌++◌, length, sym, ap, ◌∙◌, arith, take, drop, length-append, get_or, drop-cons}
 use Rattle.std.specs.Prelude.{Err}
 use Rattle.std.proofs.lemmas.List.{take-append-drop}

@@ -1,4 +1,4 @@
--- Of all bytes exactly one thing is said as a list of options, however it may end.
+-- Any bytes have exactly one reading as a list of options, for each way in which a list may end.
 use Rattle.std.proofs.Common.{◌≡◌, ◌≢◌, ◌+◌, ℕ, ◌<◌, List, [], ◌∷◌, length, Option, Some, None, refl, sym, ap, subst, ◌∙◌, arith, inl, inr}
 use Rattle.std.specs.Prelude.{◌⊎◌}
 use Rattle.pcap_core.specs.Answer.{Order, Verdict, whole, lacks, faulty}
@@ -17,11 +17,11 @@ use Rattle.pcap_core.proofs.Verdicts.{whole_same}
 pub head_length : (order : Order) (code len : ℕ) (s rest : List ℕ) → CodeLengthText order code len s rest → length s ≡ 4 + length rest
 head_length order code len s rest h = omega (arith, number_length order 2 code s h.after_code h.code_is, number_length order 2 len h.after_code rest h.length_is)
 
--- the list of these options ends here: at the mark, or where no byte is left and the list is over
+-- The list of these options ends here: at the end-of-options option, or where no byte is left and the list is over.
 abbrev pub Ends : Ending → Order → List Entry → List ℕ → List ℕ → Type 0
 Ends ending order good s rest = EndMark order s rest ⊎ ((s ≡ []) × IsOver ending good × (rest ≡ []))
 
--- what stops options: the list's end, or a fault
+-- A list of options stops at its end or at a fault.
 ListStop : Ending → Order → Kind → List Entry → List ℕ → Verdict (List Entry) → Type 0
 ListStop ending order kind good s (whole os rest) = (os ≡ good) × Ends ending order good s rest
 ListStop ending order kind good s (lacks n) = ⊥
@@ -74,7 +74,7 @@ over_or_not wants_end [] = inl refl
 over_or_not wants_end (o ∷ os) = inr (λ e. absurd cc)
 over_or_not may_end_with_body good = inl tt
 
--- where the list is not over
+-- One more option or a stop, where the list isn't over.
 piece_stops : (ending : Ending) (order : Order) (kind : Kind) (good : List Entry) (s : List ℕ) → (IsOver ending good → s ≢ []) → (v : Verdict (Option Entry)) → OptionSays order kind s v → ((w : Verdict (List Entry)) × ListStop ending order kind good s w) ⊎ ((o : Entry) × (a : List ℕ) × OptionText order kind o s a)
 unfolding ListStop
 piece_stops ending order kind good s on (whole None a) h = inl (whole good a, (refl, inl h))
@@ -115,7 +115,7 @@ pub list_one : (ending : Ending) (order : Order) (kind : Kind) (s : List ℕ) �
 list_one ending order kind s =
     one_moved (ListSays ending order kind s) (Stopped (OptionText order kind) (ListStop ending order kind) s) (list_to ending order kind s) (list_from ending order kind s) (one_stopped (OptionText order kind) (ListStop ending order kind) (list_many ending order kind) s)
 
--- what a list was while a mark was wanted, it is still
+-- A list under `wants_end` is the same list under `may_end_with_body`.
 pub list_kept : (order : Order) (kind : Kind) (options : List Entry) (s rest : List ℕ) → OptionList wants_end order kind options s rest → OptionList may_end_with_body order kind options s rest
 list_kept order kind options s rest (marked end are is) = marked end are is
 list_kept order kind options s rest (with_body are over none) = with_body are tt none

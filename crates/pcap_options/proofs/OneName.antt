@@ -1,4 +1,4 @@
--- Of all bytes exactly one thing is said as names.
+-- Any bytes have exactly one reading as names.
 use Rattle.std.proofs.Common.{◌≡◌, ◌≢◌, ℕ, zero, suc, Bool, true, false, List, [], ◌∷◌, ◌++◌, length, Ok, Err, refl, sym, ap, subst, ◌∙◌, arith, inl, inr}
 use Rattle.std.specs.Prelude.{◌⊎◌}
 use Rattle.std.specs.Str.{is_utf8}
@@ -21,7 +21,7 @@ no_zero_head b s all = all 0 0 (omega arith)
 no_zero_tail : (b : ℕ) (s : List ℕ) → HasNoZero (b ∷ s) → HasNoZero s
 no_zero_tail b s all k d lt = all (suc k) d (omega arith)
 
--- the bytes before the first zero byte
+-- `s` has a zero byte, with these bytes before it and after it.
 record HasZero (s : List ℕ) : Type 0 where
   before : List ℕ
   after : List ℕ
@@ -37,7 +37,7 @@ zero_or_not (suc b ∷ s) =
       | inr none ↦ inr (All-cons (λ b. b ≢ 0) (suc b) s (λ e. omega (arith, e)) none)
     ]
 
--- a zero byte ends one name alone
+-- The first zero byte ends exactly one name.
 one_front : (a b x y : List ℕ) → HasNoZero a → HasNoZero b → a ++ 0 ∷ x ≡ b ++ 0 ∷ y → (a ≡ b) × (x ≡ y)
 one_front [] [] x y p q e = (refl, cc)
 one_front [] (d ∷ b) x y p q e = absurd (no_zero_head d b q cc)
@@ -52,7 +52,7 @@ zero_inside : (a x : List ℕ) → HasNoZero (a ++ 0 ∷ x) → ⊥
 zero_inside [] x all = no_zero_head 0 x all refl
 zero_inside (b ∷ a) x all = zero_inside a x (no_zero_tail b (a ++ 0 ∷ x) all)
 
--- the bytes of a name, and then whether they are a string
+-- The bytes of a name up to its zero byte; whether they are UTF-8 comes later.
 ZeroSays : List ℕ → Verdict (List ℕ) → Type 0
 ZeroSays s (whole name rest) = (s ≡ name ++ 0 ∷ rest) × HasNoZero name
 ZeroSays s (lacks n) = ⊥
@@ -121,7 +121,7 @@ pub name_one : (s : List ℕ) → ExactlyOne (NameSays s)
 unfolding NameThen
 name_one s = one_moved (NameSays s) (NameThen s) (name_to s) (name_from s) (one_then (ZeroSays s) StringSays (zero_one s) (λ name rest h. string_one name rest))
 
--- what stops names
+-- Names stop at the end of the bytes or at a fault.
 NamesStop : List (List ℕ) → List ℕ → Verdict (List (List ℕ)) → Type 0
 NamesStop good s (whole names rest) = (names ≡ good) × (s ≡ []) × (rest ≡ [])
 NamesStop good s (lacks m) = ⊥

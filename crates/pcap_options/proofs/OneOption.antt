@@ -1,4 +1,4 @@
--- Of all bytes exactly one thing is said as a value, and as an option or the mark.
+-- Any bytes have exactly one reading as a value, and as an option or the end-of-options option.
 use Rattle.std.proofs.Common.{◌≡◌, ◌≢◌, ℕ, suc, zero, ◌<◌, List, [], ◌∷◌, length, Option, Some, None, Result, Ok, Err, refl, sym, ap, subst, ◌∙◌, arith, inl, inr}
 use Rattle.pcap_core.specs.Answer.{Order, Verdict, whole, lacks, faulty}
 use Rattle.pcap_core.specs.Faults.{Fault, Invalid}
@@ -17,7 +17,7 @@ use Rattle.pcap_core.proofs.Verdicts.{whole_same}
 entry : ℕ → Value → Entry
 entry c v = record { code = c; value = v }
 
--- a value
+-- A value has at most one reading.
 entry_decided : (order : Order) (shape : Shape) (code : ℕ) (v : List ℕ) → IsDecided (EntrySays order shape code v)
 unfolding entry
 entry_decided order shape code v = record {
@@ -39,7 +39,7 @@ entry_of order shape code v (Err f) is = one_said (EntrySays order shape code v)
 pub entry_one : (order : Order) (shape : Shape) (code : ℕ) (v : List ℕ) → ExactlyOne (EntrySays order shape code v)
 entry_one order shape code v = entry_of order shape code v (value_of order shape v) refl
 
--- the option that a value of this code is, with what follows it
+-- The option that a value of this code gives, with what follows it.
 PieceSays : Order → Kind → ℕ → List ℕ → List ℕ → Verdict (Option Entry) → Type 0
 PieceSays order kind code v after (whole p rest) = (x : Value) × (value_of order (shape_at kind code) v ≡ Ok x) × (p ≡ Some (entry code x)) × (rest ≡ after)
 PieceSays order kind code v after (lacks n) = ⊥
@@ -59,7 +59,7 @@ unfolding PieceSays
 piece_of order kind code v after (Ok x) is = one_said (PieceSays order kind code v after) (piece_decided order kind code v after) (whole (Some (entry code x)) after) (x, is, refl, refl)
 piece_of order kind code v after (Err f) is = one_said (PieceSays order kind code v after) (piece_decided order kind code v after) (faulty f) is
 
--- what follows a head
+-- The verdict on what follows an option's code and length.
 AfterHead : Order → Kind → ℕ → ℕ → List ℕ → Verdict (Option Entry) → Type 0
 AfterHead order kind zero len after w = w ≡ whole None after
 AfterHead order kind (suc c) len after w = Then (PaddedSays (Invalid OptionCut) len after) (λ v rest. PieceSays order kind (suc c) v rest) w
@@ -70,7 +70,7 @@ after_one order kind zero len after = record { value = whole None after; holds =
 after_one order kind (suc c) len after =
     one_then (PaddedSays (Invalid OptionCut) len after) (λ v rest. PieceSays order kind (suc c) v rest) (padded_one (Invalid OptionCut) len after) (λ v rest h. piece_of order kind (suc c) v rest (value_of order (shape_at kind (suc c)) v) refl)
 
--- a code and a length
+-- The widths of a code and a length.
 abbrev pub widths : List ℕ
 widths = 2 ∷ 2 ∷ []
 

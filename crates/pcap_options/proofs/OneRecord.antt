@@ -1,4 +1,4 @@
--- Of all bytes exactly one thing is said as a record.
+-- Any bytes have exactly one reading as a name record.
 use Rattle.std.proofs.Common.{◌≡◌, ℕ, ◌+◌, ◌<◌, ◌≤◌, List, [], ◌∷◌, ◌++◌, length, take, drop, refl, sym, ap, subst, ◌∙◌, arith, append_assoc, inl, inr}
 use Rattle.std.proofs.lemmas.List.{take-append-drop, length-take, length-append}
 use Rattle.std.proofs.lemmas.Bool.{cases_lt}
@@ -21,7 +21,7 @@ use Rattle.pcap_options.proofs.OneOption.{widths, head_to, head_from}
 use Rattle.pcap_options.proofs.NameRecords.{same_padded}
 use Rattle.pcap_core.proofs.OnePadded.{PaddedSays, padded_one, padded_same, no_short_padded}
 
--- n bytes, or a fault where fewer are left
+-- `n` bytes, or a fault if fewer are left.
 BytesSay : Fault → ℕ → List ℕ → Verdict (List ℕ) → Type 0
 BytesSay too_few n s (whole v rest) = (s ≡ v ++ rest) × (length v ≡ n)
 BytesSay too_few n s (lacks m) = ⊥
@@ -110,7 +110,7 @@ value_one no_value v = no_value_one v
 value_one (address width too_short make) v = one_made make (AddressSays width too_short v) (address_one width too_short v)
 value_one (any_value type) v = record { value = whole (Other type (length v) v) []; holds = (refl, refl); only = any_value_only type v }
 
--- a value takes all of its bytes
+-- A value takes all of its bytes.
 value_ends : (form : Form) (v : List ℕ) (r : NameRecord) (rest : List ℕ) → RecordValueSays form v (whole r rest) → rest ≡ []
 value_ends no_value v r rest h = h.2
 value_ends (address width too_short make) v r rest h = h.2.names_are.nothing_left
@@ -118,7 +118,7 @@ value_ends (any_value type) v r rest h = h.1
 
 -- ---- a record
 
--- the padding after a value
+-- The verdict on the padding after a value.
 PadSays : NameRecord → List ℕ → List ℕ → Verdict NameRecord → Type 0
 PadSays r v s (whole q rest) = (q ≡ r) × Padded v s rest
 PadSays r v s (lacks n) = ⊥
@@ -142,7 +142,7 @@ pad_decided r v s = record {
   no_lack = λ n h. h;
 }
 
--- from the padding of some bytes of that length, which begin as v does
+-- The verdict on the padding follows from the padding of any bytes of the same length.
 pad_there : (r : NameRecord) (v more s : List ℕ) → s ≡ v ++ more → (w : Verdict (List ℕ)) → PaddedSays (Invalid RecordUnpadded) (length v) s w → (x : Verdict NameRecord) × PadSays r v s x
 unfolding PadSays
 pad_there r v more s parts (whole p a) h = (whole r a, (refl, same_padded v p s more a parts (sym h.1) h.0))
@@ -167,7 +167,7 @@ record_then_one : (order : Order) (s : List ℕ) → ExactlyOne (RecordThen orde
 unfolding RecordThen
 record_then_one order s = one_then (NumbersSay order Io widths s) (λ ns after. BytesThen ns.0 ns.1.0 after) (numbers_one order Io widths s) (λ ns after k. bytes_then_one ns.0 ns.1.0 after)
 
--- what a padded value stands before
+-- A padded value is at the front of its bytes.
 before_rest : (v s rest : List ℕ) → Padded v s rest → (more : List ℕ) × (s ≡ v ++ more)
 before_rest v s rest p = (p.padding ++ rest, p.text ∙ append_assoc v p.padding rest)
 

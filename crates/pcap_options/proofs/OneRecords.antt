@@ -1,4 +1,4 @@
--- Of all bytes exactly one thing is said as records up to their end.
+-- Any bytes have exactly one reading as name records up to the end record.
 use Rattle.std.proofs.Common.{◌≡◌, ℕ, ◌<◌, List, length, refl, sym, subst, ◌∙◌, arith, inl, inr}
 use Rattle.std.specs.Prelude.{◌⊎◌}
 use Rattle.pcap_core.specs.Answer.{Order, Verdict, whole, lacks, faulty}
@@ -17,7 +17,7 @@ use Rattle.pcap_options.proofs.OneList.{head_length}
 record_same : (order : Order) (s : List ℕ) (v w : Verdict NameRecord) → RecordSays order s v → RecordSays order s w → w ≡ v
 record_same order s v w h k = (record_one order s).only w k ∙ sym ((record_one order s).only v h)
 
--- what stops records: the end, or a fault
+-- A list of records stops at the end record or at a fault.
 RecordStop : Order → List NameRecord → List ℕ → Verdict (List NameRecord) → Type 0
 RecordStop order good s (whole rs rest) = (rs ≡ good) × RecordText order End s rest
 RecordStop order good s (lacks n) = ⊥

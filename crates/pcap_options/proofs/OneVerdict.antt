@@ -1,10 +1,10 @@
--- One verdict of what is whole or faulty, and never both.
+-- A verdict that is either a value or a fault, never both.
 use Rattle.std.proofs.Common.{◌≡◌, ℕ, List, refl}
 use Rattle.pcap_core.specs.Answer.{Verdict, whole, lacks, faulty}
 use Rattle.pcap_core.specs.Faults.{Fault}
 use Rattle.pcap_core.specs.Laws.{ExactlyOne}
 
--- one value or one fault is said, and never that bytes are missing
+-- The verdict is one value or one fault, and never a lack of bytes.
 pub record IsDecided {V : Type 0} (Says : Verdict V → Type 0) : Type 0 where
   pub wholes : (x y : V) (a b : List ℕ) → Says (whole x a) → Says (whole y b) → (y ≡ x) × (b ≡ a)
   pub faults : (f g : Fault) → Says (faulty f) → Says (faulty g) → g ≡ f

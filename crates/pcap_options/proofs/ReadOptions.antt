@@ -1,4 +1,4 @@
--- What the calls that read options give together.
+-- Lemmas for the calls that read options.
 use Rattle.std.proofs.Common.{◌≡◌, ◌≢◌, Err, true, false, subst, ℕ, List, [], ◌∷◌, length, sym}
 use Rattle.std.specs.Prelude.{◌==◌}
 use Rattle.std.proofs.lemmas.List.{nil_from_length}
@@ -12,7 +12,7 @@ use Rattle.pcap_options.specs.Options.{CodeLengthText, OptionText, OptionFault, 
 pub head_is : {order : Order} {code len : ℕ} {s after rest : List ℕ} → Number order 2 code s after → Number order 2 len after rest → CodeLengthText order code len s rest
 head_is a b = record { after_code = _; code_is = a; length_is = b }
 
--- the length of a head is that of its value
+-- The length before a value can be stated as the length of the value.
 pub head_with : (order : Order) (code len : ℕ) (v s rest : List ℕ) → CodeLengthText order code len s rest → length v ≡ len → CodeLengthText order code (length v) s rest
 head_with order code len v s rest h is = subst (λ (k : ℕ). CodeLengthText order code k s rest) (sym is) h
 

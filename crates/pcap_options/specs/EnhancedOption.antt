@@ -6,11 +6,11 @@ use Rattle.pcap_options.specs.declared.enhanced_option.EnhancedPacketOption.TheV
 use Rattle.pcap_options.specs.Values.{Entry, Kind, string, bytes, number, custom}
 use Rattle.pcap_options.specs.CommonOptions.{Carried, carries_string, carries_bytes, carries_number, carries_custom_bytes, carries_custom_string, carries_unknown}
 
--- comment, flags, hash, drop count
+-- The codes and shapes of an enhanced packet's options: comment, flags, hash, drop count and the custom options.
 abbrev pub enhanced_packet : Kind
 enhanced_packet = (1, string) ∷ (2, number 4 EnhancedFlagsLength) ∷ (3, bytes) ∷ (4, number 8 EnhancedDropCountLength) ∷ custom
 
--- what an option of the code carries
+-- The contents of an enhanced packet's option, by its variant.
 abbrev pub enhanced_carries : EnhancedPacketOption → Carried
 enhanced_carries (option_of.Comment t) = carries_string 1 t
 enhanced_carries (option_of.Flags n) = carries_number 2 n
@@ -20,14 +20,14 @@ enhanced_carries (option_of.CustomBinary o) = carries_custom_bytes o
 enhanced_carries (option_of.CustomUtf8 o) = carries_custom_string o
 enhanced_carries (option_of.Unknown o) = carries_unknown o
 
--- what an option of the code says
+-- The code and the value of an enhanced packet's option.
 abbrev pub enhanced_entry : EnhancedPacketOption → Entry
 enhanced_entry o = (enhanced_carries o).entry
 
--- its string or bytes are borrowed, where it has any
+-- The option's string or bytes, if it has any, are borrowed.
 abbrev pub EnhancedOptionIsBorrowed : EnhancedPacketOption → Type 0
 EnhancedOptionIsBorrowed o = (enhanced_carries o).is_borrowed
 
--- its string or bytes are owned, where it has any
+-- The option's string or bytes, if it has any, are owned.
 abbrev pub EnhancedOptionIsOwned : EnhancedPacketOption → Type 0
 EnhancedOptionIsOwned o = (enhanced_carries o).is_owned

@@ -1,9 +1,9 @@
--- Hardware addresses, in records that are unknown here ('Name Resolution Block').
+-- Hardware addresses in records of unknown types ('Name Resolution Block').
 use Rattle.std.specs.Prelude.{◌≡◌, ℕ, List, ◌++◌, length}
 use Rattle.pcap_core.specs.Bytes.{cow_bytes}
 use Rattle.pcap_options.specs.declared.record.UnknownRecord.{UnknownRecord}
 
--- a record of this type holds an address of this width, and then its names
+-- The value of a record of this type is an address of this width, and then its names.
 pub record AddressOf (type width : ℕ) (r : UnknownRecord) (address names : List ℕ) : Type 0 where
   pub record_is : r.type_ ≡ type
   pub parts : cow_bytes r.value ≡ address ++ names

@@ -6,7 +6,8 @@ use Rattle.pcap_options.specs.declared.interface_option.InterfaceDescriptionOpti
 use Rattle.pcap_options.specs.Values.{Entry, Kind, string, some_bytes, fixed_bytes, byte, number, custom}
 use Rattle.pcap_options.specs.CommonOptions.{Carried, carries_string, carries_bytes, carries_number, carries_custom_bytes, carries_custom_string, carries_unknown}
 
--- comment, name, description, addresses, speed, time, filter, system, check sequence, hardware
+-- The codes and shapes of an interface's options: comment, name, description, addresses, speed, time, filter, system, frame check sequence,
+-- hardware and the custom options.
 abbrev pub interface_description : Kind
 interface_description =
     (1, string)
@@ -26,7 +27,7 @@ interface_description =
     ∷ (15, string)
     ∷ custom
 
--- what an option of the code carries
+-- The contents of an interface's option, by its variant.
 abbrev pub interface_carries : InterfaceDescriptionOption → Carried
 interface_carries (option_of.Comment t) = carries_string 1 t
 interface_carries (option_of.IfName t) = carries_string 2 t
@@ -47,14 +48,14 @@ interface_carries (option_of.CustomBinary o) = carries_custom_bytes o
 interface_carries (option_of.CustomUtf8 o) = carries_custom_string o
 interface_carries (option_of.Unknown o) = carries_unknown o
 
--- what an option of the code says
+-- The code and the value of an interface's option.
 abbrev pub interface_entry : InterfaceDescriptionOption → Entry
 interface_entry o = (interface_carries o).entry
 
--- its string or bytes are borrowed, where it has any
+-- The option's string or bytes, if it has any, are borrowed.
 abbrev pub InterfaceOptionIsBorrowed : InterfaceDescriptionOption → Type 0
 InterfaceOptionIsBorrowed o = (interface_carries o).is_borrowed
 
--- its string or bytes are owned, where it has any
+-- The option's string or bytes, if it has any, are owned.
 abbrev pub InterfaceOptionIsOwned : InterfaceDescriptionOption → Type 0
 InterfaceOptionIsOwned o = (interface_carries o).is_owned

@@ -6,11 +6,11 @@ use Rattle.pcap_options.specs.declared.name_option.NameResolutionOption.TheVaria
 use Rattle.pcap_options.specs.Values.{Entry, Kind, string, fixed_bytes, custom}
 use Rattle.pcap_options.specs.CommonOptions.{Carried, carries_string, carries_bytes, carries_custom_bytes, carries_custom_string, carries_unknown}
 
--- comment, and the name and addresses of the server that resolved the names
+-- The codes and shapes of a name resolution block's options: comment, the resolving server's name and addresses, and the custom options.
 abbrev pub name_resolution : Kind
 name_resolution = (1, string) ∷ (2, string) ∷ (3, fixed_bytes 4 NameIpv4Length) ∷ (4, fixed_bytes 16 NameIpv6Length) ∷ custom
 
--- what an option of the code carries
+-- The contents of a name resolution block's option, by its variant.
 abbrev pub name_carries : NameResolutionOption → Carried
 name_carries (option_of.Comment t) = carries_string 1 t
 name_carries (option_of.NsDnsName t) = carries_string 2 t
@@ -20,14 +20,14 @@ name_carries (option_of.CustomBinary o) = carries_custom_bytes o
 name_carries (option_of.CustomUtf8 o) = carries_custom_string o
 name_carries (option_of.Unknown o) = carries_unknown o
 
--- what an option of the code says
+-- The code and the value of a name resolution block's option.
 abbrev pub name_entry : NameResolutionOption → Entry
 name_entry o = (name_carries o).entry
 
--- its string or bytes are borrowed, where it has any
+-- The option's string or bytes, if it has any, are borrowed.
 abbrev pub NameOptionIsBorrowed : NameResolutionOption → Type 0
 NameOptionIsBorrowed o = (name_carries o).is_borrowed
 
--- its string or bytes are owned, where it has any
+-- The option's string or bytes, if it has any, are owned.
 abbrev pub NameOptionIsOwned : NameResolutionOption → Type 0
 NameOptionIsOwned o = (name_carries o).is_owned

@@ -1,4 +1,4 @@
--- Option lists, for every kind of option ('Options').
+-- Lists of options, for every kind of option ('Options').
 use Rattle.std.specs.Prelude.{◌≡◌, ◌≢◌, ◌<◌, ℕ, List, [], length, Ok, Err, Option, Some, None}
 use Rattle.pcap_core.specs.Answer.{Order, Number, Verdict, whole, lacks, faulty, Says}
 use Rattle.pcap_core.specs.Faults.{Fault, Invalid}
@@ -7,13 +7,13 @@ use Rattle.pcap_core.specs.Padded.{up_to_4, Padded, Chain}
 use Rattle.pcap_options.specs.Values.{Entry, Kind, shape_at, value_of}
 use Rattle.pcap_options.specs.Growth.{BeginsWith}
 
--- s is a code, or the type of a record, and a length, and then rest
+-- `s` is a code (or the type of a record), a length, and then `rest`.
 pub record CodeLengthText (order : Order) (code len : ℕ) (s rest : List ℕ) : Type 0 where
   pub after_code : List ℕ
   pub code_is : Number order 2 code s after_code
   pub length_is : Number order 2 len after_code rest
 
--- s is the text of an option, and then rest: its code, the length of its value, and the value with its padding
+-- `s` is an option and then `rest`: the option's code, the length of its value, and the value with its padding.
 pub record OptionText (order : Order) (kind : Kind) (option : Entry) (s rest : List ℕ) : Type 0 where
   pub v : List ℕ
   pub after_head : List ℕ
@@ -22,12 +22,12 @@ pub record OptionText (order : Order) (kind : Kind) (option : Entry) (s rest : L
   pub padded : Padded v after_head rest
   pub value_is : value_of order (shape_at kind option.code) v ≡ Ok option.value
 
--- s is the mark that ends a list, and then rest: the code 0 and a length that nothing follows from
+-- `s` is the end-of-options option and then `rest`: the code 0 and a length, which is ignored.
 pub record EndMark (order : Order) (s rest : List ℕ) : Type 0 where
   pub ignored : ℕ
   pub head : CodeLengthText order 0 ignored s rest
 
--- the first fault that stands where an option or the mark is to begin
+-- The first fault of `s` as an option or the end-of-options option: too few bytes, a cut value, or a malformed value.
 pub data OptionFault (order : Order) (kind : Kind) (s : List ℕ) : Fault → Type 0 where
   short : length s < 4 → OptionFault order kind s (Invalid OptionTooShort)
   cut : (code len : ℕ) (after : List ℕ) → CodeLengthText order code len s after → code ≢ 0 → length after < up_to_4 len
@@ -35,29 +35,29 @@ pub data OptionFault (order : Order) (kind : Kind) (s : List ℕ) : Fault → Ty
   wrong : (fault : Fault) (code : ℕ) (v after rest : List ℕ) → CodeLengthText order code (length v) s after → code ≢ 0 → Padded v after rest
       → value_of order (shape_at kind code) v ≡ Err fault → OptionFault order kind s fault
 
--- what is said of bytes where an option is asked for, or the mark, which is none
+-- OptionSays order kind s verdict: `s` read as an option gives this verdict: the option, none for the end-of-options option, or a fault.
 abbrev pub OptionSays : Order → Kind → List ℕ → Verdict (Option Entry) → Type 0
 OptionSays order kind s (whole None rest) = EndMark order s rest
 OptionSays order kind s (whole (Some option) rest) = OptionText order kind option s rest
 OptionSays order kind s (lacks n) = ⊥
 OptionSays order kind s (faulty fault) = OptionFault order kind s fault
 
--- how a list may end: once begun by its mark alone; or by its mark, or with the body
+-- A list that has begun ends only with the end-of-options option; or it ends with that option or with the body.
 pub data Ending : Type 0 where
   wants_end : Ending
   may_end_with_body : Ending
 
--- where no byte is left, the list of these options is over
+-- The list of these options is over where no byte is left.
 abbrev pub IsOver : Ending → List Entry → Type 0
 IsOver wants_end options = options ≡ []
 IsOver may_end_with_body options = Unit {0}
 
--- s is a list of options, and then rest: the options, and after them the mark, or no byte where the list is over then
+-- `s` is a list of options and then `rest`: the options, and then the end-of-options option, or no byte if the list may be over there.
 pub data OptionList (ending : Ending) (order : Order) (kind : Kind) (options : List Entry) (s rest : List ℕ) : Type 0 where
   marked : (end : List ℕ) → Chain (OptionText order kind) options s end → EndMark order end rest → OptionList ending order kind options s rest
   with_body : Chain (OptionText order kind) options s [] → IsOver ending options → rest ≡ [] → OptionList ending order kind options s rest
 
--- the fault of a list: some good options, and after them the fault of what is left, unless the list is over there
+-- The fault of a list is the fault that follows some well-formed options, where the list isn't over.
 pub record ListFault (ending : Ending) (order : Order) (kind : Kind) (s : List ℕ) (fault : Fault) : Type 0 where
   pub good : List Entry
   pub bad : List ℕ
@@ -65,10 +65,10 @@ pub record ListFault (ending : Ending) (order : Order) (kind : Kind) (s : List �
   pub goes_on : IsOver ending good → bad ≢ []
   pub fault_is : OptionFault order kind bad fault
 
--- what is said of bytes where a list of options is asked for
+-- ListSays ending order kind s verdict: `s` read as a list of options gives this verdict, the options or a fault.
 abbrev pub ListSays : Ending → Order → Kind → List ℕ → Verdict (List Entry) → Type 0
 ListSays ending order kind s = Says (λ options rest. OptionList ending order kind options s rest) (λ n. ⊥) (ListFault ending order kind s)
 
--- a list of options grows where an option begins it
+-- Reading a list of options may allocate only if the bytes begin with an option.
 abbrev pub OptionsMayGrow : Order → Kind → List ℕ → Type 0
 OptionsMayGrow order kind = BeginsWith (OptionText order kind)

@@ -6,11 +6,11 @@ use Rattle.pcap_options.specs.declared.packet_option.PacketOption.TheVariants as
 use Rattle.pcap_options.specs.Values.{Entry, Kind, string, bytes, number, custom}
 use Rattle.pcap_options.specs.CommonOptions.{Carried, carries_string, carries_bytes, carries_number, carries_custom_bytes, carries_custom_string, carries_unknown}
 
--- comment, flags, hash
+-- The codes and shapes of a packet block's options: comment, flags, hash and the custom options.
 abbrev pub packet_kind : Kind
 packet_kind = (1, string) ∷ (2, number 4 PacketFlagsLength) ∷ (3, bytes) ∷ custom
 
--- what an option of the code carries
+-- The contents of a packet block's option, by its variant.
 abbrev pub packet_carries : PacketOption → Carried
 packet_carries (option_of.Comment t) = carries_string 1 t
 packet_carries (option_of.Flags n) = carries_number 2 n
@@ -19,14 +19,14 @@ packet_carries (option_of.CustomBinary o) = carries_custom_bytes o
 packet_carries (option_of.CustomUtf8 o) = carries_custom_string o
 packet_carries (option_of.Unknown o) = carries_unknown o
 
--- what an option of the code says
+-- The code and the value of a packet block's option.
 abbrev pub packet_entry : PacketOption → Entry
 packet_entry o = (packet_carries o).entry
 
--- its string or bytes are borrowed, where it has any
+-- The option's string or bytes, if it has any, are borrowed.
 abbrev pub PacketOptionIsBorrowed : PacketOption → Type 0
 PacketOptionIsBorrowed o = (packet_carries o).is_borrowed
 
--- its string or bytes are owned, where it has any
+-- The option's string or bytes, if it has any, are owned.
 abbrev pub PacketOptionIsOwned : PacketOption → Type 0
 PacketOptionIsOwned o = (packet_carries o).is_owned

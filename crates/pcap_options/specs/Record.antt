@@ -18,12 +18,12 @@ use Rattle.pcap_options.specs.Options.{CodeLengthText}
 use Rattle.pcap_options.specs.Names.{NamesText, NamesFault, NamesMayGrow}
 use Rattle.pcap_options.specs.Growth.{HoldsAfter}
 
--- an address and its names
+-- An address is its bytes and its names.
 pub record Address : Type 0 where
   pub bytes : List ℕ
   pub names : List (List ℕ)
 
--- s has at least 2 bytes more than an address of this width: it is the address, and then names to the end
+-- `s` is an address of this width and then names to the end, and has at least 2 bytes more than the address.
 pub record AddressText (width : ℕ) (address : Address) (s rest : List ℕ) : Type 0 where
   pub after : List ℕ
   pub long : width + 2 ≤ length s
@@ -31,34 +31,34 @@ pub record AddressText (width : ℕ) (address : Address) (s rest : List ℕ) : T
   pub wide : length address.bytes ≡ width
   pub names_are : NamesText address.names after rest
 
--- the first fault of a value that is to be an address and its names
+-- The first fault of `s` as an address of this width and its names: too few bytes, or the fault of the names.
 pub data AddressFault (width : ℕ) (too_short : Rule) (s : List ℕ) : Fault → Type 0 where
   short : length s < width + 2 → AddressFault width too_short s (Invalid too_short)
   in_names : (fault : Fault) (after : List ℕ) → width + 2 ≤ length s → Behind width s after → NamesFault after fault → AddressFault width too_short s fault
 
--- what is said of bytes where an address of this width and its names are asked for
+-- AddressSays width too_short s verdict: `s` read as an address of this width and its names gives this verdict, an address or a fault.
 abbrev pub AddressSays : ℕ → Rule → List ℕ → Verdict Address → Type 0
 AddressSays width too_short s = Says (λ address rest. AddressText width address s rest) (λ n. ⊥) (AddressFault width too_short s)
 
--- an address has a name, and the 2 bytes that it needs at least
+-- Reading an address may allocate only if at least 2 bytes follow the address and they begin with a name.
 pub record AddressMayGrow (width : ℕ) (s : List ℕ) : Type 0 where
   pub long : width + 2 ≤ length s
   pub grows : HoldsAfter width NamesMayGrow s
 
--- a record, wherever its bytes lie
+-- A name record, wherever its bytes are in memory.
 pub data NameRecord : Type 0 where
   End : NameRecord
   Ipv4 : Address → NameRecord
   Ipv6 : Address → NameRecord
   Other : ℕ → ℕ → List ℕ → NameRecord
 
--- what the type of a record says of its value
+-- A form is what the type of a record requires of its value: no value, an address and its names, or any bytes.
 pub data Form : Type 0 where
   no_value : Form
   address : ℕ → Rule → (Address → NameRecord) → Form
   any_value : ℕ → Form
 
--- the table of types
+-- The form of a record's value, by the record's type.
 abbrev pub form_of : ℕ → Form
 form_of type =
     if type == 0 then no_value
@@ -66,13 +66,13 @@ form_of type =
     else if type == 2 then address 16 Ipv6RecordTooShort Ipv6
     else any_value type
 
--- what is said of the bytes of a value of this form: they are all its
+-- RecordValueSays form v verdict: `v` read as the whole value of a record of this form gives this verdict, a record or a fault.
 abbrev pub RecordValueSays : Form → List ℕ → Verdict NameRecord → Type 0
 RecordValueSays no_value v = Says (λ r rest. (r ≡ End) × (v ≡ []) × (rest ≡ [])) (λ n. ⊥) (λ fault. (fault ≡ Invalid EndNotEmpty) × (v ≢ []))
 RecordValueSays (address width too_short make) v = Made make (AddressSays width too_short v)
 RecordValueSays (any_value type) v = Says (λ r rest. (r ≡ Other type (length v) v) × (rest ≡ [])) (λ n. ⊥) (λ fault. ⊥)
 
--- s is the text of a record, and then rest: its type, the length of its value, and the value with its padding
+-- `s` is a record and then `rest`: the record's type, the length of its value, and the value with its padding.
 pub record RecordText (order : Order) (r : NameRecord) (s rest : List ℕ) : Type 0 where
   pub type : ℕ
   pub v : List ℕ
@@ -81,7 +81,7 @@ pub record RecordText (order : Order) (r : NameRecord) (s rest : List ℕ) : Typ
   pub value_is : RecordValueSays (form_of type) v (whole r [])
   pub padded : Padded v after rest
 
--- the first fault that stands where a record is to begin: the value's own before that of the padding
+-- The first fault of `s` as a record: too few bytes, a cut value, a malformed value, or last a cut padding.
 pub data RecordFault (order : Order) (s : List ℕ) : Fault → Type 0 where
   short : length s < 4 → RecordFault order s Io
   cut : (type len : ℕ) (after : List ℕ) → CodeLengthText order type len s after → length after < len → RecordFault order s (Invalid RecordCut)
@@ -92,17 +92,17 @@ pub data RecordFault (order : Order) (s : List ℕ) : Fault → Type 0 where
       → CodeLengthText order type (length v) s after → after ≡ v ++ more → RecordValueSays (form_of type) v (whole r [])
       → length after < up_to_4 (length v) → RecordFault order s (Invalid RecordUnpadded)
 
--- what is said of bytes where a record is asked for
+-- RecordSays order s verdict: `s` read as a record gives this verdict, the record or a fault.
 abbrev pub RecordSays : Order → List ℕ → Verdict NameRecord → Type 0
 RecordSays order s = Says (λ r rest. RecordText order r s rest) (λ n. ⊥) (RecordFault order s)
 
--- a value of this form is an address with a name
+-- Reading a value of this form may allocate only if it is an address with a name.
 abbrev pub RecordValueMayGrow : Form → List ℕ → Type 0
 RecordValueMayGrow no_value v = ⊥
 RecordValueMayGrow (address width too_short make) v = AddressMayGrow width v
 RecordValueMayGrow (any_value type) v = ⊥
 
--- a record is one of an address with a name, whatever follows the name
+-- Reading a record may allocate only if its value is an address with a name, whatever follows that name.
 pub record RecordMayGrow (order : Order) (s : List ℕ) : Type 0 where
   pub type : ℕ
   pub v : List ℕ
@@ -112,87 +112,87 @@ pub record RecordMayGrow (order : Order) (s : List ℕ) : Type 0 where
   pub parts : after ≡ v ++ more
   pub grows : RecordValueMayGrow (form_of type) v
 
--- what an address and its names of the code say
+-- The address of the bytes and the names that a record in the code holds.
 abbrev pub address_of : {Z : Type 0} → CowBytes → List (CowStr Z) → Address
 address_of ip_addr names = record { bytes = cow_bytes ip_addr; names = map cow_str_bytes names }
 
--- what a record of an address of four bytes says
+-- The address of an IPv4 record.
 abbrev pub ipv4_of : Ipv4Record → Address
 ipv4_of r = address_of r.ip_addr r.names.items
 
--- what a record of an address of sixteen bytes says
+-- The address of an IPv6 record.
 abbrev pub ipv6_of : Ipv6Record → Address
 ipv6_of r = address_of r.ip_addr r.names.items
 
--- what a record of an unknown type says
+-- The name record of a record of unknown type.
 abbrev pub other_of : UnknownRecord → NameRecord
 other_of r = Other r.type_ r.length (cow_bytes r.value)
 
--- what a record of any type says
+-- The name record of a record of any type.
 abbrev pub name_record_of : Record → NameRecord
 name_record_of record_of.End = End
 name_record_of (record_of.Ipv4 r) = Ipv4 (ipv4_of r)
 name_record_of (record_of.Ipv6 r) = Ipv6 (ipv6_of r)
 name_record_of (record_of.Unknown r) = other_of r
 
--- an address and its names are borrowed
+-- The bytes of an address and all its names are borrowed.
 pub record AddressIsBorrowed {Z : Type 0} (ip_addr : CowBytes) (list : List (CowStr Z)) : Type 0 where
   pub bytes : IsBorrowed ip_addr
   pub names : All IsBorrowedStr list
 
--- an address and its names are owned
+-- The bytes of an address and all its names are owned.
 pub record AddressIsOwned {Z : Type 0} (ip_addr : CowBytes) (list : List (CowStr Z)) : Type 0 where
   pub bytes : IsOwned ip_addr
   pub names : All IsOwnedStr list
 
--- they are owned without memory being taken: the address is owned, and there are no names
+-- Making an address and its names owned takes no memory: the address is owned, and there are no names.
 pub record AddressNeedsNoMemory {Z : Type 0} (ip_addr : CowBytes) (list : List (CowStr Z)) : Type 0 where
   pub bytes : IsOwned ip_addr
   pub names : list ≡ []
 
--- what a record of an address of four bytes holds is borrowed
+-- The address and the names of an IPv4 record are borrowed.
 abbrev pub Ipv4IsBorrowed : Ipv4Record → Type 0
 Ipv4IsBorrowed r = AddressIsBorrowed r.ip_addr r.names.items
 
--- what a record of an address of four bytes holds is owned
+-- The address and the names of an IPv4 record are owned.
 abbrev pub Ipv4IsOwned : Ipv4Record → Type 0
 Ipv4IsOwned r = AddressIsOwned r.ip_addr r.names.items
 
--- what a record of an address of sixteen bytes holds is borrowed
+-- The address and the names of an IPv6 record are borrowed.
 abbrev pub Ipv6IsBorrowed : Ipv6Record → Type 0
 Ipv6IsBorrowed r = AddressIsBorrowed r.ip_addr r.names.items
 
--- what a record of an address of sixteen bytes holds is owned
+-- The address and the names of an IPv6 record are owned.
 abbrev pub Ipv6IsOwned : Ipv6Record → Type 0
 Ipv6IsOwned r = AddressIsOwned r.ip_addr r.names.items
 
--- what a record of any type holds is borrowed
+-- All strings and bytes of a record of any type are borrowed.
 abbrev pub RecordIsBorrowed : Record → Type 0
 RecordIsBorrowed record_of.End = Unit {0}
 RecordIsBorrowed (record_of.Ipv4 r) = Ipv4IsBorrowed r
 RecordIsBorrowed (record_of.Ipv6 r) = Ipv6IsBorrowed r
 RecordIsBorrowed (record_of.Unknown r) = IsBorrowed r.value
 
--- what a record of any type holds is owned
+-- All strings and bytes of a record of any type are owned.
 abbrev pub RecordIsOwned : Record → Type 0
 RecordIsOwned record_of.End = Unit {0}
 RecordIsOwned (record_of.Ipv4 r) = Ipv4IsOwned r
 RecordIsOwned (record_of.Ipv6 r) = Ipv6IsOwned r
 RecordIsOwned (record_of.Unknown r) = IsOwned r.value
 
--- the bytes of a record of an unknown type are owned
+-- The bytes of a record of unknown type are owned.
 abbrev pub UnknownRecordIsOwned : UnknownRecord → Type 0
 UnknownRecordIsOwned r = IsOwned r.value
 
--- a record of an address of four bytes is owned without memory being taken
+-- Making an IPv4 record owned takes no memory.
 abbrev pub Ipv4NeedsNoMemory : Ipv4Record → Type 0
 Ipv4NeedsNoMemory r = AddressNeedsNoMemory r.ip_addr r.names.items
 
--- the same of a record of an address of sixteen bytes
+-- Making an IPv6 record owned takes no memory.
 abbrev pub Ipv6NeedsNoMemory : Ipv6Record → Type 0
 Ipv6NeedsNoMemory r = AddressNeedsNoMemory r.ip_addr r.names.items
 
--- the same of a record of any type
+-- Making a record of any type owned takes no memory.
 abbrev pub RecordNeedsNoMemory : Record → Type 0
 RecordNeedsNoMemory record_of.End = Unit {0}
 RecordNeedsNoMemory (record_of.Ipv4 r) = Ipv4NeedsNoMemory r

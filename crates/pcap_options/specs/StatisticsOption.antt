@@ -5,7 +5,7 @@ use Rattle.pcap_options.specs.declared.statistics_option.InterfaceStatisticsOpti
 use Rattle.pcap_options.specs.Values.{Entry, Kind, string, first_number, first_time, custom}
 use Rattle.pcap_options.specs.CommonOptions.{Carried, carries_string, carries_number, carries_custom_bytes, carries_custom_string, carries_unknown}
 
--- comment, start and end time, and the numbers of packets
+-- The codes and shapes of the options of interface statistics: comment, start and end time, numbers of packets, and the custom options.
 abbrev pub interface_statistics : Kind
 interface_statistics =
     (1, string)
@@ -18,7 +18,7 @@ interface_statistics =
     ∷ (8, first_number)
     ∷ custom
 
--- what an option of the code carries
+-- The contents of an option of interface statistics, by its variant.
 abbrev pub statistics_carries : InterfaceStatisticsOption → Carried
 statistics_carries (option_of.Comment t) = carries_string 1 t
 statistics_carries (option_of.IsbStartTime n) = carries_number 2 n
@@ -32,14 +32,14 @@ statistics_carries (option_of.CustomBinary o) = carries_custom_bytes o
 statistics_carries (option_of.CustomUtf8 o) = carries_custom_string o
 statistics_carries (option_of.Unknown o) = carries_unknown o
 
--- what an option of the code says
+-- The code and the value of an option of interface statistics.
 abbrev pub statistics_entry : InterfaceStatisticsOption → Entry
 statistics_entry o = (statistics_carries o).entry
 
--- its string or bytes are borrowed, where it has any
+-- The option's string or bytes, if it has any, are borrowed.
 abbrev pub StatisticsOptionIsBorrowed : InterfaceStatisticsOption → Type 0
 StatisticsOptionIsBorrowed o = (statistics_carries o).is_borrowed
 
--- its string or bytes are owned, where it has any
+-- The option's string or bytes, if it has any, are owned.
 abbrev pub StatisticsOptionIsOwned : InterfaceStatisticsOption → Type 0
 StatisticsOptionIsOwned o = (statistics_carries o).is_owned

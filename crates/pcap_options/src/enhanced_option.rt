@@ -25,29 +25,31 @@ use std::borrow::CowStr;
 pub enum EnhancedPacketOption<'a> {
     /// A comment on the packet (opt_comment, code 1).
     Comment(CowStr<'a>),
-    /// What the link layer says of the packet (epb_flags, code 2). Bit 0 is the lowest: bits 0 and 1 are the direction
-    /// (1 in, 2 out), bits 2 to 4 how it was received (1 unicast, 2 multicast, 3 broadcast, 4 promiscuous), bits 5 to 8
-    /// the length of its frame check sequence in bytes, bits 16 to 31 errors of the link layer. 0 is not known.
+    /// Flags of the packet from the link layer (epb_flags, code 2). Bit 0 is the lowest. Bits 0 and 1 are the direction
+    /// (1 in, 2 out). Bits 2 to 4 are how it was received (1 unicast, 2 multicast, 3 broadcast, 4 promiscuous). Bits 5
+    /// to 8 are the length of its frame check sequence in bytes. In these three, 0 means unknown. Bits 16 to 31 are
+    /// errors of the link layer.
     Flags(u32),
-    /// A hash of the packet (epb_hash, code 3), after a byte that names its algorithm: 0 for the 2s complement, 1 for
-    /// XOR, 2 for CRC32, 3 for MD5, 4 for SHA-1.
+    /// A hash of the packet (epb_hash, code 3). Its first byte names the algorithm: 0 for the 2s complement, 1 for XOR,
+    /// 2 for CRC32, 3 for MD5, 4 for SHA-1.
     Hash(CowBytes<'a>),
-    /// How many packets of the interface were lost between this one and the one before it (epb_dropcount, code 4).
+    /// The number of packets that the interface lost between this packet and the one before it (epb_dropcount, code 4).
     DropCount(u64),
-    /// Bytes of an enterprise, code 2989 or 19373.
+    /// A custom option with bytes (code 2989 or 19373).
     CustomBinary(CustomBinaryOption<'a>),
-    /// A string of an enterprise, code 2988 or 19372.
+    /// A custom option with a string (code 2988 or 19372).
     CustomUtf8(CustomUtf8Option<'a>),
-    /// An option of another code.
+    /// An option with another code.
     Unknown(UnknownOption<'a>),
 }
 
 impl<'a> EnhancedPacketOption<'a> {
-    /// The list of options at the front of a slice, and what follows it. It ends at its mark or with the slice.
+    /// Reads the list of options at the front of a slice, and returns the bytes after it and the options. The list ends
+    /// at its end-of-options option or with the slice.
     ///
-    /// `InvalidField` for the first fault of the list, or `Utf8Error` or `IoError` where that is a string that isn't
-    /// UTF-8 or a custom value under 4 bytes. `OutOfMemory` where an allocation failed, and only where an option
-    /// stands.
+    /// The first malformed option decides the error: `Utf8Error` for a string that isn't UTF-8, `IoError` for a custom
+    /// value under 4 bytes, and `InvalidField` for any other broken rule. Returns `OutOfMemory` if an allocation fails,
+    /// which can happen only if the list has an option.
     pub fn from_slice<B: ByteOrder>(
         alloc: Global,
         slice: &'a [u8],
@@ -59,9 +61,9 @@ impl<'a> EnhancedPacketOption<'a> {
         Ok(Self::list_from_slice::<B>(alloc, slice)?)
     }
 
-    /// The same option, with bytes and strings of its own: borrowed ones are copied, owned ones kept.
+    /// Returns the same option with its own bytes and strings: it copies borrowed ones and keeps owned ones.
     ///
-    /// `OutOfMemory` where an allocation failed; the value is then dropped.
+    /// Returns `OutOfMemory` if an allocation fails; the value is then dropped.
     pub fn into_owned(self, alloc: Global) -> ResultParsing<EnhancedPacketOption<'static>>
         ensures same { IfOk result (λ kept. enhanced_entry kept ≡ enhanced_entry self.entry) }
         ensures owned { IfOk result EnhancedOptionIsOwned }

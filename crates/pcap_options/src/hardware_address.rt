@@ -1,4 +1,4 @@
-//! Views of records that are newer than the names here: hardware addresses, whose records stay as they are.
+//! Views of hardware addresses, which the parser returns as unknown records of type 3 or 4.
 
 ghost use Rattle.std.specs.Prelude.{ℕ, List, MatchOption};
 ghost use Rattle.pcap_options.specs.HardwareAddress.{AddressOf};
@@ -8,15 +8,15 @@ use crate::record::UnknownRecord;
 /// A hardware address and its names ('Name Resolution Block').
 #[derive(Clone, Copy, Debug)]
 pub struct HardwareAddress<'a> {
-    /// The address.
+    /// The address's bytes.
     pub address: &'a [u8],
-    /// Its names, a zero byte behind each: `str_from_u8_null_terminated` reads them, one by one.
+    /// The address's names, with a zero byte after each. Read them one by one with `str_from_u8_null_terminated`.
     pub names: &'a [u8],
 }
 
 impl UnknownRecord<'_> {
-    /// The address of 6 bytes and the names of a record of type 3 (nrb_record_eui48). None of a record of another type,
-    /// and of a value that is shorter.
+    /// Returns the address of 6 bytes and the names of a record of type 3 (nrb_record_eui48). Returns None for a record
+    /// of another type and for a value of fewer bytes.
     pub fn eui48(&self) -> Option<HardwareAddress<'_>>
         ensures { MatchOption result ((address names : List ℕ) → ¬ AddressOf 3 6 self.now address names)
             (λ x. AddressOf 3 6 self.now x.address.now x.names.now) }
@@ -24,8 +24,8 @@ impl UnknownRecord<'_> {
         self.hardware(3, 6)
     }
 
-    /// The address of 8 bytes and the names of a record of type 4 (nrb_record_eui64). None of a record of another type,
-    /// and of a value that is shorter.
+    /// Returns the address of 8 bytes and the names of a record of type 4 (nrb_record_eui64). Returns None for a record
+    /// of another type and for a value of fewer bytes.
     pub fn eui64(&self) -> Option<HardwareAddress<'_>>
         ensures { MatchOption result ((address names : List ℕ) → ¬ AddressOf 4 8 self.now address names)
             (λ x. AddressOf 4 8 self.now x.address.now x.names.now) }

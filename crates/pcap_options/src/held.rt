@@ -1,18 +1,18 @@
-//! What options hold, by their codes.
+//! The values of options, looked up by code.
 
 ghost use Rattle.std.specs.Prelude.{◌≡◌, map};
 ghost use Rattle.std.specs.Option.{option_map};
 ghost use Rattle.pcap_options.specs.Values.{Entry};
 ghost use Rattle.pcap_options.specs.Held.{entry_held, string_in, number_in, unknown_in, under, first_under};
 
-/// An option, lent.
+/// A borrowed view of an option: its code and its value.
 #[derive(Clone, Copy)]
 pub struct Held<'a> {
     pub(crate) code: u16,
     pub(crate) value: HeldValue<'a>,
 }
 
-// The value of an option, lent. A custom one has the number of its enterprise, an unknown one its length.
+// A borrowed view of an option's value. A custom value has the enterprise number, and an unknown value has its length.
 #[derive(Clone, Copy)]
 pub(crate) enum HeldValue<'a> {
     Str(&'a str),
@@ -24,7 +24,7 @@ pub(crate) enum HeldValue<'a> {
 }
 
 impl<'a> Held<'a> {
-    // The number of an option of this code that is one.
+    // Returns the option's number, if the option has this code and is a number.
     fn number(self, code: u16) -> Option<u64>
         ensures { result ≡ under code number_in (entry_held self.entry) }
     {
@@ -34,7 +34,7 @@ impl<'a> Held<'a> {
         }
     }
 
-    // The string of an option of this code that is one.
+    // Returns the option's string, if the option has this code and is a string.
     fn string(self, code: u16) -> Option<&'a str>
         ensures { option_map (λ string. string.now) result ≡ under code string_in (entry_held self.entry) }
     {
@@ -44,7 +44,7 @@ impl<'a> Held<'a> {
         }
     }
 
-    // The value of an unknown option of this code.
+    // Returns the option's value, if the option has this code and is unknown.
     fn unknown(self, code: u16) -> Option<&'a [u8]>
         ensures { option_map (λ value. value.now) result ≡ under code unknown_in (entry_held self.entry) }
     {
@@ -55,17 +55,17 @@ impl<'a> Held<'a> {
     }
 }
 
-/// Options that tell what they hold.
+/// Options whose code and value can be borrowed.
 pub trait HoldsEntry {
-    // The option, wherever its bytes lie.
+    // The option's code and value, wherever its bytes are in memory.
     ghost entry: { Self → Entry };
 
-    /// What the option holds.
+    /// Returns a borrowed view of the option's code and value.
     fn held(&self) -> Held<'_>
         ensures { entry_held result ≡ entry self.now };
 }
 
-/// The number of the first option of this code that is one.
+/// Returns the number of the first option that has this code and is a number.
 #[tactic(auto, using(crate::proofs::Found::found, crate::proofs::Found::missed))]
 pub fn first_number<O: HoldsEntry>(options: &[O], code: u16) -> Option<u64>
     ensures { result ≡ first_under code number_in (map O.entry options.now) }
@@ -78,7 +78,7 @@ pub fn first_number<O: HoldsEntry>(options: &[O], code: u16) -> Option<u64>
     None
 }
 
-/// The string of the first option of this code that is one.
+/// Returns the string of the first option that has this code and is a string.
 #[tactic(auto, using(crate::proofs::Found::found, crate::proofs::Found::missed))]
 pub fn first_string<O: HoldsEntry>(options: &[O], code: u16) -> Option<&str>
     ensures { option_map (λ string. string.now) result ≡ first_under code string_in (map O.entry options.now) }
@@ -91,7 +91,7 @@ pub fn first_string<O: HoldsEntry>(options: &[O], code: u16) -> Option<&str>
     None
 }
 
-/// The value of the first unknown option of this code.
+/// Returns the value of the first unknown option with this code.
 #[tactic(auto, using(crate::proofs::Found::found, crate::proofs::Found::missed))]
 pub fn first_unknown<O: HoldsEntry>(options: &[O], code: u16) -> Option<&[u8]>
     ensures { option_map (λ value. value.now) result ≡ first_under code unknown_in (map O.entry options.now) }

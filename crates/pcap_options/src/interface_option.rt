@@ -22,7 +22,7 @@ pub enum InterfaceDescriptionOption<'a> {
     Comment(CowStr<'a>),
     /// The name of the device (if_name, code 2).
     IfName(CowStr<'a>),
-    /// What the device is (if_description, code 3).
+    /// A description of the device (if_description, code 3).
     IfDescription(CowStr<'a>),
     /// An IPv4 address and its netmask, 4 bytes each (if_IPv4addr, code 4).
     IfIpv4Addr(CowBytes<'a>),
@@ -30,30 +30,30 @@ pub enum InterfaceDescriptionOption<'a> {
     IfIpv6Addr(CowBytes<'a>),
     /// The hardware's MAC address, 6 bytes (if_MACaddr, code 6).
     IfMacAddr(CowBytes<'a>),
-    /// The hardware's EUI address, 8 bytes as a number in the order of the section (if_EUIaddr, code 7).
+    /// The hardware's EUI address, 8 bytes as a number in the section's byte order (if_EUIaddr, code 7).
     IfEuIAddr(u64),
-    /// The interface's speed in bits a second (if_speed, code 8).
+    /// The interface's speed in bits per second (if_speed, code 8).
     IfSpeed(u64),
-    /// The unit of times in seconds (if_tsresol, code 9): 10 to the power of minus this number, or, where its highest
-    /// bit is set, 2 to the power of minus the other seven bits.
+    /// The timestamp resolution in seconds (if_tsresol, code 9). It is 10 to the power of minus this number. If the
+    /// highest bit is set, it is 2 to the power of minus the other seven bits.
     IfTsResol(u8),
     /// The time zone, a number of 4 bytes whose unit the draft leaves open (if_tzone, code 10).
     IfTzone(u32),
-    /// The filter of the capture, at least one byte: the first one tells its form (if_filter, code 11).
+    /// The capture filter, at least one byte (if_filter, code 11). The first byte gives the filter's form.
     IfFilter(CowBytes<'a>),
     /// The operating system of the interface's machine (if_os, code 12).
     IfOs(CowStr<'a>),
     /// The length of the frame check sequence in bits (if_fcslen, code 13).
     IfFcsLen(u8),
-    /// Seconds that are to be added to each time (if_tsoffset, code 14).
+    /// The seconds to add to each timestamp (if_tsoffset, code 14).
     IfTsOffset(u64),
-    /// What the hardware is (if_hardware, code 15).
+    /// A description of the hardware (if_hardware, code 15).
     IfHardware(CowStr<'a>),
-    /// Bytes of an enterprise, code 2989 or 19373.
+    /// A custom option with bytes (code 2989 or 19373).
     CustomBinary(CustomBinaryOption<'a>),
-    /// A string of an enterprise, code 2988 or 19372.
+    /// A custom option with a string (code 2988 or 19372).
     CustomUtf8(CustomUtf8Option<'a>),
-    /// An option of another code.
+    /// An option with another code.
     Unknown(UnknownOption<'a>),
 }
 
@@ -77,9 +77,9 @@ impl<'a> PcapNgOption<'a> for InterfaceDescriptionOption<'a> {
 }
 
 impl<'a> InterfaceDescriptionOption<'a> {
-    /// The same option, with bytes and strings of its own: borrowed ones are copied, owned ones kept.
+    /// Returns the same option with its own bytes and strings: it copies borrowed ones and keeps owned ones.
     ///
-    /// `OutOfMemory` where an allocation failed; the value is then dropped.
+    /// Returns `OutOfMemory` if an allocation fails; the value is then dropped.
     pub fn into_owned(self, alloc: Global) -> ResultParsing<InterfaceDescriptionOption<'static>>
         ensures same { IfOk result (λ kept. interface_entry kept ≡ interface_entry self.entry) }
         ensures owned { IfOk result InterfaceOptionIsOwned }

@@ -1,6 +1,6 @@
-//! What is done with an option of any kind, over the kind's rows.
+//! Code for options of any kind, generated from the kind's rows.
 
-// The option of a code whose value is all of a slice.
+// Reads the option with this code from a slice that is its whole value.
 macro_rules! read_option {
     ($order:ident $code:ident $len:ident $value:ident; $kind:ident; $($name:ident $number:literal $shape:ident $(($($of:tt)*))?;)*) => {
         Ok(match $code {
@@ -24,7 +24,7 @@ macro_rules! read_value {
     (first_time $order:ident $value:ident) => { $crate::values::first_time::<$order>($value)? };
 }
 
-// An option, lent.
+// Borrows an option's code and value.
 macro_rules! held_option {
     ($option:tt; $kind:ident; $($name:ident $number:literal $shape:ident $(($($of:tt)*))?;)*) => {
         match $option {
@@ -55,8 +55,8 @@ macro_rules! held_value {
     ($bytes:ident $held:ident) => { HeldValue::Bytes($held.as_slice()) };
 }
 
-// The option of this variant with the value that a call kept, or the call's error. An arm that ends so leaves by the one exit of its
-// `match`, where each `?` would have an exit of its own to be proved.
+// Wraps the value that a call returned in this variant, or returns the call's error. Such an arm leaves by the one exit
+// of its `match`. Each `?` would add an exit with its own proof.
 macro_rules! with_value {
     ($variant:path, $value:expr) => {
         match $value {
@@ -66,7 +66,7 @@ macro_rules! with_value {
     };
 }
 
-// An option that owns its string or bytes.
+// Converts an option to one that owns its string or bytes.
 macro_rules! kept_option {
     ($option:tt $alloc:ident; $kind:ident; $($name:ident $number:literal $shape:ident $(($($of:tt)*))?;)*) => {
         match $option {

@@ -1,4 +1,4 @@
-//! Laws of the grammar of options and records. Each contract is the law.
+//! Laws of the grammar of options and name records. Each contract is the law.
 
 ghost use Rattle.std.specs.Prelude.{◌≡◌, ℕ, List};
 ghost use Rattle.pcap_core.specs.Answer.{Order};
@@ -10,49 +10,49 @@ ghost use Rattle.pcap_options.specs.Names.{NameSays, NamesSay};
 ghost use Rattle.pcap_options.specs.Record.{AddressSays, RecordSays};
 ghost use Rattle.pcap_options.specs.Records.{RecordsSay};
 
-/// Of all bytes of a value exactly one thing is said, whatever its shape: the option that it is, or one fault. This
-/// holds of the custom options.
+/// Any bytes have exactly one reading as a value of any shape: the option, or one fault. This covers the custom
+/// options.
 pub fn value_is_one()
     ensures { (order : Order) (shape : Shape) (code : ℕ) (v : List ℕ) → ExactlyOne (EntrySays order shape code v) }
 {}
 
-/// The same where an option or the mark is asked for.
+/// Any bytes have exactly one reading as an option or the end-of-options option: that item, or one fault.
 pub fn option_is_one()
     ensures { (order : Order) (kind : Kind) (s : List ℕ) → ExactlyOne (OptionSays order kind s) }
 {}
 
-/// The same where a list of options is, however it may end.
+/// Any bytes have exactly one reading as a list of options, for each way in which a list may end: the list, or one
+/// fault.
 pub fn list_is_one()
     ensures { (ending : Ending) (order : Order) (kind : Kind) (s : List ℕ) → ExactlyOne (ListSays ending order kind s) }
 {}
 
-/// The same where a name is.
+/// Any bytes have exactly one reading as a name: the name, or one fault.
 pub fn name_is_one()
     ensures { (s : List ℕ) → ExactlyOne (NameSays s) }
 {}
 
-/// The same where names to the end are.
+/// Any bytes have exactly one reading as names up to their end: the names, or one fault.
 pub fn names_are_one()
     ensures { (s : List ℕ) → ExactlyOne (NamesSay s) }
 {}
 
-/// The same where an address of any width and its names are.
+/// Any bytes have exactly one reading as an address of a given width and its names: the address, or one fault.
 pub fn address_is_one()
     ensures { (width : ℕ) (too_short : Rule) (s : List ℕ) → ExactlyOne (AddressSays width too_short s) }
 {}
 
-/// The same where a record is.
+/// Any bytes have exactly one reading as a name record: the record, or one fault.
 pub fn record_is_one()
     ensures { (order : Order) (s : List ℕ) → ExactlyOne (RecordSays order s) }
 {}
 
-/// The same where records up to their end are.
+/// Any bytes have exactly one reading as name records up to the end record: the records, or one fault.
 pub fn records_are_one()
     ensures { (order : Order) (s : List ℕ) → ExactlyOne (RecordsSay order s) }
 {}
 
-/// Where bytes are a list of options that wants its mark, they are that list, and no other, where a list may end with
-/// its body.
+/// Bytes that are a list of options under `wants_end` are the same list, and no other, under `may_end_with_body`.
 pub fn list_is_kept()
     ensures kept { (order : Order) (kind : Kind) (options : List Entry) (s rest : List ℕ) →
         OptionList wants_end order kind options s rest → OptionList may_end_with_body order kind options s rest }

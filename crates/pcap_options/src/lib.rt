@@ -1,7 +1,7 @@
-//! Options of PcapNg blocks and records of names: their values, the lists of them, and what a list holds.
+//! Options of PcapNg blocks and name records: their values, lists of options, and lookups by code.
 //!
-//! The format is that of the IETF draft draft-ietf-opsawg-pcapng; names in quotes are sections of it. A list of options
-//! ends at its mark, the code 0, or without one where no byte is left ('Options'). Lengths are in bytes.
+//! The format is that of the IETF draft draft-ietf-opsawg-pcapng; names in quotes are its sections. A list of options
+//! ends at its end-of-options option (code 0), or without one where no byte is left ('Options'). Lengths are in bytes.
 #![tactic(auto)]
 
 mod enhanced_option;

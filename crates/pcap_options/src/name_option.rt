@@ -22,15 +22,15 @@ pub enum NameResolutionOption<'a> {
     Comment(CowStr<'a>),
     /// The name of the server that resolved the names (ns_dnsname, code 2).
     NsDnsName(CowStr<'a>),
-    /// Its IPv4 address, 4 bytes (ns_dnsIP4addr, code 3).
+    /// The server's IPv4 address, 4 bytes (ns_dnsIP4addr, code 3).
     NsDnsIpv4Addr(CowBytes<'a>),
-    /// Its IPv6 address, 16 bytes (ns_dnsIP6addr, code 4).
+    /// The server's IPv6 address, 16 bytes (ns_dnsIP6addr, code 4).
     NsDnsIpv6Addr(CowBytes<'a>),
-    /// Bytes of an enterprise, code 2989 or 19373.
+    /// A custom option with bytes (code 2989 or 19373).
     CustomBinary(CustomBinaryOption<'a>),
-    /// A string of an enterprise, code 2988 or 19372.
+    /// A custom option with a string (code 2988 or 19372).
     CustomUtf8(CustomUtf8Option<'a>),
-    /// An option of another code.
+    /// An option with another code.
     Unknown(UnknownOption<'a>),
 }
 
@@ -54,9 +54,9 @@ impl<'a> PcapNgOption<'a> for NameResolutionOption<'a> {
 }
 
 impl<'a> NameResolutionOption<'a> {
-    /// The same option, with bytes and strings of its own: borrowed ones are copied, owned ones kept.
+    /// Returns the same option with its own bytes and strings: it copies borrowed ones and keeps owned ones.
     ///
-    /// `OutOfMemory` where an allocation failed; the value is then dropped.
+    /// Returns `OutOfMemory` if an allocation fails; the value is then dropped.
     pub fn into_owned(self, alloc: Global) -> ResultParsing<NameResolutionOption<'static>>
         ensures same { IfOk result (λ kept. name_entry kept ≡ name_entry self.entry) }
         ensures owned { IfOk result NameOptionIsOwned }

@@ -1,4 +1,4 @@
-//! Names, each ended by a zero byte.
+//! Names, each followed by a zero byte.
 
 ghost use Rattle.std.specs.Prelude.{◌≡◌, ◌<◌, length, map, take, slice_index, All, IfOk, MatchOption};
 ghost use Rattle.std.specs.Cow.{cow_str_bytes, IsBorrowedStr};
@@ -13,7 +13,7 @@ use pcap_core::rules::Rule;
 use std::alloc::Global;
 use std::borrow::CowStr;
 
-// Where the first zero byte stands.
+// Returns the position of the first zero byte.
 fn zero_position(bytes: &[u8]) -> Option<usize>
     ensures { MatchOption result (HasNoZero bytes.now) (λ i. (i < length bytes.now) × (slice_index bytes.now i ≡ 0) × HasNoZero (take i bytes.now)) }
 {
@@ -37,16 +37,16 @@ fn name_from_slice(src: &[u8]) -> Result<(&[u8], &str), Refusal>
     Ok((rest, string))
 }
 
-/// What follows the first zero byte, and the string before it ('Name Resolution Block').
+/// Returns the bytes after the first zero byte, and the string before it ('Name Resolution Block').
 ///
-/// `InvalidField` where there is no zero byte, and `Utf8Error` where the string isn't UTF-8.
+/// Returns `InvalidField` if there is no zero byte, and `Utf8Error` if the string isn't UTF-8.
 pub fn str_from_u8_null_terminated(src: &[u8]) -> ResultParsing<(&[u8], &str)>
     ensures tells { Tells (NameSays src.now) (λ string. string.now) result }
 {
     Ok(name_from_slice(src)?)
 }
 
-// The names that all of a slice is.
+// Reads the names that fill a whole slice.
 #[inline(never)]
 pub(crate) fn names_from_slice(alloc: Global, slice: &[u8]) -> Result<Vec<CowStr<'_>>, Refusal>
     ensures tells { FindsAllWhere (NamesMayGrow slice.now) (NamesSay slice.now) (λ names. map cow_str_bytes names.items) result }

@@ -1,4 +1,4 @@
-//! The options that every kind of block has, and the list of them.
+//! Options that every kind of block has, and lists of options.
 
 ghost use Rattle.std.specs.Prelude.{◌≡◌, [], ◌∷◌, ◌++◌, length, map, All, IsOk, IfOk, IfSome, IfErr, OnOk};
 ghost use Rattle.std.specs.Option.{option_map};
@@ -22,7 +22,7 @@ use pcap_core::{CowBytes, ResultParsing};
 use std::alloc::{AllocError, Global};
 use std::borrow::CowStr;
 
-/// An option whose code has no meaning in its kind of block ('Options').
+/// An option whose code this library doesn't know for its kind of block ('Options').
 #[derive(Clone, Debug, Drop)]
 pub struct UnknownOption<'a> {
     code: u16,
@@ -31,7 +31,7 @@ pub struct UnknownOption<'a> {
 }
 
 impl<'a> UnknownOption<'a> {
-    /// The option of this code, length in bytes and value.
+    /// Makes an option with this code, length in bytes and value.
     pub fn new(code: u16, len: u16, value: &'a [u8]) -> Self
         ensures option { unknown_entry result ≡ record { code = code; value = Unknown len value.now } }
         ensures borrowed { UnknownIsBorrowed result }
@@ -43,30 +43,30 @@ impl<'a> UnknownOption<'a> {
         }
     }
 
-    /// Its code.
+    /// Returns the option's code.
     pub fn code(&self) -> u16
         ensures { result ≡ (unknown_entry self.now).code }
     {
         self.code
     }
 
-    /// The length of its value in bytes, as it was given.
+    /// Returns the length of the option's value in bytes, as it was given when the option was made.
     pub fn length(&self) -> u16
         ensures { result ≡ integer_in (unknown_entry self.now).value }
     {
         self.length
     }
 
-    /// Its value.
+    /// Returns the option's value.
     pub fn value(&self) -> &[u8]
         ensures { result.now ≡ value_bytes (unknown_entry self.now).value }
     {
         self.value.as_slice()
     }
 
-    /// The same option, with bytes and strings of its own: borrowed ones are copied, owned ones kept.
+    /// Returns the same option with its own bytes and strings: it copies borrowed ones and keeps owned ones.
     ///
-    /// `OutOfMemory` where an allocation failed; the value is then dropped.
+    /// Returns `OutOfMemory` if an allocation fails; the value is then dropped.
     pub fn into_owned(self, alloc: Global) -> ResultParsing<UnknownOption<'static>>
         ensures same { IfOk result (λ kept. unknown_entry kept ≡ unknown_entry self.entry) }
         ensures owned { IfOk result UnknownIsOwned }
@@ -77,7 +77,7 @@ impl<'a> UnknownOption<'a> {
     }
 }
 
-/// An option of an enterprise, which holds bytes ('Custom Options', codes 2989 and 19373).
+/// A custom option whose value is bytes, with the number of an enterprise ('Custom Options', codes 2989 and 19373).
 #[derive(Clone, Debug, Drop)]
 pub struct CustomBinaryOption<'a> {
     code: u16,
@@ -86,7 +86,7 @@ pub struct CustomBinaryOption<'a> {
 }
 
 impl<'a> CustomBinaryOption<'a> {
-    /// The option of this code, number of an enterprise and value.
+    /// Makes a custom option with this code, enterprise number and bytes.
     pub fn new(code: u16, pen: u32, value: &'a [u8]) -> Self
         ensures option { custom_bytes_entry result ≡ record { code = code; value = CustomBytes pen value.now } }
         ensures borrowed { CustomBytesIsBorrowed result }
@@ -113,9 +113,9 @@ impl<'a> CustomBinaryOption<'a> {
         })
     }
 
-    /// The option of this code whose value is all of a slice.
+    /// Reads the custom option with this code from a slice that is its whole value.
     ///
-    /// `IoError` under 4 bytes.
+    /// Returns `IoError` for fewer than 4 bytes.
     pub fn from_slice<B: ByteOrder>(code: u16, src: &'a [u8]) -> ResultParsing<Self>
         ensures tells { TellsAll (EntrySays B.number_of custom_bytes code src.now) custom_bytes_entry result }
         ensures borrowed { IfOk result CustomBytesIsBorrowed }
@@ -123,30 +123,30 @@ impl<'a> CustomBinaryOption<'a> {
         Ok(CustomBinaryOption::read::<B>(code, src)?)
     }
 
-    /// Its code.
+    /// Returns the option's code.
     pub fn code(&self) -> u16
         ensures { result ≡ (custom_bytes_entry self.now).code }
     {
         self.code
     }
 
-    /// The number of the enterprise, as IANA gives them out.
+    /// Returns the enterprise number, which IANA assigns.
     pub fn pen(&self) -> u32
         ensures { result ≡ integer_in (custom_bytes_entry self.now).value }
     {
         self.pen
     }
 
-    /// Its value, after the number of the enterprise.
+    /// Returns the option's bytes after the enterprise number.
     pub fn value(&self) -> &[u8]
         ensures { result.now ≡ value_bytes (custom_bytes_entry self.now).value }
     {
         self.value.as_slice()
     }
 
-    /// The same option, with bytes and strings of its own: borrowed ones are copied, owned ones kept.
+    /// Returns the same option with its own bytes and strings: it copies borrowed ones and keeps owned ones.
     ///
-    /// `OutOfMemory` where an allocation failed; the value is then dropped.
+    /// Returns `OutOfMemory` if an allocation fails; the value is then dropped.
     pub fn into_owned(self, alloc: Global) -> ResultParsing<CustomBinaryOption<'static>>
         ensures same { IfOk result (λ kept. custom_bytes_entry kept ≡ custom_bytes_entry self.entry) }
         ensures owned { IfOk result CustomBytesIsOwned }
@@ -157,7 +157,7 @@ impl<'a> CustomBinaryOption<'a> {
     }
 }
 
-/// An option of an enterprise, which holds a string ('Custom Options', codes 2988 and 19372).
+/// A custom option whose value is a string, with the number of an enterprise ('Custom Options', codes 2988 and 19372).
 #[derive(Clone, Debug, Drop)]
 pub struct CustomUtf8Option<'a> {
     code: u16,
@@ -166,7 +166,7 @@ pub struct CustomUtf8Option<'a> {
 }
 
 impl<'a> CustomUtf8Option<'a> {
-    /// The option of this code, number of an enterprise and string.
+    /// Makes a custom option with this code, enterprise number and string.
     pub fn new(code: u16, pen: u32, value: &'a str) -> Self
         ensures option { custom_string_entry result ≡ record { code = code; value = CustomStr pen value.now } }
         ensures borrowed { CustomStringIsBorrowed result }
@@ -193,9 +193,9 @@ impl<'a> CustomUtf8Option<'a> {
         })
     }
 
-    /// The option of this code whose value is all of a slice.
+    /// Reads the custom option with this code from a slice that is its whole value.
     ///
-    /// `IoError` under 4 bytes, and `Utf8Error` where the string after them isn't UTF-8.
+    /// Returns `IoError` for fewer than 4 bytes, and `Utf8Error` if the string after them isn't UTF-8.
     pub fn from_slice<B: ByteOrder>(code: u16, src: &'a [u8]) -> ResultParsing<Self>
         ensures tells { TellsAll (EntrySays B.number_of custom_string code src.now) custom_string_entry result }
         ensures borrowed { IfOk result CustomStringIsBorrowed }
@@ -203,30 +203,30 @@ impl<'a> CustomUtf8Option<'a> {
         Ok(CustomUtf8Option::read::<B>(code, src)?)
     }
 
-    /// Its code.
+    /// Returns the option's code.
     pub fn code(&self) -> u16
         ensures { result ≡ (custom_string_entry self.now).code }
     {
         self.code
     }
 
-    /// The number of the enterprise, as IANA gives them out.
+    /// Returns the enterprise number, which IANA assigns.
     pub fn pen(&self) -> u32
         ensures { result ≡ integer_in (custom_string_entry self.now).value }
     {
         self.pen
     }
 
-    /// Its string, after the number of the enterprise.
+    /// Returns the option's string after the enterprise number.
     pub fn value(&self) -> &str
         ensures { result.now ≡ value_bytes (custom_string_entry self.now).value }
     {
         &self.value
     }
 
-    /// The same option, with bytes and strings of its own: borrowed ones are copied, owned ones kept.
+    /// Returns the same option with its own bytes and strings: it copies borrowed ones and keeps owned ones.
     ///
-    /// `OutOfMemory` where an allocation failed; the value is then dropped.
+    /// Returns `OutOfMemory` if an allocation fails; the value is then dropped.
     pub fn into_owned(self, alloc: Global) -> ResultParsing<CustomUtf8Option<'static>>
         ensures same { IfOk result (λ kept. custom_string_entry kept ≡ custom_string_entry self.entry) }
         ensures owned { IfOk result CustomStringIsOwned }
@@ -239,22 +239,23 @@ impl<'a> CustomUtf8Option<'a> {
 
 /// The options of one kind of block.
 pub trait PcapNgOption<'a>: HoldsEntry + Sized {
-    // The shapes of the values, by their codes.
+    // The shapes of the values, by code.
     ghost kind: { Kind };
 
-    // Its string or bytes are borrowed, where it has any.
+    // The option's string or bytes, if it has any, are borrowed.
     ghost is_borrowed: { Self → Type 0 };
 
-    /// The option of this code whose value is all of a slice, of this length.
+    /// Reads the option with this code from a slice that is its whole value. The length must be the slice's.
     fn from_value<B: ByteOrder>(code: u16, len: u16, value: &'a [u8]) -> Result<Self, Refusal>
         requires { len ≡ length value.now }
         ensures tells { FindsAll (EntrySays B.number_of (shape_at kind code) code value.now) Self.entry result }
         ensures borrowed { IfOk result is_borrowed };
 }
 
-/// A kind whose lists are read in more than one crate: by its own function, so that this is one.
+/// A kind of option whose lists more than one crate reads. They all call the kind's own function, so that there is only
+/// one.
 pub trait ListedOption<'a>: PcapNgOption<'a> {
-    /// The list of options of this kind at the front of a slice, and what follows it.
+    /// Reads the list of options of this kind at the front of a slice, and returns the bytes after it and the options.
     fn list_from_slice<B: ByteOrder>(
         alloc: Global,
         slice: &'a [u8],
@@ -264,7 +265,8 @@ pub trait ListedOption<'a>: PcapNgOption<'a> {
         ensures borrowed { IfOk result (λ x. All Self.is_borrowed x.1.items) };
 }
 
-// The option at the front of a slice, or none at the mark that ends a list, and what follows it.
+// Reads the option at the front of a slice, and returns the bytes after it and the option. The end-of-options option
+// gives None.
 #[inline(always)]
 fn option_from_slice<'a, O: PcapNgOption<'a>, B: ByteOrder>(
     slice: &'a [u8],
@@ -287,7 +289,7 @@ fn option_from_slice<'a, O: PcapNgOption<'a>, B: ByteOrder>(
     Ok((rest, Some(option)))
 }
 
-// Puts an option behind the others; the first one makes room for a few, so that most lists grow once.
+// Appends an option. The first option reserves space for eight, so that most lists allocate once.
 #[inline(always)]
 fn append<O: Drop>(alloc: Global, options: &mut Vec<O>, option: O) -> Result<(), AllocError>
     ensures items { OnOk result (options.new.items ≡ options.old.items ++ option ∷ []) }
@@ -301,7 +303,7 @@ fn append<O: Drop>(alloc: Global, options: &mut Vec<O>, option: O) -> Result<(),
     Ok(())
 }
 
-/// The list of options at the front of a slice, and what follows it.
+/// Reads the list of options at the front of a slice, and returns the bytes after it and the options.
 pub fn options_from_slice<'a, O: PcapNgOption<'a> + Drop, B: ByteOrder>(
     alloc: Global,
     slice: &'a [u8],

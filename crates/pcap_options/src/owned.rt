@@ -1,4 +1,4 @@
-//! Values that outlive the bytes they were read from.
+//! Values that outlive the bytes that they were read from.
 
 ghost use Rattle.std.specs.Prelude.{◌≡◌, [], All, IsOk, IfOk};
 ghost use Rattle.std.specs.Cow.{cow_str_bytes, IsOwnedStr};
@@ -9,28 +9,29 @@ use pcap_core::CowBytes;
 use std::alloc::{AllocError, Global};
 use std::borrow::CowStr;
 
-/// What can be made to own its bytes and strings.
+/// A value that can be made to own its bytes and strings.
 pub trait IntoStatic: Sized {
-    /// It, with bytes and strings of its own.
+    /// The type of the owned value.
     type Owned;
 
-    // The owned value says the same.
+    // The owned value has the same contents as the original.
     ghost is_same: { Self → Self.Owned → Type 0 };
 
-    // Each string and all bytes of it are owned.
+    // All strings and bytes of the value are owned.
     ghost is_owned: { Self.Owned → Type 0 };
 
-    // All of it is owned already, and it has no list to make anew.
+    // The whole value is owned already, and it has no list to build anew.
     ghost needs_no_memory: { Self → Type 0 };
 
-    /// The value with borrowed bytes and strings copied; owned ones are kept.
+    /// Returns the value with its own bytes and strings: it copies borrowed ones and keeps owned ones.
     fn into_static(self, alloc: Global) -> Result<Self::Owned, AllocError>
         ensures same { IfOk result (is_same self) }
         ensures owned { IfOk result is_owned }
         ensures kept { needs_no_memory self → IsOk result };
 }
 
-/// A value with all its fields: those that borrow nothing, those that are kept, and lists whose values are.
+/// Rebuilds a struct with owned fields: it moves plain fields, makes `held` fields owned, and makes the items of `each`
+/// lists owned.
 #[macro_export]
 macro_rules! kept_fields {
     ($value:tt $alloc:ident $name:ident { $($plain:ident)* } $(held { $($held:ident)* })? $(each { $($list:ident)* })?) => {{
@@ -43,9 +44,9 @@ macro_rules! kept_fields {
     }};
 }
 
-/// Each value of a list, kept.
+/// Makes each value of a list owned.
 ///
-/// An error where an allocation failed; the values are then dropped.
+/// Returns an error if an allocation fails; the values are then dropped.
 pub fn each_into_static<T: IntoStatic<Owned: Drop> + Drop>(
     alloc: Global,
     items: Vec<T>,

@@ -1,4 +1,4 @@
-//! Records of a name resolution body.
+//! Records of a name resolution block.
 
 ghost use Rattle.std.specs.Prelude.{◌≡◌, ◌≤◌, length, IsOk, IfOk, IfErr};
 ghost use Rattle.pcap_core.specs.Answer.{TellsWhere, TellsAllWhere};
@@ -21,20 +21,22 @@ use pcap_core::{CowBytes, ResultParsing};
 use std::alloc::{AllocError, Global};
 use std::borrow::CowStr;
 
-/// The names of an IPv4 address (nrb_record_ipv4 of 'Name Resolution Block').
+/// An IPv4 address and its names (nrb_record_ipv4 of 'Name Resolution Block').
 #[derive(Clone, Debug, Drop)]
 pub struct Ipv4Record<'a> {
     /// The address, 4 bytes.
     pub ip_addr: CowBytes<'a>,
-    /// Its names.
+    /// The names of the address.
     pub names: Vec<CowStr<'a>>,
 }
 
 impl<'a> Ipv4Record<'a> {
-    /// The address and the names that all of a record's value is. They are borrowed from the slice.
+    /// Reads an IPv4 address and its names from a slice that is a record's whole value. They are borrowed from the
+    /// slice.
     ///
-    /// `InvalidField` under 6 bytes, then where a name has no zero byte after it, or `Utf8Error` where one isn't UTF-8.
-    /// `OutOfMemory` where an allocation failed, and only where a name stands.
+    /// Returns `InvalidField` for fewer than 6 bytes. Then the first malformed name decides: `InvalidField` if no zero
+    /// byte follows it, and `Utf8Error` if it isn't UTF-8. Returns `OutOfMemory` if an allocation fails, which can
+    /// happen only if there is a name.
     pub fn from_slice(alloc: Global, slice: &'a [u8]) -> ResultParsing<Self>
         ensures tells { TellsAllWhere (AddressMayGrow 4 slice.now) (AddressSays 4 Ipv4RecordTooShort slice.now) ipv4_of result }
         ensures borrowed { IfOk result Ipv4IsBorrowed }
@@ -50,9 +52,9 @@ impl<'a> Ipv4Record<'a> {
         Ok(Ipv4Record { ip_addr, names })
     }
 
-    /// The same record, with bytes and strings of its own: borrowed ones are copied, owned ones kept.
+    /// Returns the same record with its own bytes and strings: it copies borrowed ones and keeps owned ones.
     ///
-    /// `OutOfMemory` where an allocation failed; the value is then dropped.
+    /// Returns `OutOfMemory` if an allocation fails; the value is then dropped.
     pub fn into_owned(self, alloc: Global) -> ResultParsing<Ipv4Record<'static>>
         ensures same { IfOk result (λ kept. ipv4_of kept ≡ ipv4_of self.entry) }
         ensures owned { IfOk result Ipv4IsOwned }
@@ -63,20 +65,22 @@ impl<'a> Ipv4Record<'a> {
     }
 }
 
-/// The names of an IPv6 address (nrb_record_ipv6 of 'Name Resolution Block').
+/// An IPv6 address and its names (nrb_record_ipv6 of 'Name Resolution Block').
 #[derive(Clone, Debug, Drop)]
 pub struct Ipv6Record<'a> {
     /// The address, 16 bytes.
     pub ip_addr: CowBytes<'a>,
-    /// Its names.
+    /// The names of the address.
     pub names: Vec<CowStr<'a>>,
 }
 
 impl<'a> Ipv6Record<'a> {
-    /// The address and the names that all of a record's value is. They are borrowed from the slice.
+    /// Reads an IPv6 address and its names from a slice that is a record's whole value. They are borrowed from the
+    /// slice.
     ///
-    /// `InvalidField` under 18 bytes, then where a name has no zero byte after it, or `Utf8Error` where one isn't
-    /// UTF-8. `OutOfMemory` where an allocation failed, and only where a name stands.
+    /// Returns `InvalidField` for fewer than 18 bytes. Then the first malformed name decides: `InvalidField` if no zero
+    /// byte follows it, and `Utf8Error` if it isn't UTF-8. Returns `OutOfMemory` if an allocation fails, which can
+    /// happen only if there is a name.
     pub fn from_slice(alloc: Global, slice: &'a [u8]) -> ResultParsing<Self>
         ensures tells { TellsAllWhere (AddressMayGrow 16 slice.now) (AddressSays 16 Ipv6RecordTooShort slice.now) ipv6_of result }
         ensures borrowed { IfOk result Ipv6IsBorrowed }
@@ -92,9 +96,9 @@ impl<'a> Ipv6Record<'a> {
         Ok(Ipv6Record { ip_addr, names })
     }
 
-    /// The same record, with bytes and strings of its own: borrowed ones are copied, owned ones kept.
+    /// Returns the same record with its own bytes and strings: it copies borrowed ones and keeps owned ones.
     ///
-    /// `OutOfMemory` where an allocation failed; the value is then dropped.
+    /// Returns `OutOfMemory` if an allocation fails; the value is then dropped.
     pub fn into_owned(self, alloc: Global) -> ResultParsing<Ipv6Record<'static>>
         ensures same { IfOk result (λ kept. ipv6_of kept ≡ ipv6_of self.entry) }
         ensures owned { IfOk result Ipv6IsOwned }
@@ -105,7 +109,7 @@ impl<'a> Ipv6Record<'a> {
     }
 }
 
-// The address of this width, and the names that follow it to the end of a slice.
+// Reads an address of this width, and the names that follow it to the end of a slice.
 fn address_from_slice(
     alloc: Global,
     slice: &[u8],
@@ -123,18 +127,18 @@ fn address_from_slice(
     Ok((CowBytes::Borrowed(ip_addr), names_from_slice(alloc, rest)?))
 }
 
-/// A record of another type ('Name Resolution Block').
+/// A name record of an unknown type ('Name Resolution Block').
 #[derive(Clone, Debug, Drop)]
 pub struct UnknownRecord<'a> {
-    /// Its type.
+    /// The record's type.
     pub type_: u16,
-    /// The length of its value in bytes.
+    /// The length of the record's value in bytes.
     pub length: u16,
-    /// Its value.
+    /// The record's value.
     pub value: CowBytes<'a>,
 }
 
-/// A record of a name resolution body ('Name Resolution Block').
+/// A record of a name resolution block ('Name Resolution Block').
 #[derive(Clone, Debug, Drop)]
 pub enum Record<'a> {
     /// The end of the records (nrb_record_end, type 0).
@@ -148,11 +152,14 @@ pub enum Record<'a> {
 }
 
 impl<'a> Record<'a> {
-    /// The record at the front of a slice, and what follows its padding. Strings and bytes are borrowed from the slice.
+    /// Reads the record at the front of a slice, and returns the bytes after its padding and the record. Strings and
+    /// bytes are borrowed from the slice.
     ///
-    /// `IoError` under 4 bytes. `InvalidField` where its value passes the slice, then where its length doesn't fit its
-    /// type, then where a name has no zero byte after it, or `Utf8Error` where one isn't UTF-8; last `InvalidField`
-    /// where its padding passes the slice. `OutOfMemory` where an allocation failed, and only where a name stands.
+    /// The first broken rule decides the error, in this order. `IoError` for fewer than 4 bytes. `InvalidField` if the
+    /// slice ends inside the value, or if the length doesn't fit the type. `InvalidField` if no zero byte follows a
+    /// name, or `Utf8Error` if a name isn't UTF-8. `InvalidField` if the slice ends inside the padding.
+    ///
+    /// Returns `OutOfMemory` if an allocation fails, which can happen only if there is a name.
     pub fn from_slice<B: ByteOrder>(
         alloc: Global,
         slice: &'a [u8],
@@ -186,7 +193,7 @@ impl<'a> Record<'a> {
         Ok((rest, record))
     }
 
-    // The record of this type whose value is all of a slice, of this length.
+    // Reads the record of this type from a slice that is its whole value. The length must be the slice's.
     fn from_value(alloc: Global, type_: u16, len: u16, value: &'a [u8]) -> Result<Self, Refusal>
         requires { len ≡ length value.now }
         ensures tells { FindsAllWhere (RecordValueMayGrow (form_of type_) value.now) (RecordValueSays (form_of type_) value.now) name_record_of result }
@@ -210,9 +217,9 @@ impl<'a> Record<'a> {
         }
     }
 
-    /// The same record, with bytes and strings of its own: borrowed ones are copied, owned ones kept.
+    /// Returns the same record with its own bytes and strings: it copies borrowed ones and keeps owned ones.
     ///
-    /// `OutOfMemory` where an allocation failed; the value is then dropped.
+    /// Returns `OutOfMemory` if an allocation fails; the value is then dropped.
     pub fn into_owned(self, alloc: Global) -> ResultParsing<Record<'static>>
         ensures same { IfOk result (λ kept. name_record_of kept ≡ name_record_of self.entry) }
         ensures owned { IfOk result RecordIsOwned }
@@ -254,9 +261,9 @@ impl<'a> IntoStatic for Ipv6Record<'a> {
 }
 
 impl<'a> UnknownRecord<'a> {
-    /// The same record, with bytes and strings of its own: borrowed ones are copied, owned ones kept.
+    /// Returns the same record with its own bytes and strings: it copies borrowed ones and keeps owned ones.
     ///
-    /// `OutOfMemory` where an allocation failed; the value is then dropped.
+    /// Returns `OutOfMemory` if an allocation fails; the value is then dropped.
     pub fn into_owned(self, alloc: Global) -> ResultParsing<UnknownRecord<'static>>
         ensures same { IfOk result (λ kept. other_of kept ≡ other_of self.entry) }
         ensures owned { IfOk result UnknownRecordIsOwned }

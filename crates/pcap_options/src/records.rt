@@ -1,4 +1,4 @@
-//! Records of names, one behind the other.
+//! Lists of name records.
 
 ghost use Rattle.std.specs.Prelude.{map, All, IfOk};
 ghost use Rattle.pcap_options.specs.Refusal.{FindsWhere};
@@ -10,7 +10,7 @@ use crate::refusal::Refusal;
 use byteorder::ByteOrder;
 use std::alloc::Global;
 
-/// The records before the end, and what follows that.
+/// Reads the records up to the end record, and returns the bytes after it and the records before it.
 #[inline(never)]
 pub fn records_from_slice<'a, B: ByteOrder>(
     alloc: Global,

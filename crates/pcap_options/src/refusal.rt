@@ -1,4 +1,4 @@
-//! Why bytes are not read, inside the crates of options and blocks.
+//! Errors inside the crates of options and blocks.
 
 ghost use Rattle.std.specs.Prelude.{◌≡◌, alloc_error};
 ghost use Rattle.pcap_options.specs.Refusal.{IsShownAs};
@@ -10,16 +10,16 @@ use std::alloc::{AllocError, AllocFailed};
 use std::io;
 use std::str::Utf8Error;
 
-/// Why bytes are not read. It becomes a `PcapError` at each call that users of blocks name.
+/// The reason why bytes couldn't be read. The public calls of blocks convert it to a `PcapError`.
 #[derive(Debug, Drop)]
 pub enum Refusal {
-    /// A growth was refused.
+    /// An allocation failed.
     Memory(AllocError),
     /// A value is too short.
     Io,
     /// A string isn't UTF-8.
     Utf8(Utf8Error),
-    /// A rule is broken.
+    /// The bytes break a rule.
     Invalid(Rule),
 }
 

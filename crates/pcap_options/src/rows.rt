@@ -1,5 +1,6 @@
-//! The options of each kind of block: a row of each option's name, its code, and the shape of its value with what that
-//! shape demands. `each` is a macro that is passed all rows of a kind, behind the kind's name and what is given.
+//! Tables of the options of each kind of block. Each row has an option's name, its code, the shape of its value, and
+//! what that shape requires. Each macro passes the given tokens, the kind's name and all rows of the kind to the macro
+//! `each`.
 
 /// The options of a section header.
 #[macro_export]

@@ -20,17 +20,17 @@ use std::borrow::CowStr;
 pub enum SectionHeaderOption<'a> {
     /// A comment on the section (opt_comment, code 1).
     Comment(CowStr<'a>),
-    /// The hardware that the section was made on (shb_hardware, code 2).
+    /// The hardware on which the section was made (shb_hardware, code 2).
     Hardware(CowStr<'a>),
-    /// The operating system that the section was made on (shb_os, code 3).
+    /// The operating system on which the section was made (shb_os, code 3).
     OS(CowStr<'a>),
     /// The application that made the section (shb_userappl, code 4).
     UserApplication(CowStr<'a>),
-    /// Bytes of an enterprise, code 2989 or 19373.
+    /// A custom option with bytes (code 2989 or 19373).
     CustomBinary(CustomBinaryOption<'a>),
-    /// A string of an enterprise, code 2988 or 19372.
+    /// A custom option with a string (code 2988 or 19372).
     CustomUtf8(CustomUtf8Option<'a>),
-    /// An option of another code.
+    /// An option with another code.
     Unknown(UnknownOption<'a>),
 }
 
@@ -54,9 +54,9 @@ impl<'a> PcapNgOption<'a> for SectionHeaderOption<'a> {
 }
 
 impl<'a> SectionHeaderOption<'a> {
-    /// The same option, with bytes and strings of its own: borrowed ones are copied, owned ones kept.
+    /// Returns the same option with its own bytes and strings: it copies borrowed ones and keeps owned ones.
     ///
-    /// `OutOfMemory` where an allocation failed; the value is then dropped.
+    /// Returns `OutOfMemory` if an allocation fails; the value is then dropped.
     pub fn into_owned(self, alloc: Global) -> ResultParsing<SectionHeaderOption<'static>>
         ensures same { IfOk result (λ kept. section_entry kept ≡ section_entry self.entry) }
         ensures owned { IfOk result SectionOptionIsOwned }

@@ -15,30 +15,30 @@ use pcap_core::ResultParsing;
 use std::alloc::{AllocError, Global};
 use std::borrow::CowStr;
 
-/// An option of interface statistics ('Interface Statistics Block'). Times are in the unit of the block's own.
+/// An option of interface statistics ('Interface Statistics Block'). Times have the unit of the block's timestamp.
 #[derive(Clone, Debug, Drop)]
 pub enum InterfaceStatisticsOption<'a> {
     /// A comment on the statistics (opt_comment, code 1).
     Comment(CowStr<'a>),
-    /// When the capture began (isb_starttime, code 2).
+    /// The time when the capture began (isb_starttime, code 2).
     IsbStartTime(u64),
-    /// When the capture ended (isb_endtime, code 3).
+    /// The time when the capture ended (isb_endtime, code 3).
     IsbEndTime(u64),
-    /// How many packets the interface received (isb_ifrecv, code 4).
+    /// The number of packets that the interface received (isb_ifrecv, code 4).
     IsbIfRecv(u64),
-    /// How many packets the interface dropped (isb_ifdrop, code 5).
+    /// The number of packets that the interface dropped (isb_ifdrop, code 5).
     IsbIfDrop(u64),
-    /// How many packets the filter accepted (isb_filteraccept, code 6).
+    /// The number of packets that the filter accepted (isb_filteraccept, code 6).
     IsbFilterAccept(u64),
-    /// How many packets the operating system dropped (isb_osdrop, code 7).
+    /// The number of packets that the operating system dropped (isb_osdrop, code 7).
     IsbOsDrop(u64),
-    /// How many packets the user was given (isb_usrdeliv, code 8).
+    /// The number of packets that were delivered to the user (isb_usrdeliv, code 8).
     IsbUsrDeliv(u64),
-    /// Bytes of an enterprise, code 2989 or 19373.
+    /// A custom option with bytes (code 2989 or 19373).
     CustomBinary(CustomBinaryOption<'a>),
-    /// A string of an enterprise, code 2988 or 19372.
+    /// A custom option with a string (code 2988 or 19372).
     CustomUtf8(CustomUtf8Option<'a>),
-    /// An option of another code.
+    /// An option with another code.
     Unknown(UnknownOption<'a>),
 }
 
@@ -62,9 +62,9 @@ impl<'a> PcapNgOption<'a> for InterfaceStatisticsOption<'a> {
 }
 
 impl<'a> InterfaceStatisticsOption<'a> {
-    /// The same option, with bytes and strings of its own: borrowed ones are copied, owned ones kept.
+    /// Returns the same option with its own bytes and strings: it copies borrowed ones and keeps owned ones.
     ///
-    /// `OutOfMemory` where an allocation failed; the value is then dropped.
+    /// Returns `OutOfMemory` if an allocation fails; the value is then dropped.
     pub fn into_owned(self, alloc: Global) -> ResultParsing<InterfaceStatisticsOption<'static>>
         ensures same { IfOk result (λ kept. statistics_entry kept ≡ statistics_entry self.entry) }
         ensures owned { IfOk result StatisticsOptionIsOwned }

@@ -1,4 +1,4 @@
-//! The values of options, by their shapes.
+//! Readers of option values, one for each shape.
 
 ghost use Rattle.std.specs.Prelude.{◌≡◌, IfOk};
 ghost use Rattle.std.specs.Cow.{cow_str_bytes, IsBorrowedStr};
@@ -13,7 +13,7 @@ use pcap_core::rules::Rule;
 use std::borrow::CowStr;
 use std::str;
 
-// The string that all bytes of a name are.
+// Reads the bytes of a name as a string.
 #[tactic(auto, using(crate::proofs::Strings::string_is, crate::proofs::Strings::no_string))]
 pub(crate) fn str_value(name: &[u8]) -> Result<&str, Refusal>
     ensures tells { FindsAll (AllSay (string_at name.now)) (λ string. string.now) result }
@@ -25,7 +25,7 @@ pub(crate) fn str_value(name: &[u8]) -> Result<&str, Refusal>
     }
 }
 
-// A string.
+// Reads a string.
 #[tactic(auto, using(crate::proofs::Strings::string_is, crate::proofs::Strings::no_string))]
 pub(crate) fn string_value(value: &[u8]) -> Result<CowStr<'_>, Refusal>
     ensures tells { FindsAll (AllSay (string_at value.now)) cow_str_bytes result }
@@ -37,7 +37,7 @@ pub(crate) fn string_value(value: &[u8]) -> Result<CowStr<'_>, Refusal>
     }
 }
 
-// Bytes that have to be so many.
+// Reads bytes whose number must be `len`.
 pub(crate) fn fixed_value(value: &[u8], len: usize, wrong: Rule) -> Result<CowBytes<'_>, Refusal>
     ensures tells { FindsAll (AllSay (fixed_at len wrong value.now)) (λ b. Bytes (cow_bytes b)) result }
     ensures borrowed { IfOk result IsBorrowed }
@@ -48,7 +48,7 @@ pub(crate) fn fixed_value(value: &[u8], len: usize, wrong: Rule) -> Result<CowBy
     Ok(CowBytes::Borrowed(value))
 }
 
-// One byte or more.
+// Reads one byte or more.
 pub(crate) fn some_value(value: &[u8], empty: Rule) -> Result<CowBytes<'_>, Refusal>
     ensures tells { FindsAll (AllSay (some_at empty value.now)) (λ b. Bytes (cow_bytes b)) result }
     ensures borrowed { IfOk result IsBorrowed }
@@ -59,7 +59,7 @@ pub(crate) fn some_value(value: &[u8], empty: Rule) -> Result<CowBytes<'_>, Refu
     Ok(CowBytes::Borrowed(value))
 }
 
-// A byte.
+// Reads a byte as a number.
 pub(crate) fn u8_value(value: &[u8], wrong: Rule) -> Result<u8, Refusal>
     ensures tells { FindsAll (AllSay (byte_at wrong value.now)) Integer result }
 {
@@ -69,7 +69,7 @@ pub(crate) fn u8_value(value: &[u8], wrong: Rule) -> Result<u8, Refusal>
     Ok(value[0])
 }
 
-// A number of 4 bytes.
+// Reads a number of 4 bytes.
 pub(crate) fn u32_value<B: ByteOrder>(value: &[u8], wrong: Rule) -> Result<u32, Refusal>
     ensures tells { FindsAll (AllSay (number_at B.number_of 4 wrong value.now)) Integer result }
 {
@@ -79,7 +79,7 @@ pub(crate) fn u32_value<B: ByteOrder>(value: &[u8], wrong: Rule) -> Result<u32, 
     Ok(B::read_u32(value))
 }
 
-// A number of 8 bytes.
+// Reads a number of 8 bytes.
 pub(crate) fn u64_value<B: ByteOrder>(value: &[u8], wrong: Rule) -> Result<u64, Refusal>
     ensures tells { FindsAll (AllSay (number_at B.number_of 8 wrong value.now)) Integer result }
 {
@@ -89,7 +89,7 @@ pub(crate) fn u64_value<B: ByteOrder>(value: &[u8], wrong: Rule) -> Result<u64, 
     Ok(B::read_u64(value))
 }
 
-// The number in the first 8 bytes; more are ignored.
+// Reads the number in the first 8 bytes, and ignores the bytes after them.
 pub(crate) fn first_number<B: ByteOrder>(value: &[u8]) -> Result<u64, Refusal>
     ensures tells { FindsAll (AllSay (first_number_at B.number_of value.now)) Integer result }
 {
@@ -100,7 +100,7 @@ pub(crate) fn first_number<B: ByteOrder>(value: &[u8]) -> Result<u64, Refusal>
     Ok(B::read_u64(number))
 }
 
-// The time in the first 8 bytes, its high half first; more are ignored.
+// Reads the time in the first 8 bytes, its high half first, and ignores the bytes after them.
 pub(crate) fn first_time<B: ByteOrder>(value: &[u8]) -> Result<u64, Refusal>
     ensures tells { FindsAll (AllSay (first_time_at B.number_of value.now)) Integer result }
 {
