@@ -54,7 +54,7 @@ module _ (header : PcapHeader) where
       let own = texts_own (format_under packet_limit header) (lawful_under header) tt packets bytes rest texts in
       omega (arith, ap length own.1, length-append own.0 rest)
 
-  -- Of two sequences of packets at the front of the same bytes, the one that leaves fewer bytes is longer. The other one is followed by
+  -- If two sequences of packets begin the same bytes, the one that leaves fewer bytes is longer. The other one is followed by
   -- a packet.
   goes_on : (ks ps : List Captured) (s mid rest : List ℕ) → Texts (format_under packet_limit header) tt ks s mid → Texts (format_under packet_limit header) tt ps s rest
       → length rest < length mid → (packet : Captured) × (after : List ℕ) × PacketIsSaid header mid (whole packet after) × (length ks < length ps)

@@ -1,4 +1,4 @@
--- What a copy of a classic capture takes from its reader and writes to its writer.
+-- The bytes that a copy of a classic capture takes from its reader and writes to its writer.
 use Rattle.std.specs.Prelude.{◌≡◌, ◌≤◌, ◌⊎◌, ℕ, List, [], ◌∷◌, ◌++◌, length, IsTrue, true, false, Option, None, Some, IfSome, Result, Ok, Err}
 use Rattle.std.specs.Option.{IsSomeAnd}
 use Rattle.std.specs.Io.KnownBytes.{Appends, Keeps}
@@ -125,7 +125,7 @@ abbrev pub BeginsCopy : Under → Option (List ℕ) → Option (List ℕ) → Op
 BeginsCopy under before now out_before out_now tally (Ok ahead) = OpensCopy under before now out_before out_now ahead.header ahead.puts.out tally
 BeginsCopy under before now out_before out_now tally (Err e) = Copies ⊥ under before now out_before out_now (copied_of tally (Some e))
 
--- What holds of a copy whether or not the reader's bytes are known.
+-- The facts about a copy, whether or not the reader's bytes are known.
 abbrev pub CopyRun : Under → Option (List ℕ) → Option (List ℕ) → Option (List ℕ) → Option (List ℕ) → ℕ → Copied → Type 0
 CopyRun under before now out_before out_now most copied = Copies (CopiesPackets under before now out_before out_now most copied) under before now out_before out_now copied
 
@@ -153,7 +153,7 @@ pub record CopiesFront (under : Under) (bytes : List ℕ) (now out_before out_no
   pub wrote : copied.write_failed ≡ false → EndsFront (PacketIsSaid header) rest more copied.read_failed copied.packets most copied.fault
   pub tore : copied.write_failed ≡ true → (packet : Captured) × (others : List Captured) × (more ≡ packet ∷ others) × Takes (PacketIsSaid header) (Some left) now packet
 
--- What holds of a copy if the reader's bytes are known.
+-- The facts about a copy if the reader's bytes are known.
 abbrev pub CopyFront : Under → List ℕ → Option (List ℕ) → Option (List ℕ) → Option (List ℕ) → ℕ → Copied → Type 0
 CopyFront under bytes now out_before out_now most copied = Copies (CopiesFront under bytes now out_before out_now most copied) under (Some bytes) now out_before out_now copied
 

@@ -118,7 +118,7 @@ pub fn front_is_written()
         CaptureFront limit header packets s rest → s ≡ capture header packets ++ rest }
 {}
 
-/// A written packet is read again, with its nanoseconds cut to the timestamp resolution.
+/// A packet with valid lengths is read again after it is written, with its nanoseconds cut to the timestamp resolution.
 pub fn written_packet_is_read()
     ensures { (e : Endianness) (r : TsResolution) (packet : Captured) (rest : List ℕ) → IsWhole packet →
         PacketText packet_limit (number_in e) r (cut r packet) (record_bytes (number_bytes e) r packet ++ rest) rest }
@@ -216,14 +216,15 @@ pub fn default_packet_header() -> PacketHeader
     PacketHeader::default()
 }
 
-/// The front of a written capture is its header and its packets, with nanoseconds cut to the timestamp resolution, and
-/// nothing follows them.
+/// The front of a written capture with a valid header and valid packets is that header and those packets, with nanoseconds
+/// cut to the timestamp resolution. Nothing follows them.
 pub fn written_capture_is_read()
     ensures { (header : PcapHeader) (packets : List Captured) → IsWholeHeader header → All IsWhole packets →
         CaptureFront packet_limit header (map (cut (resolution_of header.magic_number)) packets) (capture header packets) [] }
 {}
 
-/// A capture with an empty rest is copied whole if nothing fails: its header as `under` demands, and all its packets.
+/// A capture with an empty rest is copied whole if nothing fails, and if `under` and `most` allow it: its header as `under`
+/// demands, and all its packets.
 pub fn accepted_capture_is_copied()
     ensures { (under : Under) (header : PcapHeader) (packets : List Captured)
         (bytes : List ℕ) (now out_before out_now : Option (List ℕ)) (most : ℕ) (copied : Copied) →
@@ -231,14 +232,14 @@ pub fn accepted_capture_is_copied()
         CopyFront under bytes now out_before out_now most copied → CopiesAll (header_under under header) packets out_before out_now copied }
 {}
 
-/// If nothing fails, the copy of a capture with an empty rest under its own header has the same bytes.
+/// If nothing fails and `most` allows it, the copy of a capture with an empty rest under its own header has the same bytes.
 pub fn copy_is_the_capture()
     ensures { (header : PcapHeader) (packets : List Captured) (bytes : List ℕ) (now out_before out_now : Option (List ℕ)) (most : ℕ) (copied : Copied) →
         IsBytes bytes → CaptureFront packet_limit header packets bytes [] → length packets ≤ most → NothingFailed copied →
         CopyFront Same bytes now out_before out_now most copied → Appends out_before out_now bytes }
 {}
 
-/// The front of a copy under another header is that header and the packets that were read, and nothing follows them.
+/// The front of a copy under another valid header is that header and the packets that were read, and nothing follows them.
 /// Nanoseconds are cut to the timestamp resolution of the new header.
 pub fn copy_is_read_under_its_header()
     ensures { (header under : PcapHeader) (packets : List Captured) (s rest : List ℕ) → IsBytes s →

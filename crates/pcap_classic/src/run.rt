@@ -38,7 +38,7 @@ pub struct PcapRun<'a> {
     pub packets: Vec<Packet<'a>>,
     /// The number of bytes that the header and the packets take.
     pub used: usize,
-    /// What follows the last packet: nothing, a truncated packet record, or a malformed one.
+    /// The state of the bytes after the last packet: nothing, a truncated packet record, or a malformed one.
     pub rest: Rest,
 }
 
