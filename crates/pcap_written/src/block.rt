@@ -64,7 +64,7 @@ pub trait PcapNgBlock {
     fn head(&self) -> BlockHead
         ensures { result ≡ head_of (sees self.now) };
 
-    /// Appends the block's body to `out`, or returns why it can't be written.
+    /// Appends the block's body to `out`, or returns why not: the body can't be written, or memory ran out.
     fn put_body<B: ByteOrder>(&self, out: &mut Vec<u8>) -> Result<(), Unput>
         ensures { Puts (IsFitBody B.number_of B.bytes_of (sees self.now))
             (BodyFlaw B.number_of B.bytes_of (sees self.now)) (body_text B.bytes_of (sees self.now)) out.old.items out.new.items result };

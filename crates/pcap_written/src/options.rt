@@ -19,7 +19,7 @@ pub trait WrittenOption {
 
     ghost view: { Self → Entry };
 
-    /// Returns the option's code and the form of its value, or None if options of this code hold other values.
+    /// Returns the option's code and the form of its value. None if the code is the end mark's, or its options hold other values.
     fn coded(&self) -> Option<(u16, Form<'_>)>
         ensures { TellsCoded kind (view self.now) result };
 }
