@@ -89,8 +89,8 @@ impl Under {
 }
 
 /// Copies a capture from a reader to a writer: its header, as `under` demands, and then at most `most` packets. Each packet
-/// is written before the next one is read. Without a fault, the copy has taken exactly the copied bytes from the reader. A
-/// copy in microseconds loses the last three digits of the nanoseconds.
+/// is written before the next one is read. Without a fault, the reader has given exactly the header and these packets.
+/// A copy in microseconds loses the last three digits of the nanoseconds.
 ///
 /// `InvalidField` if the magic number of the given header is none of the four; then nothing is read or written. If the
 /// capture's header can't be read, the fault is that of `PcapHeader::from_reader`, and nothing is written. If a later
