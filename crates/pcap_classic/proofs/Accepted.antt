@@ -1,4 +1,4 @@
--- The copy of a capture that is accepted whole.
+-- Copies of captures with an empty rest.
 use Rattle.std.proofs.Common.{◌≡◌, ◌≤◌, ℕ, List, [], ◌∷◌, ◌++◌, length, ap, sym, ◌∙◌, subst, arith, length-append, append-nil, true, false, Bool, Err, Some, None, inl, inr}
 use Rattle.std.specs.Prelude.{Option, All, map}
 use Rattle.std.specs.Option.{IsSomeAnd}
@@ -36,7 +36,7 @@ use Rattle.pcap_classic.proofs.OneFront.{front_one}
 use Rattle.pcap_classic.proofs.ReadCapture.{capture_again}
 use Rattle.pcap_core.proofs.Refusals.{shown_fault}
 
--- the header of a capture is not refused
+-- If no read failed, the header of a capture is not refused.
 pub no_header_refusal : (header : PcapHeader) (bytes after : List ℕ) (now : Option (List ℕ)) (failed : Bool) (fault : Option PcapError) → failed ≡ false → HeaderText header bytes after
     → IsSomeAnd fault (λ e. ReadsTold HeaderSays (λ (h : PcapHeader). h) (Some bytes) now failed (Err e)) → ⊥
 no_header_refusal header bytes after now failed None unfailed text refusal = refusal
@@ -89,7 +89,7 @@ module _ (under : Under) (header : PcapHeader) (packets : List Captured) (bytes 
         ]
       ]
 
--- the copy of an accepted capture under its own header is its bytes
+-- The copy of such a capture under its own header has the same bytes.
 pub accepted_same : (header : PcapHeader) (packets : List Captured) (bytes : List ℕ) (now out_before out_now : Option (List ℕ)) (most : ℕ) (copied : Copied)
     → IsBytes bytes → CaptureFront packet_limit header packets bytes [] → length packets ≤ most → NothingFailed copied
     → CopyFront Same bytes now out_before out_now most copied → Appends out_before out_now bytes
@@ -118,7 +118,7 @@ packets_whole e r (packet ∷ packets) s rest fits texts =
     let one = packet_written packet_limit e r packet s texts.0 fits texts.1 in
     All-cons IsWhole packet packets (packet_whole e r packet s texts.0 fits texts.1) (packets_whole e r packets texts.0 rest one.1 texts.2)
 
--- what the copy of packets that were read is read as
+-- The front of a copy under another header: that header, and the packets with their nanoseconds cut.
 pub copy_again : (header under : PcapHeader) (packets : List Captured) (s rest : List ℕ) → IsBytes s → CaptureFront packet_limit header packets s rest → IsWholeHeader under
     → CaptureFront packet_limit under (map (cut (resolution_of under.magic_number)) packets) (capture under packets) []
 copy_again header under packets s rest fits front whole_header =

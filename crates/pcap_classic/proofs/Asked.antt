@@ -1,4 +1,4 @@
--- What was taken is no more than a grammar asks for.
+-- Nothing is taken beyond what the grammar requests.
 use Rattle.std.proofs.Common.{◌≡◌, ◌<◌, ℕ, List, length, take, arith, inl, inr}
 use Rattle.std.proofs.lemmas.Bool.{cases_lt}
 use Rattle.std.proofs.lemmas.List.{length-take-le}
@@ -13,7 +13,7 @@ use Rattle.pcap_items.specs.Reading.{TakesAsked, TakesAtMost}
 use Rattle.pcap_items.proofs.Formats.{only}
 use Rattle.pcap_classic.proofs.Packets.{reader_lawful, reader_refuses}
 
--- under a header of no valid magic number one byte is refused
+-- Under an invalid magic number at most one byte is taken.
 pub invalid_takes_one : (limit : ℕ) (header : PcapHeader) (before after : Option (List ℕ)) → is_magic header.magic_number ≡ false
     → TakesAsked ((reader_format limit header).says tt) before after → TakesAtMost 1 before after
 invalid_takes_one limit header before after invalid took =

@@ -1,4 +1,4 @@
--- Packets behind a header, which is the state of their format.
+-- Packets after a header, which is the state of their format.
 use Rattle.std.proofs.Common.{◌≡◌, ℕ, List, [], ◌∷◌, refl, sym, subst, ◌∙◌, arith, inl, inr}
 use Rattle.std.proofs.lemmas.List.{map-id}
 use Rattle.pcap_core.specs.declared.errors.PcapError.{PcapError}
@@ -38,14 +38,14 @@ pub texts_under : (limit : ℕ) (header : PcapHeader) (packets : List Captured) 
 texts_under limit header [] s rest texts = texts
 texts_under limit header (packet ∷ packets) s rest texts = (texts.0, texts.1, texts_under limit header packets texts.0 rest texts.2)
 
--- the front of a capture, by its header as a state
+-- The front of a capture, with its header as a state.
 pub front_under : (limit : ℕ) (header : PcapHeader) (packets : List Captured) (s rest : List ℕ) → Front (capture_format limit) header packets s rest → Front (format_under limit header) tt packets s rest
 front_under limit header packets s rest front = record {
   texts = texts_under limit header packets s rest front.texts;
   longest = λ packet after x. front.longest packet after (subst (λ (h : PcapHeader). (capture_format limit).says h rest (whole packet after)) (sym (state_stays limit header packets)) x);
 }
 
--- the packets of a run, and what is said of its rest
+-- The packets of a run, and the state of its rest.
 pub record RunUnder (header next : PcapHeader) (packets : List Captured) (s left : List ℕ) (ended : Ended PcapError) : Type 0 where
   pub same : header ≡ next
   pub front : Front (format_under packet_limit header) tt packets s left
@@ -64,7 +64,7 @@ run_under header next packets s left ended leads ends =
       rest = rw same (ended_rest (f.says next) left ended ends);
     }
 
--- the same requests
+-- The requests in both formats are the same.
 requests_at_under : (limit : ℕ) (header : PcapHeader) (s ns : List ℕ) → RequestsAt (capture_format limit) header s ns → RequestsAt (format_under limit header) tt s ns
 unfolding packet_format
 requests_at_under limit header s ns (head_short short is) = head_short short is

@@ -28,7 +28,7 @@ chosen_true : (b : Bool) (f g : Format (Unit {0}) Captured) → b ≡ true → (
 chosen_true true f g e P p = p
 chosen_true false f g e P p = absurd cc
 
--- under a valid magic number a reader reads packets
+-- Under a valid magic number a reader reads packets.
 pub under_valid : (limit : ℕ) (header : PcapHeader) → is_magic header.magic_number ≡ true → (P : Format (Unit {0}) Captured → Type 0) → P (reader_format limit header) → P (format_under limit header)
 unfolding reader_format
 under_valid limit header valid P p = chosen_true (is_magic header.magic_number) (format_under limit header) _ valid P p
@@ -43,21 +43,21 @@ module _ (limit : ℕ) (header : PcapHeader) (now : Option (List ℕ)) (failed :
     run_reads (format_under limit header) (packets_lawful limit (number_in (order_of header.magic_number)) (resolution_of header.magic_number)) tt rest now failed most vs fault items,
   )
 
-  -- and what they are of bytes that are known
+  -- If the bytes are known, the packets are those of their front.
   pub packets_read : (known after : Option (List ℕ)) → Takes HeaderSays known after header → TakesItems (format_under limit header) tt after now failed most vs fault
       → IfSome known (λ bytes. (rest : List ℕ) × HeaderText header bytes rest × ReadsFront (format_under limit header) tt rest most vs fault failed)
   packets_read None after took items = tt
   packets_read (Some bytes) after took items = packets_known bytes after took items
 
 module _ {T : Type 0} (remaining : T → Option (List ℕ)) (most : ℕ) (stream : T) (old now : PcapReader T) (opened : OpensReader remaining stream (Ok old)) where
-  -- one call of a reader's next
+  -- The result of one call of a reader's `next`.
   abbrev pub GivesPacket : PcapReader T → Option (Result Packet PcapError) → PcapReader T → Type 0
   GivesPacket a r b =
       (b.header ≡ a.header)
       × NextGives ((reader_format packet_limit a.header).says tt) content_of (remaining (stream_of a)) (remaining (stream_of b)) (is_done a) (is_done b) (has_failed a) (has_failed b) r
       × IfSome r (λ given. IfOk given (λ packet. IsOwned packet.data_)) × (data_of b ≡ data_of a)
 
-  -- the packets that a new reader gave
+  -- The packets that a new reader returned.
   pub packets_given : (packets : List Packet) (fault : Option PcapError) → GivesItems GivesPacket (λ refused e. e ≡ OutOfMemory refused) old now most packets fault
       → TakesItems (format_under packet_limit old.header) tt (remaining (stream_of old)) (remaining (stream_of now)) (has_failed now) most (map content_of packets) fault
       × (now.header ≡ old.header) × All (λ packet. IsOwned packet.data_) packets

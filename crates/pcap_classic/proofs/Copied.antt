@@ -1,4 +1,4 @@
--- Packets that are copied, one after another.
+-- Packets that are copied one after another.
 use Rattle.std.proofs.Common.{◌≡◌, ℕ, List, [], ◌∷◌, ◌++◌, refl, sym, ◌∙◌, subst, true, Some, None, inl, inr}
 use Rattle.std.specs.Prelude.{Option, IfSome}
 use Rattle.std.specs.List.{flat_map}
@@ -29,7 +29,7 @@ use Rattle.pcap_items.proofs.Taking.{ends_front, taken_known}
 pub lawful_under : (header : PcapHeader) → IsLawful (format_under packet_limit header)
 lawful_under header = packets_lawful packet_limit (number_in (order_of header.magic_number)) (resolution_of header.magic_number)
 
--- a copy of a header and packets
+-- The copy of a header and packets.
 pub copies_run : (under : Under) (before behind now out_before out_behind out_now : Option (List ℕ)) (header out : PcapHeader) (most : ℕ) (opened tally : Tally) (fault : Option PcapError)
     → OpensCopy under before behind out_before out_behind header out opened → CopiesBehind (written_under out) header behind now out_behind out_now most (copied_of tally fault)
     → CopyRun under before now out_before out_now most (copied_of tally fault)
@@ -44,12 +44,12 @@ copies_run under before behind now out_before out_behind out_now header out most
       packets = subst (λ (h : PcapHeader). CopiesBehind (written_under h) header behind now out_behind out_now most (copied_of tally fault)) opens.asked run;
     })))
 
--- a copy that did not begin
+-- A copy that did not begin.
 pub not_begun : (under : Under) (before now out_before out_now : Option (List ℕ)) (most : ℕ) (copied : Copied) → Copies ⊥ under before now out_before out_now copied → CopyRun under before now out_before out_now most copied
 not_begun under before now out_before out_now most copied why =
     elim why [ inl given ↦ inl given | inr read ↦ elim read [ inl refused ↦ inr (inl refused) | inr went ↦ elim went [ inl tear ↦ inr (inr (inl tear)) | inr none ↦ absurd none ] ] ]
 
--- the packet that a write tore is the next one of the front
+-- The packet that a failed write tore is the next one of the front.
 tore_next : (text : Captured → List ℕ) (header : PcapHeader) (more : List Captured) (left rest : List ℕ) (now mid out_now : Option (List ℕ)) (most : ℕ) (copied : Copied)
     → Front (format_under packet_limit header) tt more left rest → copied.write_failed ≡ true → Ends text header (Some left) now mid out_now most copied
     → (packet : Captured) × (others : List Captured) × (more ≡ packet ∷ others) × Takes (PacketIsSaid header) (Some left) now packet
@@ -111,7 +111,7 @@ run_known under bytes now out_before out_now most copied run =
       ]
     ]
 
--- a copy from a reader that tells its bytes is one of their front
+-- A copy from a reader whose bytes are known is a copy of their front.
 pub run_copies : (under : Under) (before now out_before out_now : Option (List ℕ)) (most : ℕ) (copied : Copied)
     → CopyRun under before now out_before out_now most copied → IfSome before (λ bytes. CopyFront under bytes now out_before out_now most copied)
 run_copies under None now out_before out_now most copied run = tt

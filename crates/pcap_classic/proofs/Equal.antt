@@ -1,4 +1,4 @@
--- What `==` answers at headers.
+-- The results of `==` on headers.
 use Rattle.std.proofs.Common.{◌≡◌, Bool, true, false, ℕ, ℤ, refl}
 use Rattle.std.specs.Prelude.{◌&&◌, nat_eq}
 use Rattle.std.specs.Ordering.{int_eq, on}
@@ -22,7 +22,7 @@ second_true false b e = absurd cc
 int_same : (x y : ℤ) → int_eq x y ≡ true → x ≡ y
 int_same x y e = (Decides-int_eq x y).0 e
 
--- whether two headers have the same fields
+-- Two headers have the same fields.
 abbrev pub same_header : PcapHeader → PcapHeader → Bool
 same_header p q =
     nat_eq p.magic_number q.magic_number && (nat_eq p.version_major q.version_major && (nat_eq p.version_minor q.version_minor

@@ -1,4 +1,4 @@
--- Runs over a capture that is shown as it is asked for.
+-- Runs over a capture that is shown exactly as requested.
 use Rattle.std.proofs.Common.{◌≡◌, ◌≤◌, ◌+◌, ◌-◌, ℕ, List, [], ◌∷◌, ◌++◌, length, take, drop, map, refl, sym, subst, ◌∙◌, arith, append_assoc, length-drop}
 use Rattle.std.proofs.lemmas.List.{length-take-le, length-map, map-id, take-append-drop}
 use Rattle.std.proofs.Math.Nat.{min-le_left, min-le_right}
@@ -28,7 +28,7 @@ use Rattle.pcap_classic.proofs.HeadedPackets.{packets_lawful}
 use Rattle.pcap_classic.proofs.Stable.{header_stable}
 use Rattle.pcap_classic.proofs.Texts.{header_length, packet_length}
 
--- a first request that is met
+-- A first request that is met.
 pub first_shown : (k shown before left : ℕ) → before ≡ 0 → k ≡ min 24 (left - before) → shown ≡ before + k → 24 ≤ k → (shown ≡ 24) × (24 ≤ left)
 first_shown k shown before left none is sum met =
     let most : k ≤ 24 = omega (arith, is, min-le_left 24 (left - before)) in
@@ -38,7 +38,7 @@ first_shown k shown before left none is sum met =
 fault_all : (bytes : List ℕ) (fault : Fault) → HasHeaderFault (take 24 bytes) fault → HasHeaderFault bytes fault
 fault_all bytes fault x = subst (λ (t : List ℕ). HasHeaderFault t fault) (take-append-drop 24 bytes) (header_stable.fault (take 24 bytes) (drop 24 bytes) fault x)
 
--- what refuses the first bytes refuses all of them
+-- A refusal of the first 24 bytes is a refusal of all bytes.
 pub header_refuses : (MayGrow : Type 0) (bytes : List ℕ) → 24 ≤ length bytes → (e : PcapError) → Refuses ⊥ (LacksHeader (take 24 bytes)) (HasHeaderFault (take 24 bytes)) e
     → Refuses MayGrow (LacksHeader bytes) (HasHeaderFault bytes) e
 header_refuses MayGrow bytes long (errors.IncompleteBuffer n) x = absurd (omega (arith, x.some, x.missing, length-take-le 24 bytes long))
@@ -49,14 +49,14 @@ header_refuses MayGrow bytes long (errors.FromUtf8Error e) x = absurd x
 header_refuses MayGrow bytes long (errors.OutOfMemory e) x = absurd x
 header_refuses MayGrow bytes long errors.WriterFailed x = absurd x
 
--- and so is a header
+-- A header of the first 24 bytes is the header of all bytes.
 pub header_all : (header : PcapHeader) (bytes rest : List ℕ) → 24 ≤ length bytes → HeaderText header (take 24 bytes) rest → HeaderText header bytes (drop 24 bytes)
 header_all header bytes rest long text =
     let none : rest ≡ [] = nil_of_length rest (omega (arith, header_length header (take 24 bytes) rest text, length-take-le 24 bytes long)) in
     let alone : HeaderText header (take 24 bytes) [] = subst (λ (t : List ℕ). HeaderText header (take 24 bytes) t) none text in
     subst (λ (t : List ℕ). HeaderText header t (drop 24 bytes)) (take-append-drop 24 bytes) (header_stable.text (take 24 bytes) (drop 24 bytes) [] header alone)
 
--- a run whose requests were counted
+-- A run whose requests were counted.
 pub exact_is : (run : PcapRun) (ended : Ended PcapError) (header : PcapHeader) (bytes earlier now : List ℕ) (count : ℕ) → HeaderText header bytes (drop 24 bytes) → run.rest ≡ rest_of ended
     → ExactItems (capture_format packet_limit) (λ packet. packet) ShowsFault header run.header (map content_of run.packets.items) bytes 24 run.used ended (earlier ++ 24 ∷ []) now 1 count
     → IsExact run count bytes earlier now
@@ -80,7 +80,7 @@ exact_is run ended header bytes earlier now count text rest x =
       few = omega (arith, exact_few x, length-map run.packets.items content_of);
     }
 
--- a packet is asked for by its head and its data
+-- The requests for a packet are its head and its data.
 pub packet_asks : (limit : ℕ) (order : Order) (r : TsResolution) (packet : Captured) (s rest ns : List ℕ) → PacketText limit order r packet s rest
     → RequestsAt (packet_format limit order r) tt s ns → HeadThenRest 16 (16 + length packet.bytes) ns
 unfolding packet_format
@@ -91,7 +91,7 @@ packet_asks limit order r packet s rest ns text asked =
     let count : length o.0 ≡ 16 + length packet.bytes = omega (arith, packet_length order limit r packet o.0 [] o.2) in
     subst (λ (n : ℕ). HeadThenRest 16 n ns) count (item_asks f laws tt s ns packet o.0 rest o.1 o.2 asked)
 
--- memory was wanted for a packet
+-- If a run needed memory for a packet, the capture has a packet.
 pub has_packet : (header : PcapHeader) (bytes rest : List ℕ) → HeaderText header bytes rest → GrowsIn (capture_format packet_limit) (λ _ _. ⊥) header rest → HasPacket bytes
 has_packet header bytes rest text grown =
     let some = grows_some (capture_format packet_limit) (capture_lawful packet_limit) header rest grown in

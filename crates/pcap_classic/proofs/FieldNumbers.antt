@@ -1,4 +1,4 @@
--- The head of a packet's record, and the fields after a magic number, are numbers one after the other.
+-- The head of a packet record, and the fields after a magic number, as sequences of numbers.
 use Rattle.std.proofs.Common.{◌≡◌, ℕ, ◌+◌, List, [], ◌∷◌, length, refl, sym, ap, subst, ◌∙◌}
 use Rattle.std.specs.Prelude.{ℤ}
 use Rattle.std.specs.Int.{w32, cast_signed}
@@ -10,7 +10,7 @@ use Rattle.pcap_classic.specs.PacketText.{Head, RecordHeadText}
 use Rattle.pcap_core.proofs.Links.{plain_same, link_of}
 use Rattle.pcap_core.proofs.Numbers.{Values, Numbers, numbers_same, numbers_length}
 
--- seconds, fraction, included and original length
+-- The widths of seconds, fraction, included and original length.
 abbrev pub head_widths : List ℕ
 head_widths = 4 ∷ 4 ∷ 4 ∷ 4 ∷ []
 
@@ -20,7 +20,7 @@ head_with ns = record { seconds = ns.0; fraction = ns.1.0; included = ns.1.1.0; 
 abbrev head_numbers : Head → Values head_widths
 head_numbers head = (head.seconds, (head.fraction, (head.included, (head.original, tt))))
 
--- version, correction, accuracy, snaplen and link type
+-- The widths of version, correction, accuracy, snaplen and link type.
 abbrev pub field_widths : List ℕ
 field_widths = 2 ∷ 2 ∷ 4 ∷ 4 ∷ 4 ∷ 4 ∷ []
 
@@ -35,7 +35,7 @@ header_with magic ns = record {
   datalink = (link_of ns.1.1.1.1.1.0).0;
 }
 
--- a header with another correction and link type
+-- The header with another correction and link type.
 abbrev with_link : PcapHeader → ℤ → DataLink → PcapHeader
 with_link header correction link = record {
   magic_number = header.magic_number;
@@ -99,7 +99,7 @@ module _ (order : Order) where
         link_is = (link_of ns.1.1.1.1.1.0).1;
       }
 
-  -- a header is what its numbers make of it
+  -- A header is determined by its numbers.
   header_made : (header : PcapHeader) (s rest : List ℕ) (h : FieldsText order header s rest) → header ≡ header_with header.magic_number (field_numbers header s rest h)
   unfolding field_numbers
   header_made header s rest h =

@@ -1,4 +1,4 @@
--- Of all bytes exactly one thing is said.
+-- For all bytes there is exactly one verdict.
 use Rattle.std.proofs.Common.{◌≡◌, ℕ, ◌-◌, Bool, true, false, cond, List, length, Option, Some, None, refl, sym, ap, ◌∙◌, arith, inl, inr}
 use Rattle.std.specs.Prelude.{◌⊎◌, nat_lt, ℤ}
 use Rattle.std.proofs.lemmas.Bool.{cases_lt, ltb-false}
@@ -47,7 +47,7 @@ none_is_good limit r head e =
     let f = not_chosen (nat_lt head.original head.included) (Invalid IncludedPastOriginal) None d.1 in
     record { fraction = ltb-false _ _ a.0; included = ltb-false _ _ f.0; original = ltb-false _ _ d.0 }
 
--- ---- nothing else is
+-- ---- no two verdicts hold at once
 
 lacks_head_no_head : (order : ℕ → List ℕ → ℕ) (s : List ℕ) (n : ℕ) (head : Head) (rest : List ℕ) → LacksHead s n → RecordHeadText order head s rest → ⊥
 lacks_head_no_head order s n head rest p text = omega (arith, p.missing, p.some, head_length order head s rest text)

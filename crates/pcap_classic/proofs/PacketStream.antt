@@ -1,4 +1,4 @@
--- A packet off a stream is its header and then its data.
+-- A packet from a stream is its header and then its data.
 use Rattle.std.proofs.Common.{◌≡◌, ℕ, List, [], ◌++◌, length, Bool, sym, append-nil, Err, Some, None, ◌⊎◌, inl, inr, arith}
 use Rattle.std.specs.Prelude.{⊤, Option, IfSome}
 use Rattle.std.specs.Io.KnownBytes.{Consumes}
@@ -39,7 +39,7 @@ module _ (limit : ℕ) (order : Order) (r : TsResolution) where
   shown_more None fault shown = tt
   shown_more (Some rest) fault shown = elim shown [ inl stands ↦ inl stands | inr early ↦ inr (early_more rest fault early) ]
 
-  -- what refuses a packet's header refuses the packet
+  -- An error of a packet's header is an error of the packet.
   pub header_refuses_packet : (e : PcapError) (before after : Option (List ℕ)) → Reads (PacketHeaderSays limit order r) (λ (header : PacketHeader). header) before after (Err e)
       → ReadsWhere ⊤ (PacketSays limit order r) content_of before after (Err e)
   header_refuses_packet e before after why = (
@@ -58,7 +58,7 @@ module _ (limit : ℕ) (order : Order) (r : TsResolution) where
     ],
   )
 
-  -- the header was taken, and of the data less than it states
+  -- The header was taken, and less data than it states.
   data_asked : (header : PacketHeader) (t : List ℕ) (before mid after : Option (List ℕ)) → PacketHeaderText limit order r header t [] → Consumes before mid t
       → TakesFewer header.incl_len mid after → TakesAsked (PacketSays limit order r) before after
   unfolding packet_format
@@ -72,7 +72,7 @@ module _ (limit : ℕ) (order : Order) (r : TsResolution) where
         asked = asked_more (packet_format limit order r) (packets_lawful limit order r) tt header.incl_len t part.0 ask (omega (arith, part.2)) short;
       }
 
-  -- the data did not come
+  -- The data did not come.
   pub data_refuses_packet : (e : PcapError) (header : PacketHeader) (t : List ℕ) (before mid after : Option (List ℕ)) (old new : Bool) → PacketHeaderText limit order r header t [] → Consumes before mid t
       → TakesFewer header.incl_len mid after → HasCauseToTake header.incl_len mid old new e → ReadsWhere ⊤ (PacketSays limit order r) content_of before after (Err e)
   data_refuses_packet e header t before mid after old new text came part cause = (

@@ -17,7 +17,7 @@ use Rattle.pcap_classic.proofs.One.{header_same}
 use Rattle.pcap_classic.proofs.HeadedPackets.{packets_lawful}
 use Rattle.pcap_items.proofs.Formats.{front_extends}
 
--- what the calls on slices say is what the format says
+-- The verdicts of the calls on slices are those of the format.
 pub packets_say : (limit : ℕ) (order : ℕ → List ℕ → ℕ) (r : TsResolution) (q : Unit {0}) (s : List ℕ) (v : Verdict Captured) → PacketSays limit order r s v → (packet_format limit order r).says q s v
 unfolding packet_format
 packets_say limit order r q s v x = x
@@ -45,7 +45,7 @@ packets_extend limit larger order r le = record {
   goes = λ q packet. refl;
 }
 
--- the same front, behind a header that is the same
+-- The front after an equal header is the same.
 pub under_same : (limit : ℕ) (h k : PcapHeader) (ps : List Captured) (s t rest : List ℕ) → h ≡ k → s ≡ t → Front (format_under limit h) tt ps s rest → Front (format_under limit k) tt ps t rest
 under_same limit h k ps s t rest header bytes x =
     let one : Front (format_under limit k) tt ps s rest = subst (λ (z : PcapHeader). Front (format_under limit z) tt ps s rest) header x in
@@ -61,7 +61,7 @@ larger_keeps limit larger h k ps qs s a b le x y =
     let on = front_extends (packet_format limit order r) (packet_format larger order r) (packets_lawful larger order r) (packets_extend limit larger order r le) tt ps qs y.after a b front y.front in
     (e.0, on.0, on.1)
 
--- ---- under a header of no valid magic number
+-- ---- under an invalid magic number
 
 refusing_only : (s : List ℕ) (v w : Verdict Captured) → RefusingSays s v → RefusingSays s w → v ≡ w
 refusing_only s (lacks n) (lacks m) x y = let e : n ≡ m = x.1 ∙ sym y.1 in rw e refl
@@ -111,7 +111,7 @@ chosen_says : (b : Bool) (f g : Format (Unit {0}) Captured) (s : List ℕ) (v : 
 chosen_says true f g s v e x = x
 chosen_says false f g s v e x = absurd cc
 
--- under a valid magic number a reader reads packets
+-- Under a valid magic number a reader reads packets.
 pub reader_says : (limit : ℕ) (header : PcapHeader) (s : List ℕ) (v : Verdict Captured) → is_magic header.magic_number ≡ true
     → PacketSays limit (number_in (order_of header.magic_number)) (resolution_of header.magic_number) s v → (reader_format limit header).says tt s v
 unfolding reader_format
@@ -123,7 +123,7 @@ chosen_refuses : (b : Bool) (f g : Format (Unit {0}) Captured) (s : List ℕ) (v
 chosen_refuses false f g s v e x = x
 chosen_refuses true f g s v e x = absurd cc
 
--- under any other it refuses the magic number where a byte is there
+-- Under an invalid magic number a reader refuses the first byte.
 pub reader_refuses : (limit : ℕ) (header : PcapHeader) (s : List ℕ) → is_magic header.magic_number ≡ false → 0 < length s → (reader_format limit header).says tt s (faulty (Invalid CaptureMagic))
 unfolding reader_format refusing_format
 reader_refuses limit header s invalid some =
@@ -134,7 +134,7 @@ unfolding refusing_format
 chosen_whole true f s rest packet x = (refl, x)
 chosen_whole false f s rest packet x = absurd x
 
--- what it gives was read under a valid magic number, and is a packet's text
+-- A packet that a reader returns was read under a valid magic number, and has a packet's text.
 pub reader_whole : (limit : ℕ) (header : PcapHeader) (s rest : List ℕ) (packet : Captured) → (reader_format limit header).says tt s (whole packet rest)
     → (is_magic header.magic_number ≡ true) × (format_under limit header).says tt s (whole packet rest)
 unfolding reader_format

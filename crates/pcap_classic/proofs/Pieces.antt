@@ -21,7 +21,7 @@ use Rattle.pcap_classic.proofs.One.{header_one}
 use Rattle.pcap_classic.proofs.OneFront.{front_one}
 use Rattle.pcap_classic.proofs.Stable.{header_stable}
 
--- ---- what opens a capture
+-- ---- the opening of a capture
 
 Behind : List ℕ → List ℕ → Type 0
 Behind s after = (t : List ℕ) × (s ≡ t ++ after)
@@ -55,7 +55,7 @@ pub holds_packets : (s : List ℕ) (n : ℕ) → HoldsItems HeaderSays (capture_
 holds_packets s n (inl x) = inl (x.0, x.2, x.3, record { after = x.1; header_text = x.4; front = front_under packet_limit x.0 x.2 x.1 x.3 x.5 }, x.6)
 holds_packets s n (inr x) = inr x
 
--- a run over all pieces
+-- A run over all pieces.
 pub fed_run : (s : List ℕ) (parser : PcapParser) (run : PcapRun) → IsFedUpTo HeaderSays (capture_format packet_limit) (λ packet. packet) (header_of parser) s run.rest run.used (map content_of run.packets.items)
     → run.header ≡ header_of parser → IsRun run s
 fed_run s parser run x same =
@@ -78,7 +78,7 @@ fed_run s parser run x same =
       rest = rest;
     }
 
--- the number of packets that bytes hold is one
+-- The number of packets that bytes hold is uniquely determined.
 pub packets_held_same : (s : List ℕ) (n m : ℕ) → HoldsPackets s n → HoldsPackets s m → n ≡ m
 packets_held_same s n m (inl x) (inl y) =
     let same = front_one packet_limit x.0 y.0 x.1 y.1 s x.2 y.2 x.3 y.3 in

@@ -1,4 +1,4 @@
--- What is written is read again.
+-- A written packet is read again.
 use Rattle.std.proofs.Common.{◌≡◌, ℕ, ◌<◌, ◌≤◌, ◌^◌, List, ◌++◌, refl, append_assoc, arith}
 use Rattle.pcap_core.specs.declared.common.Endianness.{Endianness}
 use Rattle.pcap_classic.specs.declared.common.TsResolution.{TsResolution}

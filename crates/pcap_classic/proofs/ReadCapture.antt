@@ -1,4 +1,4 @@
--- A capture that is written is read again.
+-- A written capture is read again.
 use Rattle.std.proofs.Common.{◌≡◌, ℕ, ℤ, ◌<◌, ◌^◌, List, [], ◌∷◌, ◌++◌, refl, sym, subst, append_assoc, arith}
 use Rattle.std.specs.Prelude.{All, map, FitsSigned}
 use Rattle.std.specs.List.{flat_map}

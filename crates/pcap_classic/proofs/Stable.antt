@@ -1,4 +1,4 @@
--- More bytes change no answer, but a request by their number.
+-- More bytes change no verdict, except that they reduce a request by their number.
 use Rattle.std.proofs.Common.{ℕ, ◌-◌, ◌<◌, List, ◌++◌, length, ap, ◌∙◌, append_assoc, arith}
 use Rattle.std.proofs.lemmas.List.{length-append}
 use Rattle.byteorder.specs.Endian.{big_number}

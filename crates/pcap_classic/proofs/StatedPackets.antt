@@ -1,4 +1,4 @@
--- What a packet's header states.
+-- A packet's header states the length of its data.
 use Rattle.std.proofs.Common.{◌≡◌, ◌<◌, ◌≤◌, ℕ, List, [], ◌++◌, length, drop, Bool, true, false, refl, sym, ap, subst, ◌∙◌, arith, append-nil, inr, Option, Result, Ok, Err, Some, None}
 use Rattle.std.proofs.lemmas.List.{drop_at}
 use Rattle.pcap_core.specs.declared.errors.PcapError.{PcapError}
@@ -19,7 +19,7 @@ use Rattle.pcap_classic.proofs.Stable.{packet_header_more}
 use Rattle.pcap_items.specs.Filling.{Stated, FillsHeaded, TakesStated}
 use Rattle.pcap_classic.specs.StatedPackets.{KnowsHeader, held_packet}
 
--- what a kind says of a magic number
+-- The facts that the kind of a magic number implies.
 pub kind_is : (magic : ℕ) (e : Endianness) (r : TsResolution) → kind_of magic ≡ Some (e, r) → (is_magic magic ≡ true) × (order_of magic ≡ e) × (resolution_of magic ≡ r)
 unfolding is_magic order_of resolution_of
 kind_is magic e r k = rw k (refl, refl, refl)
@@ -36,7 +36,7 @@ pub reader_head : (header : PcapHeader) → is_magic header.magic_number ≡ tru
 unfolding reader_format packet_format
 reader_head header valid = chosen_head (is_magic header.magic_number) _ _ valid
 
--- a header that is known, and the data behind it, are a packet
+-- A known header and the data after it are a packet.
 pub packet_stands : (header : PcapHeader) (head : PacketHeader) (n : ℕ) (front body s : List ℕ) → KnowsHeader header head n front → s ≡ front ++ body → length body ≡ n
     → (reader_format packet_limit header).says tt s (whole (record { header = head; bytes = body }) [])
 packet_stands header head n front body s k split count =
@@ -51,12 +51,12 @@ packet_stands header head n front body s k split count =
     } in
     reader_says packet_limit header s (whole (record { header = head; bytes = body }) []) k.valid text
 
--- a header that is known lacks its data
+-- After a known header, its data is missing.
 pub packet_lacks : (header : PcapHeader) (head : PacketHeader) (n : ℕ) (s : List ℕ) → KnowsHeader header head n s → 0 < n → (reader_format packet_limit header).says tt s (lacks n)
 packet_lacks header head n s k some =
     reader_says packet_limit header s (lacks n) k.valid (inr (record { header = head; after = []; text = k.text; some = some; missing = omega (arith, k.follows) }))
 
--- sixteen bytes that are no good header are refused
+-- 16 bytes that are not a good header are refused.
 pub header_refused : (header : PcapHeader) (s : List ℕ) (e : PcapError) → is_magic header.magic_number ≡ true → length s ≡ 16
     → Refuses ⊥ (λ n. LacksHead s n) (HasHeadFault packet_limit (number_in (order_of header.magic_number)) (resolution_of header.magic_number) s) e
     → Shows (λ fault. (reader_format packet_limit header).says tt s (faulty fault)) e
@@ -66,7 +66,7 @@ header_refused header s e valid long refuses =
     let step : (fault : Fault) → HasHeadFault packet_limit order r s fault → (reader_format packet_limit header).says tt s (faulty fault) = λ fault x. reader_says packet_limit header s (faulty fault) valid x in
     shows_more step e (refuses_shows (λ n. LacksHead s n) (HasHeadFault packet_limit order r s) e (λ n lack. omega (arith, long, lack.some, lack.missing)) refuses)
 
--- the packet that held bytes show
+-- The packet that held bytes show.
 pub shown_stands : (header : PcapHeader) (head : PacketHeader) (s : List ℕ) → Stated (KnowsHeader header) ((reader_format packet_limit header).head tt) head s
     → (reader_format packet_limit header).says tt s (whole (record { header = head; bytes = drop 16 s }) [])
 shown_stands header head s t =
@@ -75,7 +75,7 @@ shown_stands header head s t =
     subst (λ (l : List ℕ). (reader_format packet_limit header).says tt s (whole (record { header = head; bytes = l }) [])) (sym back)
     (packet_stands header head (length t.body) t.front t.body s t.knows t.split refl)
 
--- what was filled with was taken
+-- The bytes that a buffer was filled with were taken.
 pub packet_held : (header : PcapHeader) (before after : Option (List ℕ)) (held : List ℕ) (failed : Bool) (result : Result (Option PacketHeader) PcapError)
     → FillsHeaded ((reader_format packet_limit header).says tt) (KnowsHeader header) ((reader_format packet_limit header).head tt) before after held failed result
     → Pulls ((reader_format packet_limit header).says tt) (held_packet held) before after failed result
@@ -83,7 +83,7 @@ packet_held header before after held failed (Ok (Some head)) x = (x.0, (held, sh
 packet_held header before after held failed (Ok None) x = (x.0, x.2, x.3)
 packet_held header before after held failed (Err e) x = x
 
--- a header that was taken, and the data that it states, are a packet
+-- A header that was taken and the data that it states are a packet.
 pub packet_taken : (header : PcapHeader) (head : PacketHeader) (body : List ℕ) (before after : Option (List ℕ))
     → TakesStated ((reader_format packet_limit header).says tt) (KnowsHeader header) ((reader_format packet_limit header).head tt) before after head body
     → Takes ((reader_format packet_limit header).says tt) before after (record { header = head; bytes = body })
@@ -96,7 +96,7 @@ choice_within : (b : Bool) (f g : Format (Unit {0}) Captured) → f.head tt ≤ 
 choice_within true f g x y = x
 choice_within false f g x y = y
 
--- no head is longer than a packet's header
+-- No head is longer than a packet's header.
 pub head_within : (header : PcapHeader) → (reader_format packet_limit header).head tt ≤ 16
 unfolding reader_format packet_format refusing_format
 head_within header = choice_within (is_magic header.magic_number) _ _ (omega arith) (omega arith)

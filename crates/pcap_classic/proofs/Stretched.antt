@@ -1,4 +1,4 @@
--- Packets that lie one behind the other in a buffer, and go out from there.
+-- Whole packets that follow each other in a buffer, and are written directly from it.
 use Rattle.std.proofs.Common.{◌≡◌, ◌≤◌, ◌<◌, ℕ, ◌+◌, ◌-◌, List, [], ◌∷◌, ◌++◌, length, take, drop, refl, ap, sym, ◌∙◌, subst, arith, append_assoc, append-nil, length-append, take-append-drop, length-drop, Bool, Some, None, ◌⊎◌, inl, inr}
 use Rattle.std.specs.Prelude.{Option}
 use Rattle.std.proofs.lemmas.Bool.{cases_lt}
@@ -36,7 +36,7 @@ some_left : (all gone left : List ℕ) → all ≡ gone ++ left → length gone 
 some_left all gone left split longer = omega (arith, longer, ap length {x = all} {y = gone ++ left} split, length-append gone left)
 
 module _ (header : PcapHeader) where
-  -- bytes that are refused begin with no packet
+  -- Bytes that are refused begin with no packet.
   pub refused_none : (bytes : List ℕ) (e : PcapError)
       → Refuses ⊥ (λ n. PacketSays packet_limit (number_in (order_of header.magic_number)) (resolution_of header.magic_number) bytes (lacks n))
       (λ fault. PacketSays packet_limit (number_in (order_of header.magic_number)) (resolution_of header.magic_number) bytes (faulty fault)) e
@@ -48,13 +48,14 @@ module _ (header : PcapHeader) where
         | inr none ↦ nothing_no_text f (lawful_under header) tt packet after (subst (λ (s : List ℕ). PacketIsSaid header s (whole packet after)) (nil_of_length bytes (omega (arith, none))) text)
       ]
 
-  -- the rest lies in the bytes
+  -- The rest is no longer than the bytes.
   pub rest_within : (bytes rest : List ℕ) (packets : List Captured) → Texts (format_under packet_limit header) tt packets bytes rest → length rest ≤ length bytes
   rest_within bytes rest packets texts =
       let own = texts_own (format_under packet_limit header) (lawful_under header) tt packets bytes rest texts in
       omega (arith, ap length own.1, length-append own.0 rest)
 
-  -- of two rows of packets at the front of the same bytes, that which leaves fewer is longer, and goes on with a packet
+  -- If two sequences of packets begin the same bytes, the one that leaves fewer bytes is longer. The other one is followed by
+  -- a packet.
   goes_on : (ks ps : List Captured) (s mid rest : List ℕ) → Texts (format_under packet_limit header) tt ks s mid → Texts (format_under packet_limit header) tt ps s rest
       → length rest < length mid → (packet : Captured) × (after : List ℕ) × PacketIsSaid header mid (whole packet after) × (length ks < length ps)
   goes_on [] [] s mid rest x y less = absurd (omega (arith, less, ap length x, ap length y))
@@ -65,7 +66,7 @@ module _ (header : PcapHeader) where
       let more = goes_on ks ps x.0 mid rest x.2 (subst (λ (t : List ℕ). Texts (format_under packet_limit header) tt ps t rest) one.1 y.2) less in
       (more.0, more.1, more.2, omega (arith, more.3))
 
-  -- one packet more
+  -- One more packet is written.
   pub sends_more : (text : Captured → List ℕ) (bytes rest after : List ℕ) (a b c : Option (List ℕ)) (n : ℕ) (packet : Captured) → SendsWhole header text bytes rest a b n
       → PacketIsSaid header rest (whole packet after) → Appends b c (text packet) → SendsWhole header text bytes after a c (n + 1)
   sends_more text bytes rest after a b c n packet so_far next out =
@@ -78,7 +79,7 @@ module _ (header : PcapHeader) where
         out = subst (λ l. Appends a c l) (sym goes) (Appends-trans a b c (flat_map text so_far.packets) (text packet) so_far.out out);
       }
 
-  -- where one packet stands, it is the one that is taken
+  -- If the bytes begin with a packet, it is the one that is taken.
   one_taken : (middle rest after : List ℕ) (n : ℕ) (packet : Captured) (qs : List Captured) → length qs ≡ n → Texts (format_under packet_limit header) tt qs middle rest → n ≤ 1
       → (n ≡ 1) ⊎ ((p : Captured) (r : List ℕ) → PacketIsSaid header rest (whole p r) → ⊥) → PacketIsSaid header middle (whole packet after) → after ≡ rest
   one_taken middle rest after n packet [] count texts within ends text =
@@ -87,7 +88,7 @@ module _ (header : PcapHeader) where
       (text_same (format_under packet_limit header) (lawful_under header) tt packet q middle after texts.0 text texts.1).1 ∙ texts.2
   one_taken middle rest after n packet (q ∷ r ∷ qs) count texts within ends text = absurd (omega (arith, count, within))
 
-  -- all packets of a row went out
+  -- All packets of a sequence were written.
   pub all_sent : (bytes rest : List ℕ) (a b : Option (List ℕ)) (most n used : ℕ) → IsBytes bytes → (all : TakesWhole header bytes rest most n) → used + length rest ≡ length bytes
       → Appends a b (take used bytes) → SendsWhole header (written_under header) bytes rest a b n
   all_sent bytes rest a b most n used fits all count out =
@@ -103,14 +104,14 @@ module _ (header : PcapHeader) where
   unfolding packet_format
   packet_bytes s rest packet fits text = (packet_written packet_limit (order_of header.magic_number) (resolution_of header.magic_number) packet s rest fits text).0
 
-  -- held bytes that are a packet are its text, under each header with the same magic number
+  -- Held bytes that are a packet are its text, under each header with the same magic number.
   pub held_written : (out : PcapHeader) (held : List ℕ) (packet : Captured) → header.magic_number ≡ out.magic_number → IsBytes held
       → (reader_format packet_limit header).says tt held (whole packet []) → written_under out packet ≡ held
   held_written out held packet same fits says =
       let written = packet_bytes held [] packet fits (reader_whole packet_limit header held [] packet says).1 in
       ap (λ n. record_bytes (number_bytes (order_of n)) (resolution_of n) packet) (sym same) ∙ sym (append-nil (written_under header packet)) ∙ sym written
 
-  -- of a packet's text bytes are gone in which no packet is whole: what is left of it
+  -- The written bytes of a packet's text hold no whole packet, so a part of the text is left.
   torn_text : (gone back behind : List ℕ) (packet : Captured) → IsBytes (gone ++ back) → ((p : Captured) (s : List ℕ) → PacketIsSaid header gone (whole p s) → ⊥)
       → PacketIsSaid header (gone ++ back) (whole packet behind) → (left : List ℕ) × (written_under header packet ≡ gone ++ left) × (0 < length left)
   torn_text gone back behind packet fits none text =
@@ -129,7 +130,7 @@ module _ (header : PcapHeader) where
       let rest = beginning gone back bytes behind written (omega (arith, longer)) in
       (rest.0, rest.1, some_left bytes gone rest.0 rest.1 longer)
 
-  -- behind the packets of a row that are whole in what went out stands a packet, of which a part went out
+  -- After the packets that were written whole comes a packet of which a part was written.
   torn_behind : (front back begun behind after : List ℕ) (a b : Option (List ℕ)) (most k j : ℕ) (packet : Captured) → IsBytes front → IsBytes (front ++ back) → TakesWhole header front begun most k → k < most
       → Appends a b front → TakesWhole header (begun ++ back) behind 1 j → PacketIsSaid header (begun ++ back) (whole packet after) → SendsTorn header (written_under header) (front ++ back) behind a b k
   torn_behind front back begun behind after a b most k j packet front_fits fits ones fewer out one says =
@@ -152,7 +153,7 @@ module _ (header : PcapHeader) where
         out = (torn.0, torn.2, record { gone = begun; split = torn.1; out = apart.2 });
       }
 
-  -- a write failed among the packets of a row, behind so many bytes: those that went out whole, and the next, which is torn
+  -- A write failed within a sequence of packets, after `gone` bytes: the packets that were written whole, and the next, which is torn.
   pub torn_sent : (bytes rest begun behind : List ℕ) (a b : Option (List ℕ)) (most n k j used gone : ℕ) → IsBytes bytes → TakesWhole header bytes rest most n → used + length rest ≡ length bytes
       → gone < used → Appends a b (take gone bytes) → TakesWhole header (take gone bytes) begun most k → TakesWhole header (drop (gone - length begun) bytes) behind 1 j
       → SendsTorn header (written_under header) bytes behind a b k × (k < most)
@@ -187,7 +188,7 @@ module _ (header : PcapHeader) where
       rest_within bytes rest (torn.whole_ones.packets ++ torn.packet ∷ []) (texts_push (format_under packet_limit header) tt torn.whole_ones.packets torn.packet bytes torn.middle rest torn.whole_ones.texts torn.next)
 
   module _ (out : PcapHeader) (shown rest : List ℕ) (p q : Option (List ℕ)) (n used : ℕ) (count : used + length rest ≡ length shown) where
-    -- what went out whole, as the front of the buffer
+    -- The packets that were written whole, as the front of the buffer.
     whole_shown : SendsWhole header (written_under out) shown rest p q n → core.SendsWhole (format_under packet_limit header) (each_written (written_under out)) tt (take used shown) p q n
     whole_shown sent =
         let f = format_under packet_limit header in
@@ -200,7 +201,7 @@ module _ (header : PcapHeader) where
           out = sent.out;
         }
 
-    -- and so the packet that was torn
+    -- The packet that was torn, as the next one of the buffer.
     torn_shown : SendsTorn header (written_under out) shown rest p q n → core.SendsTorn (format_under packet_limit header) (each_written (written_under out)) tt (take used shown) p q n
     torn_shown sent =
         let f = format_under packet_limit header in

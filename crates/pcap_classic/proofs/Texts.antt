@@ -1,4 +1,4 @@
--- What a text says is said once: no two values have texts that begin the same bytes.
+-- A text has one value: no two values have texts that begin the same bytes.
 use Rattle.std.proofs.Common.{◌≡◌, ℕ, ◌+◌, List, length, false, None, refl, sym, ap, ◌∙◌, arith}
 use Rattle.std.specs.Prelude.{nat_lt}
 use Rattle.std.proofs.lemmas.List.{length-append}
@@ -14,7 +14,7 @@ use Rattle.pcap_classic.specs.PacketText.{Head, IsGood, head_fault, spelled_head
 use Rattle.pcap_core.proofs.Texts.{number_length}
 use Rattle.pcap_classic.proofs.FieldNumbers.{head_same, head_length, fields_length}
 
--- a good head has no fault
+-- A good head has no fault.
 pub good_has_none : (limit : ℕ) (r : TsResolution) (head : Head) → IsGood limit r head → head_fault limit r head ≡ None
 good_has_none limit r head good =
     let a : nat_lt 4294967295 (nanoseconds r head.fraction) ≡ false = le-ltb _ _ good.fraction in

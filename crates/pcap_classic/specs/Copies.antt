@@ -1,4 +1,4 @@
--- What a copy takes and writes.
+-- The bytes that a copy of a classic capture takes from its reader and writes to its writer.
 use Rattle.std.specs.Prelude.{◌≡◌, ◌≤◌, ◌⊎◌, ℕ, List, [], ◌∷◌, ◌++◌, length, IsTrue, true, false, Option, None, Some, IfSome, Result, Ok, Err}
 use Rattle.std.specs.Option.{IsSomeAnd}
 use Rattle.std.specs.Io.KnownBytes.{Appends, Keeps}
@@ -28,31 +28,31 @@ use Rattle.pcap_classic.specs.Writing.{IsWritable}
 use Rattle.pcap_items.specs.Writing.{AppendsPart, WritesAll}
 use Rattle.pcap_classic.specs.Written.{written_header, written_under, capture}
 
--- the header that a copy is written under, from the one that was read
+-- The header under which a copy is written, from the header that was read.
 abbrev pub header_under : Under → PcapHeader → PcapHeader
 header_under Same read = read
 header_under (Header header) read = header
 header_under (Order e r) read = record read { magic_number = magic_for e r }
 
--- the header that is given, if one is, has one of the four magic numbers
+-- The given header, if there is one, has one of the four magic numbers.
 abbrev pub CanBeUnder : Under → Type 0
 CanBeUnder Same = Unit {0}
 CanBeUnder (Header header) = IsWritable header
 CanBeUnder (Order e r) = Unit {0}
 
--- what a grammar says of packets behind this header
+-- The grammar's verdict on the packet at the front of bytes after this header.
 abbrev pub PacketIsSaid : PcapHeader → List ℕ → Verdict Captured → Type 0
 PacketIsSaid header = (format_under packet_limit header).says tt
 
--- a copy that came so far, and ended with this fault, or none
+-- The result of a copy with this tally and this fault, or none.
 abbrev pub copied_of : Tally → Option PcapError → Copied
 copied_of tally fault = record { packets = tally.items; fault = fault; read_failed = tally.read_failed; write_failed = tally.write_failed }
 
--- the item that the held bytes are was written, or a write failed
+-- The held bytes are an item, and its text was written, or a write failed.
 abbrev pub WritesHeld : {V : Type 0} → (List ℕ → Verdict V → Type 0) → (V → List ℕ) → List ℕ → Option (List ℕ) → Option (List ℕ) → Result (Unit {0}) PcapError → Type 0
 WritesHeld {V = V} IsSaid text held out_before out_now result = (v : V) × IsSaid held (whole v []) × WritesAll out_before out_now (text v) result
 
--- The header that is given is refused: nothing was taken, and nothing went out.
+-- The given header is refused: nothing was taken, and nothing was written.
 pub record RefusesUnder (under : Under) (before now out_before out_now : Option (List ℕ)) (copied : Copied) : Type 0 where
   pub invalid : CanBeUnder under → ⊥
   pub refused : IsSomeAnd copied.fault (Names CaptureMagic)
@@ -62,7 +62,7 @@ pub record RefusesUnder (under : Under) (before now out_before out_now : Option 
   pub taken : Keeps before now
   pub out : Keeps out_before out_now
 
--- The reader's header is refused: nothing went out.
+-- The reader's header is refused: nothing was written.
 pub record RefusesHeader (under : Under) (before now out_before out_now : Option (List ℕ)) (copied : Copied) : Type 0 where
   pub valid : CanBeUnder under
   pub refused : IsSomeAnd copied.fault (λ e. ReadsTold HeaderSays (λ (header : PcapHeader). header) before now copied.read_failed (Err e))
@@ -81,17 +81,17 @@ pub record TearsHeader (under : Under) (before now out_before out_now : Option (
   pub write_failed : copied.write_failed ≡ true
   pub out : AppendsPart out_before out_now (written_header (header_under under header))
 
--- why a copy of packets behind a header ended, of each of which such a text is written
+-- Why a copy of the packets after a header ended, where `text` is what is written for each packet.
 abbrev pub Ends : (Captured → List ℕ) → PcapHeader → Option (List ℕ) → Option (List ℕ) → Option (List ℕ) → Option (List ℕ) → ℕ → Copied → Type 0
 Ends text header left now mid out_now most copied =
     core.Ends (each_written text) (PacketIsSaid header) left now mid out_now most copied.packets copied.fault copied.read_failed copied.write_failed
 
--- such packets were copied, until the copy ended
+-- The packets after a header were copied, `text` for each, until the copy ended.
 abbrev pub CopiesBehind : (Captured → List ℕ) → PcapHeader → Option (List ℕ) → Option (List ℕ) → Option (List ℕ) → Option (List ℕ) → ℕ → Copied → Type 0
 CopiesBehind text header before now out_before out_now most copied =
     core.CopiesBehind (format_under packet_limit header) (each_written text) tt before now out_before out_now most copied.packets copied.fault copied.read_failed copied.write_failed
 
--- The header was taken and went out, and then packets.
+-- The header was taken and written, and then packets were copied.
 pub record CopiesPackets (under : Under) (before now out_before out_now : Option (List ℕ)) (most : ℕ) (copied : Copied) : Type 0 where
   pub header : PcapHeader
   pub behind : Option (List ℕ)
@@ -101,7 +101,8 @@ pub record CopiesPackets (under : Under) (before now out_before out_now : Option
   pub out : Appends out_before out_behind (written_header (header_under under header))
   pub packets : CopiesBehind (written_under (header_under under header)) header behind now out_behind out_now most copied
 
--- One copy: the header that is given is refused, or the reader's, or a write failed in the header's text, or packets were copied.
+-- A copy ends in one of four ways: it refuses the given header, or the reader's; a write fails in the header's text; or it copies
+-- packets.
 abbrev pub Copies : Type 0 → Under → Option (List ℕ) → Option (List ℕ) → Option (List ℕ) → Option (List ℕ) → Copied → Type 0
 Copies CopiesThem under before now out_before out_now copied =
     RefusesUnder under before now out_before out_now copied
@@ -109,7 +110,7 @@ Copies CopiesThem under before now out_before out_now copied =
     ⊎ TearsHeader under before now out_before out_now copied
     ⊎ CopiesThem
 
--- The header was taken, and went out as it is asked for.
+-- The header was taken, and written as `under` demands.
 pub record OpensCopy (under : Under) (before now out_before out_now : Option (List ℕ)) (header out : PcapHeader) (tally : Tally) : Type 0 where
   pub valid : CanBeUnder under
   pub read : Takes HeaderSays before now header
@@ -119,23 +120,22 @@ pub record OpensCopy (under : Under) (before now out_before out_now : Option (Li
   pub magic_out : IsTrue (is_magic out.magic_number)
   pub new : NothingCopied tally
 
--- The beginning of a copy: what stands ahead of it, or why it ends there.
+-- The result of beginning a copy: the packets still to be copied, or why the copy ended there.
 abbrev pub BeginsCopy : Under → Option (List ℕ) → Option (List ℕ) → Option (List ℕ) → Option (List ℕ) → Tally → Result (PacketsAhead UnderHeader) PcapError → Type 0
 BeginsCopy under before now out_before out_now tally (Ok ahead) = OpensCopy under before now out_before out_now ahead.header ahead.puts.out tally
 BeginsCopy under before now out_before out_now tally (Err e) = Copies ⊥ under before now out_before out_now (copied_of tally (Some e))
 
--- What holds whether or not a stream tells its bytes.
+-- The facts about a copy, whether or not the reader's bytes are known.
 abbrev pub CopyRun : Under → Option (List ℕ) → Option (List ℕ) → Option (List ℕ) → Option (List ℕ) → ℕ → Copied → Type 0
 CopyRun under before now out_before out_now most copied = Copies (CopiesPackets under before now out_before out_now most copied) under before now out_before out_now copied
 
--- s is a header's text, the texts of packets, and then left
+-- s is a header's text, the texts of packets, and then left.
 abbrev pub CaptureTexts : PcapHeader → List Captured → List ℕ → List ℕ → Type 0
 CaptureTexts header packets s left = (after : List ℕ) × HeaderText header s after × Texts (format_under packet_limit header) tt packets after left
 
--- The packets that went out are a beginning of the front's. Without a refusal exactly the header and these were taken, and
--- they are all, with nothing behind them, or the first `most`. A failed write tore the next packet of the front, which was
--- taken. A refusal of the reader's is that of the rest, behind all packets of the front, and no more was taken than was
--- asked for.
+-- The written packets are a beginning of the front's packets. Without a fault exactly the header and these packets were taken, and they
+-- are all packets, with an empty rest, or the first `most`. A failed write tore the next packet of the front, which was taken. If the
+-- reader's bytes are refused, the fault is that of the rest, after all packets of the front, and no more was taken than was requested.
 pub record CopiesFront (under : Under) (bytes : List ℕ) (now out_before out_now : Option (List ℕ)) (most : ℕ) (copied : Copied) : Type 0 where
   pub header : PcapHeader
   pub packets : List Captured
@@ -153,17 +153,17 @@ pub record CopiesFront (under : Under) (bytes : List ℕ) (now out_before out_no
   pub wrote : copied.write_failed ≡ false → EndsFront (PacketIsSaid header) rest more copied.read_failed copied.packets most copied.fault
   pub tore : copied.write_failed ≡ true → (packet : Captured) × (others : List Captured) × (more ≡ packet ∷ others) × Takes (PacketIsSaid header) (Some left) now packet
 
--- What holds where the reader tells its bytes.
+-- The facts about a copy if the reader's bytes are known.
 abbrev pub CopyFront : Under → List ℕ → Option (List ℕ) → Option (List ℕ) → Option (List ℕ) → ℕ → Copied → Type 0
 CopyFront under bytes now out_before out_now most copied = Copies (CopiesFront under bytes now out_before out_now most copied) under (Some bytes) now out_before out_now copied
 
--- memory sufficed, and no read and no write failed
+-- Memory sufficed, and no read and no write failed.
 pub record NothingFailed (copied : Copied) : Type 0 where
   pub no_read_failed : copied.read_failed ≡ false
   pub no_write_failed : copied.write_failed ≡ false
   pub memory : IfSome copied.fault (λ e. IsMemory e → ⊥)
 
--- without a refusal the header and all of these packets went out
+-- There was no fault, and the header and all of these packets were written.
 pub record CopiesAll (header : PcapHeader) (packets : List Captured) (out_before out_now : Option (List ℕ)) (copied : Copied) : Type 0 where
   pub fine : copied.fault ≡ None
   pub count : copied.packets ≡ length packets

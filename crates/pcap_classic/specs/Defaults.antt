@@ -1,9 +1,9 @@
--- The header of a capture that is not told otherwise.
+-- The default header of a capture.
 use Rattle.std.specs.Prelude.{pos}
 use Rattle.pcap_classic.specs.declared.pcap.header.PcapHeader.{PcapHeader}
 use Rattle.pcap_core.specs.declared.link.DataLink.TheVariants.{ETHERNET}
 
--- big-endian, microseconds, version 2.4, no correction, packets of at most 65535 bytes of Ethernet
+-- The default header: big-endian, microseconds, version 2.4, no correction, snapshot length 65535, link type Ethernet.
 abbrev pub default_header : PcapHeader
 default_header = record {
   magic_number = 0xa1b2c3d4;
@@ -15,6 +15,6 @@ default_header = record {
   datalink = ETHERNET;
 }
 
--- the same in little-endian order
+-- The default header in little-endian order.
 abbrev pub little_header : PcapHeader
 little_header = record default_header { magic_number = 0xd4c3b2a1 }

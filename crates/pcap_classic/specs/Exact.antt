@@ -1,4 +1,4 @@
--- What a run tells over a capture that is shown exactly as it is asked for.
+-- The results of a run over a capture that is shown exactly as requested.
 use Rattle.std.specs.Prelude.{◌≡◌, ◌≤◌, ◌+◌, ◌*◌, ℕ, List, ◌∷◌, ◌++◌, length, map}
 use Rattle.pcap_items.specs.Requested.{RunRequests}
 use Rattle.pcap_classic.specs.declared.pcap.header.PcapHeader.{PcapHeader}
@@ -8,7 +8,8 @@ use Rattle.pcap_classic.specs.PacketText.{Captured, packet_limit, content_of}
 use Rattle.pcap_classic.specs.Packets.{format_under}
 use Rattle.pcap_classic.specs.Run.{IsRun}
 
--- the requests of a run over a capture: 24 bytes for its header ('File Header'), and then those for its packets and at the rest ('Packet Record')
+-- The requests of a run over a capture: 24 bytes for its header ('File Header'), and then the requests for its packets and at the rest
+-- ('Packet Record').
 pub record CaptureRequests (limit : ℕ) (header : PcapHeader) (packets : List Captured) (s rest ns : List ℕ) : Type 0 where
   pub after : List ℕ
   pub further : List ℕ
@@ -16,7 +17,7 @@ pub record CaptureRequests (limit : ℕ) (header : PcapHeader) (packets : List C
   pub run : RunRequests (format_under limit header) tt packets after rest further
   pub all : ns ≡ 24 ∷ further
 
--- the run is the run over s, its requests stand after the earlier ones, and count is how many they are: at most two a packet, and four
+-- The run is the run over s, its requests follow the earlier ones, and count is their number: at most two per packet, and four more.
 pub record IsExact (run : PcapRun) (count : ℕ) (s earlier now : List ℕ) : Type 0 where
   pub run_is : IsRun run s
   pub requests : List ℕ

@@ -9,7 +9,7 @@ use Rattle.pcap_core.specs.Faults.{Fault, Invalid}
 use Rattle.pcap_core.specs.Link.{Link}
 use Rattle.pcap_classic.specs.Magic.{is_magic, order_of}
 
--- s is the fields behind the magic number in this order, and then rest
+-- s is the fields after the magic number, in this byte order, and then rest.
 pub record FieldsText (order : Order) (header : PcapHeader) (s rest : List ℕ) : Type 0 where
   pub correction_bits : ℕ
   pub link_number_is : ℕ
@@ -27,19 +27,19 @@ pub record FieldsText (order : Order) (header : PcapHeader) (s rest : List ℕ) 
   pub link : Number order 4 link_number_is after_snaplen rest
   pub link_is : Link link_number_is header.datalink
 
--- s is the text of a header, and then rest
+-- s is the text of a header, and then rest.
 pub record HeaderText (header : PcapHeader) (s rest : List ℕ) : Type 0 where
   pub after_magic : List ℕ
   pub valid : IsTrue (is_magic header.magic_number)
   pub magic : Number big_number 4 header.magic_number s after_magic
   pub fields : FieldsText (number_in (order_of header.magic_number)) header after_magic rest
 
--- n bytes lack of a header
+-- s is a truncated header: n more bytes make 24.
 pub record LacksHeader (s : List ℕ) (n : ℕ) : Type 0 where
   pub some : 0 < n
   pub missing : length s + n ≡ 24
 
--- s has the length of a header, and no valid magic number in front
+-- s is long enough for a header, and has no valid magic number at its front.
 pub record HasHeaderFault (s : List ℕ) (fault : Fault) : Type 0 where
   pub magic : ℕ
   pub after : List ℕ
@@ -48,6 +48,6 @@ pub record HasHeaderFault (s : List ℕ) (fault : Fault) : Type 0 where
   pub invalid : is_magic magic ≡ false
   pub fault_is : fault ≡ Invalid CaptureMagic
 
--- what is said of bytes where a header is asked for
+-- The grammar's verdict on a capture's header at the front of s.
 abbrev pub HeaderSays : List ℕ → Verdict PcapHeader → Type 0
 HeaderSays s = Says (λ header rest. HeaderText header s rest) (LacksHeader s) (HasHeaderFault s)

@@ -9,33 +9,33 @@ use Rattle.pcap_classic.specs.Magic.{is_magic, order_of, resolution_of}
 use Rattle.pcap_classic.specs.PacketText.{Captured, PacketSays}
 use Rattle.pcap_items.specs.Format.{Format}
 
--- packets of at most limit bytes, in this order and resolution: no state
+-- The format of packets of at most limit bytes, in this byte order and timestamp resolution; it has no state.
 unfoldable pub packet_format : ℕ → Order → TsResolution → Format (Unit {0}) Captured
 packet_format limit order r = record { says = λ q. PacketSays limit order r; goes = λ q packet. q; head = λ q. 16 }
 
--- packets behind this header
+-- The format of the packets after this header.
 abbrev pub format_under : ℕ → PcapHeader → Format (Unit {0}) Captured
 format_under limit header = packet_format limit (number_in (order_of header.magic_number)) (resolution_of header.magic_number)
 
--- what is said under a header of no valid magic number: nothing where there is nothing, else that fault
+-- The verdict under an invalid magic number: the empty list lacks one byte, and any other bytes have the fault `CaptureMagic`.
 abbrev pub RefusingSays : List ℕ → Verdict Captured → Type 0
 RefusingSays s (whole packet rest) = ⊥
 RefusingSays s (lacks n) = (s ≡ []) × (n ≡ 1)
 RefusingSays s (faulty fault) = (0 < length s) × (fault ≡ Invalid CaptureMagic)
 
--- the format under a header of no valid magic number: no packet
+-- The format under an invalid magic number, which has no packets.
 unfoldable pub refusing_format : Format (Unit {0}) Captured
 refusing_format = record { says = λ q. RefusingSays; goes = λ q packet. q; head = λ q. 1 }
 
--- the first format where it is true, else the second
+-- The first format if the condition is true, else the second.
 abbrev pub choice : {S V : Type 0} → Bool → Format S V → Format S V → Format S V
 choice true f g = f
 choice false f g = g
 
--- what a reader reads under its header as it stands
+-- The format that a reader reads under its current header.
 unfoldable pub reader_format : ℕ → PcapHeader → Format (Unit {0}) Captured
 reader_format limit header = choice (is_magic header.magic_number) (format_under limit header) refusing_format
 
--- packets after any header, which is the state
+-- The format of packets after any header, which is the state.
 abbrev pub capture_format : ℕ → Format PcapHeader Captured
 capture_format limit = record { says = λ header. (format_under limit header).says tt; goes = λ header packet. header; head = λ header. 16 }

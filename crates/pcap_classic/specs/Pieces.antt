@@ -1,4 +1,4 @@
--- What a run tells over a capture that comes in pieces.
+-- The results of a run over a capture that comes in pieces.
 use Rattle.std.specs.Prelude.{◌≡◌, ◌⊎◌, ℕ, List, length}
 use Rattle.pcap_items.specs.Pieces.{OpensNone}
 use Rattle.pcap_classic.specs.declared.pcap.header.PcapHeader.{PcapHeader}
@@ -6,7 +6,7 @@ use Rattle.pcap_classic.specs.Front.{CaptureFront}
 use Rattle.pcap_classic.specs.HeaderText.{HeaderSays}
 use Rattle.pcap_classic.specs.PacketText.{Captured, packet_limit}
 
--- the front of s has n packets, or no header's text begins s, and n is 0
+-- The front of s has n packets, or no header's text begins s, and n is 0.
 abbrev pub HoldsPackets : List ℕ → ℕ → Type 0
 HoldsPackets s n =
     ((header : PcapHeader) × (packets : List Captured) × (rest : List ℕ) × CaptureFront packet_limit header packets s rest × (n ≡ length packets))

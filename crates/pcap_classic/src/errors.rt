@@ -1,3 +1,3 @@
-//! Why a capture could not be read or written.
+//! The errors for captures that could not be read or written.
 
 pub use pcap_core::{PcapError, ResultParsing};

@@ -1,4 +1,5 @@
-//! Laws of the grammar and of `==`. Each contract is the law; only the functions of `==` call anything.
+//! Laws of the grammar and of `==`. Each contract is the law. Only the functions about `==`, clones and defaults call
+//! anything.
 
 ghost use Rattle.std.specs.Prelude.{IfOk, IsOk, ◌≡◌, ◌≤◌, ◌+◌, ◌++◌, ◌↔◌, ℕ, List, [], ◌∷◌, length, map, All, IsTrue, Option, false};
 ghost use Rattle.std.specs.Io.KnownBytes.{Appends};
@@ -27,145 +28,148 @@ use crate::common::{DataLink, Endianness, TsResolution};
 use crate::pcap::{PacketHeader, PcapHeader};
 use std::alloc::AllocError;
 
-/// Of each slice exactly one thing is said where a capture's header is asked for: its text begins the slice, so
-/// many bytes lack, or there is one fault.
+/// For each slice, exactly one of three is true: a capture's header begins it, a certain number of bytes of the header is
+/// missing, or it has a certain fault.
 pub fn header_is_one()
     ensures { (s : List ℕ) → ExactlyOne (HeaderSays s) }
 {}
 
-/// The same of a packet's header.
+/// For each slice, exactly one is true of a packet's header: it begins the slice, lacks a number of bytes, or has one
+/// fault.
 pub fn packet_header_is_one()
     ensures { (limit : ℕ) (order : Order) (r : TsResolution) (s : List ℕ) → ExactlyOne (PacketHeaderSays limit order r s) }
 {}
 
-/// The same of a packet.
+/// For each slice, exactly one is true of a packet: it begins the slice, lacks a number of bytes, or has one fault.
 pub fn packet_is_one()
     ensures { (limit : ℕ) (order : Order) (r : TsResolution) (s : List ℕ) → ExactlyOne (PacketSays limit order r s) }
 {}
 
-/// More bytes change neither a capture's header nor its fault, and shrink a request by their number.
+/// More bytes change neither a capture's header nor its fault, and reduce a request by their number.
 pub fn header_is_stable()
     ensures { IsStable HeaderSays }
 {}
 
-/// The same of a packet's header.
+/// More bytes change neither a packet's header nor its fault, and reduce a request by their number.
 pub fn packet_header_is_stable()
     ensures { (limit : ℕ) (order : Order) (r : TsResolution) → IsStable (PacketHeaderSays limit order r) }
 {}
 
-/// The same of a packet.
+/// More bytes change neither a packet nor its fault, and reduce a request by their number.
 pub fn packet_is_stable()
     ensures { (limit : ℕ) (order : Order) (r : TsResolution) → IsStable (PacketSays limit order r) }
 {}
 
-/// Packets are a format: of all bytes one thing is said, more bytes change nothing, a text is its own, and
-/// a request is the header's, or else the last.
+/// Packets are a lawful format: all bytes have exactly one verdict, more bytes change neither a packet nor a fault, and a
+/// packet's text alone is that packet. A request is for the missing bytes of the header, or it is the last request.
 pub fn packets_are_lawful()
     ensures { (limit : ℕ) (order : Order) (r : TsResolution) → IsLawful (packet_format limit order r) }
 {}
 
-/// Who adds exactly what is asked for is asked twice at most, and has nothing behind the packet that comes.
+/// If the caller adds exactly the bytes requested, the parser asks at most twice for a packet, and no bytes follow the
+/// packet.
 pub fn packets_are_asked_for_twice()
     ensures { (limit : ℕ) (order : Order) (r : TsResolution) (n : ℕ) (ns s t : List ℕ) →
         Asks (packet_format limit order r) tt (n ∷ ns) s t →
         (length (n ∷ ns) ≤ 2) × ((packet : Captured) (rest : List ℕ) → PacketText limit order r packet t rest → rest ≡ []) }
 {}
 
-/// Who adds exactly what is asked for of a capture's header is asked once, and has nothing after the header that comes.
+/// If the caller adds exactly the bytes requested, the parser asks only once for a capture's header, and no bytes follow
+/// it.
 pub fn header_is_asked_for_once()
     ensures { (n : ℕ) (s more : List ℕ) → HeaderSays s (lacks n) → length more ≡ n →
         ((m : ℕ) → HeaderSays (s ++ more) (lacks m) → ⊥) × ((header : PcapHeader) (rest : List ℕ) → HeaderSays (s ++ more) (whole header rest) → rest ≡ []) }
 {}
 
-/// The same of a packet's header.
+/// If the caller adds exactly the bytes requested, the parser asks only once for a packet's header, and no bytes follow it.
 pub fn packet_header_is_asked_for_once()
     ensures { (limit : ℕ) (order : Order) (r : TsResolution) (n : ℕ) (s more : List ℕ) → PacketHeaderSays limit order r s (lacks n) → length more ≡ n →
         ((m : ℕ) → PacketHeaderSays limit order r (s ++ more) (lacks m) → ⊥)
         × ((header : PacketHeader) (rest : List ℕ) → PacketHeaderSays limit order r (s ++ more) (whole header rest) → rest ≡ []) }
 {}
 
-/// Under a magic number that is none of the four a refused call of `PcapReader::next` has taken one byte at most.
+/// If the magic number is none of the four, a failed call of `PcapReader::next` has taken at most one byte.
 pub fn invalid_magic_takes_one_byte()
     ensures { (limit : ℕ) (header : PcapHeader) (before after : Option (List ℕ)) → is_magic header.magic_number ≡ false →
         TakesAsked ((reader_format limit header).says tt) before after → TakesAtMost 1 before after }
 {}
 
-/// All bytes have one front of packets and no other.
+/// All bytes have exactly one front of packets.
 pub fn packets_have_one_front()
     ensures { (limit : ℕ) (order : Order) (r : TsResolution) (s : List ℕ) →
         ExactlyOne (λ (p : List Captured × List ℕ). Front (packet_format limit order r) tt p.0 s p.1) }
 {}
 
-/// What begins with a header has one front as a capture and no other.
+/// Bytes that begin with a capture's header have exactly one front as a capture.
 pub fn capture_has_one_front()
     ensures { (limit : ℕ) (header : PcapHeader) (s after : List ℕ) → HeaderText header s after →
         ExactlyOne (λ (p : PcapHeader × List Captured × List ℕ). CaptureFront limit p.0 p.1 s p.2) }
 {}
 
-/// The packets of the front under a limit are a beginning of those under a larger one.
+/// The packets of the front under a limit are a beginning of the packets under a larger limit.
 pub fn larger_limit_keeps_packets()
     ensures { (limit larger : ℕ) (h k : PcapHeader) (ps qs : List Captured) (s a b : List ℕ) → limit ≤ larger →
         CaptureFront limit h ps s a → CaptureFront larger k qs s b → (h ≡ k) × (more : List Captured) × (qs ≡ ps ++ more) }
 {}
 
-/// The front of bytes is the capture as it is written.
+/// The front of a capture has the same bytes as its header and packets when they are written.
 pub fn front_is_written()
     ensures { (limit : ℕ) (header : PcapHeader) (packets : List Captured) (s rest : List ℕ) → IsBytes s →
         CaptureFront limit header packets s rest → s ≡ capture header packets ++ rest }
 {}
 
-/// A packet that is written is read again, its nanoseconds cut as the resolution demands.
+/// A packet with valid lengths is read again after it is written, with its nanoseconds cut to the timestamp resolution.
 pub fn written_packet_is_read()
     ensures { (e : Endianness) (r : TsResolution) (packet : Captured) (rest : List ℕ) → IsWhole packet →
         PacketText packet_limit (number_in e) r (cut r packet) (record_bytes (number_bytes e) r packet ++ rest) rest }
 {}
 
-/// Each number is that of one link type, and of no other.
+/// Each number belongs to exactly one link type.
 pub fn link_keeps_its_number()
     ensures { (n : ℕ) → ExactlyOne (λ (link : DataLink). Link n link) }
 {}
 
-/// The number of a link type gives it back, unless it is an unknown one with a number of the table.
+/// The number of a link type leads back to that link type, unless it is an unknown link type with a number of the table.
 pub fn number_keeps_its_link()
     ensures { (link again : DataLink) → IsPlain link → Link (link_number link) again → again ≡ link }
 {}
 
-/// Two link types are equal where they are the same variant and, where unknown, have the same number.
+/// Two link types are equal exactly if they are the same variant and, for unknown ones, have the same number.
 pub fn links_are_equal(left: DataLink, right: DataLink) -> bool
     ensures { IsTrue result ↔ (left ≡ right) }
 {
     left == right
 }
 
-/// Two headers of captures are equal where all their fields are.
+/// Two capture headers are equal exactly if all their fields are equal.
 pub fn headers_are_equal(left: &PcapHeader, right: &PcapHeader) -> bool
     ensures { IsTrue result ↔ (left.now ≡ right.now) }
 {
     left == right
 }
 
-/// Two headers of packets are equal where all their fields are.
+/// Two packet headers are equal exactly if all their fields are equal.
 pub fn packet_headers_are_equal(left: &PacketHeader, right: &PacketHeader) -> bool
     ensures { IsTrue result ↔ (left.now ≡ right.now) }
 {
     left == right
 }
 
-/// Two orders of numbers are equal where they are the same.
+/// Two byte orders are equal exactly if they are the same.
 pub fn orders_are_equal(left: Endianness, right: Endianness) -> bool
     ensures { IsTrue result ↔ (left ≡ right) }
 {
     left == right
 }
 
-/// Two resolutions of times are equal where they are the same.
+/// Two timestamp resolutions are equal exactly if they are the same.
 pub fn resolutions_are_equal(left: TsResolution, right: TsResolution) -> bool
     ensures { IsTrue result ↔ (left ≡ right) }
 {
     left == right
 }
 
-/// A clone of a link type is that link type, and takes no memory.
+/// A clone of a link type equals it, and cloning takes no memory.
 pub fn link_is_cloned(link: &DataLink) -> Result<DataLink, AllocError>
     ensures clone { IfOk result (λ clone. clone ≡ link.now) }
     ensures succeeds { IsOk result }
@@ -173,7 +177,7 @@ pub fn link_is_cloned(link: &DataLink) -> Result<DataLink, AllocError>
     link.clone()
 }
 
-/// The same of an order of numbers.
+/// A clone of a byte order equals it, and cloning takes no memory.
 pub fn order_is_cloned(order: &Endianness) -> Result<Endianness, AllocError>
     ensures clone { IfOk result (λ clone. clone ≡ order.now) }
     ensures succeeds { IsOk result }
@@ -181,7 +185,7 @@ pub fn order_is_cloned(order: &Endianness) -> Result<Endianness, AllocError>
     order.clone()
 }
 
-/// The same of a resolution of times.
+/// A clone of a timestamp resolution equals it, and cloning takes no memory.
 pub fn resolution_is_cloned(resolution: &TsResolution) -> Result<TsResolution, AllocError>
     ensures clone { IfOk result (λ clone. clone ≡ resolution.now) }
     ensures succeeds { IsOk result }
@@ -189,7 +193,7 @@ pub fn resolution_is_cloned(resolution: &TsResolution) -> Result<TsResolution, A
     resolution.clone()
 }
 
-/// The same of a capture's header.
+/// A clone of a capture's header equals it, and cloning takes no memory.
 pub fn header_is_cloned(header: &PcapHeader) -> Result<PcapHeader, AllocError>
     ensures clone { IfOk result (λ clone. clone ≡ header.now) }
     ensures succeeds { IsOk result }
@@ -197,7 +201,7 @@ pub fn header_is_cloned(header: &PcapHeader) -> Result<PcapHeader, AllocError>
     header.clone()
 }
 
-/// The same of a packet's header.
+/// A clone of a packet's header equals it, and cloning takes no memory.
 pub fn packet_header_is_cloned(header: &PacketHeader) -> Result<PacketHeader, AllocError>
     ensures clone { IfOk result (λ clone. clone ≡ header.now) }
     ensures succeeds { IsOk result }
@@ -205,21 +209,22 @@ pub fn packet_header_is_cloned(header: &PacketHeader) -> Result<PacketHeader, Al
     header.clone()
 }
 
-/// The default header of a packet: all of its fields are 0.
+/// The default packet header has 0 in all of its fields.
 pub fn default_packet_header() -> PacketHeader
     ensures { result ≡ record { ts_sec = 0; ts_nsec = 0; incl_len = 0; orig_len = 0 } }
 {
     PacketHeader::default()
 }
 
-/// A capture that is written has that header and those packets in front, their nanoseconds cut as the resolution demands,
-/// and nothing behind them.
+/// The front of a written capture with a valid header and valid packets is that header and those packets, with nanoseconds
+/// cut to the timestamp resolution. Nothing follows them.
 pub fn written_capture_is_read()
     ensures { (header : PcapHeader) (packets : List Captured) → IsWholeHeader header → All IsWhole packets →
         CaptureFront packet_limit header (map (cut (resolution_of header.magic_number)) packets) (capture header packets) [] }
 {}
 
-/// A capture that is accepted whole is copied whole, where nothing fails: its header as it is asked for, and all its packets.
+/// A capture with an empty rest is copied whole if nothing fails, and if `under` and `most` allow it: its header as `under`
+/// demands, and all its packets.
 pub fn accepted_capture_is_copied()
     ensures { (under : Under) (header : PcapHeader) (packets : List Captured)
         (bytes : List ℕ) (now out_before out_now : Option (List ℕ)) (most : ℕ) (copied : Copied) →
@@ -227,41 +232,41 @@ pub fn accepted_capture_is_copied()
         CopyFront under bytes now out_before out_now most copied → CopiesAll (header_under under header) packets out_before out_now copied }
 {}
 
-/// Its copy under its own header is its bytes.
+/// If nothing fails and `most` allows it, the copy of a capture with an empty rest under its own header has the same bytes.
 pub fn copy_is_the_capture()
     ensures { (header : PcapHeader) (packets : List Captured) (bytes : List ℕ) (now out_before out_now : Option (List ℕ)) (most : ℕ) (copied : Copied) →
         IsBytes bytes → CaptureFront packet_limit header packets bytes [] → length packets ≤ most → NothingFailed copied →
         CopyFront Same bytes now out_before out_now most copied → Appends out_before out_now bytes }
 {}
 
-/// What went out under another header has that header and the packets that were read in front, their nanoseconds cut as
-/// its resolution demands, and nothing behind them.
+/// The front of a copy under another valid header is that header and the packets that were read, and nothing follows them.
+/// Nanoseconds are cut to the timestamp resolution of the new header.
 pub fn copy_is_read_under_its_header()
     ensures { (header under : PcapHeader) (packets : List Captured) (s rest : List ℕ) → IsBytes s →
         CaptureFront packet_limit header packets s rest → IsWholeHeader under →
         CaptureFront packet_limit under (map (cut (resolution_of under.magic_number)) packets) (capture under packets) [] }
 {}
 
-/// The requests of a run over packets are these and no others.
+/// The requests of a run over packets are uniquely determined.
 pub fn requests_are_one()
     ensures { (limit : ℕ) (order : Order) (r : TsResolution) (packets : List Captured) (s rest ns others : List ℕ) →
         RunRequests (packet_format limit order r) tt packets s rest ns → RunRequests (packet_format limit order r) tt packets s rest others → ns ≡ others }
 {}
 
-/// Where a packet stands, what is asked for are the 16 bytes of its header, and then those of its data, where it has some.
+/// For a packet, the requests are the 16 bytes of its header, and then the bytes of its data if it has any.
 pub fn packet_requests_are()
     ensures { (limit : ℕ) (order : Order) (r : TsResolution) (packet : Captured) (s rest ns : List ℕ) →
         PacketText limit order r packet s rest → RequestsAt (packet_format limit order r) tt s ns → HeadThenRest 16 (16 + length packet.bytes) ns }
 {}
 
-/// And these requests are what asking gives: each of them met exactly, the packet's text is there, and no more.
+/// If the caller meets each request for a packet exactly, it has the packet's text and no more.
 pub fn packet_requests_are_asked()
     ensures { (limit : ℕ) (order : Order) (r : TsResolution) (packet : Captured) (s rest ns : List ℕ) →
         PacketText limit order r packet s rest → RequestsAt (packet_format limit order r) tt s ns →
         (t : List ℕ) × (s ≡ t ++ rest) × Asks (packet_format limit order r) tt ns [] t }
 {}
 
-/// The number of packets that bytes hold is one.
+/// The number of packets that bytes hold is uniquely determined.
 pub fn packets_held_are_one()
     ensures { (s : List ℕ) (n m : ℕ) → HoldsPackets s n → HoldsPackets s m → n ≡ m }
 {}

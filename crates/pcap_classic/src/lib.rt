@@ -1,4 +1,4 @@
-//! Classic pcap captures: their header and packets, read from slices and written.
+//! Classic pcap captures: reading their headers and packets from slices and streams, and writing them.
 #![tactic(auto)]
 
 pub mod common;

@@ -1,4 +1,4 @@
-//! Whole runs over a capture.
+//! Functions that read or copy a whole capture in one call.
 
 mod buffered;
 mod copy;
@@ -29,22 +29,22 @@ pub use pieces::pieces_pcap;
 use std::alloc::Global;
 use std::io::Read;
 
-/// A capture's header and packets, how many bytes they take, and what stands behind them.
+/// A capture's header and packets, the number of bytes that they take, and the state of the rest.
 #[derive(Debug, Drop)]
 pub struct PcapRun<'a> {
     /// The capture's header.
     pub header: PcapHeader,
-    /// Its packets, in order.
+    /// The packets, in order.
     pub packets: Vec<Packet<'a>>,
-    /// How many bytes the header and the packets take.
+    /// The number of bytes that the header and the packets take.
     pub used: usize,
-    /// What stands behind them.
+    /// The state of the bytes after the last packet: nothing, a truncated packet record, or a malformed one.
     pub rest: Rest,
 }
 
-/// The whole run over one slice: its header, all packets of its longest front, and what is said of the rest.
+/// Reads a whole capture from one slice: its header, all packets of its front, and the state of the rest.
 ///
-/// Where the header is refused, that refusal. `OutOfMemory` where the list of packets can't grow.
+/// Returns the header's error if the header is truncated or malformed. `OutOfMemory` if the list of packets can't grow.
 pub fn parse_pcap<'a>(alloc: Global, bytes: &'a [u8]) -> ResultParsing<PcapRun<'a>>
     ensures front { IfOk result (λ run. IsRun run bytes.now) }
     ensures borrowed { IfOk result (λ run. All (λ packet. IsBorrowed packet.data_) run.packets.items) }
@@ -61,23 +61,23 @@ pub fn parse_pcap<'a>(alloc: Global, bytes: &'a [u8]) -> ResultParsing<PcapRun<'
     })
 }
 
-/// A capture's header and the packets that came off a stream, why they end, and whether a read failed.
+/// A capture's header and packets read from a stream, why the packets end, and whether a read failed.
 #[derive(Debug, Drop)]
 pub struct PcapRead {
     /// The capture's header.
     pub header: PcapHeader,
     /// The packets, in order.
     pub packets: Vec<Packet<'static>>,
-    /// The refusal that ended them. None where the stream ended behind a packet, or there were enough.
+    /// The error that ended the packets. None if the stream ended after a packet, or the limit was reached.
     pub fault: Option<PcapError>,
     /// Whether a read of the stream failed.
     pub failed: bool,
 }
 
-/// Reads the header of a capture and at most so many packets off a stream, up to a refusal or the stream's end.
+/// Reads a capture's header and at most `most` packets from a stream, up to the first error or the end of the stream.
 ///
-/// Where the header is refused, that refusal: `InvalidField` or `IoError`. What comes behind it ends the packets, and is
-/// told in `fault`. With `most` packets the stream isn't asked again.
+/// Returns the header's error if the header can't be read: `InvalidField` or `IoError`. A later error ends the packets and
+/// is in `fault`. After `most` packets it doesn't read the stream again.
 pub fn read_pcap<R: Read + Drop>(alloc: Global, reader: R, most: u64) -> ResultParsing<PcapRead>
     ensures taken { IfOk result (λ read. TakesCapture (R.remaining reader) most read) }
     ensures front { IfOk result (λ read. IfSome (R.remaining reader) (λ bytes. ReadsCapture bytes most read)) }

@@ -1,3 +1,3 @@
-//! Streams that tell whether they failed, and buffers that are filled from them as bytes are asked for.
+//! Streams that report whether they failed, and buffers that are filled from them on demand.
 
 pub use pcap_items::stream::{Fill, Told, put};

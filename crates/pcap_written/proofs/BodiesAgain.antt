@@ -1,4 +1,4 @@
--- Bodies that are written are read again.
+-- Written bodies are read again.
 use Rattle.std.proofs.Common.{◌≡◌, ℕ, ◌<◌, ◌/◌, ◌%◌, ◌^◌, List, [], ◌++◌, length, refl, sym, ap, subst, ◌∙◌, append_assoc, arith}
 use Rattle.std.specs.Prelude.{ℤ, FitsSigned, Some}
 use Rattle.std.specs.Int.{w64, cast_unsigned}
@@ -109,7 +109,7 @@ module _ (order : Order) (write : Encoder) (c : IsCodec order write) where
         options_are = list_again order write c interface_statistics s.options fit.options;
       }
 
-  -- what stands before an interface's options
+  -- The fields before an interface's options.
   pub interface_head_again : (i : Interface) (list : List ℕ) → IsFitInterface order write i
       → InterfaceHead order i (write 2 (link_number i.linktype) ++ (write 2 i.reserved ++ (write 4 i.snaplen ++ list))) list
   interface_head_again i list fit =
@@ -130,7 +130,7 @@ module _ (order : Order) (write : Encoder) (c : IsCodec order write) where
       let list = list_text write interface_description i.options in
       record { after_head = list; head = interface_head_again i list fit; options_are = list_again order write c interface_description i.options fit.options }
 
-  -- what stands between a section's magic number and its options
+  -- The fields between a section's magic number and its options.
   pub version_again : (s : Section) (list : List ℕ) → IsFitSection order write s
       → VersionText order s (write 2 s.major_version ++ (write 2 s.minor_version ++ (write 8 (cast_unsigned w64 s.section_length) ++ list))) list
   version_again s list fit =
@@ -147,12 +147,12 @@ module _ (order : Order) (write : Encoder) (c : IsCodec order write) where
         length_is = sym (to_z-of_z w64 s.section_length fit.length_fits);
       }
 
--- a section's magic number stands first, high byte first
+-- A section's magic number comes first, high byte first.
 pub magic_again : (e : Endianness) (s : Section) → IsFitSection (number_in e) (number_bytes e) s
     → Number big_number 4 s.magic (section_text (number_bytes e) s) (after_magic_text (number_bytes e) s)
 magic_again e s fit = number_again (number_in Big) (number_bytes Big) (codec Big) 4 s.magic (after_magic_text (number_bytes e) s) fit.magic
 
--- a section's magic number names the order that it is written in
+-- A section's magic number names the byte order in which the section is written.
 section_again : (e : Endianness) (s : Section) → magic_order s.magic ≡ Some e → IsFitSection (number_in e) (number_bytes e) s
     → SectionText s (section_text (number_bytes e) s) []
 section_again e s names fit =
@@ -164,7 +164,7 @@ section_again e s names fit =
     } in
     record { after_magic = after_magic_text (number_bytes e) s; endianness = e; magic_is = magic_again e s fit; names = names; after = after }
 
--- a type whose number has no name is an unknown one
+-- A type whose number has no name is an unknown one.
 other_again : (order : Order) (type : BlockType) (len : ℕ) (v : List ℕ) → IsFitUnknown (record { type_ = type; len = len; bytes = v })
     → length (padded_bytes v) < 2 ^ 32
     → BodySays order type (padded_bytes v) (whole (kept_body (OtherBody (record { type_ = type; len = len; bytes = v }))) (padded_bytes v))

@@ -14,7 +14,7 @@ use Rattle.pcap_written.specs.Text.{padding, value_text, time_bytes, option_valu
 use Rattle.pcap_written.specs.Fits.{IsFitOption}
 use Rattle.pcap_written.specs.Forms.{IsForm, FitsForm, MeasuresForm, TellsCoded, form_bytes}
 
--- the value's text is that of its form
+-- The text of a value is that of its form.
 pub form_text : (write : Encoder) (shape : Shape) (value : Value) (form : Form) → IsForm shape value form → form_bytes write form ≡ value_text write shape value
 form_text write string (Str t) (forms.Bytes b) x = x.0
 form_text write bytes (Bytes v) (forms.Bytes b) x = x
@@ -60,7 +60,7 @@ module _ (order : Order) (write : Encoder) (c : IsCodec order write) where
       let long : nat_lt (length (write 8 n)) 8 ≡ false = le-ltb (length (write 8 n)) 8 (omega (arith, c.wide 8 n)) in
       rw (long, take_all 8 (write 8 n) (omega (arith, c.wide 8 n)), same_number 8 n lt) refl
 
-  -- and it is read as it was
+  -- The text of a value in a form is read as the same value.
   pub form_kept : (shape : Shape) (value : Value) (form : Form) → IsForm shape value form → FitsForm form → value_of order shape (value_text write shape value) ≡ Ok value
   form_kept string (Str t) (forms.Bytes b) x fits = ap (with_value Str) (string_is t x.1)
   form_kept bytes (Bytes v) (forms.Bytes b) x fits = refl
@@ -76,7 +76,7 @@ module _ (order : Order) (write : Encoder) (c : IsCodec order write) where
   form_kept unknown (Unknown len v) (forms.Unknown m b) x fits = ap (λ (k : ℕ). Ok (Unknown k v)) (ap length (sym x.1) ∙ fits ∙ x.0)
   form_kept _ _ _ x fits = absurd x
 
--- an option was put, piece by piece
+-- An option was appended, part by part.
 pub option_put : (order : Order) (write : Encoder) → IsCodec order write → (kind : Kind) (o : Entry) (code len : ℕ) (form : Form) → TellsCoded kind o (Some (code, form)) → MeasuresForm form (Ok len) → (old a b d new : List ℕ)
     → a ≡ old ++ write 2 code → b ≡ a ++ write 2 len → d ≡ b ++ form_bytes write form → new ≡ d ++ padding len → (new ≡ old ++ option_text write kind o) × IsFitOption order write kind o
 option_put order write c kind o code len form told measured old a b d new code_put len_put form_put padded =

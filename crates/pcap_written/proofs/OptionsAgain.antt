@@ -1,4 +1,4 @@
--- Options that are written are read again.
+-- Written options are read again.
 use Rattle.std.proofs.Common.{◌≡◌, ℕ, ◌<◌, ◌≤◌, ◌+◌, ◌-◌, ◌^◌, List, [], ◌∷◌, ◌++◌, length, refl, sym, ap, subst, ◌∙◌, append_assoc, append-nil, arith}
 use Rattle.std.specs.List.{flat_map}
 use Rattle.std.proofs.lemmas.List.{length-take-le}
@@ -63,7 +63,7 @@ module _ (order : Order) (write : Encoder) (c : IsCodec order write) where
   mark_again : EndMark order (end_mark write) []
   mark_again = record { ignored = 0; head = subst (λ (s : List ℕ). CodeLengthText order 0 0 (write 2 0 ++ s) []) (append-nil (write 2 0)) (coded_again 0 0 [] (omega arith) (omega arith)) }
 
-  -- with its mark, where it has an option
+  -- A list ends with its mark if it has an option.
   pub list_marked : (kind : Kind) (os : List Entry) → AreFit order write kind os → OptionList wants_end order kind os (list_text write kind os) []
   list_marked kind [] fit = with_body refl refl refl
   list_marked kind (o ∷ os) fit = marked (end_mark write) (options_again kind (o ∷ os) (end_mark write) fit) mark_again
@@ -71,7 +71,7 @@ module _ (order : Order) (write : Encoder) (c : IsCodec order write) where
   pub list_again : (kind : Kind) (os : List Entry) → AreFit order write kind os → OptionList may_end_with_body order kind os (list_text write kind os) []
   list_again kind os fit = list_kept order kind os (list_text write kind os) [] (list_marked kind os fit)
 
--- the same in an order by its name
+-- The same for the byte order of this name.
 pub option_read : (e : Endianness) (kind : Kind) (o : Entry) (rest : List ℕ) → IsFitOption (number_in e) (number_bytes e) kind o
     → OptionText (number_in e) kind o (option_text (number_bytes e) kind o ++ rest) rest
 option_read e = option_again (number_in e) (number_bytes e) (codec e)

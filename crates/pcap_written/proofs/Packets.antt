@@ -23,7 +23,7 @@ use Rattle.pcap_written.specs.Plain.{plain_head, plain_packet}
 use Rattle.pcap_written.specs.Puts.{IsShownAs}
 use Rattle.pcap_written.specs.Writing.{BlockFlaw, IsFitIn, IsKept, TellsPlace, WritesBlock, has_failed, place_of, stream_of}
 
--- of three zero bytes as many are left as the padding has
+-- Dropping all but m of three zero bytes leaves m zero bytes.
 pub tail_left : (m : ℕ) (w : List ℕ) → m ≤ 3 → drop (3 - m) (0 ∷ 0 ∷ 0 ∷ w) ≡ take m (0 ∷ 0 ∷ 0 ∷ []) ++ w
 tail_left zero w few = refl
 tail_left (suc zero) w few = refl
@@ -32,7 +32,7 @@ tail_left (suc (suc (suc zero))) w few = refl
 tail_left (suc (suc (suc (suc m)))) w few = absurd (omega (arith, few))
 
 module _ (write : Encoder) (wide : (w n : ℕ) → length (write w n) ≡ w) (id time original : ℕ) (bytes : List ℕ) where
-  -- the body's length
+  -- The length of the body.
   pub plain_length : length (enhanced_text write (plain_packet id time original bytes)) ≡ 20 + up_to_4 (length bytes)
   plain_length =
       let high = write 4 (time / 2 ^ 32) in
@@ -57,15 +57,15 @@ module _ (write : Encoder) (wide : (w n : ℕ) → length (write w n) ≡ w) (id
         wide 4 original,
       )
 
-  -- its text in three parts
+  -- The text of the block in three parts.
   pub plain_text : (len : ℕ) → len ≡ up_to_4 (length bytes) + 32
       → (plain_head write len id (time / 2 ^ 32) (time % 2 ^ 32) (length bytes) original ++ bytes) ++ (padding (length bytes) ++ write 4 len) ≡ text_of write (EnhancedBody (plain_packet id time original bytes))
   plain_text len is =
       let all : len ≡ length (enhanced_text write (plain_packet id time original bytes)) + 12 = omega (arith, is, plain_length) in
       rw (sym all) (simp (append_assoc, append-nil))
 
--- A packet in three writes, one behind the other, up to the one that fails: what stands before its bytes, these, and what is left
--- of three zero bytes before the length. Its padding and length are counted as the code does.
+-- A packet in three writes, up to the one that fails: the bytes before its data, its data, and then its padding and the length. The
+-- padding and the length are computed as the program does.
 module _ (write : Encoder) (wide : (w n : ℕ) → length (write w n) ≡ w) (id time original : ℕ) (bytes front : List ℕ) (a b c d : Option (List ℕ)) where
   abbrev missing : ℕ
   missing = (4 - length bytes % 4) % 4
@@ -107,13 +107,13 @@ module _ (write : Encoder) (wide : (w n : ℕ) → length (write w n) ≡ w) (id
       let parts : (front ++ bytes) ++ last ≡ text = ap (λ (t : List ℕ). (front ++ bytes) ++ t) (tail_is zeros made) ∙ ap (λ (t : List ℕ). (t ++ bytes) ++ tail) is ∙ whole_is in
       subst (λ (t : List ℕ). WritesAll a d t result) parts (second_ends (front ++ bytes) last a c d result (second_ends front bytes a b c (Ok tt) went there) out)
 
--- what stands against a block here is told, and nothing goes out
+-- The error of a block that can't be written here is returned, and nothing is written.
 pub refused_here : {W : Type 0} (contents : W → Option (List ℕ)) (w : PcapNgWriter W) (body : Body) (flaw : Unwritable) → has_failed w ≡ false → IsKept contents w w → BlockFlaw (place_of w) body flaw
     → (shown : PcapError) → IsShownAs (Unfit flaw) shown → WritesBlock contents w w body (Err shown)
 refused_here contents w body flaw good kept stands (errors.InvalidField message) is = (good, (kept, (flaw, is, stands)))
 refused_here contents w body flaw good kept stands _ is = absurd is
 
--- a block that leaves the place as it is went out, or a beginning of it
+-- A block that doesn't change the place was written, or a beginning of it.
 pub went_out : {W : Type 0} (contents : W → Option (List ℕ)) (old new : PcapNgWriter W) (body : Body) → has_failed old ≡ false → place_of new ≡ place_of old → TellsPlace (place_of old) (head_of body) (Ok (place_of old)) → IsFitIn (place_of old).endianness body
     → (result : Result (Unit {0}) PcapError) → WritesAll (contents (stream_of old)) (contents (stream_of new)) (text_of (number_bytes (place_of old).endianness) body) result
     → MatchResult result (λ _. has_failed new ≡ has_failed old) (λ _. has_failed new ≡ true) → WritesBlock contents old new body result
@@ -129,11 +129,11 @@ went_out contents old new body good same placed fit (Ok u) out told = (
 went_out contents old new body good same placed fit (Err (errors.IoError e)) out told = (good, (told, same, ((place_of old).endianness, record { placed = placed.0; fit = fit }, out)))
 went_out contents old new body good same placed fit (Err _) out told = absurd out
 
--- an enhanced packet of a described interface leaves the place as it is
+-- An enhanced packet of a described interface doesn't change the place.
 pub packet_placed : (at : Place) (id time original : ℕ) (bytes : List ℕ) → id < at.interfaces → at.interfaces < 2 ^ 32 → TellsPlace at (head_of (EnhancedBody (plain_packet id time original bytes))) (Ok at)
 packet_placed at id time original bytes known room = (record { named = refl; known = λ other is. subst (λ (n : ℕ). n < at.interfaces) (same_Some id other is) known; room = room }, refl)
 
--- and it is fit where its block is short
+-- Such a packet can be written if its data is short enough.
 pub packet_fit : (e : Endianness) (id time original : ℕ) (bytes : List ℕ) → id < 2 ^ 32 → time < 2 ^ 64 → original < 2 ^ 32 → length bytes ≤ 4294967260 → IsFitIn e (EnhancedBody (plain_packet id time original bytes))
 packet_fit e id time original bytes interface fits wire short = record {
   fit = record {

@@ -1,4 +1,4 @@
--- The bodies of blocks, as they are written.
+-- The bytes of the bodies of blocks, as they are written.
 use Rattle.std.specs.Prelude.{◌+◌, ℕ, List, [], ◌∷◌, ◌++◌, length, Option, Some, None}
 use Rattle.std.specs.Int.{w64, cast_unsigned}
 use Rattle.std.specs.List.{flat_map}
@@ -29,63 +29,63 @@ use Rattle.pcap_written.specs.declared.block.BlockHead.{BlockHead}
 use Rattle.pcap_core.specs.Codec.{Encoder}
 use Rattle.pcap_written.specs.Text.{padded_bytes, time_bytes, coded_bytes, list_text}
 
--- the version and the length of a section, and its options ('Section Header Block')
+-- The version and the length of a section, and its options ('Section Header Block').
 abbrev pub after_magic_text : Encoder → Section → List ℕ
 after_magic_text write s =
     write 2 s.major_version ++ (write 2 s.minor_version ++ (write 8 (cast_unsigned w64 s.section_length) ++ list_text write section_header s.options))
 
--- a section: its magic number, high byte first, and what follows it
+-- A section: its magic number, high byte first, and then its version, length and options ('Section Header Block').
 abbrev pub section_text : Encoder → Section → List ℕ
 section_text write s = big_bytes 4 s.magic ++ after_magic_text write s
 
--- an interface ('Interface Description Block')
+-- An interface ('Interface Description Block').
 abbrev pub interface_text : Encoder → Interface → List ℕ
 interface_text write i = write 2 (link_number i.linktype) ++ (write 2 i.reserved ++ (write 4 i.snaplen ++ list_text write interface_description i.options))
 
--- the time and the two lengths of a packet
+-- The timestamp and the two lengths of a packet.
 abbrev pub packet_head_text : Encoder → ℕ → ℕ → ℕ → List ℕ
 packet_head_text write timestamp captured_len original_len = time_bytes write timestamp ++ (write 4 captured_len ++ write 4 original_len)
 
--- a packet that is stored: its head, its bytes with their padding, and its options
+-- A stored packet: its timestamp and lengths, its data with padding, and its options.
 abbrev pub stored_text : Encoder → Kind → Stored → List ℕ
 stored_text write kind p = packet_head_text write p.timestamp p.captured_len p.original_len ++ (padded_bytes p.bytes ++ list_text write kind p.options)
 
--- an enhanced packet ('Enhanced Packet Block')
+-- An enhanced packet ('Enhanced Packet Block').
 abbrev pub enhanced_text : Encoder → Enhanced → List ℕ
 enhanced_text write x = write 4 x.interface_id ++ stored_text write enhanced_packet x.packet
 
--- an obsolete packet ('Packet Block')
+-- An obsolete packet ('Packet Block').
 abbrev pub packet_text : Encoder → PacketBody → List ℕ
 packet_text write p = write 2 p.interface_id ++ (write 2 p.drop_count ++ stored_text write packet_kind p.packet)
 
--- a simple packet ('Simple Packet Block')
+-- A simple packet ('Simple Packet Block').
 abbrev pub simple_text : Encoder → Simple → List ℕ
 simple_text write p = write 4 p.original_len ++ padded_bytes p.bytes
 
--- the statistics of an interface ('Interface Statistics Block')
+-- The statistics of an interface ('Interface Statistics Block').
 abbrev pub statistics_text : Encoder → Statistics → List ℕ
 statistics_text write s = write 4 s.interface_id ++ (time_bytes write s.timestamp ++ list_text write interface_statistics s.options)
 
--- a name, and a zero byte ('Name Resolution Block')
+-- A name, and a zero byte ('Name Resolution Block').
 abbrev pub name_text : List ℕ → List ℕ
 name_text name = name ++ 0 ∷ []
 
--- an address, and its names
+-- An address, and its names ('Name Resolution Block').
 abbrev pub address_text : Address → List ℕ
 address_text a = a.bytes ++ flat_map name_text a.names
 
--- a record
+-- A record of an address, of another type, or the end of the records ('Name Resolution Block').
 abbrev pub record_text : Encoder → NameRecord → List ℕ
 record_text write End = coded_bytes write 0 []
 record_text write (Ipv4 a) = coded_bytes write 1 (address_text a)
 record_text write (Ipv6 a) = coded_bytes write 2 (address_text a)
 record_text write (Other type len v) = coded_bytes write type v
 
--- records, their end, and options
+-- The records, their end, and the options ('Name Resolution Block').
 abbrev pub resolution_text : Encoder → Resolution → List ℕ
 resolution_text write b = flat_map (record_text write) b.records ++ (record_text write End ++ list_text write name_resolution b.options)
 
--- the body of a block
+-- The bytes of the body of a block.
 abbrev pub body_text : Encoder → Body → List ℕ
 body_text write (SectionBody s) = section_text write s
 body_text write (InterfaceBody i) = interface_text write i
@@ -97,7 +97,7 @@ body_text write (EnhancedBody x) = enhanced_text write x
 body_text write (JournalBody entry) = padded_bytes entry
 body_text write (OtherBody u) = padded_bytes u.bytes
 
--- the type of a block by its body
+-- The type of a block, by its body.
 abbrev pub type_of : Body → BlockType
 type_of (SectionBody s) = types.SectionHeader
 type_of (InterfaceBody i) = types.InterfaceDescription
@@ -109,31 +109,31 @@ type_of (EnhancedBody x) = types.EnhancedPacket
 type_of (JournalBody entry) = types.SystemdJournalExport
 type_of (OtherBody u) = u.type_
 
--- the magic number of a block that is a section
+-- The magic number of a block that is a section.
 abbrev pub magic_in : Body → Option ℕ
 magic_in (SectionBody s) = Some s.magic
 magic_in _ = None
 
--- the interface that a block speaks of, by its number in the section
+-- The interface that a block refers to, by its number in the section.
 abbrev pub interface_in : Body → Option ℕ
 interface_in (OldPacketBody p) = Some p.interface_id
 interface_in (StatisticsBody s) = Some s.interface_id
 interface_in (EnhancedBody x) = Some x.interface_id
 interface_in _ = None
 
--- what is known of a block before its body is written
+-- The type, magic number and interface of a block, which the writer needs before it writes the body.
 abbrev pub head_of : Body → BlockHead
 head_of body = record { type_ = type_of body; magic = magic_in body; interface_id = interface_in body }
 
--- the order that a block is written in: the one in force, or a section's own by its magic number
+-- The byte order in which a block is written: the current one, or a section's own by its magic number.
 abbrev pub order_under : Endianness → Option ℕ → Option Endianness
 order_under current None = Some current
 order_under current (Some magic) = magic_order magic
 
--- a block of this type number around a body: the number, the length of all of it, the body, and the length again ('General Block Structure')
+-- A block of this type number: the number, the length of the whole block, the body, and the length again ('General Block Structure').
 abbrev pub block_text : Encoder → ℕ → List ℕ → List ℕ
 block_text write type body = write 4 type ++ (write 4 (length body + 12) ++ (body ++ write 4 (length body + 12)))
 
--- a block
+-- The bytes of a whole block.
 abbrev pub text_of : Encoder → Body → List ℕ
 text_of write body = block_text write (type_number (type_of body)) (body_text write body)

@@ -1,4 +1,4 @@
--- What has a text that is read as it was.
+-- The options, records and blocks that can be written so that they are read as they were.
 use Rattle.std.specs.Prelude.{◌≡◌, ◌≢◌, ◌≤◌, ◌<◌, ◌+◌, ◌^◌, ℕ, List, length, Ok, All, FitsSigned}
 use Rattle.std.specs.Int.{w64}
 use Rattle.pcap_core.specs.Answer.{Order}
@@ -27,18 +27,18 @@ use Rattle.pcap_core.specs.Codec.{Encoder}
 use Rattle.pcap_written.specs.Text.{padded_bytes, option_value}
 use Rattle.pcap_written.specs.Bodies.{address_text}
 
--- an option: its value is the one that its code's row of the kind's table reads
+-- The option can be written: the row of its code in the kind's table reads the same value.
 pub record IsFitOption (order : Order) (write : Encoder) (kind : Kind) (o : Entry) : Type 0 where
   pub code : o.code < 2 ^ 16
   pub no_mark : o.code ≢ 0
   pub short : length (option_value write kind o) < 2 ^ 16
   pub kept : value_of order (shape_at kind o.code) (option_value write kind o) ≡ Ok o.value
 
--- a list of options
+-- All options of the list can be written.
 abbrev pub AreFit : Order → Encoder → Kind → List Entry → Type 0
 AreFit order write kind = All (IsFitOption order write kind)
 
--- a section whose numbers have their widths
+-- The section can be written: its numbers fit their fields.
 pub record IsFitSection (order : Order) (write : Encoder) (s : Section) : Type 0 where
   pub magic : s.magic < 2 ^ 32
   pub major : s.major_version < 2 ^ 16
@@ -46,7 +46,7 @@ pub record IsFitSection (order : Order) (write : Encoder) (s : Section) : Type 0
   pub length_fits : FitsSigned w64 s.section_length
   pub options : AreFit order write section_header s.options
 
--- an interface: its link type has a number of two bytes, and is what that number stands for
+-- The interface can be written: the number of its link type fits two bytes, and leads back to the link type.
 pub record IsFitInterface (order : Order) (write : Encoder) (i : Interface) : Type 0 where
   pub plain : IsPlain i.linktype
   pub link : link_number i.linktype < 2 ^ 16
@@ -54,7 +54,7 @@ pub record IsFitInterface (order : Order) (write : Encoder) (i : Interface) : Ty
   pub snaplen : i.snaplen < 2 ^ 32
   pub options : AreFit order write interface_description i.options
 
--- a packet that is stored: its stored length is that of its bytes
+-- The stored packet can be written: its stored length is the number of its bytes.
 pub record IsFitStored (order : Order) (write : Encoder) (kind : Kind) (p : Stored) : Type 0 where
   pub time : p.timestamp < 2 ^ 64
   pub captured : length p.bytes ≡ p.captured_len
@@ -62,61 +62,61 @@ pub record IsFitStored (order : Order) (write : Encoder) (kind : Kind) (p : Stor
   pub original_fits : p.original_len < 2 ^ 32
   pub options : AreFit order write kind p.options
 
--- an enhanced packet
+-- The enhanced packet can be written.
 pub record IsFitEnhanced (order : Order) (write : Encoder) (x : Enhanced) : Type 0 where
   pub interface : x.interface_id < 2 ^ 32
   pub packet : IsFitStored order write enhanced_packet x.packet
 
--- an obsolete packet
+-- The obsolete packet can be written.
 pub record IsFitPacket (order : Order) (write : Encoder) (p : PacketBody) : Type 0 where
   pub interface : p.interface_id < 2 ^ 16
   pub drops : p.drop_count < 2 ^ 16
   pub packet : IsFitStored order write packet_kind p.packet
 
--- the statistics of an interface
+-- The statistics of an interface can be written.
 pub record IsFitStatistics (order : Order) (write : Encoder) (s : Statistics) : Type 0 where
   pub interface : s.interface_id < 2 ^ 32
   pub time : s.timestamp < 2 ^ 64
   pub options : AreFit order write interface_statistics s.options
 
--- a name: a string without a zero byte
+-- The name can be written: it is a string without a zero byte.
 pub record IsFitName (name : List ℕ) : Type 0 where
   pub no_zero : HasNoZero name
   pub string : string_at name ≡ Ok name
 
--- an address of this width, and its names: there is one, and more than one where it is empty
+-- The address has this width, and its names take at least two bytes: one name, or several if it is empty.
 pub record IsFitAddress (width : ℕ) (a : Address) : Type 0 where
   pub wide : length a.bytes ≡ width
   pub names : All IsFitName a.names
   pub some : width + 2 ≤ length (address_text a)
   pub short : length (address_text a) < 2 ^ 16
 
--- a record of another type: its number has no name, and the length is that of its value
+-- The record of another type can be written: its type has no name, and its length is that of its value.
 pub record IsFitOther (type len : ℕ) (v : List ℕ) : Type 0 where
   pub fits : type < 2 ^ 16
   pub unnamed : form_of type ≡ any_value type
   pub whole : len ≡ length v
   pub short : length v < 2 ^ 16
 
--- a record; the end is written behind the records, and is none of them
+-- The record can be written. The end is none of the records; it is written after them.
 abbrev pub IsFitRecord : NameRecord → Type 0
 IsFitRecord End = ⊥
 IsFitRecord (Ipv4 a) = IsFitAddress 4 a
 IsFitRecord (Ipv6 a) = IsFitAddress 16 a
 IsFitRecord (Other type len v) = IsFitOther type len v
 
--- names
+-- The records and options of a name resolution block can be written.
 pub record IsFitResolution (order : Order) (write : Encoder) (b : Resolution) : Type 0 where
   pub records : All IsFitRecord b.records
   pub options : AreFit order write name_resolution b.options
 
--- a block of an unknown type: its number has no name, and the length is that of its bytes
+-- The block of an unknown type can be written: its type number has no name, and its length is the number of its bytes.
 pub record IsFitUnknown (u : UnknownBody) : Type 0 where
   pub number : type_number u.type_ < 2 ^ 32
   pub unnamed : block_type (type_number u.type_) ≡ types.Unknown (type_number u.type_)
   pub whole : u.len ≡ length u.bytes
 
--- a body
+-- The body can be written.
 abbrev pub IsFitBody : Order → Encoder → Body → Type 0
 IsFitBody order write (SectionBody s) = IsFitSection order write s
 IsFitBody order write (InterfaceBody i) = IsFitInterface order write i
@@ -128,7 +128,7 @@ IsFitBody order write (EnhancedBody x) = IsFitEnhanced order write x
 IsFitBody order write (JournalBody entry) = Unit {0}
 IsFitBody order write (OtherBody u) = IsFitUnknown u
 
--- a body as it is read where it was written: bytes that are the rest of a block have their padding
+-- The body as a reader gets it: data that extends to the end of a block includes its padding.
 abbrev pub kept_body : Body → Body
 kept_body (SimpleBody p) = SimpleBody (record { original_len = p.original_len; bytes = padded_bytes p.bytes })
 kept_body (JournalBody entry) = JournalBody (padded_bytes entry)

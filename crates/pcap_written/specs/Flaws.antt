@@ -1,4 +1,4 @@
--- Why a block has no text, one for each reason.
+-- The reasons why a block can't be written.
 use Rattle.std.specs.Prelude.{◌≡◌, ◌≢◌, ◌≤◌, ◌<◌, ◌+◌, ◌^◌, ◌⊎◌, ℕ, List, length, Result, Ok, Err, Any, codes}
 use Rattle.pcap_core.specs.Answer.{Order}
 use Rattle.pcap_core.specs.declared.rules.Rule.{Rule}
@@ -28,7 +28,7 @@ use Rattle.pcap_core.specs.Codec.{Encoder}
 use Rattle.pcap_written.specs.Text.{option_value}
 use Rattle.pcap_written.specs.Bodies.{address_text}
 
--- the message that names a reason
+-- The message for each reason.
 abbrev pub flaw_message : Unwritable → List ℕ
 flaw_message flaws.OptionTooLong = codes "Option: value length > 65535"
 flaw_message flaws.OptionMisplaced = codes "Option: value of another code"
@@ -50,7 +50,7 @@ flaw_message flaws.InterfaceMissing = codes "Block: interface_id is not describe
 flaw_message flaws.InterfacesFull = codes "SectionHeader: too many interfaces"
 flaw_message flaws.OrderDiffers = codes "Block: order of another section"
 
--- a shape holds values of this form
+-- An option of this shape holds values of this form.
 abbrev pub Suits : Shape → Value → Type 0
 Suits string (Str t) = Unit {0}
 Suits bytes (Bytes b) = Unit {0}
@@ -65,16 +65,16 @@ Suits custom_bytes (CustomBytes pen b) = Unit {0}
 Suits unknown (Unknown len b) = Unit {0}
 Suits _ _ = ⊥
 
--- an option whose code is the mark's, or holds values of another form
+-- The option has the code of the end mark, or a code whose options hold values of another form.
 abbrev pub IsMisplaced : Kind → Entry → Type 0
 IsMisplaced kind o = (o.code ≡ 0) ⊎ (Suits (shape_at kind o.code) o.value → ⊥)
 
--- a value that states another length than its bytes have
+-- The value states a length that differs from the number of its bytes.
 abbrev pub LengthDiffers : Value → Type 0
 LengthDiffers (Unknown len b) = length b ≢ len
 LengthDiffers _ = ⊥
 
--- what stands against an option
+-- The option can't be written, for this reason.
 abbrev pub OptionFlaw : Order → Encoder → Kind → Unwritable → Entry → Type 0
 OptionFlaw order write kind flaws.OptionTooLong o = 2 ^ 16 ≤ length (option_value write kind o)
 OptionFlaw order write kind flaws.OptionMisplaced o = IsMisplaced kind o
@@ -82,22 +82,22 @@ OptionFlaw order write kind flaws.OptionLengthDiffers o = LengthDiffers o.value
 OptionFlaw order write kind (flaws.Breaks rule) o = value_of order (shape_at kind o.code) (option_value write kind o) ≡ Err (Invalid rule)
 OptionFlaw order write kind _ o = ⊥
 
--- what stands against a list of options: it stands against one of them
+-- The list can't be written, since one of its options can't be written for this reason.
 abbrev pub ListFlaw : Order → Encoder → Kind → List Entry → Unwritable → Type 0
 ListFlaw order write kind os flaw = Any (OptionFlaw order write kind flaw) os
 
--- what stands against a stored packet
+-- The stored packet can't be written, for this reason.
 abbrev pub StoredFlaw : Order → Encoder → Kind → Stored → Unwritable → Type 0
 StoredFlaw order write kind p flaws.CapturedLengthDiffers = length p.bytes ≢ p.captured_len
 StoredFlaw order write kind p flaw = ListFlaw order write kind p.options flaw
 
--- what stands against an interface
+-- The interface can't be written, for this reason.
 abbrev pub InterfaceFlaw : Order → Encoder → Interface → Unwritable → Type 0
 InterfaceFlaw order write i flaws.LinkTooLarge = 2 ^ 16 ≤ link_number i.linktype
 InterfaceFlaw order write i flaws.LinkMisnamed = IsPlain i.linktype → ⊥
 InterfaceFlaw order write i flaw = ListFlaw order write interface_description i.options flaw
 
--- what stands against an address of this width and its names, too short by this rule
+-- The address of this width and its names can't be written, for this reason; `too_short` is the rule that a short value breaks.
 abbrev pub AddressFlaw : ℕ → Rule → Address → Unwritable → Type 0
 AddressFlaw width too_short a flaws.AddressLengthDiffers = length a.bytes ≢ width
 AddressFlaw width too_short a flaws.NameWithZero = Any (λ name. HasNoZero name → ⊥) a.names
@@ -105,30 +105,30 @@ AddressFlaw width too_short a flaws.RecordTooLong = 2 ^ 16 ≤ length (address_t
 AddressFlaw width too_short a (flaws.Breaks rule) = (rule ≡ too_short) × (length (address_text a) < width + 2)
 AddressFlaw width too_short a _ = ⊥
 
--- what stands against a record of another type
+-- The record of another type can't be written, for this reason.
 abbrev pub OtherFlaw : ℕ → ℕ → List ℕ → Unwritable → Type 0
 OtherFlaw type len v flaws.RecordMisnamed = form_of type ≢ any_value type
 OtherFlaw type len v flaws.RecordLengthDiffers = len ≢ length v
 OtherFlaw type len v _ = ⊥
 
--- what stands against a record
+-- The record can't be written, for this reason.
 abbrev pub RecordFlaw : Unwritable → NameRecord → Type 0
 RecordFlaw flaw End = flaw ≡ flaws.EndMisplaced
 RecordFlaw flaw (Ipv4 a) = AddressFlaw 4 Ipv4RecordTooShort a flaw
 RecordFlaw flaw (Ipv6 a) = AddressFlaw 16 Ipv6RecordTooShort a flaw
 RecordFlaw flaw (Other type len v) = OtherFlaw type len v flaw
 
--- what stands against names: it stands against a record, or against an option
+-- The name resolution block can't be written, since one of its records or options can't be written for this reason.
 abbrev pub ResolutionFlaw : Order → Encoder → Resolution → Unwritable → Type 0
 ResolutionFlaw order write b flaw = Any (RecordFlaw flaw) b.records ⊎ ListFlaw order write name_resolution b.options flaw
 
--- what stands against a block of an unknown type
+-- The block of an unknown type can't be written, for this reason.
 abbrev pub UnknownFlaw : UnknownBody → Unwritable → Type 0
 UnknownFlaw u flaws.TypeMisnamed = block_type (type_number u.type_) ≢ types.Unknown (type_number u.type_)
 UnknownFlaw u flaws.BlockLengthDiffers = u.len ≢ length u.bytes
 UnknownFlaw u _ = ⊥
 
--- what stands against a body
+-- The body can't be written, for this reason.
 abbrev pub BodyFlaw : Order → Encoder → Body → Unwritable → Type 0
 BodyFlaw order write (SectionBody s) = ListFlaw order write section_header s.options
 BodyFlaw order write (InterfaceBody i) = InterfaceFlaw order write i
@@ -140,7 +140,7 @@ BodyFlaw order write (EnhancedBody x) = StoredFlaw order write enhanced_packet x
 BodyFlaw order write (JournalBody entry) = λ flaw. ⊥
 BodyFlaw order write (OtherBody u) = UnknownFlaw u
 
--- the number of a link type, as an interface holds it, or what stands against it
+-- The number of a link type in an interface description, or the reason why it can't be written.
 abbrev pub TellsLink : DataLink → Result ℕ Unwritable → Type 0
 TellsLink link (Ok n) = (n ≡ link_number link) × (n < 2 ^ 16) × IsPlain link
 TellsLink link (Err flaws.LinkTooLarge) = 2 ^ 16 ≤ link_number link

@@ -1,4 +1,4 @@
--- The value of an option, as it is about to be written.
+-- The values of options, in the form in which they are written.
 use Rattle.std.specs.Prelude.{◌≡◌, ◌≢◌, ◌<◌, ◌≤◌, ◌^◌, ℕ, List, [], ◌∷◌, ◌++◌, length, Option, Some, None, Result, Ok, Err, IsUtf8}
 use Rattle.pcap_options.specs.Values.{Value, Str, Bytes, Integer, CustomStr, CustomBytes, Unknown, Entry, Shape, string, bytes, some_bytes, fixed_bytes, byte, number, first_number, first_time, custom_string, custom_bytes, unknown, Kind, shape_at}
 use Rattle.pcap_written.specs.declared.form.Form.{Form}
@@ -9,7 +9,7 @@ use Rattle.pcap_core.specs.Codec.{Encoder}
 use Rattle.pcap_written.specs.Text.{time_bytes}
 use Rattle.pcap_written.specs.Flaws.{IsMisplaced}
 
--- its bytes
+-- The bytes of a form.
 abbrev pub form_bytes : Encoder → Form → List ℕ
 form_bytes write (forms.Bytes b) = b.now
 form_bytes write (forms.Sized n rule b) = b.now
@@ -21,7 +21,7 @@ form_bytes write (forms.Time n) = time_bytes write n
 form_bytes write (forms.Custom pen b) = write 4 pen ++ b.now
 form_bytes write (forms.Unknown len b) = b.now
 
--- a value of this shape in this form
+-- The form is that of a value of this shape.
 abbrev pub IsForm : Shape → Value → Form → Type 0
 IsForm string (Str t) (forms.Bytes b) = (b.now ≡ t) × IsUtf8 t
 IsForm bytes (Bytes v) (forms.Bytes b) = b.now ≡ v
@@ -37,19 +37,19 @@ IsForm custom_bytes (CustomBytes pen v) (forms.Custom m b) = (m ≡ pen) × (pen
 IsForm unknown (Unknown len v) (forms.Unknown m b) = (m ≡ len) × (b.now ≡ v)
 IsForm _ _ _ = ⊥
 
--- the code of an option, and the form of its value; or it is misplaced
+-- The code of an option and the form of its value, or None if the option is misplaced.
 abbrev pub TellsCoded : Kind → Entry → Option (ℕ × Form) → Type 0
 TellsCoded kind o None = IsMisplaced kind o
 TellsCoded kind o (Some coded) = (coded.0 ≡ o.code) × (o.code ≢ 0) × (o.code < 2 ^ 16) × IsForm (shape_at kind o.code) o.value coded.1
 
--- a form that is written whole
+-- The number of bytes meets the form's condition.
 abbrev pub FitsForm : Form → Type 0
 FitsForm (forms.Sized n rule b) = length b.now ≡ n
 FitsForm (forms.Filled rule b) = length b.now ≢ 0
 FitsForm (forms.Unknown len b) = length b.now ≡ len
 FitsForm _ = Unit {0}
 
--- what stands against a form
+-- The form can't be written, for this reason.
 abbrev pub FormFlaw : Form → Unwritable → Type 0
 FormFlaw (forms.Sized n rule b) (flaws.Breaks broken) = (broken ≡ rule) × (length b.now ≢ n)
 FormFlaw (forms.Filled rule b) (flaws.Breaks broken) = (broken ≡ rule) × (length b.now ≡ 0)
@@ -57,7 +57,7 @@ FormFlaw (forms.Unknown len b) flaws.OptionLengthDiffers = length b.now ≢ len
 FormFlaw form flaws.OptionTooLong = (write : Encoder) → ((w n : ℕ) → length (write w n) ≡ w) → 2 ^ 16 ≤ length (form_bytes write form)
 FormFlaw _ _ = ⊥
 
--- a form that is whole has so many bytes, whatever the order, or something stands against it
+-- The form has `len` bytes in each byte order, or it can't be written for this reason.
 abbrev pub MeasuresForm : Form → Result ℕ Unwritable → Type 0
 MeasuresForm form (Ok len) = FitsForm form × (len < 2 ^ 16) × ((write : Encoder) → ((w n : ℕ) → length (write w n) ≡ w) → length (form_bytes write form) ≡ len)
 MeasuresForm form (Err flaw) = FormFlaw form flaw

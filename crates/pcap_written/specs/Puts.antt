@@ -1,4 +1,4 @@
--- What calls that put bytes behind others say.
+-- The results of calls that append bytes to a buffer.
 use Rattle.std.specs.Prelude.{◌≡◌, ◌≤◌, ◌<◌, ◌^◌, ℕ, List, ◌++◌, length, All, Any, Result, Ok, Err}
 use Rattle.std.specs.List.{flat_map}
 use Rattle.pcap_core.specs.declared.errors.PcapError.{PcapError}
@@ -12,23 +12,23 @@ use Rattle.pcap_written.specs.Bodies.{name_text}
 use Rattle.pcap_written.specs.Fits.{IsFitName}
 use Rattle.pcap_written.specs.Flaws.{flaw_message}
 
--- why bytes were not put: memory ran out, or this stands against them
+-- Bytes were not appended: memory ran out, or they can't be written for this reason.
 abbrev pub RefusesPut : (Unwritable → Type 0) → Unput → Type 0
 RefusesPut Stands (Memory e) = Unit {0}
 RefusesPut Stands (Unfit flaw) = Stands flaw
 
--- this text was put behind the others, and it is read as it was; or it was not
+-- This text was appended, and is read as it was; or it was not appended.
 abbrev pub Puts : Type 0 → (Unwritable → Type 0) → List ℕ → List ℕ → List ℕ → Result (Unit {0}) Unput → Type 0
 Puts IsFit Stands text old new (Ok u) = (new ≡ old ++ text) × IsFit
 Puts IsFit Stands text old new (Err e) = RefusesPut Stands e
 
--- the error that shows why bytes were not put
+-- The error that a caller gets if bytes were not appended.
 abbrev pub IsShownAs : Unput → PcapError → Type 0
 IsShownAs (Memory e) (OutOfMemory shown) = shown ≡ e
 IsShownAs (Unfit flaw) (InvalidField message) = message.now ≡ flaw_message flaw
 IsShownAs _ _ = ⊥
 
--- so many bytes have the names with their zero bytes, and each is a name; or something stands against them
+-- The names and their zero bytes have `len` bytes, and each name can be written; or one can't, or they are too long.
 abbrev pub MeasuresNames : List (List ℕ) → Result ℕ Unwritable → Type 0
 MeasuresNames names (Ok len) = (length (flat_map name_text names) ≡ len) × (len < 2 ^ 16) × All IsFitName names
 MeasuresNames names (Err flaws.NameWithZero) = Any (λ name. HasNoZero name → ⊥) names

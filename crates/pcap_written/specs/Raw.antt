@@ -1,4 +1,4 @@
--- Blocks whose bodies are bytes that are written as they stand ('General Block Structure').
+-- Blocks whose bodies are bytes, which are written unchanged ('General Block Structure').
 use Rattle.std.specs.Prelude.{◌≡◌, ◌≢◌, ◌≤◌, ◌<◌, ◌+◌, ◌%◌, ◌^◌, ◌⊎◌, ℕ, List, length, take, true, false, Option, Some, None, Result, Ok, Err}
 use Rattle.std.specs.Io.KnownBytes.{Appends, Keeps}
 use Rattle.byteorder.specs.Endian.{big_number}
@@ -21,38 +21,38 @@ use Rattle.pcap_written.specs.Bodies.{block_text}
 use Rattle.pcap_written.specs.Flaws.{flaw_message}
 use Rattle.pcap_written.specs.Writing.{IsKept, IsPlaced, PlaceFlaw, TellsPlace, has_failed, place_of, stream_of}
 
--- a block whose body is bytes: its type, the order of its numbers, and these bytes
+-- A block whose body is bytes: its type, its byte order, and these bytes.
 pub record Raw : Type 0 where
   pub type_ : BlockType
   pub endianness : Endianness
   pub body : List ℕ
 
--- such a block of the code
+-- The raw block that a program's value holds.
 abbrev pub raw_of : RawBlock → Raw
 raw_of block = record { type_ = block.type_; endianness = block.endianness; body = block.body.now }
 
--- the magic number of a section, which stands first in its body ('Section Header Block')
+-- The magic number of a section, which is at the beginning of its body ('Section Header Block').
 abbrev pub magic_at : BlockType → List ℕ → Option ℕ
 magic_at types.SectionHeader body = Some (big_number 4 (take 4 body))
 magic_at _ body = None
 
--- what is known of such a block: the interface that it speaks of stands in its body, and is not looked at
+-- The type and magic number of a raw block. An interface that its body refers to is not looked at.
 abbrev pub raw_head : Raw → BlockHead
 raw_head raw = record { type_ = raw.type_; magic = magic_at raw.type_ raw.body; interface_id = None }
 
--- such a block has a text: its type has a number of four bytes and goes by its own name, and its length is a multiple of 4 and has
--- four bytes
+-- The raw block can be written: its type number fits four bytes and has no other name, and its length is a multiple of 4 that fits four
+-- bytes.
 pub record IsFitRaw (raw : Raw) : Type 0 where
   pub number : type_number raw.type_ < 2 ^ 32
   pub named : block_type (type_number raw.type_) ≡ raw.type_
   pub aligned : length raw.body % 4 ≡ 0
   pub short : length raw.body + 12 < 2 ^ 32
 
--- its text, in its own order
+-- The bytes of a raw block, in its own byte order.
 abbrev pub raw_text : Raw → List ℕ
 raw_text raw = block_text (number_bytes raw.endianness) (type_number raw.type_) raw.body
 
--- what stands against such a block at this place
+-- The raw block can't be written at this place, for this reason.
 abbrev pub RawFlaw : Place → Raw → Unwritable → Type 0
 RawFlaw at raw flaws.TypeMisnamed = block_type (type_number raw.type_) ≢ raw.type_
 RawFlaw at raw flaws.BlockTooLong = 2 ^ 32 ≤ length raw.body + 12
@@ -60,13 +60,13 @@ RawFlaw at raw flaws.OrderDiffers = (order : Endianness) × IsPlaced at (raw_hea
 RawFlaw at raw (flaws.Breaks rule) = ((rule ≡ BlockUnaligned) × (length raw.body % 4 ≢ 0)) ⊎ PlaceFlaw at (raw_head raw) (flaws.Breaks rule)
 RawFlaw at raw flaw = PlaceFlaw at (raw_head raw) flaw
 
--- a block with a text may stand here in its own order, and this is the place behind it; or what stands against it
+-- The place after a raw block that can be written here in its own byte order, or the reason why it can't be written.
 abbrev pub TellsRaw : Place → Raw → Result Place Unwritable → Type 0
 TellsRaw at raw (Ok behind) = IsFitRaw raw × TellsPlace at (raw_head raw) (Ok behind) × (behind.endianness ≡ raw.endianness)
 TellsRaw at raw (Err flaw) = RawFlaw at raw flaw
 
--- One call that writes such a block, which was not refused for an earlier failure. Something stands against the block, or memory
--- ran out: nothing goes out. Else it went out whole, or a write failed behind a beginning of it.
+-- The result of writing a raw block if no earlier write failed. If the block can't be written, or memory ran out, nothing is written.
+-- Else it was written whole, or a write failed after a beginning of it.
 abbrev pub WritesRawGood : {W : Type 0} → (W → Option (List ℕ)) → PcapNgWriter W → PcapNgWriter W → Raw → Result (Unit {0}) PcapError → Type 0
 WritesRawGood contents old new raw (Err (errors.InvalidField message)) =
     IsKept contents old new × ((flaw : Unwritable) × (message.now ≡ flaw_message flaw) × RawFlaw (place_of old) raw flaw)
@@ -78,7 +78,7 @@ WritesRawGood contents old new raw (Err _) = ⊥
 WritesRawGood contents old new raw (Ok u) =
     (has_failed new ≡ false) × TellsRaw (place_of old) raw (Ok (place_of new)) × Appends (contents (stream_of old)) (contents (stream_of new)) (raw_text raw)
 
--- One call that writes such a block: an earlier write failed, and nothing goes out, or it is as above.
+-- The result of writing a raw block: an earlier write failed, and nothing is written, or it is as above.
 abbrev pub WritesRaw : {W : Type 0} → (W → Option (List ℕ)) → PcapNgWriter W → PcapNgWriter W → Raw → Result (Unit {0}) PcapError → Type 0
 WritesRaw contents old new raw (Err errors.WriterFailed) =
     (has_failed old ≡ true) × (has_failed new ≡ true) × (place_of new ≡ place_of old) × Keeps (contents (stream_of old)) (contents (stream_of new))

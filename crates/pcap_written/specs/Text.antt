@@ -1,23 +1,23 @@
--- Values, options and lists, as they are written ('General Block Structure', 'Options').
+-- The bytes of values, options and lists, as they are written ('General Block Structure', 'Options').
 use Rattle.std.specs.Prelude.{◌-◌, ◌/◌, ◌%◌, ◌^◌, ℕ, List, [], ◌∷◌, ◌++◌, length, take}
 use Rattle.std.specs.List.{flat_map}
 use Rattle.pcap_core.specs.Padded.{up_to_4}
 use Rattle.pcap_options.specs.Values.{Value, Str, Bytes, Integer, CustomStr, CustomBytes, Unknown, Entry, Shape, string, bytes, some_bytes, fixed_bytes, byte, number, first_number, first_time, custom_string, custom_bytes, unknown, Kind, shape_at}
 use Rattle.pcap_core.specs.Codec.{Encoder}
 
--- zero bytes up to the next multiple of 4
+-- The zero bytes up to the next multiple of 4.
 abbrev pub padding : ℕ → List ℕ
 padding n = take (up_to_4 n - n) (0 ∷ 0 ∷ 0 ∷ [])
 
--- bytes, and their padding
+-- Bytes, and their padding.
 abbrev pub padded_bytes : List ℕ → List ℕ
 padded_bytes v = v ++ padding (length v)
 
--- a time, its high 4 bytes before its low 4
+-- A timestamp, its high 4 bytes before its low 4.
 abbrev pub time_bytes : Encoder → ℕ → List ℕ
 time_bytes write n = write 4 (n / 2 ^ 32) ++ write 4 (n % 2 ^ 32)
 
--- a number in an option of this shape; a counter and a time have 8 bytes
+-- A number in an option of this shape; a counter and a timestamp have 8 bytes.
 abbrev pub integer_bytes : Encoder → Shape → ℕ → List ℕ
 integer_bytes write (byte wrong) n = n ∷ []
 integer_bytes write (number w wrong) n = write w n
@@ -31,7 +31,7 @@ integer_bytes write custom_string n = []
 integer_bytes write custom_bytes n = []
 integer_bytes write unknown n = []
 
--- the value of an option of this shape; the number of an enterprise stands before its string or bytes
+-- The value of an option of this shape; the number of an enterprise comes before its string or bytes.
 abbrev pub value_text : Encoder → Shape → Value → List ℕ
 value_text write shape (Str t) = t
 value_text write shape (Bytes b) = b
@@ -40,23 +40,23 @@ value_text write shape (CustomStr pen t) = write 4 pen ++ t
 value_text write shape (CustomBytes pen b) = write 4 pen ++ b
 value_text write shape (Unknown len b) = b
 
--- a code, or the type of a record, a length, and so many bytes with their padding
+-- The code of an option, or the type of a record, then the length of its value, and the value with its padding.
 abbrev pub coded_bytes : Encoder → ℕ → List ℕ → List ℕ
 coded_bytes write code v = write 2 code ++ (write 2 (length v) ++ padded_bytes v)
 
--- the value of an option of this kind
+-- The value of an option of this kind.
 abbrev pub option_value : Encoder → Kind → Entry → List ℕ
 option_value write kind o = value_text write (shape_at kind o.code) o.value
 
--- an option of this kind
+-- An option of this kind: its code, its length, and its value with padding.
 abbrev pub option_text : Encoder → Kind → Entry → List ℕ
 option_text write kind o = coded_bytes write o.code (option_value write kind o)
 
--- the mark that ends a list
+-- The mark that ends a list.
 abbrev pub end_mark : Encoder → List ℕ
 end_mark write = write 2 0 ++ write 2 0
 
--- a list of options, and its mark; nothing where there are none
+-- A list of options, and its end mark; nothing if there are no options.
 abbrev pub list_text : Encoder → Kind → List Entry → List ℕ
 list_text write kind [] = []
 list_text write kind (o ∷ os) = flat_map (option_text write kind) (o ∷ os) ++ end_mark write

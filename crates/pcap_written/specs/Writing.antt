@@ -1,4 +1,4 @@
--- What calls that write blocks say.
+-- The results of calls that write blocks.
 use Rattle.std.specs.Prelude.{◌≡◌, ◌≤◌, ◌<◌, ◌+◌, ◌^◌, ◌⊎◌, ℕ, List, Bool, true, false, Option, Some, None, Result, Ok, Err, length}
 use Rattle.std.specs.Io.KnownBytes.{Appends, Keeps}
 use Rattle.pcap_core.specs.declared.common.Endianness.{Endianness}
@@ -23,91 +23,91 @@ use Rattle.pcap_written.specs.Fits.{IsFitBody}
 use Rattle.pcap_written.specs.Flaws.{BodyFlaw, flaw_message}
 use Rattle.pcap_written.specs.Puts.{RefusesPut}
 
--- so many interfaces are described behind a block of this type: a section has none yet
+-- The number of interfaces after a block of this type; a section begins with none.
 abbrev pub interfaces_after : ℕ → BlockType → ℕ
 interfaces_after n types.SectionHeader = 0
 interfaces_after n types.InterfaceDescription = n + 1
 interfaces_after n _ = n
 
--- the order of a block with this magic number, or with none where this order is in force; or it names none
+-- The byte order of a block with this magic number, or the current order if it has none; or its magic number names no order.
 abbrev pub NamesOrder : Endianness → Option ℕ → Result Endianness Unwritable → Type 0
 NamesOrder current magic (Ok order) = order_under current magic ≡ Some order
 NamesOrder current magic (Err flaw) = (flaw ≡ flaws.Breaks SectionMagic) × (order_under current magic ≡ None)
 
--- a block may stand behind these: its magic number names an order, its interface is described, and the interfaces have room
+-- A block can follow here: its magic number names a byte order, its interface is described, and the interfaces have room.
 pub record IsPlaced (at : Place) (head : BlockHead) (order : Endianness) : Type 0 where
   pub named : order_under at.endianness head.magic ≡ Some order
   pub known : (id : ℕ) → head.interface_id ≡ Some id → id < at.interfaces
   pub room : interfaces_after at.interfaces head.type_ < 2 ^ 32
 
--- what stands against a block at this place
+-- A block with this head can't be written at this place, for this reason.
 abbrev pub PlaceFlaw : Place → BlockHead → Unwritable → Type 0
 PlaceFlaw at head (flaws.Breaks rule) = (rule ≡ SectionMagic) × (order_under at.endianness head.magic ≡ None)
 PlaceFlaw at head flaws.InterfaceMissing = (id : ℕ) × (head.interface_id ≡ Some id) × (at.interfaces ≤ id)
 PlaceFlaw at head flaws.InterfacesFull = 2 ^ 32 ≤ interfaces_after at.interfaces head.type_
 PlaceFlaw at head _ = ⊥
 
--- the place behind a block that may stand here, or what stands against it
+-- The place after a block with this head, or the reason why it can't be written here.
 abbrev pub TellsPlace : Place → BlockHead → Result Place Unwritable → Type 0
 TellsPlace at head (Ok behind) = IsPlaced at head behind.endianness × (behind.interfaces ≡ interfaces_after at.interfaces head.type_)
 TellsPlace at head (Err flaw) = PlaceFlaw at head flaw
 
--- the body has a text by this order, in a block whose length has four bytes
+-- The body can be written in this byte order, in a block whose length fits four bytes.
 pub record IsFitBlock (order : Order) (write : Encoder) (body : Body) : Type 0 where
   pub fit : IsFitBody order write body
   pub short : length (body_text write body) + 12 < 2 ^ 32
 
--- what stands against a block by this order
+-- A block can't be written in this byte order, for this reason.
 abbrev pub FitFlaw : Order → Encoder → Body → Unwritable → Type 0
 FitFlaw order write body flaws.BlockTooLong = 2 ^ 32 ≤ length (body_text write body) + 12
 FitFlaw order write body flaw = BodyFlaw order write body flaw
 
--- the same in an order by its name
+-- The body can be written in the byte order of this name.
 abbrev pub IsFitIn : Endianness → Body → Type 0
 IsFitIn e = IsFitBlock (number_in e) (number_bytes e)
 
 abbrev pub FlawIn : Endianness → Body → Unwritable → Type 0
 FlawIn e = FitFlaw (number_in e) (number_bytes e)
 
--- what stands against a block by itself where this order is in force: its magic number names no order, or it has no text in its own
+-- The block can't be written under this current order: its magic number names no order, or it can't be written in its own.
 abbrev pub OwnFlaw : Endianness → Body → Unwritable → Type 0
 OwnFlaw current body flaw =
     NamesOrder current (magic_in body) (Err flaw) ⊎ ((order : Endianness) × (order_under current (magic_in body) ≡ Some order) × FlawIn order body flaw)
 
--- a body was made, in the block's own order, or this stands against the block
+-- The body of a block was made in the block's own byte order, or the block can't be written for this reason.
 abbrev pub MakesBody : Endianness → Body → List ℕ → Result Endianness Unput → Type 0
 MakesBody current body text (Ok order) = (order_under current (magic_in body) ≡ Some order) × IsFitIn order body × (text ≡ body_text (number_bytes order) body)
 MakesBody current body text (Err e) = RefusesPut (OwnFlaw current body) e
 
--- a block can be written at this place, in this order
+-- A block can be written at this place, in this byte order.
 pub record IsWritable (at : Place) (body : Body) (order : Endianness) : Type 0 where
   pub placed : IsPlaced at (head_of body) order
   pub fit : IsFitIn order body
 
--- what stands against a block at this place
+-- A block can't be written at this place, for this reason.
 abbrev pub BlockFlaw : Place → Body → Unwritable → Type 0
 BlockFlaw at body flaw = PlaceFlaw at (head_of body) flaw ⊎ ((order : Endianness) × IsPlaced at (head_of body) order × FlawIn order body flaw)
 
--- the stream behind a writer
+-- The wrapped stream of a writer.
 abbrev pub stream_of : {W : Type 0} → PcapNgWriter W → W
 stream_of w = w.inner
 
--- whether a write of it failed
+-- A write to the wrapped stream failed.
 abbrev pub has_failed : {W : Type 0} → PcapNgWriter W → Bool
 has_failed w = w.has_failed
 
--- what is in force behind the blocks that it wrote
+-- The place after the blocks that the writer wrote.
 abbrev pub place_of : {W : Type 0} → PcapNgWriter W → Place
 place_of w = w.place
 
--- nothing went out, and the writer stands where it stood
+-- Nothing was written, and the writer's place is unchanged.
 pub record IsKept {W : Type 0} (contents : W → Option (List ℕ)) (old new : PcapNgWriter W) : Type 0 where
   pub good : has_failed new ≡ false
   pub place : place_of new ≡ place_of old
   pub out : Keeps (contents (stream_of old)) (contents (stream_of new))
 
--- One call that writes a block, which was not refused for an earlier failure. Something stands against the block, or memory ran
--- out: nothing goes out. Else it went out whole, or a write failed behind a beginning of it.
+-- The result of writing a block if no earlier write failed. If the block can't be written, or memory ran out, nothing is written. Else
+-- it was written whole, or a write failed after a beginning of it.
 abbrev pub WritesGood : {W : Type 0} → (W → Option (List ℕ)) → PcapNgWriter W → PcapNgWriter W → Body → Result (Unit {0}) PcapError → Type 0
 WritesGood contents old new body (Err (errors.InvalidField message)) =
     IsKept contents old new × ((flaw : Unwritable) × (message.now ≡ flaw_message flaw) × BlockFlaw (place_of old) body flaw)
@@ -121,18 +121,17 @@ WritesGood contents old new body (Ok u) =
     (has_failed new ≡ false) × TellsPlace (place_of old) (head_of body) (Ok (place_of new)) × IsFitIn (place_of new).endianness body
     × Appends (contents (stream_of old)) (contents (stream_of new)) (text_of (number_bytes (place_of new).endianness) body)
 
--- One call that writes a block: an earlier write failed, and nothing goes out, or it is as above.
+-- The result of writing a block: an earlier write failed, and nothing is written, or it is as above.
 abbrev pub WritesBlock : {W : Type 0} → (W → Option (List ℕ)) → PcapNgWriter W → PcapNgWriter W → Body → Result (Unit {0}) PcapError → Type 0
 WritesBlock contents old new body (Err errors.WriterFailed) =
     (has_failed old ≡ true) × (has_failed new ≡ true) × (place_of new ≡ place_of old) × Keeps (contents (stream_of old)) (contents (stream_of new))
 WritesBlock contents old new body result = (has_failed old ≡ false) × WritesGood contents old new body result
 
--- before its first section a capture has no interface; the order is the first section's
+-- The place before the first section of a capture: no interface; the first section sets the byte order.
 abbrev pub opening_place : Place
 opening_place = record { endianness = Little; interfaces = 0 }
 
--- One call that makes a writer: this section header went out, or something stands against it, or memory ran out, or a write
--- failed.
+-- The result of making a writer: its section header was written, or it can't be written, or memory ran out, or a write failed.
 abbrev pub OpensWriter : {W : Type 0} → (W → Option (List ℕ)) → Body → W → Result (PcapNgWriter W) PcapError → Type 0
 OpensWriter contents body writer (Err (errors.InvalidField message)) =
     (flaw : Unwritable) × (message.now ≡ flaw_message flaw) × BlockFlaw opening_place body flaw

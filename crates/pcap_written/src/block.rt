@@ -1,4 +1,4 @@
-//! Bodies of blocks.
+//! The bodies of blocks, and how they are written.
 
 ghost use Rattle.std.specs.Prelude.{◌≡◌, ◌++◌, OnOk};
 ghost use Rattle.pcap_blocks.specs.EnhancedPacket.{enhanced_of};
@@ -32,19 +32,19 @@ use pcap_blocks::{
 use pcap_core::DataLink;
 use std::alloc::AllocError;
 
-/// What is known of a block before its body is written.
+/// The facts about a block that the writer needs before it writes the block's body.
 #[derive(Clone, Copy, Debug, PartialEq, Eq)]
 pub struct BlockHead {
-    /// Its type.
+    /// The block's type.
     pub type_: BlockType,
-    /// The magic number of a section, which names its order.
+    /// The magic number of a section, which defines its byte order.
     pub magic: Option<u32>,
-    /// The interface that it speaks of, by its number in the section.
+    /// The interface that the block refers to, by its number in the section.
     pub interface_id: Option<u32>,
 }
 
 impl BlockHead {
-    // The head of a block that is no section and speaks of no interface.
+    // Returns the head of a block that is no section and refers to no interface.
     fn of(type_: BlockType) -> BlockHead
         ensures { result ≡ record { type_ = type_; magic = None; interface_id = None } }
     {
@@ -60,11 +60,11 @@ impl BlockHead {
 pub trait PcapNgBlock {
     ghost sees: { Self → Body };
 
-    /// What is known of it before its body is written.
+    /// Returns the block's type, its magic number if it is a section, and the interface that it refers to.
     fn head(&self) -> BlockHead
         ensures { result ≡ head_of (sees self.now) };
 
-    /// Puts its body behind other bytes, or says why it has no text.
+    /// Appends the block's body to `out`, or returns why not: the body can't be written, or memory ran out.
     fn put_body<B: ByteOrder>(&self, out: &mut Vec<u8>) -> Result<(), Unput>
         ensures { Puts (IsFitBody B.number_of B.bytes_of (sees self.now))
             (BodyFlaw B.number_of B.bytes_of (sees self.now)) (body_text B.bytes_of (sees self.now)) out.old.items out.new.items result };
@@ -259,7 +259,7 @@ impl<'a> PcapNgBlock for ParsedBlock<'a> {
     }
 }
 
-// Puts the time and the two lengths of a packet.
+// Appends the timestamp and the two lengths of a packet.
 fn put_stored_head<B: ByteOrder>(
     out: &mut Vec<u8>,
     timestamp: u64,
@@ -273,7 +273,7 @@ fn put_stored_head<B: ByteOrder>(
     put_u32::<B>(out, original_len)
 }
 
-// The number of a link type that is written for it in an interface.
+// Returns the number that is written for a link type in an interface description.
 fn link_number(link: DataLink) -> Result<u16, Unwritable>
     ensures { TellsLink link result }
 {

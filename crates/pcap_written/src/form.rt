@@ -1,4 +1,4 @@
-//! Values of options, as they are about to be written.
+//! The values of options, in the form in which they are written.
 
 ghost use Rattle.std.specs.Prelude.{◌≡◌, ◌<◌, ◌≤◌, ◌+◌, ◌^◌, ◌++◌, OnOk, MatchResult};
 ghost use Rattle.pcap_written.specs.declared.unwritable.Unwritable.TheVariants.{OptionTooLong};
@@ -13,25 +13,25 @@ use std::alloc::AllocError;
 /// The value of an option, by how it is written.
 #[derive(Clone, Copy)]
 pub enum Form<'a> {
-    /// A string, or bytes of any number.
+    /// A string, or any number of bytes.
     Bytes(&'a [u8]),
-    /// So many bytes, or the rule that others break.
+    /// This number of bytes, and the rule that any other number breaks.
     Sized(usize, Rule, &'a [u8]),
-    /// Bytes, or the rule that none break.
+    /// At least one byte, and the rule that an empty value breaks.
     Filled(Rule, &'a [u8]),
     Byte(u8),
     Number32(u32),
     Number64(u64),
-    /// A time, its high 4 bytes before its low 4.
+    /// A timestamp, its high 4 bytes before its low 4.
     Time(u64),
     /// The number of an enterprise, and its string or bytes.
     Custom(u32, &'a [u8]),
-    /// Bytes under the length that was stated for them.
+    /// Bytes, and the length that the option states for them.
     Unknown(u16, &'a [u8]),
 }
 
 impl<'a> Form<'a> {
-    /// How many bytes it has, in whatever order.
+    /// Returns the number of bytes of the value, which is the same in each byte order.
     pub(crate) fn measure(self) -> Result<u16, Unwritable>
         ensures { MeasuresForm self.entry result }
     {
@@ -62,7 +62,7 @@ impl<'a> Form<'a> {
         }
     }
 
-    /// Puts its bytes.
+    /// Appends the bytes of the value.
     pub(crate) fn put<B: ByteOrder>(self, out: &mut Vec<u8>) -> Result<(), AllocError>
         ensures { OnOk result (out.new.items ≡ out.old.items ++ form_bytes B.bytes_of self.entry) }
     {
@@ -83,7 +83,7 @@ impl<'a> Form<'a> {
     }
 }
 
-// A length that has room in two bytes.
+// Returns the length if it fits two bytes.
 fn fits(len: usize) -> Result<u16, Unwritable>
     ensures { MatchResult result (λ n. (n ≡ len) × (len < 2 ^ 16)) (λ flaw. (flaw ≡ OptionTooLong) × (2 ^ 16 ≤ len)) }
 {
@@ -94,7 +94,7 @@ fn fits(len: usize) -> Result<u16, Unwritable>
     }
 }
 
-// The same of a length with 4 bytes before it.
+// Returns the length plus 4 if the sum fits two bytes.
 fn fits_behind(len: usize) -> Result<u16, Unwritable>
     ensures { MatchResult result (λ n. (n ≡ 4 + len) × (4 + len < 2 ^ 16)) (λ flaw. (flaw ≡ OptionTooLong) × (2 ^ 16 ≤ 4 + len)) }
 {

@@ -16,7 +16,7 @@ use pcap_options::{
     name_options, packet_options, section_options, statistics_options,
 };
 
-// The code and the form of an option, over the rows of its kind.
+// Returns the code and the form of an option, by the rows of its kind's table.
 macro_rules! coded_option {
     ($option:tt; $kind:ident; $($name:ident $number:literal $shape:ident $(($($of:tt)*))?;)*) => {
         match $option {

@@ -1,4 +1,4 @@
-//! PcapNg as it is written: the text of each block, and a writer of blocks.
+//! Writing of PcapNg captures: the text of each block, and a writer of blocks.
 #![tactic(auto)]
 
 mod block;

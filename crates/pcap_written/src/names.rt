@@ -1,4 +1,4 @@
-//! Records of names.
+//! The records of name resolution blocks.
 
 ghost use Rattle.std.specs.Prelude.{◌≡◌, ◌≤◌, ◌++◌, false, map, true, All, Any, OnOk};
 ghost use Rattle.std.specs.Cow.{cow_str_bytes};
@@ -19,7 +19,7 @@ use pcap_core::rules::Rule;
 use std::alloc::AllocError;
 use std::borrow::CowStr;
 
-/// Puts records, one behind the other.
+/// Appends records, one after another.
 pub(crate) fn put_records<B: ByteOrder>(
     out: &mut Vec<u8>,
     records: &[Record<'_>],
@@ -33,7 +33,7 @@ pub(crate) fn put_records<B: ByteOrder>(
     Ok(())
 }
 
-// Puts a record.
+// Appends a record.
 fn put_record<B: ByteOrder>(out: &mut Vec<u8>, entry: &Record<'_>) -> Result<(), Unput>
     ensures { let r = name_record_of entry.now in
         Puts (IsFitRecord r) (λ flaw. RecordFlaw flaw r) (record_text B.bytes_of r) out.old.items out.new.items result }
@@ -64,7 +64,7 @@ fn put_record<B: ByteOrder>(out: &mut Vec<u8>, entry: &Record<'_>) -> Result<(),
     }
 }
 
-// The records of one kind of address: their type, the width of the address in bytes, and the rule that a shorter value breaks.
+// A kind of address records: their type, the width of the address in bytes, and the rule that a shorter value breaks.
 #[derive(Clone, Copy)]
 struct AddressKind {
     type_: u16,
@@ -72,7 +72,7 @@ struct AddressKind {
     too_short: Rule,
 }
 
-// Puts a record of an address and its names.
+// Appends a record of an address and its names.
 fn put_address<B: ByteOrder>(
     out: &mut Vec<u8>,
     kind: AddressKind,
@@ -103,7 +103,7 @@ fn put_address<B: ByteOrder>(
     Ok(())
 }
 
-// How many bytes names have with their zero bytes.
+// Returns the number of bytes of the names and their zero bytes.
 fn names_len(names: &[CowStr<'_>]) -> Result<u16, Unwritable>
     ensures { MeasuresNames (map cow_str_bytes names.now) result }
 {
@@ -133,7 +133,7 @@ fn has_zero(bytes: &[u8]) -> bool
     false
 }
 
-// Puts names, each with a zero byte behind it.
+// Appends names, each followed by a zero byte.
 fn put_names(out: &mut Vec<u8>, names: &[CowStr<'_>]) -> Result<(), AllocError>
     ensures { OnOk result (out.new.items ≡ out.old.items ++ flat_map name_text (map cow_str_bytes names.now)) }
 {
@@ -144,7 +144,7 @@ fn put_names(out: &mut Vec<u8>, names: &[CowStr<'_>]) -> Result<(), AllocError>
     Ok(())
 }
 
-// Puts a record of a type that has no name.
+// Appends a record of a type without a name.
 fn put_other<B: ByteOrder>(out: &mut Vec<u8>, other: &UnknownRecord<'_>) -> Result<(), Unput>
     ensures { let r = other_of other.now in
         Puts (IsFitRecord r) (λ flaw. RecordFlaw flaw r) (record_text B.bytes_of r) out.old.items out.new.items result }

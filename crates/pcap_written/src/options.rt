@@ -13,18 +13,18 @@ use crate::put::{put_padding, put_u16};
 use crate::unwritable::{Unput, Unwritable};
 use byteorder::ByteOrder;
 
-/// The options of one kind of block.
+/// An option of one kind of block that can be written.
 pub trait WrittenOption {
     ghost kind: { Kind };
 
     ghost view: { Self → Entry };
 
-    /// Its code and its value, where the code holds such values.
+    /// Returns the option's code and the form of its value. None if the code is the end mark's, or its options hold other values.
     fn coded(&self) -> Option<(u16, Form<'_>)>
         ensures { TellsCoded kind (view self.now) result };
 }
 
-// Puts an option: its code, the length of its value, and the value with its padding.
+// Appends an option: its code, the length of its value, and the value with its padding.
 fn put_option<O: WrittenOption, B: ByteOrder>(out: &mut Vec<u8>, option: &O) -> Result<(), Unput>
     ensures { let o = O.view option.now in
         Puts (IsFitOption B.number_of B.bytes_of O.kind o) (λ flaw. OptionFlaw B.number_of B.bytes_of O.kind flaw o)
@@ -44,7 +44,7 @@ fn put_option<O: WrittenOption, B: ByteOrder>(out: &mut Vec<u8>, option: &O) -> 
     Ok(())
 }
 
-/// Puts a list of options and its mark, or nothing where there are none.
+/// Appends a list of options and its end mark, or nothing if there are no options.
 pub(crate) fn put_options<O: WrittenOption, B: ByteOrder>(
     out: &mut Vec<u8>,
     options: &[O],

@@ -11,9 +11,10 @@ use pcap_core::ResultParsing;
 use pcap_items::stream::put;
 use std::io::Write;
 
-/// Writes a packet without options, and takes no memory: what stands before its bytes, its bytes, and what stands behind them.
+/// Writes a packet without options, and takes no memory: the bytes before its data, its data, and the bytes after it. The
+/// data must have at most 4294967260 bytes.
 ///
-/// `IoError` where a write failed: a beginning of the block has gone out then.
+/// `IoError` if a write failed; then a beginning of the block was written.
 pub fn put_packet<W: Write, B: ByteOrder>(
     writer: &mut W,
     has_failed: &mut bool,
@@ -39,7 +40,7 @@ pub fn put_packet<W: Write, B: ByteOrder>(
     put(writer, has_failed, &tail[3 - missing..])
 }
 
-// The 28 bytes before the bytes of a packet, in a block of this length; its time in two halves.
+// Returns the 28 bytes before a packet's data, in a block of this length, with the timestamp in two halves.
 fn head_bytes<B: ByteOrder>(
     len: u32,
     interface_id: u32,
@@ -58,7 +59,7 @@ fn head_bytes<B: ByteOrder>(
     bytes
 }
 
-// The time of a packet, in two halves, and its two lengths.
+// Returns the timestamp of a packet, in two halves, and its two lengths.
 fn packet_head<B: ByteOrder>(high: u32, low: u32, captured_len: u32, original_len: u32) -> [u8; 16]
     ensures { result ≡ B.bytes_of 4 high ++ (B.bytes_of 4 low ++ (B.bytes_of 4 captured_len ++ B.bytes_of 4 original_len)) }
 {
@@ -70,7 +71,7 @@ fn packet_head<B: ByteOrder>(high: u32, low: u32, captured_len: u32, original_le
     bytes
 }
 
-// Three zero bytes, as many as a padding has at most, and the length of a block.
+// Returns three zero bytes, the most that a padding has, and the length of a block.
 fn tail_bytes<B: ByteOrder>(len: u32) -> [u8; 7]
     ensures { result ≡ 0 ∷ 0 ∷ 0 ∷ B.bytes_of 4 len }
 {

@@ -1,4 +1,4 @@
-//! Where blocks stand in a capture.
+//! The state of a section after each block: its byte order, and the number of its interfaces.
 
 ghost use Rattle.pcap_written.specs.Writing.{NamesOrder, TellsPlace};
 
@@ -8,17 +8,17 @@ use pcap_blocks::BlockType;
 use pcap_core::Endianness;
 use pcap_core::rules::Rule;
 
-/// What is in force behind some blocks of a capture.
+/// The byte order and the number of interfaces of a section, after some blocks of a capture.
 #[derive(Clone, Copy, Debug, PartialEq, Eq)]
 pub struct Place {
-    /// The order of the section.
+    /// The byte order of the section.
     pub endianness: Endianness,
-    /// How many interfaces the section has described.
+    /// The number of interfaces that the section has described.
     pub interfaces: u32,
 }
 
 impl Place {
-    /// The place behind a block with this head, if it may stand here.
+    /// Returns the place after a block with this head, or why the block can't be written here.
     pub(crate) fn behind(self, head: BlockHead) -> Result<Place, Unwritable>
         ensures { TellsPlace self head result }
     {
@@ -43,7 +43,7 @@ impl Place {
     }
 }
 
-// The order of a block with this magic number, or with none where this order is in force.
+// Returns the byte order of a block with this magic number, or the current order if the block has none.
 #[tactic(auto, unfolding(pcap_blocks::specs::SectionHeader::magic_order))]
 pub(crate) fn order_under(current: Endianness, magic: Option<u32>) -> Result<Endianness, Unwritable>
     ensures { NamesOrder current magic result }

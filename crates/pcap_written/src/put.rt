@@ -1,4 +1,4 @@
-//! Numbers and bytes that are put behind others.
+//! Numbers and bytes that are appended to a buffer.
 
 ghost use Rattle.std.specs.Prelude.{◌≡◌, ◌++◌, OnOk};
 ghost use Rattle.std.specs.Int.{w64, cast_unsigned};
@@ -37,7 +37,7 @@ pub(crate) fn put_i64<B: ByteOrder>(out: &mut Vec<u8>, n: i64) -> Result<(), All
     put_u64::<B>(out, n.cast_unsigned())
 }
 
-// Puts a time, its high 4 bytes before its low 4.
+// Appends a timestamp, its high 4 bytes before its low 4.
 pub(crate) fn put_time<B: ByteOrder>(out: &mut Vec<u8>, n: u64) -> Result<(), AllocError>
     ensures { OnOk result (out.new.items ≡ out.old.items ++ time_bytes B.bytes_of n) }
 {
@@ -45,7 +45,7 @@ pub(crate) fn put_time<B: ByteOrder>(out: &mut Vec<u8>, n: u64) -> Result<(), Al
     put_u32::<B>(out, (n % 4_294_967_296) as u32)
 }
 
-// Puts zero bytes behind so many others, up to the next multiple of 4.
+// Appends zero bytes after `len` others, up to the next multiple of 4.
 pub(crate) fn put_padding(out: &mut Vec<u8>, len: usize) -> Result<(), AllocError>
     ensures { OnOk result (out.new.items ≡ out.old.items ++ padding len) }
 {

@@ -13,22 +13,22 @@ use pcap_core::Endianness;
 use pcap_core::fields::split_u32;
 use pcap_core::rules::Rule;
 
-/// A block whose body is bytes that are written as they stand.
+/// A block whose body is bytes, which are written unchanged.
 #[derive(Clone, Copy, Debug)]
 pub struct RawBlock<'a> {
-    /// Its type.
+    /// The block's type.
     pub type_: BlockType,
-    /// The order of the numbers around its body and in it.
+    /// The byte order of the numbers around the body and in it.
     pub endianness: Endianness,
-    /// Its body, without the lengths before and after it.
+    /// The block's body, without the lengths before and after it.
     pub body: &'a [u8],
 }
 
-/// What can be written as a type and the bytes of a body.
+/// A block that can be written as a type and the bytes of its body.
 pub trait RawPcapNgBlock {
     ghost shows: { Self → Raw };
 
-    /// Its type, its order and the bytes of its body.
+    /// Returns the block's type, its byte order and the bytes of its body.
     fn raw(&self) -> RawBlock<'_>
         ensures { raw_of result ≡ shows self.now };
 }
@@ -42,7 +42,7 @@ impl<'a> RawPcapNgBlock for RawBlock<'a> {
 }
 
 impl<'a> RawBlock<'a> {
-    // The place behind this block at a place, if it may stand there.
+    // Returns the place after this block, or why the block can't be written here.
     pub(crate) fn behind(self, at: Place) -> Result<Place, Unwritable>
         ensures { TellsRaw at (raw_of self.entry) result }
     {
@@ -72,7 +72,7 @@ impl<'a> RawBlock<'a> {
     }
 }
 
-// The number in the first four bytes of a body, high byte first; 0 where it is empty.
+// Returns the number in the first four bytes of a body, high byte first, or 0 if the body is empty.
 fn first_number(body: &[u8]) -> u32
     requires { length body.now % 4 ≡ 0 }
     ensures { result ≡ big_number 4 (take 4 body.now) }

@@ -1,4 +1,4 @@
-//! Why a block has no text.
+//! The reasons why a block can't be written.
 
 ghost use Rattle.std.specs.Prelude.{◌≡◌};
 ghost use Rattle.pcap_written.specs.Flaws.{flaw_message};
@@ -8,26 +8,26 @@ use pcap_core::PcapError;
 use pcap_core::rules::Rule;
 use std::alloc::AllocError;
 
-/// Why nothing is written: what would be read is not the block.
+/// A reason why a block isn't written: a reader of its text would not get the same block.
 #[derive(Clone, Copy, Debug, PartialEq, Eq)]
 pub enum Unwritable {
     /// An option's value has 65536 bytes or more.
     OptionTooLong,
     /// An option has the code of the mark that ends a list, or a code whose options hold values of another kind.
     OptionMisplaced,
-    /// An unknown option states another length than its value has.
+    /// An unknown option states a length that differs from that of its value.
     OptionLengthDiffers,
     /// The text would break a rule of the formats.
     Breaks(Rule),
-    /// A packet states another stored length than its bytes have.
+    /// A packet states a stored length that differs from the number of its bytes.
     CapturedLengthDiffers,
     /// The number of an interface's link type is 65536 or more.
     LinkTooLarge,
     /// An unknown link type has the number of a known one.
     LinkMisnamed,
-    /// The end of the records stands among them.
+    /// The end of the records is among them.
     EndMisplaced,
-    /// An address has another number of bytes than its record's type.
+    /// An address doesn't have the number of bytes of its record's type.
     AddressLengthDiffers,
     /// A name has a zero byte, which ends it.
     NameWithZero,
@@ -35,24 +35,24 @@ pub enum Unwritable {
     RecordTooLong,
     /// An unknown record has the type of a known one.
     RecordMisnamed,
-    /// An unknown record states another length than its value has.
+    /// An unknown record states a length that differs from that of its value.
     RecordLengthDiffers,
     /// An unknown block has the type number of a known one.
     TypeMisnamed,
-    /// An unknown block states another length than its bytes have.
+    /// An unknown block states a length that differs from the number of its bytes.
     BlockLengthDiffers,
     /// A block has 2^32 bytes or more.
     BlockTooLong,
-    /// A block speaks of an interface that its section has not described.
+    /// A block refers to an interface that its section has not described.
     InterfaceMissing,
-    /// A section has 2^32 - 1 interfaces.
+    /// A section already has 2^32 - 1 interfaces.
     InterfacesFull,
-    /// A block of bytes has another order than its section, or a section than its magic number says.
+    /// A block of bytes has another byte order than its section, or a section has another one than its magic number names.
     OrderDiffers,
 }
 
 impl Unwritable {
-    /// The message that names it.
+    /// Returns the message for this reason.
     pub fn message(self) -> &'static str
         ensures { result.now ≡ flaw_message self }
     {
@@ -80,12 +80,12 @@ impl Unwritable {
     }
 }
 
-/// Why bytes were not put behind others.
+/// The reasons why bytes were not appended.
 #[derive(Drop)]
 pub enum Unput {
-    /// A growth was refused.
+    /// A buffer could not grow.
     Memory(AllocError),
-    /// What was to be put has no text.
+    /// The value can't be written.
     Unfit(Unwritable),
 }
 

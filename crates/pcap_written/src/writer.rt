@@ -29,7 +29,7 @@ use pcap_items::stream::put;
 use std::alloc::{AllocError, Global};
 use std::io::Write;
 
-/// Writes a capture of blocks into a writer: sections, their interfaces, and packets and what else they hold.
+/// Writes a PcapNg capture to a wrapped writer: sections with their interfaces, packets and other blocks.
 #[derive(Debug, Drop)]
 pub struct PcapNgWriter<W> {
     inner: W,
@@ -40,21 +40,21 @@ pub struct PcapNgWriter<W> {
 }
 
 impl<W> PcapNgWriter<W> {
-    /// Gives the wrapped writer back.
+    /// Returns the wrapped writer.
     pub fn into_writer(self) -> W
         ensures { result ≡ stream_of self }
     {
         self.inner
     }
 
-    /// The wrapped writer.
+    /// Lends the wrapped writer.
     pub fn get_ref(&self) -> &W
         ensures { result.now ≡ stream_of self.now }
     {
         &self.inner
     }
 
-    /// The wrapped writer. What is written to it directly is no part of this writer's capture.
+    /// Lends the wrapped writer, mutably. Bytes that the caller writes to it directly are no part of this writer's capture.
     pub fn get_mut(&mut self) -> &mut W
         ensures value { result.now ≡ stream_of self.old }
         ensures* writes_back { sem 𝓛 (Lends (writer-row W.row) W.row self.entry result (writer_with self.old)) }
@@ -62,21 +62,21 @@ impl<W> PcapNgWriter<W> {
         &mut self.inner
     }
 
-    /// Whether a write failed. From then on every block is refused.
+    /// Returns whether a write failed. After a failure the writer refuses every block.
     pub fn failed(&self) -> bool
         ensures { result ≡ has_failed self.now }
     {
         self.has_failed
     }
 
-    /// The order of the section that is being written.
+    /// Returns the byte order of the section that is being written.
     pub fn endianness(&self) -> Endianness
         ensures { result ≡ (place_of self.now).endianness }
     {
         self.place.endianness
     }
 
-    /// How many interfaces the section has described.
+    /// Returns the number of interfaces that the section has described.
     pub fn interfaces(&self) -> u32
         ensures { result ≡ (place_of self.now).interfaces }
     {
@@ -85,7 +85,7 @@ impl<W> PcapNgWriter<W> {
 }
 
 impl<W: Write + Drop> PcapNgWriter<W> {
-    /// Makes a writer, and writes the header of a section of little-endian numbers without options.
+    /// Makes a writer, and writes the header of a little-endian section without options.
     ///
     /// It fails as `with_section_header` does.
     pub fn new(alloc: Global, writer: W) -> ResultParsing<PcapNgWriter<W>>
@@ -94,8 +94,8 @@ impl<W: Write + Drop> PcapNgWriter<W> {
         PcapNgWriter::with_endianness(alloc, Endianness::Little, writer)
     }
 
-    /// Makes a writer, and writes the header of a section of numbers in this order, without options. Its version is 1.0, and its
-    /// length is said not to be known.
+    /// Makes a writer, and writes the header of a section in this byte order, without options. The section has version 1.0
+    /// and an unspecified length.
     ///
     /// It fails as `with_section_header` does.
     pub fn with_endianness(
@@ -118,10 +118,10 @@ impl<W: Write + Drop> PcapNgWriter<W> {
         PcapNgWriter::with_section_header(alloc, &section, writer)
     }
 
-    /// Makes a writer, and writes this section header in the order that its magic number names.
+    /// Makes a writer, and writes this section header in the byte order that its magic number names.
     ///
-    /// `InvalidField` where the section has no text (see `Unwritable`), or `OutOfMemory`: nothing is written then. `IoError`
-    /// where a write failed: a beginning of the section header has gone out then.
+    /// `InvalidField` if the section can't be written (see `Unwritable`), or `OutOfMemory`; in both cases nothing is
+    /// written. `IoError` if a write failed; then a beginning of the section header was written.
     pub fn with_section_header(
         alloc: Global,
         section: &SectionHeaderBlock<'_>,
@@ -145,12 +145,13 @@ impl<W: Write + Drop> PcapNgWriter<W> {
 }
 
 impl<W: Write> PcapNgWriter<W> {
-    /// Writes an enhanced packet without options, and takes no memory: the number of its interface, its time in the units of the
-    /// interface's clock since 1970-01-01 00:00:00 UTC, its bytes, and its length on the wire in bytes.
+    /// Writes an enhanced packet without options, and takes no memory. The arguments are the number of its interface, its
+    /// timestamp, its data, and its length on the wire in bytes. The timestamp is in units of the interface's clock since
+    /// 1970-01-01 00:00:00 UTC.
     ///
-    /// `WriterFailed` where an earlier write failed, else `InvalidField` where the section has not described the interface, or
-    /// the block would have 2^32 bytes or more: nothing is written then. `IoError` where a write failed: a beginning of the
-    /// block has gone out then.
+    /// `WriterFailed` if an earlier write failed, and else `InvalidField` if the section has not described the interface,
+    /// or the block would have 2^32 bytes or more; in these cases nothing is written. `IoError` if a write failed; then a
+    /// beginning of the block was written.
     pub fn write_packet(
         &mut self,
         interface_id: u32,
@@ -202,11 +203,12 @@ impl<W: Write> PcapNgWriter<W> {
         self.write_pcapng_block(block)
     }
 
-    /// Writes a block. A section header begins a section of its own order and with no interface; each other block is written in
-    /// the order of the section.
+    /// Writes a block. A section header begins a section of its own byte order, without interfaces. Each other block is
+    /// written in the byte order of the section.
     ///
-    /// `WriterFailed` where an earlier write failed, else `InvalidField` where the block has no text here (see `Unwritable`),
-    /// or `OutOfMemory`: nothing is written then. `IoError` where a write failed: a beginning of the block has gone out then.
+    /// `WriterFailed` if an earlier write failed, and else `InvalidField` if the block can't be written here (see
+    /// `Unwritable`), or `OutOfMemory`; in these cases nothing is written. `IoError` if a write failed; then a beginning of
+    /// the block was written.
     pub fn write_pcapng_block<B: PcapNgBlock>(&mut self, block: &B) -> ResultParsing<()>
         ensures { WritesBlock W.contents self.old self.new (B.sees block.now) result }
     {
@@ -223,13 +225,14 @@ impl<W: Write> PcapNgWriter<W> {
         Ok(())
     }
 
-    /// Writes a block of bytes: its frame, and its body as it stands, which isn't read. A section header begins a section of its
-    /// own order and with no interface, an interface description is one interface more; each other block has to have the order
-    /// of the section.
+    /// Writes a block of bytes: its frame, and its body, which is written unchanged and not read. A section header begins a
+    /// section of its own byte order, without interfaces. An interface description adds an interface. Each other block must
+    /// have the byte order of the section.
     ///
-    /// `WriterFailed` where an earlier write failed, else `InvalidField` where the frame has no text here (`Breaks` of
-    /// `BlockUnaligned` or `SectionMagic`, `BlockTooLong`, `TypeMisnamed`, `OrderDiffers` and `InterfacesFull` of `Unwritable`),
-    /// or `OutOfMemory`: nothing is written then. `IoError` where a write failed: a beginning of the block has gone out then.
+    /// `WriterFailed` if an earlier write failed, and else `InvalidField` if the frame can't be written here, or
+    /// `OutOfMemory`; in these cases nothing is written. The reasons of `Unwritable` for `InvalidField` are `Breaks` of
+    /// `BlockUnaligned` or `SectionMagic`, `BlockTooLong`, `TypeMisnamed`, `OrderDiffers` and `InterfacesFull`. `IoError`
+    /// if a write failed; then a beginning of the block was written.
     pub fn write_raw_block<B: RawPcapNgBlock>(&mut self, block: &B) -> ResultParsing<()>
         ensures { WritesRaw W.contents self.old self.new (B.shows block.now) result }
     {
@@ -249,9 +252,9 @@ impl<W: Write> PcapNgWriter<W> {
     }
 }
 
-/// Makes the text of a block of bytes, in its own order, in place of what `text` had.
+/// Replaces `text` by the text of a block of bytes, in the block's own byte order.
 ///
-/// `AllocError` where the text can't grow.
+/// `AllocError` if the text can't grow.
 pub fn frame(text: &mut Vec<u8>, block: RawBlock<'_>) -> Result<(), AllocError>
     requires { length block.body.now + 12 < 2 ^ 32 }
     ensures { OnOk result (text.new.items ≡ raw_text (raw_of block.entry)) }
@@ -262,7 +265,7 @@ pub fn frame(text: &mut Vec<u8>, block: RawBlock<'_>) -> Result<(), AllocError>
     }
 }
 
-// Makes the text of a block of this type around a body: the type, the length, the body, and the length again.
+// Replaces `text` by a block of this type around a body: the type, the length, the body, and the length again.
 fn frame_in<O: ByteOrder>(
     text: &mut Vec<u8>,
     type_: BlockType,
@@ -279,9 +282,9 @@ fn frame_in<O: ByteOrder>(
     put_u32::<O>(text, len)
 }
 
-/// Makes the text of a block in this order, in place of what `text` had. `body` is room that is used meanwhile.
+/// Replaces `text` by the text of a block in this byte order. The function uses `body` as a buffer.
 ///
-/// `Unput` where the block has no text in this order, or memory ran out.
+/// `Unput` if the block can't be written in this byte order, or memory ran out.
 pub fn encode<B: PcapNgBlock>(
     order: Endianness,
     body: &mut Vec<u8>,
@@ -297,7 +300,7 @@ pub fn encode<B: PcapNgBlock>(
     }
 }
 
-// Makes the text of a block: its type, its length, its body, and its length again.
+// Replaces `text` by the text of a block: its type, its length, its body, and its length again.
 fn encode_in<B: PcapNgBlock, O: ByteOrder>(
     body: &mut Vec<u8>,
     text: &mut Vec<u8>,
@@ -311,10 +314,10 @@ fn encode_in<B: PcapNgBlock, O: ByteOrder>(
     Ok(())
 }
 
-/// Makes the body of a block, in place of what `body` had, and tells its order: this one, or a section header's own, which its
-/// magic number names. Whether the section has described the interface that it speaks of isn't asked.
+/// Replaces `body` by the body of a block, and returns the block's byte order: this one, or the one that a section header's
+/// magic number names. The function doesn't check whether the section has described the block's interface.
 ///
-/// `Unput` where the block has no text in that order, or memory ran out.
+/// `Unput` if the block can't be written in that byte order, or memory ran out.
 pub fn encode_body<B: PcapNgBlock>(
     order: Endianness,
     body: &mut Vec<u8>,
@@ -330,7 +333,7 @@ pub fn encode_body<B: PcapNgBlock>(
     Ok(own)
 }
 
-// Makes the body of a block, where the block's length has four bytes.
+// Replaces `body` by the body of a block, if the block's length fits four bytes.
 fn body_in<B: PcapNgBlock, O: ByteOrder>(body: &mut Vec<u8>, block: &B) -> Result<(), Unput>
     ensures { Puts (IsFitBlock O.number_of O.bytes_of (B.sees block.now))
         (FitFlaw O.number_of O.bytes_of (B.sees block.now)) (body_text O.bytes_of (B.sees block.now)) [] body.new.items result }

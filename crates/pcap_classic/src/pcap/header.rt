@@ -22,23 +22,23 @@ use std::io::{Read, Write};
 /// The header at the front of a capture, 24 bytes.
 #[derive(Clone, Copy, Debug, PartialEq, Eq)]
 pub struct PcapHeader {
-    /// Magic number, read high byte first. It tells the order of all other numbers and the resolution of times.
+    /// Magic number, read high byte first. It defines the byte order of all other numbers and the timestamp resolution.
     pub magic_number: u32,
-    /// Major version number, 2 as a rule.
+    /// Major version number, usually 2.
     pub version_major: u16,
-    /// Minor version number, 4 as a rule.
+    /// Minor version number, usually 4.
     pub version_minor: u16,
-    /// Seconds from local time to GMT, 0 as a rule.
+    /// Seconds from local time to GMT, usually 0.
     pub ts_correction: i32,
-    /// Accuracy of the times, 0 as a rule.
+    /// Accuracy of the timestamps, usually 0.
     pub ts_accuracy: u32,
-    /// The most bytes that are stored of a packet.
+    /// The snapshot length: the most bytes that are stored of a packet.
     pub snaplen: u32,
-    /// The type of the packets' first layer.
+    /// The link type: the protocol of the packets' first layer.
     pub datalink: DataLink,
 }
 
-// The header with this magic number whose other fields stand at the front of the bytes, and what follows them.
+// Returns the header with this magic number and the other fields from the front of the bytes, and the bytes after them.
 fn split_fields<B: ByteOrder>(magic_number: u32, bytes: &[u8]) -> (&[u8], PcapHeader)
     requires { 20 ≤ length bytes.now }
     ensures magic { result.1.magic_number ≡ magic_number }
@@ -63,18 +63,18 @@ fn split_fields<B: ByteOrder>(magic_number: u32, bytes: &[u8]) -> (&[u8], PcapHe
 }
 
 impl PcapHeader {
-    /// Reads a header off a stream. Exactly its 24 bytes are taken.
+    /// Reads a header from a stream, and takes exactly its 24 bytes.
     ///
-    /// `InvalidField` where the magic number is none of the four. `IoError` where a read failed, or the stream ended early.
+    /// `InvalidField` if the magic number is none of the four. `IoError` if a read failed, or the stream ended early.
     pub fn from_reader<R: Read>(reader: &mut R) -> ResultParsing<PcapHeader>
         ensures { Reads HeaderSays (λ header. header) (R.remaining reader.old) (R.remaining reader.new) result }
     {
         read_header(reader, &mut false)
     }
 
-    /// The header at the front of a slice, and what follows it.
+    /// Returns the header at the front of a slice, and the bytes after it.
     ///
-    /// `IncompleteBuffer` under 24 bytes, and `InvalidField` where the magic number is none of the four.
+    /// `IncompleteBuffer` for fewer than 24 bytes, and `InvalidField` if the magic number is none of the four.
     #[tactic(auto, unfolding(crate::specs::Magic::kind_of, crate::specs::Magic::is_magic, crate::specs::Magic::order_of))]
     pub fn from_slice(slice: &[u8]) -> ResultParsing<(&[u8], PcapHeader)>
         ensures tells { Tells (HeaderSays slice.now) (λ header. header) result }
@@ -90,7 +90,7 @@ impl PcapHeader {
         }
     }
 
-    /// Whether the magic number is one of the four.
+    /// Returns whether the magic number is one of the four.
     #[tactic(auto, unfolding(crate::specs::Magic::kind_of, crate::specs::Magic::is_magic))]
     pub fn has_valid_magic(&self) -> bool
         ensures { IsTrue result ↔ IsTrue (is_magic self.now.magic_number) }
@@ -101,7 +101,7 @@ impl PcapHeader {
         )
     }
 
-    // What the magic number says, where it is valid: the order of the numbers and the resolution of the times.
+    // Returns the byte order and the timestamp resolution that a valid magic number defines.
     #[inline(always)]
     #[tactic(auto, unfolding(crate::specs::Magic::kind_of))]
     pub(crate) fn kind(&self) -> Option<(Endianness, TsResolution)>
@@ -116,7 +116,7 @@ impl PcapHeader {
         }
     }
 
-    /// The order of the capture's numbers. The magic number has to be valid.
+    /// Returns the byte order of the capture. The magic number must be valid.
     #[tactic(auto, unfolding(crate::specs::Magic::kind_of, crate::specs::Magic::is_magic, crate::specs::Magic::order_of))]
     pub fn endianness(&self) -> Endianness
         requires { IsTrue (is_magic self.now.magic_number) }
@@ -128,7 +128,7 @@ impl PcapHeader {
         }
     }
 
-    /// The resolution of the capture's times. The magic number has to be valid.
+    /// Returns the timestamp resolution of the capture. The magic number must be valid.
     #[tactic(auto, unfolding(crate::specs::Magic::kind_of, crate::specs::Magic::is_magic, crate::specs::Magic::resolution_of))]
     pub fn ts_resolution(&self) -> TsResolution
         requires { IsTrue (is_magic self.now.magic_number) }
@@ -140,7 +140,7 @@ impl PcapHeader {
         }
     }
 
-    /// Changes the order of the capture's numbers, and keeps the resolution of its times. The magic number has to be valid.
+    /// Changes the byte order of the capture, and keeps its timestamp resolution. The magic number must be valid.
     #[tactic(auto, unfolding(crate::specs::Magic::is_magic, crate::specs::Magic::order_of, crate::specs::Magic::resolution_of))]
     pub fn set_endianness(&mut self, endianness: Endianness)
         requires { IsTrue (is_magic self.old.magic_number) }
@@ -152,7 +152,7 @@ impl PcapHeader {
         self.magic_number = magic_of(endianness, self.ts_resolution());
     }
 
-    /// Changes the resolution of the capture's times, and keeps the order of its numbers. The magic number has to be valid.
+    /// Changes the timestamp resolution of the capture, and keeps its byte order. The magic number must be valid.
     #[tactic(auto, unfolding(crate::specs::Magic::is_magic, crate::specs::Magic::order_of, crate::specs::Magic::resolution_of))]
     pub fn set_ts_resolution(&mut self, ts_resolution: TsResolution)
         requires { IsTrue (is_magic self.old.magic_number) }
@@ -164,17 +164,17 @@ impl PcapHeader {
         self.magic_number = magic_of(self.endianness(), ts_resolution);
     }
 
-    /// Writes the 24 bytes of the header: the magic number high byte first, and all other numbers in the order of `B`.
-    /// The magic number isn't tested.
+    /// Writes the 24 bytes of the header: the magic number high byte first, and all other numbers in the order of `B`. The
+    /// magic number isn't tested.
     ///
-    /// `IoError` where a write failed: a beginning of the bytes has gone out then.
+    /// `IoError` if a write failed; then a beginning of the bytes was written.
     pub fn write_to<W: Write, B: ByteOrder>(&self, writer: &mut W) -> ResultParsing<()>
         ensures { WritesAll (W.contents writer.old) (W.contents writer.new) (header_bytes B.bytes_of self.now) result }
     {
         put(writer, &mut false, &self.to_bytes::<B>())
     }
 
-    /// The 24 bytes that `write_to` writes. `OutOfMemory` where they can't be kept.
+    /// Returns the 24 bytes that `write_to` writes. `OutOfMemory` if there is no memory for them.
     #[deprecated(since = "1.0.0", note = "`write_to` takes no memory")]
     pub fn to_array<B: ByteOrder>(&self, alloc: Global) -> ResultParsing<Vec<u8>>
         ensures bytes { IfOk result (λ bytes. bytes.items ≡ header_bytes B.bytes_of self.now) }
@@ -183,7 +183,7 @@ impl PcapHeader {
         Ok(Vec::from_slice(alloc, &self.to_bytes::<B>())?)
     }
 
-    /// The default header with this link type.
+    /// Returns the default header with this link type.
     #[deprecated(since = "1.0.0", note = "change `datalink` of `PcapHeader::default()`")]
     pub fn with_datalink(datalink: DataLink) -> PcapHeader
         ensures { result ≡ record default_header { datalink = datalink } }
@@ -194,7 +194,7 @@ impl PcapHeader {
         }
     }
 
-    /// The 24 bytes that `write_to` writes.
+    /// Returns the 24 bytes that `write_to` writes.
     pub fn to_bytes<B: ByteOrder>(&self) -> [u8; 24]
         ensures { result ≡ header_bytes B.bytes_of self.now }
     {
@@ -227,7 +227,7 @@ impl Default for PcapHeader {
     }
 }
 
-// The magic number of this order and resolution.
+// Returns the magic number of this byte order and timestamp resolution.
 #[tactic(auto, unfolding(crate::specs::Magic::kind_of))]
 fn magic_of(endianness: Endianness, ts_resolution: TsResolution) -> u32
     ensures magic { result ≡ magic_for endianness ts_resolution }
@@ -241,8 +241,8 @@ fn magic_of(endianness: Endianness, ts_resolution: TsResolution) -> u32
     }
 }
 
-/// Reads a header off a stream that has not failed, and says whether it failed then. The errors are those of
-/// `PcapHeader::from_reader`.
+/// Reads a header from a stream that has not failed before, and reports in `has_failed` whether it failed now. The errors
+/// are those of `PcapHeader::from_reader`.
 pub fn read_header<R: Read>(reader: &mut R, has_failed: &mut bool) -> ResultParsing<PcapHeader>
     requires { has_failed.old ≡ false }
     ensures { ReadsTold HeaderSays (λ header. header) (R.remaining reader.old) (R.remaining reader.new) has_failed.new result }

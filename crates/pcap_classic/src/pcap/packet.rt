@@ -1,4 +1,4 @@
-//! Packets.
+//! Packets and their headers.
 
 ghost use Rattle.std.specs.Prelude.{⊤, ◌≡◌, ◌<◌, ◌*◌, ◌+◌, ◌^◌, length, IsOk, IfOk, IfErr, MatchResult, IsTrue};
 ghost use Rattle.std.specs.Duration.{as_nanos};
@@ -23,23 +23,23 @@ use std::alloc::Global;
 use std::io::{Read, Write};
 use std::time::Duration;
 
-/// The most bytes that a packet's stored or original length may say.
+/// The highest valid value of a packet's stored or original length, in bytes.
 const PACKET_LIMIT: u32 = 262144;
 
 /// The header of a packet, 16 bytes in a capture.
 #[derive(Clone, Copy, Debug, Default, PartialEq, Eq)]
 pub struct PacketHeader {
-    /// Time in seconds.
+    /// The timestamp's seconds.
     pub ts_sec: u32,
-    /// The nanoseconds of that time. They may pass one second.
+    /// The timestamp's nanoseconds. They may exceed one second.
     pub ts_nsec: u32,
-    /// How many bytes of the packet are stored.
+    /// The number of bytes of the packet that are stored.
     pub incl_len: u32,
-    /// How many bytes the packet had on the wire.
+    /// The number of bytes that the packet had on the wire.
     pub orig_len: u32,
 }
 
-// The header that four numbers spell, or the first rule that they break.
+// Returns the header of these four numbers, or the first rule that they break.
 #[inline(always)]
 fn header_of(
     ts_resolution: TsResolution,
@@ -75,7 +75,7 @@ fn header_of(
 }
 
 impl PacketHeader {
-    /// The header of these fields: seconds, nanoseconds, stored and original length in bytes.
+    /// Returns the header of these fields: seconds, nanoseconds, stored and original length in bytes.
     pub fn new(ts_sec: u32, ts_nsec: u32, incl_len: u32, orig_len: u32) -> PacketHeader
         ensures { result ≡ record { ts_sec = ts_sec; ts_nsec = ts_nsec; incl_len = incl_len; orig_len = orig_len } }
     {
@@ -87,9 +87,9 @@ impl PacketHeader {
         }
     }
 
-    /// Reads a header off a stream. Exactly its 16 bytes are taken.
+    /// Reads a header from a stream, and takes exactly its 16 bytes.
     ///
-    /// `InvalidField` for the first rule that the header breaks. `IoError` where a read failed, or the stream ended early.
+    /// `InvalidField` for the first rule that the header breaks. `IoError` if a read failed, or the stream ended early.
     pub fn from_reader<R: Read, B: ByteOrder>(
         reader: &mut R,
         ts_resolution: TsResolution,
@@ -102,9 +102,9 @@ impl PacketHeader {
         Ok(header)
     }
 
-    /// The header at the front of a slice, and what follows it.
+    /// Returns the header at the front of a slice, and the bytes after it.
     ///
-    /// `IncompleteBuffer` under 16 bytes, and `InvalidField` for the first rule that the header breaks.
+    /// `IncompleteBuffer` for fewer than 16 bytes, and `InvalidField` for the first rule that the header breaks.
     pub fn from_slice<B: ByteOrder>(
         slice: &[u8],
         ts_resolution: TsResolution,
@@ -122,17 +122,17 @@ impl PacketHeader {
         Ok((rest, header))
     }
 
-    /// The time of the packet: its seconds and nanoseconds, carried.
+    /// Returns the packet's timestamp: its seconds plus its nanoseconds, which may exceed one second.
     pub fn timestamp(&self) -> Duration
         ensures { as_nanos result ≡ self.now.ts_sec * 1_000_000_000 + self.now.ts_nsec }
     {
         Duration::new(self.ts_sec.into(), self.ts_nsec)
     }
 
-    /// Writes the 16 bytes of the header in the order of `B`. Under microseconds the rest of the nanoseconds is lost. No
-    /// field is tested.
+    /// Writes the 16 bytes of the header in the order of `B`. In microseconds the last three digits of the nanoseconds are
+    /// lost. No field is tested.
     ///
-    /// `IoError` where a write failed: a beginning of the bytes has gone out then.
+    /// `IoError` if a write failed; then a beginning of the bytes was written.
     pub fn write_to<W: Write, B: ByteOrder>(
         &self,
         writer: &mut W,
@@ -143,7 +143,7 @@ impl PacketHeader {
         put(writer, &mut false, &self.to_bytes::<B>(ts_resolution))
     }
 
-    // The nanoseconds as they are written.
+    // Returns the nanoseconds as the fraction that is written.
     fn fraction(&self, ts_resolution: TsResolution) -> u32
         ensures { result ≡ fraction_of ts_resolution self.now.ts_nsec }
     {
@@ -153,7 +153,7 @@ impl PacketHeader {
         }
     }
 
-    /// The 16 bytes that `write_to` writes.
+    /// Returns the 16 bytes that `write_to` writes.
     pub fn to_bytes<B: ByteOrder>(&self, ts_resolution: TsResolution) -> [u8; 16]
         ensures { result ≡ packet_header_bytes B.bytes_of ts_resolution self.now }
     {
@@ -166,7 +166,7 @@ impl PacketHeader {
     }
 }
 
-/// A packet: its header and its bytes, borrowed or owned.
+/// A packet: its header and its data, borrowed or owned.
 #[derive(Clone, Debug, Drop)]
 pub struct Packet<'a> {
     /// The packet's header.
@@ -176,10 +176,10 @@ pub struct Packet<'a> {
 }
 
 impl<'a> Packet<'a> {
-    /// Reads a packet off a stream. Exactly its bytes are taken.
+    /// Reads a packet from a stream, and takes exactly its bytes.
     ///
-    /// `InvalidField` for the first rule that the packet's header breaks. `IoError` where a read failed, or the stream ended
-    /// early. `OutOfMemory` where its bytes can't be kept: room grows with the bytes that come.
+    /// `InvalidField` for the first rule that the packet's header breaks. `IoError` if a read failed, or the stream ended
+    /// early. `OutOfMemory` if the memory for the data runs out; the buffer grows as bytes arrive.
     pub fn from_reader<R: Read, B: ByteOrder>(
         alloc: Global,
         reader: &mut R,
@@ -196,10 +196,10 @@ impl<'a> Packet<'a> {
         })
     }
 
-    /// The packet at the front of a slice, and what follows it. Its bytes are borrowed from the slice.
+    /// Returns the packet at the front of a slice, and the bytes after it. The packet's data is borrowed from the slice.
     ///
-    /// `IncompleteBuffer` where bytes of the header, or then of the data, are missing, and `InvalidField` for the
-    /// first rule that the header breaks.
+    /// `IncompleteBuffer` if bytes of the header or of the data are missing, and `InvalidField` for the first rule that the
+    /// header breaks.
     pub fn from_slice<B: ByteOrder>(
         slice: &'a [u8],
         ts_resolution: TsResolution,
@@ -220,8 +220,8 @@ impl<'a> Packet<'a> {
         Ok((rest, packet))
     }
 
-    /// The packet of borrowed bytes: seconds, nanoseconds, the bytes, and the original length in bytes. The stored length
-    /// is the number of bytes, which has to be below 2^32.
+    /// Makes a packet of borrowed data from seconds, nanoseconds, the data, and the original length in bytes. The stored
+    /// length is the number of bytes, which must be below 2^32.
     pub fn new(ts_sec: u32, ts_nsec: u32, bytes: &'a [u8], orig_len: u32) -> Packet<'a>
         requires { length bytes.now < 2 ^ 32 }
         ensures packet { let header : PacketHeader =
@@ -234,8 +234,8 @@ impl<'a> Packet<'a> {
         Packet { header, data_ }
     }
 
-    /// The packet of owned bytes: seconds, nanoseconds, the bytes, and the original length in bytes. The stored length
-    /// is the number of bytes, which has to be below 2^32.
+    /// Makes a packet of owned data from seconds, nanoseconds, the data, and the original length in bytes. The stored
+    /// length is the number of bytes, which must be below 2^32.
     pub fn new_owned(ts_sec: u32, ts_nsec: u32, bytes: Vec<u8>, orig_len: u32) -> Packet<'static>
         requires { length bytes.items < 2 ^ 32 }
         ensures packet { let header : PacketHeader =
@@ -248,7 +248,7 @@ impl<'a> Packet<'a> {
         Packet { header, data_ }
     }
 
-    /// The same packet with a copy of its bytes. `OutOfMemory` where they can't be copied.
+    /// Returns the same packet with a copy of its data. `OutOfMemory` if there is no memory for the copy.
     pub fn to_owned(&self, alloc: Global) -> ResultParsing<Packet<'static>>
         ensures packet { IfOk result (λ own. content_of own ≡ content_of self.now) }
         ensures owned { IfOk result (λ own. IsOwned own.data_) }
@@ -261,8 +261,8 @@ impl<'a> Packet<'a> {
         })
     }
 
-    /// The same packet with its bytes owned. `OutOfMemory` where borrowed bytes can't be copied; owned ones are never
-    /// copied.
+    /// Returns the same packet with its data owned. `OutOfMemory` if there is no memory to copy borrowed data; owned data
+    /// is never copied.
     pub fn into_owned(self, alloc: Global) -> ResultParsing<Packet<'static>>
         ensures packet { IfOk result (λ own. content_of own ≡ content_of self.entry) }
         ensures owned { IfOk result (λ own. IsOwned own.data_) }
@@ -276,7 +276,7 @@ impl<'a> Packet<'a> {
     }
 }
 
-// The packet at the front of a slice under this header, and what follows it.
+// Returns the packet at the front of a slice under this header, and the bytes after it.
 #[inline(always)]
 pub(crate) fn packet_under<'a>(
     header: &PcapHeader,

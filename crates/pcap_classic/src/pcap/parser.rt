@@ -9,7 +9,7 @@ use crate::pcap::{Packet, PcapHeader};
 use pcap_core::rules::Rule;
 use pcap_core::{PcapError, ResultParsing};
 
-/// Parser of a Pcap capture: it holds the header, and gives a packet for each slice that begins with one.
+/// A parser of a classic capture. It holds the header, and returns a packet for each slice that begins with one.
 #[derive(Debug, Drop)]
 pub struct PcapParser {
     header: PcapHeader,
@@ -22,9 +22,9 @@ impl PcapParser {
     ghost use Rattle.pcap_classic.specs.HeaderText.{HeaderSays};
     ghost use Rattle.pcap_classic.specs.Parser.{header_of, OpensParser};
 
-    /// The parser that the header at the front of a slice gives, and what follows it.
+    /// Reads the header at the front of a slice, and returns a parser for its packets and the bytes after the header.
     ///
-    /// `IncompleteBuffer` under 24 bytes, and `InvalidField` where the magic number is none of the four.
+    /// `IncompleteBuffer` for fewer than 24 bytes, and `InvalidField` if the magic number is none of the four.
     pub fn new(slice: &[u8]) -> ResultParsing<(&[u8], PcapParser)>
         ensures tells { Tells (HeaderSays slice.now) header_of result }
     {
@@ -32,9 +32,9 @@ impl PcapParser {
         Ok((rest, PcapParser { header }))
     }
 
-    /// The parser of the packets behind this header.
+    /// Makes a parser of the packets after this header.
     ///
-    /// `InvalidField` where the magic number is none of the four.
+    /// `InvalidField` if the magic number is none of the four.
     pub fn with_header(header: PcapHeader) -> ResultParsing<PcapParser>
         ensures { OpensParser header result }
     {
@@ -44,17 +44,17 @@ impl PcapParser {
         Ok(PcapParser { header })
     }
 
-    /// The header of the capture.
+    /// Returns the header of the capture.
     pub fn header(&self) -> &PcapHeader
         ensures { result.now ≡ header_of self.now }
     {
         &self.header
     }
 
-    /// The packet at the front of a slice, and what follows it. Its bytes are borrowed from the slice.
+    /// Returns the packet at the front of a slice, and the bytes after it. The packet's data is borrowed from the slice.
     ///
-    /// `IncompleteBuffer` where bytes are missing, 16 for the empty slice, and `InvalidField` for the first rule
-    /// that the packet's header breaks. The parser stays as it is.
+    /// `IncompleteBuffer` if bytes are missing, 16 for the empty slice. `InvalidField` for the first rule that the packet's
+    /// header breaks. The parser doesn't change.
     #[inline(always)]
     pub fn next_packet<'a>(&self, slice: &'a [u8]) -> ResultParsing<(&'a [u8], Packet<'a>)>
         ensures tells { let magic = (header_of self.now).magic_number in

@@ -17,15 +17,13 @@ use pcap_items::stream::{Fill, Held, Told};
 use std::alloc::Global;
 use std::io::Read;
 
-/// Reads the packets of a capture off a stream, one for each call of `next`, or of `next_header`, which takes no memory for
-/// each of them.
+/// Reads the packets of a capture from a stream, one per call of `next` or `next_header`. `next_header` takes no memory per packet.
 ///
-/// Both are None where the stream ends between packets; the next call asks the stream again. After their first refusal they
-/// are None for good. Between packets exactly the bytes of the header and of the packets were taken; a refused call has
-/// taken no more than was missing.
+/// Both return None if the stream ends between packets; the next call reads the stream again. After the first error they always
+/// return None. Between packets the reader has taken exactly the bytes of the header and of the packets. A failed call has taken
+/// no more bytes than were missing.
 ///
-/// A stream may never end, so a loop needs a bound to be proved: `for packet in reader.take(usize::MAX)`, or where packets
-/// are lent
+/// A stream may never end, so a loop needs a bound to be proved: `for packet in reader.take(usize::MAX)`, or for lent packets:
 ///
 /// ```
 /// for _ in 0..u64::MAX {
@@ -37,12 +35,12 @@ use std::io::Read;
 /// ```
 #[derive(Debug, Drop)]
 pub struct PcapReader<T> {
-    /// The header of the capture. Each packet is read under the header as it stands.
+    /// The header of the capture. Each packet is read under its current fields.
     pub header: PcapHeader,
     alloc: Global,
-    // what `next_header` lends
+    // the bytes that `next_header` lends
     fill: Fill<T>,
-    // the head of what `next` takes
+    // the head of the packet that `next` takes
     head: Held,
     is_done: bool,
     ghost between: { is_done ≡ false → held_bytes head ≡ [] },
@@ -50,7 +48,7 @@ pub struct PcapReader<T> {
     ghost room: { room_of head ≤ 16 },
 }
 
-// Takes the next packet. No head is held before it, nor after an `Ok`; what is lent stays.
+// Takes the next packet. No head is held before the call, nor after an `Ok`. Lent bytes stay.
 fn pull<T: Read>(
     alloc: Global,
     header: &PcapHeader,
@@ -74,7 +72,7 @@ fn pull<T: Read>(
     Ok(Some(Packet { header, data_ }))
 }
 
-// Holds the next packet, its header too. Nothing is held before it, nor after a `None`.
+// Holds the next packet, with its header. Nothing is held before the call, nor after a `None`.
 #[inline(always)]
 fn hold<T: Read>(header: &PcapHeader, fill: &mut Fill<T>) -> ResultParsing<Option<PacketHeader>>
     requires between { held_of fill.old ≡ [] }
@@ -89,10 +87,10 @@ fn hold<T: Read>(header: &PcapHeader, fill: &mut Fill<T>) -> ResultParsing<Optio
 impl<T: Read + Drop> PcapReader<T> {
     ghost use Rattle.pcap_classic.specs.Reader.{stream_of, has_failed, is_done, data_of, lent_packet, LetsGo, OpensReader};
 
-    /// Reads the header of a capture off a stream, and makes a reader of the packets behind it. A refused call drops the
+    /// Reads the header of a capture from a stream, and makes a reader of the packets after it. A failed call drops the
     /// stream.
     ///
-    /// `InvalidField` where the magic number is none of the four. `IoError` where a read failed, or the stream ended early.
+    /// `InvalidField` if the magic number is none of the four. `IoError` if a read failed, or the stream ended early.
     pub fn new(alloc: Global, mut reader: T) -> ResultParsing<PcapReader<T>>
         ensures { OpensReader T.remaining reader result }
     {
@@ -100,11 +98,11 @@ impl<T: Read + Drop> PcapReader<T> {
         Ok(PcapReader::with_header(alloc, header, reader))
     }
 
-    /// The header of the next packet, whose data the reader lends from then on (`data`, `packet`), until it is called again.
-    /// So a packet costs no memory of its own. What it answers, and when, is said as of `next`.
+    /// Returns the header of the next packet. The reader lends the packet's data (`data`, `packet`) until its next call, so
+    /// a packet takes no memory of its own. It returns None and errors as `next` does.
     ///
-    /// `InvalidField` for the first rule that the packet's header breaks. `IoError` where a read failed, or the stream ended
-    /// inside the packet. `OutOfMemory` where its bytes can't be held: room grows with the bytes that come, and stays.
+    /// `InvalidField` for the first rule that the packet's header breaks. `IoError` if a read failed, or the stream ended
+    /// inside the packet. `OutOfMemory` if the memory for its bytes runs out; the buffer grows as bytes arrive, and stays.
     pub fn next_header(&mut self) -> Option<ResultParsing<PacketHeader>>
         ensures header { self.new.header ≡ self.old.header }
         ensures next { NextGives ((reader_format packet_limit self.old.header).says tt) (lent_packet self.new) (T.remaining (stream_of self.old))
@@ -129,7 +127,7 @@ impl<T> PcapReader<T> {
     ghost use Rattle.pcap_classic.specs.LentStreams.{reader_with};
     ghost use Rattle.pcap_classic.specs.Reader.{stream_of, has_failed, is_done, data_of, lent_packet};
 
-    /// The data of the packet whose header `next_header` gave last. Empty where it gave none.
+    /// Returns the data of the packet whose header `next_header` returned last. It is empty if `next_header` returned none.
     pub fn data(&self) -> &[u8]
         ensures { result.now ≡ data_of self.now }
     {
@@ -141,7 +139,7 @@ impl<T> PcapReader<T> {
         data
     }
 
-    /// The packet whose header `next_header` gave last, its data lent by the reader.
+    /// Returns the packet whose header `next_header` returned last, with its data lent by the reader.
     pub fn packet(&self, header: PacketHeader) -> Packet<'_>
         ensures packet { content_of result ≡ lent_packet self.now header }
         ensures borrowed { IsBorrowed result.data_ }
@@ -152,7 +150,7 @@ impl<T> PcapReader<T> {
         }
     }
 
-    /// A reader of the packets of a stream whose header was read before: the stream stands after its 24 bytes.
+    /// Makes a reader of the packets of a stream whose 24 bytes of header were already read.
     pub fn with_header(alloc: Global, header: PcapHeader, stream: T) -> PcapReader<T>
         ensures header { result.header ≡ header }
         ensures stream { stream_of result ≡ stream }
@@ -169,21 +167,21 @@ impl<T> PcapReader<T> {
         }
     }
 
-    /// Gives the wrapped stream back.
+    /// Returns the wrapped stream.
     pub fn into_reader(self) -> T
         ensures { result ≡ stream_of self }
     {
         self.fill.into_inner()
     }
 
-    /// The wrapped stream.
+    /// Lends the wrapped stream.
     pub fn get_ref(&self) -> &T
         ensures { result.now ≡ stream_of self.now }
     {
         self.fill.get_ref()
     }
 
-    /// The wrapped stream. What is read of it directly is no packet of this reader's.
+    /// Lends the wrapped stream, mutably. Bytes that the caller reads from it directly are in no packet of this reader.
     pub fn get_mut(&mut self) -> &mut T
         ensures value { result.now ≡ stream_of self.old }
         ensures* writes_back { sem 𝓛 (Lends (reader-row T.row) T.row self.entry result (reader_with self.old)) }
@@ -191,7 +189,7 @@ impl<T> PcapReader<T> {
         self.fill.get_mut()
     }
 
-    /// Whether a read of the wrapped stream failed.
+    /// Returns whether a read of the wrapped stream failed.
     pub fn failed(&self) -> bool
         ensures { result ≡ has_failed self.now }
     {

@@ -13,14 +13,14 @@ use pcap_core::rules::Rule;
 use pcap_core::{CowBytes, Endianness, PcapError, ResultParsing};
 use pcap_items::stream::HasHead;
 
-/// The packets behind a header, as it stands.
+/// The packets after a capture's header, under its current fields.
 #[derive(Clone, Copy)]
 pub struct PacketsUnder<'a> {
-    /// The header of their capture.
+    /// The header of the packets' capture.
     pub header: &'a PcapHeader,
 }
 
-// The packet's header at the front of a slice, in this order and resolution, and what follows it.
+// Returns the packet header at the front of a slice, in this byte order and resolution, and the bytes after it.
 #[inline(always)]
 fn header_in(
     endianness: Endianness,
@@ -65,19 +65,19 @@ impl HasHead for PacketsUnder<'_> {
     }
 }
 
-/// A packet that is held.
+/// A packet whose bytes are held.
 #[derive(Clone, Copy)]
 pub struct HeldPacket<'a> {
-    /// The header that it came under.
+    /// The capture's header, under which the packet was read.
     pub from: &'a PcapHeader,
-    /// Its own header, as it was read.
+    /// The packet's own header, as it was read.
     pub head: PacketHeader,
-    /// Its bytes, those of its header first.
+    /// The packet's bytes, beginning with those of its header.
     pub bytes: &'a [u8],
 }
 
 impl<'a> HeldPacket<'a> {
-    /// The packet, lent from its bytes.
+    /// Returns the packet, with its data lent from the bytes.
     pub fn packet(self) -> Packet<'a>
         requires { IsHeld self }
         ensures { (reader_format packet_limit self.entry.from.now).says tt self.entry.bytes.now (whole (content_of result) []) }

@@ -19,31 +19,31 @@ use pcap_core::{Endianness, PcapError, ResultParsing};
 use pcap_items::stream::put;
 use std::io::Write;
 
-/// Writes a capture into a writer: its header, and then packets one by one.
+/// Writes a capture to a wrapped writer: first its header, and then packets one by one.
 #[derive(Debug, Drop)]
 pub struct PcapWriter<W> {
-    /// The header of the capture. Each packet is written in the order and resolution that its magic number tells then.
+    /// The header of the capture. Each packet is written in the byte order and resolution of its current magic number.
     pub header: PcapHeader,
     inner: W,
     has_failed: bool,
 }
 
 impl<W> PcapWriter<W> {
-    /// Gives the wrapped writer back.
+    /// Returns the wrapped writer.
     pub fn into_writer(self) -> W
         ensures { result ≡ stream_of self }
     {
         self.inner
     }
 
-    /// The wrapped writer.
+    /// Lends the wrapped writer.
     pub fn get_ref(&self) -> &W
         ensures { result.now ≡ stream_of self.now }
     {
         &self.inner
     }
 
-    /// The wrapped writer. What is written to it directly is no part of this writer's capture.
+    /// Lends the wrapped writer, mutably. Bytes that the caller writes to it directly are no part of this writer's capture.
     pub fn get_mut(&mut self) -> &mut W
         ensures value { result.now ≡ stream_of self.old }
         ensures* writes_back { sem 𝓛 (Lends (writer-row W.row) W.row self.entry result (writer_with self.old)) }
@@ -51,7 +51,7 @@ impl<W> PcapWriter<W> {
         &mut self.inner
     }
 
-    /// Whether a write failed. From then on every packet is refused.
+    /// Returns whether a write failed. After a failure the writer refuses every packet.
     pub fn failed(&self) -> bool
         ensures { result ≡ has_failed self.now }
     {
@@ -62,7 +62,7 @@ impl<W> PcapWriter<W> {
 impl<W: Write + Drop> PcapWriter<W> {
     /// Makes a writer, and writes the default header with little-endian numbers.
     ///
-    /// `IoError` where a write failed: a beginning of the header's 24 bytes has gone out then.
+    /// `IoError` if a write failed; then a beginning of the header's 24 bytes was written.
     pub fn new(writer: W) -> ResultParsing<PcapWriter<W>>
         ensures { OpensWriter W.contents little_header writer result }
     {
@@ -71,10 +71,10 @@ impl<W: Write + Drop> PcapWriter<W> {
         PcapWriter::with_header(header, writer)
     }
 
-    /// Makes a writer, and writes this header in the order that its magic number tells.
+    /// Makes a writer, and writes this header in the byte order of its magic number.
     ///
-    /// `InvalidField` where the magic number is none of the four: nothing is written then. `IoError` where a write
-    /// failed: a beginning of the header's 24 bytes has gone out then.
+    /// `InvalidField` if the magic number is none of the four; then nothing is written. `IoError` if a write failed; then a
+    /// beginning of the header's 24 bytes was written.
     pub fn with_header(header: PcapHeader, mut writer: W) -> ResultParsing<PcapWriter<W>>
         ensures { OpensWriter W.contents header writer result }
     {
@@ -92,8 +92,8 @@ impl<W: Write + Drop> PcapWriter<W> {
 }
 
 impl<W: Write> PcapWriter<W> {
-    /// Writes a packet of these bytes: seconds, nanoseconds, the bytes, and the original length in bytes. There have to be
-    /// fewer than 2^32 bytes. It fails as `write_packet` does.
+    /// Writes a packet from seconds, nanoseconds, its bytes, and its original length in bytes. The packet must have fewer
+    /// than 2^32 bytes. It fails as `write_packet` does.
     pub fn write(
         &mut self,
         ts_sec: u32,
@@ -110,11 +110,11 @@ impl<W: Write> PcapWriter<W> {
         self.write_packet(&Packet::new(ts_sec, ts_nsec, bytes, orig_len))
     }
 
-    /// Writes a packet: 16 bytes of its header, and then its bytes. The stored length goes out as it stands in the packet's
-    /// header, whatever the number of bytes is.
+    /// Writes a packet: the 16 bytes of its header, and then its data. The stored length is written as it is in the
+    /// packet's header, whatever the number of bytes is.
     ///
-    /// `WriterFailed` where an earlier write failed, else `InvalidField` where the magic number of `header` is none of
-    /// the four: nothing is written then. `IoError` where a write failed: a beginning of the packet has gone out then.
+    /// `WriterFailed` if an earlier write failed, and else `InvalidField` if the magic number of `header` is none of the
+    /// four; in both cases nothing is written. `IoError` if a write failed; then a beginning of the packet was written.
     pub fn write_packet(&mut self, packet: &Packet<'_>) -> ResultParsing<()>
         ensures header { self.new.header ≡ self.old.header }
         ensures packet { WritesPacket W.contents self.old self.new (content_of packet.now) result }
@@ -129,7 +129,7 @@ impl<W: Write> PcapWriter<W> {
     }
 }
 
-// Writes a capture's header in its own order.
+// Writes a capture's header in its own byte order.
 pub(crate) fn put_header<W: Write>(
     writer: &mut W,
     has_failed: &mut bool,
@@ -160,7 +160,7 @@ pub(crate) fn put_packet<W: Write>(
     put(writer, has_failed, packet.data_.as_slice())
 }
 
-// The 16 bytes of a packet's header under a capture's header.
+// Returns the 16 bytes of a packet's header under a capture's header.
 fn bytes_under(header: &PcapHeader, packet: &PacketHeader) -> [u8; 16]
     requires { IsTrue (is_magic header.now.magic_number) }
     ensures { let magic = header.now.magic_number in

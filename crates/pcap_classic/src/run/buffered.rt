@@ -1,4 +1,4 @@
-//! Copies of captures, out of a reader's own buffer.
+//! Copies of captures from a reader's own buffer.
 
 ghost use Rattle.std.specs.Prelude.{◌≤◌, IfSome};
 ghost use Rattle.pcap_classic.specs.Copies.{CopyRun, CopyFront};
@@ -9,12 +9,12 @@ use pcap_items::stream::{Held, Tally, copy_buffers};
 use std::alloc::Global;
 use std::io::{BufRead, Write};
 
-/// Copies a capture as `copy_pcap` does, from a reader that shows its buffer: packets that lie whole in it are written from
-/// there and never copied, and where the magic number stays the same, all of them at once. The packet that ends outside of
-/// it is held, as all are by `copy_pcap`. A reader that shows no byte is at its end; what its buffer holds and no packet took
-/// stays in it.
+/// Copies a capture as `copy_pcap` does, from a reader that shows its buffer. Packets that are whole in the buffer are
+/// written from there without a copy, and all at once if the magic number stays the same. A packet that ends outside of the
+/// buffer is held in memory, as `copy_pcap` holds all packets. A reader that shows no byte is at its end. Bytes that no
+/// packet took stay in the reader's buffer.
 ///
-/// It is refused as `copy_pcap` is.
+/// It fails as `copy_pcap` does.
 pub fn copy_buffered<R: BufRead, W: Write>(
     alloc: Global,
     reader: &mut R,

@@ -26,18 +26,18 @@ use std::io::{Read, Write};
 pub enum Under {
     /// The header that was read.
     Same,
-    /// This header.
+    /// The given header.
     Header(PcapHeader),
-    /// The header that was read, with the magic number of this order and resolution.
+    /// The header that was read, with the magic number of this byte order and timestamp resolution.
     Order(Endianness, TsResolution),
 }
 
 /// How a copy ended.
 #[derive(Debug, Drop)]
 pub struct Copied {
-    /// How many whole packets went out.
+    /// The number of packets that were written whole.
     pub packets: u64,
-    /// Why the copy ended before the end of the capture and before the most packets that were asked for.
+    /// Why the copy ended before the end of the capture and before the requested number of packets.
     pub fault: Option<PcapError>,
     /// Whether a read failed.
     pub read_failed: bool,
@@ -45,7 +45,7 @@ pub struct Copied {
     pub write_failed: bool,
 }
 
-/// A copy that came so far, and ended with this fault, or none.
+/// Returns the result of a copy with this tally and this fault, or none.
 pub fn end_copy(tally: &Tally, fault: Option<PcapError>) -> Copied
     ensures { result ≡ copied_of tally.now fault }
 {
@@ -58,7 +58,7 @@ pub fn end_copy(tally: &Tally, fault: Option<PcapError>) -> Copied
 }
 
 impl Under {
-    // Whether the header that is given, if one is, has one of the four magic numbers.
+    // Returns whether the given header, if there is one, has one of the four magic numbers.
     fn is_writable(&self) -> bool
         ensures { IsTrue result ↔ CanBeUnder self.now }
     {
@@ -68,7 +68,7 @@ impl Under {
         }
     }
 
-    // The header under which the copy of a capture with this header is written.
+    // Returns the header under which the program writes the copy of a capture with this header.
     fn header(self, read: PcapHeader) -> PcapHeader
         requires writable { CanBeUnder self }
         requires valid { IsTrue (is_magic read.magic_number) }
@@ -88,15 +88,15 @@ impl Under {
     }
 }
 
-/// Copies a capture from a reader to a writer: its header, as `under` demands, and then at most `most` of its packets, each
-/// of them before the next one is read. Where there is no fault exactly what was copied was taken from the reader. Under
-/// microseconds the rest of the nanoseconds is lost.
+/// Copies a capture from a reader to a writer: its header, as `under` demands, and then at most `most` packets. Each packet
+/// is written before the next one is read. Without a fault, the reader has given exactly the header and these packets.
+/// A copy in microseconds loses the last three digits of the nanoseconds.
 ///
-/// `InvalidField` where the magic number of the header that is given is none of the four: nothing is read or written then.
-/// A header that is refused gives what `PcapHeader::from_reader` gives, and nothing is written; a rest that is refused gives
-/// what `PcapReader` gives there, the header and all packets before it have gone out, and no more of it was taken than was
-/// missing. `IoError` also where a write failed: a beginning of the text that comes next has gone out then, and that packet
-/// was taken. `OutOfMemory` where a packet can't be held.
+/// `InvalidField` if the magic number of the given header is none of the four; then nothing is read or written. If the
+/// capture's header can't be read, the fault is that of `PcapHeader::from_reader`, and nothing is written. If a later
+/// packet can't be read, the fault is that of `PcapReader`. Then the header and all packets before it are written, and no
+/// more bytes were taken than were missing. `IoError` also if a write failed: then a beginning of the next text was
+/// written, and that packet was taken. `OutOfMemory` if the memory for a packet runs out.
 pub fn copy_pcap<R: Read, W: Write>(
     alloc: Global,
     reader: &mut R,
@@ -117,7 +117,7 @@ pub fn copy_pcap<R: Read, W: Write>(
     end_copy(tally, result.err())
 }
 
-// Copies the header, and gives the packets behind it.
+// Copies the header, and returns the state for copying the packets after it.
 pub(crate) fn begin_copy<R: Read, W: Write>(
     reader: &mut R,
     writer: &mut W,
@@ -137,13 +137,13 @@ pub(crate) fn begin_copy<R: Read, W: Write>(
     Ok(PacketsAhead { header, puts })
 }
 
-/// What writes the packets that bytes hold.
+/// A way to write packets from the bytes that hold them.
 pub trait PutsPacket {
     ghost stands: { Self → Type 0 };
 
     ghost text: { Self → Captured → List ℕ };
 
-    /// Writes the text of the packet. It fails where a write fails, and nowhere else.
+    /// Writes the text of the packet. It fails only if a write fails.
     fn put_held<W: Write>(&self, writer: &mut W, held: HeldPacket<'_>) -> ResultParsing<()>
         requires stands { stands self.now }
         requires held { IsHeld held }
@@ -151,20 +151,20 @@ pub trait PutsPacket {
             (W.contents writer.old) (W.contents writer.new) result };
 }
 
-/// Packets ahead of a copy.
+/// The packets that are still to be copied.
 #[derive(Drop)]
 pub struct PacketsAhead<P> {
-    /// The header that they are read under.
+    /// The header under which the packets are read.
     pub header: PcapHeader,
-    /// What writes them.
+    /// Writes the packets.
     pub puts: P,
 }
 
 impl<P: PutsPacket> PacketsAhead<P> {
-    /// Copies the packets that follow the header, at most `most` of them, each before the next one is read, and counts them.
+    /// Copies the packets after the header, at most `most` of them, each before the next one is read, and counts them.
     ///
-    /// A rest that is refused gives what `PcapReader` gives there; `IoError` also where a write failed. `OutOfMemory` where a packet
-    /// can't be held.
+    /// If a packet can't be read, the error is that of `PcapReader`. `IoError` also if a write failed. `OutOfMemory` if the
+    /// memory for a packet runs out.
     pub fn copy<R: Read, W: Write>(
         &self,
         alloc: Global,
@@ -234,7 +234,7 @@ impl<P: PutsPacket> Ahead for PacketsAhead<P> {
     }
 }
 
-// What writes packets under this header.
+// Writes packets under this header.
 #[derive(Drop)]
 pub(crate) struct UnderHeader {
     pub(crate) out: PcapHeader,
@@ -264,7 +264,7 @@ impl AheadShown for PacketsAhead<UnderHeader> {
     }
 }
 
-// As it came where the magic number stays the same, or lent from its bytes.
+// The bytes go out unchanged if the magic numbers are equal. Otherwise the packet is lent from its bytes and written anew.
 impl PutsPacket for UnderHeader {
     ghost stands = { λ under. IsTrue (is_magic under.out.magic_number) };
 

@@ -1,4 +1,4 @@
-//! Runs over a capture that is shown exactly as the parser asks for it.
+//! Runs over a capture that shows exactly the bytes that the parser requests.
 
 ghost use Rattle.std.specs.Prelude.{◌≡◌, ◌⊎◌, ◌++◌, ◌∷◌, [], All, IfOk, IfErr};
 ghost use Rattle.pcap_core.specs.Answer.{Refuses};
@@ -15,18 +15,19 @@ use pcap_core::{PcapError, ResultParsing};
 use pcap_items::run::show_items;
 use std::alloc::Global;
 
-/// How many bytes the header of a capture has.
+/// The number of bytes of a capture's header.
 const HEADER_BYTES: usize = 24;
 
-/// The whole run over the bytes of a window that has shown none, each of them shown only once the parser asked for it,
-/// and how many requests that took. The packets are lent from the bytes.
+/// Reads a whole capture from a window that has shown no bytes yet, and counts the requests. The window shows bytes only
+/// when the parser requests them. The packets are lent from the bytes.
 ///
-/// The requests are those that the format states: 24 bytes for the capture's header ('File Header'), and for each packet
-/// 16 bytes and then its data, where it has some ('Packet Record'). Where fewer bytes are left than are asked for, the
-/// parser isn't asked again, and the rest is `Needs` of the difference. After the last packet nothing is asked for.
+/// The requests are those of the format: 24 bytes for the capture's header ('File Header'), and for each packet 16 bytes
+/// and then its data, if it has any ('Packet Record'). If fewer bytes are left than requested, the parser isn't called
+/// again, and the rest is `Needs` of the difference. After the last packet the parser requests nothing.
 ///
-/// Where the header is refused, that refusal, and `IncompleteBuffer` where it isn't whole; then the header's 24 bytes are all
-/// that was asked for. `OutOfMemory` where the list of packets can't grow, and how many bytes were shown then is open.
+/// Returns the header's error if the header is malformed, and `IncompleteBuffer` if it is truncated; in both cases only its
+/// 24 bytes were requested. `OutOfMemory` if the list of packets can't grow; then the number of bytes shown is not
+/// specified.
 pub fn exact_pcap<'a>(alloc: Global, window: &mut Window<'a>) -> ResultParsing<(PcapRun<'a>, u64)>
     requires { shown_of window.old ≡ 0 }
     ensures bytes { bytes_of window.new ≡ bytes_of window.old }

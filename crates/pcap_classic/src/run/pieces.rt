@@ -59,14 +59,14 @@ impl PieceParser for PcapParser {
     }
 }
 
-/// The whole run over a capture that comes in pieces, with owned packets; and for each piece, how many packets it and those
-/// before it hold, 0 while the capture's header isn't whole. Empty pieces are pieces too.
+/// Reads a whole capture that comes in pieces, with owned packets. For each piece, it also returns the number of packets in
+/// the pieces up to that one, which is 0 until the capture's header is whole. Pieces may be empty.
 ///
-/// The pieces' lengths together fit `usize`, which `pieces_fit` tests. Only bytes that no packet has taken are kept, and
-/// the parser is asked about each packet three times at most, so the cost is linear in the bytes and the pieces.
+/// The sum of the pieces' lengths must fit `usize`, which `pieces_fit` tests. The function keeps only bytes that no packet
+/// has taken. It calls the parser at most three times for each packet, so the cost is linear in the bytes and the pieces.
 ///
-/// Where the header is refused, that refusal, and `IncompleteBuffer` where it isn't whole. `OutOfMemory` where something
-/// can't grow.
+/// Returns the header's error if the header is malformed, and `IncompleteBuffer` if it is truncated. `OutOfMemory` if a
+/// buffer or list can't grow.
 pub fn pieces_pcap(alloc: Global, pieces: &[&[u8]]) -> ResultParsing<(PcapRun<'static>, Vec<usize>)>
     requires { length (joined_pieces pieces.now) < 2 ^ 64 }
     ensures run { IfOk result (λ x. IsRun x.0 (joined_pieces pieces.now)) }

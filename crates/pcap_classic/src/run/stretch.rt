@@ -1,4 +1,4 @@
-//! Whole packets that lie one behind the other in a buffer, and go out from there.
+//! Whole packets that follow each other in a buffer, and are written directly from it.
 
 ghost use Rattle.std.specs.Prelude.{IsTrue};
 ghost use Rattle.pcap_classic.specs.Magic.{is_magic};
@@ -10,17 +10,17 @@ use pcap_core::PcapError;
 use pcap_items::stream::{Torn, put_or_tear};
 use std::io::Write;
 
-// What of a buffer went out.
+// The part of a buffer that was written.
 pub(crate) struct Went<'a> {
-    // How many whole packets.
+    // The number of whole packets that were written.
     pub(crate) packets: u64,
-    // What follows them, and the packet in which a write failed.
+    // The bytes after them, and after the packet in which a write failed.
     pub(crate) rest: &'a [u8],
-    // The write that failed.
+    // The error of the write that failed.
     pub(crate) fault: Option<PcapError>,
 }
 
-// Writes the whole packets at the front of a buffer, at most so many.
+// Writes the whole packets at the front of a buffer, at most `most` of them.
 pub(crate) fn put_front<'a, W: Write>(
     writer: &mut W,
     has_failed: &mut bool,
@@ -41,7 +41,7 @@ pub(crate) fn put_front<'a, W: Write>(
     }
 }
 
-// Writes them one by one.
+// Writes the packets one by one.
 fn put_each<'a, W: Write>(
     writer: &mut W,
     has_failed: &mut bool,
@@ -82,7 +82,7 @@ fn put_each<'a, W: Write>(
     }
 }
 
-// Writes them at once, as they came.
+// Writes the packets at once, unchanged.
 fn put_stretch<'a, W: Write>(
     writer: &mut W,
     has_failed: &mut bool,
@@ -114,7 +114,7 @@ fn put_stretch<'a, W: Write>(
     }
 }
 
-// The whole packets at the front of the bytes, at most so many: how many these are, and what follows them.
+// Returns the number of whole packets at the front of the bytes, at most `most`, and the bytes after them.
 #[inline(never)]
 fn whole_packets<'a>(header: &PcapHeader, bytes: &'a [u8], most: u64) -> (u64, &'a [u8])
     requires { IsTrue (is_magic header.now.magic_number) }
