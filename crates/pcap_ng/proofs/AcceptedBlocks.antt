@@ -45,7 +45,7 @@ module _ (q : State) (blocks : List Framed) (bytes : List ℕ) (now out out_now 
   accepted_bytes run = elim run [ inl why ↦ absurd (no_first why) | inr copy ↦ all_copied copy ]
 
 module _ (bytes : List ℕ) (now out out_now : Option (List ℕ)) (most : ℕ) (copied : NgCopied) where
-  -- What was written after items is a beginning of the bytes.
+  -- The bytes that were written after items are a beginning of the capture.
   begins : (vs : List Item) (left mid : Option (List ℕ)) (most n : ℕ) → CopiesTexts block_format opening vs (Some bytes) left out mid
       → core.Ends as_they_came (block_format.says (state_after block_format opening vs)) left now mid out_now most n copied.fault copied.read_failed copied.write_failed
       → (gone rest : List ℕ) × (bytes ≡ gone ++ rest) × Appends out out_now gone

@@ -21,7 +21,7 @@ use Rattle.pcap_ng.proofs.Causes.{body_refused, pull_item}
 use Rattle.pcap_ng.proofs.Refusing.{refuses_wider, shows_refuses}
 use Rattle.pcap_ng.proofs.BlockFormat.{blocks_lawful}
 
--- What was copied after a first block.
+-- The first block and the blocks that were copied after it are a copy.
 pub first_copies : (first : Item) (q : State) (a b now s r out : Option (List ℕ)) (most : ℕ) (tally : Tally) (fault : Option PcapError) → first.after ≡ q → CopiesTexts block_format opening (first ∷ []) a b s r
     → core.CopiesBehind block_format as_they_came q b now r out most tally.items fault tally.read_failed tally.write_failed → CopiesNg a now s out most (copied_of tally fault)
 unfolding block_format

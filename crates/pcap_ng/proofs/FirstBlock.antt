@@ -40,7 +40,7 @@ pub block_stable : (q : State) → IsStable (BlockSays q)
 unfolding block_format
 block_stable q = blocks_lawful.stable q
 
--- What may grow may also grow if more bytes follow.
+-- If a call may need memory at these bytes, it may also need memory if more bytes follow.
 pub grows_more : (q : State) (s more : List ℕ) → MayGrow q s → MayGrow q (s ++ more)
 unfolding frame_format
 grows_more q s more x = record { block = x.block; rest = x.rest ++ more; frame = (frames_lawful.stable (order_at q)).text s more x.rest x.block x.frame; grows = x.grows }

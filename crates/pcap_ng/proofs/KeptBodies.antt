@@ -1,4 +1,4 @@
--- What a block puts in force, and what is kept of it, leads to the same state as its body.
+-- A block's change of what is in force, and the kept copy of its body, lead to the same state as the body.
 use Rattle.std.proofs.Common.{◌≡◌, ℕ, List, [], ◌∷◌, ◌++◌, true, Bool, refl, sym, ap, subst, inl, Result, Ok, Err}
 use Rattle.std.specs.Prelude.{⊤}
 use Rattle.pcap_core.specs.declared.errors.PcapError.{PcapError}

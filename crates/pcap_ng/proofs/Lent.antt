@@ -1,4 +1,4 @@
--- What a reader lends of the bytes that it holds.
+-- A block that a reader lends is the block in the bytes that it holds.
 use Rattle.std.proofs.Common.{◌≡◌, ◌∙◌, ◌+◌, ◌-◌, ℕ, List, [], length, take, drop, refl, sym, ap, arith, length-append}
 use Rattle.std.proofs.lemmas.List.{take_at}
 use Rattle.pcap_core.specs.declared.common.Endianness.{Endianness}

@@ -1,4 +1,4 @@
--- What was taken from a stream with known bytes is the front of these bytes.
+-- The blocks that were taken from a stream with known bytes are the front of these bytes.
 use Rattle.std.proofs.Common.{◌≡◌, ℕ, List, [], ◌++◌, Some, None, Ok, false, All, refl, sym, subst}
 use Rattle.std.specs.Prelude.{Option, Result, IfNone, IfOk, IfSome, map}
 use Rattle.pcap_core.specs.declared.errors.PcapError.{PcapError}

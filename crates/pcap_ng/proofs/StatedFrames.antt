@@ -1,4 +1,4 @@
--- What is known about a frame once its head is read.
+-- A frame whose head is read.
 use Rattle.std.proofs.Common.{◌≡◌, ◌<◌, ◌+◌, ℕ, List, [], ◌++◌, length, drop, refl, sym, ap, subst, ◌∙◌, arith, append-nil, append_assoc, length-append, inl, inr}
 use Rattle.std.proofs.lemmas.Bool.{cases_eq}
 use Rattle.std.proofs.lemmas.List.{drop_at}
@@ -33,7 +33,7 @@ head_more e number len own s after more t = record {
   own_is = t.own_is;
 }
 
--- What follows the length is what follows the first eight bytes.
+-- The bytes after the length are the bytes after the first eight.
 pub head_drop : (e : Endianness) (number len : ℕ) (own : Endianness) (s after : List ℕ) → FrameHeadText e number own len s after → drop 8 s ≡ after
 head_drop e number len own s after t =
     let a = t.number_is.bytes in
@@ -53,7 +53,7 @@ pub stated_length : (e : Endianness) (head : FrameHead) (s : List ℕ) → State
 stated_length e head s t = omega (arith, ap length t.split, length-append t.front t.body, t.length_is, frame_head e, t.knows.follows)
 
 module _ (e : Endianness) (head : FrameHead) (s after : List ℕ) (text : FrameHeadText e head.number head.endianness head.len s after) (good : IsGoodLength head.len) where
-  -- What follows a head makes it a block.
+  -- The bytes after a head make it a block.
   pub tail_text : (b : Framed) (rest : List ℕ) → TailOf head b after rest → FrameText e b s rest
   tail_text b rest t = record {
     number = head.number;

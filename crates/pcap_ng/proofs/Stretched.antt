@@ -56,7 +56,7 @@ more_taken e bytes rest after n b so_far text leaves =
       stretch = one_more e so_far.front own.0 n b so_far.stretch own.2 leaves;
     }
 
--- What follows a block is shorter than the bytes that begin with the block.
+-- The bytes after a block are shorter than the bytes that begin with the block.
 pub text_within : (e : Endianness) (b : Framed) (s rest : List ℕ) → FrameText e b s rest → length rest < length s
 unfolding frame_format
 text_within e b s rest text = shorter frame_format frames_lawful e b s rest text
@@ -240,13 +240,13 @@ leaving s is (b ∷ blocks) bytes (after, one, others) leave =
     (item_left s is b ∷ more.0, (after, left_text s is b bytes after one (All-head LeavesInForce b blocks leave), more.1), more.2, omega (arith, more.3))
 
 module _ (s : Section) (is : List Interface) (order : Endianness) (same : order ≡ order_at (within s is)) where
-  -- What was written whole, as items.
+  -- Blocks that were written whole, as items.
   whole_left : (bytes : List ℕ) (a b : Option (List ℕ)) (n : ℕ) → SendsWhole order bytes a b n → core.SendsWhole block_format as_they_came (within s is) bytes a b n
   whole_left bytes a b n sent =
       let items = leaving s is sent.stretch.blocks bytes (subst (λ (o : Endianness). Texts frame_format o sent.stretch.blocks bytes []) same sent.stretch.texts) sent.stretch.leave in
       record { items = items.0; count = items.3 ∙ sent.stretch.count; texts = items.1; leave = items.2; out = sent.out }
 
-  -- What was written of a buffer, as items.
+  -- The part of a buffer that was written, as items.
   pub sends_left : (bytes : List ℕ) (a b : Option (List ℕ)) (most n : ℕ) (old new : Bool) (fault : Option PcapError) → Sends order bytes a b most n old new fault
       → core.Sends block_format as_they_came (within s is) bytes a b most n old new fault
   unfolding block_format

@@ -33,7 +33,8 @@ pub record BodyFault (q : State) (s : List ℕ) (fault : Fault) : Type 0 where
 abbrev pub BlockSays : State → List ℕ → Verdict Item → Type 0
 BlockSays q s = Says (λ item rest. BlockText q item s rest) (FrameLacks (order_at q) s) (λ fault. FrameFault (order_at q) s fault ⊎ BodyFault q s fault)
 
--- MayGrow q s: s begins with a whole block whose body is read and has lists, so that a call needs memory.
+-- MayGrow q s: s begins with a whole block whose body is kept, or is read and has something that is kept in a list. Only then
+-- does a call need memory.
 pub record MayGrow (q : State) (s : List ℕ) : Type 0 where
   pub block : Framed
   pub rest : List ℕ

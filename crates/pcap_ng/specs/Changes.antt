@@ -1,4 +1,4 @@
--- What a block puts in force ('Section Header Block', 'Interface Description Block').
+-- The changes that blocks make to what is in force ('Section Header Block', 'Interface Description Block').
 use Rattle.std.specs.Prelude.{◌≡◌, ℕ, List, true, false, ⊤, Result, Ok, Err}
 use Rattle.pcap_core.specs.declared.errors.PcapError.{PcapError}
 use Rattle.pcap_core.specs.Answer.{number_in, whole, faulty, Refuses}
@@ -28,7 +28,7 @@ ChangeIsBorrowed (changes.Section section) = SectionIsBorrowed section
 ChangeIsBorrowed (changes.Interface interface) = InterfaceIsBorrowed interface
 ChangeIsBorrowed changes.Nothing = ⊤
 
--- A first block puts its section in force; it is refused if it is no section header or its body has a fault.
+-- A first block puts its section in force, or is refused: it is no section header, its body has a fault, or memory runs out.
 abbrev pub FirstTells : Framed → Result SectionHeaderBlock PcapError → Type 0
 FirstTells b (Ok section) = (b.type_ ≡ types.SectionHeader) × (rest : List ℕ) × SectionSays b.body (whole (section_of section) rest)
 FirstTells b (Err e) = Refuses (GrowsInBody b) (λ n. ⊥) (λ fault. Means opening b (bad fault)) e

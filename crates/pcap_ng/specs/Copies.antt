@@ -1,4 +1,4 @@
--- What a copy of blocks takes and writes.
+-- The bytes that a copy of blocks takes and writes, and how it ends.
 use Rattle.std.specs.Prelude.{◌≡◌, ◌≤◌, ◌⊎◌, ℕ, List, [], ◌∷◌, length, false, Option, None, Some, IfSome, ⊤, Result, Ok, Err}
 use Rattle.std.specs.Option.{IsSomeAnd}
 use Rattle.std.specs.Io.KnownBytes.{Appends, Keeps, IsAtEnd}

@@ -1,4 +1,4 @@
--- What a PcapNg parser has in force, and what it reads from a stream.
+-- The section and interfaces in force in a PcapNg parser, and its reading of one block from a stream.
 use Rattle.std.specs.Prelude.{ℕ, List, map, Bool, Option, Result}
 use Rattle.pcap_core.specs.declared.errors.PcapError.{PcapError}
 use Rattle.pcap_items.specs.Reading.{Pulls}

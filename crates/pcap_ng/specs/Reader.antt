@@ -1,4 +1,4 @@
--- What a PcapNg reader has in force, lends and reports.
+-- The section and interfaces in force in a PcapNg reader, the bytes that it lends, and how a reader is made.
 use Rattle.std.specs.Prelude.{◌≡◌, ℕ, List, map, Bool, false, Option, Some, Result, Ok, Err}
 use Rattle.pcap_core.specs.declared.errors.PcapError.{PcapError}
 use Rattle.pcap_items.specs.Held.{held_bytes}

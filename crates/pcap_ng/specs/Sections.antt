@@ -1,5 +1,5 @@
--- What a list of blocks leaves in force, determined by their bodies alone ('Section Header Block', 'Interface Description
--- Block').
+-- The section and interfaces that a list of blocks leaves in force, determined by their bodies alone ('Section Header Block',
+-- 'Interface Description Block').
 use Rattle.std.specs.Prelude.{◌≡◌, ℕ, List, ◌∷◌, ◌++◌, All, Bool, true, false, filter}
 use Rattle.std.specs.List.{AllZip}
 use Rattle.pcap_core.specs.Answer.{whole}

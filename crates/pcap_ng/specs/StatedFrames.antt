@@ -1,4 +1,4 @@
--- What is known about a frame once its head is read.
+-- The facts that are known about a frame once its head is read.
 use Rattle.std.specs.Prelude.{◌≡◌, ◌≢◌, ◌+◌, ℕ, List, Result, Ok, Err}
 use Rattle.std.specs.Borrow.{Bor}
 use Rattle.pcap_core.specs.declared.common.Endianness.{Endianness}
@@ -37,7 +37,7 @@ pub record TailDiffers (head : FrameHead) (s : List ℕ) : Type 0 where
   pub tail : FrameTail head.endianness head.len body trailer s rest
   pub differ : trailer ≢ head.len
 
--- What follows a head is the rest of a block, or its lengths differ.
+-- TailTells head s result: s is the rest of the block after this head, or its lengths differ.
 abbrev pub TailTells : FrameHead → List ℕ → Result (Bor (List ℕ) × Block) Rule → Type 0
 TailTells head s (Ok x) = TailOf head (framed_of x.1) s x.0.now
 TailTells head s (Err rule) = (rule ≡ BlockLengthsDiffer) × TailDiffers head s

@@ -35,7 +35,7 @@ pub struct NgRun<'a> {
     pub parser: PcapNgParser,
     /// How many bytes the first section header and these blocks take.
     pub used: usize,
-    /// What follows these blocks.
+    /// The rest of the slice, after these blocks: nothing, a truncated block or a malformed one.
     pub rest: Rest,
 }
 

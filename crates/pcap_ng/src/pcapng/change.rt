@@ -1,4 +1,4 @@
-//! What a block puts in force.
+//! The changes that blocks make to the section and interfaces in force.
 
 ghost use Rattle.std.specs.Prelude.{◌≡◌, IfOk};
 ghost use Rattle.pcap_core.specs.Answer.{TellsWhere, number_in};
@@ -14,7 +14,7 @@ use pcap_core::rules::Rule;
 use pcap_core::{Endianness, PcapError, ResultParsing};
 use std::alloc::Global;
 
-/// What a block puts in force after the first section header of a capture.
+/// A change that a block makes to what is in force, after the first section header of a capture.
 #[derive(Debug, Drop)]
 pub enum Change<'a> {
     /// The section with this header, which has no interface yet.

@@ -37,7 +37,7 @@ pub struct EnhancedParts<'a> {
     pub original: u32,
     /// The stored bytes of the packet.
     pub bytes: &'a [u8],
-    /// What follows the stored bytes and their padding in the body.
+    /// The bytes that follow the stored bytes and their padding in the body.
     pub options: &'a [u8],
 }
 

@@ -25,7 +25,8 @@ use std::alloc::Global;
 use std::io;
 use std::io::{ErrorKind, Read};
 
-// Takes the next block. Nothing is held before the call, nor after an `Ok`. What is in force changes only if a block comes.
+// Takes the next block. Nothing is held before the call, nor after an `Ok`. The section and interfaces in force change only if a
+// block comes.
 pub(crate) fn pull<T: Read>(
     alloc: Global,
     in_force: &mut InForce,
@@ -53,8 +54,8 @@ pub(crate) fn pull<T: Read>(
     Ok(Some(own))
 }
 
-// Holds the text of the next block. Nothing is held before the call, nor after it if no block comes. What is in force changes
-// only if a block comes.
+// Holds the text of the next block. Nothing is held before the call, nor after it if no block comes. The section and interfaces
+// in force change only if a block comes.
 pub(crate) fn hold<T: Read>(
     alloc: Global,
     in_force: &mut InForce,

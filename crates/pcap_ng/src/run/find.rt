@@ -1,4 +1,4 @@
-//! What a parser finds at the beginning of a capture.
+//! The search for the first block of a capture.
 
 ghost use Rattle.pcap_items.specs.Found.{FindsWhere};
 ghost use Rattle.pcap_ng.specs.Blocks.{MayGrow};
