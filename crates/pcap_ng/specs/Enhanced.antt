@@ -40,7 +40,7 @@ pub record PartsText (order : Order) (parts : EnhancedParts) (body : List ℕ) :
   pub head : StoredHead order (enhanced_with parts []).packet after_interface after_head
   pub padded : Padded parts.bytes.now after_head parts.options.now
 
--- A body has a fault as that of an enhanced packet.
+-- A body has a fault as the body of an enhanced packet.
 abbrev pub IsRefused : Order → List ℕ → Type 0
 IsRefused order body = (fault : Fault) × EnhancedFault order body fault
 

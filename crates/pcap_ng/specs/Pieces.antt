@@ -1,4 +1,4 @@
--- How many blocks are in the beginning of a capture that comes in pieces.
+-- The number of blocks in the beginning of a capture that comes in pieces.
 use Rattle.std.specs.Prelude.{◌≡◌, ◌⊎◌, ℕ, List, length}
 use Rattle.pcap_items.specs.Pieces.{OpensNone}
 use Rattle.pcap_ng.specs.Frames.{Framed}

@@ -1,4 +1,4 @@
--- Which blocks of a buffer a copy writes at once.
+-- The blocks of a buffer that a copy writes at once.
 use Rattle.std.specs.Prelude.{◌≡◌, ◌<◌, ◌≤◌, ◌+◌, ◌++◌, ℕ, List, [], length, Bool, true, false, Option, None, Some, All}
 use Rattle.std.specs.Borrow.{Bor}
 use Rattle.std.specs.Io.KnownBytes.{Appends}

@@ -1,4 +1,4 @@
--- How blocks that were written, or made from values, are read.
+-- The readings of blocks that were written, or made from values.
 use Rattle.std.specs.Prelude.{◌≡◌, ℕ, List, length, true, Some, Result, Ok, Err}
 use Rattle.pcap_core.specs.declared.common.Endianness.{Endianness}
 use Rattle.pcap_core.specs.declared.errors.PcapError.{PcapError}

@@ -9,8 +9,8 @@ use Rattle.pcap_items.specs.Takes.{TakesTexts, TakesItems}
 use Rattle.pcap_walk.specs.declared.walking.Ended.{Ended}
 use Rattle.pcap_walk.specs.declared.walking.Ended.TheVariants.{AtEnd, AtMost, Refused, Stopped}
 
--- Does V K E: what a sink does at an item with this index, value and text. It relates what was kept and written before to what is
--- kept and written after.
+-- Does V K E: the behavior of a sink at an item with this index, value and text. It relates the kept value and the output before
+-- the item to those after it.
 abbrev pub Does : (V K E : Type 0) → Type 1
 Does V K E = ℕ → V → List ℕ → K → Option (List ℕ) → K → Option (List ℕ) → Result (Unit {0}) E → Type 0
 

@@ -9,12 +9,12 @@ ghost use Rattle.pcap_walk.specs.Walks.{does_of, Serves, MeetsShown, TurnGives, 
 use pcap_core::{PcapError, ResultParsing};
 use std::io::{BufRead, Read, Write};
 
-/// How a walk ended.
+/// The cause for which a walk ended.
 #[derive(Debug, Drop)]
 pub enum Ended<E> {
     /// The walk reached the end of the stream.
     AtEnd,
-    /// The sink has taken the most items, or wants no more.
+    /// The sink has taken as many items as requested, or wants no more.
     AtMost,
     /// The bytes that follow are no item, a read failed, or memory ran out.
     Refused(PcapError),
@@ -22,7 +22,7 @@ pub enum Ended<E> {
     Stopped(E),
 }
 
-/// How far a walk has come.
+/// The progress of a walk.
 #[derive(Debug, Drop)]
 pub struct Walked {
     /// How many items the sink has taken.
@@ -66,7 +66,7 @@ pub trait Walker {
     fn front(&self, bytes: &[u8]) -> Option<Front<Self::Head>>
         ensures { IfSome result (λ front. StandsInFront (format (setting self.now)) (value self.now) (state self.now) bytes.now front.head front.size) };
 
-    /// Holds the next item, puts it in force, and returns its head. None at the end of the input.
+    /// Holds the next item, updates the state, and returns the item's head. None at the end of the input.
     fn hold_next<R: Read>(
         &mut self,
         input: &mut R,
@@ -118,7 +118,7 @@ pub trait Sink<F, H> {
         requires { fits walker.now head.now text.now }
         ensures { gives index walker.now head.now text.now self.old (W.contents output.old) self.new (W.contents output.new) result };
 
-    /// Prepares for a wait of the input, by writing out what the sink has buffered.
+    /// Flushes the sink's output before the input may wait.
     fn wait<W: Write>(&self, output: &mut W) -> Result<(), Self::Stop>
         ensures kept { Keeps (W.contents output.old) (W.contents output.new) }
         ensures stops { IfErr result is_unready };
@@ -226,8 +226,8 @@ fn walk_torn<F: Walker, R: BufRead, W: Write, S: Sink<F, F::Head>>(
     }
 }
 
-// Gives the sink the items that are whole in the input's buffer, or else the one that the buffer cuts off. The sink prepares
-// before the input waits.
+// Gives the sink the items that are whole in the input's buffer, or else the one that the buffer cuts off. The sink flushes its
+// output before the input waits.
 fn walk_turn<F: Walker, R: BufRead, W: Write, S: Sink<F, F::Head>>(
     walker: &mut F,
     input: &mut R,

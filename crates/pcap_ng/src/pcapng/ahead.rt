@@ -17,7 +17,7 @@ use pcap_items::stream::Held;
 use std::alloc::Global;
 use std::io::Read;
 
-/// The section and interfaces in force, and the block that is held.
+/// The section and interfaces in force in a capture, and the block that is held.
 #[derive(Drop)]
 pub struct BlocksAhead {
     alloc: Global,

@@ -79,8 +79,8 @@ impl<'a> Block<'a> {
         Ok(parsed)
     }
 
-    /// Parses the block at the front of a slice, and returns what follows it too. `order` is the byte order if the block is not a
-    /// section header. The body is borrowed from the slice and isn't parsed.
+    /// Parses the frame of the block at the front of a slice, and returns the bytes after the block and the block. `order` is the
+    /// byte order if the block is not a section header. The body is borrowed from the slice and isn't parsed.
     ///
     /// Returns `IncompleteBuffer` if bytes of the first 12, or then of the whole block, are missing. Returns `InvalidField` for
     /// the first rule that the frame breaks.

@@ -18,7 +18,7 @@ use pcap_items::stream::{Ahead, AheadShown, Held, Sent, Tally, copy_items, fill_
 use std::alloc::Global;
 use std::io::{Read, Write};
 
-/// How a copy of a PcapNg capture ended.
+/// The result of a copy of a PcapNg capture: the number of blocks, and why the copy ended.
 #[derive(Debug, Drop)]
 pub struct NgCopied {
     /// How many whole blocks were written after the first section header.

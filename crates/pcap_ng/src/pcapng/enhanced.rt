@@ -41,7 +41,7 @@ pub struct EnhancedParts<'a> {
     pub options: &'a [u8],
 }
 
-/// Returns the numbers of the enhanced packet at the front of a slice, and what follows its block. None if no such block is whole
+/// Returns the bytes after the enhanced packet at the front of a slice, and the packet's numbers. None if no such block is whole
 /// there, its body is malformed, or there is no memory for its options.
 #[inline(always)]
 pub fn packet_at(alloc: Global, order: Endianness, slice: &[u8]) -> Option<(&[u8], EnhancedNumbers)>
@@ -68,7 +68,7 @@ fn packet_in<B: ByteOrder>(
     Some((rest, packet))
 }
 
-/// Returns the body of the enhanced packet at the front of a slice, and what follows its block. None if no such block is whole
+/// Returns the body of the enhanced packet at the front of a slice, and the bytes after its block. None if no such block is whole
 /// there, with the same length at both ends. `order` is the byte order that `B` reads.
 #[inline(always)]
 pub fn split_frame<B: ByteOrder>(order: Endianness, slice: &[u8]) -> Option<(&[u8], &[u8])>

@@ -29,7 +29,7 @@ pub struct PcapNgParser {
 }
 
 impl PcapNgParser {
-    /// Parses the section header at the front of a slice, and returns the parser after it and what follows that block.
+    /// Parses the section header at the front of a slice, and returns the bytes after it and a parser of the blocks there.
     ///
     /// The block is read big-endian, but a section header in the order that its magic number names. Returns `IncompleteBuffer` if
     /// bytes of it are missing. Returns `InvalidField` for the first rule that its frame breaks, then for the fault of its body,
@@ -46,8 +46,8 @@ impl PcapNgParser {
     /// Reads the section header at the front of a stream, and returns the parser after it. Exactly that block is taken. A call
     /// that fails has taken no more than was missing.
     ///
-    /// Returns the errors of `new`, except that it never requests bytes: it returns `IoError` if the stream ended early or a read
-    /// failed. Returns `OutOfMemory` if something can't grow.
+    /// Returns the errors of `new` except `IncompleteBuffer`. Returns `IoError` if the stream ended early or a read failed, and
+    /// `OutOfMemory` if something can't grow.
     pub fn from_reader<R: Read>(alloc: Global, reader: &mut R) -> ResultParsing<PcapNgParser>
         ensures takes { IfOk result (λ parser. Takes OpeningSays (R.remaining reader.old) (R.remaining reader.new) (state_of parser)) }
         ensures refused { IfErr result (RefusesOpening (R.remaining reader.old)) }
@@ -59,8 +59,9 @@ impl PcapNgParser {
         Ok(PcapNgParser { alloc, in_force })
     }
 
-    /// Parses the block at the front of a slice, and returns what follows it too. The block's body is borrowed from the slice. A
-    /// section header becomes the section in force, with no interface yet; an interface description adds one interface.
+    /// Parses the block at the front of a slice, and returns the bytes after it and the block. The block's body is borrowed from
+    /// the slice. A section header becomes the section in force, with no interface yet; an interface description adds one
+    /// interface.
     ///
     /// Returns `IncompleteBuffer` if bytes are missing, 12 for the empty slice. Returns `InvalidField` for the first rule that
     /// the block's frame breaks. In a section header or an interface description, the first fault of the body is an error too:
@@ -80,9 +81,9 @@ impl PcapNgParser {
     /// in force as by `next_block`. Exactly its bytes are taken. A call that fails has taken no more than was missing, and leaves
     /// the section and its interfaces unchanged.
     ///
-    /// Returns the errors of `next_block`, except that it never requests bytes: it returns `IoError` if the stream ended inside
-    /// the block or a read failed. Returns `OutOfMemory` if the block's bytes can't be held, or what stays in force can't be
-    /// kept. Bytes that a failed call took are lost. Only after a whole block that is refused is the stream at the next block.
+    /// Returns the errors of `next_block` except `IncompleteBuffer`. Returns `IoError` if the stream ended inside the block or a
+    /// read failed. Returns `OutOfMemory` if the block's bytes can't be held, or what stays in force can't be kept. Bytes that a
+    /// failed call took are lost. The stream is at the next block only after a whole block that is refused.
     pub fn read_block<R: Read>(&mut self, reader: &mut R) -> ResultParsing<Option<Block<'static>>>
         ensures reads { ReadsBlock (state_of self.old) (state_of self.new) (R.remaining reader.old) (R.remaining reader.new) result }
         ensures stays { StaysUnlessTaken (state_of self.old) (state_of self.new) result }

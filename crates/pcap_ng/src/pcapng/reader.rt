@@ -44,8 +44,8 @@ impl<T: Read + Drop> PcapNgReader<T> {
     /// Reads the first block of a stream, which must be a section header, and makes a reader of the blocks after it. The reader
     /// lends the bytes of the section header (`text`). A call that fails drops the stream.
     ///
-    /// Returns the errors of `PcapNgParser::new`, except that it never requests bytes: it returns `IoError` if the stream ended
-    /// early or a read failed. Returns `OutOfMemory` if something can't grow.
+    /// Returns the errors of `PcapNgParser::new` except `IncompleteBuffer`. Returns `IoError` if the stream ended early or a read
+    /// failed, and `OutOfMemory` if something can't grow.
     pub fn new(alloc: Global, mut reader: T) -> ResultParsing<PcapNgReader<T>>
         ensures { OpensReader T.remaining reader result }
     {
@@ -64,7 +64,7 @@ impl<T: Read + Drop> PcapNgReader<T> {
 
     /// Reads the next block and returns its header. The reader lends the block (`block`, `body`, `text`) until it is called
     /// again. So a block needs no memory of its own, except a section header or an interface description, which stays in force.
-    /// When it returns what, and what it puts in force, is the same as for `next`.
+    /// Otherwise the method behaves as `next`.
     ///
     /// Returns `InvalidField` for the first rule that the block's frame breaks. In a section header or an interface description,
     /// the first fault of the body is an error too: `InvalidField`, `Utf8Error` or `IoError`. Returns `IoError` if a read failed
@@ -183,15 +183,15 @@ impl<T> PcapNgReader<T> {
         self.in_force.interface(packet.interface_id)
     }
 
-    /// Returns the wrapped stream.
+    /// Returns a reference to the wrapped stream.
     pub fn get_ref(&self) -> &T
         ensures { result.now ≡ stream_of self.now }
     {
         &self.inner
     }
 
-    /// Returns the wrapped stream for changes. The reader doesn't see bytes that the caller takes from it directly, and what is
-    /// in force stays unchanged.
+    /// Returns a mutable reference to the wrapped stream. Bytes that the caller takes from it directly are no blocks of this
+    /// reader, and leave what is in force unchanged.
     pub fn get_mut(&mut self) -> &mut T
         ensures value { result.now ≡ stream_of self.old }
         ensures* writes_back { sem 𝓛 (Lends (reader-row T.row) T.row self.entry result (reader_with self.old)) }
